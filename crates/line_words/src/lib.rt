@@ -2,5 +2,11 @@
 #![tactic(auto)]
 
 mod bytes;
+mod lent;
+mod lists;
+mod owned;
 
 pub use bytes::{is_key, is_name, is_sentence, is_text, is_word};
+pub use lent::{Name, Sentence, Text, Word};
+pub use lists::{NameList, Pair, PairList, TextList, WordList};
+pub use owned::{KeyBuf, NameBuf, SentenceBuf, TextBuf, WordBuf};
