@@ -1,5 +1,5 @@
 -- The replies: one row of the table for each, and how a line is printed.
-use Rattle.std.specs.Prelude.{ℕ, ◌≤◌, List, [], ◌∷◌, ◌++◌, flat_map, codes, decimal, Option, Some, None, IsTrue}
+use Rattle.std.specs.Prelude.{◌≡◌, ℕ, ◌≤◌, List, [], ◌∷◌, ◌++◌, flat_map, codes, decimal, Option, Some, None, IsTrue}
 use Rattle.reply_grammar.specs.declared.Reply.{Reply}
 use Rattle.reply_grammar.specs.declared.Reply.TheVariants as reply
 use Rattle.reply_grammar.specs.declared.CommandWord.{CommandWord}
@@ -245,3 +245,9 @@ print l = printed_line l.0 l.1
 -- several lines, one behind another
 abbrev pub print_all : List Line → List ℕ
 print_all = flat_map print
+
+-- a line, without its LF, reads as a pair that keeps its kinds and prints so
+pub record ReadsAs (bytes : List ℕ) (l : Line) : Type 0 where
+  pub id : IsId l.0
+  pub fits : Fits l.1
+  pub text : bytes ≡ line_text l.0 l.1

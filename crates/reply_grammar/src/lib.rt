@@ -5,9 +5,12 @@
 //! further sentences behind tabs. Printing and reading are exact inverses.
 #![tactic(auto)]
 
+mod laws;
 mod printing;
+mod reading;
 
 use line_words::{NameBuf, NameList, PairList, SentenceBuf, TextBuf, WordBuf, WordList};
+pub use laws::{each_reads_alone, no_break_inside, no_two_alike, reading_is_inverse};
 pub use printing::print;
 
 /// A line to a client, its fields the arguments in their order.
