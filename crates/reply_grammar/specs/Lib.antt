@@ -1,0 +1,5 @@
+pub mod Kinds
+pub mod Replies
+pub mod Written
+pub mod Reading
+pub mod Lines
