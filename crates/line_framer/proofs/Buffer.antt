@@ -1,12 +1,12 @@
 -- What a framer's buffer holds: the next line, and what is left without it.
-use Rattle.std.proofs.Common.{◌≡◌, ◌≢◌, ℕ, ◌+◌, ◌-◌, ◌<◌, ◌≤◌, List, ◌∷◌, length, get_or, take, drop, refl, sym, ap, subst, ◌∙◌, Bool, true, false, T, arith, length-take, length-drop}
-use Rattle.std.specs.Prelude.{not, ◌||◌, nat_le, map, Option, None, Some, IsSome}
+use Rattle.std.proofs.Common.{◌≡◌, ◌≢◌, ℕ, ◌+◌, ◌-◌, ◌<◌, ◌≤◌, List, [], ◌∷◌, length, get_or, take, drop, refl, sym, ap, subst, ◌∙◌, Bool, true, false, T, arith, length-take, length-drop}
+use Rattle.std.specs.Prelude.{not, ◌==◌, if◌then◌else◌, ◌||◌, nat_le, map, Option, None, Some, IsSome}
 use Rattle.std.proofs.lemmas.List.{drop-drop, get_or-take, get_or-drop}
 use Rattle.line_framer.specs.Frames.{Parts, lines_in, rest_of, fits, without_cr}
 use Rattle.line_framer.specs.Framed.{first}
 use Rattle.line_framer.specs.Buffered.{HasNoEnd, FirstEndAt, IsFirstEnd, IsBuffered}
 use Rattle.line_framer.proofs.Parts.{parts_none, parts_first, rest_has_no_end}
-use Rattle.line_framer.proofs.Limit.{any_long, spoilt_in}
+use Rattle.line_framer.proofs.Limit.{any_long, spoilt_in, or_first}
 
 or-false : (a b c : Bool) → ((a || b) || c) ≡ false → (b || c) ≡ false
 or-false true b c h = absurd (subst T h tt)
@@ -70,3 +70,15 @@ module _ (a : List ℕ) (n whole limit : ℕ) (b : IsBuffered a (Some n) whole l
         next_end = widened l w rest next found;
         sound = or-false (not (fits limit (take n a))) (any_long limit (lines_in l)) (not (fits limit (rest_of l))) (sym (ap (spoilt_in limit) (parts_first a n b.next_end)) ∙ b.sound);
       }
+
+without_cr_shorter : (line : List ℕ) → length (without_cr line) ≤ length line
+without_cr_shorter [] = omega arith
+without_cr_shorter (x ∷ []) = elim (x == 13) as (λ t. length (if t then [] else x ∷ []) ≤ 1) [ true ↦ omega arith | false ↦ omega arith ]
+without_cr_shorter (x ∷ y ∷ line) = omega (arith, without_cr_shorter (y ∷ line))
+
+pub line_is_short : (a : List ℕ) (n whole limit : ℕ) → IsBuffered a (Some n) whole limit → length (without_cr (take n a)) ≤ limit
+line_is_short a n whole limit b =
+    let e : ((not (fits limit (take n a)) || any_long limit (lines_in (drop (n + 1) a))) || not (fits limit (rest_of (drop (n + 1) a)))) ≡ false = sym (ap (spoilt_in limit) (parts_first a n b.next_end)) ∙ b.sound in
+    let fit : not (fits limit (take n a)) ≡ false = or_first _ _ (or_first _ _ e) in
+    let short : length (take n a) ≤ limit = grind (arith) in
+    omega (arith, without_cr_shorter (take n a))

@@ -4,3 +4,4 @@ pub mod Cut
 pub mod Buffer
 pub mod Stands
 pub mod Fed
+mod Examples

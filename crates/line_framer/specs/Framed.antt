@@ -8,10 +8,14 @@ pub record Framed : Type 0 where
   pub ahead : List ℕ
   pub spoilt : Bool
 
+-- the whole lines that are still to be taken, without their ends
+abbrev pub waiting : Framed → List (List ℕ)
+waiting f = map without_cr (lines_in f.ahead)
+
 -- the framer took in the bytes, and that many of their frames were dropped
 pub record StandsFor (f : Framed) (bytes : List ℕ) (dropped : ℕ) : Type 0 where
   pub spoilt : f.spoilt ≡ is_spoilt bytes f.limit
-  pub lines : map without_cr (lines_in f.ahead) ≡ drop dropped (frames bytes f.limit)
+  pub lines : waiting f ≡ drop dropped (frames bytes f.limit)
   pub rest : f.spoilt ≡ false → rest_of f.ahead ≡ rest_of bytes
   pub within : dropped ≤ length (frames bytes f.limit)
 
@@ -23,6 +27,6 @@ abbrev pub first : List (List ℕ) → Option (List ℕ)
 first [] = None
 first (line ∷ lines) = Some line
 
--- the next whole line, without its end
+-- the next of them
 abbrev pub next_line : Framed → Option (List ℕ)
-next_line f = first (map without_cr (lines_in f.ahead))
+next_line f = first (waiting f)

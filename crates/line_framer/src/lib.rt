@@ -5,14 +5,16 @@
 //! behind it is looked at. Without that limit one client could fill the memory by a line that never ends.
 #![tactic(auto)]
 
-ghost use Rattle.std.specs.Prelude.{◌≡◌, ◌↔◌, ℕ, ◌+◌, ◌<◌, ◌≤◌, List, [], ◌++◌, length, drop, vec_len, OnOk, Ok, Err, IsSome, true, false, slice_get, option_map};
+ghost use Rattle.std.specs.Prelude.{◌≡◌, ◌↔◌, ℕ, ◌+◌, ◌<◌, ◌≤◌, List, [], ◌++◌, length, drop, vec_len, OnOk, IfSome, Ok, Err, IsSome, true, false, slice_get, option_map};
 ghost use Rattle.std.specs.Option.{option_copied};
 ghost use Rattle.line_framer.specs.Frames.{frames, is_spoilt, rest_of};
-ghost use Rattle.line_framer.specs.Framed.{StandsFor, TookIn, next_line};
+ghost use Rattle.line_framer.specs.Framed.{StandsFor, TookIn, next_line, waiting};
 ghost use Rattle.line_framer.specs.Feeding.{IsJudged};
 
 mod laws;
 mod search;
+#[cfg(test)]
+mod tests;
 
 pub use laws::pieces_law;
 use search::{closed_up, cut_piece, first_end, next_end, without_cr};
@@ -114,6 +116,7 @@ impl Framer {
     /// The next whole line, without its end.
     pub fn peek(&self) -> Option<&[u8]>
         ensures value { option_copied result ≡ next_line self.now }
+        ensures short { IfSome result (λ line. length line.now ≤ self.now.limit) }
         ensures stands { (bytes : List ℕ) (dropped : ℕ) → StandsFor self.now bytes dropped → option_copied result ≡ slice_get (frames bytes self.now.limit) dropped }
     {
         match self.next {
@@ -138,6 +141,7 @@ impl Framer {
         requires { IsSome (next_line self.old) }
         ensures limit { self.new.limit ≡ self.old.limit }
         ensures spoilt { self.new.spoilt ≡ self.old.spoilt }
+        ensures lines { waiting self.new ≡ drop 1 (waiting self.old) }
         ensures stands { (bytes : List ℕ) (dropped : ℕ) → StandsFor self.old bytes dropped → StandsFor self.new bytes (dropped + 1) }
     {
         let size = self.next.unwrap() + 1;

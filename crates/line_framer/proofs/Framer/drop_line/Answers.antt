@@ -1,6 +1,7 @@
 use Rattle.std.proofs.Common.{◌≡◌, ◌+◌, ◌-◌, take, drop, length, Some, sym, ap, subst, refl, ◌∙◌, ◌∷◌, arith, length-drop}
 use Rattle.std.proofs.lemmas.List.{drop-drop}
-use Rattle.line_framer.specs.Frames.{rest_of, lines_in}
+use Rattle.std.specs.Prelude.{map}
+use Rattle.line_framer.specs.Frames.{without_cr, rest_of, lines_in}
 use Rattle.line_framer.specs.Buffered.{IsBuffered, IsFirstEnd}
 use Rattle.line_framer.proofs.Buffer.{some_next, first_is_whole, lines_first, rest_first, left}
 use Rattle.line_framer.proofs.Stands.{stands_dropped}
@@ -38,3 +39,12 @@ returns-clause-stands c = λ bytes dropped.
     let b : IsBuffered a (Some n) f.whole f.limit = rw c.unwrap-size.ensures at c.self.invariant.1 in
     let later : drop (n + 1) a ≡ drop (f.start + (n + 1)) f.buffer.items = drop-drop (n + 1) f.start f.buffer.items in
     stands_dropped _ bytes dropped _ (take n a) s refl refl (lines_first a n f.whole f.limit b ∙ ap (λ xs. take n a ∷ lines_in xs) later) (rest_first a n f.whole f.limit b ∙ ap rest_of later))
+
+pub returns-clause-lines : goal.returns-clause-lines
+returns-clause-lines c =
+    rw (← c.self.view_is) (
+    let f = c.self.inside in
+    let n = c.unwrap-size.result in
+    let a = drop f.start f.buffer.items in
+    let b : IsBuffered a (Some n) f.whole f.limit = rw c.unwrap-size.ensures at c.self.invariant.1 in
+    ap (λ xs. map without_cr (lines_in xs)) (sym (drop-drop (n + 1) f.start f.buffer.items)) ∙ sym (ap (λ ls. drop 1 (map without_cr ls)) (lines_first a n f.whole f.limit b)))
