@@ -27,9 +27,6 @@ digits_words (b ∷ bs) h =
     let p = and_parts (is_digit b) (all_digits bs) h in
     and_from (is_word_byte b) (list_all is_word_byte bs) (is_digit_word b p.0) (digits_words bs p.1)
 
-names_words : (ds : List ℕ) → list_all is_name_byte ds ≡ true → list_all is_name_byte ds ≡ true
-names_words ds h = h
-
 -- numbers
 
 pub number_again : (low high n : ℕ) (rest : List ℕ) → high ≤ 4294967295 → (nat_le low n && nat_le n high) ≡ true → Ends 32 rest → number_at low high (32 ∷ (decimal n ++ rest)) ≡ Some (n, rest)
@@ -47,7 +44,7 @@ number_takes low high bytes x e =
     let n = bind_some (natural p.0.0) (λ n. cond (nat_le low n && nat_le n high) (Some (n, p.0.1)) None) x p.2 in
     let g = guard_some (nat_le low n.0 && nat_le n.0 high) (n.0, p.0.1) x n.2 in
     let word = natural_takes p.0.0 n.0 n.1 in
-    let parts : bytes ≡ 32 ∷ (decimal n.0 ++ p.0.1) = piece_takes 32 32 bytes p.0 p.1 ∙ ap (λ (w : List ℕ). 32 ∷ (w ++ p.0.1)) word.0 in
+    let parts : bytes ≡ 32 ∷ (decimal n.0 ++ p.0.1) = piece_takes 32 32 bytes p.0 p.1 ∙ ap (λ (w : List ℕ). 32 ∷ (w ++ p.0.1)) word.text in
     subst (λ (q : ℕ × List ℕ). (bytes ≡ 32 ∷ (decimal q.0 ++ q.1)) × ((nat_le low q.0 && nat_le q.0 high) ≡ true)) g.1 (parts, g.0)
 
 -- signed numbers
@@ -81,11 +78,11 @@ whole_by b bs z true is e =
     let n = bind_some (natural bs) negative z e in
     let d = natural_takes bs n.0 n.1 in
     let head : b ≡ 45 = eqb-true b 45 is in
-    rw head (ap (λ (r : List ℕ). 45 ∷ r) d.0) ∙ sym (negative_takes n.0 z n.2)
+    rw head (ap (λ (r : List ℕ). 45 ∷ r) d.text) ∙ sym (negative_takes n.0 z n.2)
 whole_by b bs z false is e =
     let n = bind_some (natural (b ∷ bs)) (λ n. Some (pos n)) z e in
     let d = natural_takes (b ∷ bs) n.0 n.1 in
-    d.0 ∙ ap signed_decimal (some_is (pos n.0) z n.2)
+    d.text ∙ ap signed_decimal (some_is (pos n.0) z n.2)
 
 pub whole_takes : (w : List ℕ) (z : ℤ) → whole w ≡ Some z → w ≡ signed_decimal z
 unfolding whole

@@ -58,7 +58,7 @@ goes_on None k = false
 
 abbrev pub leads : Kind → List Kind → Bool
 leads k [] = true
-leads k (next ∷ ks) = goes_on (close_of k) next
+leads k (after ∷ ks) = goes_on (close_of k) after
 
 abbrev pub is_row : List Kind → Bool
 is_row [] = true
@@ -242,7 +242,7 @@ opens_pairs (p ∷ ps) rest e = refl
 
 no_more : (k : Kind) (ks : List Kind) (xs : Values ks) → close_of k ≡ None → leads k ks ≡ true → all_printed ks xs ≡ []
 no_more k [] xs close lead = refl
-no_more k (next ∷ ks) xs close lead = absurd (let never : false ≡ true = ap (λ (o : Option ℕ). goes_on o next) (sym close) ∙ lead in let n : ⊥ = cc in n)
+no_more k (after ∷ ks) xs close lead = absurd (let never : false ≡ true = ap (λ (o : Option ℕ). goes_on o after) (sym close) ∙ lead in let n : ⊥ = cc in n)
 
 ends_nil : (rest : List ℕ) → rest ≡ [] → Ends 32 rest
 ends_nil rest e = subst (λ (r : List ℕ). Ends 32 r) (sym e) tt
@@ -261,9 +261,9 @@ opens NextSentence x ks xs lead = refl
 opens Text x ks xs lead = refl
 opens Pairs x ks xs lead = opens_pairs x (all_printed ks xs) (ends_nil (all_printed ks xs) (no_more Pairs ks xs refl lead))
 
-follows_by : (o : Option ℕ) (next : Kind) (rest : List ℕ) → goes_on o next ≡ true → Ends (open_of next) rest → Follows o rest
-follows_by None next rest h e = absurd cc
-follows_by (Some stop) next rest h e = subst (λ (s : ℕ). Ends s rest) (eqb-true (open_of next) stop h) e
+follows_by : (o : Option ℕ) (after : Kind) (rest : List ℕ) → goes_on o after ≡ true → Ends (open_of after) rest → Follows o rest
+follows_by None after rest h e = absurd cc
+follows_by (Some stop) after rest h e = subst (λ (s : ℕ). Ends s rest) (eqb-true (open_of after) stop h) e
 
 follows_nil : (o : Option ℕ) → Follows o []
 follows_nil None = refl
@@ -271,14 +271,14 @@ follows_nil (Some stop) = tt
 
 pub follows : (k : Kind) (ks : List Kind) (xs : Values ks) → leads k ks ≡ true → is_row ks ≡ true → Follows (close_of k) (all_printed ks xs)
 follows k [] xs lead row = follows_nil (close_of k)
-follows k (next ∷ ks) xs lead row =
-    let p = and_parts (is_kind next) (leads next ks && is_row ks) row in
-    let q = and_parts (leads next ks) (is_row ks) p.1 in
-    follows_by (close_of k) next (all_printed (next ∷ ks) xs) lead (opens next xs.0 ks xs.1 q.0)
+follows k (after ∷ ks) xs lead row =
+    let p = and_parts (is_kind after) (leads after ks && is_row ks) row in
+    let q = and_parts (leads after ks) (is_row ks) p.1 in
+    follows_by (close_of k) after (all_printed (after ∷ ks) xs) lead (opens after xs.0 ks xs.1 q.0)
 
-bound : {A B : Type 0} (r : Option (A × List ℕ)) (next : List ℕ → Option (B × List ℕ)) (x : A) (text : List ℕ) (xs : B) → r ≡ Some (x, text) → next text ≡ Some (xs, [])
-    → ◌>>=◌ {B = (A × B) × List ℕ} r (λ a. ◌>>=◌ {B = (A × B) × List ℕ} (next a.1) (λ b. Some ((a.0, b.0), b.1))) ≡ Some ((x, xs), [])
-bound r next x text xs p q = rw (p, q) refl
+bound : {A B : Type 0} (r : Option (A × List ℕ)) (then : List ℕ → Option (B × List ℕ)) (x : A) (text : List ℕ) (xs : B) → r ≡ Some (x, text) → then text ≡ Some (xs, [])
+    → ◌>>=◌ {B = (A × B) × List ℕ} r (λ a. ◌>>=◌ {B = (A × B) × List ℕ} (then a.1) (λ b. Some ((a.0, b.0), b.1))) ≡ Some ((x, xs), [])
+bound r then x text xs p q = rw (p, q) refl
 
 pub fields_again : (ks : List Kind) (xs : Values ks) → is_row ks ≡ true → all_fit ks xs ≡ true → fields ks (all_printed ks xs) ≡ Some (xs, [])
 fields_again [] xs row fit = refl

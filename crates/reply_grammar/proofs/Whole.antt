@@ -1,6 +1,6 @@
 -- A line reads as it prints.
 use Rattle.std.proofs.Common.{◌≡◌, ℕ, zero, suc, ◌+◌, ◌^◌, ◌<◌, ◌≤◌, Bool, true, false, cond, List, [], ◌∷◌, ◌++◌, length, Option, Some, None, refl, sym, ap, subst, ◌∙◌, append_assoc, arith, inl, inr}
-use Rattle.std.specs.Prelude.{◌&&◌, ◌||◌, ◌==◌, nat_le, decimal}
+use Rattle.std.specs.Prelude.{◌&&◌, ◌||◌, ◌==◌, nat_le, find, decimal}
 use Rattle.std.specs.List.{list_all}
 use Rattle.std.proofs.lemmas.Bool.{and_parts, and_from, eqb-true, eq-eqb, ne_eqb, leb-true, le-leb}
 use Rattle.std.proofs.lemmas.List.{append-nil, nil_from_length}
@@ -14,8 +14,8 @@ use Rattle.reply_grammar.specs.declared.CommandWord.{CommandWord}
 use Rattle.reply_grammar.specs.declared.CommandWord.TheVariants as command
 use Rattle.reply_grammar.specs.Kinds.{Kind, Pairs, Words, Values, all_fit, all_printed}
 use Rattle.reply_grammar.specs.Replies.{word_of, kinds_of, command_of, values_of, Fits, body, id_text, line_text, IsId, Line, ReadsAs}
-use Rattle.reply_grammar.specs.Reading.{◌>>=◌, natural, fields, if_end}
-use Rattle.reply_grammar.specs.Lines.{same, commands, named_in, named, made, read_arguments, read_body, behind_space, read_numbered, read_line}
+use Rattle.reply_grammar.specs.Reading.{◌>>=◌, natural, fields, if_end, shaped}
+use Rattle.reply_grammar.specs.Lines.{same, commands, named, made, read_arguments, read_body, behind_space, read_numbered, read_line}
 use Rattle.reply_grammar.proofs.Pieces.{bind_some, guard_some, some_is}
 use Rattle.reply_grammar.proofs.Numbers.{own, natural_again, natural_takes}
 use Rattle.reply_grammar.proofs.Fields.{digits_words}
@@ -41,9 +41,9 @@ named_by : (t : Bool) (w : List ℕ) (d c : CommandWord) (o : Option CommandWord
 named_by true w d c o is h more = same_is w (word_of d) is ∙ ap word_of (some_is d c h)
 named_by false w d c o is h more = more h
 
-named_takes_in : (cs : List CommandWord) (w : List ℕ) (c : CommandWord) → named_in cs w ≡ Some c → w ≡ word_of c
+named_takes_in : (cs : List CommandWord) (w : List ℕ) (c : CommandWord) → find (λ (d : CommandWord). same w (word_of d)) cs ≡ Some c → w ≡ word_of c
 named_takes_in [] w c e = absurd cc
-named_takes_in (d ∷ cs) w c e = named_by (same w (word_of d)) w d c (named_in cs w) refl e (λ h. named_takes_in cs w c h)
+named_takes_in (d ∷ cs) w c e = named_by (same w (word_of d)) w d c (find (λ (d : CommandWord). same w (word_of d)) cs) refl e (λ h. named_takes_in cs w c h)
 
 named_takes : (w : List ℕ) (c : CommandWord) → named w ≡ Some c → w ≡ word_of c
 unfolding named
@@ -330,7 +330,11 @@ made_prints command.Ring xs = record { text = refl; fits = λ h. h }
 
 -- the whole
 
-read_body_is : (w t : List ℕ) (c : CommandWord) (text : List ℕ) (xs : Values (kinds_of c)) (r : Reply) → w ≡ word_of c → t ≡ text → named (word_of c) ≡ Some c → fields (kinds_of c) text ≡ Some (xs, []) → made c xs ≡ r
+shaped_again : (ks : List Kind) (xs : Values ks) → is_row ks ≡ true → all_fit ks xs ≡ true → shaped ks (all_printed ks xs) ≡ Some xs
+unfolding shaped
+shaped_again ks xs row fit = rw (fields_again ks xs row fit) refl
+
+read_body_is : (w t : List ℕ) (c : CommandWord) (text : List ℕ) (xs : Values (kinds_of c)) (r : Reply) → w ≡ word_of c → t ≡ text → named (word_of c) ≡ Some c → shaped (kinds_of c) text ≡ Some xs → made c xs ≡ r
     → (named w >>= λ c. read_arguments c t) ≡ Some r
 read_body_is w t c text xs r word rest is read done =
     subst (λ (v : List ℕ). (named v >>= λ c. read_arguments c t) ≡ Some r) (sym word)
@@ -344,24 +348,31 @@ body_again r fit =
     let text : List ℕ = all_printed (kinds_of c) (values_of r) in
     let word = before-append is_word_byte 32 (word_of c) text refl (plain_word c) (ends_word c (values_of r)) in
     let rest = from-append is_word_byte 32 (word_of c) text refl (plain_word c) (ends_word c (values_of r)) in
-    read_body_is (before 32 (body r)) (from 32 (body r)) c text (values_of r) r (word ) rest (named_again c) (fields_again (kinds_of c) (values_of r) (rows c) fit) (made_again r)
+    read_body_is (before 32 (body r)) (from 32 (body r)) c text (values_of r) r (word ) rest (named_again c) (shaped_again (kinds_of c) (values_of r) (rows c) fit) (made_again r)
 
 if_end_is : {A : Type 0} (x : A) (rest : List ℕ) (y : A) → if_end x rest ≡ Some y → (x ≡ y) × (rest ≡ [])
 if_end_is x rest y e =
     let g = guard_some (length rest == 0) x y e in
     (g.1, nil_from_length rest (eqb-true (length rest) 0 g.0))
 
+shaped_takes : (ks : List Kind) (bytes : List ℕ) (xs : Values ks) → shaped ks bytes ≡ Some xs → (bytes ≡ all_printed ks xs) × (all_fit ks xs ≡ true)
+unfolding shaped
+shaped_takes ks bytes xs e =
+    let x = bind_some (fields ks bytes) (λ x. if_end x.0 x.1) xs e in
+    let done = if_end_is x.0.0 x.0.1 xs x.2 in
+    let text = fields_take ks bytes x.0 x.1 in
+    let rest : bytes ≡ all_printed ks x.0.0 = text.0 ∙ ap (λ (t : List ℕ). all_printed ks x.0.0 ++ t) done.1 ∙ append-nil (all_printed ks x.0.0) in
+    subst (λ (ys : Values ks). (bytes ≡ all_printed ks ys) × (all_fit ks ys ≡ true)) done.0 (rest, text.1)
+
 pub body_takes : (bytes : List ℕ) (r : Reply) → read_body bytes ≡ Some r → (bytes ≡ body r) × Fits r
 unfolding read_body
 body_takes bytes r e =
     let c = bind_some (named (before 32 bytes)) (λ c. read_arguments c (from 32 bytes)) r e in
-    let x = bind_some (fields (kinds_of c.0) (from 32 bytes)) (λ x. if_end (made c.0 x.0) x.1) r c.2 in
-    let done = if_end_is (made c.0 x.0.0) x.0.1 r x.2 in
-    let text = fields_take (kinds_of c.0) (from 32 bytes) x.0 x.1 in
-    let prints = made_prints c.0 x.0.0 in
-    let rest : from 32 bytes ≡ all_printed (kinds_of c.0) x.0.0 = text.0 ∙ ap (λ (t : List ℕ). all_printed (kinds_of c.0) x.0.0 ++ t) done.1 ∙ append-nil (all_printed (kinds_of c.0) x.0.0) in
-    let whole : bytes ≡ word_of c.0 ++ all_printed (kinds_of c.0) x.0.0 = before-from 32 bytes ∙ ap (λ (w : List ℕ). w ++ from 32 bytes) (named_takes (before 32 bytes) c.0 c.1) ∙ ap (λ (t : List ℕ). word_of c.0 ++ t) rest in
-    subst (λ (q : Reply). (bytes ≡ body q) × Fits q) done.0 (whole ∙ sym prints.text, prints.fits text.1)
+    let xs = bind_some (shaped (kinds_of c.0) (from 32 bytes)) (λ xs. Some (made c.0 xs)) r c.2 in
+    let text = shaped_takes (kinds_of c.0) (from 32 bytes) xs.0 xs.1 in
+    let prints = made_prints c.0 xs.0 in
+    let whole : bytes ≡ word_of c.0 ++ all_printed (kinds_of c.0) xs.0 = before-from 32 bytes ∙ ap (λ (w : List ℕ). w ++ from 32 bytes) (named_takes (before 32 bytes) c.0 c.1) ∙ ap (λ (t : List ℕ). word_of c.0 ++ t) text.0 in
+    subst (λ (q : Reply). (bytes ≡ body q) × Fits q) (some_is (made c.0 xs.0) r xs.2) (whole ∙ sym prints.text, prints.fits text.1)
 
 -- with the id
 
@@ -446,7 +457,7 @@ numbered_takes bytes x e =
     let digits = natural_takes (before 32 bytes) id.0 id.1 in
     let b = body_takes text.0 r.0 r.1 in
     let rest : from 32 bytes ≡ 32 ∷ body r.0 = behind_is (from 32 bytes) text.0 (from_ends 32 bytes) text.1 ∙ ap (λ (t : List ℕ). 32 ∷ t) b.0 in
-    let whole : bytes ≡ decimal id.0 ++ 32 ∷ body r.0 = before-from 32 bytes ∙ ap (λ (w : List ℕ). w ++ from 32 bytes) digits.0 ∙ ap (λ (t : List ℕ). decimal id.0 ++ t) rest in
+    let whole : bytes ≡ decimal id.0 ++ 32 ∷ body r.0 = before-from 32 bytes ∙ ap (λ (w : List ℕ). w ++ from 32 bytes) digits.text ∙ ap (λ (t : List ℕ). decimal id.0 ++ t) rest in
     subst (λ (q : Option ℕ × Reply). ReadsAs (35 ∷ bytes) q) g.1
       (record { id = leb-true id.0 2147483647 g.0; fits = b.1; text = ap (λ (t : List ℕ). 35 ∷ t) (whole ∙ sym (append_assoc (decimal id.0) (32 ∷ []) (body r.0))) })
 
