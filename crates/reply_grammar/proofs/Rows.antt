@@ -110,7 +110,7 @@ text_takes (b ∷ bs) x e =
 optional_again : (o : Option (List ℕ)) → is_some_word o ≡ true → optional_at (optional_text o) ≡ Some (o, [])
 unfolding optional_at
 optional_again None fit = refl
-optional_again (Some w) fit = 
+optional_again (Some w) fit =
     let e : word_at (32 ∷ w) ≡ Some (w, []) = ap (λ (r : List ℕ). word_at (32 ∷ r)) (sym (append-nil w)) ∙ word_again w [] fit tt in
     rw e refl
 
@@ -158,7 +158,7 @@ words_take bytes x e =
     let g = guard_some (nat_le 1 (length p.0)) (p.0, []) x p.2 in
     let t = many_takes (if_is is_word) (λ w. w) is_word is_word_byte 32 word_prints 32 bytes p.0 p.1 in
     subst (λ (q : List (List ℕ) × List ℕ). (bytes ≡ words_text q.0 ++ q.1) × ((list_all is_word q.0 && nat_le 1 (length q.0)) ≡ true)) g.1
-      (t.0 ∙ sym (words_text-marked p.0) ∙ sym (append-nil (words_text p.0)), and_from (list_all is_word p.0) (nat_le 1 (length p.0)) t.1 g.0)
+    (t.0 ∙ sym (words_text-marked p.0) ∙ sym (append-nil (words_text p.0)), and_from (list_all is_word p.0) (nat_le 1 (length p.0)) t.1 g.0)
 
 names_again : (ws : List (List ℕ)) → (list_all is_name ws && nat_le 1 (length ws) && nat_le (length ws) 32) ≡ true → names_at (words_text ws) ≡ Some (ws, [])
 unfolding names_at
@@ -175,7 +175,7 @@ names_take bytes x e =
     let c = and_parts (nat_le 1 (length p.0)) (nat_le (length p.0) 32) g.0 in
     let t = many_takes (if_is is_name) (λ w. w) is_name is_name_byte 32 name_prints 32 bytes p.0 p.1 in
     subst (λ (q : List (List ℕ) × List ℕ). (bytes ≡ words_text q.0 ++ q.1) × ((list_all is_name q.0 && nat_le 1 (length q.0) && nat_le (length q.0) 32) ≡ true)) g.1
-      (t.0 ∙ sym (words_text-marked p.0) ∙ sym (append-nil (words_text p.0)), and_from (list_all is_name p.0 && nat_le 1 (length p.0)) (nat_le (length p.0) 32) (and_from (list_all is_name p.0) (nat_le 1 (length p.0)) t.1 c.0) c.1)
+    (t.0 ∙ sym (words_text-marked p.0) ∙ sym (append-nil (words_text p.0)), and_from (list_all is_name p.0 && nat_le 1 (length p.0)) (nat_le (length p.0) 32) (and_from (list_all is_name p.0) (nat_le 1 (length p.0)) t.1 c.0) c.1)
 
 pairs_again : (ps : List Pair) → (list_all is_pair ps && nat_le 1 (length ps)) ≡ true → pairs_at (pairs_text 32 ps) ≡ Some (ps, [])
 unfolding pairs_at
@@ -190,7 +190,7 @@ pairs_take bytes x e =
     let g = guard_some (nat_le 1 (length p.0)) (p.0, []) x p.2 in
     let t = many_takes pair_in pair_text is_pair is_sentence_byte 9 pair_prints 32 bytes p.0 p.1 in
     subst (λ (q : List Pair × List ℕ). (bytes ≡ pairs_text 32 q.0 ++ q.1) × ((list_all is_pair q.0 && nat_le 1 (length q.0)) ≡ true)) g.1
-      (t.0 ∙ sym (pairs_text-marked 32 p.0) ∙ sym (append-nil (pairs_text 32 p.0)), and_from (list_all is_pair p.0) (nat_le 1 (length p.0)) t.1 g.0)
+    (t.0 ∙ sym (pairs_text-marked 32 p.0) ∙ sym (append-nil (pairs_text 32 p.0)), and_from (list_all is_pair p.0) (nat_le 1 (length p.0)) t.1 g.0)
 
 -- any kind
 
@@ -299,4 +299,4 @@ fields_take (k ∷ ks) bytes x e =
     let second = fields_take ks a.0.1 b.0 b.1 in
     let made : Values (k ∷ ks) × List ℕ = ((a.0.0, b.0.0), b.0.1) in
     subst (λ (q : Values (k ∷ ks) × List ℕ). (bytes ≡ all_printed (k ∷ ks) q.0 ++ q.1) × (all_fit (k ∷ ks) q.0 ≡ true)) (some_is made x b.2)
-      (first.0 ∙ ap (λ (r : List ℕ). printed k a.0.0 ++ r) second.0 ∙ sym (append_assoc (printed k a.0.0) (all_printed ks b.0.0) b.0.1), and_from (fits k a.0.0) (all_fit ks b.0.0) first.1 second.1)
+    (first.0 ∙ ap (λ (r : List ℕ). printed k a.0.0 ++ r) second.0 ∙ sym (append_assoc (printed k a.0.0) (all_printed ks b.0.0) b.0.1), and_from (fits k a.0.0) (all_fit ks b.0.0) first.1 second.1)

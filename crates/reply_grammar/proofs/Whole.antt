@@ -10,16 +10,15 @@ use Rattle.line_words.specs.Parts.{Ends, before, from}
 use Rattle.line_words.proofs.Splitting.{before-append, before-from, from-append, from_ends}
 use Rattle.reply_grammar.specs.declared.Reply.{Reply}
 use Rattle.reply_grammar.specs.declared.Reply.TheVariants as reply
-use Rattle.reply_grammar.specs.declared.CommandWord.{CommandWord}
-use Rattle.reply_grammar.specs.declared.CommandWord.TheVariants as command
+use Rattle.reply_grammar.specs.declared.command_word.CommandWord.{CommandWord}
+use Rattle.reply_grammar.specs.declared.command_word.CommandWord.TheVariants as command
 use Rattle.reply_grammar.specs.Kinds.{Kind, Pairs, Words, Values, all_fit, all_printed}
 use Rattle.reply_grammar.specs.Replies.{word_of, kinds_of, command_of, values_of, Fits, body, id_text, line_text, IsId, Line, ReadsAs}
-use Rattle.reply_grammar.specs.Reading.{◌>>=◌, natural, fields, if_end, shaped}
+use Rattle.reply_grammar.specs.Reading.{◌>>=◌, number_in, fields, if_end, shaped}
 use Rattle.reply_grammar.specs.Lines.{same, commands, named, made, read_arguments, read_body, behind_space, read_numbered, read_line}
 use Rattle.reply_grammar.proofs.Pieces.{bind_some, guard_some, some_is}
-use Rattle.reply_grammar.proofs.Numbers.{own, natural_again, natural_takes}
-use Rattle.reply_grammar.proofs.Fields.{digits_words}
-
+use Rattle.reply_grammar.proofs.Numbers.{own}
+use Rattle.reply_grammar.proofs.Fields.{digits_words, number_in_again, number_in_takes}
 use Rattle.reply_grammar.proofs.Rows.{is_row, close_of, fields_again, fields_take, opens, is_kind, leads, open_of}
 
 -- command words
@@ -338,8 +337,8 @@ read_body_is : (w t : List ℕ) (c : CommandWord) (text : List ℕ) (xs : Values
     → (named w >>= λ c. read_arguments c t) ≡ Some r
 read_body_is w t c text xs r word rest is read done =
     subst (λ (v : List ℕ). (named v >>= λ c. read_arguments c t) ≡ Some r) (sym word)
-      (subst (λ (u : List ℕ). (named (word_of c) >>= λ c. read_arguments c u) ≡ Some r) (sym rest)
-        (rw (is, read, done) refl))
+    (subst (λ (u : List ℕ). (named (word_of c) >>= λ c. read_arguments c u) ≡ Some r) (sym rest)
+    (rw (is, read, done) refl))
 
 pub body_again : (r : Reply) → Fits r → read_body (body r) ≡ Some r
 unfolding read_body
@@ -348,7 +347,7 @@ body_again r fit =
     let text : List ℕ = all_printed (kinds_of c) (values_of r) in
     let word = before-append is_word_byte 32 (word_of c) text refl (plain_word c) (ends_word c (values_of r)) in
     let rest = from-append is_word_byte 32 (word_of c) text refl (plain_word c) (ends_word c (values_of r)) in
-    read_body_is (before 32 (body r)) (from 32 (body r)) c text (values_of r) r (word ) rest (named_again c) (shaped_again (kinds_of c) (values_of r) (rows c) fit) (made_again r)
+    read_body_is (before 32 (body r)) (from 32 (body r)) c text (values_of r) r (word) rest (named_again c) (shaped_again (kinds_of c) (values_of r) (rows c) fit) (made_again r)
 
 if_end_is : {A : Type 0} (x : A) (rest : List ℕ) (y : A) → if_end x rest ≡ Some y → (x ≡ y) × (rest ≡ [])
 if_end_is x rest y e =
@@ -436,7 +435,8 @@ unfolding read_line read_numbered
 numbered_again id text r small e =
     let lt : id < 2 ^ 64 = omega arith in
     let digits = digits_words (decimal id) (digits_decimal own id lt) in
-    rw (before-append is_word_byte 32 (decimal id) (32 ∷ text) refl digits refl, from-append is_word_byte 32 (decimal id) (32 ∷ text) refl digits refl, natural_again id (omega arith), e, le-leb id 2147483647 small) refl
+    let fit : (nat_le 0 id && nat_le id 2147483647) ≡ true = and_from (nat_le 0 id) (nat_le id 2147483647) (le-leb 0 id (omega arith)) (le-leb id 2147483647 small) in
+    rw (before-append is_word_byte 32 (decimal id) (32 ∷ text) refl digits refl, from-append is_word_byte 32 (decimal id) (32 ∷ text) refl digits refl, number_in_again 0 2147483647 id (omega arith) fit, e) refl
 
 pub line_again : (id : Option ℕ) (r : Reply) → IsId id → Fits r → read_line (line_text id r) ≡ Some (id, r)
 line_again None r small fit = plain_again (body r) r (no_mark (command_of r) (all_printed (kinds_of (command_of r)) (values_of r))) (body_again r fit)
@@ -450,16 +450,15 @@ behind_is (b ∷ bs) text ends e = let rest : bs ≡ text = some_is bs text e in
 numbered_takes : (bytes : List ℕ) (x : Option ℕ × Reply) → read_numbered bytes ≡ Some x → ReadsAs (35 ∷ bytes) x
 unfolding read_numbered
 numbered_takes bytes x e =
-    let id = bind_some (natural (before 32 bytes)) (λ id. behind_space (from 32 bytes) >>= λ text. read_body text >>= λ r. cond (nat_le id 2147483647) (Some (Some id, r)) None) x e in
-    let text = bind_some (behind_space (from 32 bytes)) (λ text. read_body text >>= λ r. cond (nat_le id.0 2147483647) (Some (Some id.0, r)) None) x id.2 in
-    let r = bind_some (read_body text.0) (λ r. cond (nat_le id.0 2147483647) (Some (Some id.0, r)) None) x text.2 in
-    let g = guard_some (nat_le id.0 2147483647) (Some id.0, r.0) x r.2 in
-    let digits = natural_takes (before 32 bytes) id.0 id.1 in
+    let id = bind_some (number_in 0 2147483647 (before 32 bytes)) (λ id. behind_space (from 32 bytes) >>= λ text. read_body text >>= λ r. Some (Some id, r)) x e in
+    let text = bind_some (behind_space (from 32 bytes)) (λ text. read_body text >>= λ r. Some (Some id.0, r)) x id.2 in
+    let r = bind_some (read_body text.0) (λ r. Some (Some id.0, r)) x text.2 in
+    let digits = number_in_takes 0 2147483647 (before 32 bytes) id.0 id.1 in
     let b = body_takes text.0 r.0 r.1 in
     let rest : from 32 bytes ≡ 32 ∷ body r.0 = behind_is (from 32 bytes) text.0 (from_ends 32 bytes) text.1 ∙ ap (λ (t : List ℕ). 32 ∷ t) b.0 in
-    let whole : bytes ≡ decimal id.0 ++ 32 ∷ body r.0 = before-from 32 bytes ∙ ap (λ (w : List ℕ). w ++ from 32 bytes) digits.text ∙ ap (λ (t : List ℕ). decimal id.0 ++ t) rest in
-    subst (λ (q : Option ℕ × Reply). ReadsAs (35 ∷ bytes) q) g.1
-      (record { id = leb-true id.0 2147483647 g.0; fits = b.1; text = ap (λ (t : List ℕ). 35 ∷ t) (whole ∙ sym (append_assoc (decimal id.0) (32 ∷ []) (body r.0))) })
+    let whole : bytes ≡ decimal id.0 ++ 32 ∷ body r.0 = before-from 32 bytes ∙ ap (λ (w : List ℕ). w ++ from 32 bytes) digits.0 ∙ ap (λ (t : List ℕ). decimal id.0 ++ t) rest in
+    subst (λ (q : Option ℕ × Reply). ReadsAs (35 ∷ bytes) q) (some_is (Some id.0, r.0) x r.2)
+    (record { id = leb-true id.0 2147483647 (and_parts (nat_le 0 id.0) (nat_le id.0 2147483647) digits.1).1; fits = b.1; text = ap (λ (t : List ℕ). 35 ∷ t) (whole ∙ sym (append_assoc (decimal id.0) (32 ∷ []) (body r.0))) })
 
 line_by : (t : Bool) (b : ℕ) (bs : List ℕ) (x : Option ℕ × Reply) → (b == 35) ≡ t → cond t (read_numbered bs) (read_body (b ∷ bs) >>= λ r. Some (None, r)) ≡ Some x → ReadsAs (b ∷ bs) x
 line_by true b bs x is e =

@@ -3,12 +3,12 @@ use Rattle.std.specs.Prelude.{ℕ, Bool, true, false, if◌then◌else◌, ◌&&
 use Rattle.std.specs.Cmp.Lexicographic.{pointwise}
 use Rattle.reply_grammar.specs.declared.Reply.{Reply}
 use Rattle.reply_grammar.specs.declared.Reply.TheVariants as reply
-use Rattle.reply_grammar.specs.declared.CommandWord.{CommandWord}
-use Rattle.reply_grammar.specs.declared.CommandWord.TheVariants as command
+use Rattle.reply_grammar.specs.declared.command_word.CommandWord.{CommandWord}
+use Rattle.reply_grammar.specs.declared.command_word.CommandWord.TheVariants as command
 use Rattle.reply_grammar.specs.Kinds.{Values}
 use Rattle.reply_grammar.specs.Replies.{word_of, kinds_of}
 use Rattle.line_words.specs.Parts.{before, from}
-use Rattle.reply_grammar.specs.Reading.{◌>>=◌, natural, shaped}
+use Rattle.reply_grammar.specs.Reading.{◌>>=◌, number_in, shaped}
 
 abbrev pub same : List ℕ → List ℕ → Bool
 same = pointwise nat_eq
@@ -88,10 +88,10 @@ behind_space (b ∷ bs) = Some bs
 
 unfoldable pub read_numbered : List ℕ → Option (Option ℕ × Reply)
 read_numbered bytes = do
-  id ← natural (before 32 bytes)
+  id ← number_in 0 2147483647 (before 32 bytes)
   text ← behind_space (from 32 bytes)
   r ← read_body text
-  if nat_le id 2147483647 then Some (Some id, r) else None
+  Some (Some id, r)
 
 unfoldable pub read_line : List ℕ → Option (Option ℕ × Reply)
 read_line [] = None

@@ -57,17 +57,15 @@ unfoldable pub whole : List ℕ → Option ℤ
 whole [] = None
 whole (b ∷ bs) = if b == 45 then natural bs >>= negative else natural (b ∷ bs) >>= λ n. Some (pos n)
 
+-- the same from low to high
+unfoldable pub number_in : ℕ → ℕ → List ℕ → Option ℕ
+number_in low high w = natural w >>= λ n. if nat_le low n && nat_le n high then Some n else None
+
 unfoldable pub number_at : ℕ → ℕ → List ℕ → Option (ℕ × List ℕ)
-number_at low high bytes = do
-  p ← piece_at 32 32 bytes
-  n ← natural p.0
-  if nat_le low n && nat_le n high then Some (n, p.1) else None
+number_at low high bytes = piece_at 32 32 bytes >>= λ p. number_in low high p.0 >>= λ n. Some (n, p.1)
 
 unfoldable pub wide_at : List ℕ → Option (ℤ × List ℕ)
-wide_at bytes = do
-  p ← piece_at 32 32 bytes
-  z ← whole p.0
-  if is_wide z then Some (z, p.1) else None
+wide_at bytes = piece_at 32 32 bytes >>= λ p. whole p.0 >>= λ z. if is_wide z then Some (z, p.1) else None
 
 abbrev pub flag_of : ℕ → Bool
 flag_of n = n == 1

@@ -4,7 +4,7 @@ ghost use Rattle.std.specs.Prelude.{◌≡◌, ℕ, List, [], ◌∷◌, ◌++�
 ghost use Rattle.std.specs.Fmt.{signed_decimal};
 ghost use Rattle.reply_grammar.specs.Kinds.{words_text, pair_text, pairs_text, optional_text};
 ghost use Rattle.reply_grammar.specs.Replies.{id_text, printed_line};
-ghost use Rattle.reply_grammar.specs.Written.{argument_text, arguments_text, line_text};
+ghost use Rattle.reply_grammar.specs.Written.{argument_text, arguments_text, pieces_text};
 
 use crate::Reply;
 use itoa::Buffer;
@@ -171,7 +171,7 @@ fn put_parts(
     word: &[u8],
     arguments: &[Argument],
 ) -> Result<(), AllocError>
-    ensures ok { IfOk result (λ _. out.new.items ≡ out.old.items ++ line_text id word.now arguments.now) }
+    ensures ok { IfOk result (λ _. out.new.items ≡ out.old.items ++ pieces_text id word.now arguments.now) }
     ensures kept { take (length out.old.items) out.new.items ≡ out.old.items }
 {
     put_id(out, id)?;
@@ -188,7 +188,7 @@ fn put_line(
     word: &[u8],
     arguments: &[Argument],
 ) -> Result<(), AllocError>
-    ensures { out.new.items ≡ (if is_ok result then out.old.items ++ line_text id word.now arguments.now else out.old.items) }
+    ensures { out.new.items ≡ (if is_ok result then out.old.items ++ pieces_text id word.now arguments.now else out.old.items) }
 {
     let start = out.len();
     let done = put_parts(out, id, word, arguments);

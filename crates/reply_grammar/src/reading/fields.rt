@@ -4,7 +4,9 @@ ghost use Rattle.std.specs.Prelude.{◌≡◌};
 ghost use Rattle.reply_grammar.specs.Reading.{Gives, if_end, name_at, optional_at, piece_at, sentence_at, text_at, word_at};
 
 use super::ReadError;
-use line_words::{NameBuf, SentenceBuf, TextBuf, WordBuf, is_name, is_sentence, is_text, is_word, split_at_byte};
+use line_words::{
+    NameBuf, SentenceBuf, TextBuf, WordBuf, is_name, is_sentence, is_text, is_word, split_at_byte,
+};
 use std::alloc::Global;
 
 /// What stands behind one byte up to another, and the rest.

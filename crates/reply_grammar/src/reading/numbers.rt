@@ -1,21 +1,64 @@
 //! Reading one number, and the bytes behind it.
 
 ghost use Rattle.std.specs.Prelude.{◌≡◌, ◌≤◌, ℤ, ◌≤ℤ◌, IfErr, IfOk, Some, ◌==◌, not};
-ghost use Rattle.reply_grammar.specs.Reading.{Gives, begins_with, flag_at, is_canonical, number_at, wide_at, whole};
+ghost use Rattle.reply_grammar.specs.Reading.{Gives, begins_with, flag_at, is_canonical, number_at, number_in, wide_at, whole};
 
 use super::ReadError;
 use super::fields::piece_at;
 use line_words::read_number;
 
-/// The number of a reply that goes from `low` to `high`.
+/// The number of a battle.
+pub(super) fn battle_at(bytes: &[u8]) -> Result<(u32, &[u8]), ReadError>
+    ensures { Gives (λ x. (x.0, x.1.now)) result (number_at 1 2147483647 bytes.now) }
+{
+    number_at(bytes, 1, 2147483647)
+}
+
+/// Any number of 32 bits.
+pub(super) fn u32_at(bytes: &[u8]) -> Result<(u32, &[u8]), ReadError>
+    ensures { Gives (λ x. (x.0, x.1.now)) result (number_at 0 4294967295 bytes.now) }
+{
+    number_at(bytes, 0, u32::MAX)
+}
+
+/// Any number of 16 bits.
+pub(super) fn u16_at(bytes: &[u8]) -> Result<(u16, &[u8]), ReadError>
+    ensures { Gives (λ x. (x.0, x.1.now)) result (number_at 0 65535 bytes.now) }
+{
+    let (number, rest) = number_at(bytes, 0, 65535)?;
+    Ok((number as u16, rest))
+}
+
+/// A number from 0 to `high`.
+pub(super) fn small_at(bytes: &[u8], high: u8) -> Result<(u8, &[u8]), ReadError>
+    ensures { Gives (λ x. (x.0, x.1.now)) result (number_at 0 high bytes.now) }
+{
+    let (number, rest) = number_at(bytes, 0, high as u32)?;
+    Ok((number as u8, rest))
+}
+
+/// A message id.
+pub(super) fn id_of(word: &[u8]) -> Result<u32, ReadError>
+    ensures { Gives (λ x. x) result (number_in 0 2147483647 word.now) }
+{
+    number_in(word, 0, 2147483647)
+}
+
 #[tactic(auto, unfolding(crate::specs::Reading::number_at))]
-pub(super) fn number_at(bytes: &[u8], low: u32, high: u32) -> Result<(u32, &[u8]), ReadError>
+fn number_at(bytes: &[u8], low: u32, high: u32) -> Result<(u32, &[u8]), ReadError>
     ensures value { Gives (λ x. (x.0, x.1.now)) result (number_at low high bytes.now) }
     ensures range { IfOk result (λ x. (low ≤ x.0) × (x.0 ≤ high)) }
 {
     let (word, rest) = piece_at(bytes, b' ', b' ')?;
+    Ok((number_in(word, low, high)?, rest))
+}
+
+fn number_in(word: &[u8], low: u32, high: u32) -> Result<u32, ReadError>
+    ensures value { Gives (λ x. x) result (number_in low high word.now) }
+    ensures range { IfOk result (λ x. (low ≤ x) × (x ≤ high)) }
+{
     let number = canonical(word, low as i64, high as i64)?;
-    Ok((number as u32, rest))
+    Ok(number as u32)
 }
 
 /// A number of either sign and 32 bits.
