@@ -248,3 +248,6 @@ impl Reply {
     /// Lets the reply go. Checking a caller that drops one itself costs more.
     pub fn discard(self) {}
 }
+
+#[cfg(test)]
+mod tests;

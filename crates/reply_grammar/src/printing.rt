@@ -33,10 +33,20 @@ pub fn print(reply: &Reply, id: Option<u32>, out: &mut Vec<u8>) -> Result<(), Al
                 Argument::Number(*server_mode as u32),
             ],
         ),
-        Reply::Accepted { user } => put_line(out, id, CommandWord::Accepted, &[Argument::Name(user)]),
+        Reply::Accepted { user } => put_line(
+            out,
+            id,
+            CommandWord::Accepted,
+            &[Argument::Name(user)],
+        ),
         Reply::Denied { text } => put_line(out, id, CommandWord::Denied, &[Argument::Text(text)]),
         Reply::Motd { text } => put_line(out, id, CommandWord::Motd, &[Argument::Text(text)]),
-        Reply::ServerMsg { text } => put_line(out, id, CommandWord::ServerMsg, &[Argument::Text(text)]),
+        Reply::ServerMsg { text } => put_line(
+            out,
+            id,
+            CommandWord::ServerMsg,
+            &[Argument::Text(text)],
+        ),
         Reply::AddUser {
             user,
             country,
@@ -53,7 +63,12 @@ pub fn print(reply: &Reply, id: Option<u32>, out: &mut Vec<u8>) -> Result<(), Al
                 Argument::Number(*account),
             ],
         ),
-        Reply::RemoveUser { user } => put_line(out, id, CommandWord::RemoveUser, &[Argument::Name(user)]),
+        Reply::RemoveUser { user } => put_line(
+            out,
+            id,
+            CommandWord::RemoveUser,
+            &[Argument::Name(user)],
+        ),
         Reply::ClientStatus { user, status } => put_line(
             out,
             id,
