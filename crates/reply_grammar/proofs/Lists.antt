@@ -109,7 +109,7 @@ module _ {A : Type 0} (one : List ℕ → Option A) (text : A → List ℕ) (fit
       let first = prints.takes s x.0 x.1 in
       let rest = parts_take ss ys.0 ys.1 in
       subst (λ (zs : List A). (marked (λ s. s) stop stop (s ∷ ss) ≡ marked text stop stop zs) × (list_all fit zs ≡ true)) (some_is (x.0 ∷ ys.0) xs ys.2)
-        (both stop s (text x.0) (marked (λ s. s) stop stop ss) (marked text stop stop ys.0) first.0 rest.0, and_from (fit x.0) (list_all fit ys.0) first.1 rest.1)
+      (both stop s (text x.0) (marked (λ s. s) stop stop ss) (marked text stop stop ys.0) first.0 rest.0, and_from (fit x.0) (list_all fit ys.0) first.1 rest.1)
 
   first_mark : (mark : ℕ) (ss : List (List ℕ)) (xs : List A) → HasParts ss → all_of one ss ≡ Some xs → (mark ∷ joined stop ss ≡ marked text mark stop xs) × (list_all fit xs ≡ true)
   first_mark mark [] xs h e = absurd h
@@ -119,7 +119,7 @@ module _ {A : Type 0} (one : List ℕ → Option A) (text : A → List ℕ) (fit
       let first = prints.takes s x.0 x.1 in
       let rest = parts_take ss ys.0 ys.1 in
       subst (λ (zs : List A). (mark ∷ joined stop (s ∷ ss) ≡ marked text mark stop zs) × (list_all fit zs ≡ true)) (some_is (x.0 ∷ ys.0) xs ys.2)
-        (both mark s (text x.0) (marked (λ s. s) stop stop ss) (marked text stop stop ys.0) first.0 rest.0, and_from (fit x.0) (list_all fit ys.0) first.1 rest.1)
+      (both mark s (text x.0) (marked (λ s. s) stop stop ss) (marked text stop stop ys.0) first.0 rest.0, and_from (fit x.0) (list_all fit ys.0) first.1 rest.1)
 
   pub many_takes : (mark : ℕ) (bytes : List ℕ) (xs : List A) → many one mark stop bytes ≡ Some xs → (bytes ≡ marked text mark stop xs) × (list_all fit xs ≡ true)
   unfolding many
@@ -194,9 +194,9 @@ pair_prints = record {
   again = pair_again;
   takes = pair_takes;
   bytes = λ p h.
-    (let parts = and_parts (is_key p.key) (is_sentence p.value) h in
-    let key = and_parts (nat_le 1 (length p.key)) (list_all is_key_byte p.key) parts.0 in
-    all_append is_sentence_byte p.key (61 ∷ p.value) (all_more is_key_byte is_sentence_byte key_sentence p.key key.1) parts.1);
+      (let parts = and_parts (is_key p.key) (is_sentence p.value) h in
+      let key = and_parts (nat_le 1 (length p.key)) (list_all is_key_byte p.key) parts.0 in
+      all_append is_sentence_byte p.key (61 ∷ p.value) (all_more is_key_byte is_sentence_byte key_sentence p.key key.1) parts.1);
 }
 
 -- a name is a word

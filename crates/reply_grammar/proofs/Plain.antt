@@ -54,7 +54,7 @@ pairs_plain mark [] m h = refl
 pairs_plain mark (p ∷ ps) m h =
     let parts = and_parts (is_pair p) (list_all is_pair ps) h in
     and_from (is_text_byte mark) (is_text (pair_text p ++ pairs_text 9 ps)) m
-      (all_append is_text_byte (pair_text p) (pairs_text 9 ps) (a_pair p parts.0) (pairs_plain 9 ps refl parts.1))
+    (all_append is_text_byte (pair_text p) (pairs_text 9 ps) (a_pair p parts.0) (pairs_plain 9 ps refl parts.1))
 
 flag_plain : (b : Bool) → is_text (cond b 49 48 ∷ []) ≡ true
 flag_plain true = refl

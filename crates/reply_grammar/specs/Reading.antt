@@ -2,6 +2,7 @@
 use Rattle.std.specs.Prelude.{◌≡◌, ℕ, zero, suc, ◌+◌, ◌*◌, ◌-◌, ℤ, pos, negsuc, Bool, true, false, if◌then◌else◌, not, ◌&&◌, ◌||◌, ◌==◌, nat_le, nat_lt, List, [], ◌∷◌, ◌++◌, length, Option, Some, None, Result, Ok, Err, IsTrue}
 use Rattle.std.specs.List.{list_all}
 use Rattle.line_words.specs.Bytes.{is_word, is_key, is_name, is_sentence, is_text, is_digit}
+use Rattle.line_words.specs.Numbers.{is_digits, value_of}
 use Rattle.line_words.specs.Parts.{before, from, between}
 use Rattle.reply_grammar.specs.Kinds.{Kind, Word, Name, Number, Wide, Flag, OptionalWord, Words, Names, Sentence, NextSentence, Text, Pairs, Value, Values, is_wide}
 use Rattle.line_words.specs.declared.lists.Pair.{Pair}
@@ -30,38 +31,41 @@ piece_at mark stop (b ∷ bs) = if b == mark then Some (before stop bs, from sto
 abbrev pub with_test : (List ℕ → Bool) → Option (List ℕ × List ℕ) → Option (List ℕ × List ℕ)
 with_test test o = o >>= λ p. if test p.0 then Some p else None
 
--- the value of digits behind others, below 10 ^ 10
-abbrev pub digits_from : ℕ → List ℕ → Option ℕ
-digits_from n [] = Some n
-digits_from n (b ∷ bs) = if is_digit b && nat_lt n 1000000000 then digits_from (n * 10 + (b - 48)) bs else None
+-- no zero stands in front of other digits
+abbrev pub is_plain : List ℕ → Bool
+is_plain [] = true
+is_plain (b ∷ bs) = not (b == 48) || length bs == 0
+
+abbrev pub begins_with : ℕ → List ℕ → Bool
+begins_with x [] = false
+begins_with x (b ∷ bs) = b == x
+
+-- no needless zero: neither `007` nor `-0`
+abbrev pub is_canonical : List ℕ → Bool
+is_canonical [] = true
+is_canonical (b ∷ bs) = if b == 45 then not (begins_with 48 bs) else is_plain (b ∷ bs)
 
 -- the number that prints so
 unfoldable pub natural : List ℕ → Option ℕ
-natural [] = None
-natural (b ∷ bs) = if b == 48 && nat_le 1 (length bs) then None else digits_from 0 (b ∷ bs)
+natural w = if is_digits w && is_plain w then Some (value_of w) else None
 
 abbrev pub negative : ℕ → Option ℤ
 negative zero = None
 negative (suc n) = Some (negsuc n)
 
-abbrev pub negated : List ℕ → Option ℤ
-negated bs = natural bs >>= negative
-
 unfoldable pub whole : List ℕ → Option ℤ
 whole [] = None
 whole (b ∷ bs) = if b == 45 then natural bs >>= negative else natural (b ∷ bs) >>= λ n. Some (pos n)
 
+-- the same from low to high
+unfoldable pub number_in : ℕ → ℕ → List ℕ → Option ℕ
+number_in low high w = natural w >>= λ n. if nat_le low n && nat_le n high then Some n else None
+
 unfoldable pub number_at : ℕ → ℕ → List ℕ → Option (ℕ × List ℕ)
-number_at low high bytes = do
-  p ← piece_at 32 32 bytes
-  n ← natural p.0
-  if nat_le low n && nat_le n high then Some (n, p.1) else None
+number_at low high bytes = piece_at 32 32 bytes >>= λ p. number_in low high p.0 >>= λ n. Some (n, p.1)
 
 unfoldable pub wide_at : List ℕ → Option (ℤ × List ℕ)
-wide_at bytes = do
-  p ← piece_at 32 32 bytes
-  z ← whole p.0
-  if is_wide z then Some (z, p.1) else None
+wide_at bytes = piece_at 32 32 bytes >>= λ p. whole p.0 >>= λ z. if is_wide z then Some (z, p.1) else None
 
 abbrev pub flag_of : ℕ → Bool
 flag_of n = n == 1
@@ -142,3 +146,7 @@ fields (k ∷ ks) bytes = field k bytes >>= λ x. fields ks x.1 >>= λ xs. Some 
 -- nothing is left
 abbrev pub if_end : {A : Type 0} → A → List ℕ → Option A
 if_end x rest = if length rest == 0 then Some x else None
+
+-- all arguments of these kinds, to the end
+unfoldable pub shaped : (ks : List Kind) → List ℕ → Option (Values ks)
+shaped ks bytes = fields ks bytes >>= λ x. if_end x.0 x.1
