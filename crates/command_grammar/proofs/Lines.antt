@@ -69,7 +69,7 @@ gap_ends : (gap text : List ℕ) → 0 < length gap → IsTrue (is_spaces gap) �
 gap_ends [] text h s = absurd (omega arith)
 gap_ends (x ∷ gap) text h s = eqb-true x 32 (and_first (x == 32) (is_spaces gap) s)
 
-le_test : (a b : ℕ) → a ≤ b → nat_le a b ≡ true
+pub le_test : (a b : ℕ) → a ≤ b → nat_le a b ≡ true
 le_test a b h = grind (arith, nat_tests)
 
 pub test_le : (a b : ℕ) → nat_le a b ≡ true → a ≤ b

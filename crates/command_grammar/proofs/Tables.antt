@@ -6,9 +6,28 @@ use Rattle.command_grammar.specs.declared.command_word.CommandWord.{CommandWord}
 use Rattle.command_grammar.specs.declared.command_word.CommandWord.TheVariants as word
 use Rattle.command_grammar.specs.Forms.{Form}
 use Rattle.command_grammar.specs.Reading.{known_at}
-use Rattle.command_grammar.proofs.Settles.{Settles, made, fault_made}
+use Rattle.command_grammar.proofs.Settles.{Settles, made, fault_made, Word-settles, Optional-settles, Name-settles, Natural-settles, Wide-settles}
 
 pub form_settles : (o : Option CommandWord) (rest : List ℕ) → EndsWord rest → Settles (Form o rest) (known_at o rest)
 form_settles None rest e = fault_made
 form_settles (Some word.Ping) rest e = made
 form_settles (Some word.Exit) rest e = made
+form_settles (Some word.Channels) rest e = made
+form_settles (Some word.LeaveBattle) rest e = made
+form_settles (Some word.MyStatus) rest e = Natural-settles _ (λ status r e. made) rest e
+form_settles (Some word.Join) rest e = Name-settles _ (λ channel. Optional-settles _ (λ key r e. made)) rest e
+form_settles (Some word.Leave) rest e = Name-settles _ (λ channel r e. made) rest e
+form_settles (Some word.JoinBattle) rest e = Natural-settles _ (λ battle. Optional-settles _ (λ password. Optional-settles _ (λ script_password r e. made))) rest e
+form_settles (Some word.MyBattleStatus) rest e = Natural-settles _ (λ battle_status. Wide-settles _ (λ team_color r e. made)) rest e
+form_settles (Some word.UpdateBot) rest e = Word-settles _ (λ bot. Natural-settles _ (λ battle_status. Wide-settles _ (λ team_color r e. made))) rest e
+form_settles (Some word.RemoveBot) rest e = Word-settles _ (λ bot r e. made) rest e
+form_settles (Some word.AddStartRect) rest e =
+    Natural-settles _ (λ ally_no. Natural-settles _ (λ left. Natural-settles _ (λ top. Natural-settles _ (λ right. Natural-settles _ (λ bottom r e. made))))) rest e
+form_settles (Some word.RemoveStartRect) rest e = Natural-settles _ (λ ally_no r e. made) rest e
+form_settles (Some word.Handicap) rest e = Name-settles _ (λ user. Natural-settles _ (λ value r e. made)) rest e
+form_settles (Some word.ForceTeamNo) rest e = Name-settles _ (λ user. Natural-settles _ (λ number r e. made)) rest e
+form_settles (Some word.ForceAllyNo) rest e = Name-settles _ (λ user. Natural-settles _ (λ number r e. made)) rest e
+form_settles (Some word.ForceTeamColor) rest e = Name-settles _ (λ user. Wide-settles _ (λ team_color r e. made)) rest e
+form_settles (Some word.ForceSpectatorMode) rest e = Name-settles _ (λ user r e. made) rest e
+form_settles (Some word.KickFromBattle) rest e = Name-settles _ (λ user r e. made) rest e
+form_settles (Some word.Ring) rest e = Name-settles _ (λ user r e. made) rest e

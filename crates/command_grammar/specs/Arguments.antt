@@ -3,6 +3,7 @@
 use Rattle.std.specs.Prelude.{◌≡◌, ℕ, ◌<◌, ℤ, pos, negsuc, ◌≤ℤ◌, Bool, not, nat_eq, ◌==◌, ◌⊎◌, List, [], ◌∷◌, ◌++◌, filter, length, Option, Some, None, IsTrue, MatchBool}
 use Rattle.std.specs.List.{list_any}
 use Rattle.line_words.specs.Bytes.{has_byte, is_spaces, is_name}
+use Rattle.line_words.specs.Numbers.{IsNumeral}
 use Rattle.line_words.specs.Words.{NextWord}
 use Rattle.command_grammar.specs.declared.command.ReadFault.{ReadFault}
 use Rattle.command_grammar.specs.declared.command.ReadFault.TheVariants as fault
@@ -26,3 +27,21 @@ OptionalWord K rest c = (IsTrue (is_spaces rest) × K None [] c)
 -- a word that is a name
 abbrev pub Name : (List ℕ → List ℕ → Command → Type 0) → List ℕ → Command → Type 0
 Name K = Word (λ word behind c. MatchBool (is_name word) (K word behind c) (IsFault fault.BadName c))
+
+-- a word that is a number from low to high
+abbrev pub Number : ℤ → ℤ → (ℤ → List ℕ → Command → Type 0) → List ℕ → Command → Type 0
+Number low high K = Word (λ word behind c.
+    ((z : ℤ) × IsNumeral word z × (low ≤ℤ z) × (z ≤ℤ high) × K z behind c)
+    ⊎ (((z : ℤ) → IsNumeral word z → low ≤ℤ z → z ≤ℤ high → ⊥) × IsFault fault.BadNumber c))
+
+-- a number from 0 to high
+abbrev pub Natural : ℕ → (ℕ → List ℕ → Command → Type 0) → List ℕ → Command → Type 0
+Natural high K = Number (pos 0) (pos high) (λ z behind c. (n : ℕ) × (z ≡ pos n) × K n behind c)
+
+-- a number from -2147483648 to 4294967295: colours, hashes, rank, cpu
+abbrev pub Wide : (ℤ → List ℕ → Command → Type 0) → List ℕ → Command → Type 0
+Wide = Number (negsuc 2147483647) (pos 4294967295)
+
+-- 0 or 1
+abbrev pub Flag : (Bool → List ℕ → Command → Type 0) → List ℕ → Command → Type 0
+Flag K = Natural 1 (λ n. K (n == 1))

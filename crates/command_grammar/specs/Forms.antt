@@ -7,11 +7,29 @@ use Rattle.command_grammar.specs.declared.command.Command.{Command}
 use Rattle.command_grammar.specs.declared.command.Command.TheVariants as command
 use Rattle.command_grammar.specs.declared.command_word.CommandWord.{CommandWord}
 use Rattle.command_grammar.specs.declared.command_word.CommandWord.TheVariants as word
-use Rattle.command_grammar.specs.Arguments.{IsFault}
+use Rattle.command_grammar.specs.Arguments.{IsFault, Word, OptionalWord, Name, Natural, Wide}
 
 abbrev pub command_words : List (List ℕ × CommandWord)
 command_words = (codes "PING", word.Ping)
     ∷ (codes "EXIT", word.Exit)
+    ∷ (codes "CHANNELS", word.Channels)
+    ∷ (codes "LEAVEBATTLE", word.LeaveBattle)
+    ∷ (codes "MYSTATUS", word.MyStatus)
+    ∷ (codes "JOIN", word.Join)
+    ∷ (codes "LEAVE", word.Leave)
+    ∷ (codes "JOINBATTLE", word.JoinBattle)
+    ∷ (codes "MYBATTLESTATUS", word.MyBattleStatus)
+    ∷ (codes "UPDATEBOT", word.UpdateBot)
+    ∷ (codes "REMOVEBOT", word.RemoveBot)
+    ∷ (codes "ADDSTARTRECT", word.AddStartRect)
+    ∷ (codes "REMOVESTARTRECT", word.RemoveStartRect)
+    ∷ (codes "HANDICAP", word.Handicap)
+    ∷ (codes "FORCETEAMNO", word.ForceTeamNo)
+    ∷ (codes "FORCEALLYNO", word.ForceAllyNo)
+    ∷ (codes "FORCETEAMCOLOR", word.ForceTeamColor)
+    ∷ (codes "FORCESPECTATORMODE", word.ForceSpectatorMode)
+    ∷ (codes "KICKFROMBATTLE", word.KickFromBattle)
+    ∷ (codes "RING", word.Ring)
     ∷ []
 
 -- two words are the same, byte for byte
@@ -27,3 +45,26 @@ abbrev pub Form : Option CommandWord → List ℕ → Command → Type 0
 Form None rest c = IsFault fault.UnknownCommand c
 Form (Some word.Ping) rest c = c ≡ command.Ping
 Form (Some word.Exit) rest c = c ≡ command.Exit
+Form (Some word.Channels) rest c = c ≡ command.Channels
+Form (Some word.LeaveBattle) rest c = c ≡ command.LeaveBattle
+Form (Some word.MyStatus) rest c = Natural 4294967295 (λ status end c. c ≡ command.MyStatus status) rest c
+Form (Some word.Join) rest c = Name (λ channel. OptionalWord (λ key end c. c ≡ command.Join channel)) rest c
+Form (Some word.Leave) rest c = Name (λ channel end c. c ≡ command.Leave channel) rest c
+Form (Some word.JoinBattle) rest c =
+    Natural 2147483647 (λ battle. OptionalWord (λ password. OptionalWord (λ script_password end c. c ≡ command.JoinBattle battle password script_password))) rest c
+Form (Some word.MyBattleStatus) rest c =
+    Natural 4294967295 (λ battle_status. Wide (λ team_color end c. c ≡ command.MyBattleStatus battle_status team_color)) rest c
+Form (Some word.UpdateBot) rest c =
+    Word (λ bot. Natural 4294967295 (λ battle_status. Wide (λ team_color end c. c ≡ command.UpdateBot bot battle_status team_color))) rest c
+Form (Some word.RemoveBot) rest c = Word (λ bot end c. c ≡ command.RemoveBot bot) rest c
+Form (Some word.AddStartRect) rest c =
+    Natural 15 (λ ally_no. Natural 200 (λ left. Natural 200 (λ top. Natural 200 (λ right. Natural 200 (λ bottom end c.
+    c ≡ command.AddStartRect ally_no left top right bottom))))) rest c
+Form (Some word.RemoveStartRect) rest c = Natural 15 (λ ally_no end c. c ≡ command.RemoveStartRect ally_no) rest c
+Form (Some word.Handicap) rest c = Name (λ user. Natural 100 (λ value end c. c ≡ command.Handicap user value)) rest c
+Form (Some word.ForceTeamNo) rest c = Name (λ user. Natural 15 (λ number end c. c ≡ command.ForceTeamNo user number)) rest c
+Form (Some word.ForceAllyNo) rest c = Name (λ user. Natural 15 (λ number end c. c ≡ command.ForceAllyNo user number)) rest c
+Form (Some word.ForceTeamColor) rest c = Name (λ user. Wide (λ team_color end c. c ≡ command.ForceTeamColor user team_color)) rest c
+Form (Some word.ForceSpectatorMode) rest c = Name (λ user end c. c ≡ command.ForceSpectatorMode user) rest c
+Form (Some word.KickFromBattle) rest c = Name (λ user end c. c ≡ command.KickFromBattle user) rest c
+Form (Some word.Ring) rest c = Name (λ user end c. c ≡ command.Ring user) rest c

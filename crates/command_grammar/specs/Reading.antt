@@ -1,5 +1,5 @@
 -- What reading a line gives, as a function: the readers are proved by it, and it is proved to give what a line reads as.
-use Rattle.std.specs.Prelude.{◌≡◌, ℕ, Bool, true, false, ◌&&◌, ◌==◌, nat_le, if◌then◌else◌, List, [], ◌∷◌, length, Option, Some, None, Result, Ok, Err, IsTrue}
+use Rattle.std.specs.Prelude.{◌≡◌, ℕ, ℤ, pos, negsuc, neg_ℤ, int_lt, Bool, true, false, not, ◌&&◌, ◌==◌, nat_le, if◌then◌else◌, List, [], ◌∷◌, length, Option, Some, None, Result, Ok, Err, IsTrue}
 use Rattle.line_words.specs.Bytes.{has_byte, is_text, is_name}
 use Rattle.line_words.specs.Parts.{before, from}
 use Rattle.line_words.specs.Numbers.{is_digits, value_of}
@@ -58,10 +58,121 @@ word_in text = checked_word (before 32 text) (from 32 text)
 unfoldable pub word_at : List ℕ → Result (List ℕ × List ℕ) ReadFault
 word_at rest = word_in (without_spaces rest)
 
+-- no word is no fault
+abbrev pub if_there : Result (List ℕ × List ℕ) ReadFault → Result (Option (List ℕ) × List ℕ) ReadFault
+if_there (Ok x) = Ok (Some x.0, x.1)
+if_there (Err fault.MissingArgument) = Ok (None, [])
+if_there (Err f) = Err f
+
+unfoldable pub optional_at : List ℕ → Result (Option (List ℕ) × List ℕ) ReadFault
+optional_at rest = if_there (word_at rest)
+
+abbrev pub if_name : List ℕ × List ℕ → Result (List ℕ × List ℕ) ReadFault
+if_name x = if is_name x.0 then Ok x else Err fault.BadName
+
+unfoldable pub name_at : List ℕ → Result (List ℕ × List ℕ) ReadFault
+name_at rest = word_at rest >>= if_name
+
+abbrev pub numeral : List ℕ → Option ℤ
+numeral [] = None
+numeral (b ∷ bs) = if is_digits (b ∷ bs) then Some (pos (value_of (b ∷ bs))) else (if b == 45 && is_digits bs then Some (neg_ℤ (pos (value_of bs))) else None)
+
+abbrev pub is_between : ℤ → ℤ → ℤ → Bool
+is_between low high z = not (int_lt z low) && not (int_lt high z)
+
+abbrev pub if_between : ℤ → ℤ → Option ℤ → Result ℤ ReadFault
+if_between low high None = Err fault.BadNumber
+if_between low high (Some z) = if is_between low high z then Ok z else Err fault.BadNumber
+
+unfoldable pub number_in : ℤ → ℤ → List ℕ → Result ℤ ReadFault
+number_in low high word = if_between low high (numeral word)
+
+unfoldable pub number_at : ℤ → ℤ → List ℕ → Result (ℤ × List ℕ) ReadFault
+number_at low high rest = do
+  word ← word_at rest
+  z ← number_in low high word.0
+  Ok (z, word.1)
+
+abbrev pub natural_of : ℤ → ℕ
+natural_of (pos n) = n
+natural_of (negsuc n) = 0
+
+unfoldable pub natural_at : ℕ → List ℕ → Result (ℕ × List ℕ) ReadFault
+natural_at high rest = do
+  number ← number_at (pos 0) (pos high) rest
+  Ok (natural_of number.0, number.1)
+
+unfoldable pub wide_at : List ℕ → Result (ℤ × List ℕ) ReadFault
+wide_at = number_at (negsuc 2147483647) (pos 4294967295)
+
 -- what the form of a command makes of the rest of its line
 abbrev pub arguments_at : CommandWord → List ℕ → Result Command ReadFault
 arguments_at word.Ping rest = Ok command.Ping
 arguments_at word.Exit rest = Ok command.Exit
+arguments_at word.Channels rest = Ok command.Channels
+arguments_at word.LeaveBattle rest = Ok command.LeaveBattle
+arguments_at word.MyStatus rest = do
+  status ← natural_at 4294967295 rest
+  Ok (command.MyStatus status.0)
+arguments_at word.Join rest = do
+  channel ← name_at rest
+  key ← optional_at channel.1
+  Ok (command.Join channel.0)
+arguments_at word.Leave rest = do
+  channel ← name_at rest
+  Ok (command.Leave channel.0)
+arguments_at word.JoinBattle rest = do
+  battle ← natural_at 2147483647 rest
+  password ← optional_at battle.1
+  script_password ← optional_at password.1
+  Ok (command.JoinBattle battle.0 password.0 script_password.0)
+arguments_at word.MyBattleStatus rest = do
+  battle_status ← natural_at 4294967295 rest
+  team_color ← wide_at battle_status.1
+  Ok (command.MyBattleStatus battle_status.0 team_color.0)
+arguments_at word.UpdateBot rest = do
+  bot ← word_at rest
+  battle_status ← natural_at 4294967295 bot.1
+  team_color ← wide_at battle_status.1
+  Ok (command.UpdateBot bot.0 battle_status.0 team_color.0)
+arguments_at word.RemoveBot rest = do
+  bot ← word_at rest
+  Ok (command.RemoveBot bot.0)
+arguments_at word.AddStartRect rest = do
+  ally_no ← natural_at 15 rest
+  left ← natural_at 200 ally_no.1
+  top ← natural_at 200 left.1
+  right ← natural_at 200 top.1
+  bottom ← natural_at 200 right.1
+  Ok (command.AddStartRect ally_no.0 left.0 top.0 right.0 bottom.0)
+arguments_at word.RemoveStartRect rest = do
+  ally_no ← natural_at 15 rest
+  Ok (command.RemoveStartRect ally_no.0)
+arguments_at word.Handicap rest = do
+  user ← name_at rest
+  value ← natural_at 100 user.1
+  Ok (command.Handicap user.0 value.0)
+arguments_at word.ForceTeamNo rest = do
+  user ← name_at rest
+  number ← natural_at 15 user.1
+  Ok (command.ForceTeamNo user.0 number.0)
+arguments_at word.ForceAllyNo rest = do
+  user ← name_at rest
+  number ← natural_at 15 user.1
+  Ok (command.ForceAllyNo user.0 number.0)
+arguments_at word.ForceTeamColor rest = do
+  user ← name_at rest
+  team_color ← wide_at user.1
+  Ok (command.ForceTeamColor user.0 team_color.0)
+arguments_at word.ForceSpectatorMode rest = do
+  user ← name_at rest
+  Ok (command.ForceSpectatorMode user.0)
+arguments_at word.KickFromBattle rest = do
+  user ← name_at rest
+  Ok (command.KickFromBattle user.0)
+arguments_at word.Ring rest = do
+  user ← name_at rest
+  Ok (command.Ring user.0)
 
 abbrev pub known_at : Option CommandWord → List ℕ → Result Command ReadFault
 known_at None rest = Err fault.UnknownCommand

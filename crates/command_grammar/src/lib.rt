@@ -1,9 +1,11 @@
 //! Requests: what a line of a client asks the lobby for.
 #![tactic(auto)]
 
+mod arguments;
 mod command;
 mod command_word;
 mod fault;
+mod forms;
 mod laws;
 mod reading;
 
