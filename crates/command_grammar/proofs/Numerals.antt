@@ -1,9 +1,9 @@
 -- A word is one number, or none in the range.
-use Rattle.std.proofs.Common.{◌≡◌, ◌≢◌, ℕ, ◌<◌, ◌≤◌, List, [], ◌∷◌, length, refl, sym, ap, subst, ◌∙◌, Bool, true, false, T, cond, inl, inr, arith}
-use Rattle.std.specs.Prelude.{ℤ, pos, negsuc, neg_ℤ, ◌≤ℤ◌, int_lt, nat_le, ◌==◌, ◌&&◌, ◌⊎◌, not, IsTrue, Option, Some, None, Result, Ok, Err, IfSome, IfNone}
+use Rattle.std.proofs.Common.{◌≡◌, ℕ, List, [], ◌∷◌, length, refl, sym, ap, subst, Bool, true, false, cond, inl, inr, arith}
+use Rattle.std.specs.Prelude.{ℤ, pos, neg_ℤ, ◌≤ℤ◌, int_lt, nat_le, ◌==◌, ◌&&◌, not, Option, Some, None, Result, Ok, Err, IfSome, IfNone}
 use Rattle.std.specs.Option.{ok_or}
 use Rattle.std.specs.List.{list_all}
-use Rattle.std.proofs.lemmas.Bool.{eq-eqb, eqb-true, and_parts, and_from}
+use Rattle.std.proofs.lemmas.Bool.{eq-eqb, eqb-true, and_parts}
 use Rattle.std.proofs.lemmas.Int.{ints}
 use Rattle.line_words.specs.Bytes.{is_digit}
 use Rattle.line_words.specs.Numbers.{IsNumeral, is_digits, value_of}

@@ -1,20 +1,19 @@
 -- A form names one command, the one that reading gives: a lemma for each kind of argument.
-use Rattle.std.proofs.Common.{◌≡◌, ◌≢◌, ℕ, ◌<◌, List, [], ◌∷◌, ◌++◌, length, refl, sym, ap, subst, ◌∙◌, Bool, true, false, T, cond, inl, inr, arith}
-use Rattle.std.specs.Prelude.{ℤ, pos, negsuc, ◌≤ℤ◌, ◌⊎◌, ◌==◌, ◌&&◌, ◌||◌, not, IsTrue, MatchBool, Option, Some, None, Result, Ok, Err}
+use Rattle.std.proofs.Common.{◌≡◌, ℕ, List, [], ◌∷◌, length, refl, sym, ap, subst, ◌∙◌, Bool, true, false, cond, inl, inr, arith}
+use Rattle.std.specs.Prelude.{ℤ, pos, negsuc, ◌≤ℤ◌, ◌⊎◌, ◌==◌, IsTrue, MatchBool, Option, Some, None, Result, Ok, Err}
 use Rattle.std.proofs.lemmas.Int.{ints}
 use Rattle.line_words.specs.Bytes.{is_spaces, has_byte, is_name}
 use Rattle.line_words.specs.Numbers.{IsNumeral}
-use Rattle.line_words.specs.Parts.{before, from}
-use Rattle.line_words.specs.Words.{BeginsApart, EndsWord, NextWord, SkipsSpaces}
-use Rattle.line_words.proofs.Splitting.{before-from, has_byte-before, from_ends}
+use Rattle.line_words.specs.Parts.{before}
+use Rattle.line_words.specs.Words.{EndsWord, NextWord}
 use Rattle.command_grammar.specs.declared.command.ReadFault.{ReadFault}
 use Rattle.command_grammar.specs.declared.command.ReadFault.TheVariants as fault
 use Rattle.command_grammar.specs.declared.command.Command.{Command}
 use Rattle.command_grammar.specs.declared.command.Command.TheVariants as command
-use Rattle.command_grammar.specs.Arguments.{IsFault, Word, OptionalWord, Name, Number, Natural, Wide}
-use Rattle.command_grammar.specs.Reading.{without_spaces, command_of, ◌>>=◌, checked_word, word_in, word_at, if_there, optional_at, if_name, name_at, number_in, number_at, natural_of, natural_at, wide_at}
+use Rattle.command_grammar.specs.Arguments.{IsFault, Word, OptionalWord, Name, Number, Natural, Wide, Flag}
+use Rattle.command_grammar.specs.Reading.{without_spaces, command_of, ◌>>=◌, checked_word, word_at, if_there, optional_at, if_name, name_at, number_in, number_at, natural_of, natural_at, wide_at, flag_at}
 use Rattle.command_grammar.proofs.Numerals.{NumberRead, number_read, one_numeral}
-use Rattle.command_grammar.proofs.Cuts.{Parts, next_word_is, next_word_made, no_word_left, skipped, skipped_is, spaces_skipped}
+use Rattle.command_grammar.proofs.Cuts.{Parts, next_word_is, next_word_made, no_word_left, skipped, spaces_skipped}
 
 -- P holds of the command that was read, and of no other
 pub record Settles (P : Command → Type 0) (read : Result Command ReadFault) : Type 0 where
@@ -159,3 +158,12 @@ pub Wide-settles : {K : ℤ → List ℕ → Command → Type 0} (k : ℤ × Lis
     → Settles (Wide K rest) (wide_at rest >>= k)
 unfolding wide_at
 Wide-settles {K} k each rest ends = Number-settles _ _ k (λ z l r e. each z r e) rest ends
+
+pub Flag-settles : {K : Bool → List ℕ → Command → Type 0} (k : Bool × List ℕ → Result Command ReadFault)
+    → ((b : Bool) (r : List ℕ) → EndsWord r → Settles (K b r) (k (b, r))) → (rest : List ℕ) → EndsWord rest
+    → Settles (Flag K rest) (flag_at rest >>= k)
+unfolding flag_at
+Flag-settles {K} k each rest ends =
+    let after : ℕ × List ℕ → Result (Bool × List ℕ) ReadFault = λ number. Ok (number.0 == 1, number.1) in
+    subst (λ (q : Result Command ReadFault). Settles (Flag K rest) q) (sym (bind_bind (natural_at 1 rest) after k))
+    (Natural-settles _ (λ n r e. each (n == 1) r e) rest ends)

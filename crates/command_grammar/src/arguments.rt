@@ -3,11 +3,12 @@
 
 ghost use Rattle.std.specs.Prelude.{◌≡◌, ◌≤◌, ℤ, ◌≤ℤ◌, IfOk, IfSome, IsTrue, Some, None, Ok, Err};
 ghost use Rattle.std.specs.Option.{option_map};
-ghost use Rattle.line_words.specs.Bytes.{has_byte, is_name, is_text, is_word};
-ghost use Rattle.command_grammar.specs.Reading.{seen, word_at, optional_at, name_at, number_in, number_at, natural_at, wide_at};
+ghost use Rattle.std.specs.List.{list_all};
+ghost use Rattle.line_words.specs.Bytes.{has_byte, is_name, is_sentence, is_text, is_word};
+ghost use Rattle.command_grammar.specs.Reading.{seen, word_at, optional_at, name_at, number_in, number_at, natural_at, wide_at, flag_at, text_at, sentences_at, sentence_in};
 
 use crate::command::ReadFault;
-use line_words::{Words, is_name, read_number};
+use line_words::{Sentences, Words, is_name, read_number, split_sentences};
 
 /// The next word.
 #[tactic(auto, unfolding(crate::specs::Reading::word_at))]
@@ -27,7 +28,8 @@ pub(crate) fn word_at(rest: &[u8]) -> Result<(&[u8], &[u8]), ReadFault>
     Ok((word, words.rest()))
 }
 
-fn has_tab(bytes: &[u8]) -> bool
+/// Whether a tab stands in the bytes.
+pub(crate) fn has_tab(bytes: &[u8]) -> bool
     ensures { result ≡ has_byte 9 bytes.now }
 {
     bytes.contains(&b'\t')
@@ -106,4 +108,50 @@ pub(crate) fn wide_at(rest: &[u8]) -> Result<(i64, &[u8]), ReadFault>
     ensures text { IfOk result (λ x. IsTrue (is_text x.1.now)) }
 {
     number_at(rest, -2147483648, 4294967295)
+}
+
+/// The next word, which is to be 0 or 1.
+#[tactic(auto, unfolding(crate::specs::Reading::flag_at))]
+pub(crate) fn flag_at(rest: &[u8]) -> Result<(bool, &[u8]), ReadFault>
+    requires { IsTrue (is_text rest.now) }
+    ensures value { flag_at rest.now ≡ seen (λ x. (x.0, x.1.now)) result }
+    ensures text { IfOk result (λ x. IsTrue (is_text x.1.now)) }
+{
+    let (number, rest) = natural_at(rest, 1)?;
+    Ok((number == 1, rest))
+}
+
+/// All behind one space.
+#[tactic(auto, unfolding(crate::specs::Reading::text_at))]
+pub(crate) fn text_at(rest: &[u8]) -> Result<&[u8], ReadFault>
+    requires { IsTrue (is_text rest.now) }
+    ensures value { text_at rest.now ≡ seen (λ x. x.now) result }
+    ensures text { IfOk result (λ x. IsTrue (is_text x.now)) }
+{
+    match rest {
+        [] => Err(ReadFault::MissingArgument),
+        [_, text @ ..] => Ok(text),
+    }
+}
+
+/// The sentences behind one space.
+#[tactic(auto, unfolding(crate::specs::Reading::sentences_at))]
+pub(crate) fn sentences_at(rest: &[u8]) -> Result<Sentences<'_>, ReadFault>
+    requires { IsTrue (is_text rest.now) }
+    ensures value { sentences_at rest.now ≡ seen (λ x. x) result }
+    ensures sentences { IfOk result (λ x. IsTrue (list_all is_sentence x)) }
+{
+    let text = text_at(rest)?;
+    Ok(split_sentences(text))
+}
+
+/// The next sentence.
+#[tactic(auto, unfolding(crate::specs::Reading::sentence_in))]
+pub(crate) fn sentence_in<'a>(sentences: &mut Sentences<'a>) -> Result<&'a [u8], ReadFault>
+    requires { IsTrue (list_all is_sentence sentences.old) }
+    ensures value { sentence_in sentences.old ≡ seen (λ x. (x.now, sentences.new)) result }
+    ensures sentence { IfOk result (λ x. IsTrue (is_sentence x.now)) }
+    ensures sentences { IsTrue (list_all is_sentence sentences.new) }
+{
+    sentences.next().ok_or(ReadFault::MissingArgument)
 }

@@ -7,6 +7,7 @@ mod command_word;
 mod fault;
 mod forms;
 mod laws;
+mod lists;
 mod reading;
 
 pub use command::{Command, ReadFault, Request};

@@ -1,5 +1,5 @@
 use Rattle.std.proofs.Common.{List, ℕ, subst, ◌∙◌, sym, ap}
-use Rattle.std.specs.Prelude.{◌≡◌, IsTrue, Ok}
+use Rattle.std.specs.Prelude.{IsTrue, Ok}
 use Rattle.line_words.specs.Bytes.{is_spaces}
 use Rattle.line_words.specs.Words.{FirstWord}
 use Rattle.command_grammar.proofs.Slices.{word_missing, word_read, word_kind}
