@@ -1,5 +1,9 @@
 pub mod Cuts
+pub mod Numerals
 pub mod Settles
+pub mod Sequences
 pub mod Tables
 pub mod Lines
 pub mod Whole
+pub mod Slices
+pub mod Checks

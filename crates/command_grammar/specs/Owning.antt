@@ -1,6 +1,5 @@
 -- Which commands own bytes, and so take memory.
 use Rattle.std.specs.Prelude.{Bool, true, false, ◌||◌, is_some}
-use Rattle.command_grammar.specs.declared.command.ReadFault.{ReadFault}
 use Rattle.command_grammar.specs.declared.command.Command.{Command}
 use Rattle.command_grammar.specs.declared.command.Command.TheVariants as command
 

@@ -1,10 +1,13 @@
 //! Requests: what a line of a client asks the lobby for.
 #![tactic(auto)]
 
+mod arguments;
 mod command;
 mod command_word;
 mod fault;
+mod forms;
 mod laws;
+mod lists;
 mod reading;
 
 pub use command::{Command, ReadFault, Request};
