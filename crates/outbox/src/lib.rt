@@ -6,7 +6,7 @@
 //! client sees, and [`Outbox::put`] cannot fail.
 #![tactic(auto)]
 
-ghost use Rattle.std.specs.Prelude.{◌≡◌, ◌+◌, ◌-◌, ◌<◌, ◌≤◌, ◌↔◌, [], ◌++◌, length, take, drop, min, IsTrue, OnOk, OnErr, true, false};
+ghost use Rattle.std.specs.Prelude.{◌≡◌, ◌+◌, ◌-◌, ◌^◌, ◌<◌, ◌≤◌, ◌↔◌, [], ◌++◌, length, take, drop, min, IsTrue, OnOk, OnErr, true, false};
 ghost use Rattle.outbox.specs.Queue.{room};
 
 use std::alloc::{AllocError, Global};
@@ -53,6 +53,7 @@ impl Outbox {
     pub fn unread(&self) -> usize
         ensures count { result ≡ length self.now.unread }
         ensures within_limit { result ≤ self.now.limit }
+        ensures small { result < 2 ^ 63 }
     {
         self.bytes.len() - self.taken
     }
