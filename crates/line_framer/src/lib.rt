@@ -18,7 +18,7 @@ mod search;
 #[cfg(test)]
 mod tests;
 
-pub use laws::pieces_law;
+pub use laws::{lines_law, pieces_law};
 use search::{closed_up, cut_piece, first_end, next_end, without_cr};
 use std::alloc::Global;
 use std::marker::Model;
