@@ -1,7 +1,7 @@
 //! Feeds a framer lines of 60 bytes in pieces of 1, 7 and 4,096 bytes, and takes each line off once it is whole.
 //!
 //! With no argument it takes a small stream and prints how much came out. With a number of passes as its argument it
-//! also prints the nanoseconds for each byte.
+//! also prints the picoseconds that a byte took.
 #![tactic(auto)]
 
 ghost use Rattle.std.specs.Prelude.{◌<◌};
@@ -9,6 +9,7 @@ ghost use Rattle.std.specs.Prelude.{◌<◌};
 use line_framer::{FeedError, Framer};
 use std::alloc::{AllocError, Global};
 use std::env;
+use std::rt::Clock;
 use std::time::Instant;
 
 // What came out of a framer.
@@ -18,6 +19,7 @@ struct Taken {
     bytes: u64,
 }
 
+// The bytes of a line with its LF, the lines of a pass, and the limit of a client's line.
 const LINE_SIZE: usize = 60;
 
 const LINES: usize = 1024;
@@ -37,17 +39,12 @@ fn lines(alloc: Global) -> Result<Vec<u8>, AllocError> {
 }
 
 // Takes off all lines that are whole.
-fn take_lines(framer: &mut Framer, taken: Taken) -> Taken {
-    let Taken {
-        mut lines,
-        mut bytes,
-    } = taken;
+fn take_lines(framer: &mut Framer, taken: &mut Taken) {
     while let Some(line) = framer.peek() {
-        lines = lines.wrapping_add(1);
-        bytes = bytes.wrapping_add(line.len() as u64);
+        taken.lines = taken.lines.wrapping_add(1);
+        taken.bytes = taken.bytes.wrapping_add(line.len() as u64);
         framer.drop_line();
     }
-    Taken { lines, bytes }
 }
 
 fn run(alloc: Global, block: &[u8], size: usize, passes: u64) -> Result<Taken, FeedError>
@@ -58,14 +55,19 @@ fn run(alloc: Global, block: &[u8], size: usize, passes: u64) -> Result<Taken, F
     for _ in 0..passes {
         for piece in block.chunks(size) {
             framer.feed(piece)?;
-            taken = take_lines(&mut framer, taken);
+            take_lines(&mut framer, &mut taken);
         }
     }
     Ok(taken)
 }
 
 // Runs in pieces of that size, and prints what came out, and how long it took where passes were asked for.
-fn report(rt: &HostRuntime, block: &[u8], size: usize, passes: Option<u64>) -> anyhow::Result<()>
+fn report<R: Print + Clock + AllocGlobal>(
+    rt: &R,
+    block: &[u8],
+    size: usize,
+    passes: Option<u64>,
+) -> anyhow::Result<()>
     requires { 0 < size }
 {
     let start = Instant::now(rt)?;

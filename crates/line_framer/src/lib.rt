@@ -137,10 +137,7 @@ impl Framer {
         ensures value { result ≡ option_map length (next_line self.now) }
         ensures stands { (bytes : List ℕ) (dropped : ℕ) → StandsFor self.now bytes dropped → result ≡ option_map length (slice_get (frames bytes self.now.limit) dropped) }
     {
-        match self.peek() {
-            Some(line) => Some(line.len()),
-            None => None,
-        }
+        self.peek().map(|line| line.len())
     }
 
     /// Drops the next whole line. There must be one, which `peek` and `next_len` tell.

@@ -46,10 +46,7 @@ pub(crate) fn next_end(
     if next.is_some() || !has_end {
         return next;
     }
-    match first_end(kept) {
-        Some(end) => Some(ahead + end),
-        None => None,
-    }
+    first_end(kept).map(|end| ahead + end)
 }
 
 // How many bytes of an unfinished line and a piece behind it are whole lines before the spoilt place, and whether there
