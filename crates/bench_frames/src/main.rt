@@ -4,7 +4,8 @@
 //! also prints the picoseconds that a byte took.
 #![tactic(auto)]
 
-ghost use Rattle.std.specs.Prelude.{◌<◌};
+ghost use Rattle.std.specs.Prelude.{◌≡◌, ◌<◌, []};
+ghost use Rattle.line_framer.specs.Framed.{waiting};
 
 use line_framer::{FeedError, Framer};
 use std::alloc::{AllocError, Global};
@@ -39,7 +40,9 @@ fn lines(alloc: Global) -> Result<Vec<u8>, AllocError> {
 }
 
 // Takes off all lines that are whole.
-fn take_lines(framer: &mut Framer, taken: &mut Taken) {
+fn take_lines(framer: &mut Framer, taken: &mut Taken)
+    ensures { waiting framer.new ≡ [] }
+{
     while let Some(line) = framer.peek() {
         taken.lines = taken.lines.wrapping_add(1);
         taken.bytes = taken.bytes.wrapping_add(line.len() as u64);

@@ -7,7 +7,7 @@
 //! The lines and the spoilt place are those of all bytes that were fed, however they were cut into pieces.
 #![tactic(auto)]
 
-ghost use Rattle.std.specs.Prelude.{◌≡◌, ℕ, ◌+◌, ◌≤◌, List, [], ◌++◌, length, drop, OnOk, IfSome, Ok, Err, IsSome, true, false, slice_get, option_map};
+ghost use Rattle.std.specs.Prelude.{◌≡◌, ℕ, ◌+◌, ◌≤◌, List, [], ◌++◌, length, drop, OnOk, IfSome, IfNone, Ok, Err, IsSome, true, false, slice_get, option_map};
 ghost use Rattle.std.specs.Option.{option_copied};
 ghost use Rattle.line_framer.specs.Frames.{frames, is_spoilt};
 ghost use Rattle.line_framer.specs.Framed.{StandsFor, TookIn, next_line, waiting};
@@ -123,6 +123,7 @@ impl Framer {
     /// The next whole line, without its end and without a CR just before that. It is lent, not copied.
     pub fn peek(&self) -> Option<&[u8]>
         ensures value { option_copied result ≡ next_line self.now }
+        ensures none { IfNone result (waiting self.now ≡ []) }
         ensures short { IfSome result (λ line. length line.now ≤ self.now.limit) }
         ensures stands { (bytes : List ℕ) (dropped : ℕ) → StandsFor self.now bytes dropped → option_copied result ≡ slice_get (frames bytes self.now.limit) dropped }
     {
