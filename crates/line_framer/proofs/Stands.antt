@@ -2,9 +2,8 @@
 use Rattle.std.proofs.Common.{◌≡◌, ℕ, zero, suc, ◌+◌, ◌<◌, ◌≤◌, List, [], ◌∷◌, ◌++◌, length, drop, refl, sym, ap, subst, ◌∙◌, true, false, T, arith, append-nil, length-append, length-drop}
 use Rattle.std.specs.Prelude.{not, ◌||◌, map, slice_get}
 use Rattle.std.proofs.lemmas.List.{drop-append-le, drop-drop}
-use Rattle.line_framer.specs.Frames.{Parts, lines_in, rest_of, sound_lines, is_spoilt, fits, frames, without_cr}
+use Rattle.line_framer.specs.Frames.{with_ends, Parts, lines_in, rest_of, sound_lines, is_spoilt, fits, frames, without_cr}
 use Rattle.line_framer.specs.Framed.{Framed, StandsFor, first, next_line}
-use Rattle.line_framer.specs.Buffered.{with_ends}
 use Rattle.line_framer.proofs.Parts.{parts-append, rest_has_no_end}
 use Rattle.line_framer.proofs.Limit.{any_long, spoilt_in, sound-append, long-append, sound-behind, long-behind, all_sound, or_first, too_long}
 

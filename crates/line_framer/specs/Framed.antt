@@ -23,6 +23,7 @@ pub record StandsFor (f : Framed) (bytes : List ℕ) (dropped : ℕ) : Type 0 wh
 abbrev pub TookIn : Framed → List ℕ → Framed → Type 0
 TookIn old piece new = (bytes : List ℕ) (dropped : ℕ) → StandsFor old bytes dropped → StandsFor new (bytes ++ piece) dropped
 
+-- the first line, if there is one
 abbrev pub first : List (List ℕ) → Option (List ℕ)
 first [] = None
 first (line ∷ lines) = Some line

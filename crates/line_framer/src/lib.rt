@@ -1,13 +1,15 @@
 //! Cuts a stream of bytes into lines.
 //!
-//! A line ends at an LF, and one CR just before the LF is dropped with it. A line, or what stands behind the last
-//! LF, that has more bytes than the limit spoils the stream at its place: the lines before it are kept, and nothing
-//! behind it is looked at. Without that limit one client could fill the memory by a line that never ends.
+//! A line ends at an LF, and one CR just before the LF is dropped with it. A line, or what stands behind the last LF,
+//! that has more bytes than the limit (a CR counted) spoils the stream at its place: the lines before it are kept, and
+//! nothing behind it is looked at. Without that limit one client could fill the memory by a line that never ends.
+//!
+//! The lines and the spoilt place are those of all bytes that were fed, however they were cut into pieces.
 #![tactic(auto)]
 
-ghost use Rattle.std.specs.Prelude.{◌≡◌, ◌↔◌, ℕ, ◌+◌, ◌<◌, ◌≤◌, List, [], ◌++◌, length, drop, vec_len, OnOk, IfSome, Ok, Err, IsSome, true, false, slice_get, option_map};
+ghost use Rattle.std.specs.Prelude.{◌≡◌, ℕ, ◌+◌, ◌≤◌, List, [], ◌++◌, length, drop, OnOk, IfSome, IfNone, Ok, Err, IsSome, true, false, slice_get, option_map};
 ghost use Rattle.std.specs.Option.{option_copied};
-ghost use Rattle.line_framer.specs.Frames.{frames, is_spoilt, rest_of};
+ghost use Rattle.line_framer.specs.Frames.{frames, is_spoilt};
 ghost use Rattle.line_framer.specs.Framed.{StandsFor, TookIn, next_line, waiting};
 ghost use Rattle.line_framer.specs.Feeding.{IsJudged};
 
@@ -16,19 +18,20 @@ mod search;
 #[cfg(test)]
 mod tests;
 
-pub use laws::pieces_law;
+pub use laws::{lines_law, pieces_law};
 use search::{closed_up, cut_piece, first_end, next_end, without_cr};
 use std::alloc::Global;
 use std::marker::Model;
 use thiserror::Error;
 
-/// Why a framer did not take a piece in, or not whole.
+/// Why a framer did not take in a piece, or not all of it.
 #[derive(Clone, Copy, PartialEq, Eq, Debug, Drop, Error)]
 pub enum FeedError {
-    /// No memory for the piece: nothing was taken in.
+    /// There was no memory for the piece. Nothing of it was taken in, and it may be fed again.
     #[error("no memory for more bytes")]
     Memory,
-    /// A line is longer than the limit. The feed that meets it keeps the lines before it; later feeds change nothing.
+    /// A line is longer than the limit. The feed that meets it keeps the whole lines before it, and each later feed
+    /// answers the same and changes nothing.
     #[error("a line is too long")]
     Spoilt,
 }
@@ -60,7 +63,8 @@ impl Model for Framer {
 }
 
 impl Framer {
-    /// A framer that took in nothing. A line may have at most `limit` bytes before its LF, a dropped CR counted.
+    /// A framer that took in nothing. A line may have at most `limit` bytes before its LF, a dropped CR counted. Takes no
+    /// memory.
     pub fn new(alloc: Global, limit: usize) -> Framer
         ensures limit { result.limit ≡ limit }
         ensures stands { StandsFor result [] 0 }
@@ -75,7 +79,10 @@ impl Framer {
         }
     }
 
-    /// Takes in the next piece of the stream, up to the spoilt place.
+    /// Takes in the next piece of the stream, of any length, up to the spoilt place.
+    ///
+    /// `Memory` comes only where the buffer had to grow and could not. `Spoilt` comes where a line of the bytes so far is
+    /// too long, whether it has ended or not.
     pub fn feed(&mut self, piece: &[u8]) -> Result<(), FeedError>
         ensures limit { self.new.limit ≡ self.old.limit }
         ensures ok { OnOk result (TookIn self.old piece.now self.new × (self.new.spoilt ≡ false)) }
@@ -113,9 +120,10 @@ impl Framer {
         self.spoilt
     }
 
-    /// The next whole line, without its end.
+    /// The next whole line, without its end and without a CR just before that. It is lent, not copied.
     pub fn peek(&self) -> Option<&[u8]>
         ensures value { option_copied result ≡ next_line self.now }
+        ensures none { IfNone result (waiting self.now ≡ []) }
         ensures short { IfSome result (λ line. length line.now ≤ self.now.limit) }
         ensures stands { (bytes : List ℕ) (dropped : ℕ) → StandsFor self.now bytes dropped → option_copied result ≡ slice_get (frames bytes self.now.limit) dropped }
     {
@@ -130,13 +138,10 @@ impl Framer {
         ensures value { result ≡ option_map length (next_line self.now) }
         ensures stands { (bytes : List ℕ) (dropped : ℕ) → StandsFor self.now bytes dropped → result ≡ option_map length (slice_get (frames bytes self.now.limit) dropped) }
     {
-        match self.peek() {
-            Some(line) => Some(line.len()),
-            None => None,
-        }
+        self.peek().map(|line| line.len())
     }
 
-    /// Drops the next whole line.
+    /// Drops the next whole line. There must be one, which `peek` and `next_len` tell.
     pub fn drop_line(&mut self)
         requires { IsSome (next_line self.old) }
         ensures limit { self.new.limit ≡ self.old.limit }
