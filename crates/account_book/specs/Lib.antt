@@ -1,0 +1,4 @@
+pub mod Account
+pub mod Book
+pub mod Fields
+pub mod File
