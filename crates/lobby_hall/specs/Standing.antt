@@ -1,0 +1,63 @@
+-- What a hall stands for: the world that a schedule leaves, and the record of its events.
+use Rattle.std.specs.Prelude.{◌≡◌, ℕ, ◌≤◌, ◌<◌, Bool, ◌&&◌, ◌||◌, true, false, List, [], ◌∷◌, ◌++◌, length, Option, Some, None, is_some, slice_get}
+use Rattle.line_framer.specs.Frames.{frames, is_spoilt}
+use Rattle.lobby_model.specs.declared.event.Event.{Event}
+use Rattle.lobby_model.specs.declared.schedule.Step.{Step}
+use Rattle.lobby_model.specs.declared.schedule.Step.TheVariants as step
+use Rattle.lobby_model.specs.Configuration.{Configuration}
+use Rattle.lobby_model.specs.State.{State, empty_lobby}
+use Rattle.lobby_model.specs.History.{after}
+use Rattle.lobby_model.specs.Schedule.{World, Input, input, input_of, is_open, line_limit, StepGives}
+use Rattle.lobby_hall.specs.ByClient.{of_client}
+use Rattle.lobby_hall.specs.Record.{Log, IsRecord}
+use Rattle.lobby_hall.specs.Serving.{Serving}
+use Rattle.lobby_hall.specs.Sessions.{Heard}
+
+-- What a contract sees of a hall: the plain lobby, what is kept of the bytes of each client that was ever opened (nothing,
+-- once it is removed), and the record of the events so far
+pub record Kept : Type 0 where
+  pub lobby : State
+  pub sessions : List (Option Serving)
+  pub record_so_far : List Log
+
+abbrev pub session_of : Option (Option Serving) → Option Serving
+session_of None = None
+session_of (Some session) = session
+
+abbrev pub session_at : List (Option Serving) → ℕ → Option Serving
+session_at sessions c = session_of (of_client sessions c)
+
+-- a client that is open has a session, which heard its bytes
+abbrev pub SessionOf : Option Serving → Bool → Input → Type 0
+SessionOf None is_there given = is_there ≡ false
+SessionOf (Some session) is_there given = (is_there ≡ true) × Heard session.framed given.bytes given.taken
+
+pub record Stands (hall : Kept) (settings : Configuration) (events : List Event) (world : World) : Type 0 where
+  pub lobby : hall.lobby ≡ world.lobby
+  pub history : world.lobby ≡ after (empty_lobby settings) events
+  pub record_is : IsRecord hall.record_so_far (empty_lobby settings) events
+  pub sessions : (c : ℕ) → SessionOf (session_at hall.sessions c) (is_open world c) (input world c)
+  pub unheard : (c : ℕ) → world.lobby.last_client < c → input world c ≡ input_of None
+  pub one_session_each : length hall.sessions ≡ world.lobby.last_client
+  pub one_log_each : length hall.record_so_far ≡ world.lobby.last_client
+
+-- after one further step the hall stands for what that step gives
+abbrev pub StandsAfter : Kept → Configuration → List Event → World → Step → Type 0
+StandsAfter hall settings events world s =
+    (here : List Event) × (new : World) × StepGives world s here new × Stands hall settings (events ++ here) new
+
+-- whatever world the old hall stood for, the new one stands for what the step gives
+abbrev pub TakesStep : Kept → Kept → Step → Type 0
+TakesStep old new s = (settings : Configuration) (events : List Event) (world : World) → Stands old settings events world → StandsAfter new settings events world s
+
+-- a whole line, or a spoilt place, is next
+abbrev pub is_ready : World → ℕ → Bool
+is_ready w c = is_open w c && (is_some (slice_get (frames (input w c).bytes line_limit) (input w c).taken) || is_spoilt (input w c).bytes line_limit)
+
+-- the workers are numbered 0 to 63
+abbrev pub HasHome : Step → Type 0
+HasHome (step.Open ip home) = home ≤ 63
+HasHome (step.Arrive c bytes) = Unit {0}
+HasHome (step.Take c) = Unit {0}
+HasHome (step.Read c n) = Unit {0}
+HasHome (step.Shut c) = Unit {0}
