@@ -43,7 +43,8 @@ fields_of table =
 
 -- The account that one entry of the list describes: a table whose fields keep their rules
 abbrev pub described : Data → Option Account
-described entry = as_table entry >>= fields_of >>= (λ account. if is_sound account then Some account else None)
+described entry =
+    as_table entry >>= fields_of >>= (λ account. if is_sound account then Some account else None)
 
 -- The accounts with those of entries behind them, of which the first has this place in the list;
 -- or the first refusal: a bad entry, or a name that an earlier account has
@@ -63,7 +64,8 @@ is_format value = option_map_or (int_eq (pos 1)) (as_integer value) false
 abbrev pub table_accounts : Members → Result (List Account) AccountsError
 table_accounts table =
     if option_map_or is_format (get_member (codes "format") table) true
-    then option_map_or (λ value. option_map_or (with_entries 1 []) (as_array value) (Err (BadField 0)))
+    then option_map_or
+    (λ value. option_map_or (with_entries 1 []) (as_array value) (Err (BadField 0)))
     (get_member (codes "account") table) (Ok [])
     else Err (BadField 0)
 

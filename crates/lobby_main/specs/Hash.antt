@@ -18,7 +18,8 @@ abbrev pub without_return : List ℕ → List ℕ
 without_return line =
     if slice_index line (length line - 1) == 13 then take (length line - 1) line else line
 
--- The password in an input: its first line without the line's end. Where there is no LF, a CR is no end
+-- The password in an input: its first line without the line's end. Where there is no LF, a CR is
+-- no end
 abbrev pub password_in : List ℕ → List ℕ
 password_in input =
     if list_any is_line_feed input then without_return (first_line input) else input

@@ -17,6 +17,7 @@ GivesByte old new Fault = ⊤
 -- The input begins with a password, which stands at the front of a buffer, or with too long a line
 abbrev pub Begins : Option (List ℕ) → List ℕ → Line → Type 0
 Begins known buffer (Password len) = (len ≤ 8192)
-    × IfSome known (λ input. (length (first_line input) ≤ 8192) × (take len buffer ≡ password_in input))
+    × IfSome known (λ input. (length (first_line input) ≤ 8192)
+    × (take len buffer ≡ password_in input))
 Begins known buffer TooLong = IfSome known (λ input. 8192 < length (first_line input))
 Begins known buffer Unread = ⊤

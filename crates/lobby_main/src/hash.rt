@@ -42,8 +42,12 @@ enum Line {
 /// reading failed or 8,194 reads did not come to the end of the line. With 1 and 2 nothing is
 /// printed. A print that fails is ignored: what was printed is then the front of the word's line.
 pub fn hash_line<R: Read, W: Write>(input: &mut R, output: &mut W) -> u8
-    ensures done { result ≡ 0 → IfSome (R.remaining input.old) (λ bytes. (length (first_line bytes) ≤ 8192) × GainsFront (W.contents output.old) (W.contents output.new) (word_line (password_in bytes))) }
-    ensures too_long { result ≡ 1 → IfSome (R.remaining input.old) (λ bytes. 8192 < length (first_line bytes)) }
+    ensures done { result ≡ 0 → IfSome (R.remaining input.old) (λ bytes.
+        (length (first_line bytes) ≤ 8192)
+        × GainsFront (W.contents output.old) (W.contents output.new)
+        (word_line (password_in bytes))) }
+    ensures too_long { result ≡ 1 → IfSome (R.remaining input.old) (λ bytes.
+        8192 < length (first_line bytes)) }
     ensures silent { result ≢ 0 → Keeps (W.contents output.old) (W.contents output.new) }
     ensures statuses { result ≤ 2 }
 {

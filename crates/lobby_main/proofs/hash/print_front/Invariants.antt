@@ -5,4 +5,5 @@ use Rattle.lobby_main.proofs.hash.print_front.Given as goal
 -- what was written so far is what the output gained
 abbrev pub invariant-loop : goal.invariant-loop
 invariant-loop g l =
-    (l.written ≤ length l.text) × Appends (g.W.Write.contents l.fn.output) (g.W.Write.contents l.output) (take l.written l.text)
+    (l.written ≤ length l.text) × Appends (g.W.Write.contents l.fn.output)
+    (g.W.Write.contents l.output) (take l.written l.text)
