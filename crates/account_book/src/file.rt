@@ -8,7 +8,7 @@ ghost use Rattle.std.specs.Prelude.{◌≡◌, ◌≢◌, ◌+◌, ◌<◌, ◌�
 ghost use Rattle.std.specs.Option.{option_map_or};
 ghost use Rattle.toml.specs.Data.{get_member, as_table, as_str, as_bool};
 ghost use Rattle.toml.specs.View.{view, table_view, items_view};
-ghost use Rattle.account_book.specs.File.{as_number, required, optional, fields_of, described, with_entries, is_format, document, table_accounts, file_accounts};
+ghost use Rattle.account_book.specs.File.{as_number, required, optional, fields_of, described, with_entries, is_format, document, table_accounts, table_entries, Lists, file_accounts, file_entries};
 ghost use Rattle.account_book.specs.Fields.{stated_by};
 
 use crate::account::Account;
@@ -25,7 +25,8 @@ impl AccountBook {
     /// `BadField` with its place where it is no table, or a field is missing or bad, else
     /// `DuplicateName` where an earlier one has its name. `Memory` may come at any time.
     pub fn from_toml(alloc: Global, bytes: &[u8]) -> Result<AccountBook, AccountsError>
-        ensures { result ≢ Err AccountsError.Memory → result ≡ file_accounts bytes.now }
+        ensures answer { result ≢ Err AccountsError.Memory → result ≡ file_accounts bytes.now }
+        ensures listed { IfOk result (Lists (file_entries bytes.now)) }
     {
         let table = read_table(alloc, bytes)?;
         let mut book = AccountBook::new(alloc);
@@ -51,6 +52,8 @@ fn read_table(alloc: Global, bytes: &[u8]) -> Result<Table, AccountsError>
 fn entries_of(table: &Table) -> Result<&[Value], AccountsError>
     ensures ok { IfOk result (λ entries.
         table_accounts (table_view table.now) ≡ with_entries 1 [] (items_view entries.now)) }
+    ensures entries { IfOk result (λ entries.
+        table_entries (table_view table.now) ≡ items_view entries.now) }
     ensures err { IfErr result (λ e. table_accounts (table_view table.now) ≡ Err e) }
 {
     if !has_known_format(table) {
@@ -199,6 +202,7 @@ fn add_entries(
 ) -> Result<(), AccountsError>
     requires { book.old ≡ [] }
     ensures ok { OnOk result (with_entries 1 [] (items_view entries.now) ≡ Ok book.new) }
+    ensures listed { OnOk result (Lists (items_view entries.now) book.new) }
     ensures err { IfErr result (λ e. e ≢ AccountsError.Memory →
         with_entries 1 [] (items_view entries.now) ≡ Err e) }
 {
