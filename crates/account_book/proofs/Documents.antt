@@ -6,11 +6,14 @@ use Rattle.toml.specs.Data.{Members}
 use Rattle.toml.specs.Parse.{parse_document}
 use Rattle.account_book.specs.File.{document}
 
-pub document-read : (bytes : List ℕ) (table : Members) → IsUtf8 bytes × (parse_document bytes ≡ Some table) → document bytes ≡ Some table
+pub document-read : (bytes : List ℕ) (table : Members) → IsUtf8 bytes
+    × (parse_document bytes ≡ Some table) → document bytes ≡ Some table
 document-read bytes table read = rw (is_utf8-from_IsUtf8 bytes read.0) read.1
 
-pub document-refused : (bytes : List ℕ) → (IsUtf8 bytes → parse_document bytes ≡ None) → document bytes ≡ None
+pub document-refused : (bytes : List ℕ) → (IsUtf8 bytes → parse_document bytes ≡ None)
+    → document bytes ≡ None
 document-refused bytes refused =
     let text = IsUtf8-from_is_utf8 bytes in
-    elim (is_utf8 bytes) as (λ b. (b ≡ true → IsUtf8 bytes) → (if b then parse_document bytes else None) ≡ None)
+    elim (is_utf8 bytes) as (λ b. (b ≡ true → IsUtf8 bytes)
+    → (if b then parse_document bytes else None) ≡ None)
     [ true ↦ λ valid. refused (valid refl) | false ↦ λ valid. refl ] text

@@ -1,2 +1,3 @@
 pub mod Documents
 pub mod Entries
+pub mod Listed

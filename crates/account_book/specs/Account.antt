@@ -37,12 +37,14 @@ is_password_word word = length word == 24 && gives 16 (decode_of standard word)
 
 -- A country: two upper-case letters, or `??` where it is not known
 abbrev pub is_country : List ℕ → Bool
-is_country bytes = bytes_eq bytes (codes "??") || (length bytes == 2 && list_all is_ascii_uppercase bytes)
+is_country bytes =
+    bytes_eq bytes (codes "??") || (length bytes == 2 && list_all is_ascii_uppercase bytes)
 
 -- Each field of an account keeps its rule
 abbrev pub is_sound : Account → Bool
 is_sound account =
-    is_name account.name && is_password_word account.password && nat_le account.rank 7 && is_country account.country
+    is_name account.name && is_password_word account.password && nat_le account.rank 7
+    && is_country account.country
 
 -- The account of these fields
 abbrev pub stated : List ℕ → List ℕ → ℕ → ℕ → Bool → Bool → List ℕ → Account

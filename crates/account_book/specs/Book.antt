@@ -16,10 +16,12 @@ account_of name accounts = find (λ account. bytes_eq name account.name) account
 abbrev pub HasDistinctNames : List Account → Type 0
 HasDistinctNames accounts = IsDistinct bytes_eq (map (λ account. account.name) accounts)
 
--- What a login with a name and a password word answers: the account of that name, if its word is this one
+-- What a login with a name and a password word answers: the account of that name, if its word is
+-- this one
 abbrev pub login : List Account → List ℕ → List ℕ → Result Account LoginFault
 login accounts name word =
-    option_map_or (λ account. if bytes_eq account.password word then Ok account else Err BadPassword)
+    option_map_or
+    (λ account. if bytes_eq account.password word then Ok account else Err BadPassword)
     (account_of name accounts) (Err NoAccount)
 
 -- What a look-up answers, with the account itself in place of the reference to it

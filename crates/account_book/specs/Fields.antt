@@ -4,4 +4,5 @@ use Rattle.account_book.specs.declared.file.Fields.{Fields}
 
 abbrev pub stated_by : Fields → Account
 stated_by fields =
-    stated fields.name.now fields.password.now fields.id fields.rank fields.access fields.bot fields.country.now
+    stated fields.name.now fields.password.now fields.id fields.rank fields.access fields.bot
+    fields.country.now

@@ -2,3 +2,4 @@ pub mod Account
 pub mod Book
 pub mod Fields
 pub mod File
+pub mod Password

@@ -29,13 +29,15 @@ pub struct Account {
 
 impl Model for Account {
     ghost use Rattle.std.specs.Prelude.{◌≡◌, true};
-    ghost use Rattle.account_book.specs.Account.{Account as Seen, is_sound};
+    ghost use Rattle.account_book.specs.Account.{Account as Seen, stated, is_sound};
 
     ghost Value = { Seen };
 
-    ghost view = { λ a. record { name = a.name.items; password = a.password; id = a.id; rank = a.rank; access = a.access; bot = a.bot; country = a.country } };
+    ghost view = { λ a.
+        stated a.name.items a.password a.id a.rank a.access a.bot a.country };
 
-    ghost invariant = { λ a. is_sound (record { name = a.name.items; password = a.password; id = a.id; rank = a.rank; access = a.access; bot = a.bot; country = a.country }) ≡ true };
+    ghost invariant = { λ a.
+        is_sound (stated a.name.items a.password a.id a.rank a.access a.bot a.country) ≡ true };
 }
 
 impl Account {
@@ -54,9 +56,12 @@ impl Account {
         bot: bool,
         country: &[u8],
     ) -> Result<Account, AccountsError>
-        ensures ok { IfOk result (λ account. account ≡ stated name.now password.now id rank access bot country.now) }
-        ensures bad_field { (result ≡ Err (AccountsError.BadField 0)) ↔ (is_sound (stated name.now password.now id rank access bot country.now) ≡ false) }
-        ensures errors { IfErr result (λ e. e ≢ AccountsError.Memory → e ≡ AccountsError.BadField 0) }
+        ensures ok { IfOk result (λ account.
+            account ≡ stated name.now password.now id rank access bot country.now) }
+        ensures bad_field { (result ≡ Err (AccountsError.BadField 0))
+            ↔ (is_sound (stated name.now password.now id rank access bot country.now) ≡ false) }
+        ensures errors { IfErr result (λ e.
+            e ≢ AccountsError.Memory → e ≡ AccountsError.BadField 0) }
     {
         let sound = is_name(name)
             && is_password_word(password)

@@ -28,7 +28,9 @@ impl Model for AccountBook {
 
     ghost view = { λ b. map (λ entry. entry.1) b.accounts.entries };
 
-    ghost invariant = { λ b. AllByRecursion (λ entry. entry.0.items ≡ entry.1.name) b.accounts.entries × HasDistinctNames (map (λ entry. entry.1) b.accounts.entries) };
+    ghost invariant = { λ b.
+        AllByRecursion (λ entry. entry.0.items ≡ entry.1.name) b.accounts.entries
+        × HasDistinctNames (map (λ entry. entry.1) b.accounts.entries) };
 }
 
 impl AccountBook {
@@ -70,8 +72,10 @@ impl AccountBook {
     /// keep one more. A refused account is let go, and the book stays as it was.
     pub fn add(&mut self, account: Account) -> Result<(), AccountsError>
         ensures ok { OnOk result (self.new ≡ self.old ++ account ∷ []) }
-        ensures duplicate { (result ≡ Err AccountsError.DuplicateName) ↔ IsSome (account_of account.name self.old) }
-        ensures errors { IfErr result (λ e. e ≢ AccountsError.Memory → e ≡ AccountsError.DuplicateName) }
+        ensures duplicate { (result ≡ Err AccountsError.DuplicateName)
+            ↔ IsSome (account_of account.name self.old) }
+        ensures errors { IfErr result (λ e.
+            e ≢ AccountsError.Memory → e ≡ AccountsError.DuplicateName) }
         ensures err { OnErr result (self.new ≡ self.old) }
     {
         if self.get(account.name()).is_some() {

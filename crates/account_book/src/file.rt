@@ -8,7 +8,7 @@ ghost use Rattle.std.specs.Prelude.{◌≡◌, ◌≢◌, ◌+◌, ◌<◌, ◌�
 ghost use Rattle.std.specs.Option.{option_map_or};
 ghost use Rattle.toml.specs.Data.{get_member, as_table, as_str, as_bool};
 ghost use Rattle.toml.specs.View.{view, table_view, items_view};
-ghost use Rattle.account_book.specs.File.{as_number, required, optional, fields_of, described, with_entries, is_format, document, table_accounts, file_accounts};
+ghost use Rattle.account_book.specs.File.{as_number, required, optional, fields_of, described, with_entries, is_format, document, table_accounts, table_entries, Lists, file_accounts, file_entries};
 ghost use Rattle.account_book.specs.Fields.{stated_by};
 
 use crate::account::Account;
@@ -25,7 +25,8 @@ impl AccountBook {
     /// `BadField` with its place where it is no table, or a field is missing or bad, else
     /// `DuplicateName` where an earlier one has its name. `Memory` may come at any time.
     pub fn from_toml(alloc: Global, bytes: &[u8]) -> Result<AccountBook, AccountsError>
-        ensures { result ≢ Err AccountsError.Memory → result ≡ file_accounts bytes.now }
+        ensures answer { result ≢ Err AccountsError.Memory → result ≡ file_accounts bytes.now }
+        ensures listed { IfOk result (Lists (file_entries bytes.now)) }
     {
         let table = read_table(alloc, bytes)?;
         let mut book = AccountBook::new(alloc);
@@ -37,7 +38,8 @@ impl AccountBook {
 /// The table of a file.
 fn read_table(alloc: Global, bytes: &[u8]) -> Result<Table, AccountsError>
     ensures ok { IfOk result (λ table. document bytes.now ≡ Some (table_view table)) }
-    ensures err { IfErr result (λ e. e ≢ AccountsError.Memory → (e ≡ AccountsError.NotToml) × (document bytes.now ≡ None)) }
+    ensures err { IfErr result (λ e. e ≢ AccountsError.Memory →
+        (e ≡ AccountsError.NotToml) × (document bytes.now ≡ None)) }
 {
     match toml::table_from_slice(alloc, bytes) {
         Ok(table) => Ok(table),
@@ -48,7 +50,10 @@ fn read_table(alloc: Global, bytes: &[u8]) -> Result<Table, AccountsError>
 
 /// The entries of the list of accounts, none where there is no list.
 fn entries_of(table: &Table) -> Result<&[Value], AccountsError>
-    ensures ok { IfOk result (λ entries. table_accounts (table_view table.now) ≡ with_entries 1 [] (items_view entries.now)) }
+    ensures ok { IfOk result (λ entries.
+        table_accounts (table_view table.now) ≡ with_entries 1 [] (items_view entries.now)) }
+    ensures entries { IfOk result (λ entries.
+        table_entries (table_view table.now) ≡ items_view entries.now) }
     ensures err { IfErr result (λ e. table_accounts (table_view table.now) ≡ Err e) }
 {
     if !has_known_format(table) {
@@ -65,7 +70,8 @@ fn entries_of(table: &Table) -> Result<&[Value], AccountsError>
 
 /// Whether a file is in the one format that there is, which it need not say.
 fn has_known_format(table: &Table) -> bool
-    ensures { result ≡ option_map_or is_format (get_member (codes "format") (table_view table.now)) true }
+    ensures { result
+        ≡ option_map_or is_format (get_member (codes "format") (table_view table.now)) true }
 {
     match value_at(table, "format") {
         Some(value) => value.as_integer() == Some(1),
@@ -87,7 +93,8 @@ struct Fields<'a> {
 
 /// What stands at a key of a table.
 fn value_at<'a>(table: &'a Table, key: &str) -> Option<&'a Value>
-    ensures { option_map (λ value. view value.now) result ≡ get_member key.now (table_view table.now) }
+    ensures { option_map (λ value. view value.now) result
+        ≡ get_member key.now (table_view table.now) }
 {
     table.get(key)
 }
@@ -195,7 +202,9 @@ fn add_entries(
 ) -> Result<(), AccountsError>
     requires { book.old ≡ [] }
     ensures ok { OnOk result (with_entries 1 [] (items_view entries.now) ≡ Ok book.new) }
-    ensures err { IfErr result (λ e. e ≢ AccountsError.Memory → with_entries 1 [] (items_view entries.now) ≡ Err e) }
+    ensures listed { OnOk result (Lists (items_view entries.now) book.new) }
+    ensures err { IfErr result (λ e. e ≢ AccountsError.Memory →
+        with_entries 1 [] (items_view entries.now) ≡ Err e) }
 {
     for (k, entry) in entries.iter().enumerate() {
         let Ok(account) = described(alloc, entry) else {

@@ -1,9 +1,7 @@
 //! Password words.
 
 ghost use Rattle.std.specs.Prelude.{◌≡◌};
-ghost use Rattle.md5.specs.Md5.{md5};
-ghost use Rattle.base64.specs.Engines.{standard};
-ghost use Rattle.base64.specs.GeneralPurpose.{encode_of};
+ghost use Rattle.account_book.specs.Password.{word_of};
 
 use base64::engine::general_purpose::STANDARD;
 use md5::{Digest, Md5};
@@ -13,7 +11,7 @@ use md5::{Digest, Md5};
 ///
 /// The word is no secret: it travels in the clear, and who has it can log in with it.
 pub fn password_word(password: &[u8]) -> [u8; 24]
-    ensures { result ≡ encode_of standard (md5 password.now) }
+    ensures { result ≡ word_of password.now }
 {
     let digest: [u8; 16] = Md5::digest(password);
     let mut word = [0u8; 24];

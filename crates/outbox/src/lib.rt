@@ -31,9 +31,16 @@ impl Model for Outbox {
 
     ghost Value = { Queue };
 
-    ghost view = { λ o. record { limit = o.limit; unread = drop o.taken o.bytes.items; cut = o.cut; spare = vec_capacity o.bytes - vec_len o.bytes } };
+    ghost view = { λ o. record {
+      limit = o.limit;
+      unread = drop o.taken o.bytes.items;
+      cut = o.cut;
+      spare = vec_capacity o.bytes - vec_len o.bytes;
+    } };
 
-    ghost invariant = { λ o. (o.taken ≤ vec_len o.bytes) × (vec_len o.bytes ≤ o.taken + o.limit) × (o.cut ≡ true → vec_len o.bytes ≡ 0) };
+    ghost invariant = { λ o. (o.taken ≤ vec_len o.bytes)
+        × (vec_len o.bytes ≤ o.taken + o.limit)
+        × (o.cut ≡ true → vec_len o.bytes ≡ 0) };
 }
 
 impl Outbox {
@@ -110,7 +117,10 @@ impl Outbox {
     pub fn put(&mut self, bytes: &[u8])
         requires room { length bytes.now ≤ room self.old }
         requires spare { length bytes.now ≤ self.old.spare }
-        ensures put { self.new ≡ record self.old { unread = self.old.unread ++ bytes.now; spare = self.new.spare } }
+        ensures put { self.new ≡ record self.old {
+          unread = self.old.unread ++ bytes.now;
+          spare = self.new.spare;
+        } }
         ensures spare_left { self.old.spare ≤ self.new.spare + length bytes.now }
     {
         let done = self.bytes.extend_from_slice(bytes).is_ok();
@@ -119,7 +129,11 @@ impl Outbox {
 
     /// Cuts the client: gives up what is unread, for good.
     pub fn cut(&mut self)
-        ensures cut { self.new ≡ record self.old { unread = []; cut = true; spare = self.new.spare } }
+        ensures cut { self.new ≡ record self.old {
+          unread = [];
+          cut = true;
+          spare = self.new.spare;
+        } }
         ensures spare_kept { self.old.spare ≤ self.new.spare }
     {
         self.cut = true;
@@ -132,7 +146,10 @@ impl Outbox {
     pub fn take(&mut self, into: &mut [u8]) -> usize
         ensures count { result ≡ min (length self.old.unread) (length into.old) }
         ensures given { into.new ≡ take result self.old.unread ++ drop result into.old }
-        ensures left { self.new ≡ record self.old { unread = drop result self.old.unread; spare = self.new.spare } }
+        ensures left { self.new ≡ record self.old {
+          unread = drop result self.old.unread;
+          spare = self.new.spare;
+        } }
         ensures spare_kept { self.old.spare ≤ self.new.spare }
     {
         let count = self.copy_from(0, into);

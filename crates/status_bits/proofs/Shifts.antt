@@ -10,7 +10,9 @@ part-le word first width =
     omega arith
 
 -- a number that fits its field stays below the end of the field
-pub placed-lt : (number first width : ℕ) → number < 2 ^ width → first + width < 32 → number * 2 ^ first < 2 ^ 31
+pub placed-lt : (number first width : ℕ) → number < 2 ^ width → first + width < 32
+    → number * 2 ^ first < 2 ^ 31
 placed-lt number first width fits place =
-    let whole : number * 2 ^ first % 2 ^ 31 ≡ number * 2 ^ first = shl_whole number width first 31 fits (omega arith) in
+    let whole : number * 2 ^ first % 2 ^ 31 ≡ number * 2 ^ first =
+    shl_whole number width first 31 fits (omega arith) in
     subst (λ n. n < 2 ^ 31) whole (mod_below (number * 2 ^ first) (2 ^ 31) (omega arith))

@@ -36,9 +36,14 @@ merge table old asked = word_of table (λ field. number_in field (if field.own t
 -- What a setter does: the one field has the number, and each other field what it had
 abbrev pub SetsOne : List Field → Field → ℕ → ℕ → ℕ → Type 0
 SetsOne table field number old new =
-    AllByRecursion (λ other. number_in other new ≡ (if other.first == field.first then number else number_in other old)) table
+    AllByRecursion
+    (λ other. number_in other new
+    ≡ (if other.first == field.first then number else number_in other old))
+    table
 
 -- What a merge does: each field has what it has in the word that the table names for it
 abbrev pub Merges : List Field → ℕ → ℕ → ℕ → Type 0
 Merges table old asked new =
-    AllByRecursion (λ field. number_in field new ≡ number_in field (if field.own then asked else old)) table
+    AllByRecursion
+    (λ field. number_in field new ≡ number_in field (if field.own then asked else old))
+    table

@@ -29,4 +29,6 @@ IsUserStatus word = HasNoOtherBit user_table word
 -- The word of a user who has just logged in to its account
 abbrev pub account_word : ℕ → Bool → Bool → ℕ
 account_word number is_moderator is_bot =
-    number * 2 ^ rank.first + (if is_moderator then 2 ^ access.first else 0) + (if is_bot then 2 ^ bot.first else 0)
+    number * 2 ^ rank.first
+    + (if is_moderator then 2 ^ access.first else 0)
+    + (if is_bot then 2 ^ bot.first else 0)

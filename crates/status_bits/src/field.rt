@@ -32,7 +32,9 @@ impl Field {
         requires place { self.first + self.width < 32 }
         requires fits { number < 2 ^ self.width }
         requires word { word < 2 ^ 31 }
-        ensures { result ≡ word - word / 2 ^ self.first % 2 ^ self.width * 2 ^ self.first + number * 2 ^ self.first }
+        ensures { result
+            ≡ word - word / 2 ^ self.first % 2 ^ self.width * 2 ^ self.first
+            + number * 2 ^ self.first }
     {
         word - self.part_of(word) + (u32::from(number) << self.first)
     }
