@@ -1,5 +1,5 @@
 -- The kinds of argument: the values of each, their rule and how they are printed.
-use Rattle.std.specs.Prelude.{◌≡◌, ℕ, ◌≤◌, ℤ, pos, negsuc, neg_ℤ, Bool, true, false, if◌then◌else◌, not, ◌&&◌, ◌==◌, nat_le, List, [], ◌∷◌, ◌++◌, length, decimal, Option, Some, None, IsTrue}
+use Rattle.std.specs.Prelude.{ℕ, ℤ, pos, negsuc, Bool, true, if◌then◌else◌, ◌&&◌, nat_le, List, [], ◌∷◌, ◌++◌, length, decimal, Option, Some, None}
 use Rattle.std.specs.Fmt.{signed_decimal}
 use Rattle.std.specs.List.{list_all}
 use Rattle.line_words.specs.Bytes.{is_word, is_key, is_name, is_sentence, is_text}

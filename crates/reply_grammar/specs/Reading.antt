@@ -1,7 +1,6 @@
 -- Reading a line from left to right.
-use Rattle.std.specs.Prelude.{◌≡◌, ℕ, zero, suc, ◌+◌, ◌*◌, ◌-◌, ℤ, pos, negsuc, Bool, true, false, if◌then◌else◌, not, ◌&&◌, ◌||◌, ◌==◌, nat_le, nat_lt, List, [], ◌∷◌, ◌++◌, length, Option, Some, None, Result, Ok, Err, IsTrue}
-use Rattle.std.specs.List.{list_all}
-use Rattle.line_words.specs.Bytes.{is_word, is_key, is_name, is_sentence, is_text, is_digit}
+use Rattle.std.specs.Prelude.{◌≡◌, ℕ, zero, suc, ℤ, pos, negsuc, Bool, true, false, if◌then◌else◌, not, ◌&&◌, ◌||◌, ◌==◌, nat_le, List, [], ◌∷◌, length, Option, Some, None, Result, Ok, Err}
+use Rattle.line_words.specs.Bytes.{is_word, is_key, is_name, is_sentence, is_text}
 use Rattle.line_words.specs.Numbers.{is_digits, value_of}
 use Rattle.line_words.specs.Parts.{before, from, between}
 use Rattle.reply_grammar.specs.Kinds.{Kind, Word, Name, Number, Wide, Flag, OptionalWord, Words, Names, Sentence, NextSentence, Text, Pairs, Value, Values, is_wide}
