@@ -1,16 +1,15 @@
 -- A row of arguments reads as it prints, and what is read prints so.
-use Rattle.std.proofs.Common.{◌≡◌, ℕ, zero, suc, ◌+◌, ◌*◌, ◌-◌, ◌^◌, ◌<◌, ◌≤◌, Bool, true, false, cond, List, [], ◌∷◌, ◌++◌, length, get_or, Option, Some, None, refl, sym, ap, subst, ◌∙◌, append_assoc, arith, inl, inr}
-use Rattle.std.specs.Prelude.{IsTrue, not, ◌&&◌, ◌||◌, ◌==◌, nat_le, nat_lt, ℤ, pos, negsuc, decimal}
+use Rattle.std.proofs.Common.{◌≡◌, ℕ, zero, suc, ◌^◌, ◌<◌, ◌≤◌, Bool, true, false, cond, List, [], ◌∷◌, ◌++◌, Some, None, refl, sym, ap, subst, ◌∙◌, arith}
+use Rattle.std.specs.Prelude.{◌&&◌, ◌==◌, nat_le, ℤ, pos, negsuc, decimal}
 use Rattle.std.specs.Fmt.{signed_decimal}
 use Rattle.std.specs.List.{list_all}
-use Rattle.std.proofs.lemmas.Bool.{and_parts, and_from, eqb-true, eq-eqb, ne_eqb, eqb-false, leb-true, leb-false, ltb-true, le-leb, lt-leb, cases_eq, both_ways, and_left, and_right}
-use Rattle.std.proofs.lemmas.List.{append-nil}
+use Rattle.std.proofs.lemmas.Bool.{and_parts, and_from, eqb-true, ne_eqb, leb-true}
 use Rattle.std.proofs.lemmas.Fmt.{digits_decimal}
-use Rattle.line_words.specs.Bytes.{is_word, is_name, is_sentence, is_text, is_word_byte, is_name_byte, is_sentence_byte, is_text_byte, is_digit}
-use Rattle.line_words.specs.Parts.{Ends, before, from}
-use Rattle.reply_grammar.specs.Kinds.{Kind, Word, Name, Number, Wide, Flag, OptionalWord, Words, Names, Sentence, NextSentence, Text, Pairs, Value, Values, is_wide, fits, printed, all_fit, all_printed}
-use Rattle.reply_grammar.specs.Reading.{◌>>=◌, piece_at, with_test, word_at, name_at, sentence_at, text_at, optional_at, number_in, number_at, wide_at, flag_at, flag_of, natural, negative, whole, field, fields}
-use Rattle.reply_grammar.proofs.Pieces.{bind_some, guard_some, some_is, piece_again, piece_takes, tested_again, tested_takes}
+use Rattle.line_words.specs.Bytes.{is_word_byte, is_digit}
+use Rattle.line_words.specs.Parts.{Ends}
+use Rattle.reply_grammar.specs.Kinds.{is_wide}
+use Rattle.reply_grammar.specs.Reading.{◌>>=◌, piece_at, number_in, number_at, wide_at, natural, negative, whole}
+use Rattle.reply_grammar.proofs.Pieces.{bind_some, guard_some, some_is, piece_again, piece_takes}
 use Rattle.reply_grammar.proofs.Numbers.{all_digits, own, natural_again, natural_takes}
 
 -- digits have no space

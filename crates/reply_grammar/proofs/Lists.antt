@@ -1,10 +1,9 @@
 -- Several arguments up to the end.
-use Rattle.std.proofs.Common.{◌≡◌, ℕ, zero, suc, ◌+◌, ◌<◌, ◌≤◌, Bool, true, false, cond, List, [], ◌∷◌, ◌++◌, length, Option, Some, None, refl, sym, ap, subst, ◌∙◌, append_assoc, arith, inl, inr}
-use Rattle.std.specs.Prelude.{not, ◌&&◌, ◌||◌, ◌==◌, nat_le}
+use Rattle.std.proofs.Common.{◌≡◌, ℕ, Bool, true, false, cond, List, [], ◌∷◌, ◌++◌, length, Option, Some, None, refl, sym, ap, subst, ◌∙◌}
+use Rattle.std.specs.Prelude.{not, ◌&&◌, ◌==◌, nat_le}
 use Rattle.std.specs.List.{list_all}
-use Rattle.std.proofs.lemmas.Bool.{and_parts, and_from, eqb-true, eq-eqb, ne_eqb}
-use Rattle.std.proofs.lemmas.List.{append-nil}
-use Rattle.line_words.specs.Bytes.{is_word, is_key, is_name, is_sentence, is_word_byte, is_key_byte, is_name_byte, is_sentence_byte, is_text_byte}
+use Rattle.std.proofs.lemmas.Bool.{and_parts, and_from, eqb-true, eq-eqb}
+use Rattle.line_words.specs.Bytes.{is_word, is_key, is_name, is_sentence, is_word_byte, is_key_byte, is_name_byte, is_sentence_byte}
 use Rattle.line_words.specs.declared.lists.Pair.{Pair}
 use Rattle.line_words.specs.Parts.{Ends, before, between, from, with_front}
 use Rattle.line_words.proofs.Splitting.{before-append, before-from, from-append}

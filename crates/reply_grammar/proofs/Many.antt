@@ -1,14 +1,14 @@
 -- A loop over the parts.
-use Rattle.std.proofs.Common.{◌≡◌, ℕ, zero, suc, ◌+◌, ◌<◌, ◌≤◌, Bool, true, false, cond, List, [], ◌∷◌, ◌++◌, length, Option, Some, None, refl, sym, ap, subst, ◌∙◌, append_assoc, arith}
+use Rattle.std.proofs.Common.{◌≡◌, ℕ, ◌<◌, Bool, true, false, cond, List, [], ◌∷◌, ◌++◌, length, Option, Some, None, refl, sym, ap, ◌∙◌, append_assoc, arith}
 use Rattle.std.specs.Prelude.{◌==◌}
 use Rattle.std.proofs.lemmas.Bool.{eqb-true, eqb-false, eq-eqb}
 use Rattle.std.proofs.lemmas.List.{append-nil, length-append, nil_from_length}
 use Rattle.line_words.specs.Parts.{Ends, before, between, from, tails}
 use Rattle.line_words.proofs.Splitting.{between-cons, from_ends}
-use Rattle.reply_grammar.specs.Reading.{◌>>=◌, Fails, piece_at, all_of, many, if_is}
+use Rattle.reply_grammar.specs.Reading.{◌>>=◌, Fails, piece_at, all_of, many}
 use Rattle.reply_grammar.specs.declared.reading.ReadError.{ReadError}
 use Rattle.reply_grammar.specs.declared.reading.ReadError.TheVariants as errors
-use Rattle.reply_grammar.proofs.Pieces.{bind_some, guard_some, piece_takes}
+use Rattle.reply_grammar.proofs.Pieces.{guard_some, piece_takes}
 
 -- what was read before, and what is still read
 abbrev pub in_front : {A : Type 0} → List A → Option (List A) → Option (List A)

@@ -1,19 +1,18 @@
 -- Each kind, and a row of them.
-use Rattle.std.proofs.Common.{◌≡◌, ℕ, zero, suc, ◌+◌, ◌<◌, ◌≤◌, Bool, true, false, cond, List, [], ◌∷◌, ◌++◌, length, Option, Some, None, refl, sym, ap, subst, ◌∙◌, append_assoc, arith, inl, inr}
-use Rattle.std.specs.Prelude.{not, ◌&&◌, ◌||◌, ◌==◌, nat_le, ℤ, decimal}
-use Rattle.std.specs.Fmt.{signed_decimal}
+use Rattle.std.proofs.Common.{◌≡◌, ℕ, zero, suc, Bool, true, false, cond, List, [], ◌∷◌, ◌++◌, length, Option, Some, None, refl, sym, ap, subst, ◌∙◌, append_assoc, arith}
+use Rattle.std.specs.Prelude.{◌&&◌, ◌==◌, nat_le, decimal}
 use Rattle.std.specs.List.{list_all}
-use Rattle.std.proofs.lemmas.Bool.{and_parts, and_from, eqb-true, eq-eqb, ne_eqb, leb-true}
+use Rattle.std.proofs.lemmas.Bool.{and_parts, and_from, eqb-true, leb-true}
 use Rattle.std.proofs.lemmas.Fmt.{decimal_digit}
 use Rattle.std.proofs.lemmas.List.{append-nil}
-use Rattle.line_words.specs.Bytes.{is_word, is_key, is_name, is_sentence, is_text, is_word_byte, is_key_byte, is_name_byte, is_sentence_byte, is_text_byte}
+use Rattle.line_words.specs.Bytes.{is_word, is_name, is_sentence, is_text, is_word_byte, is_name_byte, is_sentence_byte}
 use Rattle.line_words.specs.declared.lists.Pair.{Pair}
-use Rattle.line_words.specs.Parts.{Ends, before, from}
-use Rattle.reply_grammar.specs.Kinds.{Kind, Word, Name, Number, Wide, Flag, OptionalWord, Words, Names, Sentence, NextSentence, Text, Pairs, Value, Values, is_wide, is_pair, is_some_word, fits, printed, all_fit, all_printed, words_text, pairs_text, pair_text, optional_text}
-use Rattle.reply_grammar.specs.Reading.{◌>>=◌, piece_at, with_test, many, if_is, pair_in, some, counted, word_at, name_at, sentence_at, text_at, optional_at, number_at, wide_at, flag_at, flag_of, words_at, names_at, pairs_at, field, fields}
-use Rattle.reply_grammar.proofs.Pieces.{bind_some, guard_some, some_is, piece_again, piece_takes, tested_again, tested_takes}
+use Rattle.line_words.specs.Parts.{Ends}
+use Rattle.reply_grammar.specs.Kinds.{Kind, Word, Name, Number, Wide, Flag, OptionalWord, Words, Names, Sentence, NextSentence, Text, Pairs, Value, Values, is_pair, is_some_word, fits, printed, all_fit, all_printed, words_text, pairs_text, pair_text, optional_text}
+use Rattle.reply_grammar.specs.Reading.{◌>>=◌, piece_at, many, if_is, pair_in, some, counted, word_at, name_at, sentence_at, text_at, optional_at, number_at, flag_at, flag_of, words_at, names_at, pairs_at, field, fields}
+use Rattle.reply_grammar.proofs.Pieces.{bind_some, guard_some, some_is, piece_again, tested_again, tested_takes}
 use Rattle.reply_grammar.proofs.Fields.{number_again, number_takes, wide_again, wide_takes}
-use Rattle.reply_grammar.proofs.Lists.{marked, words_text-marked, pairs_text-marked, many_again, many_takes, word_prints, name_prints, pair_prints}
+use Rattle.reply_grammar.proofs.Lists.{words_text-marked, pairs_text-marked, many_again, many_takes, word_prints, name_prints, pair_prints}
 
 -- what may follow an argument of a kind: one byte, or nothing
 abbrev pub close_of : Kind → Option ℕ

@@ -1,8 +1,8 @@
 -- A line reads as it prints.
-use Rattle.std.proofs.Common.{◌≡◌, ℕ, zero, suc, ◌+◌, ◌^◌, ◌<◌, ◌≤◌, Bool, true, false, cond, List, [], ◌∷◌, ◌++◌, length, Option, Some, None, refl, sym, ap, subst, ◌∙◌, append_assoc, arith, inl, inr}
-use Rattle.std.specs.Prelude.{◌&&◌, ◌||◌, ◌==◌, nat_le, find, decimal}
+use Rattle.std.proofs.Common.{◌≡◌, ℕ, ◌^◌, ◌<◌, ◌≤◌, Bool, true, false, cond, List, [], ◌∷◌, ◌++◌, length, Option, Some, None, refl, sym, ap, subst, ◌∙◌, append_assoc, arith}
+use Rattle.std.specs.Prelude.{◌&&◌, ◌==◌, nat_le, find, decimal}
 use Rattle.std.specs.List.{list_all}
-use Rattle.std.proofs.lemmas.Bool.{and_parts, and_from, eqb-true, eq-eqb, ne_eqb, leb-true, le-leb}
+use Rattle.std.proofs.lemmas.Bool.{and_parts, and_from, eqb-true, eq-eqb, leb-true, le-leb}
 use Rattle.std.proofs.lemmas.List.{append-nil, nil_from_length}
 use Rattle.std.proofs.lemmas.Fmt.{digits_decimal}
 use Rattle.line_words.specs.Bytes.{is_word_byte}
@@ -13,13 +13,13 @@ use Rattle.reply_grammar.specs.declared.Reply.TheVariants as reply
 use Rattle.reply_grammar.specs.declared.command_word.CommandWord.{CommandWord}
 use Rattle.reply_grammar.specs.declared.command_word.CommandWord.TheVariants as command
 use Rattle.reply_grammar.specs.Kinds.{Kind, Pairs, Words, Values, all_fit, all_printed}
-use Rattle.reply_grammar.specs.Replies.{word_of, kinds_of, command_of, values_of, Fits, body, id_text, line_text, IsId, Line, ReadsAs}
+use Rattle.reply_grammar.specs.Replies.{word_of, kinds_of, command_of, values_of, Fits, body, line_text, IsId, Line, ReadsAs}
 use Rattle.reply_grammar.specs.Reading.{◌>>=◌, number_in, fields, if_end, shaped}
 use Rattle.reply_grammar.specs.Lines.{same, commands, named, made, read_arguments, read_body, behind_space, read_numbered, read_line}
 use Rattle.reply_grammar.proofs.Pieces.{bind_some, guard_some, some_is}
 use Rattle.reply_grammar.proofs.Numbers.{own}
 use Rattle.reply_grammar.proofs.Fields.{digits_words, number_in_again, number_in_takes}
-use Rattle.reply_grammar.proofs.Rows.{is_row, close_of, fields_again, fields_take, opens, is_kind, leads, open_of}
+use Rattle.reply_grammar.proofs.Rows.{is_row, fields_again, fields_take, opens}
 
 -- command words
 

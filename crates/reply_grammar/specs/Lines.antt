@@ -1,5 +1,5 @@
 -- Reading a whole line.
-use Rattle.std.specs.Prelude.{ℕ, Bool, true, false, if◌then◌else◌, ◌&&◌, ◌==◌, nat_le, nat_eq, find, List, [], ◌∷◌, Option, Some, None}
+use Rattle.std.specs.Prelude.{ℕ, Bool, if◌then◌else◌, ◌==◌, nat_eq, find, List, [], ◌∷◌, Option, Some, None}
 use Rattle.std.specs.Cmp.Lexicographic.{pointwise}
 use Rattle.reply_grammar.specs.declared.Reply.{Reply}
 use Rattle.reply_grammar.specs.declared.Reply.TheVariants as reply
@@ -10,6 +10,7 @@ use Rattle.reply_grammar.specs.Replies.{word_of, kinds_of}
 use Rattle.line_words.specs.Parts.{before, from}
 use Rattle.reply_grammar.specs.Reading.{◌>>=◌, number_in, shaped}
 
+-- the same bytes
 abbrev pub same : List ℕ → List ℕ → Bool
 same = pointwise nat_eq
 
@@ -79,13 +80,16 @@ made command.Ring x = reply.Ring x.0
 abbrev pub read_arguments : CommandWord → List ℕ → Option Reply
 read_arguments c bytes = shaped (kinds_of c) bytes >>= λ xs. Some (made c xs)
 
+-- a line without its id
 unfoldable pub read_body : List ℕ → Option Reply
 read_body bytes = named (before 32 bytes) >>= λ c. read_arguments c (from 32 bytes)
 
+-- what stands behind one byte
 abbrev pub behind_space : List ℕ → Option (List ℕ)
 behind_space [] = None
 behind_space (b ∷ bs) = Some bs
 
+-- a line behind its `#`
 unfoldable pub read_numbered : List ℕ → Option (Option ℕ × Reply)
 read_numbered bytes = do
   id ← number_in 0 2147483647 (before 32 bytes)
@@ -93,6 +97,7 @@ read_numbered bytes = do
   r ← read_body text
   Some (Some id, r)
 
+-- a line without its LF: the pair that it reads as
 unfoldable pub read_line : List ℕ → Option (Option ℕ × Reply)
 read_line [] = None
 read_line (b ∷ bs) = if b == 35 then read_numbered bs else (read_body (b ∷ bs) >>= λ r. Some (None, r))

@@ -1,6 +1,7 @@
 //! A line for each reply, read and printed again, and lines that no reply prints.
 
 use super::*;
+use std::alloc::{AllocError, Global};
 use std::test::Fail;
 
 const LINES: [&[u8]; 53] = [
@@ -116,17 +117,8 @@ const REFUSED: [&[u8]; 51] = [
 #[test]
 fn each_reply_is_printed_as_it_was_read(rt: HostRuntime) -> Result<(), Fail> {
     for line in LINES {
-        let found = read_reply(rt.alloc(), line)?;
-        assert!(rt; found.is_some(), "not read: {line:?}");
-        if let Some((id, reply)) = found {
-            let mut out = Vec::from_slice(rt.alloc(), b"before\n")?;
-            print(&reply, id, &mut out)?;
-            let mut expected = Vec::from_slice(rt.alloc(), b"before\n")?;
-            expected.extend_from_slice(line)?;
-            expected.push(b'\n')?;
-            assert_eq!(rt; out.as_slice(), expected.as_slice());
-            reply.discard();
-        }
+        let printed = printed_again(rt.alloc(), line)?;
+        assert_eq!(rt; printed.as_slice(), with_end(rt.alloc(), line)?.as_slice());
     }
     Ok(())
 }
@@ -134,7 +126,33 @@ fn each_reply_is_printed_as_it_was_read(rt: HostRuntime) -> Result<(), Fail> {
 #[test]
 fn what_no_reply_prints_is_refused(rt: HostRuntime) -> Result<(), Fail> {
     for line in REFUSED {
-        assert!(rt; read_reply(rt.alloc(), line)?.is_none(), "read: {line:?}");
+        let printed = printed_again(rt.alloc(), line)?;
+        assert!(rt; printed.is_empty(), "read: {line:?}");
     }
     Ok(())
+}
+
+#[test]
+fn a_line_stands_behind_what_was_there(rt: HostRuntime) -> Result<(), Fail> {
+    let mut out = Vec::from_slice(rt.alloc(), b"PONG\n")?;
+    print(&Reply::Pong, Some(7), &mut out)?;
+    assert_eq!(rt; out.as_slice(), b"PONG\n#7 PONG\n".as_slice());
+    Ok(())
+}
+
+// The line of the reply that was read, or nothing where there is none.
+fn printed_again(alloc: Global, line: &[u8]) -> Result<Vec<u8>, AllocError> {
+    let mut out = Vec::new(alloc);
+    if let Some((id, reply)) = read_reply(alloc, line)? {
+        let done = print(&reply, id, &mut out);
+        reply.discard();
+        done?;
+    }
+    Ok(out)
+}
+
+fn with_end(alloc: Global, line: &[u8]) -> Result<Vec<u8>, AllocError> {
+    let mut ended = Vec::from_slice(alloc, line)?;
+    ended.push(b'\n')?;
+    Ok(ended)
 }

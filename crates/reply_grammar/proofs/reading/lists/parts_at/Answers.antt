@@ -1,4 +1,4 @@
-use Rattle.std.proofs.Common.{◌≡◌, List, length, false, true, rules}
+use Rattle.std.proofs.Common.{◌≡◌, length, false, true, rules}
 use Rattle.std.specs.Prelude.{◌==◌}
 use Rattle.std.proofs.lemmas.Result.{err_from_is_err_and}
 use Rattle.reply_grammar.specs.Reading.{many}
