@@ -9,6 +9,8 @@ mod forms;
 mod laws;
 mod lists;
 mod reading;
+#[cfg(test)]
+mod tests;
 
 pub use command::{Command, ReadFault, Request};
 pub use laws::reads_as_one_request;
