@@ -3,3 +3,4 @@ pub mod Forms
 pub mod Owning
 pub mod Reads
 pub mod Reading
+pub mod Kinds

@@ -13,5 +13,5 @@ mod reading;
 mod tests;
 
 pub use command::{Command, ReadFault, Request};
-pub use laws::reads_as_one_request;
+pub use laws::{keeps_kinds, reads_as_one_request};
 pub use reading::read_request;
