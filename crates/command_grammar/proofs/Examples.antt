@@ -1,8 +1,6 @@
 -- Worked lines, and the requests that they read as. In a line 9 is a tab, 10 LF and 13 CR.
-use Rattle.std.proofs.Common.{◌≡◌, ℕ, List, [], ◌∷◌, ◌++◌, refl, subst, Bool, true, false}
-use Rattle.std.specs.Prelude.{ℤ, pos, negsuc, codes, map, Option, Some, None}
-use Rattle.line_words.specs.declared.lists.Pair.{Pair}
-use Rattle.command_grammar.specs.declared.command.ReadFault.{ReadFault}
+use Rattle.std.proofs.Common.{◌≡◌, ℕ, List, [], ◌∷◌, ◌++◌, refl, subst, true}
+use Rattle.std.specs.Prelude.{pos, negsuc, codes, Option, Some, None}
 use Rattle.command_grammar.specs.declared.command.ReadFault.TheVariants as fault
 use Rattle.command_grammar.specs.declared.command.Command.{Command}
 use Rattle.command_grammar.specs.declared.command.Command.TheVariants as command

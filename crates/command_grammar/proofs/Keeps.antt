@@ -1,13 +1,12 @@
 -- A form of a kind of argument hands on arguments of that kind: a lemma for each.
-use Rattle.std.proofs.Common.{◌≡◌, ℕ, ◌≤◌, List, [], ◌∷◌, ◌++◌, length, refl, sym, ap, subst, Bool, true, false, T, inl, inr, arith}
-use Rattle.std.specs.Prelude.{ℤ, pos, negsuc, ◌≤ℤ◌, ◌==◌, ◌&&◌, not, nat_le, IsTrue, MatchBool, Option, Some, None}
+use Rattle.std.proofs.Common.{◌≡◌, ℕ, List, [], ◌∷◌, ◌++◌, length, refl, sym, subst, Bool, true, false, inl, inr, arith}
+use Rattle.std.specs.Prelude.{ℤ, pos, negsuc, ◌≤ℤ◌, ◌==◌, ◌&&◌, nat_le, IsTrue, MatchBool, Option, Some, None}
 use Rattle.std.specs.List.{list_any, list_all}
 use Rattle.std.proofs.lemmas.Bool.{and_parts, and_from}
-use Rattle.std.proofs.lemmas.Bool.Decides.{nat_tests}
 use Rattle.std.proofs.lemmas.Int.{ints}
 use Rattle.line_words.specs.Bytes.{has_byte, is_key, is_name, is_sentence, is_sentence_byte, is_text, is_word}
 use Rattle.line_words.specs.Sentences.{between_tabs}
-use Rattle.line_words.specs.Words.{FirstWord, NextWord}
+use Rattle.line_words.specs.Words.{NextWord}
 use Rattle.line_words.specs.declared.lists.Pair.{Pair}
 use Rattle.command_grammar.specs.declared.command.ReadFault.{ReadFault}
 use Rattle.command_grammar.specs.declared.command.Command.{Command}

@@ -1,8 +1,7 @@
 -- The arguments of each command keep their kinds, and the id its limit.
-use Rattle.std.proofs.Common.{◌≡◌, ℕ, ◌≤◌, List, [], ◌∷◌, ◌++◌, refl, sym, subst, Bool, true, false}
-use Rattle.std.specs.Prelude.{IsTrue, IfSome, MatchBool, Option, Some, None}
+use Rattle.std.proofs.Common.{◌≡◌, ℕ, ◌≤◌, List, [], ◌∷◌, refl, subst}
+use Rattle.std.specs.Prelude.{IsTrue, IfSome, Option, Some, None}
 use Rattle.line_words.specs.Bytes.{is_text}
-use Rattle.command_grammar.specs.declared.command.ReadFault.{ReadFault}
 use Rattle.command_grammar.specs.declared.command.Command.TheVariants as command
 use Rattle.command_grammar.specs.declared.command.Request.{Request}
 use Rattle.command_grammar.specs.declared.command_word.CommandWord.{CommandWord}

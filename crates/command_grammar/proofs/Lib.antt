@@ -10,3 +10,5 @@ pub mod Checks
 pub mod Keeps
 pub mod KindTables
 pub mod Examples
+pub mod Fits
+pub mod SizeTables

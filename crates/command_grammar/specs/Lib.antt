@@ -4,3 +4,4 @@ pub mod Owning
 pub mod Reads
 pub mod Reading
 pub mod Kinds
+pub mod Sizes

@@ -1,9 +1,10 @@
 //! The laws of the grammar.
 
-ghost use Rattle.std.specs.Prelude.{◌≡◌, ◌≤◌, ℕ, List, IfSome, IsTrue};
+ghost use Rattle.std.specs.Prelude.{◌≡◌, ◌≤◌, ℕ, List, IfSome, IsTrue, length};
 ghost use Rattle.command_grammar.specs.declared.command.Request.{Request};
 ghost use Rattle.command_grammar.specs.Kinds.{keeps_kinds};
 ghost use Rattle.command_grammar.specs.Reads.{Reads};
+ghost use Rattle.command_grammar.specs.Sizes.{argument_bytes};
 
 /// Each line, whatever its bytes, reads as one request and no other.
 pub fn reads_as_one_request()
@@ -14,4 +15,10 @@ pub fn reads_as_one_request()
 pub fn keeps_kinds()
     ensures id { (line : List ℕ) (request : Request) → Reads line request → IfSome request.id (λ id. id ≤ 2147483647) }
     ensures arguments { (line : List ℕ) (request : Request) → Reads line request → IsTrue (keeps_kinds request.command) }
+{}
+
+/// The arguments of a request take no more bytes than its line has, each counted with the byte that parts it from what stands
+/// before it.
+pub fn fits_into_its_line()
+    ensures { (line : List ℕ) (request : Request) → Reads line request → argument_bytes request.command ≤ length line }
 {}

@@ -13,5 +13,5 @@ mod reading;
 mod tests;
 
 pub use command::{Command, ReadFault, Request};
-pub use laws::{keeps_kinds, reads_as_one_request};
+pub use laws::{fits_into_its_line, keeps_kinds, reads_as_one_request};
 pub use reading::read_request;
