@@ -162,7 +162,7 @@ pairs_done text items e h =
 pub word_pushed : (items : List (List ℕ)) (left w more : List ℕ) → FirstWord left w more → (items ++ w ∷ []) ++ words_in more ≡ items ++ words_in left
 word_pushed items left w more f = append_assoc items (w ∷ []) (words_in more) ∙ ap (λ (ws : List (List ℕ)). items ++ ws) (sym (words_next f))
 
-or_parts : (a b : Bool) → (a || b) ≡ false → (a ≡ false) × (b ≡ false)
+pub or_parts : (a b : Bool) → (a || b) ≡ false → (a ≡ false) × (b ≡ false)
 or_parts true b h = absurd (let n : ⊥ = cc in n)
 or_parts false b h = (refl, h)
 

@@ -7,3 +7,8 @@ pub mod Lines
 pub mod Whole
 pub mod Slices
 pub mod Checks
+pub mod Keeps
+pub mod KindTables
+pub mod Examples
+pub mod Fits
+pub mod SizeTables

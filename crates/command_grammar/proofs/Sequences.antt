@@ -146,7 +146,7 @@ words_from (b ∷ bs) r s h e = word_first b bs r h e
 pub words_next : {rest w r : List ℕ} → FirstWord rest w r → words_in rest ≡ w ∷ words_in r
 words_next {rest} {w} {r} f = ap words_in f.whole ∙ words_skip f.gap (w ++ r) f.spaces ∙ words_from w r f.some_byte f.no_space f.ends
 
-first : {rest w r : List ℕ} → NextWord rest w r → FirstWord rest w r
+pub first : {rest w r : List ℕ} → NextWord rest w r → FirstWord rest w r
 first n = record { gap = n.gap; whole = n.whole; spaces = n.spaces; no_space = n.no_space; some_byte = n.some_byte; ends = n.ends }
 
 words_only : (rest : List ℕ) (words : List (List ℕ)) → AreWords rest words → words_in rest ≡ words

@@ -9,6 +9,7 @@ use Rattle.command_grammar.specs.declared.command_word.CommandWord.{CommandWord}
 use Rattle.command_grammar.specs.declared.command_word.CommandWord.TheVariants as word
 use Rattle.command_grammar.specs.Arguments.{IsFault, Word, OptionalWord, Name, Natural, Wide, Flag, Text, Sentences, Sentence, Pairs, Words}
 
+-- the command words
 abbrev pub command_words : List (List ℕ × CommandWord)
 command_words = (codes "PING", word.Ping)
     ∷ (codes "EXIT", word.Exit)

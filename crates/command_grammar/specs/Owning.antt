@@ -3,6 +3,7 @@ use Rattle.std.specs.Prelude.{Bool, true, false, ◌||◌, is_some}
 use Rattle.command_grammar.specs.declared.command.Command.{Command}
 use Rattle.command_grammar.specs.declared.command.Command.TheVariants as command
 
+-- the command has a word, name, sentence, text or list of its own
 abbrev pub owns_bytes : Command → Bool
 owns_bytes command.Blank = false
 owns_bytes (command.Unread f) = false

@@ -17,8 +17,11 @@ use std::alloc::{AllocError, Global};
 /// The largest message id.
 const ID_LIMIT: i64 = 2147483647;
 
-/// What the line asks for: the one request that it reads as. `line` is a client's line without its end, whatever its bytes.
-/// Memory is taken for the bytes that a command owns and for nothing else; where it is refused, none is kept.
+/// What the line asks for: the one request that it reads as. `line` is a client's line without its end, whatever its bytes
+/// and its length. A line that is no command is a request too: its command says which fault comes first.
+///
+/// Memory is taken for the bytes that a command owns, and only once the whole line was found to be that command. `AllocError`
+/// comes where that memory is refused, and nothing is kept then.
 pub fn read_request(alloc: Global, line: &[u8]) -> Result<Request, AllocError>
     ensures reads { IfOk result (λ request. Reads line.now request) }
     ensures only { IfOk result (λ request. (other : Request) → Reads line.now other → other ≡ request) }
@@ -29,6 +32,7 @@ pub fn read_request(alloc: Global, line: &[u8]) -> Result<Request, AllocError>
     Ok(Request { id, command })
 }
 
+// The line without the spaces at its front.
 fn without_spaces(line: &[u8]) -> &[u8]
     ensures { result.now ≡ without_spaces line.now }
 {
@@ -54,6 +58,7 @@ fn read_id(line: &[u8]) -> (Option<u32>, &[u8])
     }
 }
 
+// An id counts where at least one space is behind it.
 fn with_id<'a>(line: &'a [u8], id: Option<u32>, behind: &'a [u8]) -> (Option<u32>, &'a [u8])
     ensures { (result.0, result.1.now) ≡ with_id line.entry.now id behind.entry.now }
 {
@@ -79,6 +84,7 @@ fn id_of(digits: &[u8]) -> Option<u32>
     }
 }
 
+// A fault is a request too.
 fn read_text(alloc: Global, text: &[u8]) -> Result<Command, AllocError>
     ensures ok { IfOk result (λ c. c ≡ command_of (text_of text.now)) }
     ensures err { OnErr result (IsTrue (needs_memory (text_of text.now))) }
@@ -90,6 +96,7 @@ fn read_text(alloc: Global, text: &[u8]) -> Result<Command, AllocError>
     }
 }
 
+// The command word, and its arguments behind it.
 #[tactic(auto, unfolding(crate::specs::Reading::text_of))]
 fn read_command(alloc: Global, text: &[u8]) -> Result<Command, ReadError>
     ensures { Gives result (text_of text.now) }
@@ -107,6 +114,7 @@ fn read_command(alloc: Global, text: &[u8]) -> Result<Command, ReadError>
     }
 }
 
+// The arguments that the form of the command asks for.
 fn read_arguments(alloc: Global, word: CommandWord, rest: &[u8]) -> Result<Command, ReadError>
     requires { IsTrue (is_text rest.now) }
     ensures { Gives result (arguments_at word rest.now) }
@@ -134,6 +142,8 @@ fn read_arguments(alloc: Global, word: CommandWord, rest: &[u8]) -> Result<Comma
         CommandWord::RemoveBot => forms::remove_bot(alloc, rest),
         CommandWord::AddStartRect => forms::add_start_rect(rest),
         CommandWord::RemoveStartRect => forms::remove_start_rect(rest),
+        CommandWord::SetScriptTags => forms::set_script_tags(alloc, rest),
+        CommandWord::RemoveScriptTags => forms::remove_script_tags(alloc, rest),
         CommandWord::Handicap => forms::handicap(alloc, rest),
         CommandWord::ForceTeamNo => forms::force_team_no(alloc, rest),
         CommandWord::ForceAllyNo => forms::force_ally_no(alloc, rest),
@@ -141,7 +151,5 @@ fn read_arguments(alloc: Global, word: CommandWord, rest: &[u8]) -> Result<Comma
         CommandWord::ForceSpectatorMode => forms::force_spectator_mode(alloc, rest),
         CommandWord::KickFromBattle => forms::kick_from_battle(alloc, rest),
         CommandWord::Ring => forms::ring(alloc, rest),
-        CommandWord::SetScriptTags => forms::set_script_tags(alloc, rest),
-        CommandWord::RemoveScriptTags => forms::remove_script_tags(alloc, rest),
     }
 }
