@@ -51,7 +51,7 @@ pub struct Hall {
     // of client 1, 2, 3 and so on; none of a client that is removed
     sessions: Vec<Option<Session>>,
     // may lack bytes that still wait in the lobby
-    record: Record,
+    logs: Record,
     // where the bytes that a client reads go
     drained: Vec<u8>,
 }
@@ -62,10 +62,14 @@ impl Model for Hall {
 
     ghost Value = { Kept };
 
-    ghost view = { λ h. record { lobby = h.lobby.plain; sessions = h.sessions.items; record_so_far = completed h.record h.lobby.plain } };
+    ghost view = { λ h. record { lobby = h.lobby.plain; sessions = h.sessions.items; record_so_far = completed h.logs h.lobby.plain } };
 }
 
 impl Hall {
+    ghost use Rattle.std.specs.Borrow.{sem};
+    ghost use Rattle.std.specs.Io.BufRead.{Rests};
+    ghost use Rattle.lobby_hall.specs.contracts.hall.Hall.{the_row};
+
     /// A hall with an empty lobby.
     pub fn new(alloc: Global, settings: Settings) -> Result<Hall, HallError>
         ensures stands { IfOk result (λ hall. Stands hall settings [] (new_world settings)) }
@@ -75,7 +79,7 @@ impl Hall {
             alloc,
             lobby: Lobby::new(alloc, settings)?,
             sessions: Vec::new(alloc),
-            record: Record::new(alloc),
+            logs: Record::new(alloc),
             drained: Vec::new(alloc),
         })
     }
@@ -89,12 +93,12 @@ impl Hall {
         if !self.lobby.has_place() {
             return Ok(());
         }
-        self.record.begin()?;
+        self.logs.begin()?;
         let session = Session::new(self.alloc, self.lobby.last_client() + 1);
         match self.sessions.push(Some(session)) {
             Ok(()) => {}
             Err(_) => {
-                self.record.take_back();
+                self.logs.take_back();
                 return Err(AllocError);
             }
         }
@@ -102,7 +106,7 @@ impl Hall {
             Ok(_) => Ok(()),
             Err(_) => {
                 let _ = self.sessions.pop();
-                self.record.take_back();
+                self.logs.take_back();
                 Err(AllocError)
             }
         }
@@ -142,7 +146,7 @@ impl Hall {
         ensures within { OnOk result (AllByRecursion IsWithin self.old.record_so_far) }
         ensures err { OnErr result (self.new ≡ self.old) }
     {
-        self.record.catch_up_all(&self.lobby)?;
+        self.logs.catch_up_all(&self.lobby)?;
         let _ = self.lobby.say(client, request)?;
         accept(&mut self.sessions, client);
         Ok(())
@@ -156,7 +160,7 @@ impl Hall {
         ensures within { OnOk result (AllByRecursion IsWithin self.old.record_so_far) }
         ensures err { OnErr result (self.new ≡ self.old) }
     {
-        self.record.catch_up_all(&self.lobby)?;
+        self.logs.catch_up_all(&self.lobby)?;
         let _ = self.lobby.shut(client)?;
         close(&mut self.sessions, client);
         Ok(())
@@ -173,9 +177,9 @@ impl Hall {
         let wanted = count.min(self.lobby.unread(client));
         self.drained.clear();
         self.drained.resize(wanted, 0)?;
-        self.record.catch_up(&self.lobby, client)?;
+        self.logs.catch_up(&self.lobby, client)?;
         let drained = self.lobby.drain(client, &mut self.drained);
-        self.record.note_read(client, drained.count);
+        self.logs.note_read(client, drained.count);
         Ok(())
     }
 
@@ -232,18 +236,19 @@ impl Hall {
 
     /// The record of the steps so far.
     pub fn record(&mut self) -> Result<&Record, HallError>
-        ensures { IfOk result (λ logs. logs.now ≡ self.old.record_so_far) }
+        ensures* stays { sem 𝓛 (Rests the_row self.entry (λ hall. hall ≡ self.old)) }
+        ensures value { IfOk result (λ logs. logs.now ≡ self.old.record_so_far) }
     {
-        self.record.catch_up_all(&self.lobby)?;
-        Ok(&self.record)
+        self.logs.catch_up_all(&self.lobby)?;
+        Ok(&self.logs)
     }
 
     /// The record of the steps, which the hall gives up.
     pub fn into_record(mut self) -> Result<Record, HallError>
         ensures { IfOk result (λ logs. logs ≡ self.record_so_far) }
     {
-        self.record.catch_up_all(&self.lobby)?;
-        Ok(self.record)
+        self.logs.catch_up_all(&self.lobby)?;
+        Ok(self.logs)
     }
 }
 

@@ -1,0 +1,10 @@
+pub mod Words
+pub mod Lines
+pub mod Escapes
+pub mod Actions
+pub mod Faults
+pub mod Scene
+pub mod Acts
+pub mod Halls
+pub mod Script
+pub mod Player
