@@ -5,3 +5,4 @@ pub mod Splits
 pub mod Balance
 pub mod Quiet
 pub mod Examples
+pub mod Scheduled

@@ -2,10 +2,12 @@
 
 ghost use Rattle.std.specs.Prelude.{◌≡◌, ℕ, List, ◌++◌, Some, false};
 ghost use Rattle.lobby_model.specs.declared.event.Event.{Event};
+ghost use Rattle.lobby_model.specs.declared.schedule.Step.{Step};
 ghost use Rattle.lobby_model.specs.Table.{at_number};
 ghost use Rattle.lobby_model.specs.Configuration.{Configuration};
 ghost use Rattle.lobby_model.specs.State.{Client, empty_lobby};
 ghost use Rattle.lobby_model.specs.History.{after, put_in, taken_in};
+ghost use Rattle.lobby_model.specs.Schedule.{World, Gives};
 
 /// No byte is lost or made: for a client that is neither cut nor removed, what its drains took,
 /// followed by what it has not read, is all that was put to it.
@@ -13,4 +15,11 @@ pub fn taken_then_unread()
     ensures { (settings : Configuration) (history : List Event) (c : ℕ) (client : Client)
         → at_number (after (empty_lobby settings) history).clients c ≡ Some client → client.cut ≡ false
         → taken_in (empty_lobby settings) history c ++ client.unread ≡ put_in (empty_lobby settings) history c }
+{}
+
+/// A schedule gives one list of events and leaves one world, whatever world it begins in.
+pub fn schedule_gives_one_history()
+    ensures some { (start : World) (steps : List Step) → (events : List Event) × (end : World) × Gives start steps events end }
+    ensures same { (start : World) (steps : List Step) (events others : List Event) (end other_end : World)
+        → Gives start steps events end → Gives start steps others other_end → (events ≡ others) × (end ≡ other_end) }
 {}
