@@ -171,6 +171,7 @@ carries_only line None text h = elim (found line) [
 
 -- the request that is read is one that the line reads as
 pub request_read : (line : List ℕ) → Reads line (request_of line)
+unfolding request_of
 request_read line = record {
   trimmed = without_spaces line;
   text = (numbered (without_spaces line)).1;
@@ -181,6 +182,7 @@ request_read line = record {
 
 -- and there is no other
 pub request_only : (line : List ℕ) (r : Request) → Reads line r → r ≡ request_of line
+unfolding request_of
 request_only line r h =
     let trimmed : numbered (without_spaces line) ≡ (r.id, h.text) = ap numbered (skipped_is h.skips) ∙ carries_only h.trimmed r.id h.text h.carries in
     let asked : r.command ≡ command_of (text_of h.text) = (text_settles h.text).only r.command h.asks in

@@ -28,6 +28,7 @@ no_id digits none = no_id_by digits (is_id digits) refl none
 
 pub read_as : (line trimmed text : List ℕ) (id : Option ℕ) (c : Command) → trimmed ≡ without_spaces line → (let p : Option ℕ × List ℕ = (id, text) in p) ≡ numbered trimmed → c ≡ command_of (text_of text)
     → request_of line ≡ (let r : Request = record { id = id; command = c } in r)
+unfolding request_of
 read_as line trimmed text id c skipped found asked =
     let e : numbered (without_spaces line) ≡ (let p : Option ℕ × List ℕ = (id, text) in p) = sym (found ∙ ap numbered skipped) in
     ap request_with e ∙ ap (λ (d : Command). let r : Request = record { id = id; command = d } in r) (sym asked)

@@ -369,5 +369,5 @@ abbrev pub request_with : Option ℕ × List ℕ → Request
 request_with found = record { id = found.0; command = command_of (text_of found.1) }
 
 -- the request that a line reads as
-abbrev pub request_of : List ℕ → Request
+unfoldable pub request_of : List ℕ → Request
 request_of line = request_with (numbered (without_spaces line))

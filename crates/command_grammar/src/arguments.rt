@@ -1,5 +1,5 @@
-//! One reader for each kind of argument. Each is given the rest of a line, from the end of the command word or of the last
-//! argument on, and gives the argument and its own rest; nothing is copied.
+//! One reader for each kind of argument. Each is given the rest of a line, from the end of the command
+//! word or of the last argument on, and gives the argument and its own rest; nothing is copied.
 
 ghost use Rattle.std.specs.Prelude.{◌≡◌, ◌≤◌, ℤ, ◌≤ℤ◌, IfOk, IfSome, IsTrue, Some, None, Ok, Err};
 ghost use Rattle.std.specs.Option.{option_map};
@@ -39,7 +39,8 @@ pub(crate) fn has_tab(bytes: &[u8]) -> bool
 #[tactic(auto, unfolding(crate::specs::Reading::optional_at))]
 pub(crate) fn optional_at(rest: &[u8]) -> Result<(Option<&[u8]>, &[u8]), ReadFault>
     requires { IsTrue (is_text rest.now) }
-    ensures value { optional_at rest.now ≡ seen (λ x. (option_map (λ w. w.now) x.0, x.1.now)) result }
+    ensures value { optional_at rest.now
+        ≡ seen (λ x. (option_map (λ w. w.now) x.0, x.1.now)) result }
     ensures word { IfOk result (λ x. IfSome x.0 (λ w. IsTrue (is_word w.now))) }
     ensures text { IfOk result (λ x. IsTrue (is_text x.1.now)) }
 {

@@ -186,7 +186,7 @@ pub enum Command {
 }
 
 impl Command {
-    /// Lets the command go. A caller that is proved is checked far faster over this call than over a drop of its own.
+    /// Lets the command go. A caller is checked far faster over this call than over a drop of its own.
     pub fn discard(self) {}
 }
 

@@ -1,4 +1,5 @@
-//! One reader for each command that has arguments: all arguments are read first, and those that are kept are copied then.
+//! One reader for each command that has arguments: all arguments are read first, and those that are
+//! kept are copied then, so that a fault takes no memory.
 
 ghost use Rattle.std.specs.Prelude.{◌≡◌, IfOk, IfSome, IsTrue, OnErr, is_some};
 ghost use Rattle.std.specs.Option.{option_map};

@@ -1,4 +1,5 @@
-//! Arguments that are lists. A list is checked whole before any of it is copied, so that a fault takes no memory.
+//! Arguments that are lists. A list is checked whole before any of it is copied, so that a fault takes
+//! no memory.
 
 ghost use Rattle.std.specs.Prelude.{◌≡◌, ◌==◌, Err, IfErr, IfNone, IfOk, IfSome, IsTrue, Ok, OnOk, false, is_ok};
 ghost use Rattle.std.specs.List.{list_all};
@@ -54,17 +55,20 @@ fn pair_in(sentence: &[u8]) -> Option<(&[u8], &[u8])>
     ensures some { IfSome result (λ x. pair_in sentence.now ≡ Ok (pair x.0.now x.1.now)) }
     ensures none { IfNone result (pair_in sentence.now ≡ Err fault.BadPair) }
     ensures key { IfSome result (λ x. IsTrue (is_key x.0.now)) }
-    ensures value { IfSome result (λ x. IsTrue (is_sentence sentence.now) → IsTrue (is_sentence x.1.now)) }
+    ensures value { IfSome result (λ x. IsTrue (is_sentence sentence.now)
+        → IsTrue (is_sentence x.1.now)) }
 {
     let (key, behind) = split_at_byte(sentence, b'=');
     pair_of(key, behind)
 }
 
 fn pair_of<'a>(key: &'a [u8], behind: &'a [u8]) -> Option<(&'a [u8], &'a [u8])>
-    ensures some { IfSome result (λ x. pair_of key.entry.now behind.entry.now ≡ Ok (pair x.0.now x.1.now)) }
+    ensures some { IfSome result (λ x. pair_of key.entry.now behind.entry.now
+        ≡ Ok (pair x.0.now x.1.now)) }
     ensures none { IfNone result (pair_of key.entry.now behind.entry.now ≡ Err fault.BadPair) }
     ensures key { IfSome result (λ x. IsTrue (is_key x.0.now)) }
-    ensures value { IfSome result (λ x. IsTrue (is_sentence behind.entry.now) → IsTrue (is_sentence x.1.now)) }
+    ensures value { IfSome result (λ x. IsTrue (is_sentence behind.entry.now)
+        → IsTrue (is_sentence x.1.now)) }
 {
     match behind {
         [] => None,

@@ -17,15 +17,18 @@ use std::alloc::{AllocError, Global};
 /// The largest message id.
 const ID_LIMIT: i64 = 2147483647;
 
-/// What the line asks for: the one request that it reads as. `line` is a client's line without its end, whatever its bytes
-/// and its length. A line that is no command is a request too: its command says which fault comes first.
+/// What the line asks for: the one request that it reads as. `line` is a client's line without its
+/// end, whatever its bytes and its length. A line that is no command is a request too: its command
+/// says which fault comes first.
 ///
-/// Memory is taken for the bytes that a command owns, and only once the whole line was found to be that command. `AllocError`
-/// comes where that memory is refused, and nothing is kept then.
+/// Memory is taken for the bytes that a command owns, and only once the whole line was found to be
+/// that command. `AllocError` comes where that memory is refused, and nothing is kept then.
 pub fn read_request(alloc: Global, line: &[u8]) -> Result<Request, AllocError>
     ensures reads { IfOk result (λ request. Reads line.now request) }
-    ensures only { IfOk result (λ request. (other : Request) → Reads line.now other → other ≡ request) }
-    ensures refused { OnErr result ((request : Request) → Reads line.now request → IsTrue (owns_bytes request.command)) }
+    ensures only { IfOk result (λ request. (other : Request) → Reads line.now other
+        → other ≡ request) }
+    ensures refused { OnErr result ((request : Request) → Reads line.now request
+        → IsTrue (owns_bytes request.command)) }
 {
     let (id, text) = read_id(without_spaces(line));
     let command = read_text(alloc, text)?;
