@@ -2,7 +2,7 @@
 
 ghost use Rattle.std.specs.Prelude.{◌≡◌};
 
-use crate::owned::{KeyBuf, NameBuf, SentenceBuf, TextBuf, WordBuf};
+use crate::kinds::{KeyBuf, NameBuf, SentenceBuf, TextBuf, WordBuf};
 use std::marker::Model;
 
 /// A script tag: its key and its value, printed as `key=value`.

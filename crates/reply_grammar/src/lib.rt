@@ -245,7 +245,8 @@ pub enum Reply {
 }
 
 impl Reply {
-    /// Lets the reply go. Checking a caller that drops one itself costs more.
+    /// Lets the reply go. A function that drops one itself, as at each `?` past which it holds one,
+    /// is dear to check, or too dear: call this, or lend the reply to a function that does the rest.
     pub fn discard(self) {}
 }
 

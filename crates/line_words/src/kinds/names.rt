@@ -1,0 +1,104 @@
+//! A name: 1 to 20 ASCII letters, digits, `_`, `[` and `]`.
+
+ghost use Rattle.std.specs.Prelude.{◌≡◌, ◌↔◌, IfOk, IfSome, IsSome, IsTrue};
+ghost use Rattle.line_words.specs.Bytes.{is_name};
+
+use crate::bytes::is_name;
+use std::alloc::{AllocError, Global};
+use std::marker::Model;
+
+/// Lent bytes that are a name: 1 to 20 ASCII letters, digits, `_`, `[` and `]`.
+#[derive(Debug, Drop)]
+pub struct Name<'a> {
+    bytes: &'a [u8],
+}
+
+impl<'a> Model for Name<'a> {
+    ghost use Rattle.std.specs.Prelude.{List, ℕ, IsTrue};
+    ghost use Rattle.line_words.specs.Bytes.{is_name};
+
+    ghost Value = { List ℕ };
+
+    ghost view = { λ x. x.bytes.now };
+
+    ghost invariant = { λ x. IsTrue (is_name x.bytes.now) };
+}
+
+impl<'a> Name<'a> {
+    /// These bytes, or None where they break the rule.
+    pub fn of(bytes: &'a [u8]) -> Option<Name<'a>>
+        ensures value { IfSome result (λ x. x ≡ bytes.now) }
+        ensures when { IsSome result ↔ IsTrue (is_name bytes.now) }
+    {
+        if is_name(bytes) {
+            Some(Name { bytes })
+        } else {
+            None
+        }
+    }
+
+    /// The bytes.
+    pub fn as_slice(&self) -> &'a [u8]
+        ensures value { result.now ≡ self.now }
+        ensures kind { IsTrue (is_name self.now) }
+    {
+        self.bytes
+    }
+}
+
+/// Owned bytes that are a name: 1 to 20 ASCII letters, digits, `_`, `[` and `]`.
+#[derive(Debug, Drop)]
+pub struct NameBuf {
+    bytes: Vec<u8>,
+}
+
+impl Model for NameBuf {
+    ghost use Rattle.std.specs.Prelude.{List, ℕ, IsTrue};
+    ghost use Rattle.line_words.specs.Bytes.{is_name};
+
+    ghost Value = { List ℕ };
+
+    ghost view = { λ x. x.bytes.items };
+
+    ghost invariant = { λ x. IsTrue (is_name x.bytes.items) };
+}
+
+impl NameBuf {
+    /// These bytes, or None where they break the rule.
+    pub fn of(bytes: Vec<u8>) -> Option<NameBuf>
+        ensures value { IfSome result (λ x. x ≡ bytes.items) }
+        ensures when { IsSome result ↔ IsTrue (is_name bytes.items) }
+    {
+        if is_name(&bytes) {
+            Some(NameBuf { bytes })
+        } else {
+            None
+        }
+    }
+
+    /// A copy of bytes that keep the rule. Fails only where memory is refused.
+    pub fn copy_of(alloc: Global, bytes: &[u8]) -> Result<NameBuf, AllocError>
+        requires { IsTrue (is_name bytes.now) }
+        ensures { IfOk result (λ x. x ≡ bytes.now) }
+    {
+        Ok(NameBuf {
+            bytes: Vec::from_slice(alloc, bytes)?,
+        })
+    }
+
+    /// The bytes.
+    pub fn as_slice(&self) -> &[u8]
+        ensures value { result.now ≡ self.now }
+        ensures kind { IsTrue (is_name self.now) }
+    {
+        self.bytes.as_slice()
+    }
+
+    /// The bytes in the memory that they are in.
+    pub fn into_vec(self) -> Vec<u8>
+        ensures value { result.items ≡ self }
+        ensures kind { IsTrue (is_name self) }
+    {
+        self.bytes
+    }
+}
