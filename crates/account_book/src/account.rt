@@ -1,6 +1,6 @@
 //! One account.
 
-ghost use Rattle.std.specs.Prelude.{◌≡◌, ◌≢◌, ◌↔◌, ◌<◌, ◌==◌, true, false, IsTrue, IfOk, IfErr, ◌&&◌};
+ghost use Rattle.std.specs.Prelude.{◌≡◌, ◌≢◌, ◌↔◌, ◌<◌, true, false, IfOk, IfErr};
 ghost use Rattle.std.specs.List.{list_all};
 ghost use Rattle.account_book.specs.Account.{is_name, is_name_byte, is_password_word, is_country, is_sound, stated};
 

@@ -1,6 +1,6 @@
 //! The accounts of a lobby by their names.
 
-ghost use Rattle.std.specs.Prelude.{◌≡◌, ◌≢◌, ◌↔◌, ◌++◌, [], ◌∷◌, length, true, IsTrue, IsSome, option_copied, OnOk, OnErr, IfErr, Result, Ok, Err};
+ghost use Rattle.std.specs.Prelude.{◌≡◌, ◌≢◌, ◌↔◌, ◌++◌, [], ◌∷◌, length, IsTrue, IsSome, option_copied, OnOk, OnErr, IfErr, Result, Ok, Err};
 ghost use Rattle.account_book.specs.Book.{account_of, login, seen, HasDistinctNames};
 
 use crate::account::Account;

@@ -4,9 +4,9 @@
 //! and keys that are not known are passed over. Each table has the keys `name`, `password` and
 //! `id`, and may have `rank` (else 0), `access` and `bot` (else false) and `country` (else `??`).
 
-ghost use Rattle.std.specs.Prelude.{◌≡◌, ◌≢◌, ◌+◌, ◌<◌, ◌≤◌, [], true, false, IfOk, IfErr, OnOk, option_map, option_copied, codes, Some, None, Result, Ok, Err};
+ghost use Rattle.std.specs.Prelude.{◌≡◌, ◌≢◌, ◌+◌, ◌<◌, [], true, false, IfOk, IfErr, OnOk, option_map, option_copied, codes, Some, None, Result, Ok, Err};
 ghost use Rattle.std.specs.Option.{option_map_or};
-ghost use Rattle.toml.specs.Data.{get_member, as_table, as_str, as_bool};
+ghost use Rattle.toml.specs.Data.{get_member, as_str, as_bool};
 ghost use Rattle.toml.specs.View.{view, table_view, items_view};
 ghost use Rattle.account_book.specs.File.{as_number, required, optional, fields_of, described, with_entries, is_format, document, table_accounts, table_entries, Lists, file_accounts, file_entries};
 ghost use Rattle.account_book.specs.Fields.{stated_by};

@@ -1,7 +1,7 @@
 //! The command `hash`: one line in, its password word out.
 
-ghost use Rattle.std.specs.Prelude.{◌≡◌, ◌≢◌, ◌<◌, ◌≤◌, ℕ, List, [], ◌∷◌, ◌++◌, length, take, Some, None, IfSome, IfErr, OnErr, MatchResult, MatchOption, ⊤};
-ghost use Rattle.std.specs.Io.KnownBytes.{Keeps, Consumes, Appends, IsAtEnd};
+ghost use Rattle.std.specs.Prelude.{◌≡◌, ◌≢◌, ◌<◌, ◌≤◌, length, take, IfSome};
+ghost use Rattle.std.specs.Io.KnownBytes.{Keeps};
 ghost use Rattle.lobby_main.specs.Hash.{first_line, password_in, word_line, without_return, GainsFront};
 ghost use Rattle.lobby_main.specs.Reading.{GivesByte, Begins};
 
