@@ -1,0 +1,11 @@
+pub mod Table
+pub mod Configuration
+pub mod State
+pub mod Texts
+pub mod Refusal
+pub mod Effect
+pub mod Sent
+pub mod Next
+pub mod Touched
+pub mod History
+pub mod Schedule

@@ -1,0 +1,49 @@
+-- The plain lobby: finite maps and lists, with no slot, index or buffer.
+use Rattle.std.specs.Prelude.{ℕ, Bool, not, ◌&&◌, false, true, List, [], Option, Some, None}
+use Rattle.lobby_model.specs.declared.event.Phase.{Phase}
+use Rattle.lobby_model.specs.declared.event.Phase.TheVariants.{Greeted, Ended}
+use Rattle.lobby_model.specs.Table.{ByNumber, at_number, put_number}
+use Rattle.lobby_model.specs.Configuration.{Configuration}
+
+-- ip: the four numbers of its address; home: the worker that serves it; cut: what it did not read was given up
+pub record Client : Type 0 where
+  pub ip : List ℕ
+  pub home : ℕ
+  pub phase : Phase
+  pub cut : Bool
+  pub unread : List ℕ
+
+-- The settings never change. Clients by number; last_client is the last number given
+pub record State : Type 0 where
+  pub settings : Configuration
+  pub clients : ByNumber Client
+  pub last_client : ℕ
+
+abbrev pub empty_lobby : Configuration → State
+empty_lobby settings = record { settings = settings; clients = []; last_client = 0 }
+
+abbrev pub is_ended : Phase → Bool
+is_ended Ended = true
+is_ended Greeted = false
+
+-- whether bytes may still be put to it and its commands count
+abbrev pub is_live : Client → Bool
+is_live client = not client.cut && not (is_ended client.phase)
+
+abbrev pub is_live_client : Option Client → Bool
+is_live_client None = false
+is_live_client (Some client) = is_live client
+
+abbrev pub hears : State → ℕ → Bool
+hears s c = is_live_client (at_number s.clients c)
+
+-- the same client in another phase
+abbrev pub in_phase : Phase → Client → Client
+in_phase phase client = record client { phase = phase }
+
+abbrev pub set_phase_of : ByNumber Client → ℕ → Phase → Option Client → ByNumber Client
+set_phase_of clients c phase None = clients
+set_phase_of clients c phase (Some client) = put_number clients c (in_phase phase client)
+
+abbrev pub set_phase : ByNumber Client → ℕ → Phase → ByNumber Client
+set_phase clients c phase = set_phase_of clients c phase (at_number clients c)
