@@ -1,0 +1,9 @@
+//! Plays a script of connects, lines and disconnects against a lobby, and prints what each client
+//! was sent.
+#![tactic(auto)]
+
+mod escapes;
+mod words;
+
+fn main() {
+}
