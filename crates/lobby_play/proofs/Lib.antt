@@ -1,3 +1,4 @@
 mod Parts
 mod Numbers
 mod EscapeLemmas
+mod ActionLemmas

@@ -1,2 +1,3 @@
 pub mod Words
 pub mod Escapes
+pub mod Actions

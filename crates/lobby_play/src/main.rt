@@ -2,6 +2,7 @@
 //! was sent.
 #![tactic(auto)]
 
+mod action;
 mod escapes;
 mod words;
 
