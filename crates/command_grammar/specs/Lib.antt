@@ -1,1 +1,5 @@
+pub mod Arguments
+pub mod Forms
+pub mod Owning
 pub mod Reads
+pub mod Reading

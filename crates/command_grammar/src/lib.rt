@@ -1,29 +1,12 @@
+//! Requests: what a line of a client asks the lobby for.
 #![tactic(auto)]
 
-use line_words::{NameBuf, WordBuf};
+mod command;
+mod command_word;
+mod fault;
+mod laws;
+mod reading;
 
-#[derive(Clone, Copy, PartialEq, Eq, Debug)]
-pub enum ReadFault {
-    UnknownCommand,
-    MissingArgument,
-    BadNumber,
-    BadName,
-    BadByte,
-    BadPair,
-}
-
-#[derive(Drop)]
-pub enum Command {
-    Blank,
-    Unread(ReadFault),
-    Ping,
-    Exit,
-    Login { user_name: WordBuf, password: WordBuf, cpu: i64, local_ip: WordBuf },
-    Join { channel: NameBuf },
-}
-
-#[derive(Drop)]
-pub struct Request {
-    pub id: Option<u32>,
-    pub command: Command,
-}
+pub use command::{Command, ReadFault, Request};
+pub use laws::reads_as_one_request;
+pub use reading::read_request;

@@ -1,4 +1,5 @@
 pub mod Bytes
 pub mod Numbers
+pub mod Parts
 pub mod Words
 pub mod Sentences

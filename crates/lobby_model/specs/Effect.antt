@@ -1,7 +1,7 @@
 -- What the lobby's maps are after an event, before its lines are put.
 use Rattle.std.specs.Prelude.{ℕ, ◌+◌, Bool, false, not, ◌&&◌, nat_lt, if◌then◌else◌, List, [], length, drop, Option, Some, None, is_some}
-use Rattle.command_grammar.specs.declared.Command.{Command}
-use Rattle.command_grammar.specs.declared.Command.TheVariants as command
+use Rattle.command_grammar.specs.declared.command.Command.{Command}
+use Rattle.command_grammar.specs.declared.command.Command.TheVariants as command
 use Rattle.lobby_model.specs.declared.event.Event.{Event}
 use Rattle.lobby_model.specs.declared.event.Event.TheVariants as event
 use Rattle.lobby_model.specs.declared.event.Phase.TheVariants.{Greeted, Ended}

@@ -1,7 +1,7 @@
 -- Which events a schedule of connects, pieces, takes, reads and disconnects gives.
 use Rattle.std.specs.Prelude.{◌≡◌, ℕ, ◌+◌, Bool, if◌then◌else◌, List, [], ◌∷◌, ◌++◌, Option, Some, None, is_some, slice_get, MatchBool}
 use Rattle.line_framer.specs.Frames.{frames, is_spoilt}
-use Rattle.command_grammar.specs.declared.Request.{Request}
+use Rattle.command_grammar.specs.declared.command.Request.{Request}
 use Rattle.command_grammar.specs.Reads.{Reads}
 use Rattle.lobby_model.specs.declared.event.Event.{Event}
 use Rattle.lobby_model.specs.declared.event.Event.TheVariants as event

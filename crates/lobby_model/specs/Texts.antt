@@ -1,7 +1,7 @@
 -- The texts that tell a client why its line was refused.
 use Rattle.std.specs.Prelude.{ℕ, List, codes}
-use Rattle.command_grammar.specs.declared.ReadFault.{ReadFault}
-use Rattle.command_grammar.specs.declared.ReadFault.TheVariants.{UnknownCommand, MissingArgument, BadNumber, BadName, BadByte, BadPair}
+use Rattle.command_grammar.specs.declared.command.ReadFault.{ReadFault}
+use Rattle.command_grammar.specs.declared.command.ReadFault.TheVariants.{UnknownCommand, MissingArgument, BadNumber, BadName, BadByte, BadPair}
 
 abbrev pub fault_text : ReadFault → List ℕ
 fault_text UnknownCommand = codes "Unknown command"

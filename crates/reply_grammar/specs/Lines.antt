@@ -1,25 +1,101 @@
-use Rattle.std.specs.Prelude.{List, ℕ, ◌≡◌, Option, Some, None, codes, ◌++◌, ◌∷◌, [], decimal, flat_map}
+-- Reading a whole line.
+use Rattle.std.specs.Prelude.{ℕ, Bool, true, false, if◌then◌else◌, ◌&&◌, ◌==◌, nat_le, nat_eq, List, [], ◌∷◌, Option, Some, None}
+use Rattle.std.specs.Cmp.Lexicographic.{pointwise}
 use Rattle.reply_grammar.specs.declared.Reply.{Reply}
 use Rattle.reply_grammar.specs.declared.Reply.TheVariants as reply
+use Rattle.reply_grammar.specs.declared.CommandWord.{CommandWord}
+use Rattle.reply_grammar.specs.declared.CommandWord.TheVariants as command
+use Rattle.reply_grammar.specs.Kinds.{Values}
+use Rattle.reply_grammar.specs.Replies.{word_of, kinds_of}
+use Rattle.line_words.specs.Parts.{before, from}
+use Rattle.reply_grammar.specs.Reading.{◌>>=◌, natural, fields, if_end}
 
-abbrev pub word : List ℕ → List ℕ
-word w = 32 ∷ w
+abbrev pub same : List ℕ → List ℕ → Bool
+same = pointwise nat_eq
 
-abbrev pub body : Reply → List ℕ
-body (reply.TasServer protocol spring port mode) = codes "TASSERVER" ++ word protocol ++ word spring ++ word (decimal port) ++ word (decimal mode)
-body (reply.Denied t) = codes "DENIED" ++ word t
-body (reply.ServerMsg t) = codes "SERVERMSG" ++ word t
-body reply.Pong = codes "PONG"
+-- all command words
+abbrev pub commands : List CommandWord
+commands =
+    command.TasServer ∷ command.Accepted ∷ command.Denied ∷ command.Motd ∷ command.ServerMsg ∷ command.AddUser
+    ∷ command.RemoveUser ∷ command.ClientStatus ∷ command.LoginInfoEnd ∷ command.Pong ∷ command.Join ∷ command.Clients
+    ∷ command.Joined ∷ command.Left ∷ command.JoinFailed ∷ command.Said ∷ command.SaidEx ∷ command.SayPrivate
+    ∷ command.SaidPrivate ∷ command.Channel ∷ command.EndOfChannels ∷ command.OpenBattle ∷ command.OpenBattleFailed ∷ command.BattleOpened
+    ∷ command.BattleClosed ∷ command.JoinBattle ∷ command.JoinBattleFailed ∷ command.JoinedBattle ∷ command.LeftBattle ∷ command.UpdateBattleInfo
+    ∷ command.RequestBattleStatus ∷ command.ClientBattleStatus ∷ command.SaidBattle ∷ command.SaidBattleEx ∷ command.AddBot ∷ command.UpdateBot
+    ∷ command.RemoveBot ∷ command.AddStartRect ∷ command.RemoveStartRect ∷ command.SetScriptTags ∷ command.RemoveScriptTags ∷ command.ForceQuitBattle
+    ∷ command.Ring ∷ []
 
-abbrev pub id_text : Option ℕ → List ℕ
-id_text None = []
-id_text (Some id) = 35 ∷ decimal id ++ 32 ∷ []
+abbrev pub named_in : List CommandWord → List ℕ → Option CommandWord
+named_in [] w = None
+named_in (c ∷ cs) w = if same w (word_of c) then Some c else named_in cs w
 
-abbrev pub Line : Type 0
-Line = Option ℕ × Reply
+unfoldable pub named : List ℕ → Option CommandWord
+named = named_in commands
 
-abbrev pub print : Line → List ℕ
-print line = id_text line.0 ++ body line.1 ++ 10 ∷ []
+-- the reply of these arguments
+abbrev pub made : (c : CommandWord) → Values (kinds_of c) → Reply
+made command.TasServer x = reply.TasServer x.0 x.1.0 x.1.1.0 x.1.1.1.0
+made command.Accepted x = reply.Accepted x.0
+made command.Denied x = reply.Denied x.0
+made command.Motd x = reply.Motd x.0
+made command.ServerMsg x = reply.ServerMsg x.0
+made command.AddUser x = reply.AddUser x.0 x.1.0 x.1.1.0 x.1.1.1.0
+made command.RemoveUser x = reply.RemoveUser x.0
+made command.ClientStatus x = reply.ClientStatus x.0 x.1.0
+made command.LoginInfoEnd x = reply.LoginInfoEnd
+made command.Pong x = reply.Pong
+made command.Join x = reply.Join x.0
+made command.Clients x = reply.Clients x.0 x.1.0
+made command.Joined x = reply.Joined x.0 x.1.0
+made command.Left x = reply.Left x.0 x.1.0
+made command.JoinFailed x = reply.JoinFailed x.0 x.1.0
+made command.Said x = reply.Said x.0 x.1.0 x.1.1.0
+made command.SaidEx x = reply.SaidEx x.0 x.1.0 x.1.1.0
+made command.SayPrivate x = reply.SayPrivate x.0 x.1.0
+made command.SaidPrivate x = reply.SaidPrivate x.0 x.1.0
+made command.Channel x = reply.Channel x.0 x.1.0
+made command.EndOfChannels x = reply.EndOfChannels
+made command.OpenBattle x = reply.OpenBattle x.0
+made command.OpenBattleFailed x = reply.OpenBattleFailed x.0
+made command.BattleOpened x = reply.BattleOpened x.0 x.1.0 x.1.1.0 x.1.1.1.0 x.1.1.1.1.0 x.1.1.1.1.1.0 x.1.1.1.1.1.1.0 x.1.1.1.1.1.1.1.0 x.1.1.1.1.1.1.1.1.0 x.1.1.1.1.1.1.1.1.1.0 x.1.1.1.1.1.1.1.1.1.1.0 x.1.1.1.1.1.1.1.1.1.1.1.0 x.1.1.1.1.1.1.1.1.1.1.1.1.0 x.1.1.1.1.1.1.1.1.1.1.1.1.1.0 x.1.1.1.1.1.1.1.1.1.1.1.1.1.1.0
+made command.BattleClosed x = reply.BattleClosed x.0
+made command.JoinBattle x = reply.JoinBattle x.0 x.1.0
+made command.JoinBattleFailed x = reply.JoinBattleFailed x.0
+made command.JoinedBattle x = reply.JoinedBattle x.0 x.1.0 x.1.1.0
+made command.LeftBattle x = reply.LeftBattle x.0 x.1.0
+made command.UpdateBattleInfo x = reply.UpdateBattleInfo x.0 x.1.0 x.1.1.0 x.1.1.1.0 x.1.1.1.1.0
+made command.RequestBattleStatus x = reply.RequestBattleStatus
+made command.ClientBattleStatus x = reply.ClientBattleStatus x.0 x.1.0 x.1.1.0
+made command.SaidBattle x = reply.SaidBattle x.0 x.1.0
+made command.SaidBattleEx x = reply.SaidBattleEx x.0 x.1.0
+made command.AddBot x = reply.AddBot x.0 x.1.0 x.1.1.0 x.1.1.1.0 x.1.1.1.1.0 x.1.1.1.1.1.0
+made command.UpdateBot x = reply.UpdateBot x.0 x.1.0 x.1.1.0 x.1.1.1.0
+made command.RemoveBot x = reply.RemoveBot x.0 x.1.0
+made command.AddStartRect x = reply.AddStartRect x.0 x.1.0 x.1.1.0 x.1.1.1.0 x.1.1.1.1.0
+made command.RemoveStartRect x = reply.RemoveStartRect x.0
+made command.SetScriptTags x = reply.SetScriptTags x.0
+made command.RemoveScriptTags x = reply.RemoveScriptTags x.0
+made command.ForceQuitBattle x = reply.ForceQuitBattle
+made command.Ring x = reply.Ring x.0
 
-abbrev pub print_all : List Line → List ℕ
-print_all lines = flat_map print lines
+-- the arguments of one command, to the end
+abbrev pub read_arguments : CommandWord → List ℕ → Option Reply
+read_arguments c bytes = fields (kinds_of c) bytes >>= λ x. if_end (made c x.0) x.1
+
+unfoldable pub read_body : List ℕ → Option Reply
+read_body bytes = named (before 32 bytes) >>= λ c. read_arguments c (from 32 bytes)
+
+abbrev pub behind_space : List ℕ → Option (List ℕ)
+behind_space [] = None
+behind_space (b ∷ bs) = Some bs
+
+unfoldable pub read_numbered : List ℕ → Option (Option ℕ × Reply)
+read_numbered bytes = do
+  id ← natural (before 32 bytes)
+  text ← behind_space (from 32 bytes)
+  r ← read_body text
+  if nat_le id 2147483647 then Some (Some id, r) else None
+
+unfoldable pub read_line : List ℕ → Option (Option ℕ × Reply)
+read_line [] = None
+read_line (b ∷ bs) = if b == 35 then read_numbered bs else (read_body (b ∷ bs) >>= λ r. Some (None, r))

@@ -1,0 +1,5 @@
+pub mod Cuts
+pub mod Settles
+pub mod Tables
+pub mod Lines
+pub mod Whole

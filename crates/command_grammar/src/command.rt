@@ -1,0 +1,207 @@
+//! What a line asks for, with its arguments by name and in their order on the line.
+
+use line_words::{NameBuf, PairList, SentenceBuf, TextBuf, WordBuf, WordList};
+
+/// Why a line could not be read as a command. The first fault from the left is the one that is told.
+#[derive(Clone, Copy, PartialEq, Eq, Debug)]
+pub enum ReadFault {
+    /// The command word is not one of the protocol's. Case matters.
+    UnknownCommand,
+    /// The line ends before an argument that the command must have.
+    MissingArgument,
+    /// A word is not a number of the argument's range.
+    BadNumber,
+    /// A word is not a name: 1 to 20 ASCII letters, digits, `_`, `[` and `]`.
+    BadName,
+    /// A CR or LF stands in the line, or a tab in a word.
+    BadByte,
+    /// A sentence is not `key=value` with a key that is not empty and has no space.
+    BadPair,
+}
+
+/// What a line asks for: one of the 31 commands, nothing, or a line that could not be read.
+#[derive(Debug, Drop)]
+pub enum Command {
+    /// The line has no text.
+    Blank,
+    /// The line is not a command.
+    Unread(ReadFault),
+    /// `LOGIN userName password cpu localIP {lobby name and version}`: `password` is the base64 text of
+    /// the password's MD5, `cpu` from -2147483648 to 4294967295.
+    Login {
+        user_name: WordBuf,
+        password: WordBuf,
+        cpu: i64,
+        local_ip: WordBuf,
+        lobby: SentenceBuf,
+    },
+    /// `PING`
+    Ping,
+    /// `CHANNELS`: asks for the list of channels.
+    Channels,
+    /// `LEAVEBATTLE`
+    LeaveBattle,
+    /// `EXIT {reason}`: logs out. The reason is not kept.
+    Exit,
+    /// `MYSTATUS status`: `status` is a user's status word.
+    MyStatus {
+        status: u32,
+    },
+    /// `JOIN channel key`: the key is not kept.
+    Join {
+        channel: NameBuf,
+    },
+    /// `LEAVE channel`
+    Leave {
+        channel: NameBuf,
+    },
+    /// `SAY channel {text}`
+    Say {
+        channel: NameBuf,
+        text: TextBuf,
+    },
+    /// `SAYEX channel {text}`
+    SayEx {
+        channel: NameBuf,
+        text: TextBuf,
+    },
+    /// `SAYPRIVATE user {text}`
+    SayPrivate {
+        user: NameBuf,
+        text: TextBuf,
+    },
+    /// `OPENBATTLE type natType password port maxPlayers gameHash rank mapHash {engineName} {engineVersion}
+    /// {map} {title} {gameName}`: `battle_type` is 0 or 1, `nat_type` 0 to 2, the hashes and `rank` from
+    /// -2147483648 to 4294967295. The password `*` means none.
+    OpenBattle {
+        battle_type: u8,
+        nat_type: u8,
+        password: WordBuf,
+        port: u16,
+        max_players: u16,
+        game_hash: i64,
+        rank: i64,
+        map_hash: i64,
+        engine_name: SentenceBuf,
+        engine_version: SentenceBuf,
+        map: SentenceBuf,
+        title: SentenceBuf,
+        game_name: SentenceBuf,
+    },
+    /// `JOINBATTLE battleID password scriptPassword`: `battle` is 0 to 2147483647.
+    JoinBattle {
+        battle: u32,
+        password: Option<WordBuf>,
+        script_password: Option<WordBuf>,
+    },
+    /// `UPDATEBATTLEINFO spectatorCount locked mapHash {map}`: `map_hash` from -2147483648 to 4294967295.
+    UpdateBattleInfo {
+        spectator_count: u16,
+        locked: bool,
+        map_hash: i64,
+        map: SentenceBuf,
+    },
+    /// `MYBATTLESTATUS battleStatus teamColor`: `team_color` from -2147483648 to 4294967295.
+    MyBattleStatus {
+        battle_status: u32,
+        team_color: i64,
+    },
+    /// `SAYBATTLE {text}`
+    SayBattle {
+        text: TextBuf,
+    },
+    /// `SAYBATTLEEX {text}`
+    SayBattleEx {
+        text: TextBuf,
+    },
+    /// `ADDBOT bot battleStatus teamColor {AI}`: `team_color` from -2147483648 to 4294967295.
+    AddBot {
+        bot: WordBuf,
+        battle_status: u32,
+        team_color: i64,
+        ai: SentenceBuf,
+    },
+    /// `UPDATEBOT bot battleStatus teamColor`: `team_color` from -2147483648 to 4294967295.
+    UpdateBot {
+        bot: WordBuf,
+        battle_status: u32,
+        team_color: i64,
+    },
+    /// `REMOVEBOT bot`
+    RemoveBot {
+        bot: WordBuf,
+    },
+    /// `ADDSTARTRECT allyNo left top right bottom`: `ally_no` is 0 to 15, the others 0 to 200.
+    AddStartRect {
+        ally_no: u8,
+        left: u8,
+        top: u8,
+        right: u8,
+        bottom: u8,
+    },
+    /// `REMOVESTARTRECT allyNo`: `ally_no` is 0 to 15.
+    RemoveStartRect {
+        ally_no: u8,
+    },
+    /// `SETSCRIPTTAGS {key=value} ..`: at least one pair.
+    SetScriptTags {
+        pairs: PairList,
+    },
+    /// `REMOVESCRIPTTAGS key ..`: at least one key.
+    RemoveScriptTags {
+        keys: WordList,
+    },
+    /// `HANDICAP user value`: `value` is 0 to 100.
+    Handicap {
+        user: NameBuf,
+        value: u8,
+    },
+    /// `FORCETEAMNO user number`: `number` is 0 to 15.
+    ForceTeamNo {
+        user: NameBuf,
+        number: u8,
+    },
+    /// `FORCEALLYNO user number`: `number` is 0 to 15.
+    ForceAllyNo {
+        user: NameBuf,
+        number: u8,
+    },
+    /// `FORCETEAMCOLOR user teamColor`: `team_color` from -2147483648 to 4294967295.
+    ForceTeamColor {
+        user: NameBuf,
+        team_color: i64,
+    },
+    /// `FORCESPECTATORMODE user`
+    ForceSpectatorMode {
+        user: NameBuf,
+    },
+    /// `KICKFROMBATTLE user`
+    KickFromBattle {
+        user: NameBuf,
+    },
+    /// `RING user`
+    Ring {
+        user: NameBuf,
+    },
+}
+
+impl Command {
+    /// Lets the command go. A caller that is proved is checked far faster over this call than over a drop of its own.
+    pub fn discard(self) {}
+}
+
+/// A command with the message id of its line.
+#[derive(Debug, Drop)]
+pub struct Request {
+    /// The message id: 0 to 2147483647. None where the line has none.
+    pub id: Option<u32>,
+    pub command: Command,
+}
+
+impl Request {
+    /// Lets the request go, as `Command::discard` does.
+    pub fn discard(self) {
+        let Request { id: _, command } = self;
+        command.discard();
+    }
+}

@@ -1,0 +1,115 @@
+//! Reading a line.
+
+ghost use Rattle.std.specs.Prelude.{◌≡◌, Ok, Err, IfOk, OnErr, IsTrue};
+ghost use Rattle.command_grammar.specs.declared.command.Request.{Request};
+ghost use Rattle.command_grammar.specs.Owning.{owns_bytes};
+ghost use Rattle.command_grammar.specs.Reading.{Gives, without_spaces, arguments_at, text_of, id_of, with_id, numbered, needs_memory, command_of, request_of};
+ghost use Rattle.command_grammar.specs.Reads.{Reads};
+
+use crate::command::{Command, ReadFault, Request};
+use crate::command_word::{CommandWord, command_named};
+use crate::fault::ReadError;
+use line_words::{Words, is_text, read_number, split_at_byte};
+use std::alloc::{AllocError, Global};
+
+/// The largest message id.
+const ID_LIMIT: i64 = 2147483647;
+
+/// What the line asks for: the one request that it reads as. `line` is a client's line without its end, whatever its bytes.
+/// Memory is taken for the bytes that a command owns and for nothing else; where it is refused, none is kept.
+pub fn read_request(alloc: Global, line: &[u8]) -> Result<Request, AllocError>
+    ensures reads { IfOk result (λ request. Reads line.now request) }
+    ensures only { IfOk result (λ request. (other : Request) → Reads line.now other → other ≡ request) }
+    ensures refused { OnErr result ((request : Request) → Reads line.now request → IsTrue (owns_bytes request.command)) }
+{
+    let (id, text) = read_id(without_spaces(line));
+    let command = read_text(alloc, text)?;
+    Ok(Request { id, command })
+}
+
+fn without_spaces(line: &[u8]) -> &[u8]
+    ensures { result.now ≡ without_spaces line.now }
+{
+    let mut words = Words::new(line);
+    words.skip_spaces();
+    words.rest()
+}
+
+// The id, if there is one, and the text behind it.
+#[tactic(auto, unfolding(crate::specs::Reading::numbered))]
+fn read_id(line: &[u8]) -> (Option<u32>, &[u8])
+    ensures { (result.0, result.1.now) ≡ numbered line.now }
+{
+    match line {
+        [] => (None, line),
+        [first, rest @ ..] => {
+            if *first != b'#' {
+                return (None, line);
+            }
+            let (digits, behind) = split_at_byte(rest, b' ');
+            with_id(line, id_of(digits), behind)
+        }
+    }
+}
+
+fn with_id<'a>(line: &'a [u8], id: Option<u32>, behind: &'a [u8]) -> (Option<u32>, &'a [u8])
+    ensures { (result.0, result.1.now) ≡ with_id line.entry.now id behind.entry.now }
+{
+    match id {
+        None => (None, line),
+        Some(id) => match behind {
+            [] => (None, line),
+            [_, ..] => (Some(id), without_spaces(behind)),
+        },
+    }
+}
+
+// The id that these digits are.
+fn id_of(digits: &[u8]) -> Option<u32>
+    ensures { result ≡ id_of digits.now }
+{
+    match digits {
+        [b'-', ..] => None,
+        _ => match read_number(digits, 0, ID_LIMIT) {
+            Some(id) => Some(id as u32),
+            None => None,
+        },
+    }
+}
+
+fn read_text(alloc: Global, text: &[u8]) -> Result<Command, AllocError>
+    ensures ok { IfOk result (λ c. c ≡ command_of (text_of text.now)) }
+    ensures err { OnErr result (IsTrue (needs_memory (text_of text.now))) }
+{
+    match read_command(alloc, text) {
+        Ok(command) => Ok(command),
+        Err(ReadError::Fault(fault)) => Ok(Command::Unread(fault)),
+        Err(ReadError::Memory(error)) => Err(error),
+    }
+}
+
+#[tactic(auto, unfolding(crate::specs::Reading::text_of))]
+fn read_command(alloc: Global, text: &[u8]) -> Result<Command, ReadError>
+    ensures { Gives result (text_of text.now) }
+{
+    if text.is_empty() {
+        return Ok(Command::Blank);
+    }
+    if !is_text(text) {
+        return Err(ReadError::Fault(ReadFault::BadByte));
+    }
+    let (word, rest) = split_at_byte(text, b' ');
+    match command_named(word) {
+        None => Err(ReadError::Fault(ReadFault::UnknownCommand)),
+        Some(word) => read_arguments(alloc, word, rest),
+    }
+}
+
+fn read_arguments(_alloc: Global, word: CommandWord, _rest: &[u8]) -> Result<Command, ReadError>
+    ensures { Gives result (arguments_at word _rest.now) }
+{
+    match word {
+        CommandWord::Ping => Ok(Command::Ping),
+        CommandWord::Exit => Ok(Command::Exit),
+    }
+}

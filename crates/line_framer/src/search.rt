@@ -1,0 +1,122 @@
+// Where lines end, and what of a piece is kept.
+ghost use Rattle.std.specs.Prelude.{◌≡◌, ℕ, ◌+◌, ◌-◌, ◌^◌, ◌<◌, ◌≤◌, List, ◌++◌, length, take, drop, vec_len, ◌⊎◌, false, if◌then◌else◌};
+ghost use Rattle.line_framer.specs.Frames as frames;
+ghost use Rattle.line_framer.specs.Buffered.{HasNoEnd, IsFirstEnd, IsLastEnd, IsCut};
+
+use memchr::{memchr, memrchr};
+
+const LF: u8 = b'\n';
+
+// The place of the first LF.
+pub(crate) fn first_end(bytes: &[u8]) -> Option<usize>
+    ensures { IsFirstEnd bytes.now result }
+{
+    memchr(LF, bytes)
+}
+
+// The place of the last LF.
+fn last_end(bytes: &[u8]) -> Option<usize>
+    ensures { IsLastEnd bytes.now result }
+{
+    memrchr(LF, bytes)
+}
+
+// A line without one CR at its end.
+pub(crate) fn without_cr(line: &[u8]) -> &[u8]
+    ensures { result.now ≡ frames.without_cr line.now }
+{
+    let Some((last, front)) = line.split_last() else {
+        return line;
+    };
+    if *last == b'\r' { front } else { line }
+}
+
+// Where the next line ends of `ahead` bytes with `kept` behind them. What is kept is searched only where no line ended
+// before and one does now.
+pub(crate) fn next_end(
+    next: Option<usize>,
+    ahead: usize,
+    kept: &[u8],
+    has_end: bool,
+) -> Option<usize>
+    requires ended { has_end ≡ false → HasNoEnd kept.now }
+    requires room { ahead + length kept.now < 2 ^ 64 }
+    ensures { (bytes : List ℕ) → length bytes ≡ ahead → IsFirstEnd bytes next → IsFirstEnd (bytes ++ kept.now) result }
+{
+    if next.is_some() || !has_end {
+        return next;
+    }
+    match first_end(kept) {
+        Some(end) => Some(ahead + end),
+        None => None,
+    }
+}
+
+// What is kept of an unfinished line and a piece behind it: how many bytes of the two are whole lines, and whether a
+// spoilt place stands behind those.
+#[derive(Clone, Copy)]
+pub(crate) struct Cut {
+    pub(crate) whole: usize,
+    pub(crate) spoilt: bool,
+}
+
+impl Cut {
+    // Of a piece behind an unfinished line of `before` bytes, what stands before the spoilt place and is a line's.
+    pub(crate) fn kept<'a>(&self, piece: &'a [u8], before: usize) -> &'a [u8]
+        requires { self.now.whole ≤ before + length piece.now }
+        ensures { result.now ≡ (if self.now.spoilt then take (self.now.whole - before) piece.now else piece.now) }
+    {
+        if self.spoilt {
+            &piece[..self.whole.saturating_sub(before)]
+        } else {
+            piece
+        }
+    }
+}
+
+// Cuts an unfinished line of `before` bytes with the piece behind it. A byte is searched once where the two fit the
+// limit together; behind a line's end in a longer piece the bytes up to the next end may be searched once more.
+pub(crate) fn cut_piece(piece: &[u8], before: usize, limit: usize) -> Cut
+    requires fits { before ≤ limit }
+    requires room { before + length piece.now < 2 ^ 64 }
+    ensures within { result.whole ≤ before + length piece.now }
+    ensures apart { (result.whole ≡ 0) ⊎ (before < result.whole) }
+    ensures parts { (rest : List ℕ) → length rest ≡ before → HasNoEnd rest → IsCut (rest ++ piece.now) limit result.whole result.spoilt }
+{
+    let total = before + piece.len();
+    let mut whole = 0;
+    while total - whole > limit {
+        let from = whole.max(before) - before;
+        match last_end(&piece[from..whole + limit + 1 - before]) {
+            Some(end) => whole = before + from + end + 1,
+            None => return Cut {
+                whole,
+                spoilt: true,
+            },
+        }
+    }
+    let from = whole.max(before) - before;
+    if let Some(end) = last_end(&piece[from..]) {
+        whole = before + from + end + 1;
+    }
+    Cut {
+        whole,
+        spoilt: false,
+    }
+}
+
+// Moves what stands from `start` on to the begin of the buffer, once no more than that was dropped: so a dropped byte
+// pays for at most one that is moved. Gives where it stands then.
+pub(crate) fn closed_up(buffer: &mut Vec<u8>, start: usize) -> usize
+    requires { start ≤ vec_len buffer.old }
+    ensures within { result ≤ vec_len buffer.new }
+    ensures same { drop result buffer.new.items ≡ drop start buffer.old.items }
+{
+    let ahead = buffer.len() - start;
+    if start < ahead {
+        return start;
+    }
+    buffer.copy_within(start.., 0);
+    buffer.truncate(ahead);
+    0
+}

@@ -1,0 +1,7 @@
+use Rattle.std.proofs.Common.{◌∙◌, ap}
+use Rattle.std.specs.Prelude.{is_some}
+use Rattle.lobby_machine.proofs.Seats.{plain-is_some}
+use Rattle.lobby_machine.proofs.maps.Maps.has_client.Goals as goal
+
+pub returns : goal.returns
+returns c = rw (← c.self.view_is) (c.contains_key.ensures ∙ plain-is_some c.args.client c.self.inside.clients.entries)

@@ -1,0 +1,165 @@
+//! The lobby and its events.
+
+ghost use Rattle.std.specs.Prelude.{◌≡◌, ℕ, ◌+◌, ◌-◌, ◌<◌, ◌≤◌, ◌↔◌, ◌++◌, length, take, drop, min, OnOk, OnErr, IfOk, true, false, is_some};
+ghost use Rattle.lobby_model.specs.declared.event.Event.TheVariants as event;
+ghost use Rattle.lobby_model.specs.Table.{at_number};
+ghost use Rattle.lobby_model.specs.State.{empty_lobby};
+ghost use Rattle.lobby_model.specs.Effect.{has_place};
+ghost use Rattle.lobby_model.specs.Next.{next};
+ghost use Rattle.lobby_machine.specs.Mail.{IsWakes};
+ghost use Rattle.lobby_machine.specs.Shown.{unread_of, is_finished};
+
+use crate::maps::{Drained, Maps, Place};
+use crate::post::Letter;
+use crate::wakes::Wakes;
+use command_grammar::{Command, Request};
+use lobby_model::Settings;
+use std::alloc::{AllocError, Global};
+use std::marker::Model;
+use thiserror::Error;
+
+/// Why a client was not let in.
+#[derive(Clone, Copy, PartialEq, Eq, Debug, Error)]
+pub enum OpenError {
+    /// There are 10,000 clients that are not yet disconnected.
+    #[error("the lobby is full")]
+    Full,
+    /// The last client number, 18446744073709551615, was given.
+    #[error("no client number is left")]
+    NoNumber,
+    /// Memory was refused.
+    #[error("no memory")]
+    Memory,
+}
+
+/// The lobby. Contracts see the plain lobby that it stands for.
+#[derive(Drop)]
+pub struct Lobby {
+    alloc: Global,
+    maps: Maps,
+    // what the event at hand sends, and which part of it is whose; kept from event to event
+    text: Vec<u8>,
+    letters: Vec<Letter>,
+}
+
+impl Model for Lobby {
+    ghost use Rattle.lobby_machine.specs.Shown.{Shown};
+
+    ghost Value = { Shown };
+
+    ghost view = { λ l. record { plain = l.maps } };
+}
+
+impl Lobby {
+    /// The lobby before its first event. Fails only where memory is refused.
+    pub fn new(alloc: Global, settings: Settings) -> Result<Lobby, AllocError>
+        ensures { IfOk result (λ lobby. lobby.plain ≡ empty_lobby settings) }
+    {
+        Ok(Lobby {
+            alloc,
+            maps: Maps::new(alloc, settings)?,
+            text: Vec::new(alloc),
+            letters: Vec::new(alloc),
+        })
+    }
+
+    /// A client connects from an IPv4 address, served by the worker `home`, 0 to 63. It gets the
+    /// next number and is greeted. A refusal changes nothing.
+    pub fn open(&mut self, ip: [u8; 4], home: u8) -> Result<u64, OpenError>
+        requires { home ≤ 63 }
+        ensures number { IfOk result (λ number. number ≡ self.old.plain.last_client + 1) }
+        ensures ok { OnOk result ((has_place self.old.plain ≡ true) × (self.new.plain ≡ next self.old.plain (event.Open ip home))) }
+        ensures full { (result ≡ Err OpenError.Full) ↔ (10000 ≤ length self.old.plain.clients) }
+        ensures no_number { result ≡ Err OpenError.NoNumber → self.old.plain.last_client ≡ 18446744073709551615 }
+        ensures no_place { has_place self.old.plain ≡ false → result ≡ Err OpenError.Memory → ⊥ }
+        ensures err { OnErr result (self.new ≡ self.old) }
+    {
+        match self.maps.place() {
+            Place::Full => Err(OpenError::Full),
+            Place::NoNumber => Err(OpenError::NoNumber),
+            Place::Free => self
+                .maps
+                .open(self.alloc, ip, home)
+                .map_err(|_| OpenError::Memory),
+        }
+    }
+
+    /// A client's line was read as this request. Gives the workers whose clients it touched. Fails
+    /// only where memory is refused, and then nothing changes.
+    pub fn say(&mut self, client: u64, request: &Request) -> Result<Wakes, AllocError>
+        ensures ok { OnOk result (self.new.plain ≡ next self.old.plain (event.Say client request.now)) }
+        ensures wakes { IfOk result (λ wakes. IsWakes self.old.plain (event.Say client request.now) wakes) }
+        ensures err { OnErr result (self.new ≡ self.old) }
+    {
+        if let Command::Exit = request.command {
+            self.maps.end(client);
+            return Ok(Wakes::none());
+        }
+        self.maps.write_answer(
+            self.alloc,
+            client,
+            request,
+            &mut self.text,
+            &mut self.letters,
+        )?;
+        self.maps.send(&self.text, &self.letters)
+    }
+
+    /// A client's connection is closed: it is removed. Gives the workers whose clients that touched.
+    pub fn shut(&mut self, client: u64) -> Result<Wakes, AllocError>
+        ensures ok { OnOk result (self.new.plain ≡ next self.old.plain (event.Shut client)) }
+        ensures wakes { IfOk result (λ wakes. IsWakes self.old.plain (event.Shut client) wakes) }
+        ensures err { OnErr result (self.new ≡ self.old) }
+    {
+        self.maps.shut(client);
+        Ok(Wakes::none())
+    }
+
+    /// Takes bytes that a client has not read into a slice, as many as fit, and tells whether
+    /// nothing will ever come of the client again. It takes no memory.
+    pub fn drain(&mut self, client: u64, into: &mut [u8]) -> Drained
+        ensures count { result.count ≡ min (length (unread_of self.old.plain client)) (length into.old) }
+        ensures given { into.new ≡ take result.count (unread_of self.old.plain client) ++ drop result.count into.old }
+        ensures finished { result.finished ≡ is_finished self.new.plain client }
+        ensures next { self.new.plain ≡ next self.old.plain (event.Drain client (length into.old)) }
+    {
+        self.maps.drain(client, into)
+    }
+
+    /// Whether an open would get a number.
+    pub fn has_place(&self) -> bool
+        ensures { result ≡ has_place self.now.plain }
+    {
+        self.maps.place() == Place::Free
+    }
+
+    /// The last client number given, 0 before the first.
+    pub fn last_client(&self) -> u64
+        ensures { result ≡ self.now.plain.last_client }
+    {
+        self.maps.last_client()
+    }
+
+    /// Whether a client is there: opened and not yet removed.
+    pub fn has_client(&self, client: u64) -> bool
+        ensures { result ≡ is_some (at_number self.now.plain.clients client) }
+    {
+        self.maps.has_client(client)
+    }
+
+    /// How many bytes a client has not read.
+    pub fn unread(&self, client: u64) -> usize
+        ensures { result ≡ length (unread_of self.now.plain client) }
+    {
+        self.maps.unread(client)
+    }
+
+    /// Copies bytes that a client has not read into a slice, beginning `from` bytes behind the
+    /// first, as many as there are and fit, and says how many.
+    pub fn copy_unread(&self, client: u64, from: usize, into: &mut [u8]) -> usize
+        ensures count { result ≡ min (length (unread_of self.now.plain client) - from) (length into.old) }
+        ensures given { into.new ≡ take result (drop from (unread_of self.now.plain client)) ++ drop result into.old }
+    {
+        self.maps.copy_unread(client, from, into)
+    }
+}

@@ -1,0 +1,203 @@
+-- For a client that is neither cut nor removed, what its drains took and what it has not read are all that was put to it.
+use Rattle.std.proofs.Common.{◌≡◌, ℕ, ◌+◌, ◌<◌, ◌≤◌, List, [], ◌∷◌, ◌++◌, take, drop, refl, sym, ap, subst, ◌∙◌, true, false, cond, T, arith, append_assoc, append-nil}
+use Rattle.std.specs.Prelude.{Option, Some, None, if◌then◌else◌, not, ◌&&◌, is_some, ◌⊎◌}
+use Rattle.std.proofs.Common.{inl, inr}
+use Rattle.std.specs.Option.{option_map}
+use Rattle.std.specs.Ordering.{nat_cmp, is_eq}
+use Rattle.std.specs.Cmp.{nat_cmp_total}
+use Rattle.std.specs.FinMap.Entries.{find-put, find-where_key}
+use Rattle.std.proofs.lemmas.List.{take-append-drop}
+use Rattle.command_grammar.specs.declared.command.Request.{Request}
+use Rattle.command_grammar.specs.declared.command.Command.{Command}
+use Rattle.command_grammar.specs.declared.command.Command.TheVariants as command
+use Rattle.lobby_model.specs.declared.event.Event.{Event}
+use Rattle.lobby_model.specs.declared.event.Event.TheVariants as event
+use Rattle.lobby_model.specs.declared.event.Phase.TheVariants.{Ended}
+use Rattle.lobby_model.specs.Table.{ByNumber, at_number, put_number, without_number, same_number}
+use Rattle.lobby_model.specs.Configuration.{Configuration}
+use Rattle.lobby_model.specs.State.{State, Client, is_live, hears, empty_lobby, set_phase, set_phase_of, in_phase}
+use Rattle.lobby_model.specs.Refusal.{refusal}
+use Rattle.lobby_model.specs.Effect.{effect, has_place, greeted, opened, obeyed, drained, drained_at}
+use Rattle.lobby_model.specs.Next.{next, batch, with_batch, has_room_for, put_to, put_by, taken_from, taken_by}
+use Rattle.lobby_model.specs.History.{after, put_in, taken_in}
+use Rattle.lobby_model.proofs.Delivered.{same_number_is, find-values}
+use Rattle.lobby_model.proofs.Splits.{same_either_way}
+
+-- so many bytes were taken and put for client c up to the state s
+pub record Balanced (s : State) (c : ℕ) (taken put : List ℕ) : Type 0 where
+  pub known : (x : Client) → at_number s.clients c ≡ Some x → c ≤ s.last_client
+  pub there : (x : Client) → at_number s.clients c ≡ Some x → x.cut ≡ false → taken ++ x.unread ≡ put
+  pub fresh : s.last_client < c → (taken ≡ []) × (put ≡ [])
+
+-- the same between an event's effect and its delivery: m are its clients, last its last number, now what it takes
+record Halfway (m : ByNumber Client) (last before c : ℕ) (taken put now : List ℕ) : Type 0 where
+  pub rises : before ≤ last
+  pub known : (x : Client) → at_number m c ≡ Some x → c ≤ last
+  pub there : (x : Client) → at_number m c ≡ Some x → x.cut ≡ false → (taken ++ now) ++ x.unread ≡ put
+  pub fresh : last < c → now ≡ []
+
+module _ (s : State) (c : ℕ) (taken put : List ℕ) (b : Balanced s c taken put) where
+  same_there : (x : Client) → at_number s.clients c ≡ Some x → x.cut ≡ false → (taken ++ []) ++ x.unread ≡ put
+  same_there x f k = ap (λ t. t ++ x.unread) (append-nil taken) ∙ b.there x f k
+
+  unchanged : Halfway s.clients s.last_client s.last_client c taken put []
+  unchanged = record { rises = omega arith; known = b.known; there = same_there; fresh = λ _. refl }
+
+  -- a client written at d
+  written : (d : ℕ) (w : Client) (now : List ℕ)
+      → (same_number c d ≡ true → (w.cut ≡ false → (taken ++ now) ++ w.unread ≡ put) × (c ≤ s.last_client))
+      → (same_number c d ≡ false → now ≡ [])
+      → (s.last_client < c → now ≡ [])
+      → Halfway (put_number s.clients d w) s.last_client s.last_client c taken put now
+  written d w now here other new =
+      let at : at_number (put_number s.clients d w) c ≡ cond (same_number c d) (Some w) (at_number s.clients c) = find-put nat_cmp nat_cmp_total c d w s.clients in
+      record {
+        rises = omega arith;
+        known = λ x f.
+            elim (same_number c d) as (λ t. same_number c d ≡ t → cond t (Some w) (at_number s.clients c) ≡ Some x → c ≤ s.last_client) [
+              | true ↦ λ t g. (here t).1
+              | false ↦ λ t g. b.known x g
+            ] refl (sym at ∙ f);
+        there = λ x f k.
+            elim (same_number c d) as (λ t. same_number c d ≡ t → cond t (Some w) (at_number s.clients c) ≡ Some x → (taken ++ now) ++ x.unread ≡ put) [
+              | true ↦ λ t g. let is : w ≡ x = cc in subst (λ (y : Client). y.cut ≡ false → (taken ++ now) ++ y.unread ≡ put) is (here t).0 k
+              | false ↦ λ t g. ap (λ n. (taken ++ n) ++ x.unread) (other t) ∙ same_there x g k
+            ] refl (sym at ∙ f);
+        fresh = new;
+      }
+
+  exit : (d : ℕ) → Halfway (set_phase s.clients d Ended) s.last_client s.last_client c taken put []
+  exit d =
+      elim (at_number s.clients d) as (λ o. at_number s.clients d ≡ o → Halfway (set_phase_of s.clients d Ended o) s.last_client s.last_client c taken put []) [
+        | None ↦ λ e. unchanged
+        | Some x ↦ λ e. written d (in_phase Ended x) [] (λ t.
+            let found : at_number s.clients c ≡ Some x = ap (at_number s.clients) (same_number_is c d t) ∙ e in
+            (same_there x found, b.known x found)) (λ _. refl) (λ _. refl)
+      ] refl
+
+  obeyed_either : (d : ℕ) (command : Command) → (obeyed s d command ≡ s) ⊎ (obeyed s d command ≡ record s { clients = set_phase s.clients d Ended })
+  obeyed_either d command.Exit = inr refl
+  obeyed_either d command = inl refl
+
+  at_state : (t : State) → t ≡ s → Halfway t.clients t.last_client s.last_client c taken put []
+  at_state t e = subst (λ (t : State). Halfway t.clients t.last_client s.last_client c taken put []) (sym e) unchanged
+
+  said : (d : ℕ) (request : Request) → Halfway (effect s (event.Say d request)).clients (effect s (event.Say d request)).last_client s.last_client c taken put []
+  said d request =
+      elim (hears s d && not (is_some (refusal request.command))) as (λ t. Halfway (if t then obeyed s d request.command else s).clients (if t then obeyed s d request.command else s).last_client s.last_client c taken put []) [
+        | true ↦ elim (obeyed_either d request.command) [
+          | inl e ↦ at_state _ e
+          | inr e ↦ subst (λ (t : State). Halfway t.clients t.last_client s.last_client c taken put []) (sym e) (exit d)
+        ]
+        | false ↦ unchanged
+      ]
+
+  removed : (d : ℕ) → Halfway (without_number s.clients d) s.last_client s.last_client c taken put []
+  removed d =
+      let at : at_number (without_number s.clients d) c ≡ cond (not (same_number d c)) (at_number s.clients c) None =
+      find-where_key nat_cmp (λ k. not (same_number d k)) c (λ k tied. ap (λ k. not (same_number d k)) (sym (same_number_is c k (ap is_eq tied)))) s.clients in
+      let kept : (x : Client) → at_number (without_number s.clients d) c ≡ Some x → at_number s.clients c ≡ Some x = λ x f.
+      elim (not (same_number d c)) as (λ t. cond t (at_number s.clients c) None ≡ Some x → at_number s.clients c ≡ Some x) [ true ↦ λ g. g | false ↦ λ g. absurd (cc) ] (sym at ∙ f) in
+      record { rises = omega arith; known = λ x f. b.known x (kept x f); there = λ x f. same_there x (kept x f); fresh = λ _. refl }
+
+  opens : (ip : List ℕ) (home : ℕ) → Halfway (opened s ip home).clients (opened s ip home).last_client s.last_client c taken put []
+  opens ip home =
+      let at : at_number (put_number s.clients (s.last_client + 1) (greeted ip home)) c ≡ cond (same_number c (s.last_client + 1)) (Some (greeted ip home)) (at_number s.clients c) = find-put nat_cmp nat_cmp_total c (s.last_client + 1) (greeted ip home) s.clients in
+      record {
+        rises = omega arith;
+        known = λ x f.
+            elim (same_number c (s.last_client + 1)) as (λ t. same_number c (s.last_client + 1) ≡ t → cond t (Some (greeted ip home)) (at_number s.clients c) ≡ Some x → c ≤ s.last_client + 1) [
+              | true ↦ λ t g. omega (arith, same_number_is c (s.last_client + 1) t)
+              | false ↦ λ t g. omega (arith, b.known x g)
+            ] refl (sym at ∙ f);
+        there = λ x f k.
+            elim (same_number c (s.last_client + 1)) as (λ t. same_number c (s.last_client + 1) ≡ t → cond t (Some (greeted ip home)) (at_number s.clients c) ≡ Some x → (taken ++ []) ++ x.unread ≡ put) [
+              | true ↦ λ t g.
+                  let none = b.fresh (omega (arith, same_number_is c (s.last_client + 1) t)) in
+                  let is : greeted ip home ≡ x = cc in
+                  subst (λ (y : Client). (taken ++ []) ++ y.unread ≡ put) is (append-nil (taken ++ []) ∙ append-nil taken ∙ none.0 ∙ sym none.1)
+              | false ↦ λ t g. same_there x g k
+            ] refl (sym at ∙ f);
+        fresh = λ _. refl;
+      }
+
+  takes : (d n : ℕ) → Halfway (drained_at s.clients d n (at_number s.clients d)) s.last_client s.last_client c taken put (if same_number d c then taken_from n (at_number s.clients d) else [])
+  takes d n =
+      elim (at_number s.clients d) as (λ o. at_number s.clients d ≡ o → Halfway (drained_at s.clients d n o) s.last_client s.last_client c taken put (if same_number d c then taken_from n o else [])) [
+        | None ↦ λ e. subst (λ now. Halfway s.clients s.last_client s.last_client c taken put now)
+            (elim (same_number d c) as (λ t. ◌≡◌ {A = List ℕ} [] (if t then [] else [])) [ true ↦ refl | false ↦ refl ]) unchanged
+        | Some x ↦ λ e.
+            let found : same_number c d ≡ true → at_number s.clients c ≡ Some x = λ t. ap (at_number s.clients) (same_number_is c d t) ∙ e in
+            written d (drained n x) _
+            (λ t. (
+              λ k. ap (λ b. (taken ++ (if b then take n x.unread else [])) ++ drop n x.unread) (same_either_way d c ∙ t)
+                  ∙ append_assoc taken (take n x.unread) (drop n x.unread) ∙ ap (λ u. taken ++ u) (take-append-drop n x.unread) ∙ b.there x (found t) k,
+              b.known x (found t),
+            ))
+            (λ t. ap (λ b. if b then take n x.unread else []) (same_either_way d c ∙ t))
+            (λ new. elim (same_number d c) as (λ t. same_number d c ≡ t → (if t then take n x.unread else []) ≡ []) [
+              | true ↦ λ t. absurd (omega (arith, new, b.known x (found (same_either_way c d ∙ t))))
+              | false ↦ λ t. refl
+            ] refl)
+      ] refl
+
+  halfway : (e : Event) → Halfway (effect s e).clients (effect s e).last_client s.last_client c taken put (taken_by s e c)
+  halfway (event.Open ip home) =
+      elim (has_place s) as (λ t. Halfway (if t then opened s ip home else s).clients (if t then opened s ip home else s).last_client s.last_client c taken put []) [ true ↦ opens ip home | false ↦ unchanged ]
+  halfway (event.Say d request) = said d request
+  halfway (event.Shut d) = removed d
+  halfway (event.Drain d n) = takes d n
+
+-- what a batch makes of a client that it does not cut
+kept : (limit : ℕ) (bytes : List ℕ) (x : Client) → (with_batch limit bytes x).cut ≡ false → (x.cut ≡ false) × ((with_batch limit bytes x).unread ≡ x.unread ++ put_to limit bytes (Some x))
+kept limit bytes x =
+    elim (is_live x) as (λ l. is_live x ≡ l → (if l then (if has_room_for limit x bytes then record x { unread = x.unread ++ bytes } else record x { cut = true; unread = [] }) else x).cut ≡ false
+    → (x.cut ≡ false) × ((if l then (if has_room_for limit x bytes then record x { unread = x.unread ++ bytes } else record x { cut = true; unread = [] }) else x).unread ≡ x.unread ++ (if l && has_room_for limit x bytes then bytes else []))) [
+      | true ↦ λ e. elim (has_room_for limit x bytes) as (λ r. (if r then record x { unread = x.unread ++ bytes } else record x { cut = true; unread = [] }).cut ≡ false
+          → (x.cut ≡ false) × ((if r then record x { unread = x.unread ++ bytes } else record x { cut = true; unread = [] }).unread ≡ x.unread ++ (if r then bytes else []))) [
+            | true ↦ λ k. (k, refl)
+            | false ↦ λ k. absurd (subst T k tt)
+          ]
+      | false ↦ λ e k. (k, sym (append-nil x.unread))
+    ] refl
+
+some_of : {A B : Type 0} (f : A → B) (o : Option A) (y : B) → option_map f o ≡ Some y → (x : A) × (o ≡ Some x) × (f x ≡ y)
+some_of f None y e = absurd (cc)
+some_of f (Some x) y e = (x, refl, cc)
+
+pub balanced_next : (s : State) (e : Event) (c : ℕ) (taken put : List ℕ) → Balanced s c taken put → Balanced (next s e) c (taken ++ taken_by s e c) (put ++ put_by s e c)
+balanced_next s e c taken put b =
+    let h = halfway s c taken put b e in
+    let put_one : ℕ → Client → Client = λ d client. with_batch s.settings.outbox_limit (batch s e d) client in
+    let at : at_number (next s e).clients c ≡ option_map (put_one c) (at_number (effect s e).clients c) = find-values put_one c (effect s e).clients in
+    record {
+      known = λ x f. let from = some_of (put_one c) (at_number (effect s e).clients c) x (sym at ∙ f) in h.known from.0 from.1;
+      there = λ x f k.
+          let from = some_of (put_one c) (at_number (effect s e).clients c) x (sym at ∙ f) in
+          let one = kept s.settings.outbox_limit (batch s e c) from.0 (subst (λ (y : Client). y.cut ≡ false) (sym from.2) k) in
+          ap (λ (y : Client). (taken ++ taken_by s e c) ++ y.unread) (sym from.2)
+          ∙ ap (λ u. (taken ++ taken_by s e c) ++ u) one.1
+          ∙ sym (append_assoc (taken ++ taken_by s e c) from.0.unread _)
+          ∙ ap (λ t. t ++ put_to s.settings.outbox_limit (batch s e c) (Some from.0)) (h.there from.0 from.1 one.0)
+          ∙ ap (λ o. put ++ put_to s.settings.outbox_limit (batch s e c) o) (sym from.1);
+      fresh = λ new.
+          let was = b.fresh (omega (arith, h.rises, new)) in
+          let nobody : at_number (effect s e).clients c ≡ None =
+          elim (at_number (effect s e).clients c) as (λ o. at_number (effect s e).clients c ≡ o → o ≡ None) [ None ↦ λ e. refl | Some x ↦ λ f. absurd (omega (arith, h.known x f, new)) ] refl in
+          ((λ i. was.0 i ++ h.fresh new i), ap (λ o. put ++ put_to s.settings.outbox_limit (batch s e c) o) nobody ∙ append-nil put ∙ was.1);
+    }
+
+pub balanced_after : (s : State) (history : List Event) (c : ℕ) (taken put : List ℕ) → Balanced s c taken put → Balanced (after s history) c (taken ++ taken_in s history c) (put ++ put_in s history c)
+balanced_after s [] c taken put b = subst (λ t. Balanced s c t (put ++ [])) (sym (append-nil taken)) (subst (λ p. Balanced s c taken p) (sym (append-nil put)) b)
+balanced_after s (e ∷ history) c taken put b =
+    subst (λ t. Balanced (after (next s e) history) c t (put ++ (put_by s e c ++ put_in (next s e) history c))) (append_assoc taken _ _)
+    (subst (λ p. Balanced (after (next s e) history) c ((taken ++ taken_by s e c) ++ taken_in (next s e) history c) p) (append_assoc put _ _)
+    (balanced_after (next s e) history c (taken ++ taken_by s e c) (put ++ put_by s e c) (balanced_next s e c taken put b)))
+
+at_start : (settings : Configuration) (c : ℕ) → Balanced (empty_lobby settings) c [] []
+at_start settings c = record { known = λ x f. absurd (cc); there = λ x f. absurd (cc); fresh = λ _. (refl, refl) }
+
+-- from the empty lobby on
+pub taken_then_unread : (settings : Configuration) (history : List Event) (c : ℕ) (x : Client) → at_number (after (empty_lobby settings) history).clients c ≡ Some x → x.cut ≡ false
+    → taken_in (empty_lobby settings) history c ++ x.unread ≡ put_in (empty_lobby settings) history c
+taken_then_unread settings history c = (balanced_after (empty_lobby settings) history c [] [] (at_start settings c)).there

@@ -1,0 +1,117 @@
+-- Events that send to nobody, or to one client that is new.
+use Rattle.std.proofs.Common.{◌≡◌, ℕ, ◌+◌, List, [], ◌∷◌, ◌++◌, refl, sym, ap, subst, ◌∙◌, Bool, true, false, cond, not, T, append-nil}
+use Rattle.std.specs.Prelude.{Option, Some, None, ◌&&◌, ◌||◌, if◌then◌else◌, is_some}
+use Rattle.std.specs.Ordering.{nat_cmp}
+use Rattle.std.specs.Cmp.{nat_cmp_total}
+use Rattle.std.specs.List.{list_any}
+use Rattle.std.specs.FinMap.Entries.{is_sorted, find-put, is_sorted-put}
+use Rattle.reply_grammar.specs.Replies.{print, print_all}
+use Rattle.command_grammar.specs.declared.command.Request.{Request}
+use Rattle.command_grammar.specs.declared.command.Command.{Command}
+use Rattle.command_grammar.specs.declared.command.Command.TheVariants as command
+use Rattle.lobby_model.specs.declared.event.Event.{Event}
+use Rattle.lobby_model.specs.declared.event.Event.TheVariants as event
+use Rattle.lobby_model.specs.declared.event.Phase.TheVariants.{Ended}
+use Rattle.lobby_model.specs.Table.{ByNumber, at_number, put_number, without_number, map_values, same_number}
+use Rattle.lobby_model.specs.State.{State, Client, is_live, hears, set_phase}
+use Rattle.lobby_model.specs.Effect.{effect, has_place, greeted, opened, obeyed, drained_at}
+use Rattle.lobby_model.specs.Refusal.{refusal}
+use Rattle.lobby_model.specs.Sent.{sent, greeting}
+use Rattle.lobby_model.specs.Next.{next, batch, delivered, with_batch, has_room_for, is_empty, put_to}
+use Rattle.lobby_model.specs.Touched.{is_touched, touches}
+use Rattle.lobby_model.proofs.Delivered.{with_batch_nil, map_values_none, map_values_one, put_put, same_itself}
+
+pub quiet : (s : State) (e : Event) (t : State) → ((d : ℕ) → batch s e d ≡ []) → delivered s e t ≡ t
+quiet s e t none = ap (λ m. record t { clients = m }) (map_values_none _ t.clients (λ d x. ap (λ b. with_batch s.settings.outbox_limit b x) (none d) ∙ with_batch_nil s.settings.outbox_limit x))
+
+pub next_drain : (s : State) (c n : ℕ) → next s (event.Drain c n) ≡ record s { clients = drained_at s.clients c n (at_number s.clients c) }
+next_drain s c n = quiet s (event.Drain c n) _ (λ d. refl)
+
+pub next_shut : (s : State) (c : ℕ) → next s (event.Shut c) ≡ record s { clients = without_number s.clients c }
+next_shut s c = quiet s (event.Shut c) _ (λ d. refl)
+
+nothing_said : (b : Bool) → print_all (if b then [] else []) ≡ []
+nothing_said true = refl
+nothing_said false = refl
+
+pub exit_sends : (s : State) (c : ℕ) (id : Option ℕ) (d : ℕ) → batch s (event.Say c (record { id = id; command = command.Exit })) d ≡ []
+exit_sends s c id d = nothing_said (hears s c && same_number d c)
+
+and_true : (b : Bool) → (b && true) ≡ b
+and_true true = refl
+and_true false = refl
+
+pub next_exit : (s : State) (c : ℕ) (id : Option ℕ) → next s (event.Say c (record { id = id; command = command.Exit })) ≡ record s { clients = if hears s c then set_phase s.clients c Ended else s.clients }
+next_exit s c id =
+    quiet s (event.Say c (record { id = id; command = command.Exit })) _ (exit_sends s c id)
+    ∙ ap (λ b. if b then record s { clients = set_phase s.clients c Ended } else s) (and_true (hears s c))
+    ∙ elim (hears s c) as (λ b. (if b then record s { clients = set_phase s.clients c Ended } else s) ≡ record s { clients = if b then set_phase s.clients c Ended else s.clients }) [ true ↦ refl | false ↦ refl ]
+
+-- a new client gets its greeting, and nobody else anything
+module _ (s : State) (ip : List ℕ) (home : ℕ) (place : has_place s ≡ true) where
+  greeted_at : (d : ℕ) (b : Bool) → same_number d (s.last_client + 1) ≡ b → batch s (event.Open ip home) d ≡ (if b then print (None, greeting s.settings) else [])
+  greeted_at d b e =
+      ap (λ p. print_all (if p && same_number d (s.last_client + 1) then (None, greeting s.settings) ∷ [] else [])) place
+      ∙ ap (λ q. print_all (if q then (None, greeting s.settings) ∷ [] else [])) e
+      ∙ elim b as (λ b. print_all (if b then (None, greeting s.settings) ∷ [] else []) ≡ (if b then print (None, greeting s.settings) else [])) [ true ↦ append-nil (print (None, greeting s.settings)) | false ↦ refl ]
+
+  pub next_open : T (is_sorted nat_cmp s.clients)
+      → next s (event.Open ip home) ≡ record s { last_client = s.last_client + 1; clients = put_number s.clients (s.last_client + 1) (with_batch s.settings.outbox_limit (print (None, greeting s.settings)) (greeted ip home)) }
+  next_open sorted =
+      let limit = s.settings.outbox_limit in
+      let m : ByNumber Client = put_number s.clients (s.last_client + 1) (greeted ip home) in
+      ap (λ b. delivered s (event.Open ip home) (if b then opened s ip home else s)) place
+      ∙ ap (λ (clients : ByNumber Client). record s { last_client = s.last_client + 1; clients = clients }) (
+      map_values_one (λ d x. with_batch limit (batch s (event.Open ip home) d) x) m (s.last_client + 1) (greeted ip home)
+      (is_sorted-put nat_cmp nat_cmp_total (s.last_client + 1) (greeted ip home) s.clients sorted)
+      (find-put nat_cmp nat_cmp_total (s.last_client + 1) (s.last_client + 1) (greeted ip home) s.clients ∙ ap (λ b. cond b (Some (greeted ip home)) (at_number s.clients (s.last_client + 1))) (same_itself (s.last_client + 1)))
+      (λ d x e. ap (λ b. with_batch limit b x) (greeted_at d false e) ∙ with_batch_nil limit x)
+      ∙ put_put (s.last_client + 1) (greeted ip home) _ s.clients sorted
+      ∙ ap (λ b. put_number s.clients (s.last_client + 1) (with_batch limit b (greeted ip home))) (greeted_at (s.last_client + 1) true (same_itself (s.last_client + 1))))
+
+-- a client is touched where it hears and gets something
+not_both : (b : Bool) → (not b && b) ≡ false
+not_both true = refl
+not_both false = refl
+
+pub touched_is : (limit : ℕ) (bytes : List ℕ) (x : Client) → is_touched limit bytes x ≡ (is_live x && not (is_empty bytes))
+touched_is limit bytes x =
+    elim (is_live x) as (λ l. is_live x ≡ l → (not (is_empty (if l && has_room_for limit x bytes then bytes else []))
+    || (not x.cut && (if l then (if has_room_for limit x bytes then record x { unread = x.unread ++ bytes } else record x { cut = true; unread = [] }) else x).cut)) ≡ (l && not (is_empty bytes))) [
+      | true ↦ λ live. elim (has_room_for limit x bytes) as (λ r. has_room_for limit x bytes ≡ r → (not (is_empty (if r then bytes else []))
+          || (not x.cut && (if r then record x { unread = x.unread ++ bytes } else record x { cut = true; unread = [] }).cut)) ≡ not (is_empty bytes)) [
+            | true ↦ λ room. ap (λ b. not (is_empty bytes) || b) (not_both x.cut) ∙ elim (is_empty bytes) as (λ b. (not b || false) ≡ not b) [ true ↦ refl | false ↦ refl ]
+            | false ↦ λ room. and_true (not x.cut) ∙ first _ _ live ∙ sym (ap not (empty_has_room bytes room))
+          ] refl
+      | false ↦ λ live. not_both x.cut
+    ] refl
+  where
+    first : (a b : Bool) → (a && b) ≡ true → a ≡ true
+    first true b e = refl
+    first false b e = e
+
+    empty_has_room : (bytes : List ℕ) → has_room_for limit x bytes ≡ false → is_empty bytes ≡ false
+    empty_has_room [] e = absurd (subst T e tt)
+    empty_has_room (b ∷ bytes) e = refl
+
+pub quiet_touches : (s : State) (e : Event) (home : ℕ) → ((d : ℕ) → batch s e d ≡ []) → touches s e home ≡ false
+quiet_touches s e home none = nobody (effect s e).clients
+  where
+    untouched : (b : Bool) (x : Client) → (b && is_touched s.settings.outbox_limit [] x) ≡ false
+    untouched b x = ap (λ t. b && t) (touched_is s.settings.outbox_limit [] x) ∙ elim b as (λ b. (b && (is_live x && false)) ≡ false) [ true ↦ elim (is_live x) as (λ l. (l && false) ≡ false) [ true ↦ refl | false ↦ refl ] | false ↦ refl ]
+
+    nobody : (m : ByNumber Client) → list_any (λ entry. same_number entry.1.home home && is_touched s.settings.outbox_limit (batch s e entry.0) entry.1) m ≡ false
+    nobody [] = refl
+    nobody (x ∷ m) = (λ i. (same_number x.1.home home && is_touched s.settings.outbox_limit (none x.0 i) x.1) || list_any (λ entry. same_number entry.1.home home && is_touched s.settings.outbox_limit (batch s e entry.0) entry.1) m)
+        ∙ ap (λ b. b || list_any (λ entry. same_number entry.1.home home && is_touched s.settings.outbox_limit (batch s e entry.0) entry.1) m) (untouched (same_number x.1.home home) x.1)
+        ∙ nobody m
+
+-- every command but EXIT leaves the maps as they were
+obeyed_same : (s : State) (c : ℕ) (asked : Command) → (asked ≡ command.Exit → ⊥) → obeyed s c asked ≡ s
+obeyed_same s c command.Exit h = absurd (h refl)
+obeyed_same s c asked h = refl
+
+pub effect_same : (s : State) (c : ℕ) (request : Request) → (request.command ≡ command.Exit → ⊥) → effect s (event.Say c request) ≡ s
+effect_same s c request h =
+    ap (λ t. if hears s c && not (is_some (refusal request.command)) then t else s) (obeyed_same s c request.command h)
+    ∙ elim (hears s c && not (is_some (refusal request.command))) as (λ b. (if b then s else s) ≡ s) [ true ↦ refl | false ↦ refl ]
