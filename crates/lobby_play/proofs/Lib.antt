@@ -2,3 +2,7 @@ mod Parts
 mod Numbers
 mod EscapeLemmas
 mod ActionLemmas
+mod Opened
+
+mod Takings
+mod Shown

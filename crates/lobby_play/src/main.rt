@@ -4,6 +4,10 @@
 
 mod action;
 mod escapes;
+mod fault;
+mod label;
+mod orders;
+mod show;
 mod words;
 
 fn main() {

@@ -1,0 +1,8 @@
+use Rattle.std.proofs.Common.{◌≡◌}
+use Rattle.lobby_play.proofs.Opened.{is_given}
+use Rattle.lobby_play.proofs.orders.connect.Goals as goal
+
+pub returns-clause-number : goal.returns-clause-number
+returns-clause-number c = λ settings events world stands.
+    rw (c.then_some.ensures, c.last_client-after.ensures, c.last_client-before.ensures)
+    (is_given c.args.hall.now c.step.new.self settings events world c.args.ip stands (c.in_ok-step.ensures.ok settings events world stands))

@@ -1,0 +1,17 @@
+-- Which fault is told.
+use Rattle.std.specs.Prelude.{ℕ}
+use Rattle.lobby_model.specs.declared.settings.SettingsError.{SettingsError}
+use Rattle.lobby_model.specs.declared.settings.SettingsError.TheVariants as settings
+use Rattle.lobby_play.specs.declared.fault.LineFault.{LineFault}
+use Rattle.lobby_play.specs.declared.fault.LineFault.TheVariants as line
+use Rattle.lobby_play.specs.declared.fault.PlayFault.{PlayFault}
+use Rattle.lobby_play.specs.declared.fault.PlayFault.TheVariants as script
+
+abbrev pub fault_at : LineFault → ℕ → PlayFault
+fault_at line.BadStep k = script.BadStep k
+fault_at line.Device k = script.Device
+fault_at line.Memory k = script.Memory
+
+abbrev pub refused_settings : SettingsError → LineFault
+refused_settings settings.OutOfBounds = line.BadStep
+refused_settings settings.Memory = line.Memory

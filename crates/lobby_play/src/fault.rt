@@ -1,0 +1,97 @@
+//! Why a line or a script cannot be played.
+
+ghost use Rattle.std.specs.Prelude.{◌≡◌};
+ghost use Rattle.lobby_play.specs.Faults.{fault_at};
+
+use lobby_hall::HallError;
+use lobby_model::SettingsError;
+use std::alloc::AllocError;
+use std::io;
+use thiserror::Error;
+
+/// Why a script was not played to its end.
+#[derive(Clone, Copy, PartialEq, Eq, Debug, Error)]
+pub enum PlayFault {
+    /// The line with this number, counted from 1, is none that a script may have there.
+    #[error("line {0}: bad step")]
+    BadStep(u64),
+    /// The script could not be read, or the output not be written.
+    #[error("device fault")]
+    Device,
+    /// The script has more than 1,048,576 bytes.
+    #[error("script too long")]
+    TooLong,
+    /// Memory was refused.
+    #[error("no memory")]
+    Memory,
+}
+
+/// Why a line cannot be played.
+#[derive(Clone, Copy, PartialEq, Eq, Debug)]
+pub enum LineFault {
+    BadStep,
+    Device,
+    Memory,
+}
+
+impl LineFault {
+    /// The script's fault, where this line had one.
+    pub fn at(self, line: u64) -> PlayFault
+        ensures { result ≡ fault_at self line }
+    {
+        match self {
+            LineFault::BadStep => PlayFault::BadStep(line),
+            LineFault::Device => PlayFault::Device,
+            LineFault::Memory => PlayFault::Memory,
+        }
+    }
+}
+
+impl From<AllocError> for LineFault {
+    ghost use Rattle.std.specs.Prelude.{◌≡◌};
+    ghost use Rattle.lobby_play.specs.declared.fault.LineFault.TheVariants.{Memory};
+
+    ghost from_gives = { λ _ e. e ≡ Memory };
+
+    fn from(_: AllocError) -> LineFault {
+        LineFault::Memory
+    }
+}
+
+impl From<HallError> for LineFault {
+    ghost use Rattle.std.specs.Prelude.{◌≡◌};
+    ghost use Rattle.lobby_play.specs.declared.fault.LineFault.TheVariants.{Memory};
+
+    ghost from_gives = { λ _ e. e ≡ Memory };
+
+    fn from(error: HallError) -> LineFault {
+        match error {
+            HallError::Memory => LineFault::Memory,
+        }
+    }
+}
+
+impl From<SettingsError> for LineFault {
+    ghost use Rattle.std.specs.Prelude.{◌≡◌};
+    ghost use Rattle.lobby_play.specs.Faults.{refused_settings};
+
+    ghost from_gives = { λ error e. e ≡ refused_settings error };
+
+    fn from(error: SettingsError) -> LineFault {
+        match error {
+            SettingsError::OutOfBounds => LineFault::BadStep,
+            SettingsError::Memory => LineFault::Memory,
+        }
+    }
+}
+
+impl From<io::Error> for LineFault {
+    ghost use Rattle.std.specs.Prelude.{◌≡◌};
+    ghost use Rattle.lobby_play.specs.declared.fault.LineFault.TheVariants.{Device};
+
+    ghost from_gives = { λ _ e. e ≡ Device };
+
+    fn from(_: io::Error) -> LineFault {
+        LineFault::Device
+    }
+}
