@@ -6,3 +6,4 @@ mod Opened
 
 mod Takings
 mod Shown
+mod Performs

@@ -6,3 +6,4 @@ pub mod Scene
 pub mod Acts
 pub mod Halls
 pub mod Script
+pub mod Player

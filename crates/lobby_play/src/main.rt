@@ -7,6 +7,7 @@ mod escapes;
 mod fault;
 mod label;
 mod orders;
+mod player;
 mod show;
 mod words;
 

@@ -1,0 +1,137 @@
+//! Plays the lines of a script, one after another.
+
+ghost use Rattle.std.specs.Prelude.{◌≡◌, ◌↔◌, [], false, Err, IfOk, IsTrue};
+ghost use Rattle.lobby_model.specs.Configuration.{is_configuration};
+ghost use Rattle.lobby_model.specs.declared.settings.SettingsError.TheVariants as refused;
+ghost use Rattle.lobby_model.specs.Schedule.{new_world};
+ghost use Rattle.lobby_hall.specs.Standing.{Stands};
+ghost use Rattle.lobby_play.specs.Scene.{default_settings, with_limit};
+ghost use Rattle.lobby_play.specs.declared.fault.LineFault.TheVariants as fault;
+
+use crate::action::{Action, Order, read_action};
+use crate::fault::LineFault;
+use crate::label::Label;
+use crate::orders::{carry_out, connect};
+use crate::show::show;
+use lobby_hall::Hall;
+use lobby_model::settings::DEFAULT_OUTBOX_LIMIT;
+use lobby_model::{Settings, SettingsError};
+use std::alloc::Global;
+use std::collections::BTreeMap;
+use std::io::Write;
+
+/// A script so far: the clients that it opened, and the hall that they are in.
+#[derive(Drop)]
+pub struct Player {
+    alloc: Global,
+    outbox_limit: usize,
+    /// There is one from the first open on; until then the settings may change.
+    hall: Option<Hall>,
+    labels: BTreeMap<u32, Label>,
+}
+
+/// The default settings, with this limit of an outbox.
+fn settings(alloc: Global, outbox_limit: usize) -> Result<Settings, SettingsError>
+    ensures ok { IfOk result (λ settings. settings ≡ with_limit default_settings outbox_limit) }
+    ensures bounds { (result ≡ Err refused.OutOfBounds) ↔ (is_configuration (with_limit default_settings outbox_limit) ≡ false) }
+{
+    Settings::new(alloc, b"0.38", b"*", 8201, 0, &[], outbox_limit)
+}
+
+impl Player {
+    ghost use Rattle.std.specs.Prelude.{◌≡◌, List, ℕ, [], false, OnOk, Err, IsTrue};
+    ghost use Rattle.std.specs.Io.KnownBytes.{Appends, Keeps};
+    ghost use Rattle.lobby_play.specs.Scene.{Scene, default_settings, is_allowed, unopened};
+    ghost use Rattle.lobby_play.specs.Acts.{Acts};
+    ghost use Rattle.lobby_play.specs.Script.{IsBad, LinePlays};
+    ghost use Rattle.lobby_play.specs.Player.{IsAt, IsSomewhere, Performed};
+    ghost use Rattle.lobby_play.specs.declared.action.Action.TheVariants as action;
+    ghost use Rattle.lobby_play.specs.declared.fault.LineFault.TheVariants as fault;
+
+    /// Before the first line of a script.
+    pub fn new(alloc: Global) -> Player
+        ensures { IsAt result (unopened default_settings) }
+    {
+        Player {
+            alloc,
+            outbox_limit: DEFAULT_OUTBOX_LIMIT,
+            hall: None,
+            labels: BTreeMap::new(alloc),
+        }
+    }
+
+    /// Sets the limit of an outbox, before the first open.
+    fn limit(&mut self, bytes: u32) -> Result<(), LineFault>
+        ensures ok { OnOk result ((scene : Scene) → IsAt self.old scene → Performed self.new scene (action.Limit bytes) []) }
+        ensures bad { result ≡ Err fault.BadStep → (scene : Scene) → IsAt self.old scene → is_allowed scene (action.Limit bytes) ≡ false }
+    {
+        if self.hall.is_some() {
+            return Err(LineFault::BadStep);
+        }
+        let outbox_limit = bytes as usize;
+        let _ = settings(self.alloc, outbox_limit)?;
+        self.outbox_limit = outbox_limit;
+        Ok(())
+    }
+
+    /// Connects a client from this address, which gets the label. The first one opens the hall.
+    fn open(&mut self, label: u32, ip: [u8; 4]) -> Result<(), LineFault>
+        requires { IsSomewhere self.old }
+        ensures ok { OnOk result ((scene : Scene) → IsAt self.old scene → Performed self.new scene (action.Open label ip) []) }
+        ensures bad { result ≡ Err fault.BadStep → (scene : Scene) → IsAt self.old scene → is_allowed scene (action.Open label ip) ≡ false }
+    {
+        if self.labels.contains_key(&label) {
+            return Err(LineFault::BadStep);
+        }
+        let mut hall = match self.hall.take() {
+            Some(hall) => hall,
+            None => first_hall(self.alloc, self.outbox_limit)?,
+        };
+        let client = connect(&mut hall, ip)?;
+        self.labels.insert(label, Label { client, shown: 0 })?;
+        self.hall = Some(hall);
+        Ok(())
+    }
+
+    /// Does this for the client of the label.
+    fn order<W: Write>(
+        &mut self,
+        label: u32,
+        order: Order,
+        writer: &mut W,
+    ) -> Result<(), LineFault>
+        requires { IsSomewhere self.old }
+        ensures ok { OnOk result ((scene : Scene) → IsAt self.old scene
+            → (out : List ℕ) × Performed self.new scene (action.Client label order) out × Appends (W.contents writer.old) (W.contents writer.new) out) }
+        ensures bad { result ≡ Err fault.BadStep → (scene : Scene) → IsAt self.old scene → is_allowed scene (action.Client label order) ≡ false }
+        ensures unwritten { result ≡ Err fault.BadStep → Keeps (W.contents writer.old) (W.contents writer.new) }
+        ensures memory { result ≡ Err fault.Memory → Keeps (W.contents writer.old) (W.contents writer.new) }
+    {
+        let Some(entry) = self.labels.get(&label).copied() else {
+            return Err(LineFault::BadStep);
+        };
+        let Some(client) = entry.client else {
+            return Ok(());
+        };
+        let Some(hall) = &mut self.hall else {
+            return Ok(());
+        };
+        if let Order::Show = order {
+            let shown = show(hall, client, label, entry.shown, writer)?;
+            self.labels.insert(label, Label { shown, ..entry })?;
+        } else {
+            carry_out(hall, client, order)?;
+        }
+        Ok(())
+    }
+}
+
+/// The hall that the first client enters.
+fn first_hall(alloc: Global, outbox_limit: usize) -> Result<Hall, LineFault>
+    requires { IsTrue (is_configuration (with_limit default_settings outbox_limit)) }
+    ensures ok { IfOk result (λ hall. Stands hall (with_limit default_settings outbox_limit) [] (new_world (with_limit default_settings outbox_limit))) }
+    ensures err { result ≡ Err fault.BadStep → ⊥ }
+{
+    let settings = settings(alloc, outbox_limit)?;
+    Ok(Hall::new(alloc, settings)?)
+}
