@@ -7,3 +7,5 @@ mod Opened
 mod Takings
 mod Shown
 mod Performs
+mod LinesPlay
+mod LineSplits

@@ -9,11 +9,11 @@ use Rattle.std.proofs.lemmas.Str.Parse.{digit_at}
 use Rattle.std.proofs.lemmas.Fmt.{decimal_is_IsNumeral}
 use Rattle.lobby_play.specs.Words.{has_byte}
 
-first_of_or : (a b : Bool) → (a || b) ≡ false → a ≡ false
+pub first_of_or : (a b : Bool) → (a || b) ≡ false → a ≡ false
 first_of_or true b h = h
 first_of_or false b h = refl
 
-second_of_or : (a b : Bool) → (a || b) ≡ false → b ≡ false
+pub second_of_or : (a b : Bool) → (a || b) ≡ false → b ≡ false
 second_of_or true b h = absurd (false≢true (sym h))
 second_of_or false b h = h
 
@@ -73,3 +73,8 @@ lacks_digits m n low small =
       let same = eqb-true (get_or (decimal n) k 0) m is in
       let digit = digit_at (decimal n) k digits.1 at in
       absurd (omega (arith, digit.0, same)))
+
+-- a list with the length 0
+pub nothing_left : (xs : List ℕ) → nat_eq (length xs) 0 ≡ true → xs ≡ []
+nothing_left [] h = refl
+nothing_left (x ∷ xs) h = absurd (omega (arith, eqb-true _ _ h))

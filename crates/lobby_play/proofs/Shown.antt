@@ -6,6 +6,7 @@ use Rattle.std.specs.Io.KnownBytes.{Appends}
 use Rattle.std.proofs.KnownBytes.{Appends-trans}
 use Rattle.line_framer.specs.Frames.{Parts, parts, with_byte, lines_in}
 use Rattle.lobby_play.specs.Words.{PartedAt, has_byte}
+use Rattle.lobby_play.proofs.Parts.{first_of_or, second_of_or}
 use Rattle.lobby_play.specs.Acts.{labelled}
 
 byte_before : (b : ℕ) (p : Parts) (line : List ℕ) (lines : List (List ℕ)) → p.0 ≡ line ∷ lines → (with_byte b p).0 ≡ (b ∷ line) ∷ lines
@@ -16,24 +17,16 @@ byte_alone : (b : ℕ) (p : Parts) → p.0 ≡ [] → (with_byte b p).0 ≡ []
 byte_alone b ([], rest) e = refl
 byte_alone b (p ∷ ps, rest) e = absurd cc
 
-or_first : (a b : Bool) → (a || b) ≡ false → a ≡ false
-or_first true b h = h
-or_first false b h = refl
-
-or_second : (a b : Bool) → (a || b) ≡ false → b ≡ false
-or_second true b h = absurd (false≢true (sym h))
-or_second false b h = h
-
 first_line : (line behind : List ℕ) → has_byte 10 line ≡ false → lines_in (line ++ 10 ∷ behind) ≡ line ∷ lines_in behind
 first_line [] behind h = refl
 first_line (x ∷ xs) behind h =
-    ap (λ b. (cond b ([] ∷ (parts (xs ++ 10 ∷ behind)).0, (parts (xs ++ 10 ∷ behind)).1) (with_byte x (parts (xs ++ 10 ∷ behind)))).0) (or_first (nat_eq x 10) _ h)
-    ∙ byte_before x (parts (xs ++ 10 ∷ behind)) xs (lines_in behind) (first_line xs behind (or_second (nat_eq x 10) _ h))
+    ap (λ b. (cond b ([] ∷ (parts (xs ++ 10 ∷ behind)).0, (parts (xs ++ 10 ∷ behind)).1) (with_byte x (parts (xs ++ 10 ∷ behind)))).0) (first_of_or (nat_eq x 10) _ h)
+    ∙ byte_before x (parts (xs ++ 10 ∷ behind)) xs (lines_in behind) (first_line xs behind (second_of_or (nat_eq x 10) _ h))
 
 no_line : (bytes : List ℕ) → has_byte 10 bytes ≡ false → lines_in bytes ≡ []
 no_line [] h = refl
 no_line (x ∷ xs) h =
-    ap (λ b. (cond b ([] ∷ (parts xs).0, (parts xs).1) (with_byte x (parts xs))).0) (or_first (nat_eq x 10) _ h) ∙ byte_alone x (parts xs) (no_line xs (or_second (nat_eq x 10) _ h))
+    ap (λ b. (cond b ([] ∷ (parts xs).0, (parts xs).1) (with_byte x (parts xs))).0) (first_of_or (nat_eq x 10) _ h) ∙ byte_alone x (parts xs) (no_line xs (second_of_or (nat_eq x 10) _ h))
 
 pub none_labelled : (label : ℕ) (bytes : List ℕ) → has_byte 10 bytes ≡ false → labelled label bytes ≡ []
 none_labelled label bytes h = ap (flat_map (λ line. decimal label ++ 62 ∷ 32 ∷ (line ++ 10 ∷ []))) (no_line bytes h)

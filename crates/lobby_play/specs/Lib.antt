@@ -1,4 +1,5 @@
 pub mod Words
+pub mod Lines
 pub mod Escapes
 pub mod Actions
 pub mod Faults

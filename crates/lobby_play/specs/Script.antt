@@ -1,14 +1,10 @@
 -- The output of a script.
 use Rattle.std.specs.Prelude.{◌≡◌, ◌≢◌, ℕ, ◌+◌, ◌⊎◌, false, ◌==◌, List, [], ◌∷◌, ◌++◌, length, take, IsTrue}
-use Rattle.std.specs.List.{slice_split}
 use Rattle.lobby_play.specs.declared.action.Action.{Action}
 use Rattle.lobby_play.specs.Actions.{Says}
+use Rattle.lobby_play.specs.Lines.{lines_of}
 use Rattle.lobby_play.specs.Scene.{Scene, is_allowed, unopened, default_settings}
 use Rattle.lobby_play.specs.Acts.{Acts}
-
--- The parts between line feeds. Behind a last line feed stands one empty part more
-abbrev pub lines_of : List ℕ → List (List ℕ)
-lines_of script = slice_split (λ b. b == 10) script
 
 -- the line says an action that is allowed, which does and shows this
 abbrev pub ActionPlays : Scene → List ℕ → List ℕ → Scene → Type 0

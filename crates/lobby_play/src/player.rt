@@ -60,6 +60,40 @@ impl Player {
         }
     }
 
+    /// Plays one line of a script. After a bad step, and where memory was refused, nothing was
+    /// written.
+    pub fn play_line<W: Write>(&mut self, line: &[u8], writer: &mut W) -> Result<(), LineFault>
+        requires { IsSomewhere self.old }
+        ensures ok { OnOk result ((scene : Scene) → IsAt self.old scene
+            → (out : List ℕ) × ((new : Scene) × LinePlays scene line.now out new × IsAt self.new new) × Appends (W.contents writer.old) (W.contents writer.new) out) }
+        ensures bad { result ≡ Err fault.BadStep → (scene : Scene) → IsAt self.old scene → IsBad scene line.now }
+        ensures unwritten { result ≡ Err fault.BadStep → Keeps (W.contents writer.old) (W.contents writer.new) }
+        ensures memory { result ≡ Err fault.Memory → Keeps (W.contents writer.old) (W.contents writer.new) }
+    {
+        if line.is_empty() {
+            return Ok(());
+        }
+        match read_action(self.alloc, line)? {
+            Some(action) => self.act(action, writer),
+            None => Err(LineFault::BadStep),
+        }
+    }
+
+    fn act<W: Write>(&mut self, action: Action, writer: &mut W) -> Result<(), LineFault>
+        requires { IsSomewhere self.old }
+        ensures ok { OnOk result ((scene : Scene) → IsAt self.old scene
+            → (out : List ℕ) × Performed self.new scene action out × Appends (W.contents writer.old) (W.contents writer.new) out) }
+        ensures bad { result ≡ Err fault.BadStep → (scene : Scene) → IsAt self.old scene → is_allowed scene action ≡ false }
+        ensures unwritten { result ≡ Err fault.BadStep → Keeps (W.contents writer.old) (W.contents writer.new) }
+        ensures memory { result ≡ Err fault.Memory → Keeps (W.contents writer.old) (W.contents writer.new) }
+    {
+        match action {
+            Action::Limit { bytes } => self.limit(bytes),
+            Action::Open { label, ip } => self.open(label, ip),
+            Action::Client { label, order } => self.order(label, order, writer),
+        }
+    }
+
     /// Sets the limit of an outbox, before the first open.
     fn limit(&mut self, bytes: u32) -> Result<(), LineFault>
         ensures ok { OnOk result ((scene : Scene) → IsAt self.old scene → Performed self.new scene (action.Limit bytes) []) }

@@ -1,6 +1,7 @@
 use Rattle.std.proofs.Common.{◌≡◌, ℕ, true, nat_eq, length, Some, refl, arith, eq-eqb, List, [], ◌∷◌, ◌++◌, sym, ap, ◌∙◌, subst, append_assoc, append-nil}
 use Rattle.std.proofs.lemmas.Bool.{false≢true, eqb-true}
 use Rattle.lobby_play.specs.Escapes.{StandsForBytes}
+use Rattle.lobby_play.proofs.Parts.{nothing_left}
 use Rattle.lobby_play.proofs.Numbers.{finds_none}
 use Rattle.lobby_play.proofs.EscapeLemmas.{one_more, begins_with_it, none_begins}
 use Rattle.lobby_play.proofs.escapes.unescape.Goals as goal
@@ -15,10 +16,6 @@ loop-byte-preserved c =
         let next = begins_with_it c.loop-byte.rest.now c.first_byte.result c.first_byte.ensures.complete c.in-Some.byte c.in-Some.behind c.in-Some.is c.in-Some.ensures.sound left.0 left.1 in
         (next.0, next.1, left.2 ∙ ap (λ l. so_far ++ l) next.2 ∙ sym (append_assoc so_far (c.in-Some.byte ∷ []) next.0) ∙ ap (λ l. l ++ next.0) (sym pushed));
     }
-
-nothing_left : (xs : List ℕ) → nat_eq (length xs) 0 ≡ true → xs ≡ []
-nothing_left [] h = refl
-nothing_left (x ∷ xs) h = absurd (omega (arith, eqb-true _ _ h))
 
 pub returns-then-not-is_empty : goal.returns-then-not-is_empty
 returns-then-not-is_empty c = finds_none (StandsForBytes c.args.text.now) (λ all stands.

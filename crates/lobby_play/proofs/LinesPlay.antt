@@ -1,0 +1,27 @@
+-- Lines that play, and the first that is bad.
+use Rattle.std.proofs.Common.{◌≡◌, ◌≢◌, ℕ, ◌+◌, false, List, [], ◌∷◌, ◌++◌, length, take, drop, get_or, inl, inr, refl, sym, ap, ◌∙◌, subst, append_assoc, append-nil, take-append-drop, drop-cons, add-one, arith}
+use Rattle.std.specs.Prelude.{Option, Some, None}
+use Rattle.lobby_play.specs.declared.action.Action.{Action}
+use Rattle.lobby_play.specs.declared.player.Player.{Player}
+use Rattle.lobby_play.specs.Words.{Finds}
+use Rattle.lobby_play.specs.Actions.{Says}
+use Rattle.lobby_play.specs.Scene.{Scene, is_allowed}
+use Rattle.lobby_play.specs.Script.{LinePlays, IsBad, Played, PlaysTo, OutputOf, OutputOfFront, StopsAt}
+use Rattle.lobby_play.specs.Lines.{lines_of, lines_left}
+use Rattle.lobby_play.specs.Player.{IsAt, Performed}
+
+pub line_plays : (new : Player) (s : Scene) (line out : List ℕ) (o : Option Action) (a : Action) → Finds (Says line) o → o ≡ Some a → Performed new s a out → (x : Scene) × LinePlays s line out x × IsAt new x
+line_plays new s line out o a found is does = (does.1.0, inr (a, (subst (Finds (Says line)) is found).sound, does.0, does.1.1), does.1.2)
+
+pub line_is_bad : (s : Scene) (line : List ℕ) (o : Option Action) (a : Action) → line ≢ [] → Finds (Says line) o → o ≡ Some a → is_allowed s a ≡ false → IsBad s line
+line_is_bad s line o a some found is refused =
+    (some, λ b says. let only = found.complete b says in let same : a ≡ b = cc in subst (λ x. is_allowed s x ≡ false) same refused)
+
+pub says_nothing : (s : Scene) (line : List ℕ) (o : Option Action) → line ≢ [] → Finds (Says line) o → o ≡ None → IsBad s line
+says_nothing s line o some found is = (some, λ b says. let only = found.complete b says in absurd cc)
+
+-- one line more
+pub played_more : (front : List (List ℕ)) (s mid new : Scene) (out here line : List ℕ) → Played s front out mid → LinePlays mid line here new → Played s (front ++ line ∷ []) (out ++ here) new
+played_more [] s mid new out here line (none, same) plays = (here, new, [], subst (λ x. LinePlays x line here new) same plays, (refl, refl), ap (λ l. l ++ here) none ∙ sym (append-nil here))
+played_more (first ∷ front) s mid new out here line (begins, between, later, one, others, whole) plays =
+    (begins, between, later ++ here, one, played_more front between mid new later here line others plays, ap (λ l. l ++ here) whole ∙ append_assoc begins later here)
