@@ -26,6 +26,17 @@ pub enum PlayFault {
     Memory,
 }
 
+impl From<AllocError> for PlayFault {
+    ghost use Rattle.std.specs.Prelude.{◌≡◌};
+    ghost use Rattle.lobby_play.specs.declared.fault.PlayFault.TheVariants.{Memory};
+
+    ghost from_gives = { λ _ e. e ≡ Memory };
+
+    fn from(_: AllocError) -> PlayFault {
+        PlayFault::Memory
+    }
+}
+
 /// Why a line cannot be played.
 #[derive(Clone, Copy, PartialEq, Eq, Debug)]
 pub enum LineFault {

@@ -5,6 +5,7 @@
 mod action;
 mod escapes;
 mod fault;
+mod input;
 mod label;
 mod lines;
 mod orders;
