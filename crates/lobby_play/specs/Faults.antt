@@ -15,3 +15,10 @@ fault_at line.Memory k = script.Memory
 abbrev pub refused_settings : SettingsError → LineFault
 refused_settings settings.OutOfBounds = line.BadStep
 refused_settings settings.Memory = line.Memory
+
+-- the exit status of a script that was not played to its end
+abbrev pub status_of : PlayFault → ℕ
+status_of (script.BadStep k) = 1
+status_of script.Device = 2
+status_of script.TooLong = 2
+status_of script.Memory = 4

@@ -1,7 +1,7 @@
 //! Why a line or a script cannot be played.
 
 ghost use Rattle.std.specs.Prelude.{◌≡◌};
-ghost use Rattle.lobby_play.specs.Faults.{fault_at};
+ghost use Rattle.lobby_play.specs.Faults.{fault_at, status_of};
 
 use lobby_hall::HallError;
 use lobby_model::SettingsError;
@@ -24,6 +24,19 @@ pub enum PlayFault {
     /// Memory was refused.
     #[error("no memory")]
     Memory,
+}
+
+impl PlayFault {
+    /// The exit status of the program.
+    pub fn status(self) -> u8
+        ensures { result ≡ status_of self }
+    {
+        match self {
+            PlayFault::BadStep(_) => 1,
+            PlayFault::Device | PlayFault::TooLong => 2,
+            PlayFault::Memory => 4,
+        }
+    }
 }
 
 impl From<AllocError> for PlayFault {
