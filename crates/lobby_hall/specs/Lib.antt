@@ -1,2 +1,5 @@
+pub mod ByClient
 pub mod Record
+pub mod Serving
+pub mod Sessions
 pub mod Standing

@@ -1,33 +1,45 @@
 -- What a hall stands for: the world that a schedule leaves, and the record of its events.
-use Rattle.std.specs.Prelude.{◌≡◌, ℕ, ◌≤◌, Bool, true, false, ◌&&◌, ◌||◌, List, [], ◌∷◌, ◌++◌, Option, Some, None, is_some, slice_get}
+use Rattle.std.specs.Prelude.{◌≡◌, ℕ, ◌≤◌, ◌<◌, Bool, ◌&&◌, ◌||◌, true, false, List, [], ◌∷◌, ◌++◌, length, Option, Some, None, is_some, slice_get}
 use Rattle.line_framer.specs.Frames.{frames, is_spoilt}
-use Rattle.line_framer.specs.Framed.{Framed, StandsFor}
 use Rattle.lobby_model.specs.declared.event.Event.{Event}
 use Rattle.lobby_model.specs.declared.schedule.Step.{Step}
 use Rattle.lobby_model.specs.declared.schedule.Step.TheVariants as step
-use Rattle.lobby_model.specs.Table.{ByNumber, at_number}
 use Rattle.lobby_model.specs.Configuration.{Configuration}
 use Rattle.lobby_model.specs.State.{State, empty_lobby}
 use Rattle.lobby_model.specs.History.{after}
-use Rattle.lobby_model.specs.Schedule.{World, Input, input, is_open, line_limit, StepGives, Gives, new_world}
+use Rattle.lobby_model.specs.Schedule.{World, Input, input, input_of, is_open, line_limit, StepGives}
+use Rattle.lobby_hall.specs.ByClient.{of_client}
 use Rattle.lobby_hall.specs.Record.{Log, IsRecord}
+use Rattle.lobby_hall.specs.Serving.{Serving}
+use Rattle.lobby_hall.specs.Sessions.{Heard}
 
--- what a contract sees of a hall: the plain lobby, what the session of each open client keeps, and the record so far
+-- What a contract sees of a hall: the plain lobby, what is kept of the bytes of each client that was ever opened (nothing,
+-- once it is removed), and the record of the events so far
 pub record Kept : Type 0 where
   pub lobby : State
-  pub sessions : ByNumber Framed
-  pub record_so_far : ByNumber Log
+  pub sessions : List (Option Serving)
+  pub record_so_far : List Log
 
--- a client that is open has a session, which keeps what is needed of its bytes
-abbrev pub SessionOf : Option Framed → Bool → Input → Type 0
-SessionOf None opened given = opened ≡ false
-SessionOf (Some session) opened given = (opened ≡ true) × (session.limit ≡ line_limit) × StandsFor session given.bytes given.taken
+abbrev pub session_of : Option (Option Serving) → Option Serving
+session_of None = None
+session_of (Some session) = session
+
+abbrev pub session_at : List (Option Serving) → ℕ → Option Serving
+session_at sessions c = session_of (of_client sessions c)
+
+-- a client that is open has a session, which heard its bytes
+abbrev pub SessionOf : Option Serving → Bool → Input → Type 0
+SessionOf None is_there given = is_there ≡ false
+SessionOf (Some session) is_there given = (is_there ≡ true) × Heard session.framed given.bytes given.taken
 
 pub record Stands (hall : Kept) (settings : Configuration) (events : List Event) (world : World) : Type 0 where
   pub lobby : hall.lobby ≡ world.lobby
   pub history : world.lobby ≡ after (empty_lobby settings) events
-  pub sessions : (c : ℕ) → SessionOf (at_number hall.sessions c) (is_open world c) (input world c)
   pub record_is : IsRecord hall.record_so_far (empty_lobby settings) events
+  pub sessions : (c : ℕ) → SessionOf (session_at hall.sessions c) (is_open world c) (input world c)
+  pub unheard : (c : ℕ) → world.lobby.last_client < c → input world c ≡ input_of None
+  pub one_session_each : length hall.sessions ≡ world.lobby.last_client
+  pub one_log_each : length hall.record_so_far ≡ world.lobby.last_client
 
 -- after one further step the hall stands for what that step gives
 abbrev pub StandsAfter : Kept → Configuration → List Event → World → Step → Type 0

@@ -7,6 +7,8 @@ ghost use Rattle.lobby_model.specs.declared.event.Event.{Event};
 ghost use Rattle.lobby_hall.specs.Standing.{Stands, StandsAfter, is_ready, HasHome};
 ghost use Rattle.lobby_hall.specs.Record.{log_at};
 
+pub mod session;
+
 use lobby_model::{Settings, Step};
 use std::alloc::Global;
 use std::marker::Model;
@@ -24,11 +26,10 @@ pub struct Record {
 }
 
 impl Model for Record {
-    ghost use Rattle.lobby_model.specs.Table.{ByNumber};
     ghost use Rattle.lobby_hall.specs.Record.{Log};
-    ghost use Rattle.std.specs.Prelude.{[]};
+    ghost use Rattle.std.specs.Prelude.{List, []};
 
-    ghost Value = { ByNumber Log };
+    ghost Value = { List Log };
 
     ghost view = { λ _. [] };
 }

@@ -92,5 +92,5 @@ says_it line verb text o parts =
     finds_same (Chosen verb text) (Says line) o
     (λ a h. record { rest = text; whole = parts.whole ∙ ap (λ v. v ++ 32 ∷ text) h.0; arguments = h.1 })
     (λ a h.
-      let same = parted_once 32 verb (verb_of a) parts.first (no_space a) (sym parts.whole ∙ h.whole) in
-      (same.0, subst (λ t. Arguments t a) (sym same.1) h.arguments))
+    let same = parted_once 32 verb (verb_of a) parts.first (no_space a) (sym parts.whole ∙ h.whole) in
+    (same.0, subst (λ t. Arguments t a) (sym same.1) h.arguments))

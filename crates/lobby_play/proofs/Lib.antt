@@ -3,7 +3,6 @@ mod Numbers
 mod EscapeLemmas
 mod ActionLemmas
 mod Opened
-
 mod Takings
 mod Shown
 mod Performs

@@ -43,9 +43,9 @@ number_if_written r text value true h e same = record {
   complete = λ n is. let f = ap result_ok (reads_as r text n h is) in cc;
 }
 number_if_written r text value false h e same = finds_none (IsNumber text) (λ n is.
-  let f = ap result_ok (reads_as r text n h is) in
-  let is_value : n ≡ value = cc in
-  false≢true (same ∙ (bytes_eq-Decides (decimal value) text).1 (ap decimal (sym is_value) ∙ sym is.0)))
+    let f = ap result_ok (reads_as r text n h is) in
+    let is_value : n ≡ value = cc in
+    false≢true (same ∙ (bytes_eq-Decides (decimal value) text).1 (ap decimal (sym is_value) ∙ sym is.0)))
 
 -- the parts at a mark, the number before it, and what stands behind
 pub leads_once : (mark : ℕ) (text digits behind : List ℕ) (n : ℕ) (rest : List ℕ) → mark < 48 → PartedAt mark text digits behind → LeadsWith mark text n rest → (digits ≡ decimal n) × (behind ≡ rest)

@@ -37,7 +37,6 @@ never_parted m [] (y ∷ ys) r h e = cc
 never_parted m (x ∷ xs) [] r h e = let same : m ≡ x = cc in not_first m x xs h same
 never_parted m (x ∷ xs) (y ∷ ys) r h e = never_parted m xs ys r (second_of_or (nat_eq x m) _ h) cc
 
-
 -- the parts round a place where the byte stands
 pub parts_round : (m at : ℕ) (xs : List ℕ) → at < length xs → nat_eq (get_or xs at 0) m ≡ true → xs ≡ take at xs ++ m ∷ take (length xs - (at + 1)) (drop (at + 1) xs)
 parts_round m at xs h e =
@@ -59,8 +58,8 @@ lacks m (x ∷ xs) none =
 pub lacks_below : (m n : ℕ) (xs : List ℕ) → n ≤ length xs → ((k : ℕ) → 0 ≤ k → k < n → nat_eq (get_or xs k 0) m ≡ true → ⊥) → has_byte m (take n xs) ≡ false
 lacks_below m n xs h none =
     lacks m (take n xs) (λ k small is.
-      let below : k < n = omega (arith, length-take n xs) in
-      none k (omega arith) below (sym (ap (λ x. nat_eq x m) (get_or-take n xs k 0 below)) ∙ is))
+    let below : k < n = omega (arith, length-take n xs) in
+    none k (omega arith) below (sym (ap (λ x. nat_eq x m) (get_or-take n xs k 0 below)) ∙ is))
 
 pub lacks_all : (m : ℕ) (xs : List ℕ) → ((k : ℕ) → 0 ≤ k → k < length xs → nat_eq (get_or xs k 0) m ≡ true → ⊥) → has_byte m xs ≡ false
 lacks_all m xs none = lacks m xs (λ k small is. none k (omega arith) small is)
@@ -70,9 +69,9 @@ pub lacks_digits : (m n : ℕ) → m < 48 → n < 2 ^ 64 → has_byte m (decimal
 lacks_digits m n low small =
     let digits = (decimal_is_IsNumeral n small).0 in
     lacks m (decimal n) (λ k at is.
-      let same = eqb-true (get_or (decimal n) k 0) m is in
-      let digit = digit_at (decimal n) k digits.1 at in
-      absurd (omega (arith, digit.0, same)))
+    let same = eqb-true (get_or (decimal n) k 0) m is in
+    let digit = digit_at (decimal n) k digits.1 at in
+    absurd (omega (arith, digit.0, same)))
 
 -- a list with the length 0
 pub nothing_left : (xs : List ℕ) → nat_eq (length xs) 0 ≡ true → xs ≡ []

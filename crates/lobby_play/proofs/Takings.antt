@@ -19,7 +19,8 @@ use Rattle.lobby_model.specs.History.{after}
 use Rattle.lobby_model.specs.Schedule.{World, Input, input, input_of, is_open, line_limit, moved, with_taken, TakeGives, StepGives}
 use Rattle.lobby_model.proofs.Delivered.{same_itself}
 use Rattle.lobby_model.proofs.Quiet.{next_shut}
-use Rattle.lobby_hall.specs.Standing.{Kept, Stands, StandsAfter, SessionOf, is_ready}
+use Rattle.lobby_hall.specs.Standing.{Kept, Stands, StandsAfter, SessionOf, is_ready, session_at}
+use Rattle.lobby_hall.specs.Serving.{Serving}
 use Rattle.lobby_play.specs.Acts.{Takes, TakesAll}
 use Rattle.lobby_play.specs.Halls.{IsStanding, Moves}
 
@@ -34,12 +35,12 @@ taken_more (suc n) w mid new c here later (first, more) ready gives =
 -- ---- what is left to take
 
 -- a session has its whole lines to take, and perhaps its spoilt place
-abbrev pub left_in : Option Framed → ℕ
+abbrev pub left_in : Option Serving → ℕ
 left_in None = 0
-left_in (Some session) = suc (length (lines_in session.ahead))
+left_in (Some session) = suc (length (lines_in session.framed.ahead))
 
 abbrev pub left_to_take : Kept → ℕ → ℕ
-left_to_take hall c = left_in (at_number hall.sessions c)
+left_to_take hall c = left_in (session_at hall.sessions c)
 
 first_holds : (a b : Bool) → (a && b) ≡ true → a ≡ true
 first_holds true b h = refl
@@ -67,21 +68,21 @@ waits_for session bytes taken stands =
     sym (length-map (lines_in session.ahead) without_cr) ∙ ap (λ (l : List (List ℕ)). length l) stands.lines ∙ length-drop taken (frames bytes session.limit)
 
 -- the number of a session's lines, by what came and what was taken
-left_at : (o : Option Framed) (opened : Bool) (given : Input) → SessionOf o opened given → left_in o ≤ suc (length (frames given.bytes line_limit) - given.taken)
+left_at : (o : Option Serving) (opened : Bool) (given : Input) → SessionOf o opened given → left_in o ≤ suc (length (frames given.bytes line_limit) - given.taken)
 left_at None opened given h = omega arith
 left_at (Some session) opened given h =
-    let same = waits_for session given.bytes given.taken h.2 in
-    let limit = ap (λ l. length (frames given.bytes l)) h.1 in
+    let same = waits_for session.framed given.bytes given.taken h.1.1 in
+    let limit = ap (λ l. length (frames given.bytes l)) h.1.0 in
     omega (arith, same, limit)
 
-left_when_open : (o : Option Framed) (given : Input) → SessionOf o true given → left_in o ≡ suc (length (frames given.bytes line_limit) - given.taken)
+left_when_open : (o : Option Serving) (given : Input) → SessionOf o true given → left_in o ≡ suc (length (frames given.bytes line_limit) - given.taken)
 left_when_open None given h = absurd (false≢true (sym h))
 left_when_open (Some session) given h =
-    let same = waits_for session given.bytes given.taken h.2 in
-    let limit = ap (λ l. length (frames given.bytes l)) h.1 in
+    let same = waits_for session.framed given.bytes given.taken h.1.1 in
+    let limit = ap (λ l. length (frames given.bytes l)) h.1.0 in
     omega (arith, same, limit)
 
-left_when_shut : (o : Option Framed) (given : Input) → SessionOf o false given → left_in o ≡ 0
+left_when_shut : (o : Option Serving) (given : Input) → SessionOf o false given → left_in o ≡ 0
 left_when_shut None given h = refl
 left_when_shut (Some session) given h = absurd (false≢true h.0)
 
@@ -94,7 +95,7 @@ spoilt_there w c none ready = sym (ap (λ (o : Option (List ℕ)). is_some o || 
 
 -- a take leaves less to take
 less_left : (w new : World) (c : ℕ) (here : List Event) (o : Option (List ℕ)) → slice_get (frames (input w c).bytes line_limit) (input w c).taken ≡ o → is_ready w c ≡ true → TakeGives w c o here new
-    → (session : Option Framed) → SessionOf session (is_open new c) (input new c) → left_in session < suc (length (frames (input w c).bytes line_limit) - (input w c).taken)
+    → (session : Option Serving) → SessionOf session (is_open new c) (input new c) → left_in session < suc (length (frames (input w c).bytes line_limit) - (input w c).taken)
 less_left w new c here (Some line) e ready gives session stands =
     let there = slice_get_within (frames (input w c).bytes line_limit) (input w c).taken line e in
     let now : input new c ≡ record { bytes = (input w c).bytes; taken = (input w c).taken + 1 } = ap (λ x. input x c) gives.3 ∙ taken_input w c in
@@ -112,6 +113,6 @@ pub take_lessens : (hall new : Kept) (c : ℕ) (settings : Configuration) (event
 take_lessens hall new c settings events world stands ready (here, later, gives, now) =
     let opened = first_holds (is_open world c) _ ready in
     let taken = subst (λ b. MatchBool b (TakeGives world c (slice_get (frames (input world c).bytes line_limit) (input world c).taken) here later) ((here ≡ []) × (later ≡ world))) opened gives in
-    let before = left_when_open (at_number hall.sessions c) (input world c) (subst (λ b. SessionOf (at_number hall.sessions c) b (input world c)) opened (stands.sessions c)) in
-    let after_it = less_left world later c here _ refl ready taken (at_number new.sessions c) (now.sessions c) in
+    let before = left_when_open (session_at hall.sessions c) (input world c) (subst (λ b. SessionOf (session_at hall.sessions c) b (input world c)) opened (stands.sessions c)) in
+    let after_it = less_left world later c here _ refl ready taken (session_at new.sessions c) (now.sessions c) in
     omega (arith, before, after_it)

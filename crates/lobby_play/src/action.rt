@@ -2,7 +2,6 @@
 
 ghost use Rattle.std.specs.Prelude.{◌≡◌, ℕ, List, IfOk};
 ghost use Rattle.lobby_play.specs.Words.{Finds};
-
 ghost use Rattle.lobby_play.specs.Actions.{Arguments, IsLimit, IsOpen, IsPlain, IsRead, IsSend, Says, verb_of};
 
 use crate::escapes::unescape;
@@ -39,12 +38,19 @@ pub enum Order {
 }
 
 const LIMIT: &[u8] = b"limit";
+
 const OPEN: &[u8] = b"open";
+
 const SEND: &[u8] = b"send";
+
 const TAKE: &[u8] = b"take";
+
 const ALL: &[u8] = b"all";
+
 const READ: &[u8] = b"read";
+
 const SHUT: &[u8] = b"shut";
+
 const SHOW: &[u8] = b"show";
 
 /// What the line asks for; `None` where it has none of the forms.

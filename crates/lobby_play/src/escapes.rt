@@ -61,7 +61,10 @@ fn hexadecimal_byte(text: &[u8]) -> Option<(u8, &[u8])>
 {
     let (high, behind) = text.split_first()?;
     let (low, behind) = behind.split_first()?;
-    Some((16 * hexadecimal_digit(*high)? + hexadecimal_digit(*low)?, behind))
+    Some((
+        16 * hexadecimal_digit(*high)? + hexadecimal_digit(*low)?,
+        behind,
+    ))
 }
 
 fn hexadecimal_digit(digit: u8) -> Option<u8>

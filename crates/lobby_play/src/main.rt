@@ -21,8 +21,7 @@ use std::io::BufWriter;
 use std::process::ExitCode;
 
 fn play_streams<R: Input + Print + AllocGlobal>(rt: &R) -> Result<(), PlayFault> {
-    let mut writer =
-        BufWriter::new(rt.alloc(), io::writer(rt)).map_err(|_| PlayFault::Memory)?;
+    let mut writer = BufWriter::new(rt.alloc(), io::writer(rt)).map_err(|_| PlayFault::Memory)?;
     play(rt.alloc(), &mut rt.reader(), &mut writer)
 }
 
@@ -40,3 +39,6 @@ fn run<R: Input + Print + Eprint + AllocGlobal>(rt: &R) -> u8 {
 fn main(rt: HostRuntime) -> ExitCode {
     ExitCode::from(run(&rt))
 }
+
+#[cfg(test)]
+mod tests;

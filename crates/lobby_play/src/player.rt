@@ -128,12 +128,7 @@ impl Player {
     }
 
     /// Does this for the client of the label.
-    fn order<W: Write>(
-        &mut self,
-        label: u32,
-        order: Order,
-        writer: &mut W,
-    ) -> Result<(), LineFault>
+    fn order<W: Write>(&mut self, label: u32, order: Order, writer: &mut W) -> Result<(), LineFault>
         requires { IsSomewhere self.old }
         ensures ok { OnOk result ((scene : Scene) → IsAt self.old scene
             → (out : List ℕ) × Performed self.new scene (action.Client label order) out × Appends (W.contents writer.old) (W.contents writer.new) out) }

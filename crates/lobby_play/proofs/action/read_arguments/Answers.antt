@@ -33,4 +33,3 @@ returns-then-eq-7 c = found (IsPlain c.args.text.now order.Shut) c.args.verb.now
 
 pub returns-then-eq-8 : goal.returns-then-eq-8
 returns-then-eq-8 c = found (IsPlain c.args.text.now order.Show) c.args.verb.now (codes "show") c.args.text.now c.plain-then-eq-8.result (the_verb _ _ c.if-eq-8.ensures) (show_is c.args.text.now) (show_only c.args.text.now) c.plain-then-eq-8.ensures
-

@@ -26,12 +26,12 @@ pub loop-hall-preserved : goal.loop-hall-preserved
 loop-hall-preserved c =
     let ready = λ (s : Configuration) (e : List Event) (w : World) (h : Stands c.loop-hall.hall s e w). sym (c.ready.ensures s e w h) ∙ c.loop-hall-test.true in record {
       standing =
-        let (settings, events, world, stands) = c.loop-hall.invariant.standing in
-        let next = c.in_ok-step.ensures.ok settings events world stands in
-        (settings, events ++ next.0, next.1, next.3);
+          let (settings, events, world, stands) = c.loop-hall.invariant.standing in
+          let next = c.in_ok-step.ensures.ok settings events world stands in
+          (settings, events ++ next.0, next.1, next.3);
       taken = λ settings events world stands.
-        let so_far = c.loop-hall.invariant.taken settings events world stands in
-        (suc so_far.0, after_one c.loop-hall.hall c.step.new.self c.args.client settings events world so_far.0 so_far.1 ready c.in_ok-step.ensures.ok);
+          let so_far = c.loop-hall.invariant.taken settings events world stands in
+          (suc so_far.0, after_one c.loop-hall.hall c.step.new.self c.args.client settings events world so_far.0 so_far.1 ready c.in_ok-step.ensures.ok);
     }
 
 pub returns : goal.returns

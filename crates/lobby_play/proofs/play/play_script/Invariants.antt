@@ -12,5 +12,5 @@ invariant-loop-line g l = record {
   next : (goal.iterator-loop-line g).can_next l.line-iterator;
   ends : (goal.iterator-loop-line g).is_finite l.line-iterator;
   played : (front : List (List ℕ)) × (lines_of l.script ≡ front ++ lines_left l.line-iterator.rest) × (l.number ≡ length front)
-    × ((out : List ℕ) × (scene : Scene) × PlaysTo front out scene × IsAt l.player scene × Appends (g.W.Write.contents l.initial.writer) (g.W.Write.contents l.writer) out);
+      × ((out : List ℕ) × (scene : Scene) × PlaysTo front out scene × IsAt l.player scene × Appends (g.W.Write.contents l.initial.writer) (g.W.Write.contents l.writer) out);
 }

@@ -16,4 +16,4 @@ pub returns : goal.returns
 returns c =
     let same = text_of c.from_utf8.result c.args.text.now _ c.in_ok-digits.digits c.from_utf8.ensures.cases (sym c.ok.ensures.value ∙ c.in_ok-digits.was) in
     rw (c.then_some.ensures, ← same) (number_if_written c.parse.result c.in_ok-digits.digits.now c.in_ok-value.value c.eq.result c.parse.ensures.value.0 (sym c.ok-2.ensures.value ∙ c.in_ok-value.was)
-      (c.eq.ensures ∙ ap (λ l. bytes_eq l c.in_ok-digits.digits.now) c.format.ensures.text))
+    (c.eq.ensures ∙ ap (λ l. bytes_eq l c.in_ok-digits.digits.now) c.format.ensures.text))

@@ -15,8 +15,8 @@ returns-then-is_empty-clause-ok g c = λ scene at.
 
 pub returns-in-Some-clause-ok : goal.returns-in-Some-clause-ok
 returns-in-Some-clause-ok g c = IfOk-weaker c.act.result _ _ (λ u does scene at.
-  let done = does scene at in
-  (done.0, line_plays c.act.new.self scene c.args.line.now done.0 c.in_ok-action.field-0 c.in-Some.action c.in_ok-action.ensures c.in-Some.is done.1, done.2)) c.act.ensures.ok
+    let done = does scene at in
+    (done.0, line_plays c.act.new.self scene c.args.line.now done.0 c.in_ok-action.field-0 c.in-Some.action c.in_ok-action.ensures c.in-Some.is done.1, done.2)) c.act.ensures.ok
 
 pub returns-in-Some-clause-bad : goal.returns-in-Some-clause-bad
 returns-in-Some-clause-bad g c = λ is scene at.

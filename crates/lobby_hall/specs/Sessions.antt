@@ -1,0 +1,24 @@
+-- What a session stands for: the bytes that its client sent, and how many of its lines were accepted.
+use Rattle.std.specs.Prelude.{◌≡◌, ℕ, List, Option, Some, None, true, false, slice_get}
+use Rattle.line_framer.specs.Frames.{frames, is_spoilt}
+use Rattle.line_framer.specs.Framed.{Framed, StandsFor}
+use Rattle.command_grammar.specs.Reads.{Reads}
+use Rattle.lobby_model.specs.Schedule.{line_limit}
+use Rattle.lobby_hall.specs.declared.session.Next.{Next}
+use Rattle.lobby_hall.specs.declared.session.Next.TheVariants.{Nothing, Line, Spoilt}
+
+-- these bytes came, and so many of their lines were accepted
+abbrev pub Heard : Framed → List ℕ → ℕ → Type 0
+Heard framed bytes accepted = (framed.limit ≡ line_limit) × StandsFor framed bytes accepted
+
+-- what is next, after a line or none: the request that the line reads as; where no whole line is left, the spoilt place
+abbrev pub NextAt : Option (List ℕ) → List ℕ → Next → Type 0
+NextAt (Some line) bytes (Line request) = Reads line request
+NextAt (Some line) bytes Nothing = ⊥
+NextAt (Some line) bytes Spoilt = ⊥
+NextAt None bytes (Line request) = ⊥
+NextAt None bytes Nothing = is_spoilt bytes line_limit ≡ false
+NextAt None bytes Spoilt = is_spoilt bytes line_limit ≡ true
+
+abbrev pub IsNext : List ℕ → ℕ → Next → Type 0
+IsNext bytes accepted next = NextAt (slice_get (frames bytes line_limit) accepted) bytes next
