@@ -1,10 +1,9 @@
 -- The verb of a line decides which action it says.
-use Rattle.std.proofs.Common.{◌≡◌, ℕ, ◌+◌, ◌*◌, ◌<◌, Bool, true, false, List, [], ◌∷◌, ◌++◌, get_or, Option, Some, None, IfSome, refl, sym, ap, ◌∙◌, subst, arith, codes}
+use Rattle.std.proofs.Common.{◌≡◌, ℕ, ◌+◌, ◌*◌, false, List, ◌∷◌, ◌++◌, get_or, Option, Some, None, refl, sym, ap, ◌∙◌, subst, arith, codes}
 use Rattle.lobby_play.specs.declared.action.Action.{Action}
 use Rattle.lobby_play.specs.declared.action.Action.TheVariants as action
-use Rattle.lobby_play.specs.declared.action.Order.{Order}
 use Rattle.lobby_play.specs.declared.action.Order.TheVariants as order
-use Rattle.lobby_play.specs.Words.{Finds, IsNumber, LeadsWith, PartedAt, has_byte}
+use Rattle.lobby_play.specs.Words.{Finds, PartedAt, has_byte}
 use Rattle.lobby_play.proofs.Parts.{parted_once}
 use Rattle.lobby_play.specs.Actions.{Arguments, IsLimit, IsOpen, IsPlain, IsRead, IsSend, Says, verb_of}
 

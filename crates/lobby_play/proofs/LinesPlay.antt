@@ -1,13 +1,12 @@
 -- Lines that play, and the first that is bad.
-use Rattle.std.proofs.Common.{◌≡◌, ◌≢◌, ℕ, ◌+◌, false, List, [], ◌∷◌, ◌++◌, length, take, drop, get_or, inl, inr, refl, sym, ap, ◌∙◌, subst, append_assoc, append-nil, take-append-drop, drop-cons, add-one, arith}
+use Rattle.std.proofs.Common.{◌≡◌, ◌≢◌, ℕ, false, List, [], ◌∷◌, ◌++◌, inr, refl, sym, ap, ◌∙◌, subst, append_assoc, append-nil}
 use Rattle.std.specs.Prelude.{Option, Some, None}
 use Rattle.lobby_play.specs.declared.action.Action.{Action}
 use Rattle.lobby_play.specs.declared.player.Player.{Player}
 use Rattle.lobby_play.specs.Words.{Finds}
 use Rattle.lobby_play.specs.Actions.{Says}
 use Rattle.lobby_play.specs.Scene.{Scene, is_allowed}
-use Rattle.lobby_play.specs.Script.{LinePlays, IsBad, Played, PlaysTo, OutputOf, OutputOfFront, StopsAt}
-use Rattle.lobby_play.specs.Lines.{lines_of, lines_left}
+use Rattle.lobby_play.specs.Script.{LinePlays, IsBad, Played}
 use Rattle.lobby_play.specs.Player.{IsAt, Performed}
 
 pub line_plays : (new : Player) (s : Scene) (line out : List ℕ) (o : Option Action) (a : Action) → Finds (Says line) o → o ≡ Some a → Performed new s a out → (x : Scene) × LinePlays s line out x × IsAt new x

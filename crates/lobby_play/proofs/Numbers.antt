@@ -1,5 +1,5 @@
 -- A text is a number where the number that it reads as is written so.
-use Rattle.std.proofs.Common.{◌≡◌, ℕ, ◌<◌, ◌^◌, Bool, true, false, List, ◌∷◌, ◌++◌, Option, Some, None, Result, Ok, Err, MatchResult, MatchOption, IsSomeAnd, refl, sym, ap, ◌∙◌, subst, arith, decimal}
+use Rattle.std.proofs.Common.{◌≡◌, ℕ, ◌<◌, ◌^◌, Bool, true, false, List, Some, None, Result, Ok, Err, MatchResult, sym, ap, ◌∙◌, subst, arith, decimal}
 use Rattle.std.specs.Bool.{then_some}
 use Rattle.std.specs.Result.{result_ok}
 use Rattle.std.specs.Str.{IsUtf8, bytes_eq}
@@ -9,8 +9,8 @@ use Rattle.std.proofs.lemmas.Bool.{false≢true}
 use Rattle.std.proofs.lemmas.Fmt.{parse-decimal, IsAscii-decimal}
 use Rattle.std.proofs.lemmas.Slice.Eq.{bytes_eq-Decides}
 use Rattle.std.proofs.lemmas.Str.{IsUtf8-from_ascii}
-use Rattle.lobby_play.specs.Words.{Finds, IsNumber, LeadsWith, PartedAt, has_byte}
-use Rattle.lobby_play.proofs.Parts.{parted_once, never_parted, lacks_digits}
+use Rattle.lobby_play.specs.Words.{Finds, IsNumber, LeadsWith, PartedAt}
+use Rattle.lobby_play.proofs.Parts.{parted_once, lacks_digits}
 
 pub finds_none : {X : Type 0} (P : X → Type 0) → ((x : X) → P x → ⊥) → Finds P None
 finds_none P none = record { sound = tt; complete = λ x p. absurd (none x p) }

@@ -1,5 +1,5 @@
 -- The number that an open gives.
-use Rattle.std.proofs.Common.{◌≡◌, ℕ, ◌+◌, Bool, true, false, not, cond, nat_eq, List, [], ◌∷◌, Option, Some, None, refl, sym, ap, ◌∙◌, subst, arith, eq-eqb}
+use Rattle.std.proofs.Common.{◌≡◌, ℕ, ◌+◌, Bool, true, false, not, cond, nat_eq, List, [], ◌∷◌, Some, None, refl, ap, ◌∙◌, arith, eq-eqb}
 use Rattle.std.specs.Bool.{then_some}
 use Rattle.std.proofs.lemmas.Bool.{eqb-true}
 use Rattle.lobby_model.specs.declared.event.Event.{Event}
@@ -9,7 +9,7 @@ use Rattle.lobby_model.specs.State.{State}
 use Rattle.lobby_model.specs.Effect.{has_place, opened}
 use Rattle.lobby_model.specs.Next.{next}
 use Rattle.lobby_model.specs.History.{after}
-use Rattle.lobby_model.specs.Schedule.{World, StepGives}
+use Rattle.lobby_model.specs.Schedule.{World}
 use Rattle.lobby_model.specs.Configuration.{Configuration}
 use Rattle.lobby_hall.specs.Standing.{Kept, Stands, StandsAfter}
 use Rattle.lobby_play.specs.Acts.{given}

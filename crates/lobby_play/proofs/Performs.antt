@@ -1,6 +1,6 @@
 -- A player is where the action leads.
-use Rattle.std.proofs.Common.{◌≡◌, ℕ, Bool, true, false, not, List, [], ◌∷◌, ◌++◌, length, drop, refl, sym, ap, ◌∙◌, subst}
-use Rattle.std.specs.Prelude.{Option, Some, None, MatchOption, is_some, IsTrue}
+use Rattle.std.proofs.Common.{◌≡◌, ℕ, Bool, false, not, List, [], ◌∷◌, length, drop, refl, sym, ap, ◌∙◌, subst}
+use Rattle.std.specs.Prelude.{Option, Some, None, is_some, IsTrue}
 use Rattle.std.proofs.lemmas.Bool.{false≢true}
 use Rattle.std.specs.Ordering.{nat_cmp}
 use Rattle.std.specs.declared.cmp.Ordering.{Ordering}
@@ -10,10 +10,7 @@ use Rattle.std.specs.BTreeMap.{is_at, insert_entry}
 use Rattle.std.specs.Map.{lookup}
 use Rattle.lobby_model.specs.declared.event.Event.{Event}
 use Rattle.lobby_model.specs.declared.schedule.Step.TheVariants as step
-use Rattle.lobby_model.specs.Configuration.{Configuration, is_configuration}
 use Rattle.lobby_model.specs.Table.{ByNumber, at_number, put_number}
-use Rattle.lobby_model.specs.State.{empty_lobby}
-use Rattle.lobby_model.specs.History.{put_in}
 use Rattle.lobby_model.specs.Schedule.{World, StepGives, new_world}
 use Rattle.lobby_model.proofs.Tables.{lookup_is_find, insert_is_put}
 use Rattle.lobby_hall.specs.Standing.{Kept, Stands}
@@ -23,9 +20,9 @@ use Rattle.lobby_play.specs.declared.action.Order.{Order}
 use Rattle.lobby_play.specs.declared.action.Order.TheVariants as order
 use Rattle.lobby_play.specs.declared.label.Label.{Label}
 use Rattle.lobby_play.specs.declared.player.Player.{Player}
-use Rattle.lobby_play.specs.Scene.{Scene, unopened, default_settings, with_limit, has_no_label, is_allowed}
+use Rattle.lobby_play.specs.Scene.{Scene, default_settings, with_limit, has_no_label, is_allowed}
 use Rattle.lobby_play.specs.Acts.{Acts, LabelActs, ClientActs, OrderGives, given, happened, with_label, labelled, put_so_far}
-use Rattle.lobby_play.specs.Halls.{IsStanding, Moves}
+use Rattle.lobby_play.specs.Halls.{Moves}
 use Rattle.lobby_play.specs.Player.{HallStands, IsAt, Performed}
 
 -- what the player's map has at a label

@@ -1,11 +1,11 @@
 -- Takes of a client's lines come to an end.
-use Rattle.std.proofs.Common.{◌≡◌, ℕ, zero, suc, ◌+◌, ◌-◌, ◌<◌, ◌≤◌, Bool, true, false, not, ◌&&◌, ◌||◌, cond, List, [], ◌∷◌, ◌++◌, length, map, drop, Option, Some, None, is_some, refl, sym, ap, ◌∙◌, subst, arith, append_assoc, add-one, length-drop, append-nil}
+use Rattle.std.proofs.Common.{◌≡◌, ℕ, zero, suc, ◌+◌, ◌-◌, ◌<◌, ◌≤◌, Bool, true, false, not, ◌&&◌, ◌||◌, cond, List, [], ◌∷◌, ◌++◌, length, Option, Some, None, is_some, refl, sym, ap, ◌∙◌, subst, arith, append_assoc, length-drop, append-nil}
 use Rattle.std.proofs.lemmas.List.{length-map}
 use Rattle.std.proofs.lemmas.Option.{slice_get_within}
-use Rattle.std.specs.Prelude.{slice_get, MatchBool, filter}
-use Rattle.std.specs.Ordering.{nat_cmp, eq_by_cmp, is_eq}
+use Rattle.std.specs.Prelude.{slice_get, MatchBool}
+use Rattle.std.specs.Ordering.{nat_cmp, eq_by_cmp}
 use Rattle.std.specs.Cmp.{nat_cmp_total}
-use Rattle.std.specs.FinMap.Entries.{find, put, find-put}
+use Rattle.std.specs.FinMap.Entries.{find, find-put}
 use Rattle.std.proofs.lemmas.Bool.{false≢true}
 use Rattle.line_framer.specs.Frames.{frames, is_spoilt, lines_in, without_cr}
 use Rattle.line_framer.specs.Framed.{Framed, StandsFor}
@@ -13,16 +13,14 @@ use Rattle.lobby_model.specs.declared.event.Event.{Event}
 use Rattle.lobby_model.specs.declared.event.Event.TheVariants as event
 use Rattle.lobby_model.specs.declared.schedule.Step.TheVariants as step
 use Rattle.lobby_model.specs.Configuration.{Configuration}
-use Rattle.lobby_model.specs.Table.{ByNumber, at_number, put_number, without_number}
-use Rattle.lobby_model.specs.State.{State, Client}
-use Rattle.lobby_model.specs.History.{after}
+use Rattle.lobby_model.specs.Table.{ByNumber, at_number, without_number}
+use Rattle.lobby_model.specs.State.{State}
 use Rattle.lobby_model.specs.Schedule.{World, Input, input, input_of, is_open, line_limit, moved, with_taken, TakeGives, StepGives}
 use Rattle.lobby_model.proofs.Delivered.{same_itself}
 use Rattle.lobby_model.proofs.Quiet.{next_shut}
 use Rattle.lobby_hall.specs.Standing.{Kept, Stands, StandsAfter, SessionOf, is_ready, session_at}
 use Rattle.lobby_hall.specs.Serving.{Serving}
-use Rattle.lobby_play.specs.Acts.{Takes, TakesAll}
-use Rattle.lobby_play.specs.Halls.{IsStanding, Moves}
+use Rattle.lobby_play.specs.Acts.{Takes}
 
 -- one take more
 pub taken_more : (n : ℕ) (w mid new : World) (c : ℕ) (here later : List Event) → Takes n w c here mid → is_ready mid c ≡ true → StepGives mid (step.Take c) later new → Takes (suc n) w c (here ++ later) new

@@ -1,5 +1,5 @@
 -- What an action does, and what it shows.
-use Rattle.std.specs.Prelude.{◌≡◌, ℕ, ◌+◌, zero, suc, Bool, true, false, if◌then◌else◌, List, [], ◌∷◌, ◌++◌, length, drop, flat_map, decimal, Option, Some, None}
+use Rattle.std.specs.Prelude.{◌≡◌, ℕ, ◌+◌, zero, suc, true, false, if◌then◌else◌, List, [], ◌∷◌, ◌++◌, length, drop, flat_map, decimal, Option, Some, None}
 use Rattle.line_framer.specs.Frames.{lines_in}
 use Rattle.lobby_model.specs.declared.event.Event.{Event}
 use Rattle.lobby_model.specs.declared.schedule.Step.TheVariants as step

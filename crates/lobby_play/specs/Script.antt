@@ -1,5 +1,5 @@
 -- The output of a script.
-use Rattle.std.specs.Prelude.{◌≡◌, ◌≢◌, ℕ, ◌+◌, ◌⊎◌, false, ◌==◌, List, [], ◌∷◌, ◌++◌, length, take, IsTrue}
+use Rattle.std.specs.Prelude.{◌≡◌, ◌≢◌, ℕ, ◌+◌, ◌⊎◌, false, List, [], ◌∷◌, ◌++◌, length, take, IsTrue}
 use Rattle.lobby_play.specs.declared.action.Action.{Action}
 use Rattle.lobby_play.specs.Actions.{Says}
 use Rattle.lobby_play.specs.Lines.{lines_of}

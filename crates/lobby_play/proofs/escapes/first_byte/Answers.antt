@@ -1,5 +1,5 @@
-use Rattle.std.proofs.Common.{◌≡◌, [], ◌∷◌}
-use Rattle.lobby_play.specs.Escapes.{Written, plain}
+use Rattle.std.proofs.Common.{[], ◌∷◌}
+use Rattle.lobby_play.specs.Escapes.{plain}
 use Rattle.lobby_play.proofs.escapes.first_byte.Goals as goal
 
 pub returns-else-first-eq92-clause-sound : goal.returns-else-first-eq92-clause-sound

@@ -1,5 +1,5 @@
-use Rattle.std.proofs.Common.{◌≡◌, ℕ, true, nat_eq, length, Some, refl, arith, eq-eqb, List, [], ◌∷◌, ◌++◌, sym, ap, ◌∙◌, subst, append_assoc, append-nil}
-use Rattle.std.proofs.lemmas.Bool.{false≢true, eqb-true}
+use Rattle.std.proofs.Common.{ℕ, length, Some, eq-eqb, List, [], ◌∷◌, ◌++◌, sym, ap, ◌∙◌, subst, append_assoc, append-nil}
+use Rattle.std.proofs.lemmas.Bool.{false≢true}
 use Rattle.lobby_play.specs.Escapes.{StandsForBytes}
 use Rattle.lobby_play.proofs.Parts.{nothing_left}
 use Rattle.lobby_play.proofs.Numbers.{finds_none}

@@ -1,4 +1,4 @@
-use Rattle.std.proofs.Common.{◌≡◌, [], refl, subst, sym, append-nil}
+use Rattle.std.proofs.Common.{[], refl, subst, sym, append-nil}
 use Rattle.lobby_hall.specs.Standing.{Stands}
 use Rattle.lobby_play.proofs.orders.carry_out.Goals as goal
 

@@ -1,4 +1,3 @@
-use Rattle.std.proofs.Common.{◌≡◌}
 use Rattle.lobby_play.proofs.Opened.{is_given}
 use Rattle.lobby_play.proofs.orders.connect.Goals as goal
 

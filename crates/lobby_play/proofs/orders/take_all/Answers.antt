@@ -5,7 +5,7 @@ use Rattle.lobby_model.specs.Configuration.{Configuration}
 use Rattle.lobby_model.specs.Schedule.{World}
 use Rattle.lobby_hall.specs.Standing.{Kept, Stands, StandsAfter, is_ready}
 use Rattle.lobby_play.specs.Acts.{Takes}
-use Rattle.lobby_play.specs.Halls.{IsStanding, Moves}
+use Rattle.lobby_play.specs.Halls.{Moves}
 use Rattle.lobby_play.proofs.Takings.{take_lessens, taken_more}
 use Rattle.lobby_play.proofs.orders.take_all.Goals as goal
 

@@ -1,5 +1,5 @@
-use Rattle.std.proofs.Common.{◌≡◌, ℕ, ◌+◌, ◌<◌, ◌≤◌, List, [], ◌∷◌, ◌++◌, length, take, Err, refl, sym, ap, ◌∙◌, subst, arith, append_assoc, length-append}
-use Rattle.std.specs.Prelude.{Result, ◌==◌}
+use Rattle.std.proofs.Common.{◌≡◌, ℕ, ◌+◌, ◌≤◌, List, [], ◌∷◌, ◌++◌, length, take, Err, refl, sym, ap, ◌∙◌, subst, arith, append_assoc, length-append}
+use Rattle.std.specs.Prelude.{◌==◌}
 use Rattle.lobby_play.specs.Script.{PlaysTo}
 use Rattle.std.proofs.KnownBytes.{Appends-nil, Appends-trans, Appends-kept}
 use Rattle.std.proofs.Math.Seq.{take-append_seam}
@@ -7,7 +7,6 @@ use Rattle.std.proofs.lemmas.List.Sums.{count_by-le-length}
 use Rattle.std.proofs.lemmas.List.Splits.{length-slice_split}
 use Rattle.lobby_play.specs.declared.fault.LineFault.{LineFault}
 use Rattle.lobby_play.specs.declared.fault.LineFault.TheVariants as line
-use Rattle.lobby_play.specs.declared.fault.PlayFault.{PlayFault}
 use Rattle.lobby_play.specs.declared.fault.PlayFault.TheVariants as script
 use Rattle.lobby_play.specs.Faults.{fault_at}
 use Rattle.lobby_play.specs.Lines.{lines_of, lines_left}

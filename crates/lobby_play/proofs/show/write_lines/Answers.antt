@@ -1,5 +1,4 @@
-use Rattle.std.proofs.Common.{◌≡◌, ◌∷◌, [], ◌++◌, ap, ◌∙◌}
-use Rattle.std.specs.Io.KnownBytes.{Appends}
+use Rattle.std.proofs.Common.{◌∙◌}
 use Rattle.lobby_play.specs.Acts.{labelled}
 use Rattle.lobby_play.proofs.Shown.{line_labelled, none_labelled, written_more, written_all}
 use Rattle.lobby_play.proofs.show.write_lines.Goals as goal

@@ -1,4 +1,4 @@
-use Rattle.std.proofs.Common.{◌≡◌, ap, sym, ◌∙◌}
+use Rattle.std.proofs.Common.{ap, sym, ◌∙◌}
 use Rattle.std.specs.Str.{bytes_eq}
 use Rattle.lobby_play.proofs.Numbers.{no_text, text_of, no_number, number_if_written}
 use Rattle.lobby_play.proofs.words.number.Goals as goal

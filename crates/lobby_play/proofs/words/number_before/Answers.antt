@@ -1,4 +1,3 @@
-use Rattle.std.proofs.Common.{◌≡◌, ◌∙◌, sym, arith}
 use Rattle.lobby_play.proofs.Numbers.{leads_once}
 use Rattle.lobby_play.proofs.words.number_before.Goals as goal
 

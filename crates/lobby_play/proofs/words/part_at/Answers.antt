@@ -1,4 +1,4 @@
-use Rattle.std.proofs.Common.{◌≡◌, arith}
+use Rattle.std.proofs.Common.{arith}
 use Rattle.lobby_play.proofs.Parts.{lacks_all, lacks_below, parts_round}
 use Rattle.lobby_play.proofs.words.part_at.Goals as goal
 

@@ -1,5 +1,5 @@
-use Rattle.std.proofs.Common.{◌≡◌, List, ℕ, [], sym, ◌∙◌, refl, subst}
-use Rattle.lobby_hall.specs.Standing.{Kept, Stands}
+use Rattle.std.proofs.Common.{sym, ◌∙◌, refl, subst}
+use Rattle.lobby_hall.specs.Standing.{Stands}
 use Rattle.lobby_play.proofs.Performs.{no_such_label, open_acts, hall_stands, first_stands}
 use Rattle.lobby_play.proofs.player.Player.open.Goals as goal
 use Rattle.lobby_play.proofs.player.Player.open.Goals.{in-Some, in-None+in_ok-hall-in-None}

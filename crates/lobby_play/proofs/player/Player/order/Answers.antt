@@ -1,4 +1,4 @@
-use Rattle.std.proofs.Common.{◌≡◌, List, ℕ, [], Some, sym, ◌∙◌, refl, drop}
+use Rattle.std.proofs.Common.{[], Some, sym, ◌∙◌, refl, drop}
 use Rattle.lobby_hall.specs.Record.{log_at}
 use Rattle.std.proofs.KnownBytes.{Appends-nil}
 use Rattle.lobby_play.specs.Acts.{labelled}
