@@ -1,10 +1,13 @@
 # The recipes of this repository, one line each.
 SCRIPT ?= examples/ping.play
 
-.PHONY: play test
+.PHONY: play hash test
 
 play:
 	@cd crates/lobby_play && rt run < ../../$(SCRIPT)
+
+hash:
+	@cd crates/lobby_main && rt run -- hash
 
 test:
 	rt ci

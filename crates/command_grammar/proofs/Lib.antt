@@ -1,5 +1,14 @@
 pub mod Cuts
+pub mod Numerals
 pub mod Settles
+pub mod Sequences
 pub mod Tables
 pub mod Lines
 pub mod Whole
+pub mod Slices
+pub mod Checks
+pub mod Keeps
+pub mod KindTables
+pub mod Examples
+pub mod Fits
+pub mod SizeTables

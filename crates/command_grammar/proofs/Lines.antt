@@ -1,15 +1,14 @@
 -- A line reads as one request.
-use Rattle.std.proofs.Common.{◌≡◌, ◌≢◌, ℕ, ◌<◌, ◌≤◌, List, [], ◌∷◌, ◌++◌, length, length-append, refl, sym, ap, subst, ◌∙◌, Bool, true, false, T, cond, inl, inr, arith}
-use Rattle.std.specs.Prelude.{◌==◌, ◌&&◌, ◌||◌, not, nat_le, ◌⊎◌, IsTrue, MatchBool, Option, Some, None, Result, Ok, Err}
+use Rattle.std.proofs.Common.{◌≡◌, ℕ, ◌<◌, ◌≤◌, List, [], ◌∷◌, ◌++◌, length, length-append, refl, sym, ap, subst, ◌∙◌, Bool, true, false, cond, inl, inr, arith}
+use Rattle.std.specs.Prelude.{◌==◌, ◌&&◌, not, nat_le, ◌⊎◌, IsTrue, MatchBool, Option, Some, None, Err}
 use Rattle.std.specs.List.{list_all}
 use Rattle.std.proofs.lemmas.Bool.Decides.{nat_tests}
-use Rattle.std.proofs.lemmas.Bool.{eq-eqb, eqb-true, ne_eqb, and_parts, and_from}
+use Rattle.std.proofs.lemmas.Bool.{eqb-true, ne_eqb, and_parts, and_from}
 use Rattle.line_words.specs.Bytes.{is_spaces, has_byte, is_text, is_digit}
 use Rattle.line_words.specs.Numbers.{is_digits, value_of}
 use Rattle.line_words.specs.Parts.{before, from}
-use Rattle.line_words.specs.Words.{BeginsApart, EndsWord, SkipsSpaces}
+use Rattle.line_words.specs.Words.{BeginsApart, EndsWord}
 use Rattle.line_words.proofs.Splitting.{before-from, has_byte-before, from_ends}
-use Rattle.command_grammar.specs.declared.command.ReadFault.{ReadFault}
 use Rattle.command_grammar.specs.declared.command.ReadFault.TheVariants as fault
 use Rattle.command_grammar.specs.declared.command.Command.{Command}
 use Rattle.command_grammar.specs.declared.command.Request.{Request}
@@ -69,7 +68,7 @@ gap_ends : (gap text : List ℕ) → 0 < length gap → IsTrue (is_spaces gap) �
 gap_ends [] text h s = absurd (omega arith)
 gap_ends (x ∷ gap) text h s = eqb-true x 32 (and_first (x == 32) (is_spaces gap) s)
 
-le_test : (a b : ℕ) → a ≤ b → nat_le a b ≡ true
+pub le_test : (a b : ℕ) → a ≤ b → nat_le a b ≡ true
 le_test a b h = grind (arith, nat_tests)
 
 pub test_le : (a b : ℕ) → nat_le a b ≡ true → a ≤ b

@@ -1,5 +1,5 @@
 -- What the readers of a whole line make of it.
-use Rattle.std.proofs.Common.{◌≡◌, ℕ, ◌≤◌, List, [], ◌∷◌, refl, sym, ap, subst, ◌∙◌, Bool, true, false, T, cond, inl, arith, rules}
+use Rattle.std.proofs.Common.{◌≡◌, ℕ, List, [], ◌∷◌, refl, sym, ap, subst, ◌∙◌, Bool, true, false, cond, inl, arith}
 use Rattle.std.specs.Prelude.{ℤ, pos, ◌≤ℤ◌, IsTrue, Option, Some, None, Result, Ok, Err, nat_le}
 use Rattle.std.proofs.lemmas.Bool.{and_parts}
 use Rattle.std.proofs.lemmas.Int.{ints}
@@ -10,7 +10,7 @@ use Rattle.command_grammar.specs.declared.command.Request.{Request}
 use Rattle.command_grammar.specs.Owning.{owns_bytes}
 use Rattle.command_grammar.specs.Reads.{Reads, id_limit}
 use Rattle.command_grammar.specs.Reading.{without_spaces, command_of, needs_memory, text_of, is_id, id_of, numbered, request_with, request_of}
-use Rattle.command_grammar.proofs.Lines.{request_read, request_only, test_le}
+use Rattle.command_grammar.proofs.Lines.{request_only, test_le}
 
 numeral : (digits : List ℕ) → IsTrue (is_digits digits) → IsNumeral digits (pos (value_of digits))
 numeral [] h = absurd (let n : ⊥ = cc in n)

@@ -1,9 +1,12 @@
 -- The kinds of argument. Each says how the rest of a line, from the end of the command word or of the last argument on, begins with an
 -- argument, and hands that argument and its own rest to the next kind. What the last hands its arguments to says which command it is.
-use Rattle.std.specs.Prelude.{◌≡◌, ℕ, ◌<◌, ℤ, pos, negsuc, ◌≤ℤ◌, Bool, not, nat_eq, ◌==◌, ◌⊎◌, List, [], ◌∷◌, ◌++◌, filter, length, Option, Some, None, IsTrue, MatchBool}
+use Rattle.std.specs.Prelude.{◌≡◌, ℕ, ℤ, pos, negsuc, ◌≤ℤ◌, Bool, ◌==◌, ◌⊎◌, List, [], ◌∷◌, ◌++◌, Option, Some, None, IsTrue, MatchBool}
 use Rattle.std.specs.List.{list_any}
-use Rattle.line_words.specs.Bytes.{has_byte, is_spaces, is_name}
+use Rattle.line_words.specs.Bytes.{has_byte, is_spaces, is_name, is_key}
+use Rattle.line_words.specs.Numbers.{IsNumeral}
+use Rattle.line_words.specs.Sentences.{between_tabs}
 use Rattle.line_words.specs.Words.{NextWord}
+use Rattle.line_words.specs.declared.lists.Pair.{Pair}
 use Rattle.command_grammar.specs.declared.command.ReadFault.{ReadFault}
 use Rattle.command_grammar.specs.declared.command.ReadFault.TheVariants as fault
 use Rattle.command_grammar.specs.declared.command.Command.{Command}
@@ -26,3 +29,65 @@ OptionalWord K rest c = (IsTrue (is_spaces rest) × K None [] c)
 -- a word that is a name
 abbrev pub Name : (List ℕ → List ℕ → Command → Type 0) → List ℕ → Command → Type 0
 Name K = Word (λ word behind c. MatchBool (is_name word) (K word behind c) (IsFault fault.BadName c))
+
+-- a word that is a number from low to high
+abbrev pub Number : ℤ → ℤ → (ℤ → List ℕ → Command → Type 0) → List ℕ → Command → Type 0
+Number low high K = Word (λ word behind c.
+    ((z : ℤ) × IsNumeral word z × (low ≤ℤ z) × (z ≤ℤ high) × K z behind c)
+    ⊎ (((z : ℤ) → IsNumeral word z → low ≤ℤ z → z ≤ℤ high → ⊥) × IsFault fault.BadNumber c))
+
+-- a number from 0 to high
+abbrev pub Natural : ℕ → (ℕ → List ℕ → Command → Type 0) → List ℕ → Command → Type 0
+Natural high K = Number (pos 0) (pos high) (λ z behind c. (n : ℕ) × (z ≡ pos n) × K n behind c)
+
+-- a number from -2147483648 to 4294967295: colours, hashes, rank, cpu
+abbrev pub Wide : (ℤ → List ℕ → Command → Type 0) → List ℕ → Command → Type 0
+Wide = Number (negsuc 2147483647) (pos 4294967295)
+
+-- 0 or 1
+abbrev pub Flag : (Bool → List ℕ → Command → Type 0) → List ℕ → Command → Type 0
+Flag K = Natural 1 (λ n. K (n == 1))
+
+-- a text: all behind exactly one space; without that space it is missing
+abbrev pub Text : (List ℕ → Command → Type 0) → List ℕ → Command → Type 0
+Text K [] c = IsFault fault.MissingArgument c
+Text K (space ∷ text) c = K text c
+
+-- the sentences of a text, which tabs part
+abbrev pub Sentences : (List (List ℕ) → Command → Type 0) → List ℕ → Command → Type 0
+Sentences K = Text (λ text. K (between_tabs text))
+
+-- the next of the sentences; too few are a missing argument
+abbrev pub Sentence : (List ℕ → List (List ℕ) → Command → Type 0) → List (List ℕ) → Command → Type 0
+Sentence K [] c = IsFault fault.MissingArgument c
+Sentence K (sentence ∷ more) c = K sentence more c
+
+-- `key=value`: the key is a word without `=`, and the value all behind the `=`
+pub record IsPair (sentence : List ℕ) (p : Pair) : Type 0 where
+  pub whole : sentence ≡ p.key ++ (61 ∷ p.value)
+  pub key : IsTrue (is_key p.key)
+
+-- the sentences one after another: an empty one is skipped, and the first other that is no pair is a bad pair
+abbrev pub PairsIn : (List Pair → Command → Type 0) → List (List ℕ) → Command → Type 0
+PairsIn K [] c = K [] c
+PairsIn K ([] ∷ more) c = PairsIn K more c
+PairsIn K ((b ∷ bs) ∷ more) c =
+    ((p : Pair) × IsPair (b ∷ bs) p × PairsIn (λ pairs. K (p ∷ pairs)) more c) ⊎ (((p : Pair) → IsPair (b ∷ bs) p → ⊥) × IsFault fault.BadPair c)
+
+-- one or more; none is a missing argument
+abbrev pub AtLeastOne : {A : Type 0} → (List A → Command → Type 0) → List A → Command → Type 0
+AtLeastOne K [] c = IsFault fault.MissingArgument c
+AtLeastOne K (x ∷ xs) c = K (x ∷ xs) c
+
+-- the pairs among the sentences, at least one
+abbrev pub Pairs : (List Pair → Command → Type 0) → List ℕ → Command → Type 0
+Pairs K = Sentences (PairsIn (AtLeastOne K))
+
+-- rest is these words, each behind one or more spaces, and spaces
+abbrev pub AreWords : List ℕ → List (List ℕ) → Type 0
+AreWords rest [] = IsTrue (is_spaces rest)
+AreWords rest (word ∷ words) = (behind : List ℕ) × NextWord rest word behind × AreWords behind words
+
+-- all words of the rest, at least one; a tab in one of them is a bad byte
+abbrev pub Words : (List (List ℕ) → Command → Type 0) → List ℕ → Command → Type 0
+Words K rest c = (words : List (List ℕ)) × AreWords rest words × MatchBool (list_any (has_byte 9) words) (IsFault fault.BadByte c) (AtLeastOne K words c)

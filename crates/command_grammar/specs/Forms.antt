@@ -7,11 +7,41 @@ use Rattle.command_grammar.specs.declared.command.Command.{Command}
 use Rattle.command_grammar.specs.declared.command.Command.TheVariants as command
 use Rattle.command_grammar.specs.declared.command_word.CommandWord.{CommandWord}
 use Rattle.command_grammar.specs.declared.command_word.CommandWord.TheVariants as word
-use Rattle.command_grammar.specs.Arguments.{IsFault}
+use Rattle.command_grammar.specs.Arguments.{IsFault, Word, OptionalWord, Name, Natural, Wide, Flag, Text, Sentences, Sentence, Pairs, Words}
 
+-- the command words
 abbrev pub command_words : List (List ℕ × CommandWord)
 command_words = (codes "PING", word.Ping)
     ∷ (codes "EXIT", word.Exit)
+    ∷ (codes "LOGIN", word.Login)
+    ∷ (codes "MYSTATUS", word.MyStatus)
+    ∷ (codes "CHANNELS", word.Channels)
+    ∷ (codes "JOIN", word.Join)
+    ∷ (codes "LEAVE", word.Leave)
+    ∷ (codes "SAY", word.Say)
+    ∷ (codes "SAYEX", word.SayEx)
+    ∷ (codes "SAYPRIVATE", word.SayPrivate)
+    ∷ (codes "OPENBATTLE", word.OpenBattle)
+    ∷ (codes "JOINBATTLE", word.JoinBattle)
+    ∷ (codes "LEAVEBATTLE", word.LeaveBattle)
+    ∷ (codes "UPDATEBATTLEINFO", word.UpdateBattleInfo)
+    ∷ (codes "MYBATTLESTATUS", word.MyBattleStatus)
+    ∷ (codes "SAYBATTLE", word.SayBattle)
+    ∷ (codes "SAYBATTLEEX", word.SayBattleEx)
+    ∷ (codes "ADDBOT", word.AddBot)
+    ∷ (codes "UPDATEBOT", word.UpdateBot)
+    ∷ (codes "REMOVEBOT", word.RemoveBot)
+    ∷ (codes "ADDSTARTRECT", word.AddStartRect)
+    ∷ (codes "REMOVESTARTRECT", word.RemoveStartRect)
+    ∷ (codes "SETSCRIPTTAGS", word.SetScriptTags)
+    ∷ (codes "REMOVESCRIPTTAGS", word.RemoveScriptTags)
+    ∷ (codes "HANDICAP", word.Handicap)
+    ∷ (codes "FORCETEAMNO", word.ForceTeamNo)
+    ∷ (codes "FORCEALLYNO", word.ForceAllyNo)
+    ∷ (codes "FORCETEAMCOLOR", word.ForceTeamColor)
+    ∷ (codes "FORCESPECTATORMODE", word.ForceSpectatorMode)
+    ∷ (codes "KICKFROMBATTLE", word.KickFromBattle)
+    ∷ (codes "RING", word.Ring)
     ∷ []
 
 -- two words are the same, byte for byte
@@ -27,3 +57,47 @@ abbrev pub Form : Option CommandWord → List ℕ → Command → Type 0
 Form None rest c = IsFault fault.UnknownCommand c
 Form (Some word.Ping) rest c = c ≡ command.Ping
 Form (Some word.Exit) rest c = c ≡ command.Exit
+Form (Some word.Login) rest c =
+    Word (λ user_name. Word (λ password. Wide (λ cpu. Word (λ local_ip. Sentences (Sentence (λ lobby more c.
+    c ≡ command.Login user_name password cpu local_ip lobby)))))) rest c
+Form (Some word.MyStatus) rest c = Natural 4294967295 (λ status end c. c ≡ command.MyStatus status) rest c
+Form (Some word.Channels) rest c = c ≡ command.Channels
+Form (Some word.Join) rest c = Name (λ channel. OptionalWord (λ key end c. c ≡ command.Join channel)) rest c
+Form (Some word.Leave) rest c = Name (λ channel end c. c ≡ command.Leave channel) rest c
+Form (Some word.Say) rest c = Name (λ channel. Text (λ text c. c ≡ command.Say channel text)) rest c
+Form (Some word.SayEx) rest c = Name (λ channel. Text (λ text c. c ≡ command.SayEx channel text)) rest c
+Form (Some word.SayPrivate) rest c = Name (λ user. Text (λ text c. c ≡ command.SayPrivate user text)) rest c
+Form (Some word.OpenBattle) rest c =
+    Natural 1 (λ battle_type. Natural 2 (λ nat_type. Word (λ password. Natural 65535 (λ port. Natural 65535 (λ max_players.
+    Wide (λ game_hash. Wide (λ rank. Wide (λ map_hash.
+    Sentences (Sentence (λ engine_name. Sentence (λ engine_version. Sentence (λ map. Sentence (λ title. Sentence (λ game_name more c.
+    c ≡ command.OpenBattle battle_type nat_type password port max_players game_hash rank map_hash engine_name engine_version map title game_name)))))))))))))) rest c
+Form (Some word.JoinBattle) rest c =
+    Natural 2147483647 (λ battle. OptionalWord (λ password. OptionalWord (λ script_password end c. c ≡ command.JoinBattle battle password script_password))) rest c
+Form (Some word.LeaveBattle) rest c = c ≡ command.LeaveBattle
+Form (Some word.UpdateBattleInfo) rest c =
+    Natural 65535 (λ spectator_count. Flag (λ locked. Wide (λ map_hash. Sentences (Sentence (λ map more c.
+    c ≡ command.UpdateBattleInfo spectator_count locked map_hash map))))) rest c
+Form (Some word.MyBattleStatus) rest c =
+    Natural 4294967295 (λ battle_status. Wide (λ team_color end c. c ≡ command.MyBattleStatus battle_status team_color)) rest c
+Form (Some word.SayBattle) rest c = Text (λ text c. c ≡ command.SayBattle text) rest c
+Form (Some word.SayBattleEx) rest c = Text (λ text c. c ≡ command.SayBattleEx text) rest c
+Form (Some word.AddBot) rest c =
+    Word (λ bot. Natural 4294967295 (λ battle_status. Wide (λ team_color. Sentences (Sentence (λ ai more c.
+    c ≡ command.AddBot bot battle_status team_color ai))))) rest c
+Form (Some word.UpdateBot) rest c =
+    Word (λ bot. Natural 4294967295 (λ battle_status. Wide (λ team_color end c. c ≡ command.UpdateBot bot battle_status team_color))) rest c
+Form (Some word.RemoveBot) rest c = Word (λ bot end c. c ≡ command.RemoveBot bot) rest c
+Form (Some word.AddStartRect) rest c =
+    Natural 15 (λ ally_no. Natural 200 (λ left. Natural 200 (λ top. Natural 200 (λ right. Natural 200 (λ bottom end c.
+    c ≡ command.AddStartRect ally_no left top right bottom))))) rest c
+Form (Some word.RemoveStartRect) rest c = Natural 15 (λ ally_no end c. c ≡ command.RemoveStartRect ally_no) rest c
+Form (Some word.SetScriptTags) rest c = Pairs (λ pairs c. c ≡ command.SetScriptTags pairs) rest c
+Form (Some word.RemoveScriptTags) rest c = Words (λ keys c. c ≡ command.RemoveScriptTags keys) rest c
+Form (Some word.Handicap) rest c = Name (λ user. Natural 100 (λ value end c. c ≡ command.Handicap user value)) rest c
+Form (Some word.ForceTeamNo) rest c = Name (λ user. Natural 15 (λ number end c. c ≡ command.ForceTeamNo user number)) rest c
+Form (Some word.ForceAllyNo) rest c = Name (λ user. Natural 15 (λ number end c. c ≡ command.ForceAllyNo user number)) rest c
+Form (Some word.ForceTeamColor) rest c = Name (λ user. Wide (λ team_color end c. c ≡ command.ForceTeamColor user team_color)) rest c
+Form (Some word.ForceSpectatorMode) rest c = Name (λ user end c. c ≡ command.ForceSpectatorMode user) rest c
+Form (Some word.KickFromBattle) rest c = Name (λ user end c. c ≡ command.KickFromBattle user) rest c
+Form (Some word.Ring) rest c = Name (λ user end c. c ≡ command.Ring user) rest c

@@ -3,3 +3,5 @@ pub mod Forms
 pub mod Owning
 pub mod Reads
 pub mod Reading
+pub mod Kinds
+pub mod Sizes

@@ -1,9 +1,9 @@
 -- Which commands own bytes, and so take memory.
 use Rattle.std.specs.Prelude.{Bool, true, false, ◌||◌, is_some}
-use Rattle.command_grammar.specs.declared.command.ReadFault.{ReadFault}
 use Rattle.command_grammar.specs.declared.command.Command.{Command}
 use Rattle.command_grammar.specs.declared.command.Command.TheVariants as command
 
+-- the command has a word, name, sentence, text or list of its own
 abbrev pub owns_bytes : Command → Bool
 owns_bytes command.Blank = false
 owns_bytes (command.Unread f) = false

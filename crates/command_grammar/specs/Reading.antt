@@ -1,8 +1,10 @@
 -- What reading a line gives, as a function: the readers are proved by it, and it is proved to give what a line reads as.
-use Rattle.std.specs.Prelude.{◌≡◌, ℕ, Bool, true, false, ◌&&◌, ◌==◌, nat_le, if◌then◌else◌, List, [], ◌∷◌, length, Option, Some, None, Result, Ok, Err, IsTrue}
-use Rattle.line_words.specs.Bytes.{has_byte, is_text, is_name}
-use Rattle.line_words.specs.Parts.{before, from}
+use Rattle.std.specs.Prelude.{◌≡◌, ℕ, ℤ, pos, negsuc, neg_ℤ, int_lt, Bool, false, not, ◌&&◌, ◌||◌, ◌==◌, nat_le, if◌then◌else◌, List, [], ◌∷◌, ◌++◌, length, Option, Some, None, Result, Ok, Err, is_ok, IsTrue}
+use Rattle.line_words.specs.Bytes.{has_byte, is_text, is_name, is_key}
+use Rattle.line_words.specs.Parts.{before, from, between}
 use Rattle.line_words.specs.Numbers.{is_digits, value_of}
+use Rattle.line_words.specs.Sentences.{between_tabs}
+use Rattle.line_words.specs.declared.lists.Pair.{Pair}
 use Rattle.command_grammar.specs.declared.command.ReadFault.{ReadFault}
 use Rattle.command_grammar.specs.declared.command.ReadFault.TheVariants as fault
 use Rattle.command_grammar.specs.declared.command.Command.{Command}
@@ -16,6 +18,7 @@ use Rattle.command_grammar.specs.Owning.{owns_bytes}
 use Rattle.command_grammar.specs.Forms.{command_named}
 use Rattle.command_grammar.specs.Reads.{id_limit}
 
+-- one reading after another: the first fault ends it
 infixl 10 ◌>>=◌
 abbrev pub ◌>>=◌ : {A B : Type 0} → Result A ReadFault → (A → Result B ReadFault) → Result B ReadFault
 (Ok x) >>= f = f x
@@ -47,10 +50,12 @@ abbrev pub without_spaces : List ℕ → List ℕ
 without_spaces [] = []
 without_spaces (b ∷ bs) = if b == 32 then without_spaces bs else b ∷ bs
 
+-- a word that is there and has no tab
 abbrev pub checked_word : List ℕ → List ℕ → Result (List ℕ × List ℕ) ReadFault
 checked_word [] behind = Err fault.MissingArgument
 checked_word (b ∷ bs) behind = if has_byte 9 (b ∷ bs) then Err fault.BadByte else Ok (b ∷ bs, behind)
 
+-- the word at the front of a text
 abbrev pub word_in : List ℕ → Result (List ℕ × List ℕ) ReadFault
 word_in text = checked_word (before 32 text) (from 32 text)
 
@@ -58,19 +63,289 @@ word_in text = checked_word (before 32 text) (from 32 text)
 unfoldable pub word_at : List ℕ → Result (List ℕ × List ℕ) ReadFault
 word_at rest = word_in (without_spaces rest)
 
+-- no word is no fault
+abbrev pub if_there : Result (List ℕ × List ℕ) ReadFault → Result (Option (List ℕ) × List ℕ) ReadFault
+if_there (Ok x) = Ok (Some x.0, x.1)
+if_there (Err fault.MissingArgument) = Ok (None, [])
+if_there (Err f) = Err f
+
+-- the next word, if there is one
+unfoldable pub optional_at : List ℕ → Result (Option (List ℕ) × List ℕ) ReadFault
+optional_at rest = if_there (word_at rest)
+
+-- a word that is a name
+abbrev pub if_name : List ℕ × List ℕ → Result (List ℕ × List ℕ) ReadFault
+if_name x = if is_name x.0 then Ok x else Err fault.BadName
+
+-- the next word, which is a name
+unfoldable pub name_at : List ℕ → Result (List ℕ × List ℕ) ReadFault
+name_at rest = word_at rest >>= if_name
+
+-- the number that a word is written as
+abbrev pub numeral : List ℕ → Option ℤ
+numeral [] = None
+numeral (b ∷ bs) = if is_digits (b ∷ bs) then Some (pos (value_of (b ∷ bs))) else (if b == 45 && is_digits bs then Some (neg_ℤ (pos (value_of bs))) else None)
+
+-- low and high are in the range
+abbrev pub is_between : ℤ → ℤ → ℤ → Bool
+is_between low high z = not (int_lt z low) && not (int_lt high z)
+
+-- a number of the range
+abbrev pub if_between : ℤ → ℤ → Option ℤ → Result ℤ ReadFault
+if_between low high None = Err fault.BadNumber
+if_between low high (Some z) = if is_between low high z then Ok z else Err fault.BadNumber
+
+-- the number of the range that a word is
+unfoldable pub number_in : ℤ → ℤ → List ℕ → Result ℤ ReadFault
+number_in low high word = if_between low high (numeral word)
+
+-- the next word, which is a number from low to high
+unfoldable pub number_at : ℤ → ℤ → List ℕ → Result (ℤ × List ℕ) ReadFault
+number_at low high rest = do
+  word ← word_at rest
+  z ← number_in low high word.0
+  Ok (z, word.1)
+
+-- a number that is not negative
+abbrev pub natural_of : ℤ → ℕ
+natural_of (pos n) = n
+natural_of (negsuc n) = 0
+
+-- the next word, which is a number from 0 to high
+unfoldable pub natural_at : ℕ → List ℕ → Result (ℕ × List ℕ) ReadFault
+natural_at high rest = do
+  number ← number_at (pos 0) (pos high) rest
+  Ok (natural_of number.0, number.1)
+
+-- the next word, which is a number from -2147483648 to 4294967295
+unfoldable pub wide_at : List ℕ → Result (ℤ × List ℕ) ReadFault
+wide_at = number_at (negsuc 2147483647) (pos 4294967295)
+
+-- the next word, which is 0 or 1
+unfoldable pub flag_at : List ℕ → Result (Bool × List ℕ) ReadFault
+flag_at rest = do
+  number ← natural_at 1 rest
+  Ok (number.0 == 1, number.1)
+
+-- all behind one space
+unfoldable pub text_at : List ℕ → Result (List ℕ) ReadFault
+text_at [] = Err fault.MissingArgument
+text_at (space ∷ text) = Ok text
+
+-- the sentences of all behind one space
+unfoldable pub sentences_at : List ℕ → Result (List (List ℕ)) ReadFault
+sentences_at rest = do
+  text ← text_at rest
+  Ok (between_tabs text)
+
+-- the next sentence, and those behind it
+unfoldable pub sentence_in : List (List ℕ) → Result (List ℕ × List (List ℕ)) ReadFault
+sentence_in [] = Err fault.MissingArgument
+sentence_in (sentence ∷ more) = Ok (sentence, more)
+
+-- the pair of a key and a value
+abbrev pub pair : List ℕ → List ℕ → Pair
+pair key value = record { key = key; value = value }
+
+-- the pair whose key stands before the first `=`
+abbrev pub pair_of : List ℕ → List ℕ → Result Pair ReadFault
+pair_of key [] = Err fault.BadPair
+pair_of key (equals ∷ value) = if is_key key then Ok (pair key value) else Err fault.BadPair
+
+-- the pair that a sentence is
+unfoldable pub pair_in : List ℕ → Result Pair ReadFault
+pair_in sentence = pair_of (before 61 sentence) (from 61 sentence)
+
+-- a sentence that is skipped or kept
+abbrev pub is_pair_or_empty : List ℕ → Bool
+is_pair_or_empty sentence = length sentence == 0 || is_ok (pair_in sentence)
+
+-- the pairs among the sentences
+abbrev pub pairs_in : List (List ℕ) → Result (List Pair) ReadFault
+pairs_in [] = Ok []
+pairs_in ([] ∷ more) = pairs_in more
+pairs_in ((b ∷ bs) ∷ more) = do
+  p ← pair_in (b ∷ bs)
+  ps ← pairs_in more
+  Ok (p ∷ ps)
+
+-- these pairs, and behind them those that were read
+abbrev pub behind_pairs : List Pair → Result (List Pair) ReadFault → Result (List Pair) ReadFault
+behind_pairs front read = read >>= λ pairs. Ok (front ++ pairs)
+
+-- a list that is not empty
+abbrev pub at_least_one : {A : Type 0} → List A → Result (List A) ReadFault
+at_least_one [] = Err fault.MissingArgument
+at_least_one (x ∷ xs) = Ok (x ∷ xs)
+
+-- the pairs of a text
+unfoldable pub pairs_of : List ℕ → Result (List Pair) ReadFault
+pairs_of text = do
+  pairs ← pairs_in (between_tabs text)
+  at_least_one pairs
+
+-- the pairs of all behind one space
+unfoldable pub pairs_at : List ℕ → Result (List Pair) ReadFault
+pairs_at rest = do
+  text ← text_at rest
+  pairs_of text
+
+-- the parts that are not empty
+abbrev pub without_empty : List (List ℕ) → List (List ℕ)
+without_empty [] = []
+without_empty ([] ∷ more) = without_empty more
+without_empty ((b ∷ bs) ∷ more) = (b ∷ bs) ∷ without_empty more
+
+-- the words of a list, which spaces part
+unfoldable pub words_in : List ℕ → List (List ℕ)
+words_in rest = without_empty (between 32 rest)
+
+-- the words of the rest
+unfoldable pub words_at : List ℕ → Result (List (List ℕ)) ReadFault
+words_at rest = if has_byte 9 rest then Err fault.BadByte else at_least_one (words_in rest)
+
 -- what the form of a command makes of the rest of its line
 abbrev pub arguments_at : CommandWord → List ℕ → Result Command ReadFault
 arguments_at word.Ping rest = Ok command.Ping
 arguments_at word.Exit rest = Ok command.Exit
+arguments_at word.Login rest = do
+  user_name ← word_at rest
+  password ← word_at user_name.1
+  cpu ← wide_at password.1
+  local_ip ← word_at cpu.1
+  sentences ← sentences_at local_ip.1
+  lobby ← sentence_in sentences
+  Ok (command.Login user_name.0 password.0 cpu.0 local_ip.0 lobby.0)
+arguments_at word.MyStatus rest = do
+  status ← natural_at 4294967295 rest
+  Ok (command.MyStatus status.0)
+arguments_at word.Channels rest = Ok command.Channels
+arguments_at word.Join rest = do
+  channel ← name_at rest
+  key ← optional_at channel.1
+  Ok (command.Join channel.0)
+arguments_at word.Leave rest = do
+  channel ← name_at rest
+  Ok (command.Leave channel.0)
+arguments_at word.Say rest = do
+  channel ← name_at rest
+  text ← text_at channel.1
+  Ok (command.Say channel.0 text)
+arguments_at word.SayEx rest = do
+  channel ← name_at rest
+  text ← text_at channel.1
+  Ok (command.SayEx channel.0 text)
+arguments_at word.SayPrivate rest = do
+  user ← name_at rest
+  text ← text_at user.1
+  Ok (command.SayPrivate user.0 text)
+arguments_at word.OpenBattle rest = do
+  battle_type ← natural_at 1 rest
+  nat_type ← natural_at 2 battle_type.1
+  password ← word_at nat_type.1
+  port ← natural_at 65535 password.1
+  max_players ← natural_at 65535 port.1
+  game_hash ← wide_at max_players.1
+  rank ← wide_at game_hash.1
+  map_hash ← wide_at rank.1
+  sentences ← sentences_at map_hash.1
+  engine_name ← sentence_in sentences
+  engine_version ← sentence_in engine_name.1
+  map ← sentence_in engine_version.1
+  title ← sentence_in map.1
+  game_name ← sentence_in title.1
+  Ok (command.OpenBattle battle_type.0 nat_type.0 password.0 port.0 max_players.0 game_hash.0 rank.0 map_hash.0 engine_name.0 engine_version.0 map.0 title.0 game_name.0)
+arguments_at word.JoinBattle rest = do
+  battle ← natural_at 2147483647 rest
+  password ← optional_at battle.1
+  script_password ← optional_at password.1
+  Ok (command.JoinBattle battle.0 password.0 script_password.0)
+arguments_at word.LeaveBattle rest = Ok command.LeaveBattle
+arguments_at word.UpdateBattleInfo rest = do
+  spectator_count ← natural_at 65535 rest
+  locked ← flag_at spectator_count.1
+  map_hash ← wide_at locked.1
+  sentences ← sentences_at map_hash.1
+  map ← sentence_in sentences
+  Ok (command.UpdateBattleInfo spectator_count.0 locked.0 map_hash.0 map.0)
+arguments_at word.MyBattleStatus rest = do
+  battle_status ← natural_at 4294967295 rest
+  team_color ← wide_at battle_status.1
+  Ok (command.MyBattleStatus battle_status.0 team_color.0)
+arguments_at word.SayBattle rest = do
+  text ← text_at rest
+  Ok (command.SayBattle text)
+arguments_at word.SayBattleEx rest = do
+  text ← text_at rest
+  Ok (command.SayBattleEx text)
+arguments_at word.AddBot rest = do
+  bot ← word_at rest
+  battle_status ← natural_at 4294967295 bot.1
+  team_color ← wide_at battle_status.1
+  sentences ← sentences_at team_color.1
+  ai ← sentence_in sentences
+  Ok (command.AddBot bot.0 battle_status.0 team_color.0 ai.0)
+arguments_at word.UpdateBot rest = do
+  bot ← word_at rest
+  battle_status ← natural_at 4294967295 bot.1
+  team_color ← wide_at battle_status.1
+  Ok (command.UpdateBot bot.0 battle_status.0 team_color.0)
+arguments_at word.RemoveBot rest = do
+  bot ← word_at rest
+  Ok (command.RemoveBot bot.0)
+arguments_at word.AddStartRect rest = do
+  ally_no ← natural_at 15 rest
+  left ← natural_at 200 ally_no.1
+  top ← natural_at 200 left.1
+  right ← natural_at 200 top.1
+  bottom ← natural_at 200 right.1
+  Ok (command.AddStartRect ally_no.0 left.0 top.0 right.0 bottom.0)
+arguments_at word.RemoveStartRect rest = do
+  ally_no ← natural_at 15 rest
+  Ok (command.RemoveStartRect ally_no.0)
+arguments_at word.SetScriptTags rest = do
+  pairs ← pairs_at rest
+  Ok (command.SetScriptTags pairs)
+arguments_at word.RemoveScriptTags rest = do
+  keys ← words_at rest
+  Ok (command.RemoveScriptTags keys)
+arguments_at word.Handicap rest = do
+  user ← name_at rest
+  value ← natural_at 100 user.1
+  Ok (command.Handicap user.0 value.0)
+arguments_at word.ForceTeamNo rest = do
+  user ← name_at rest
+  number ← natural_at 15 user.1
+  Ok (command.ForceTeamNo user.0 number.0)
+arguments_at word.ForceAllyNo rest = do
+  user ← name_at rest
+  number ← natural_at 15 user.1
+  Ok (command.ForceAllyNo user.0 number.0)
+arguments_at word.ForceTeamColor rest = do
+  user ← name_at rest
+  team_color ← wide_at user.1
+  Ok (command.ForceTeamColor user.0 team_color.0)
+arguments_at word.ForceSpectatorMode rest = do
+  user ← name_at rest
+  Ok (command.ForceSpectatorMode user.0)
+arguments_at word.KickFromBattle rest = do
+  user ← name_at rest
+  Ok (command.KickFromBattle user.0)
+arguments_at word.Ring rest = do
+  user ← name_at rest
+  Ok (command.Ring user.0)
 
+-- the command of a command word and its rest
 abbrev pub known_at : Option CommandWord → List ℕ → Result Command ReadFault
 known_at None rest = Err fault.UnknownCommand
 known_at (Some w) rest = arguments_at w rest
 
+-- the command of a text
 unfoldable pub text_of : List ℕ → Result Command ReadFault
 text_of text =
     if length text == 0 then Ok command.Blank else (if is_text text then known_at (command_named (before 32 text)) (from 32 text) else Err fault.BadByte)
 
+-- 1 to 10 digits, of at most the largest id
 abbrev pub is_id : List ℕ → Bool
 is_id digits = is_digits digits && nat_le (value_of digits) id_limit
 
@@ -89,6 +364,7 @@ unfoldable pub numbered : List ℕ → Option ℕ × List ℕ
 numbered [] = (None, [])
 numbered (b ∷ bs) = if b == 35 then with_id (b ∷ bs) (id_of (before 32 bs)) (from 32 bs) else (None, b ∷ bs)
 
+-- the request of an id and a text
 abbrev pub request_with : Option ℕ × List ℕ → Request
 request_with found = record { id = found.0; command = command_of (text_of found.1) }
 

@@ -1,5 +1,5 @@
 -- What a line asks for, by how it is composed.
-use Rattle.std.specs.Prelude.{◌≡◌, ℕ, ◌<◌, ◌≤◌, Bool, not, List, [], ◌∷◌, ◌++◌, length, Option, Some, None, IsTrue, MatchBool}
+use Rattle.std.specs.Prelude.{◌≡◌, ℕ, ◌<◌, ◌≤◌, not, List, [], ◌∷◌, ◌++◌, length, Option, Some, None, IsTrue, MatchBool}
 use Rattle.line_words.specs.Bytes.{has_byte, is_spaces, is_text}
 use Rattle.line_words.specs.Words.{BeginsApart, EndsWord, SkipsSpaces}
 use Rattle.line_words.specs.Numbers.{is_digits, value_of}

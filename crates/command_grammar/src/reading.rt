@@ -2,6 +2,7 @@
 
 ghost use Rattle.std.specs.Prelude.{◌≡◌, Ok, Err, IfOk, OnErr, IsTrue};
 ghost use Rattle.command_grammar.specs.declared.command.Request.{Request};
+ghost use Rattle.line_words.specs.Bytes.{is_text};
 ghost use Rattle.command_grammar.specs.Owning.{owns_bytes};
 ghost use Rattle.command_grammar.specs.Reading.{Gives, without_spaces, arguments_at, text_of, id_of, with_id, numbered, needs_memory, command_of, request_of};
 ghost use Rattle.command_grammar.specs.Reads.{Reads};
@@ -9,14 +10,18 @@ ghost use Rattle.command_grammar.specs.Reads.{Reads};
 use crate::command::{Command, ReadFault, Request};
 use crate::command_word::{CommandWord, command_named};
 use crate::fault::ReadError;
+use crate::forms;
 use line_words::{Words, is_text, read_number, split_at_byte};
 use std::alloc::{AllocError, Global};
 
 /// The largest message id.
 const ID_LIMIT: i64 = 2147483647;
 
-/// What the line asks for: the one request that it reads as. `line` is a client's line without its end, whatever its bytes.
-/// Memory is taken for the bytes that a command owns and for nothing else; where it is refused, none is kept.
+/// What the line asks for: the one request that it reads as. `line` is a client's line without its end, whatever its bytes
+/// and its length. A line that is no command is a request too: its command says which fault comes first.
+///
+/// Memory is taken for the bytes that a command owns, and only once the whole line was found to be that command. `AllocError`
+/// comes where that memory is refused, and nothing is kept then.
 pub fn read_request(alloc: Global, line: &[u8]) -> Result<Request, AllocError>
     ensures reads { IfOk result (λ request. Reads line.now request) }
     ensures only { IfOk result (λ request. (other : Request) → Reads line.now other → other ≡ request) }
@@ -27,6 +32,7 @@ pub fn read_request(alloc: Global, line: &[u8]) -> Result<Request, AllocError>
     Ok(Request { id, command })
 }
 
+// The line without the spaces at its front.
 fn without_spaces(line: &[u8]) -> &[u8]
     ensures { result.now ≡ without_spaces line.now }
 {
@@ -52,6 +58,7 @@ fn read_id(line: &[u8]) -> (Option<u32>, &[u8])
     }
 }
 
+// An id counts where at least one space is behind it.
 fn with_id<'a>(line: &'a [u8], id: Option<u32>, behind: &'a [u8]) -> (Option<u32>, &'a [u8])
     ensures { (result.0, result.1.now) ≡ with_id line.entry.now id behind.entry.now }
 {
@@ -77,6 +84,7 @@ fn id_of(digits: &[u8]) -> Option<u32>
     }
 }
 
+// A fault is a request too.
 fn read_text(alloc: Global, text: &[u8]) -> Result<Command, AllocError>
     ensures ok { IfOk result (λ c. c ≡ command_of (text_of text.now)) }
     ensures err { OnErr result (IsTrue (needs_memory (text_of text.now))) }
@@ -88,6 +96,7 @@ fn read_text(alloc: Global, text: &[u8]) -> Result<Command, AllocError>
     }
 }
 
+// The command word, and its arguments behind it.
 #[tactic(auto, unfolding(crate::specs::Reading::text_of))]
 fn read_command(alloc: Global, text: &[u8]) -> Result<Command, ReadError>
     ensures { Gives result (text_of text.now) }
@@ -105,11 +114,42 @@ fn read_command(alloc: Global, text: &[u8]) -> Result<Command, ReadError>
     }
 }
 
-fn read_arguments(_alloc: Global, word: CommandWord, _rest: &[u8]) -> Result<Command, ReadError>
-    ensures { Gives result (arguments_at word _rest.now) }
+// The arguments that the form of the command asks for.
+fn read_arguments(alloc: Global, word: CommandWord, rest: &[u8]) -> Result<Command, ReadError>
+    requires { IsTrue (is_text rest.now) }
+    ensures { Gives result (arguments_at word rest.now) }
 {
     match word {
         CommandWord::Ping => Ok(Command::Ping),
         CommandWord::Exit => Ok(Command::Exit),
+        CommandWord::Login => forms::login(alloc, rest),
+        CommandWord::MyStatus => forms::my_status(rest),
+        CommandWord::Channels => Ok(Command::Channels),
+        CommandWord::Join => forms::join(alloc, rest),
+        CommandWord::Leave => forms::leave(alloc, rest),
+        CommandWord::Say => forms::say(alloc, rest),
+        CommandWord::SayEx => forms::say_ex(alloc, rest),
+        CommandWord::SayPrivate => forms::say_private(alloc, rest),
+        CommandWord::OpenBattle => forms::open_battle(alloc, rest),
+        CommandWord::JoinBattle => forms::join_battle(alloc, rest),
+        CommandWord::LeaveBattle => Ok(Command::LeaveBattle),
+        CommandWord::UpdateBattleInfo => forms::update_battle_info(alloc, rest),
+        CommandWord::MyBattleStatus => forms::my_battle_status(rest),
+        CommandWord::SayBattle => forms::say_battle(alloc, rest),
+        CommandWord::SayBattleEx => forms::say_battle_ex(alloc, rest),
+        CommandWord::AddBot => forms::add_bot(alloc, rest),
+        CommandWord::UpdateBot => forms::update_bot(alloc, rest),
+        CommandWord::RemoveBot => forms::remove_bot(alloc, rest),
+        CommandWord::AddStartRect => forms::add_start_rect(rest),
+        CommandWord::RemoveStartRect => forms::remove_start_rect(rest),
+        CommandWord::SetScriptTags => forms::set_script_tags(alloc, rest),
+        CommandWord::RemoveScriptTags => forms::remove_script_tags(alloc, rest),
+        CommandWord::Handicap => forms::handicap(alloc, rest),
+        CommandWord::ForceTeamNo => forms::force_team_no(alloc, rest),
+        CommandWord::ForceAllyNo => forms::force_ally_no(alloc, rest),
+        CommandWord::ForceTeamColor => forms::force_team_color(alloc, rest),
+        CommandWord::ForceSpectatorMode => forms::force_spectator_mode(alloc, rest),
+        CommandWord::KickFromBattle => forms::kick_from_battle(alloc, rest),
+        CommandWord::Ring => forms::ring(alloc, rest),
     }
 }

@@ -19,8 +19,11 @@ none_behind_whole a whole rest k low lt is =
     let same : whole + (k - whole) ≡ k = omega arith in
     none (k - whole) (omega (arith, length-drop whole a)) (get_or-drop whole a (k - whole) 0 ∙ ap (λ i. get_or a i 0) same ∙ is)
 
+pub lines_of_none : (a : List ℕ) → HasNoEnd a → map without_cr (lines_in a) ≡ []
+lines_of_none a none = ap (λ (q : Parts). map without_cr q.0) (parts_none a none)
+
 pub first_of_none : (a : List ℕ) → HasNoEnd a → first (map without_cr (lines_in a)) ≡ None
-first_of_none a none = ap (λ (q : Parts). first (map without_cr q.0)) (parts_none a none)
+first_of_none a none = ap first (lines_of_none a none)
 
 pub first_of_some : (a : List ℕ) (n : ℕ) → FirstEndAt a n → first (map without_cr (lines_in a)) ≡ Some (without_cr (take n a))
 first_of_some a n h = ap (λ (q : Parts). first (map without_cr q.0)) (parts_first a n h)

@@ -4,8 +4,8 @@ use Rattle.std.specs.Prelude.{◌==◌, nat_le, max, if◌then◌else◌}
 use Rattle.std.proofs.Math.Dec.{eqb→eq}
 use Rattle.std.proofs.Math.Seq.{take-add}
 use Rattle.std.proofs.lemmas.List.{take_more, drop-drop, take-append-drop, get_or-take, get_or-drop, get_or-append-add, get_or_append_left}
-use Rattle.line_framer.specs.Frames.{Parts, lines_in, rest_of, sound_lines, is_spoilt, without_cr}
-use Rattle.line_framer.specs.Buffered.{with_ends, HasNoEnd, LastEndAt, IsCut}
+use Rattle.line_framer.specs.Frames.{with_ends, Parts, lines_in, rest_of, sound_lines, is_spoilt, without_cr}
+use Rattle.line_framer.specs.Buffered.{HasNoEnd, LastEndAt, IsCut}
 use Rattle.line_framer.proofs.Parts.{parts_none, rest-end}
 use Rattle.line_framer.proofs.Limit.{spoilt_behind, lines_behind, rest_behind, too_long, short_rest}
 

@@ -3,9 +3,9 @@ use Rattle.std.proofs.Common.{◌≡◌, ◌≢◌, ℕ, zero, suc, ◌+◌, ◌
 use Rattle.std.specs.Prelude.{Option, None, Some, if◌then◌else◌, nat_le}
 use Rattle.std.proofs.Math.Seq.{take-add}
 use Rattle.std.proofs.lemmas.List.{drop-drop, drop-append-le, take-append-le, take_at, take-take, drop_all, get_or-take, get_or_append_left, get_or-append-add}
-use Rattle.line_framer.specs.Frames.{Parts, parts, lines_in, rest_of, sound_lines, is_spoilt}
+use Rattle.line_framer.specs.Frames.{with_ends, Parts, parts, lines_in, rest_of, sound_lines, is_spoilt}
 use Rattle.line_framer.specs.Framed.{TookIn}
-use Rattle.line_framer.specs.Buffered.{with_ends, HasNoEnd, IsFirstEnd, IsBuffered, IsCut}
+use Rattle.line_framer.specs.Buffered.{HasNoEnd, IsFirstEnd, IsBuffered, IsCut}
 use Rattle.line_framer.proofs.Parts.{joined, rest_has_no_end, with_ends-append}
 use Rattle.line_framer.proofs.Limit.{all_sound, or_first, parts_of_sound, sound_is_sound}
 use Rattle.line_framer.proofs.Stands.{lines-append, spoilt-append, rest-append, stands_fed}

@@ -1,10 +1,11 @@
 -- Where bytes are cut: up to lines that fit, at a line that is too long, at an end without a further LF.
 use Rattle.std.proofs.Common.{◌≡◌, ℕ, ◌+◌, ◌<◌, ◌≤◌, List, [], ◌∷◌, ◌++◌, length, take, drop, refl, sym, ap, subst, ◌∙◌, Bool, true, false, T, arith, append_assoc, append-nil, length-take, length-append}
-use Rattle.std.specs.Prelude.{◌==◌, if◌then◌else◌, not, ◌||◌, nat_le}
+use Rattle.std.specs.Prelude.{map, ◌==◌, if◌then◌else◌, not, ◌||◌, nat_le}
 use Rattle.std.specs.List.{list_any, AllByRecursion}
 use Rattle.std.proofs.lemmas.List.{take-append-drop}
-use Rattle.line_framer.specs.Frames.{Parts, parts, with_byte, lines_in, rest_of, sound_lines, is_spoilt, fits}
-use Rattle.line_framer.specs.Buffered.{with_ends, HasNoEnd}
+use Rattle.line_framer.specs.Frames.{without_cr, with_ends, Parts, parts, with_byte, lines_in, rest_of, sound_lines, is_spoilt, fits}
+use Rattle.line_framer.specs.Buffered.{HasNoEnd}
+use Rattle.line_framer.specs.Laws.{IsPlainLine, ComesOut}
 use Rattle.line_framer.proofs.Parts.{behind, parts-append, onto, parts_onto, parts_none, joined, with_ends-append}
 
 le-leb : (a b : ℕ) → a ≤ b → nat_le a b ≡ true
@@ -168,3 +169,27 @@ pub sound_is_sound : (limit : ℕ) (b : List ℕ) → is_spoilt (with_ends (soun
 sound_is_sound limit b =
     ap (spoilt_in limit) (parts_of_sound limit b)
     ∙ ap (λ t. t || not (fits limit [])) (sound_none_long limit (lines_in b)) ∙ ap not (le-leb 0 limit (omega arith))
+
+-- plain lines with their ends
+
+plain_no_lf : (limit : ℕ) (ls : List (List ℕ)) → AllByRecursion (IsPlainLine limit) ls → AllByRecursion NoLf ls
+plain_no_lf limit [] h = tt
+plain_no_lf limit (l ∷ ls) h = (h.0.no_end, plain_no_lf limit ls h.1)
+
+plain_fit : (limit : ℕ) (ls : List (List ℕ)) → AllByRecursion (IsPlainLine limit) ls → any_long limit ls ≡ false
+plain_fit limit [] h = refl
+plain_fit limit (l ∷ ls) h = ap (λ b. not b || any_long limit ls) (le-leb (length l) limit h.0.fits) ∙ plain_fit limit ls h.1
+
+plain_stay : (limit : ℕ) (ls : List (List ℕ)) → AllByRecursion (IsPlainLine limit) ls → map without_cr ls ≡ ls
+plain_stay limit [] h = refl
+plain_stay limit (l ∷ ls) h = ap (λ x. x ∷ map without_cr ls) h.0.no_cr ∙ ap (λ xs. l ∷ xs) (plain_stay limit ls h.1)
+
+pub plain_come_out : (lines : List (List ℕ)) (limit : ℕ) → AllByRecursion (IsPlainLine limit) lines → ComesOut lines limit
+plain_come_out lines limit h =
+    let e = parts-with_ends lines (plain_no_lf limit lines h) in
+    let fit = plain_fit limit lines h in
+    record {
+      frames_are = ap (λ (q : Parts). map without_cr (sound_lines limit q.0)) e ∙ ap (map without_cr) (all_sound limit lines fit) ∙ plain_stay limit lines h;
+      spoilt_is = ap (spoilt_in limit) e ∙ ap (λ t. t || not (fits limit [])) fit ∙ ap not (le-leb 0 limit (omega arith));
+      rest_is = ap (λ (q : Parts). q.1) e;
+    }

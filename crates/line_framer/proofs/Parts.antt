@@ -2,8 +2,8 @@
 use Rattle.std.proofs.Common.{◌≡◌, ◌≢◌, ℕ, zero, suc, ◌+◌, ◌<◌, List, [], ◌∷◌, ◌++◌, length, get_or, take, drop, refl, sym, ap, subst, ◌∙◌, true, false, T, arith, append_assoc, add-one}
 use Rattle.std.specs.Prelude.{◌==◌, if◌then◌else◌}
 use Rattle.std.proofs.Math.Dec.{eqb→eq}
-use Rattle.line_framer.specs.Frames.{Parts, parts, with_byte, lines_in, rest_of}
-use Rattle.line_framer.specs.Buffered.{with_ends, HasNoEnd, FirstEndAt}
+use Rattle.line_framer.specs.Frames.{with_ends, Parts, parts, with_byte, lines_in, rest_of}
+use Rattle.line_framer.specs.Buffered.{HasNoEnd, FirstEndAt}
 
 not_lf : (b : ℕ) → b ≢ 10 → (b == 10) ≡ false
 not_lf b h = elim (b == 10) as (λ t. (b == 10) ≡ t → t ≡ false) [ true ↦ λ e. absurd (h (eqb→eq b 10 (subst T (sym e) tt))) | false ↦ λ e. refl ] refl

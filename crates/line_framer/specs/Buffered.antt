@@ -1,10 +1,6 @@
 -- What a framer keeps in its buffer, and what a search of bytes for line ends finds.
-use Rattle.std.specs.Prelude.{◌≡◌, ◌≢◌, ℕ, ◌<◌, ◌≤◌, Bool, false, List, [], ◌∷◌, ◌++◌, Option, MatchOption, flat_map, length, take, drop, slice_index}
-use Rattle.line_framer.specs.Frames.{lines_in, rest_of, is_spoilt, sound_lines}
-
--- lines with their ends
-abbrev pub with_ends : List (List ℕ) → List ℕ
-with_ends lines = flat_map (λ p. p ++ 10 ∷ []) lines
+use Rattle.std.specs.Prelude.{◌≡◌, ◌≢◌, ℕ, ◌<◌, ◌≤◌, Bool, false, List, Option, MatchOption, length, take, drop, slice_index}
+use Rattle.line_framer.specs.Frames.{with_ends, lines_in, rest_of, is_spoilt, sound_lines}
 
 -- no byte is an LF
 abbrev pub HasNoEnd : List ℕ → Type 0

@@ -46,14 +46,11 @@ pub(crate) fn next_end(
     if next.is_some() || !has_end {
         return next;
     }
-    match first_end(kept) {
-        Some(end) => Some(ahead + end),
-        None => None,
-    }
+    first_end(kept).map(|end| ahead + end)
 }
 
-// What is kept of an unfinished line and a piece behind it: how many bytes of the two are whole lines, and whether a
-// spoilt place stands behind those.
+// How many bytes of an unfinished line and a piece behind it are whole lines before the spoilt place, and whether there
+// is one.
 #[derive(Clone, Copy)]
 pub(crate) struct Cut {
     pub(crate) whole: usize,
@@ -61,7 +58,8 @@ pub(crate) struct Cut {
 }
 
 impl Cut {
-    // Of a piece behind an unfinished line of `before` bytes, what stands before the spoilt place and is a line's.
+    // What is kept of a piece that came behind an unfinished line of `before` bytes: all of it, or what whole lines
+    // before the spoilt place take of it.
     pub(crate) fn kept<'a>(&self, piece: &'a [u8], before: usize) -> &'a [u8]
         requires { self.now.whole ≤ before + length piece.now }
         ensures { result.now ≡ (if self.now.spoilt then take (self.now.whole - before) piece.now else piece.now) }
@@ -74,8 +72,9 @@ impl Cut {
     }
 }
 
-// Cuts an unfinished line of `before` bytes with the piece behind it. A byte is searched once where the two fit the
-// limit together; behind a line's end in a longer piece the bytes up to the next end may be searched once more.
+// Cuts an unfinished line of `before` bytes with the piece behind it. No line in them is too long where the two together
+// are not, so the last LF says it all; before that, lines are skipped by windows of one line's size, each up to its last
+// LF. The unfinished line itself is not searched again.
 pub(crate) fn cut_piece(piece: &[u8], before: usize, limit: usize) -> Cut
     requires fits { before ≤ limit }
     requires room { before + length piece.now < 2 ^ 64 }
@@ -105,8 +104,8 @@ pub(crate) fn cut_piece(piece: &[u8], before: usize, limit: usize) -> Cut
     }
 }
 
-// Moves what stands from `start` on to the begin of the buffer, once no more than that was dropped: so a dropped byte
-// pays for at most one that is moved. Gives where it stands then.
+// Moves what stands from `start` on to the beginning of the buffer, where it is no longer than what was dropped before it,
+// so that each dropped byte pays for at most one that is moved. Gives where it stands then.
 pub(crate) fn closed_up(buffer: &mut Vec<u8>, start: usize) -> usize
     requires { start ≤ vec_len buffer.old }
     ensures within { result ≤ vec_len buffer.new }

@@ -45,6 +45,17 @@ fn a_line_is_one_however_it_is_cut(rt: HostRuntime) {
 }
 
 #[test]
+fn a_cr_is_dropped_though_its_lf_comes_in_the_next_piece(rt: HostRuntime) {
+    let mut framer = Framer::new(rt.alloc(), LIMIT);
+    assert_eq!(rt; fed(&mut framer, b"PI"), Ok(()));
+    assert_eq!(rt; fed(&mut framer, b"NG\r"), Ok(()));
+    assert!(rt; framer.next_len().is_none());
+    assert_eq!(rt; fed(&mut framer, b"\n"), Ok(()));
+    assert!(rt; takes(&mut framer, b"PING"));
+    assert!(rt; framer.next_len().is_none());
+}
+
+#[test]
 fn a_line_of_8192_bytes_is_a_line(rt: HostRuntime) {
     let mut framer = Framer::new(rt.alloc(), LIMIT);
     assert_eq!(rt; fed(&mut framer, &[b'A'; 8192]), Ok(()));

@@ -1,9 +1,9 @@
 -- The first word behind spaces.
-use Rattle.std.proofs.Common.{◌≡◌, ◌≢◌, ℕ, zero, suc, ◌+◌, ◌<◌, Bool, true, false, cond, List, [], ◌∷◌, ◌++◌, length, get_or, take, drop, refl, sym, ap, subst, ◌∙◌, arith}
+use Rattle.std.proofs.Common.{◌≡◌, ◌≢◌, ℕ, zero, suc, ◌<◌, true, List, [], ◌∷◌, ◌++◌, length, get_or, take, drop, refl, sym, ap, subst, ◌∙◌, arith}
 use Rattle.std.specs.Prelude.{not, ◌==◌, ◌-◌}
-use Rattle.std.proofs.lemmas.Bool.{and_parts, and_from, eq-eqb, eqb-true, ne_eqb}
+use Rattle.std.proofs.lemmas.Bool.{and_parts, and_from, eq-eqb, ne_eqb}
 use Rattle.std.proofs.lemmas.List.{length-drop, take_all}
-use Rattle.line_words.specs.Bytes.{has_byte, is_spaces}
+use Rattle.line_words.specs.Bytes.{is_spaces}
 use Rattle.line_words.specs.Parts.{before, from, Ends}
 use Rattle.line_words.specs.Words.{BeginsApart, EndsWord, FirstWord, NextWord, SkipsSpaces}
 use Rattle.line_words.proofs.Splitting.{before-from, has_byte-before, from_ends}

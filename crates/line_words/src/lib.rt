@@ -14,3 +14,6 @@ pub use lists::{NameList, Pair, PairList, TextList, WordList};
 pub use numbers::{read_number, write_number};
 pub use owned::{KeyBuf, NameBuf, SentenceBuf, TextBuf, WordBuf};
 pub use walking::{Sentences, Words, split_at_byte, split_sentences};
+
+#[cfg(test)]
+mod tests;

@@ -46,6 +46,10 @@ abbrev pub StandsAfter : Kept → Configuration → List Event → World → Ste
 StandsAfter hall settings events world s =
     (here : List Event) × (new : World) × StepGives world s here new × Stands hall settings (events ++ here) new
 
+-- whatever world the old hall stood for, the new one stands for what the step gives
+abbrev pub TakesStep : Kept → Kept → Step → Type 0
+TakesStep old new s = (settings : Configuration) (events : List Event) (world : World) → Stands old settings events world → StandsAfter new settings events world s
+
 -- a whole line, or a spoilt place, is next
 abbrev pub is_ready : World → ℕ → Bool
 is_ready w c = is_open w c && (is_some (slice_get (frames (input w c).bytes line_limit) (input w c).taken) || is_spoilt (input w c).bytes line_limit)

@@ -1,8 +1,114 @@
-use command_grammar::Request;
+//! One client's bytes, read line by line.
 
+ghost use Rattle.std.specs.Prelude.{◌≡◌, ℕ, ◌+◌, ◌||◌, ◌↔◌, List, [], ◌++◌, IfOk, IsSome, IsTrue, is_some, slice_get, true};
+ghost use Rattle.line_framer.specs.Frames.{frames, is_spoilt};
+ghost use Rattle.line_framer.specs.Feeding.{IsJudged};
+ghost use Rattle.line_framer.specs.Framed.{next_line};
+ghost use Rattle.lobby_model.specs.Schedule.{line_limit};
+ghost use Rattle.lobby_hall.specs.Sessions.{Heard, IsNext};
+
+use command_grammar::{Request, read_request};
+use line_framer::{FeedError, Framer};
+use std::alloc::{AllocError, Global};
+use std::marker::Model;
+
+/// The most bytes of a client's line before its LF, a CR that is dropped counted.
+pub const LINE_LIMIT: usize = 8_192;
+
+/// What a client asks next.
 #[derive(Drop)]
 pub enum Next {
+    /// No whole line has come.
     Nothing,
+    /// The next line, and what it asks for.
     Line(Request),
+    /// No whole line is left before a line that is too long.
     Spoilt,
+}
+
+/// The bytes that came from one client, from the next line on.
+#[derive(Drop)]
+pub struct Session {
+    alloc: Global,
+    client: u64,
+    framer: Framer,
+}
+
+impl Model for Session {
+    ghost use Rattle.lobby_hall.specs.Serving.{Serving};
+
+    ghost Value = { Serving };
+
+    ghost view = { λ s. record { client = s.client; framed = s.framer } };
+}
+
+impl Session {
+    /// The session of a client from which nothing came yet. It takes no memory.
+    pub fn new(alloc: Global, client: u64) -> Session
+        ensures client { result.client ≡ client }
+        ensures heard { Heard result.framed [] 0 }
+    {
+        Session {
+            alloc,
+            client,
+            framer: Framer::new(alloc, LINE_LIMIT),
+        }
+    }
+
+    /// The number of its client.
+    pub fn client(&self) -> u64
+        ensures { result ≡ self.now.client }
+    {
+        self.client
+    }
+
+    /// Takes in the next piece of the client's bytes, up to a spoilt place. `Spoilt` says that one
+    /// was met; the lines before it are kept. Where memory is refused, nothing was taken in.
+    pub fn feed(&mut self, piece: &[u8]) -> Result<(), FeedError>
+        ensures client { self.new.client ≡ self.old.client }
+        ensures heard { (bytes : List ℕ) (accepted : ℕ) → Heard self.old.framed bytes accepted → (result ≡ Err FeedError.Memory → ⊥) → Heard self.new.framed (bytes ++ piece.now) accepted }
+        ensures place { (bytes : List ℕ) (accepted : ℕ) → Heard self.old.framed bytes accepted → IsJudged (bytes ++ piece.now) self.old.framed.limit result }
+        ensures later { self.old.framed.spoilt ≡ true → (result ≡ Err FeedError.Spoilt) × (self.new ≡ self.old) }
+        ensures memory { result ≡ Err FeedError.Memory → self.new ≡ self.old }
+    {
+        self.framer.feed(piece)
+    }
+
+    /// What the client asks next: the request of the first line that was not accepted. Memory is
+    /// taken for what the request owns alone.
+    pub fn next_request(&self) -> Result<Next, AllocError>
+        ensures { IfOk result (λ next. (bytes : List ℕ) (accepted : ℕ) → Heard self.now.framed bytes accepted → IsNext bytes accepted next) }
+    {
+        match self.framer.peek() {
+            Some(line) => Ok(Next::Line(read_request(self.alloc, line)?)),
+            None => Ok(if self.framer.is_spoilt() {
+                Next::Spoilt
+            } else {
+                Next::Nothing
+            }),
+        }
+    }
+
+    /// Whether a whole line or a spoilt place is next.
+    pub fn is_ready(&self) -> bool
+        ensures { (bytes : List ℕ) (accepted : ℕ) → Heard self.now.framed bytes accepted → result ≡ (is_some (slice_get (frames bytes line_limit) accepted) || is_spoilt bytes line_limit) }
+    {
+        self.framer.peek().is_some() || self.framer.is_spoilt()
+    }
+
+    /// Whether a whole line is next.
+    pub fn has_line(&self) -> bool
+        ensures { IsTrue result ↔ IsSome (next_line self.now.framed) }
+    {
+        self.framer.peek().is_some()
+    }
+
+    /// Accepts the next line, which is there: the one behind it is next.
+    pub fn accept_request(&mut self)
+        requires { IsSome (next_line self.old.framed) }
+        ensures client { self.new.client ≡ self.old.client }
+        ensures heard { (bytes : List ℕ) (accepted : ℕ) → Heard self.old.framed bytes accepted → Heard self.new.framed bytes (accepted + 1) }
+    {
+        self.framer.drop_line();
+    }
 }

@@ -1,6 +1,6 @@
 //! The lobby and its events.
 
-ghost use Rattle.std.specs.Prelude.{◌≡◌, ℕ, ◌+◌, ◌-◌, ◌<◌, ◌≤◌, ◌↔◌, ◌++◌, length, take, drop, min, OnOk, OnErr, IfOk, true, false, is_some};
+ghost use Rattle.std.specs.Prelude.{◌≡◌, ℕ, ◌+◌, ◌-◌, ◌^◌, ◌<◌, ◌≤◌, ◌↔◌, ◌++◌, length, take, drop, min, OnOk, OnErr, IfOk, true, false, is_some};
 ghost use Rattle.lobby_model.specs.declared.event.Event.TheVariants as event;
 ghost use Rattle.lobby_model.specs.Table.{at_number};
 ghost use Rattle.lobby_model.specs.State.{empty_lobby};
@@ -149,7 +149,8 @@ impl Lobby {
 
     /// How many bytes a client has not read.
     pub fn unread(&self, client: u64) -> usize
-        ensures { result ≡ length (unread_of self.now.plain client) }
+        ensures count { result ≡ length (unread_of self.now.plain client) }
+        ensures small { result < 2 ^ 63 }
     {
         self.maps.unread(client)
     }

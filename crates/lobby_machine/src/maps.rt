@@ -1,6 +1,6 @@
 //! The lobby's maps. What is sent is decided over `&Maps`, which changes nothing.
 
-ghost use Rattle.std.specs.Prelude.{◌≡◌, ℕ, ◌+◌, ◌-◌, ◌<◌, ◌≤◌, ◌↔◌, ◌++◌, Option, length, take, drop, min, map, OnOk, OnErr, IfOk, true, is_some, if◌then◌else◌};
+ghost use Rattle.std.specs.Prelude.{◌≡◌, ℕ, ◌+◌, ◌-◌, ◌^◌, ◌<◌, ◌≤◌, ◌↔◌, ◌++◌, Option, length, take, drop, min, map, OnOk, OnErr, IfOk, true, is_some, if◌then◌else◌};
 ghost use Rattle.std.specs.Ordering.{nat_cmp};
 ghost use Rattle.std.specs.List.{AllByRecursion};
 ghost use Rattle.std.specs.List.Sorted.{IsStrictlySortedBy};
@@ -255,7 +255,8 @@ impl Maps {
 
     /// How many bytes a client has not read.
     pub fn unread(&self, client: u64) -> usize
-        ensures { result ≡ length (unread_of self.now client) }
+        ensures count { result ≡ length (unread_of self.now client) }
+        ensures small { result < 2 ^ 63 }
     {
         match self.clients.get(&client) {
             Some(slot) => slot.unread(),

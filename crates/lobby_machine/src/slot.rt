@@ -1,6 +1,6 @@
 //! A client with its outbox.
 
-ghost use Rattle.std.specs.Prelude.{◌≡◌, ℕ, ◌+◌, ◌-◌, ◌<◌, ◌≤◌, ◌||◌, ◌&&◌, List, [], ◌++◌, length, take, drop, min, OnOk, Some, true, false, if◌then◌else◌};
+ghost use Rattle.std.specs.Prelude.{◌≡◌, ℕ, ◌+◌, ◌-◌, ◌^◌, ◌<◌, ◌≤◌, ◌||◌, ◌&&◌, List, [], ◌++◌, length, take, drop, min, OnOk, Some, true, false, if◌then◌else◌};
 ghost use Rattle.lobby_model.specs.declared.event.Phase.TheVariants.{Ended};
 ghost use Rattle.lobby_model.specs.Next.{with_batch};
 ghost use Rattle.lobby_model.specs.State.{is_live, in_phase};
@@ -124,7 +124,8 @@ impl Slot {
 
     /// How many bytes it has not read.
     pub fn unread(&self) -> usize
-        ensures { result ≡ length self.now.client.unread }
+        ensures count { result ≡ length self.now.client.unread }
+        ensures small { result < 2 ^ 63 }
     {
         self.outbox.unread()
     }

@@ -6,7 +6,7 @@
 //! client sees, and [`Outbox::put`] cannot fail.
 #![tactic(auto)]
 
-ghost use Rattle.std.specs.Prelude.{◌≡◌, ◌+◌, ◌-◌, ◌<◌, ◌≤◌, ◌↔◌, [], ◌++◌, length, take, drop, min, IsTrue, OnOk, OnErr, true, false};
+ghost use Rattle.std.specs.Prelude.{◌≡◌, ◌+◌, ◌-◌, ◌^◌, ◌<◌, ◌≤◌, ◌↔◌, [], ◌++◌, length, take, drop, min, IsTrue, OnOk, OnErr, true, false};
 ghost use Rattle.outbox.specs.Queue.{room};
 
 use std::alloc::{AllocError, Global};
@@ -31,9 +31,16 @@ impl Model for Outbox {
 
     ghost Value = { Queue };
 
-    ghost view = { λ o. record { limit = o.limit; unread = drop o.taken o.bytes.items; cut = o.cut; spare = vec_capacity o.bytes - vec_len o.bytes } };
+    ghost view = { λ o. record {
+      limit = o.limit;
+      unread = drop o.taken o.bytes.items;
+      cut = o.cut;
+      spare = vec_capacity o.bytes - vec_len o.bytes;
+    } };
 
-    ghost invariant = { λ o. (o.taken ≤ vec_len o.bytes) × (vec_len o.bytes ≤ o.taken + o.limit) × (o.cut ≡ true → vec_len o.bytes ≡ 0) };
+    ghost invariant = { λ o. (o.taken ≤ vec_len o.bytes)
+        × (vec_len o.bytes ≤ o.taken + o.limit)
+        × (o.cut ≡ true → vec_len o.bytes ≡ 0) };
 }
 
 impl Outbox {
@@ -53,6 +60,7 @@ impl Outbox {
     pub fn unread(&self) -> usize
         ensures count { result ≡ length self.now.unread }
         ensures within_limit { result ≤ self.now.limit }
+        ensures small { result < 2 ^ 63 }
     {
         self.bytes.len() - self.taken
     }
@@ -109,7 +117,10 @@ impl Outbox {
     pub fn put(&mut self, bytes: &[u8])
         requires room { length bytes.now ≤ room self.old }
         requires spare { length bytes.now ≤ self.old.spare }
-        ensures put { self.new ≡ record self.old { unread = self.old.unread ++ bytes.now; spare = self.new.spare } }
+        ensures put { self.new ≡ record self.old {
+          unread = self.old.unread ++ bytes.now;
+          spare = self.new.spare;
+        } }
         ensures spare_left { self.old.spare ≤ self.new.spare + length bytes.now }
     {
         let done = self.bytes.extend_from_slice(bytes).is_ok();
@@ -118,7 +129,11 @@ impl Outbox {
 
     /// Cuts the client: gives up what is unread, for good.
     pub fn cut(&mut self)
-        ensures cut { self.new ≡ record self.old { unread = []; cut = true; spare = self.new.spare } }
+        ensures cut { self.new ≡ record self.old {
+          unread = [];
+          cut = true;
+          spare = self.new.spare;
+        } }
         ensures spare_kept { self.old.spare ≤ self.new.spare }
     {
         self.cut = true;
@@ -131,7 +146,10 @@ impl Outbox {
     pub fn take(&mut self, into: &mut [u8]) -> usize
         ensures count { result ≡ min (length self.old.unread) (length into.old) }
         ensures given { into.new ≡ take result self.old.unread ++ drop result into.old }
-        ensures left { self.new ≡ record self.old { unread = drop result self.old.unread; spare = self.new.spare } }
+        ensures left { self.new ≡ record self.old {
+          unread = drop result self.old.unread;
+          spare = self.new.spare;
+        } }
         ensures spare_kept { self.old.spare ≤ self.new.spare }
     {
         let count = self.copy_from(0, into);

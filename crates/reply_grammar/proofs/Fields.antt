@@ -1,16 +1,15 @@
 -- A row of arguments reads as it prints, and what is read prints so.
-use Rattle.std.proofs.Common.{◌≡◌, ℕ, zero, suc, ◌+◌, ◌*◌, ◌-◌, ◌^◌, ◌<◌, ◌≤◌, Bool, true, false, cond, List, [], ◌∷◌, ◌++◌, length, get_or, Option, Some, None, refl, sym, ap, subst, ◌∙◌, append_assoc, arith, inl, inr}
-use Rattle.std.specs.Prelude.{IsTrue, not, ◌&&◌, ◌||◌, ◌==◌, nat_le, nat_lt, ℤ, pos, negsuc, decimal}
+use Rattle.std.proofs.Common.{◌≡◌, ℕ, zero, suc, ◌^◌, ◌<◌, ◌≤◌, Bool, true, false, cond, List, [], ◌∷◌, ◌++◌, Some, None, refl, sym, ap, subst, ◌∙◌, arith}
+use Rattle.std.specs.Prelude.{◌&&◌, ◌==◌, nat_le, ℤ, pos, negsuc, decimal}
 use Rattle.std.specs.Fmt.{signed_decimal}
 use Rattle.std.specs.List.{list_all}
-use Rattle.std.proofs.lemmas.Bool.{and_parts, and_from, eqb-true, eq-eqb, ne_eqb, eqb-false, leb-true, leb-false, ltb-true, le-leb, lt-leb, cases_eq, both_ways, and_left, and_right}
-use Rattle.std.proofs.lemmas.List.{append-nil}
+use Rattle.std.proofs.lemmas.Bool.{and_parts, and_from, eqb-true, ne_eqb, leb-true}
 use Rattle.std.proofs.lemmas.Fmt.{digits_decimal}
-use Rattle.line_words.specs.Bytes.{is_word, is_name, is_sentence, is_text, is_word_byte, is_name_byte, is_sentence_byte, is_text_byte, is_digit}
-use Rattle.line_words.specs.Parts.{Ends, before, from}
-use Rattle.reply_grammar.specs.Kinds.{Kind, Word, Name, Number, Wide, Flag, OptionalWord, Words, Names, Sentence, NextSentence, Text, Pairs, Value, Values, is_wide, fits, printed, all_fit, all_printed}
-use Rattle.reply_grammar.specs.Reading.{◌>>=◌, piece_at, with_test, word_at, name_at, sentence_at, text_at, optional_at, number_at, wide_at, flag_at, flag_of, natural, negative, whole, field, fields}
-use Rattle.reply_grammar.proofs.Pieces.{bind_some, guard_some, some_is, piece_again, piece_takes, tested_again, tested_takes}
+use Rattle.line_words.specs.Bytes.{is_word_byte, is_digit}
+use Rattle.line_words.specs.Parts.{Ends}
+use Rattle.reply_grammar.specs.Kinds.{is_wide}
+use Rattle.reply_grammar.specs.Reading.{◌>>=◌, piece_at, number_in, number_at, wide_at, natural, negative, whole}
+use Rattle.reply_grammar.proofs.Pieces.{bind_some, guard_some, some_is, piece_again, piece_takes}
 use Rattle.reply_grammar.proofs.Numbers.{all_digits, own, natural_again, natural_takes}
 
 -- digits have no space
@@ -27,28 +26,36 @@ digits_words (b ∷ bs) h =
     let p = and_parts (is_digit b) (all_digits bs) h in
     and_from (is_word_byte b) (list_all is_word_byte bs) (is_digit_word b p.0) (digits_words bs p.1)
 
-names_words : (ds : List ℕ) → list_all is_name_byte ds ≡ true → list_all is_name_byte ds ≡ true
-names_words ds h = h
-
 -- numbers
+
+pub number_in_again : (low high n : ℕ) → high ≤ 4294967295 → (nat_le low n && nat_le n high) ≡ true → number_in low high (decimal n) ≡ Some n
+unfolding number_in
+number_in_again low high n small fit =
+    let top = leb-true n high (and_parts (nat_le low n) (nat_le n high) fit).1 in
+    rw (natural_again n (omega arith), fit) refl
+
+pub number_in_takes : (low high : ℕ) (w : List ℕ) (n : ℕ) → number_in low high w ≡ Some n → (w ≡ decimal n) × ((nat_le low n && nat_le n high) ≡ true)
+unfolding number_in
+number_in_takes low high w n e =
+    let m = bind_some (natural w) (λ n. cond (nat_le low n && nat_le n high) (Some n) None) n e in
+    let g = guard_some (nat_le low m.0 && nat_le m.0 high) m.0 n m.2 in
+    subst (λ (k : ℕ). (w ≡ decimal k) × ((nat_le low k && nat_le k high) ≡ true)) g.1 ((natural_takes w m.0 m.1).text, g.0)
 
 pub number_again : (low high n : ℕ) (rest : List ℕ) → high ≤ 4294967295 → (nat_le low n && nat_le n high) ≡ true → Ends 32 rest → number_at low high (32 ∷ (decimal n ++ rest)) ≡ Some (n, rest)
 unfolding number_at
 number_again low high n rest small fit ends =
-    let p = and_parts (nat_le low n) (nat_le n high) fit in
-    let top = leb-true n high p.1 in
+    let top = leb-true n high (and_parts (nat_le low n) (nat_le n high) fit).1 in
     let lt : n < 2 ^ 64 = omega arith in
-    rw (piece_again is_word_byte 32 32 (decimal n) rest refl (digits_words (decimal n) (digits_decimal own n lt)) ends, natural_again n (omega arith), fit) refl
+    rw (piece_again is_word_byte 32 32 (decimal n) rest refl (digits_words (decimal n) (digits_decimal own n lt)) ends, number_in_again low high n small fit) refl
 
 pub number_takes : (low high : ℕ) (bytes : List ℕ) (x : ℕ × List ℕ) → number_at low high bytes ≡ Some x → (bytes ≡ 32 ∷ (decimal x.0 ++ x.1)) × ((nat_le low x.0 && nat_le x.0 high) ≡ true)
 unfolding number_at
 number_takes low high bytes x e =
-    let p = bind_some (piece_at 32 32 bytes) (λ p. natural p.0 >>= λ n. cond (nat_le low n && nat_le n high) (Some (n, p.1)) None) x e in
-    let n = bind_some (natural p.0.0) (λ n. cond (nat_le low n && nat_le n high) (Some (n, p.0.1)) None) x p.2 in
-    let g = guard_some (nat_le low n.0 && nat_le n.0 high) (n.0, p.0.1) x n.2 in
-    let word = natural_takes p.0.0 n.0 n.1 in
+    let p = bind_some (piece_at 32 32 bytes) (λ p. number_in low high p.0 >>= λ n. Some (n, p.1)) x e in
+    let n = bind_some (number_in low high p.0.0) (λ n. Some (n, p.0.1)) x p.2 in
+    let word = number_in_takes low high p.0.0 n.0 n.1 in
     let parts : bytes ≡ 32 ∷ (decimal n.0 ++ p.0.1) = piece_takes 32 32 bytes p.0 p.1 ∙ ap (λ (w : List ℕ). 32 ∷ (w ++ p.0.1)) word.0 in
-    subst (λ (q : ℕ × List ℕ). (bytes ≡ 32 ∷ (decimal q.0 ++ q.1)) × ((nat_le low q.0 && nat_le q.0 high) ≡ true)) g.1 (parts, g.0)
+    subst (λ (q : ℕ × List ℕ). (bytes ≡ 32 ∷ (decimal q.0 ++ q.1)) × ((nat_le low q.0 && nat_le q.0 high) ≡ true)) (some_is (n.0, p.0.1) x n.2) (parts, word.1)
 
 -- signed numbers
 
@@ -81,11 +88,11 @@ whole_by b bs z true is e =
     let n = bind_some (natural bs) negative z e in
     let d = natural_takes bs n.0 n.1 in
     let head : b ≡ 45 = eqb-true b 45 is in
-    rw head (ap (λ (r : List ℕ). 45 ∷ r) d.0) ∙ sym (negative_takes n.0 z n.2)
+    rw head (ap (λ (r : List ℕ). 45 ∷ r) d.text) ∙ sym (negative_takes n.0 z n.2)
 whole_by b bs z false is e =
     let n = bind_some (natural (b ∷ bs)) (λ n. Some (pos n)) z e in
     let d = natural_takes (b ∷ bs) n.0 n.1 in
-    d.0 ∙ ap signed_decimal (some_is (pos n.0) z n.2)
+    d.text ∙ ap signed_decimal (some_is (pos n.0) z n.2)
 
 pub whole_takes : (w : List ℕ) (z : ℤ) → whole w ≡ Some z → w ≡ signed_decimal z
 unfolding whole

@@ -1,10 +1,9 @@
 -- Several arguments up to the end.
-use Rattle.std.proofs.Common.{◌≡◌, ℕ, zero, suc, ◌+◌, ◌<◌, ◌≤◌, Bool, true, false, cond, List, [], ◌∷◌, ◌++◌, length, Option, Some, None, refl, sym, ap, subst, ◌∙◌, append_assoc, arith, inl, inr}
-use Rattle.std.specs.Prelude.{not, ◌&&◌, ◌||◌, ◌==◌, nat_le}
+use Rattle.std.proofs.Common.{◌≡◌, ℕ, Bool, true, false, cond, List, [], ◌∷◌, ◌++◌, length, Option, Some, None, refl, sym, ap, subst, ◌∙◌}
+use Rattle.std.specs.Prelude.{not, ◌&&◌, ◌==◌, nat_le}
 use Rattle.std.specs.List.{list_all}
-use Rattle.std.proofs.lemmas.Bool.{and_parts, and_from, eqb-true, eq-eqb, ne_eqb}
-use Rattle.std.proofs.lemmas.List.{append-nil}
-use Rattle.line_words.specs.Bytes.{is_word, is_key, is_name, is_sentence, is_word_byte, is_key_byte, is_name_byte, is_sentence_byte, is_text_byte}
+use Rattle.std.proofs.lemmas.Bool.{and_parts, and_from, eqb-true, eq-eqb}
+use Rattle.line_words.specs.Bytes.{is_word, is_key, is_name, is_sentence, is_word_byte, is_key_byte, is_name_byte, is_sentence_byte}
 use Rattle.line_words.specs.declared.lists.Pair.{Pair}
 use Rattle.line_words.specs.Parts.{Ends, before, between, from, with_front}
 use Rattle.line_words.proofs.Splitting.{before-append, before-from, from-append}
@@ -109,7 +108,7 @@ module _ {A : Type 0} (one : List ℕ → Option A) (text : A → List ℕ) (fit
       let first = prints.takes s x.0 x.1 in
       let rest = parts_take ss ys.0 ys.1 in
       subst (λ (zs : List A). (marked (λ s. s) stop stop (s ∷ ss) ≡ marked text stop stop zs) × (list_all fit zs ≡ true)) (some_is (x.0 ∷ ys.0) xs ys.2)
-        (both stop s (text x.0) (marked (λ s. s) stop stop ss) (marked text stop stop ys.0) first.0 rest.0, and_from (fit x.0) (list_all fit ys.0) first.1 rest.1)
+      (both stop s (text x.0) (marked (λ s. s) stop stop ss) (marked text stop stop ys.0) first.0 rest.0, and_from (fit x.0) (list_all fit ys.0) first.1 rest.1)
 
   first_mark : (mark : ℕ) (ss : List (List ℕ)) (xs : List A) → HasParts ss → all_of one ss ≡ Some xs → (mark ∷ joined stop ss ≡ marked text mark stop xs) × (list_all fit xs ≡ true)
   first_mark mark [] xs h e = absurd h
@@ -119,7 +118,7 @@ module _ {A : Type 0} (one : List ℕ → Option A) (text : A → List ℕ) (fit
       let first = prints.takes s x.0 x.1 in
       let rest = parts_take ss ys.0 ys.1 in
       subst (λ (zs : List A). (mark ∷ joined stop (s ∷ ss) ≡ marked text mark stop zs) × (list_all fit zs ≡ true)) (some_is (x.0 ∷ ys.0) xs ys.2)
-        (both mark s (text x.0) (marked (λ s. s) stop stop ss) (marked text stop stop ys.0) first.0 rest.0, and_from (fit x.0) (list_all fit ys.0) first.1 rest.1)
+      (both mark s (text x.0) (marked (λ s. s) stop stop ss) (marked text stop stop ys.0) first.0 rest.0, and_from (fit x.0) (list_all fit ys.0) first.1 rest.1)
 
   pub many_takes : (mark : ℕ) (bytes : List ℕ) (xs : List A) → many one mark stop bytes ≡ Some xs → (bytes ≡ marked text mark stop xs) × (list_all fit xs ≡ true)
   unfolding many
@@ -194,9 +193,9 @@ pair_prints = record {
   again = pair_again;
   takes = pair_takes;
   bytes = λ p h.
-    (let parts = and_parts (is_key p.key) (is_sentence p.value) h in
-    let key = and_parts (nat_le 1 (length p.key)) (list_all is_key_byte p.key) parts.0 in
-    all_append is_sentence_byte p.key (61 ∷ p.value) (all_more is_key_byte is_sentence_byte key_sentence p.key key.1) parts.1);
+      (let parts = and_parts (is_key p.key) (is_sentence p.value) h in
+      let key = and_parts (nat_le 1 (length p.key)) (list_all is_key_byte p.key) parts.0 in
+      all_append is_sentence_byte p.key (61 ∷ p.value) (all_more is_key_byte is_sentence_byte key_sentence p.key key.1) parts.1);
 }
 
 -- a name is a word

@@ -1,15 +1,14 @@
 -- A loop over the parts.
-use Rattle.std.proofs.Common.{◌≡◌, ℕ, zero, suc, ◌+◌, ◌<◌, ◌≤◌, Bool, true, false, cond, List, [], ◌∷◌, ◌++◌, length, Option, Some, None, refl, sym, ap, subst, ◌∙◌, append_assoc, arith}
+use Rattle.std.proofs.Common.{◌≡◌, ℕ, ◌<◌, Bool, true, false, cond, List, [], ◌∷◌, ◌++◌, length, Option, Some, None, refl, sym, ap, ◌∙◌, append_assoc, arith}
 use Rattle.std.specs.Prelude.{◌==◌}
 use Rattle.std.proofs.lemmas.Bool.{eqb-true, eqb-false, eq-eqb}
 use Rattle.std.proofs.lemmas.List.{append-nil, length-append, nil_from_length}
 use Rattle.line_words.specs.Parts.{Ends, before, between, from, tails}
 use Rattle.line_words.proofs.Splitting.{between-cons, from_ends}
-use Rattle.reply_grammar.specs.Reading.{◌>>=◌, Fails, piece_at, all_of, many, if_is}
+use Rattle.reply_grammar.specs.Reading.{◌>>=◌, Fails, piece_at, all_of, many}
 use Rattle.reply_grammar.specs.declared.reading.ReadError.{ReadError}
 use Rattle.reply_grammar.specs.declared.reading.ReadError.TheVariants as errors
-use Rattle.reply_grammar.proofs.Pieces.{bind_some, guard_some, piece_takes}
-
+use Rattle.reply_grammar.proofs.Pieces.{guard_some, piece_takes}
 
 -- what was read before, and what is still read
 abbrev pub in_front : {A : Type 0} → List A → Option (List A) → Option (List A)
@@ -72,8 +71,9 @@ module _ {A : Type 0} (one : List ℕ → Option A) (mark stop : ℕ) (xs : List
       let none : many one mark stop rest ≡ None = many_fails one stop mark rest (omega arith) f in
       sym so_far ∙ ap (in_front xs) none
 
-  pub loop_part_fails : (p : List ℕ × List ℕ) → piece_at mark stop rest ≡ Some p → one p.0 ≡ None → total ≡ None
-  loop_part_fails p e is = sym so_far ∙ ap (in_front xs) (many_part_fails one stop mark rest p e is)
+  pub loop_part_fails : (e : ReadError) (p : List ℕ × List ℕ) → piece_at mark stop rest ≡ Some p → Fails e (one p.0) → Fails e total
+  loop_part_fails errors.Memory p e f = tt
+  loop_part_fails errors.Unread p e f = sym so_far ∙ ap (in_front xs) (many_part_fails one stop mark rest p e f)
 
   pub loop_next : (p : List ℕ × List ℕ) (x : A) → piece_at mark stop rest ≡ Some p → one p.0 ≡ Some x → in_front (xs ++ x ∷ []) (many one stop stop p.1) ≡ total
   loop_next p x e is = sym (regroup xs x (many one stop stop p.1)) ∙ ap (in_front xs) (sym (many_step one stop mark rest p x e is)) ∙ so_far
@@ -82,9 +82,3 @@ module _ {A : Type 0} (one : List ℕ → Option A) (mark stop : ℕ) (xs : List
   loop_ends none =
       let empty : rest ≡ [] = nil_from_length rest (eqb-true (length rest) 0 none) in
       sym so_far ∙ ap (λ (r : List ℕ). in_front xs (many one mark stop r)) empty ∙ nothing_left one mark stop xs
-
-pub unlike : (test : List ℕ → Bool) (w : List ℕ) → test w ≡ false → if_is test w ≡ None
-unlike test w h = rw h refl
-
-pub alike : (test : List ℕ → Bool) (w : List ℕ) → test w ≡ true → if_is test w ≡ Some w
-alike test w h = rw h refl

@@ -1,13 +1,11 @@
 -- What one kind of argument reads and prints.
-use Rattle.std.proofs.Common.{◌≡◌, ℕ, zero, suc, ◌+◌, ◌*◌, ◌-◌, ◌^◌, ◌<◌, ◌≤◌, Bool, true, false, cond, ltb, List, [], ◌∷◌, ◌++◌, length, get_or, Option, Some, None, refl, sym, ap, subst, ◌∙◌, append_assoc, arith, inl, inr}
-use Rattle.std.specs.Prelude.{IsTrue, not, ◌&&◌, ◌||◌, ◌==◌, nat_le, nat_lt, ℤ, pos, negsuc}
+use Rattle.std.proofs.Common.{◌≡◌, ℕ, Bool, true, false, cond, List, [], ◌∷◌, ◌++◌, Option, Some, None, refl, ap, subst}
+use Rattle.std.specs.Prelude.{◌==◌}
 use Rattle.std.specs.List.{list_all}
-use Rattle.std.proofs.lemmas.Bool.{and_parts, and_from, eqb-true, eq-eqb, ne_eqb, eqb-false, leb-true, ltb-true, cases_eq, both_ways, true≢false, false≢true}
-use Rattle.line_words.specs.Bytes.{is_word, is_name, is_sentence, is_text, is_word_byte, is_name_byte, is_sentence_byte, is_text_byte, is_digit}
+use Rattle.std.proofs.lemmas.Bool.{eqb-true, eq-eqb}
 use Rattle.line_words.specs.Parts.{before, from, Ends}
 use Rattle.line_words.proofs.Splitting.{before-append, from-append, before-from}
-use Rattle.reply_grammar.specs.Kinds.{Kind, Word, Name, Number, Wide, Flag, OptionalWord, Words, Names, Sentence, NextSentence, Text, Pairs, Value, Values, is_wide, fits, printed}
-use Rattle.reply_grammar.specs.Reading.{◌>>=◌, piece_at, with_test, word_at, name_at, sentence_at, text_at, optional_at, number_at, wide_at, flag_at, natural, whole, field}
+use Rattle.reply_grammar.specs.Reading.{◌>>=◌, piece_at, with_test}
 
 pub bind_some : {A B : Type 0} (r : Option A) (f : A → Option B) (y : B) → (r >>= f) ≡ Some y → (x : A) × (r ≡ Some x) × (f x ≡ Some y)
 bind_some (Some x) f y e = (x, refl, e)

@@ -1,5 +1,5 @@
 -- No byte of a line is a CR or an LF.
-use Rattle.std.proofs.Common.{◌≡◌, ℕ, ◌^◌, ◌<◌, ◌≤◌, Bool, true, false, cond, List, [], ◌∷◌, ◌++◌, length, Option, Some, None, refl, arith}
+use Rattle.std.proofs.Common.{◌≡◌, ℕ, ◌^◌, ◌<◌, Bool, true, false, cond, List, [], ◌∷◌, ◌++◌, length, Option, Some, None, refl, arith}
 use Rattle.std.specs.Prelude.{not, ◌&&◌, ◌==◌, nat_le, decimal}
 use Rattle.std.specs.Fmt.{signed_decimal}
 use Rattle.std.specs.List.{list_all}
@@ -8,11 +8,11 @@ use Rattle.std.proofs.lemmas.Fmt.{digits_decimal}
 use Rattle.line_words.specs.Bytes.{is_word, is_key, is_name, is_sentence, is_text, is_word_byte, is_key_byte, is_name_byte, is_sentence_byte, is_text_byte}
 use Rattle.line_words.specs.declared.lists.Pair.{Pair}
 use Rattle.reply_grammar.specs.declared.Reply.{Reply}
-use Rattle.reply_grammar.specs.Kinds.{Kind, Word, Name, Number, Wide, Flag, OptionalWord, Words, Names, Sentence, NextSentence, Text, Pairs, Value, Values, is_wide, is_pair, is_some_word, fits, printed, all_fit, all_printed, words_text, pairs_text, pair_text, optional_text}
+use Rattle.reply_grammar.specs.Kinds.{Kind, Word, Name, Number, Wide, Flag, OptionalWord, Words, Names, Sentence, NextSentence, Text, Pairs, Value, Values, is_pair, is_some_word, fits, printed, all_fit, all_printed, words_text, pairs_text, pair_text, optional_text}
 use Rattle.reply_grammar.specs.Replies.{word_of, kinds_of, command_of, values_of, Fits, body, id_text, line_text, IsId}
 use Rattle.reply_grammar.proofs.Numbers.{own}
 use Rattle.reply_grammar.proofs.Fields.{digits_words, signed_words}
-use Rattle.reply_grammar.proofs.Lists.{all_append, all_more, key_sentence, word_name}
+use Rattle.reply_grammar.proofs.Lists.{all_append, all_more, word_name}
 use Rattle.reply_grammar.proofs.Rows.{is_row, is_kind, leads}
 use Rattle.reply_grammar.proofs.Whole.{plain_word, rows}
 
@@ -54,7 +54,7 @@ pairs_plain mark [] m h = refl
 pairs_plain mark (p ∷ ps) m h =
     let parts = and_parts (is_pair p) (list_all is_pair ps) h in
     and_from (is_text_byte mark) (is_text (pair_text p ++ pairs_text 9 ps)) m
-      (all_append is_text_byte (pair_text p) (pairs_text 9 ps) (a_pair p parts.0) (pairs_plain 9 ps refl parts.1))
+    (all_append is_text_byte (pair_text p) (pairs_text 9 ps) (a_pair p parts.0) (pairs_plain 9 ps refl parts.1))
 
 flag_plain : (b : Bool) → is_text (cond b 49 48 ∷ []) ≡ true
 flag_plain true = refl

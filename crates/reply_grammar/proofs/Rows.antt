@@ -1,19 +1,18 @@
 -- Each kind, and a row of them.
-use Rattle.std.proofs.Common.{◌≡◌, ℕ, zero, suc, ◌+◌, ◌<◌, ◌≤◌, Bool, true, false, cond, List, [], ◌∷◌, ◌++◌, length, Option, Some, None, refl, sym, ap, subst, ◌∙◌, append_assoc, arith, inl, inr}
-use Rattle.std.specs.Prelude.{not, ◌&&◌, ◌||◌, ◌==◌, nat_le, ℤ, decimal}
-use Rattle.std.specs.Fmt.{signed_decimal}
+use Rattle.std.proofs.Common.{◌≡◌, ℕ, zero, suc, Bool, true, false, cond, List, [], ◌∷◌, ◌++◌, length, Option, Some, None, refl, sym, ap, subst, ◌∙◌, append_assoc, arith}
+use Rattle.std.specs.Prelude.{◌&&◌, ◌==◌, nat_le, decimal}
 use Rattle.std.specs.List.{list_all}
-use Rattle.std.proofs.lemmas.Bool.{and_parts, and_from, eqb-true, eq-eqb, ne_eqb, leb-true}
+use Rattle.std.proofs.lemmas.Bool.{and_parts, and_from, eqb-true, leb-true}
 use Rattle.std.proofs.lemmas.Fmt.{decimal_digit}
 use Rattle.std.proofs.lemmas.List.{append-nil}
-use Rattle.line_words.specs.Bytes.{is_word, is_key, is_name, is_sentence, is_text, is_word_byte, is_key_byte, is_name_byte, is_sentence_byte, is_text_byte}
+use Rattle.line_words.specs.Bytes.{is_word, is_name, is_sentence, is_text, is_word_byte, is_name_byte, is_sentence_byte}
 use Rattle.line_words.specs.declared.lists.Pair.{Pair}
-use Rattle.line_words.specs.Parts.{Ends, before, from}
-use Rattle.reply_grammar.specs.Kinds.{Kind, Word, Name, Number, Wide, Flag, OptionalWord, Words, Names, Sentence, NextSentence, Text, Pairs, Value, Values, is_wide, is_pair, is_some_word, fits, printed, all_fit, all_printed, words_text, pairs_text, pair_text, optional_text}
-use Rattle.reply_grammar.specs.Reading.{◌>>=◌, piece_at, with_test, many, if_is, pair_in, some, counted, word_at, name_at, sentence_at, text_at, optional_at, number_at, wide_at, flag_at, flag_of, words_at, names_at, pairs_at, field, fields}
-use Rattle.reply_grammar.proofs.Pieces.{bind_some, guard_some, some_is, piece_again, piece_takes, tested_again, tested_takes}
+use Rattle.line_words.specs.Parts.{Ends}
+use Rattle.reply_grammar.specs.Kinds.{Kind, Word, Name, Number, Wide, Flag, OptionalWord, Words, Names, Sentence, NextSentence, Text, Pairs, Value, Values, is_pair, is_some_word, fits, printed, all_fit, all_printed, words_text, pairs_text, pair_text, optional_text}
+use Rattle.reply_grammar.specs.Reading.{◌>>=◌, piece_at, many, if_is, pair_in, some, counted, word_at, name_at, sentence_at, text_at, optional_at, number_at, flag_at, flag_of, words_at, names_at, pairs_at, field, fields}
+use Rattle.reply_grammar.proofs.Pieces.{bind_some, guard_some, some_is, piece_again, tested_again, tested_takes}
 use Rattle.reply_grammar.proofs.Fields.{number_again, number_takes, wide_again, wide_takes}
-use Rattle.reply_grammar.proofs.Lists.{marked, words_text-marked, pairs_text-marked, many_again, many_takes, word_prints, name_prints, pair_prints}
+use Rattle.reply_grammar.proofs.Lists.{words_text-marked, pairs_text-marked, many_again, many_takes, word_prints, name_prints, pair_prints}
 
 -- what may follow an argument of a kind: one byte, or nothing
 abbrev pub close_of : Kind → Option ℕ
@@ -58,7 +57,7 @@ goes_on None k = false
 
 abbrev pub leads : Kind → List Kind → Bool
 leads k [] = true
-leads k (next ∷ ks) = goes_on (close_of k) next
+leads k (after ∷ ks) = goes_on (close_of k) after
 
 abbrev pub is_row : List Kind → Bool
 is_row [] = true
@@ -110,7 +109,7 @@ text_takes (b ∷ bs) x e =
 optional_again : (o : Option (List ℕ)) → is_some_word o ≡ true → optional_at (optional_text o) ≡ Some (o, [])
 unfolding optional_at
 optional_again None fit = refl
-optional_again (Some w) fit = 
+optional_again (Some w) fit =
     let e : word_at (32 ∷ w) ≡ Some (w, []) = ap (λ (r : List ℕ). word_at (32 ∷ r)) (sym (append-nil w)) ∙ word_again w [] fit tt in
     rw e refl
 
@@ -158,7 +157,7 @@ words_take bytes x e =
     let g = guard_some (nat_le 1 (length p.0)) (p.0, []) x p.2 in
     let t = many_takes (if_is is_word) (λ w. w) is_word is_word_byte 32 word_prints 32 bytes p.0 p.1 in
     subst (λ (q : List (List ℕ) × List ℕ). (bytes ≡ words_text q.0 ++ q.1) × ((list_all is_word q.0 && nat_le 1 (length q.0)) ≡ true)) g.1
-      (t.0 ∙ sym (words_text-marked p.0) ∙ sym (append-nil (words_text p.0)), and_from (list_all is_word p.0) (nat_le 1 (length p.0)) t.1 g.0)
+    (t.0 ∙ sym (words_text-marked p.0) ∙ sym (append-nil (words_text p.0)), and_from (list_all is_word p.0) (nat_le 1 (length p.0)) t.1 g.0)
 
 names_again : (ws : List (List ℕ)) → (list_all is_name ws && nat_le 1 (length ws) && nat_le (length ws) 32) ≡ true → names_at (words_text ws) ≡ Some (ws, [])
 unfolding names_at
@@ -175,7 +174,7 @@ names_take bytes x e =
     let c = and_parts (nat_le 1 (length p.0)) (nat_le (length p.0) 32) g.0 in
     let t = many_takes (if_is is_name) (λ w. w) is_name is_name_byte 32 name_prints 32 bytes p.0 p.1 in
     subst (λ (q : List (List ℕ) × List ℕ). (bytes ≡ words_text q.0 ++ q.1) × ((list_all is_name q.0 && nat_le 1 (length q.0) && nat_le (length q.0) 32) ≡ true)) g.1
-      (t.0 ∙ sym (words_text-marked p.0) ∙ sym (append-nil (words_text p.0)), and_from (list_all is_name p.0 && nat_le 1 (length p.0)) (nat_le (length p.0) 32) (and_from (list_all is_name p.0) (nat_le 1 (length p.0)) t.1 c.0) c.1)
+    (t.0 ∙ sym (words_text-marked p.0) ∙ sym (append-nil (words_text p.0)), and_from (list_all is_name p.0 && nat_le 1 (length p.0)) (nat_le (length p.0) 32) (and_from (list_all is_name p.0) (nat_le 1 (length p.0)) t.1 c.0) c.1)
 
 pairs_again : (ps : List Pair) → (list_all is_pair ps && nat_le 1 (length ps)) ≡ true → pairs_at (pairs_text 32 ps) ≡ Some (ps, [])
 unfolding pairs_at
@@ -190,7 +189,7 @@ pairs_take bytes x e =
     let g = guard_some (nat_le 1 (length p.0)) (p.0, []) x p.2 in
     let t = many_takes pair_in pair_text is_pair is_sentence_byte 9 pair_prints 32 bytes p.0 p.1 in
     subst (λ (q : List Pair × List ℕ). (bytes ≡ pairs_text 32 q.0 ++ q.1) × ((list_all is_pair q.0 && nat_le 1 (length q.0)) ≡ true)) g.1
-      (t.0 ∙ sym (pairs_text-marked 32 p.0) ∙ sym (append-nil (pairs_text 32 p.0)), and_from (list_all is_pair p.0) (nat_le 1 (length p.0)) t.1 g.0)
+    (t.0 ∙ sym (pairs_text-marked 32 p.0) ∙ sym (append-nil (pairs_text 32 p.0)), and_from (list_all is_pair p.0) (nat_le 1 (length p.0)) t.1 g.0)
 
 -- any kind
 
@@ -242,7 +241,7 @@ opens_pairs (p ∷ ps) rest e = refl
 
 no_more : (k : Kind) (ks : List Kind) (xs : Values ks) → close_of k ≡ None → leads k ks ≡ true → all_printed ks xs ≡ []
 no_more k [] xs close lead = refl
-no_more k (next ∷ ks) xs close lead = absurd (let never : false ≡ true = ap (λ (o : Option ℕ). goes_on o next) (sym close) ∙ lead in let n : ⊥ = cc in n)
+no_more k (after ∷ ks) xs close lead = absurd (let never : false ≡ true = ap (λ (o : Option ℕ). goes_on o after) (sym close) ∙ lead in let n : ⊥ = cc in n)
 
 ends_nil : (rest : List ℕ) → rest ≡ [] → Ends 32 rest
 ends_nil rest e = subst (λ (r : List ℕ). Ends 32 r) (sym e) tt
@@ -261,9 +260,9 @@ opens NextSentence x ks xs lead = refl
 opens Text x ks xs lead = refl
 opens Pairs x ks xs lead = opens_pairs x (all_printed ks xs) (ends_nil (all_printed ks xs) (no_more Pairs ks xs refl lead))
 
-follows_by : (o : Option ℕ) (next : Kind) (rest : List ℕ) → goes_on o next ≡ true → Ends (open_of next) rest → Follows o rest
-follows_by None next rest h e = absurd cc
-follows_by (Some stop) next rest h e = subst (λ (s : ℕ). Ends s rest) (eqb-true (open_of next) stop h) e
+follows_by : (o : Option ℕ) (after : Kind) (rest : List ℕ) → goes_on o after ≡ true → Ends (open_of after) rest → Follows o rest
+follows_by None after rest h e = absurd cc
+follows_by (Some stop) after rest h e = subst (λ (s : ℕ). Ends s rest) (eqb-true (open_of after) stop h) e
 
 follows_nil : (o : Option ℕ) → Follows o []
 follows_nil None = refl
@@ -271,14 +270,14 @@ follows_nil (Some stop) = tt
 
 pub follows : (k : Kind) (ks : List Kind) (xs : Values ks) → leads k ks ≡ true → is_row ks ≡ true → Follows (close_of k) (all_printed ks xs)
 follows k [] xs lead row = follows_nil (close_of k)
-follows k (next ∷ ks) xs lead row =
-    let p = and_parts (is_kind next) (leads next ks && is_row ks) row in
-    let q = and_parts (leads next ks) (is_row ks) p.1 in
-    follows_by (close_of k) next (all_printed (next ∷ ks) xs) lead (opens next xs.0 ks xs.1 q.0)
+follows k (after ∷ ks) xs lead row =
+    let p = and_parts (is_kind after) (leads after ks && is_row ks) row in
+    let q = and_parts (leads after ks) (is_row ks) p.1 in
+    follows_by (close_of k) after (all_printed (after ∷ ks) xs) lead (opens after xs.0 ks xs.1 q.0)
 
-bound : {A B : Type 0} (r : Option (A × List ℕ)) (next : List ℕ → Option (B × List ℕ)) (x : A) (text : List ℕ) (xs : B) → r ≡ Some (x, text) → next text ≡ Some (xs, [])
-    → ◌>>=◌ {B = (A × B) × List ℕ} r (λ a. ◌>>=◌ {B = (A × B) × List ℕ} (next a.1) (λ b. Some ((a.0, b.0), b.1))) ≡ Some ((x, xs), [])
-bound r next x text xs p q = rw (p, q) refl
+bound : {A B : Type 0} (r : Option (A × List ℕ)) (then : List ℕ → Option (B × List ℕ)) (x : A) (text : List ℕ) (xs : B) → r ≡ Some (x, text) → then text ≡ Some (xs, [])
+    → ◌>>=◌ {B = (A × B) × List ℕ} r (λ a. ◌>>=◌ {B = (A × B) × List ℕ} (then a.1) (λ b. Some ((a.0, b.0), b.1))) ≡ Some ((x, xs), [])
+bound r then x text xs p q = rw (p, q) refl
 
 pub fields_again : (ks : List Kind) (xs : Values ks) → is_row ks ≡ true → all_fit ks xs ≡ true → fields ks (all_printed ks xs) ≡ Some (xs, [])
 fields_again [] xs row fit = refl
@@ -299,4 +298,4 @@ fields_take (k ∷ ks) bytes x e =
     let second = fields_take ks a.0.1 b.0 b.1 in
     let made : Values (k ∷ ks) × List ℕ = ((a.0.0, b.0.0), b.0.1) in
     subst (λ (q : Values (k ∷ ks) × List ℕ). (bytes ≡ all_printed (k ∷ ks) q.0 ++ q.1) × (all_fit (k ∷ ks) q.0 ≡ true)) (some_is made x b.2)
-      (first.0 ∙ ap (λ (r : List ℕ). printed k a.0.0 ++ r) second.0 ∙ sym (append_assoc (printed k a.0.0) (all_printed ks b.0.0) b.0.1), and_from (fits k a.0.0) (all_fit ks b.0.0) first.1 second.1)
+    (first.0 ∙ ap (λ (r : List ℕ). printed k a.0.0 ++ r) second.0 ∙ sym (append_assoc (printed k a.0.0) (all_printed ks b.0.0) b.0.1), and_from (fits k a.0.0) (all_fit ks b.0.0) first.1 second.1)

@@ -1,8 +1,8 @@
 -- A line reads as it prints.
-use Rattle.std.proofs.Common.{◌≡◌, ℕ, zero, suc, ◌+◌, ◌^◌, ◌<◌, ◌≤◌, Bool, true, false, cond, List, [], ◌∷◌, ◌++◌, length, Option, Some, None, refl, sym, ap, subst, ◌∙◌, append_assoc, arith, inl, inr}
-use Rattle.std.specs.Prelude.{◌&&◌, ◌||◌, ◌==◌, nat_le, decimal}
+use Rattle.std.proofs.Common.{◌≡◌, ℕ, ◌^◌, ◌<◌, ◌≤◌, Bool, true, false, cond, List, [], ◌∷◌, ◌++◌, length, Option, Some, None, refl, sym, ap, subst, ◌∙◌, append_assoc, arith}
+use Rattle.std.specs.Prelude.{◌&&◌, ◌==◌, nat_le, find, decimal}
 use Rattle.std.specs.List.{list_all}
-use Rattle.std.proofs.lemmas.Bool.{and_parts, and_from, eqb-true, eq-eqb, ne_eqb, leb-true, le-leb}
+use Rattle.std.proofs.lemmas.Bool.{and_parts, and_from, eqb-true, eq-eqb, leb-true, le-leb}
 use Rattle.std.proofs.lemmas.List.{append-nil, nil_from_length}
 use Rattle.std.proofs.lemmas.Fmt.{digits_decimal}
 use Rattle.line_words.specs.Bytes.{is_word_byte}
@@ -10,17 +10,16 @@ use Rattle.line_words.specs.Parts.{Ends, before, from}
 use Rattle.line_words.proofs.Splitting.{before-append, before-from, from-append, from_ends}
 use Rattle.reply_grammar.specs.declared.Reply.{Reply}
 use Rattle.reply_grammar.specs.declared.Reply.TheVariants as reply
-use Rattle.reply_grammar.specs.declared.CommandWord.{CommandWord}
-use Rattle.reply_grammar.specs.declared.CommandWord.TheVariants as command
+use Rattle.reply_grammar.specs.declared.command_word.CommandWord.{CommandWord}
+use Rattle.reply_grammar.specs.declared.command_word.CommandWord.TheVariants as command
 use Rattle.reply_grammar.specs.Kinds.{Kind, Pairs, Words, Values, all_fit, all_printed}
-use Rattle.reply_grammar.specs.Replies.{word_of, kinds_of, command_of, values_of, Fits, body, id_text, line_text, IsId, Line, ReadsAs}
-use Rattle.reply_grammar.specs.Reading.{◌>>=◌, natural, fields, if_end}
-use Rattle.reply_grammar.specs.Lines.{same, commands, named_in, named, made, read_arguments, read_body, behind_space, read_numbered, read_line}
+use Rattle.reply_grammar.specs.Replies.{word_of, kinds_of, command_of, values_of, Fits, body, line_text, IsId, Line, ReadsAs}
+use Rattle.reply_grammar.specs.Reading.{◌>>=◌, number_in, fields, if_end, shaped}
+use Rattle.reply_grammar.specs.Lines.{same, commands, named, made, read_arguments, read_body, behind_space, read_numbered, read_line}
 use Rattle.reply_grammar.proofs.Pieces.{bind_some, guard_some, some_is}
-use Rattle.reply_grammar.proofs.Numbers.{own, natural_again, natural_takes}
-use Rattle.reply_grammar.proofs.Fields.{digits_words}
-
-use Rattle.reply_grammar.proofs.Rows.{is_row, close_of, fields_again, fields_take, opens, is_kind, leads, open_of}
+use Rattle.reply_grammar.proofs.Numbers.{own}
+use Rattle.reply_grammar.proofs.Fields.{digits_words, number_in_again, number_in_takes}
+use Rattle.reply_grammar.proofs.Rows.{is_row, fields_again, fields_take, opens}
 
 -- command words
 
@@ -41,9 +40,9 @@ named_by : (t : Bool) (w : List ℕ) (d c : CommandWord) (o : Option CommandWord
 named_by true w d c o is h more = same_is w (word_of d) is ∙ ap word_of (some_is d c h)
 named_by false w d c o is h more = more h
 
-named_takes_in : (cs : List CommandWord) (w : List ℕ) (c : CommandWord) → named_in cs w ≡ Some c → w ≡ word_of c
+named_takes_in : (cs : List CommandWord) (w : List ℕ) (c : CommandWord) → find (λ (d : CommandWord). same w (word_of d)) cs ≡ Some c → w ≡ word_of c
 named_takes_in [] w c e = absurd cc
-named_takes_in (d ∷ cs) w c e = named_by (same w (word_of d)) w d c (named_in cs w) refl e (λ h. named_takes_in cs w c h)
+named_takes_in (d ∷ cs) w c e = named_by (same w (word_of d)) w d c (find (λ (d : CommandWord). same w (word_of d)) cs) refl e (λ h. named_takes_in cs w c h)
 
 named_takes : (w : List ℕ) (c : CommandWord) → named w ≡ Some c → w ≡ word_of c
 unfolding named
@@ -330,12 +329,16 @@ made_prints command.Ring xs = record { text = refl; fits = λ h. h }
 
 -- the whole
 
-read_body_is : (w t : List ℕ) (c : CommandWord) (text : List ℕ) (xs : Values (kinds_of c)) (r : Reply) → w ≡ word_of c → t ≡ text → named (word_of c) ≡ Some c → fields (kinds_of c) text ≡ Some (xs, []) → made c xs ≡ r
+shaped_again : (ks : List Kind) (xs : Values ks) → is_row ks ≡ true → all_fit ks xs ≡ true → shaped ks (all_printed ks xs) ≡ Some xs
+unfolding shaped
+shaped_again ks xs row fit = rw (fields_again ks xs row fit) refl
+
+read_body_is : (w t : List ℕ) (c : CommandWord) (text : List ℕ) (xs : Values (kinds_of c)) (r : Reply) → w ≡ word_of c → t ≡ text → named (word_of c) ≡ Some c → shaped (kinds_of c) text ≡ Some xs → made c xs ≡ r
     → (named w >>= λ c. read_arguments c t) ≡ Some r
 read_body_is w t c text xs r word rest is read done =
     subst (λ (v : List ℕ). (named v >>= λ c. read_arguments c t) ≡ Some r) (sym word)
-      (subst (λ (u : List ℕ). (named (word_of c) >>= λ c. read_arguments c u) ≡ Some r) (sym rest)
-        (rw (is, read, done) refl))
+    (subst (λ (u : List ℕ). (named (word_of c) >>= λ c. read_arguments c u) ≡ Some r) (sym rest)
+    (rw (is, read, done) refl))
 
 pub body_again : (r : Reply) → Fits r → read_body (body r) ≡ Some r
 unfolding read_body
@@ -344,24 +347,31 @@ body_again r fit =
     let text : List ℕ = all_printed (kinds_of c) (values_of r) in
     let word = before-append is_word_byte 32 (word_of c) text refl (plain_word c) (ends_word c (values_of r)) in
     let rest = from-append is_word_byte 32 (word_of c) text refl (plain_word c) (ends_word c (values_of r)) in
-    read_body_is (before 32 (body r)) (from 32 (body r)) c text (values_of r) r (word ) rest (named_again c) (fields_again (kinds_of c) (values_of r) (rows c) fit) (made_again r)
+    read_body_is (before 32 (body r)) (from 32 (body r)) c text (values_of r) r (word) rest (named_again c) (shaped_again (kinds_of c) (values_of r) (rows c) fit) (made_again r)
 
 if_end_is : {A : Type 0} (x : A) (rest : List ℕ) (y : A) → if_end x rest ≡ Some y → (x ≡ y) × (rest ≡ [])
 if_end_is x rest y e =
     let g = guard_some (length rest == 0) x y e in
     (g.1, nil_from_length rest (eqb-true (length rest) 0 g.0))
 
+shaped_takes : (ks : List Kind) (bytes : List ℕ) (xs : Values ks) → shaped ks bytes ≡ Some xs → (bytes ≡ all_printed ks xs) × (all_fit ks xs ≡ true)
+unfolding shaped
+shaped_takes ks bytes xs e =
+    let x = bind_some (fields ks bytes) (λ x. if_end x.0 x.1) xs e in
+    let done = if_end_is x.0.0 x.0.1 xs x.2 in
+    let text = fields_take ks bytes x.0 x.1 in
+    let rest : bytes ≡ all_printed ks x.0.0 = text.0 ∙ ap (λ (t : List ℕ). all_printed ks x.0.0 ++ t) done.1 ∙ append-nil (all_printed ks x.0.0) in
+    subst (λ (ys : Values ks). (bytes ≡ all_printed ks ys) × (all_fit ks ys ≡ true)) done.0 (rest, text.1)
+
 pub body_takes : (bytes : List ℕ) (r : Reply) → read_body bytes ≡ Some r → (bytes ≡ body r) × Fits r
 unfolding read_body
 body_takes bytes r e =
     let c = bind_some (named (before 32 bytes)) (λ c. read_arguments c (from 32 bytes)) r e in
-    let x = bind_some (fields (kinds_of c.0) (from 32 bytes)) (λ x. if_end (made c.0 x.0) x.1) r c.2 in
-    let done = if_end_is (made c.0 x.0.0) x.0.1 r x.2 in
-    let text = fields_take (kinds_of c.0) (from 32 bytes) x.0 x.1 in
-    let prints = made_prints c.0 x.0.0 in
-    let rest : from 32 bytes ≡ all_printed (kinds_of c.0) x.0.0 = text.0 ∙ ap (λ (t : List ℕ). all_printed (kinds_of c.0) x.0.0 ++ t) done.1 ∙ append-nil (all_printed (kinds_of c.0) x.0.0) in
-    let whole : bytes ≡ word_of c.0 ++ all_printed (kinds_of c.0) x.0.0 = before-from 32 bytes ∙ ap (λ (w : List ℕ). w ++ from 32 bytes) (named_takes (before 32 bytes) c.0 c.1) ∙ ap (λ (t : List ℕ). word_of c.0 ++ t) rest in
-    subst (λ (q : Reply). (bytes ≡ body q) × Fits q) done.0 (whole ∙ sym prints.text, prints.fits text.1)
+    let xs = bind_some (shaped (kinds_of c.0) (from 32 bytes)) (λ xs. Some (made c.0 xs)) r c.2 in
+    let text = shaped_takes (kinds_of c.0) (from 32 bytes) xs.0 xs.1 in
+    let prints = made_prints c.0 xs.0 in
+    let whole : bytes ≡ word_of c.0 ++ all_printed (kinds_of c.0) xs.0 = before-from 32 bytes ∙ ap (λ (w : List ℕ). w ++ from 32 bytes) (named_takes (before 32 bytes) c.0 c.1) ∙ ap (λ (t : List ℕ). word_of c.0 ++ t) text.0 in
+    subst (λ (q : Reply). (bytes ≡ body q) × Fits q) (some_is (made c.0 xs.0) r xs.2) (whole ∙ sym prints.text, prints.fits text.1)
 
 -- with the id
 
@@ -425,7 +435,8 @@ unfolding read_line read_numbered
 numbered_again id text r small e =
     let lt : id < 2 ^ 64 = omega arith in
     let digits = digits_words (decimal id) (digits_decimal own id lt) in
-    rw (before-append is_word_byte 32 (decimal id) (32 ∷ text) refl digits refl, from-append is_word_byte 32 (decimal id) (32 ∷ text) refl digits refl, natural_again id (omega arith), e, le-leb id 2147483647 small) refl
+    let fit : (nat_le 0 id && nat_le id 2147483647) ≡ true = and_from (nat_le 0 id) (nat_le id 2147483647) (le-leb 0 id (omega arith)) (le-leb id 2147483647 small) in
+    rw (before-append is_word_byte 32 (decimal id) (32 ∷ text) refl digits refl, from-append is_word_byte 32 (decimal id) (32 ∷ text) refl digits refl, number_in_again 0 2147483647 id (omega arith) fit, e) refl
 
 pub line_again : (id : Option ℕ) (r : Reply) → IsId id → Fits r → read_line (line_text id r) ≡ Some (id, r)
 line_again None r small fit = plain_again (body r) r (no_mark (command_of r) (all_printed (kinds_of (command_of r)) (values_of r))) (body_again r fit)
@@ -439,16 +450,15 @@ behind_is (b ∷ bs) text ends e = let rest : bs ≡ text = some_is bs text e in
 numbered_takes : (bytes : List ℕ) (x : Option ℕ × Reply) → read_numbered bytes ≡ Some x → ReadsAs (35 ∷ bytes) x
 unfolding read_numbered
 numbered_takes bytes x e =
-    let id = bind_some (natural (before 32 bytes)) (λ id. behind_space (from 32 bytes) >>= λ text. read_body text >>= λ r. cond (nat_le id 2147483647) (Some (Some id, r)) None) x e in
-    let text = bind_some (behind_space (from 32 bytes)) (λ text. read_body text >>= λ r. cond (nat_le id.0 2147483647) (Some (Some id.0, r)) None) x id.2 in
-    let r = bind_some (read_body text.0) (λ r. cond (nat_le id.0 2147483647) (Some (Some id.0, r)) None) x text.2 in
-    let g = guard_some (nat_le id.0 2147483647) (Some id.0, r.0) x r.2 in
-    let digits = natural_takes (before 32 bytes) id.0 id.1 in
+    let id = bind_some (number_in 0 2147483647 (before 32 bytes)) (λ id. behind_space (from 32 bytes) >>= λ text. read_body text >>= λ r. Some (Some id, r)) x e in
+    let text = bind_some (behind_space (from 32 bytes)) (λ text. read_body text >>= λ r. Some (Some id.0, r)) x id.2 in
+    let r = bind_some (read_body text.0) (λ r. Some (Some id.0, r)) x text.2 in
+    let digits = number_in_takes 0 2147483647 (before 32 bytes) id.0 id.1 in
     let b = body_takes text.0 r.0 r.1 in
     let rest : from 32 bytes ≡ 32 ∷ body r.0 = behind_is (from 32 bytes) text.0 (from_ends 32 bytes) text.1 ∙ ap (λ (t : List ℕ). 32 ∷ t) b.0 in
     let whole : bytes ≡ decimal id.0 ++ 32 ∷ body r.0 = before-from 32 bytes ∙ ap (λ (w : List ℕ). w ++ from 32 bytes) digits.0 ∙ ap (λ (t : List ℕ). decimal id.0 ++ t) rest in
-    subst (λ (q : Option ℕ × Reply). ReadsAs (35 ∷ bytes) q) g.1
-      (record { id = leb-true id.0 2147483647 g.0; fits = b.1; text = ap (λ (t : List ℕ). 35 ∷ t) (whole ∙ sym (append_assoc (decimal id.0) (32 ∷ []) (body r.0))) })
+    subst (λ (q : Option ℕ × Reply). ReadsAs (35 ∷ bytes) q) (some_is (Some id.0, r.0) x r.2)
+    (record { id = leb-true id.0 2147483647 (and_parts (nat_le 0 id.0) (nat_le id.0 2147483647) digits.1).1; fits = b.1; text = ap (λ (t : List ℕ). 35 ∷ t) (whole ∙ sym (append_assoc (decimal id.0) (32 ∷ []) (body r.0))) })
 
 line_by : (t : Bool) (b : ℕ) (bs : List ℕ) (x : Option ℕ × Reply) → (b == 35) ≡ t → cond t (read_numbered bs) (read_body (b ∷ bs) >>= λ r. Some (None, r)) ≡ Some x → ReadsAs (b ∷ bs) x
 line_by true b bs x is e =

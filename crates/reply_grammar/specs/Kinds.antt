@@ -1,5 +1,5 @@
 -- The kinds of argument: the values of each, their rule and how they are printed.
-use Rattle.std.specs.Prelude.{◌≡◌, ℕ, ◌≤◌, ℤ, pos, negsuc, neg_ℤ, Bool, true, false, if◌then◌else◌, not, ◌&&◌, ◌==◌, nat_le, List, [], ◌∷◌, ◌++◌, length, decimal, Option, Some, None, IsTrue}
+use Rattle.std.specs.Prelude.{ℕ, ℤ, pos, negsuc, Bool, true, if◌then◌else◌, ◌&&◌, nat_le, List, [], ◌∷◌, ◌++◌, length, decimal, Option, Some, None}
 use Rattle.std.specs.Fmt.{signed_decimal}
 use Rattle.std.specs.List.{list_all}
 use Rattle.line_words.specs.Bytes.{is_word, is_key, is_name, is_sentence, is_text}
@@ -10,21 +10,26 @@ pub data Kind : Type 0 where
   Name : Kind
   -- a number from the first to the second
   Number : ℕ → ℕ → Kind
-  -- -2147483648 to 4294967295
+  -- a number from -2147483648 to 4294967295
   Wide : Kind
+  -- 0 or 1, for no and yes
   Flag : Kind
+  -- a word or nothing, at the end
   OptionalWord : Kind
-  -- one or more
+  -- one or more words
   Words : Kind
-  -- 1 to 32
+  -- 1 to 32 names
   Names : Kind
-  -- behind a space, and behind a tab
+  -- a sentence behind a space
   Sentence : Kind
+  -- a further sentence, behind a tab
   NextSentence : Kind
+  -- the rest of the line
   Text : Kind
-  -- one or more
+  -- one or more script tags, parted by tabs
   Pairs : Kind
 
+-- what an argument of a kind is
 abbrev pub Value : Kind → Type 0
 Value Word = List ℕ
 Value Name = List ℕ
@@ -39,17 +44,21 @@ Value NextSentence = List ℕ
 Value Text = List ℕ
 Value Pairs = List Pair
 
+-- -2147483648 to 4294967295
 abbrev pub is_wide : ℤ → Bool
 is_wide (pos n) = nat_le n 4294967295
 is_wide (negsuc n) = nat_le n 2147483647
 
+-- a key, and a sentence as its value
 abbrev pub is_pair : Pair → Bool
 is_pair p = is_key p.key && is_sentence p.value
 
+-- a word, if there is one
 abbrev pub is_some_word : Option (List ℕ) → Bool
 is_some_word None = true
 is_some_word (Some w) = is_word w
 
+-- the rule of each kind
 abbrev pub fits : (k : Kind) → Value k → Bool
 fits Word w = is_word w
 fits Name w = is_name w
@@ -64,10 +73,12 @@ fits NextSentence s = is_sentence s
 fits Text t = is_text t
 fits Pairs ps = list_all is_pair ps && nat_le 1 (length ps)
 
+-- each behind a space
 abbrev pub words_text : List (List ℕ) → List ℕ
 words_text [] = []
 words_text (w ∷ ws) = 32 ∷ (w ++ words_text ws)
 
+-- `key=value`
 abbrev pub pair_text : Pair → List ℕ
 pair_text p = p.key ++ 61 ∷ p.value
 
@@ -76,6 +87,7 @@ abbrev pub pairs_text : ℕ → List Pair → List ℕ
 pairs_text mark [] = []
 pairs_text mark (p ∷ ps) = mark ∷ (pair_text p ++ pairs_text 9 ps)
 
+-- a word behind a space, if there is one
 abbrev pub optional_text : Option (List ℕ) → List ℕ
 optional_text None = []
 optional_text (Some w) = 32 ∷ w
@@ -100,10 +112,12 @@ abbrev pub Values : List Kind → Type 0
 Values [] = Unit {0}
 Values (k ∷ ks) = Value k × Values ks
 
+-- each keeps the rule of its kind
 abbrev pub all_fit : (ks : List Kind) → Values ks → Bool
 all_fit [] xs = true
 all_fit (k ∷ ks) xs = fits k xs.0 && all_fit ks xs.1
 
+-- the arguments one behind another
 abbrev pub all_printed : (ks : List Kind) → Values ks → List ℕ
 all_printed [] xs = []
 all_printed (k ∷ ks) xs = printed k xs.0 ++ all_printed ks xs.1

@@ -1,15 +1,16 @@
 -- Reading a whole line.
-use Rattle.std.specs.Prelude.{ℕ, Bool, true, false, if◌then◌else◌, ◌&&◌, ◌==◌, nat_le, nat_eq, List, [], ◌∷◌, Option, Some, None}
+use Rattle.std.specs.Prelude.{ℕ, Bool, if◌then◌else◌, ◌==◌, nat_eq, find, List, [], ◌∷◌, Option, Some, None}
 use Rattle.std.specs.Cmp.Lexicographic.{pointwise}
 use Rattle.reply_grammar.specs.declared.Reply.{Reply}
 use Rattle.reply_grammar.specs.declared.Reply.TheVariants as reply
-use Rattle.reply_grammar.specs.declared.CommandWord.{CommandWord}
-use Rattle.reply_grammar.specs.declared.CommandWord.TheVariants as command
+use Rattle.reply_grammar.specs.declared.command_word.CommandWord.{CommandWord}
+use Rattle.reply_grammar.specs.declared.command_word.CommandWord.TheVariants as command
 use Rattle.reply_grammar.specs.Kinds.{Values}
 use Rattle.reply_grammar.specs.Replies.{word_of, kinds_of}
 use Rattle.line_words.specs.Parts.{before, from}
-use Rattle.reply_grammar.specs.Reading.{◌>>=◌, natural, fields, if_end}
+use Rattle.reply_grammar.specs.Reading.{◌>>=◌, number_in, shaped}
 
+-- the same bytes
 abbrev pub same : List ℕ → List ℕ → Bool
 same = pointwise nat_eq
 
@@ -25,12 +26,9 @@ commands =
     ∷ command.RemoveBot ∷ command.AddStartRect ∷ command.RemoveStartRect ∷ command.SetScriptTags ∷ command.RemoveScriptTags ∷ command.ForceQuitBattle
     ∷ command.Ring ∷ []
 
-abbrev pub named_in : List CommandWord → List ℕ → Option CommandWord
-named_in [] w = None
-named_in (c ∷ cs) w = if same w (word_of c) then Some c else named_in cs w
-
+-- the command word that is this text
 unfoldable pub named : List ℕ → Option CommandWord
-named = named_in commands
+named w = find (λ c. same w (word_of c)) commands
 
 -- the reply of these arguments
 abbrev pub made : (c : CommandWord) → Values (kinds_of c) → Reply
@@ -80,22 +78,26 @@ made command.Ring x = reply.Ring x.0
 
 -- the arguments of one command, to the end
 abbrev pub read_arguments : CommandWord → List ℕ → Option Reply
-read_arguments c bytes = fields (kinds_of c) bytes >>= λ x. if_end (made c x.0) x.1
+read_arguments c bytes = shaped (kinds_of c) bytes >>= λ xs. Some (made c xs)
 
+-- a line without its id
 unfoldable pub read_body : List ℕ → Option Reply
 read_body bytes = named (before 32 bytes) >>= λ c. read_arguments c (from 32 bytes)
 
+-- what stands behind one byte
 abbrev pub behind_space : List ℕ → Option (List ℕ)
 behind_space [] = None
 behind_space (b ∷ bs) = Some bs
 
+-- a line behind its `#`
 unfoldable pub read_numbered : List ℕ → Option (Option ℕ × Reply)
 read_numbered bytes = do
-  id ← natural (before 32 bytes)
+  id ← number_in 0 2147483647 (before 32 bytes)
   text ← behind_space (from 32 bytes)
   r ← read_body text
-  if nat_le id 2147483647 then Some (Some id, r) else None
+  Some (Some id, r)
 
+-- a line without its LF: the pair that it reads as
 unfoldable pub read_line : List ℕ → Option (Option ℕ × Reply)
 read_line [] = None
 read_line (b ∷ bs) = if b == 35 then read_numbered bs else (read_body (b ∷ bs) >>= λ r. Some (None, r))

@@ -2,8 +2,8 @@
 use Rattle.std.specs.Prelude.{◌≡◌, ℕ, ◌≤◌, List, [], ◌∷◌, ◌++◌, flat_map, codes, decimal, Option, Some, None, IsTrue}
 use Rattle.reply_grammar.specs.declared.Reply.{Reply}
 use Rattle.reply_grammar.specs.declared.Reply.TheVariants as reply
-use Rattle.reply_grammar.specs.declared.CommandWord.{CommandWord}
-use Rattle.reply_grammar.specs.declared.CommandWord.TheVariants as command
+use Rattle.reply_grammar.specs.declared.command_word.CommandWord.{CommandWord}
+use Rattle.reply_grammar.specs.declared.command_word.CommandWord.TheVariants as command
 use Rattle.reply_grammar.specs.Kinds.{Kind, Word, Name, Number, Wide, Flag, OptionalWord, Words, Names, Sentence, NextSentence, Text, Pairs, Values, all_fit, all_printed}
 
 -- any number of 32 bits: a status word, an account number, a count

@@ -5,13 +5,15 @@
 //! further sentences behind tabs. Printing and reading are exact inverses.
 #![tactic(auto)]
 
+mod command_word;
 mod laws;
 mod printing;
 mod reading;
 
-use line_words::{NameBuf, NameList, PairList, SentenceBuf, TextBuf, WordBuf, WordList};
 pub use laws::{each_reads_alone, no_break_inside, no_two_alike, reading_is_inverse};
+use line_words::{NameBuf, NameList, PairList, SentenceBuf, TextBuf, WordBuf, WordList};
 pub use printing::print;
+pub use reading::read_reply;
 
 /// A line to a client, its fields the arguments in their order.
 ///
@@ -247,50 +249,5 @@ impl Reply {
     pub fn discard(self) {}
 }
 
-/// The command word of a reply.
-#[derive(Clone, Copy)]
-enum CommandWord {
-    TasServer,
-    Accepted,
-    Denied,
-    Motd,
-    ServerMsg,
-    AddUser,
-    RemoveUser,
-    ClientStatus,
-    LoginInfoEnd,
-    Pong,
-    Join,
-    Clients,
-    Joined,
-    Left,
-    JoinFailed,
-    Said,
-    SaidEx,
-    SayPrivate,
-    SaidPrivate,
-    Channel,
-    EndOfChannels,
-    OpenBattle,
-    OpenBattleFailed,
-    BattleOpened,
-    BattleClosed,
-    JoinBattle,
-    JoinBattleFailed,
-    JoinedBattle,
-    LeftBattle,
-    UpdateBattleInfo,
-    RequestBattleStatus,
-    ClientBattleStatus,
-    SaidBattle,
-    SaidBattleEx,
-    AddBot,
-    UpdateBot,
-    RemoveBot,
-    AddStartRect,
-    RemoveStartRect,
-    SetScriptTags,
-    RemoveScriptTags,
-    ForceQuitBattle,
-    Ring,
-}
+#[cfg(test)]
+mod tests;

@@ -1,202 +1,15 @@
 //! A reply as its line.
 
-ghost use Rattle.std.specs.Prelude.{◌≡◌, ℕ, List, [], ◌∷◌, ◌++◌, IsTrue, IfOk, Ok, Err, take, length, vec_len, is_ok, if◌then◌else◌, decimal, codes};
-ghost use Rattle.std.specs.Fmt.{signed_decimal};
-ghost use Rattle.reply_grammar.specs.Kinds.{words_text, pair_text, pairs_text, optional_text};
-ghost use Rattle.reply_grammar.specs.Replies.{id_text, printed_line};
-ghost use Rattle.reply_grammar.specs.Written.{argument_text, arguments_text, line_text};
+ghost use Rattle.std.specs.Prelude.{◌≡◌, ◌++◌, is_ok, if◌then◌else◌};
+ghost use Rattle.reply_grammar.specs.Replies.{printed_line, word_of};
+ghost use Rattle.reply_grammar.specs.Written.{pieces_text};
+
+mod pieces;
 
 use crate::Reply;
-use itoa::Buffer;
-use line_words::{NameBuf, NameList, Pair, PairList, SentenceBuf, TextBuf, WordBuf, WordList};
+use crate::command_word::CommandWord;
+use pieces::{Argument, put_pieces};
 use std::alloc::AllocError;
-
-/// An argument as it is printed.
-#[derive(Clone, Copy)]
-enum Argument<'a> {
-    Word(&'a WordBuf),
-    Name(&'a NameBuf),
-    Number(u32),
-    Wide(&'a i64),
-    Flag(bool),
-    OptionalWord(&'a Option<WordBuf>),
-    Words(&'a WordList),
-    Names(&'a NameList),
-    Sentence(&'a SentenceBuf),
-    NextSentence(&'a SentenceBuf),
-    Text(&'a TextBuf),
-    Pairs(&'a PairList),
-}
-
-#[tactic(auto, using(crate::proofs::Kept::kept_then, crate::proofs::Kept::kept_more))]
-fn put_behind(out: &mut Vec<u8>, mark: u8, bytes: &[u8]) -> Result<(), AllocError>
-    ensures ok { IfOk result (λ _. out.new.items ≡ out.old.items ++ (mark ∷ bytes.now)) }
-    ensures kept { take (length out.old.items) out.new.items ≡ out.old.items }
-{
-    out.push(mark)?;
-    out.extend_from_slice(bytes)?;
-    Ok(())
-}
-
-fn put_number(out: &mut Vec<u8>, n: u32) -> Result<(), AllocError>
-    ensures ok { IfOk result (λ _. out.new.items ≡ out.old.items ++ (32 ∷ decimal n)) }
-    ensures kept { take (length out.old.items) out.new.items ≡ out.old.items }
-{
-    let mut buffer = Buffer::new();
-    put_behind(out, b' ', buffer.format(n).as_bytes())
-}
-
-fn put_wide(out: &mut Vec<u8>, n: i64) -> Result<(), AllocError>
-    ensures ok { IfOk result (λ _. out.new.items ≡ out.old.items ++ (32 ∷ signed_decimal n)) }
-    ensures kept { take (length out.old.items) out.new.items ≡ out.old.items }
-{
-    let mut buffer = Buffer::new();
-    put_behind(out, b' ', buffer.format(n).as_bytes())
-}
-
-#[tactic(auto, using(crate::proofs::Kept::kept_then, crate::proofs::Kept::kept_more))]
-fn put_words(out: &mut Vec<u8>, words: &[WordBuf]) -> Result<(), AllocError>
-    ensures ok { IfOk result (λ _. out.new.items ≡ out.old.items ++ words_text words.now) }
-    ensures kept { take (length out.old.items) out.new.items ≡ out.old.items }
-{
-    for word in words {
-        put_behind(out, b' ', word.as_slice())?;
-    }
-    Ok(())
-}
-
-#[tactic(auto, using(crate::proofs::Kept::kept_then, crate::proofs::Kept::kept_more))]
-fn put_names(out: &mut Vec<u8>, names: &[NameBuf]) -> Result<(), AllocError>
-    ensures ok { IfOk result (λ _. out.new.items ≡ out.old.items ++ words_text names.now) }
-    ensures kept { take (length out.old.items) out.new.items ≡ out.old.items }
-{
-    for name in names {
-        put_behind(out, b' ', name.as_slice())?;
-    }
-    Ok(())
-}
-
-#[tactic(auto, using(crate::proofs::Kept::kept_then, crate::proofs::Kept::kept_more))]
-fn put_pair(out: &mut Vec<u8>, mark: u8, pair: &Pair) -> Result<(), AllocError>
-    ensures ok { IfOk result (λ _. out.new.items ≡ out.old.items ++ (mark ∷ pair_text pair.now)) }
-    ensures kept { take (length out.old.items) out.new.items ≡ out.old.items }
-{
-    put_behind(out, mark, pair.key.as_slice())?;
-    put_behind(out, b'=', pair.value.as_slice())
-}
-
-#[tactic(auto, using(crate::proofs::Kept::kept_then, crate::proofs::Kept::kept_more))]
-fn put_pairs(out: &mut Vec<u8>, pairs: &[Pair]) -> Result<(), AllocError>
-    ensures ok { IfOk result (λ _. out.new.items ≡ out.old.items ++ pairs_text 32 pairs.now) }
-    ensures kept { take (length out.old.items) out.new.items ≡ out.old.items }
-{
-    let mut mark = b' ';
-    for pair in pairs {
-        put_pair(out, mark, pair)?;
-        mark = b'\t';
-    }
-    Ok(())
-}
-
-fn put_argument(out: &mut Vec<u8>, argument: &Argument) -> Result<(), AllocError>
-    ensures ok { IfOk result (λ _. out.new.items ≡ out.old.items ++ argument_text argument.now) }
-    ensures kept { take (length out.old.items) out.new.items ≡ out.old.items }
-{
-    match argument {
-        Argument::Word(word) => put_behind(out, b' ', word.as_slice()),
-        Argument::Name(name) => put_behind(out, b' ', name.as_slice()),
-        Argument::Number(n) => put_number(out, *n),
-        Argument::Wide(n) => put_wide(out, **n),
-        Argument::Flag(b) => put_flag(out, *b),
-        Argument::OptionalWord(word) => put_optional(out, word),
-        Argument::Words(words) => put_words(out, words.as_slice()),
-        Argument::Names(names) => put_names(out, names.as_slice()),
-        Argument::Sentence(sentence) => put_behind(out, b' ', sentence.as_slice()),
-        Argument::NextSentence(sentence) => put_behind(out, b'\t', sentence.as_slice()),
-        Argument::Text(text) => put_behind(out, b' ', text.as_slice()),
-        Argument::Pairs(pairs) => put_pairs(out, pairs.as_slice()),
-    }
-}
-
-fn put_flag(out: &mut Vec<u8>, b: bool) -> Result<(), AllocError>
-    ensures ok { IfOk result (λ _. out.new.items ≡ out.old.items ++ (32 ∷ (if b then 49 else 48) ∷ [])) }
-    ensures kept { take (length out.old.items) out.new.items ≡ out.old.items }
-{
-    if b {
-        put_behind(out, b' ', b"1")
-    } else {
-        put_behind(out, b' ', b"0")
-    }
-}
-
-#[tactic(auto, using(crate::proofs::Kept::kept_then, crate::proofs::Kept::kept_more))]
-fn put_optional(out: &mut Vec<u8>, word: &Option<WordBuf>) -> Result<(), AllocError>
-    ensures ok { IfOk result (λ _. out.new.items ≡ out.old.items ++ optional_text word.now) }
-    ensures kept { take (length out.old.items) out.new.items ≡ out.old.items }
-{
-    match word {
-        None => Ok(()),
-        Some(word) => put_behind(out, b' ', word.as_slice()),
-    }
-}
-
-#[tactic(auto, using(crate::proofs::Kept::kept_then, crate::proofs::Kept::kept_more))]
-fn put_id(out: &mut Vec<u8>, id: Option<u32>) -> Result<(), AllocError>
-    ensures ok { IfOk result (λ _. out.new.items ≡ out.old.items ++ id_text id) }
-    ensures kept { take (length out.old.items) out.new.items ≡ out.old.items }
-{
-    if let Some(id) = id {
-        let mut buffer = Buffer::new();
-        put_behind(out, b'#', buffer.format(id).as_bytes())?;
-        out.push(b' ')?;
-    }
-    Ok(())
-}
-
-#[tactic(auto, using(crate::proofs::Kept::kept_then, crate::proofs::Kept::kept_more))]
-fn put_arguments(out: &mut Vec<u8>, arguments: &[Argument]) -> Result<(), AllocError>
-    ensures ok { IfOk result (λ _. out.new.items ≡ out.old.items ++ arguments_text arguments.now) }
-    ensures kept { take (length out.old.items) out.new.items ≡ out.old.items }
-{
-    for argument in arguments {
-        put_argument(out, argument)?;
-    }
-    Ok(())
-}
-
-#[tactic(auto, using(crate::proofs::Kept::kept_then, crate::proofs::Kept::kept_more))]
-fn put_parts(
-    out: &mut Vec<u8>,
-    id: Option<u32>,
-    word: &[u8],
-    arguments: &[Argument],
-) -> Result<(), AllocError>
-    ensures ok { IfOk result (λ _. out.new.items ≡ out.old.items ++ line_text id word.now arguments.now) }
-    ensures kept { take (length out.old.items) out.new.items ≡ out.old.items }
-{
-    put_id(out, id)?;
-    out.extend_from_slice(word)?;
-    put_arguments(out, arguments)?;
-    out.push(b'\n')?;
-    Ok(())
-}
-
-/// Appends a whole line or nothing.
-fn put_line(
-    out: &mut Vec<u8>,
-    id: Option<u32>,
-    word: &[u8],
-    arguments: &[Argument],
-) -> Result<(), AllocError>
-    ensures { out.new.items ≡ (if is_ok result then out.old.items ++ line_text id word.now arguments.now else out.old.items) }
-{
-    let start = out.len();
-    let done = put_parts(out, id, word, arguments);
-    if done.is_err() {
-        out.truncate(start);
-    }
-    done
-}
 
 /// Appends the line of a reply with its LF, behind `#id ` where there is an id. Where memory is
 /// refused nothing is appended.
@@ -212,7 +25,7 @@ pub fn print(reply: &Reply, id: Option<u32>, out: &mut Vec<u8>) -> Result<(), Al
         } => put_line(
             out,
             id,
-            b"TASSERVER",
+            CommandWord::TasServer,
             &[
                 Argument::Word(protocol_version),
                 Argument::Word(spring_version),
@@ -220,10 +33,20 @@ pub fn print(reply: &Reply, id: Option<u32>, out: &mut Vec<u8>) -> Result<(), Al
                 Argument::Number(*server_mode as u32),
             ],
         ),
-        Reply::Accepted { user } => put_line(out, id, b"ACCEPTED", &[Argument::Name(user)]),
-        Reply::Denied { text } => put_line(out, id, b"DENIED", &[Argument::Text(text)]),
-        Reply::Motd { text } => put_line(out, id, b"MOTD", &[Argument::Text(text)]),
-        Reply::ServerMsg { text } => put_line(out, id, b"SERVERMSG", &[Argument::Text(text)]),
+        Reply::Accepted { user } => put_line(
+            out,
+            id,
+            CommandWord::Accepted,
+            &[Argument::Name(user)],
+        ),
+        Reply::Denied { text } => put_line(out, id, CommandWord::Denied, &[Argument::Text(text)]),
+        Reply::Motd { text } => put_line(out, id, CommandWord::Motd, &[Argument::Text(text)]),
+        Reply::ServerMsg { text } => put_line(
+            out,
+            id,
+            CommandWord::ServerMsg,
+            &[Argument::Text(text)],
+        ),
         Reply::AddUser {
             user,
             country,
@@ -232,7 +55,7 @@ pub fn print(reply: &Reply, id: Option<u32>, out: &mut Vec<u8>) -> Result<(), Al
         } => put_line(
             out,
             id,
-            b"ADDUSER",
+            CommandWord::AddUser,
             &[
                 Argument::Name(user),
                 Argument::Word(country),
@@ -240,38 +63,43 @@ pub fn print(reply: &Reply, id: Option<u32>, out: &mut Vec<u8>) -> Result<(), Al
                 Argument::Number(*account),
             ],
         ),
-        Reply::RemoveUser { user } => put_line(out, id, b"REMOVEUSER", &[Argument::Name(user)]),
+        Reply::RemoveUser { user } => put_line(
+            out,
+            id,
+            CommandWord::RemoveUser,
+            &[Argument::Name(user)],
+        ),
         Reply::ClientStatus { user, status } => put_line(
             out,
             id,
-            b"CLIENTSTATUS",
+            CommandWord::ClientStatus,
             &[Argument::Name(user), Argument::Number(*status)],
         ),
-        Reply::LoginInfoEnd => put_line(out, id, b"LOGININFOEND", &[]),
-        Reply::Pong => put_line(out, id, b"PONG", &[]),
-        Reply::Join { channel } => put_line(out, id, b"JOIN", &[Argument::Name(channel)]),
+        Reply::LoginInfoEnd => put_line(out, id, CommandWord::LoginInfoEnd, &[]),
+        Reply::Pong => put_line(out, id, CommandWord::Pong, &[]),
+        Reply::Join { channel } => put_line(out, id, CommandWord::Join, &[Argument::Name(channel)]),
         Reply::Clients { channel, names } => put_line(
             out,
             id,
-            b"CLIENTS",
+            CommandWord::Clients,
             &[Argument::Name(channel), Argument::Names(names)],
         ),
         Reply::Joined { channel, user } => put_line(
             out,
             id,
-            b"JOINED",
+            CommandWord::Joined,
             &[Argument::Name(channel), Argument::Name(user)],
         ),
         Reply::Left { channel, user } => put_line(
             out,
             id,
-            b"LEFT",
+            CommandWord::Left,
             &[Argument::Name(channel), Argument::Name(user)],
         ),
         Reply::JoinFailed { channel, reason } => put_line(
             out,
             id,
-            b"JOINFAILED",
+            CommandWord::JoinFailed,
             &[Argument::Name(channel), Argument::Text(reason)],
         ),
         Reply::Said {
@@ -281,7 +109,7 @@ pub fn print(reply: &Reply, id: Option<u32>, out: &mut Vec<u8>) -> Result<(), Al
         } => put_line(
             out,
             id,
-            b"SAID",
+            CommandWord::Said,
             &[
                 Argument::Name(channel),
                 Argument::Name(user),
@@ -295,7 +123,7 @@ pub fn print(reply: &Reply, id: Option<u32>, out: &mut Vec<u8>) -> Result<(), Al
         } => put_line(
             out,
             id,
-            b"SAIDEX",
+            CommandWord::SaidEx,
             &[
                 Argument::Name(channel),
                 Argument::Name(user),
@@ -305,13 +133,13 @@ pub fn print(reply: &Reply, id: Option<u32>, out: &mut Vec<u8>) -> Result<(), Al
         Reply::SayPrivate { user, text } => put_line(
             out,
             id,
-            b"SAYPRIVATE",
+            CommandWord::SayPrivate,
             &[Argument::Name(user), Argument::Text(text)],
         ),
         Reply::SaidPrivate { user, text } => put_line(
             out,
             id,
-            b"SAIDPRIVATE",
+            CommandWord::SaidPrivate,
             &[Argument::Name(user), Argument::Text(text)],
         ),
         Reply::Channel {
@@ -320,20 +148,20 @@ pub fn print(reply: &Reply, id: Option<u32>, out: &mut Vec<u8>) -> Result<(), Al
         } => put_line(
             out,
             id,
-            b"CHANNEL",
+            CommandWord::Channel,
             &[Argument::Name(channel), Argument::Number(*user_count)],
         ),
-        Reply::EndOfChannels => put_line(out, id, b"ENDOFCHANNELS", &[]),
+        Reply::EndOfChannels => put_line(out, id, CommandWord::EndOfChannels, &[]),
         Reply::OpenBattle { battle } => put_line(
             out,
             id,
-            b"OPENBATTLE",
+            CommandWord::OpenBattle,
             &[Argument::Number(*battle)],
         ),
         Reply::OpenBattleFailed { text } => put_line(
             out,
             id,
-            b"OPENBATTLEFAILED",
+            CommandWord::OpenBattleFailed,
             &[Argument::Text(text)],
         ),
         Reply::BattleOpened {
@@ -355,7 +183,7 @@ pub fn print(reply: &Reply, id: Option<u32>, out: &mut Vec<u8>) -> Result<(), Al
         } => put_line(
             out,
             id,
-            b"BATTLEOPENED",
+            CommandWord::BattleOpened,
             &[
                 Argument::Number(*battle),
                 Argument::Number(*battle_type as u32),
@@ -377,19 +205,19 @@ pub fn print(reply: &Reply, id: Option<u32>, out: &mut Vec<u8>) -> Result<(), Al
         Reply::BattleClosed { battle } => put_line(
             out,
             id,
-            b"BATTLECLOSED",
+            CommandWord::BattleClosed,
             &[Argument::Number(*battle)],
         ),
         Reply::JoinBattle { battle, game_hash } => put_line(
             out,
             id,
-            b"JOINBATTLE",
+            CommandWord::JoinBattle,
             &[Argument::Number(*battle), Argument::Wide(game_hash)],
         ),
         Reply::JoinBattleFailed { text } => put_line(
             out,
             id,
-            b"JOINBATTLEFAILED",
+            CommandWord::JoinBattleFailed,
             &[Argument::Text(text)],
         ),
         Reply::JoinedBattle {
@@ -399,7 +227,7 @@ pub fn print(reply: &Reply, id: Option<u32>, out: &mut Vec<u8>) -> Result<(), Al
         } => put_line(
             out,
             id,
-            b"JOINEDBATTLE",
+            CommandWord::JoinedBattle,
             &[
                 Argument::Number(*battle),
                 Argument::Name(user),
@@ -409,7 +237,7 @@ pub fn print(reply: &Reply, id: Option<u32>, out: &mut Vec<u8>) -> Result<(), Al
         Reply::LeftBattle { battle, user } => put_line(
             out,
             id,
-            b"LEFTBATTLE",
+            CommandWord::LeftBattle,
             &[Argument::Number(*battle), Argument::Name(user)],
         ),
         Reply::UpdateBattleInfo {
@@ -421,7 +249,7 @@ pub fn print(reply: &Reply, id: Option<u32>, out: &mut Vec<u8>) -> Result<(), Al
         } => put_line(
             out,
             id,
-            b"UPDATEBATTLEINFO",
+            CommandWord::UpdateBattleInfo,
             &[
                 Argument::Number(*battle),
                 Argument::Number(*spectator_count as u32),
@@ -430,7 +258,7 @@ pub fn print(reply: &Reply, id: Option<u32>, out: &mut Vec<u8>) -> Result<(), Al
                 Argument::Sentence(map),
             ],
         ),
-        Reply::RequestBattleStatus => put_line(out, id, b"REQUESTBATTLESTATUS", &[]),
+        Reply::RequestBattleStatus => put_line(out, id, CommandWord::RequestBattleStatus, &[]),
         Reply::ClientBattleStatus {
             user,
             battle_status,
@@ -438,7 +266,7 @@ pub fn print(reply: &Reply, id: Option<u32>, out: &mut Vec<u8>) -> Result<(), Al
         } => put_line(
             out,
             id,
-            b"CLIENTBATTLESTATUS",
+            CommandWord::ClientBattleStatus,
             &[
                 Argument::Name(user),
                 Argument::Number(*battle_status),
@@ -448,13 +276,13 @@ pub fn print(reply: &Reply, id: Option<u32>, out: &mut Vec<u8>) -> Result<(), Al
         Reply::SaidBattle { user, text } => put_line(
             out,
             id,
-            b"SAIDBATTLE",
+            CommandWord::SaidBattle,
             &[Argument::Name(user), Argument::Text(text)],
         ),
         Reply::SaidBattleEx { user, text } => put_line(
             out,
             id,
-            b"SAIDBATTLEEX",
+            CommandWord::SaidBattleEx,
             &[Argument::Name(user), Argument::Text(text)],
         ),
         Reply::AddBot {
@@ -467,7 +295,7 @@ pub fn print(reply: &Reply, id: Option<u32>, out: &mut Vec<u8>) -> Result<(), Al
         } => put_line(
             out,
             id,
-            b"ADDBOT",
+            CommandWord::AddBot,
             &[
                 Argument::Number(*battle),
                 Argument::Word(bot),
@@ -485,7 +313,7 @@ pub fn print(reply: &Reply, id: Option<u32>, out: &mut Vec<u8>) -> Result<(), Al
         } => put_line(
             out,
             id,
-            b"UPDATEBOT",
+            CommandWord::UpdateBot,
             &[
                 Argument::Number(*battle),
                 Argument::Word(bot),
@@ -496,7 +324,7 @@ pub fn print(reply: &Reply, id: Option<u32>, out: &mut Vec<u8>) -> Result<(), Al
         Reply::RemoveBot { battle, bot } => put_line(
             out,
             id,
-            b"REMOVEBOT",
+            CommandWord::RemoveBot,
             &[Argument::Number(*battle), Argument::Word(bot)],
         ),
         Reply::AddStartRect {
@@ -508,7 +336,7 @@ pub fn print(reply: &Reply, id: Option<u32>, out: &mut Vec<u8>) -> Result<(), Al
         } => put_line(
             out,
             id,
-            b"ADDSTARTRECT",
+            CommandWord::AddStartRect,
             &[
                 Argument::Number(*ally as u32),
                 Argument::Number(*left as u32),
@@ -520,22 +348,39 @@ pub fn print(reply: &Reply, id: Option<u32>, out: &mut Vec<u8>) -> Result<(), Al
         Reply::RemoveStartRect { ally } => put_line(
             out,
             id,
-            b"REMOVESTARTRECT",
+            CommandWord::RemoveStartRect,
             &[Argument::Number(*ally as u32)],
         ),
         Reply::SetScriptTags { pairs } => put_line(
             out,
             id,
-            b"SETSCRIPTTAGS",
+            CommandWord::SetScriptTags,
             &[Argument::Pairs(pairs)],
         ),
         Reply::RemoveScriptTags { keys } => put_line(
             out,
             id,
-            b"REMOVESCRIPTTAGS",
+            CommandWord::RemoveScriptTags,
             &[Argument::Words(keys)],
         ),
-        Reply::ForceQuitBattle => put_line(out, id, b"FORCEQUITBATTLE", &[]),
-        Reply::Ring { user } => put_line(out, id, b"RING", &[Argument::Name(user)]),
+        Reply::ForceQuitBattle => put_line(out, id, CommandWord::ForceQuitBattle, &[]),
+        Reply::Ring { user } => put_line(out, id, CommandWord::Ring, &[Argument::Name(user)]),
     }
+}
+
+/// Appends a whole line or nothing.
+fn put_line(
+    out: &mut Vec<u8>,
+    id: Option<u32>,
+    command: CommandWord,
+    arguments: &[Argument],
+) -> Result<(), AllocError>
+    ensures { out.new.items ≡ (if is_ok result then out.old.items ++ pieces_text id (word_of command) arguments.now else out.old.items) }
+{
+    let start = out.len();
+    let done = put_pieces(out, id, command, arguments);
+    if done.is_err() {
+        out.truncate(start);
+    }
+    done
 }

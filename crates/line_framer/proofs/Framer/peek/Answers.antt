@@ -1,8 +1,8 @@
 use Rattle.std.proofs.Common.{◌≡◌, ◌+◌, ◌-◌, take, drop, None, Some, sym, ap, ◌∙◌, arith}
 use Rattle.std.proofs.Common.{length, ◌≤◌, subst}
 use Rattle.line_framer.specs.Frames.{without_cr}
-use Rattle.line_framer.specs.Framed.{next_line}
-use Rattle.line_framer.proofs.Buffer.{first_of_none, first_of_some, line_is_short}
+use Rattle.line_framer.specs.Framed.{next_line, waiting}
+use Rattle.line_framer.proofs.Buffer.{lines_of_none, first_of_none, first_of_some, line_is_short}
 use Rattle.line_framer.proofs.Stands.{next_frame}
 use Rattle.line_framer.proofs.Framer.peek.Goals as goal
 
@@ -40,3 +40,8 @@ returns-in-Some-clause-short c =
     c.without_cr.ensures ∙ ap without_cr (ap (λ n. take n (drop f.start c.deref.result.now)) size ∙ ap (λ xs. take c.in-Some.end (drop f.start xs)) c.deref.ensures.value) in
     let short : length c.without_cr.result.now ≤ f.limit = omega (arith, ap length lent_is, line_is_short (drop f.start f.buffer.items) c.in-Some.end f.whole f.limit b) in
     subst (λ v. length c.without_cr.result.now ≤ v.limit) c.self.view_is short
+
+pub returns-in-None-clause-none : goal.returns-in-None-clause-none
+returns-in-None-clause-none c =
+    let b = rw c.in-None.is at c.self.invariant.1 in
+    sym (ap waiting c.self.view_is) ∙ lines_of_none (drop c.self.inside.start c.self.inside.buffer.items) b.next_end

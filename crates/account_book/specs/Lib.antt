@@ -1,0 +1,5 @@
+pub mod Account
+pub mod Book
+pub mod Fields
+pub mod File
+pub mod Password

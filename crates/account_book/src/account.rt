@@ -1,0 +1,173 @@
+//! One account.
+
+ghost use Rattle.std.specs.Prelude.{◌≡◌, ◌≢◌, ◌↔◌, ◌<◌, ◌==◌, true, false, IsTrue, IfOk, IfErr, ◌&&◌};
+ghost use Rattle.std.specs.List.{list_all};
+ghost use Rattle.account_book.specs.Account.{is_name, is_name_byte, is_password_word, is_country, is_sound, stated};
+
+use crate::error::AccountsError;
+use base64::engine::general_purpose::STANDARD;
+use std::alloc::Global;
+use std::marker::Model;
+
+/// The longest name, in bytes.
+const NAME_LIMIT: usize = 20;
+
+/// The highest rank.
+const TOP_RANK: u8 = 7;
+
+/// An account under which a client can log in.
+#[derive(Drop)]
+pub struct Account {
+    name: Vec<u8>,
+    password: [u8; 24],
+    id: u32,
+    rank: u8,
+    access: bool,
+    bot: bool,
+    country: [u8; 2],
+}
+
+impl Model for Account {
+    ghost use Rattle.std.specs.Prelude.{◌≡◌, true};
+    ghost use Rattle.account_book.specs.Account.{Account as Seen, stated, is_sound};
+
+    ghost Value = { Seen };
+
+    ghost view = { λ a.
+        stated a.name.items a.password a.id a.rank a.access a.bot a.country };
+
+    ghost invariant = { λ a.
+        is_sound (stated a.name.items a.password a.id a.rank a.access a.bot a.country) ≡ true };
+}
+
+impl Account {
+    /// An account of these fields: a name of 1 to 20 letters, digits, `_`, `[` and `]`; a password
+    /// word (see [`crate::password_word`]); a number; a rank of 0 to 7; whether its owner is a
+    /// moderator; whether it is a program; a country of two upper-case letters, or `??`.
+    ///
+    /// `BadField(0)` where a field breaks its rule, else `Memory` where there is none for the name.
+    pub fn new(
+        alloc: Global,
+        name: &[u8],
+        password: &[u8],
+        id: u32,
+        rank: u8,
+        access: bool,
+        bot: bool,
+        country: &[u8],
+    ) -> Result<Account, AccountsError>
+        ensures ok { IfOk result (λ account.
+            account ≡ stated name.now password.now id rank access bot country.now) }
+        ensures bad_field { (result ≡ Err (AccountsError.BadField 0))
+            ↔ (is_sound (stated name.now password.now id rank access bot country.now) ≡ false) }
+        ensures errors { IfErr result (λ e.
+            e ≢ AccountsError.Memory → e ≡ AccountsError.BadField 0) }
+    {
+        let sound = is_name(name)
+            && is_password_word(password)
+            && rank <= TOP_RANK
+            && is_country(country);
+        if !sound {
+            return Err(AccountsError::BadField(0));
+        }
+        let Ok(name) = Vec::from_slice(alloc, name) else {
+            return Err(AccountsError::Memory);
+        };
+        let mut word = [0; 24];
+        word.copy_from_slice(password);
+        let mut letters = [0; 2];
+        letters.copy_from_slice(country);
+        Ok(Account {
+            name,
+            password: word,
+            id,
+            rank,
+            access,
+            bot,
+            country: letters,
+        })
+    }
+
+    /// The name under which its owner logs in.
+    pub fn name(&self) -> &[u8]
+        ensures value { result.now ≡ self.now.name }
+        ensures is_name { is_name result.now ≡ true }
+    {
+        &self.name
+    }
+
+    /// The word of its password.
+    pub fn password(&self) -> &[u8]
+        ensures value { result.now ≡ self.now.password }
+        ensures is_password_word { is_password_word result.now ≡ true }
+    {
+        &self.password
+    }
+
+    /// Its number, which ADDUSER tells.
+    pub fn id(&self) -> u32
+        ensures { result ≡ self.now.id }
+    {
+        self.id
+    }
+
+    /// The rank of its owner, 0 to 7.
+    pub fn rank(&self) -> u8
+        ensures value { result ≡ self.now.rank }
+        ensures bound { result < 8 }
+    {
+        self.rank
+    }
+
+    /// Whether its owner is a moderator.
+    pub fn access(&self) -> bool
+        ensures { result ≡ self.now.access }
+    {
+        self.access
+    }
+
+    /// Whether it is a program's.
+    pub fn bot(&self) -> bool
+        ensures { result ≡ self.now.bot }
+    {
+        self.bot
+    }
+
+    /// The country that ADDUSER tells: two upper-case letters, or `??`.
+    pub fn country(&self) -> &[u8]
+        ensures value { result.now ≡ self.now.country }
+        ensures is_country { is_country result.now ≡ true }
+    {
+        &self.country
+    }
+}
+
+/// Whether these bytes are a name.
+fn is_name(bytes: &[u8]) -> bool
+    ensures { result ≡ is_name bytes.now }
+{
+    !bytes.is_empty() && bytes.len() <= NAME_LIMIT && has_name_bytes(bytes)
+}
+
+/// Whether a name may have each of these bytes.
+fn has_name_bytes(bytes: &[u8]) -> bool
+    ensures { result ≡ list_all is_name_byte bytes.now }
+{
+    bytes.iter().all(|b| b.is_ascii_alphanumeric() || matches!(b, b'_' | b'[' | b']'))
+}
+
+/// Whether these bytes are the base64 text of 16 bytes.
+fn is_password_word(word: &[u8]) -> bool
+    ensures { result ≡ is_password_word word.now }
+{
+    // Room for what any 24 digits decode to.
+    let mut digest = [0; 18];
+    word.len() == 24 && STANDARD.decode_slice_unchecked(word, &mut digest) == Ok(16)
+}
+
+/// Whether these bytes name a country.
+fn is_country(bytes: &[u8]) -> bool
+    ensures { result ≡ is_country bytes.now }
+{
+    bytes == b"??".as_slice() || bytes.len() == 2 && bytes.iter().all(|b| b.is_ascii_uppercase())
+}

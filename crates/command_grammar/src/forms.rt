@@ -1,0 +1,379 @@
+//! One reader for each command that has arguments: all arguments are read first, and those that are kept are copied then.
+
+ghost use Rattle.std.specs.Prelude.{◌≡◌, IfOk, IfSome, IsTrue, OnErr, is_some};
+ghost use Rattle.std.specs.Option.{option_map};
+ghost use Rattle.line_words.specs.Bytes.{is_text, is_word};
+ghost use Rattle.command_grammar.specs.declared.command_word.CommandWord.TheVariants as words;
+ghost use Rattle.command_grammar.specs.Reading.{Gives, arguments_at};
+
+use crate::arguments::{
+    flag_at, name_at, natural_at, optional_at, sentence_in, sentences_at, text_at, wide_at, word_at,
+};
+use crate::command::Command;
+use crate::fault::ReadError;
+use crate::lists::{check_pairs, check_words, copy_of_pairs, copy_of_words};
+use line_words::{NameBuf, SentenceBuf, TextBuf, WordBuf};
+use std::alloc::{AllocError, Global};
+
+pub(crate) fn login(alloc: Global, rest: &[u8]) -> Result<Command, ReadError>
+    requires { IsTrue (is_text rest.now) }
+    ensures { Gives result (arguments_at words.Login rest.now) }
+{
+    let (user_name, rest) = word_at(rest)?;
+    let (password, rest) = word_at(rest)?;
+    let (cpu, rest) = wide_at(rest)?;
+    let (local_ip, rest) = word_at(rest)?;
+    let mut sentences = sentences_at(rest)?;
+    let lobby = sentence_in(&mut sentences)?;
+    Ok(Command::Login {
+        user_name: WordBuf::copy_of(alloc, user_name)?,
+        password: WordBuf::copy_of(alloc, password)?,
+        cpu,
+        local_ip: WordBuf::copy_of(alloc, local_ip)?,
+        lobby: SentenceBuf::copy_of(alloc, lobby)?,
+    })
+}
+
+pub(crate) fn my_status(rest: &[u8]) -> Result<Command, ReadError>
+    requires { IsTrue (is_text rest.now) }
+    ensures { Gives result (arguments_at words.MyStatus rest.now) }
+{
+    let (status, _) = natural_at(rest, 4294967295)?;
+    Ok(Command::MyStatus { status })
+}
+
+pub(crate) fn join(alloc: Global, rest: &[u8]) -> Result<Command, ReadError>
+    requires { IsTrue (is_text rest.now) }
+    ensures { Gives result (arguments_at words.Join rest.now) }
+{
+    let (channel, rest) = name_at(rest)?;
+    let (_key, _) = optional_at(rest)?;
+    Ok(Command::Join {
+        channel: NameBuf::copy_of(alloc, channel)?,
+    })
+}
+
+pub(crate) fn leave(alloc: Global, rest: &[u8]) -> Result<Command, ReadError>
+    requires { IsTrue (is_text rest.now) }
+    ensures { Gives result (arguments_at words.Leave rest.now) }
+{
+    let (channel, _) = name_at(rest)?;
+    Ok(Command::Leave {
+        channel: NameBuf::copy_of(alloc, channel)?,
+    })
+}
+
+pub(crate) fn say(alloc: Global, rest: &[u8]) -> Result<Command, ReadError>
+    requires { IsTrue (is_text rest.now) }
+    ensures { Gives result (arguments_at words.Say rest.now) }
+{
+    let (channel, rest) = name_at(rest)?;
+    let text = text_at(rest)?;
+    Ok(Command::Say {
+        channel: NameBuf::copy_of(alloc, channel)?,
+        text: TextBuf::copy_of(alloc, text)?,
+    })
+}
+
+pub(crate) fn say_ex(alloc: Global, rest: &[u8]) -> Result<Command, ReadError>
+    requires { IsTrue (is_text rest.now) }
+    ensures { Gives result (arguments_at words.SayEx rest.now) }
+{
+    let (channel, rest) = name_at(rest)?;
+    let text = text_at(rest)?;
+    Ok(Command::SayEx {
+        channel: NameBuf::copy_of(alloc, channel)?,
+        text: TextBuf::copy_of(alloc, text)?,
+    })
+}
+
+pub(crate) fn say_private(alloc: Global, rest: &[u8]) -> Result<Command, ReadError>
+    requires { IsTrue (is_text rest.now) }
+    ensures { Gives result (arguments_at words.SayPrivate rest.now) }
+{
+    let (user, rest) = name_at(rest)?;
+    let text = text_at(rest)?;
+    Ok(Command::SayPrivate {
+        user: NameBuf::copy_of(alloc, user)?,
+        text: TextBuf::copy_of(alloc, text)?,
+    })
+}
+
+pub(crate) fn open_battle(alloc: Global, rest: &[u8]) -> Result<Command, ReadError>
+    requires { IsTrue (is_text rest.now) }
+    ensures { Gives result (arguments_at words.OpenBattle rest.now) }
+{
+    let (battle_type, rest) = natural_at(rest, 1)?;
+    let (nat_type, rest) = natural_at(rest, 2)?;
+    let (password, rest) = word_at(rest)?;
+    let (port, rest) = natural_at(rest, 65535)?;
+    let (max_players, rest) = natural_at(rest, 65535)?;
+    let (game_hash, rest) = wide_at(rest)?;
+    let (rank, rest) = wide_at(rest)?;
+    let (map_hash, rest) = wide_at(rest)?;
+    let mut sentences = sentences_at(rest)?;
+    let engine_name = sentence_in(&mut sentences)?;
+    let engine_version = sentence_in(&mut sentences)?;
+    let map = sentence_in(&mut sentences)?;
+    let title = sentence_in(&mut sentences)?;
+    let game_name = sentence_in(&mut sentences)?;
+    Ok(Command::OpenBattle {
+        battle_type: battle_type as u8,
+        nat_type: nat_type as u8,
+        password: WordBuf::copy_of(alloc, password)?,
+        port: port as u16,
+        max_players: max_players as u16,
+        game_hash,
+        rank,
+        map_hash,
+        engine_name: SentenceBuf::copy_of(alloc, engine_name)?,
+        engine_version: SentenceBuf::copy_of(alloc, engine_version)?,
+        map: SentenceBuf::copy_of(alloc, map)?,
+        title: SentenceBuf::copy_of(alloc, title)?,
+        game_name: SentenceBuf::copy_of(alloc, game_name)?,
+    })
+}
+
+pub(crate) fn join_battle(alloc: Global, rest: &[u8]) -> Result<Command, ReadError>
+    requires { IsTrue (is_text rest.now) }
+    ensures { Gives result (arguments_at words.JoinBattle rest.now) }
+{
+    let (battle, rest) = natural_at(rest, 2147483647)?;
+    let (password, rest) = optional_at(rest)?;
+    let (script_password, _) = optional_at(rest)?;
+    Ok(Command::JoinBattle {
+        battle,
+        password: copy_of_optional(alloc, password)?,
+        script_password: copy_of_optional(alloc, script_password)?,
+    })
+}
+
+fn copy_of_optional(alloc: Global, word: Option<&[u8]>) -> Result<Option<WordBuf>, AllocError>
+    requires { IfSome word (λ w. IsTrue (is_word w.now)) }
+    ensures ok { IfOk result (λ copy. copy ≡ option_map (λ w. w.now) word.entry) }
+    ensures err { OnErr result (IsTrue (is_some word.entry)) }
+{
+    match word {
+        Some(word) => Ok(Some(WordBuf::copy_of(alloc, word)?)),
+        None => Ok(None),
+    }
+}
+
+pub(crate) fn update_battle_info(alloc: Global, rest: &[u8]) -> Result<Command, ReadError>
+    requires { IsTrue (is_text rest.now) }
+    ensures { Gives result (arguments_at words.UpdateBattleInfo rest.now) }
+{
+    let (spectator_count, rest) = natural_at(rest, 65535)?;
+    let (locked, rest) = flag_at(rest)?;
+    let (map_hash, rest) = wide_at(rest)?;
+    let mut sentences = sentences_at(rest)?;
+    let map = sentence_in(&mut sentences)?;
+    Ok(Command::UpdateBattleInfo {
+        spectator_count: spectator_count as u16,
+        locked,
+        map_hash,
+        map: SentenceBuf::copy_of(alloc, map)?,
+    })
+}
+
+pub(crate) fn my_battle_status(rest: &[u8]) -> Result<Command, ReadError>
+    requires { IsTrue (is_text rest.now) }
+    ensures { Gives result (arguments_at words.MyBattleStatus rest.now) }
+{
+    let (battle_status, rest) = natural_at(rest, 4294967295)?;
+    let (team_color, _) = wide_at(rest)?;
+    Ok(Command::MyBattleStatus {
+        battle_status,
+        team_color,
+    })
+}
+
+pub(crate) fn say_battle(alloc: Global, rest: &[u8]) -> Result<Command, ReadError>
+    requires { IsTrue (is_text rest.now) }
+    ensures { Gives result (arguments_at words.SayBattle rest.now) }
+{
+    let text = text_at(rest)?;
+    Ok(Command::SayBattle {
+        text: TextBuf::copy_of(alloc, text)?,
+    })
+}
+
+pub(crate) fn say_battle_ex(alloc: Global, rest: &[u8]) -> Result<Command, ReadError>
+    requires { IsTrue (is_text rest.now) }
+    ensures { Gives result (arguments_at words.SayBattleEx rest.now) }
+{
+    let text = text_at(rest)?;
+    Ok(Command::SayBattleEx {
+        text: TextBuf::copy_of(alloc, text)?,
+    })
+}
+
+pub(crate) fn add_bot(alloc: Global, rest: &[u8]) -> Result<Command, ReadError>
+    requires { IsTrue (is_text rest.now) }
+    ensures { Gives result (arguments_at words.AddBot rest.now) }
+{
+    let (bot, rest) = word_at(rest)?;
+    let (battle_status, rest) = natural_at(rest, 4294967295)?;
+    let (team_color, rest) = wide_at(rest)?;
+    let mut sentences = sentences_at(rest)?;
+    let ai = sentence_in(&mut sentences)?;
+    Ok(Command::AddBot {
+        bot: WordBuf::copy_of(alloc, bot)?,
+        battle_status,
+        team_color,
+        ai: SentenceBuf::copy_of(alloc, ai)?,
+    })
+}
+
+pub(crate) fn update_bot(alloc: Global, rest: &[u8]) -> Result<Command, ReadError>
+    requires { IsTrue (is_text rest.now) }
+    ensures { Gives result (arguments_at words.UpdateBot rest.now) }
+{
+    let (bot, rest) = word_at(rest)?;
+    let (battle_status, rest) = natural_at(rest, 4294967295)?;
+    let (team_color, _) = wide_at(rest)?;
+    Ok(Command::UpdateBot {
+        bot: WordBuf::copy_of(alloc, bot)?,
+        battle_status,
+        team_color,
+    })
+}
+
+pub(crate) fn remove_bot(alloc: Global, rest: &[u8]) -> Result<Command, ReadError>
+    requires { IsTrue (is_text rest.now) }
+    ensures { Gives result (arguments_at words.RemoveBot rest.now) }
+{
+    let (bot, _) = word_at(rest)?;
+    Ok(Command::RemoveBot {
+        bot: WordBuf::copy_of(alloc, bot)?,
+    })
+}
+
+pub(crate) fn add_start_rect(rest: &[u8]) -> Result<Command, ReadError>
+    requires { IsTrue (is_text rest.now) }
+    ensures { Gives result (arguments_at words.AddStartRect rest.now) }
+{
+    let (ally_no, rest) = natural_at(rest, 15)?;
+    let (left, rest) = natural_at(rest, 200)?;
+    let (top, rest) = natural_at(rest, 200)?;
+    let (right, rest) = natural_at(rest, 200)?;
+    let (bottom, _) = natural_at(rest, 200)?;
+    Ok(Command::AddStartRect {
+        ally_no: ally_no as u8,
+        left: left as u8,
+        top: top as u8,
+        right: right as u8,
+        bottom: bottom as u8,
+    })
+}
+
+pub(crate) fn remove_start_rect(rest: &[u8]) -> Result<Command, ReadError>
+    requires { IsTrue (is_text rest.now) }
+    ensures { Gives result (arguments_at words.RemoveStartRect rest.now) }
+{
+    let (ally_no, _) = natural_at(rest, 15)?;
+    Ok(Command::RemoveStartRect {
+        ally_no: ally_no as u8,
+    })
+}
+
+#[tactic(auto, unfolding(crate::specs::Reading::pairs_at), using(crate::proofs::Checks::pairs_need_memory))]
+pub(crate) fn set_script_tags(alloc: Global, rest: &[u8]) -> Result<Command, ReadError>
+    requires { IsTrue (is_text rest.now) }
+    ensures { Gives result (arguments_at words.SetScriptTags rest.now) }
+{
+    let text = text_at(rest)?;
+    check_pairs(text)?;
+    Ok(Command::SetScriptTags {
+        pairs: copy_of_pairs(alloc, text)?,
+    })
+}
+
+#[tactic(auto, using(crate::proofs::Checks::words_need_memory))]
+pub(crate) fn remove_script_tags(alloc: Global, rest: &[u8]) -> Result<Command, ReadError>
+    requires { IsTrue (is_text rest.now) }
+    ensures { Gives result (arguments_at words.RemoveScriptTags rest.now) }
+{
+    check_words(rest)?;
+    Ok(Command::RemoveScriptTags {
+        keys: copy_of_words(alloc, rest)?,
+    })
+}
+
+pub(crate) fn handicap(alloc: Global, rest: &[u8]) -> Result<Command, ReadError>
+    requires { IsTrue (is_text rest.now) }
+    ensures { Gives result (arguments_at words.Handicap rest.now) }
+{
+    let (user, rest) = name_at(rest)?;
+    let (value, _) = natural_at(rest, 100)?;
+    Ok(Command::Handicap {
+        user: NameBuf::copy_of(alloc, user)?,
+        value: value as u8,
+    })
+}
+
+pub(crate) fn force_team_no(alloc: Global, rest: &[u8]) -> Result<Command, ReadError>
+    requires { IsTrue (is_text rest.now) }
+    ensures { Gives result (arguments_at words.ForceTeamNo rest.now) }
+{
+    let (user, rest) = name_at(rest)?;
+    let (number, _) = natural_at(rest, 15)?;
+    Ok(Command::ForceTeamNo {
+        user: NameBuf::copy_of(alloc, user)?,
+        number: number as u8,
+    })
+}
+
+pub(crate) fn force_ally_no(alloc: Global, rest: &[u8]) -> Result<Command, ReadError>
+    requires { IsTrue (is_text rest.now) }
+    ensures { Gives result (arguments_at words.ForceAllyNo rest.now) }
+{
+    let (user, rest) = name_at(rest)?;
+    let (number, _) = natural_at(rest, 15)?;
+    Ok(Command::ForceAllyNo {
+        user: NameBuf::copy_of(alloc, user)?,
+        number: number as u8,
+    })
+}
+
+pub(crate) fn force_team_color(alloc: Global, rest: &[u8]) -> Result<Command, ReadError>
+    requires { IsTrue (is_text rest.now) }
+    ensures { Gives result (arguments_at words.ForceTeamColor rest.now) }
+{
+    let (user, rest) = name_at(rest)?;
+    let (team_color, _) = wide_at(rest)?;
+    Ok(Command::ForceTeamColor {
+        user: NameBuf::copy_of(alloc, user)?,
+        team_color,
+    })
+}
+
+pub(crate) fn force_spectator_mode(alloc: Global, rest: &[u8]) -> Result<Command, ReadError>
+    requires { IsTrue (is_text rest.now) }
+    ensures { Gives result (arguments_at words.ForceSpectatorMode rest.now) }
+{
+    let (user, _) = name_at(rest)?;
+    Ok(Command::ForceSpectatorMode {
+        user: NameBuf::copy_of(alloc, user)?,
+    })
+}
+
+pub(crate) fn kick_from_battle(alloc: Global, rest: &[u8]) -> Result<Command, ReadError>
+    requires { IsTrue (is_text rest.now) }
+    ensures { Gives result (arguments_at words.KickFromBattle rest.now) }
+{
+    let (user, _) = name_at(rest)?;
+    Ok(Command::KickFromBattle {
+        user: NameBuf::copy_of(alloc, user)?,
+    })
+}
+
+pub(crate) fn ring(alloc: Global, rest: &[u8]) -> Result<Command, ReadError>
+    requires { IsTrue (is_text rest.now) }
+    ensures { Gives result (arguments_at words.Ring rest.now) }
+{
+    let (user, _) = name_at(rest)?;
+    Ok(Command::Ring {
+        user: NameBuf::copy_of(alloc, user)?,
+    })
+}

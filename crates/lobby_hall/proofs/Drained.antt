@@ -1,0 +1,195 @@
+-- What a read adds to the record.
+use Rattle.std.proofs.Common.{◌≡◌, ◌≢◌, ℕ, zero, suc, ◌+◌, ◌-◌, ◌<◌, ◌≤◌, List, [], ◌∷◌, ◌++◌, length, take, drop, min, refl, sym, ap, subst, ◌∙◌, Bool, true, false, T, arith, append-nil, append_assoc, length-append, length-drop, length-take, cond}
+use Rattle.std.specs.Prelude.{Option, Some, None, ◌&&◌, if◌then◌else◌, IfSome}
+use Rattle.std.specs.Option.{option_map}
+use Rattle.std.specs.Ordering.{nat_cmp}
+use Rattle.std.specs.Cmp.{nat_cmp_total}
+use Rattle.std.specs.FinMap.Entries.{find-put}
+use Rattle.std.proofs.lemmas.List.{drop_all, take_all, take_at}
+use Rattle.lobby_model.specs.declared.event.Event.{Event}
+use Rattle.lobby_model.specs.declared.event.Event.TheVariants as event
+use Rattle.lobby_model.specs.Table.{ByNumber, at_number, put_number, same_number}
+use Rattle.lobby_model.specs.Configuration.{Configuration}
+use Rattle.lobby_model.specs.State.{State, Client, is_live, empty_lobby}
+use Rattle.lobby_model.specs.Effect.{drained, drained_at, effect}
+use Rattle.lobby_model.specs.Next.{next, batch, put_by, put_to, taken_by, taken_from, has_room_for}
+use Rattle.lobby_model.specs.History.{after, put_in, taken_in}
+use Rattle.lobby_model.proofs.Delivered.{same_number_is, same_itself}
+use Rattle.lobby_model.proofs.Splits.{same_either_way}
+use Rattle.lobby_model.proofs.Quiet.{next_drain}
+use Rattle.lobby_model.proofs.Balance.{Balanced, balanced}
+use Rattle.lobby_machine.specs.Shown.{unread_in, unread_of}
+use Rattle.lobby_hall.specs.ByClient.{of_client}
+use Rattle.lobby_hall.specs.Record.{Log, log_of, log_at, IsRecord}
+use Rattle.lobby_hall.specs.Copied.{lacking, completed_log, completed, changed_at, caught_up, read_on}
+use Rattle.lobby_hall.proofs.Changed.{of-changed_same, of-changed_other}
+use Rattle.lobby_hall.proofs.Recorded.{of-completed, put_in-snoc, taken_in-snoc, nobody}
+
+pub put_nothing : (limit : ℕ) (o : Option Client) → put_to limit [] o ≡ []
+put_nothing limit None = refl
+put_nothing limit (Some x) = elim (is_live x && has_room_for limit x []) as (λ b. ◌≡◌ {A = List ℕ} (if b then [] else []) []) [ true ↦ refl | false ↦ refl ]
+
+min_zero : (n : ℕ) → min n 0 ≡ 0
+min_zero n = omega arith
+
+min_suc : (n m : ℕ) → min (suc n) (suc m) ≡ suc (min n m)
+min_suc n m = omega arith
+
+zero_min : (m : ℕ) → min 0 m ≡ 0
+zero_min m = omega arith
+
+pub take_min : (n : ℕ) (u : List ℕ) → take (min n (length u)) u ≡ take n u
+take_min zero u = ap (λ k. take k u) (zero_min (length u))
+take_min (suc n) [] = ap (λ (k : ℕ). take {A = ℕ} k []) (min_zero (suc n))
+take_min (suc n) (x ∷ u) = ap (λ k. take k (x ∷ u)) (min_suc n (length u)) ∙ ap (λ v. x ∷ v) (take_min n u)
+
+pub drop_min : (n : ℕ) (u : List ℕ) → drop (min n (length u)) u ≡ drop n u
+drop_min zero u = ap (λ k. drop k u) (zero_min (length u))
+drop_min (suc n) [] = ap (λ (k : ℕ). drop {A = ℕ} k []) (min_zero (suc n))
+drop_min (suc n) (x ∷ u) = ap (λ k. drop k (x ∷ u)) (min_suc n (length u)) ∙ drop_min n u
+
+-- taking as many bytes as there are is taking as many as were asked for
+pub same_drain : (s : State) (c n : ℕ) → next s (event.Drain c (min n (length (unread_of s c)))) ≡ next s (event.Drain c n)
+same_drain s c n =
+    next_drain s c (min n (length (unread_of s c)))
+    ∙ ap (λ (m : ByNumber Client). record s { clients = m }) (by_client (at_number s.clients c))
+    ∙ sym (next_drain s c n)
+  where
+    by_client : (o : Option Client) → drained_at s.clients c (min n (length (unread_in o))) o ≡ drained_at s.clients c n o
+    by_client None = refl
+    by_client (Some x) = ap (λ (u : List ℕ). put_number s.clients c (record x { unread = u })) (drop_min n x.unread)
+
+-- only the client that reads has less to read
+drained_other : (s : State) (c n q : ℕ) → same_number q c ≡ false → unread_of (next s (event.Drain c n)) q ≡ unread_of s q
+drained_other s c n q other =
+    ap (λ (t : State). unread_of t q) (next_drain s c n) ∙ by_client (at_number s.clients c)
+  where
+    by_client : (o : Option Client) → unread_in (at_number (drained_at s.clients c n o) q) ≡ unread_in (at_number s.clients q)
+    by_client None = refl
+    by_client (Some x) = ap unread_in (find-put nat_cmp nat_cmp_total q c (drained n x) s.clients ∙ ap (λ b. cond b (Some (drained n x)) (at_number s.clients q)) other)
+
+drained_same : (s : State) (c n : ℕ) (x : Client) → at_number s.clients c ≡ Some x → unread_of (next s (event.Drain c n)) c ≡ drop n x.unread
+drained_same s c n x found =
+    ap (λ (t : State). unread_of t c) (next_drain s c n ∙ ap (λ o. record s { clients = drained_at s.clients c n o }) found)
+    ∙ ap unread_in (find-put nat_cmp nat_cmp_total c c (drained n x) s.clients ∙ ap (λ b. cond b (Some (drained n x)) (at_number s.clients c)) (same_itself c))
+
+-- the bytes of a log that was completed, and of which more were read
+read_part : (taken unread : List ℕ) (n : ℕ) → take (length taken + n) (taken ++ unread) ≡ taken ++ take n unread
+read_part [] unread n = ap (λ k. take k unread) (let e : 0 + n ≡ n = omega arith in e)
+read_part (x ∷ taken) unread n = ap (λ k. take k (x ∷ (taken ++ unread))) (let e : suc (length taken) + n ≡ suc (length taken + n) = omega arith in e) ∙ ap (λ v. x ∷ v) (read_part taken unread n)
+
+module _ (settings : Configuration) (events : List Event) (logs : List Log) where
+  abbrev start : State
+  start = empty_lobby settings
+
+  abbrev here : State
+  here = after start events
+
+  module _ (c n : ℕ) (x : Client) (found : at_number here.clients c ≡ Some x) (r : IsRecord (completed logs here) start events) where
+    abbrev later : State
+    later = next here (event.Drain c n)
+
+    abbrev count : ℕ
+    count = min n (length x.unread)
+
+    puts_nothing : (q : ℕ) → put_by here (event.Drain c n) q ≡ []
+    puts_nothing q = put_nothing here.settings.outbox_limit (at_number (effect here (event.Drain c n)).clients q)
+
+    put_same : (q : ℕ) → put_in start (events ++ event.Drain c n ∷ []) q ≡ put_in start events q
+    put_same q = put_in-snoc start events (event.Drain c n) q ∙ ap (λ p. put_in start events q ++ p) (puts_nothing q) ∙ append-nil (put_in start events q)
+
+    taken_other : (q : ℕ) → same_number q c ≡ false → taken_in start (events ++ event.Drain c n ∷ []) q ≡ taken_in start events q
+    taken_other q other =
+        taken_in-snoc start events (event.Drain c n) q
+        ∙ ap (λ b. taken_in start events q ++ (if b then taken_from n (at_number here.clients c) else [])) (same_either_way c q ∙ other)
+        ∙ append-nil (taken_in start events q)
+
+    taken_same : taken_in start (events ++ event.Drain c n ∷ []) c ≡ taken_in start events c ++ take n x.unread
+    taken_same =
+        taken_in-snoc start events (event.Drain c n) c
+        ∙ (λ i. taken_in start events c ++ (if same_itself c i then taken_from n (found i) else []))
+
+    abbrev unread_is : unread_of here c ≡ x.unread
+    unread_is = ap unread_in found
+
+    module _ (new : List Log) (read_more : new ≡ changed_at (read_on count) (caught_up logs here c) c) (none : count ≡ 0 → new ≡ caught_up logs here c) where
+      of_other : (q : ℕ) → q ≢ c → of_client new q ≡ of_client logs q
+      of_other q ne = ap (λ ls. of_client ls q) read_more ∙ of-changed_other (read_on count) (caught_up logs here c) c q ne ∙ of-changed_other (λ log. completed_log log (unread_of here c)) logs c q ne
+
+      other : (q : ℕ) → q ≢ c → log_at (completed new later) q ≡ log_at (completed logs here) q
+      other q ne =
+          ap log_of (of-completed new later q
+          ∙ (λ i. option_map (λ log. completed_log log (drained_other here c n q (not_same q ne) i)) (of_other q ne i))
+          ∙ sym (of-completed logs here q))
+        where
+          not_same : (q : ℕ) → q ≢ c → same_number q c ≡ false
+          not_same q ne = elim (same_number q c) as (λ b. same_number q c ≡ b → b ≡ false) [ true ↦ λ e. absurd (ne (same_number_is q c e)) | false ↦ λ e. refl ] refl
+
+      -- the log of the client that reads: all that was put, of which it read more
+      own : (log : Log) → of_client logs c ≡ Some log → (of_client new c ≡ Some (read_on count (completed_log log (unread_of here c)))) × (count ≡ 0 → of_client new c ≡ Some (completed_log log (unread_of here c)))
+      own log f = (
+        ap (λ ls. of_client ls c) read_more ∙ of-changed_same (read_on count) (caught_up logs here c) c
+        ∙ ap (option_map (read_on count)) (of-changed_same (λ log. completed_log log (unread_of here c)) logs c ∙ ap (option_map (λ log. completed_log log (unread_of here c))) f),
+        λ z. ap (λ ls. of_client ls c) (none z) ∙ of-changed_same (λ log. completed_log log (unread_of here c)) logs c ∙ ap (option_map (λ log. completed_log log (unread_of here c))) f
+      )
+
+      -- all of them: what was put stays, and the client read on
+      own_log : (log : Log) → of_client logs c ≡ Some log → (log.put ++ lacking log x.unread ≡ put_in start events c) × (log.read ≡ taken_in start events c)
+      own_log log f =
+          let is : log_at (completed logs here) c ≡ completed_log log x.unread = ap log_of (of-completed logs here c ∙ ap (option_map (λ l. completed_log l (unread_of here c))) f) ∙ ap (λ u. completed_log log u) unread_is in
+          (sym (ap (λ (l : Log). l.put) is) ∙ r.put c, sym (ap (λ (l : Log). l.read) is) ∙ r.read c)
+
+      later_unread : unread_of later c ≡ drop n x.unread
+      later_unread = drained_same here c n x found
+
+      own_is : (log : Log) → of_client logs c ≡ Some log → ((log_at (completed new later) c).put ≡ put_in start events c) × ((log_at (completed new later) c).read ≡ taken_in start events c ++ take n x.unread)
+      own_is log f =
+          elim x.cut as (λ b. x.cut ≡ b → ((log_at (completed new later) c).put ≡ put_in start events c) × ((log_at (completed new later) c).read ≡ taken_in start events c ++ take n x.unread)) [
+            | true ↦ λ k.
+                let empty : x.unread ≡ [] = (balanced settings events c).gone x found k in
+                let zero_count : count ≡ 0 = ap (λ (u : List ℕ). min n (length u)) empty ∙ min_zero n in
+                let l : Log = completed_log log (unread_of here c) in
+                let is : log_at (completed new later) c ≡ completed_log l (drop n x.unread) = ap log_of (of-completed new later c ∙ ap (option_map (λ l. completed_log l (unread_of later c))) ((own log f).1 zero_count)) ∙ ap (λ u. completed_log l u) later_unread in
+                (ap (λ (l : Log). l.put) is
+                  ∙ ap (λ (u : List ℕ). (log.put ++ lacking log (unread_of here c)) ++ drop (length (log.put ++ lacking log (unread_of here c)) - length log.read) (drop n u)) empty
+                  ∙ ap (λ more. (log.put ++ lacking log (unread_of here c)) ++ more) (ap (drop (length (log.put ++ lacking log (unread_of here c)) - length log.read)) (drop_all n [] (omega arith)) ∙ drop_all (length (log.put ++ lacking log (unread_of here c)) - length log.read) [] (omega arith))
+                  ∙ append-nil (log.put ++ lacking log (unread_of here c)) ∙ ap (λ u. log.put ++ lacking log u) unread_is ∙ (own_log log f).0,
+                ap (λ (l : Log). l.read) is ∙ (own_log log f).1
+                  ∙ sym (append-nil (taken_in start events c)) ∙ ap (λ t. taken_in start events c ++ t) (sym (ap (take n) empty ∙ take_all n [] (omega arith))))
+            | false ↦ λ k.
+                let put : List ℕ = log.put ++ lacking log (unread_of here c) in
+                let put_is : put ≡ put_in start events c = ap (λ u. log.put ++ lacking log u) unread_is ∙ (own_log log f).0 in
+                let whole : put ≡ log.read ++ x.unread = put_is ∙ sym ((balanced settings events c).there x found k) ∙ ap (λ t. t ++ x.unread) (sym (own_log log f).1) in
+                let l : Log = read_on count (completed_log log (unread_of here c)) in
+                let is : log_at (completed new later) c ≡ completed_log l (drop n x.unread) = ap log_of (of-completed new later c ∙ ap (option_map (λ l. completed_log l (unread_of later c))) (own log f).0) ∙ ap (λ u. completed_log l u) later_unread in
+                let read_is : take (length log.read + count) put ≡ log.read ++ take n x.unread = ap (take (length log.read + count)) whole ∙ read_part log.read x.unread count ∙ ap (λ t. log.read ++ t) (take_min n x.unread) in
+                let none_left : drop (length put - length (take (length log.read + count) put)) (drop n x.unread) ≡ [] = drop_all _ _ (enough put log.read x.unread n whole) in
+                (ap (λ (l : Log). l.put) is ∙ ap (λ more. put ++ more) none_left ∙ append-nil put ∙ put_is,
+                ap (λ (l : Log). l.read) is ∙ read_is ∙ ap (λ t. t ++ take n x.unread) (own_log log f).1)
+          ] refl
+        where
+          enough : (put read unread : List ℕ) (n : ℕ) → put ≡ read ++ unread → length (drop n unread) ≤ length put - length (take (length read + min n (length unread)) put)
+          enough put read unread n whole = omega (arith, length-drop n unread, length-take (length read + min n (length unread)) put, ap length whole, length-append read unread)
+
+      pub drained_record : length logs ≡ here.last_client → IsRecord (completed new later) start (events ++ event.Drain c n ∷ [])
+      drained_record each = record { put = λ q. (both q).0; read = λ q. (both q).1 }
+        where
+          own_both : ((log_at (completed new later) c).put ≡ put_in start events c) × ((log_at (completed new later) c).read ≡ taken_in start events c ++ take n x.unread)
+          own_both =
+              elim (of_client logs c) as (λ o. of_client logs c ≡ o → ((log_at (completed new later) c).put ≡ put_in start events c) × ((log_at (completed new later) c).read ≡ taken_in start events c ++ take n x.unread)) [
+                | None ↦ λ f. absurd (let no : Some x ≡ None = sym found ∙ nobody settings events logs each c f in cc)
+                | Some log ↦ λ f. own_is log f
+              ] refl
+
+          both : (q : ℕ) → ((log_at (completed new later) q).put ≡ put_in start (events ++ event.Drain c n ∷ []) q) × ((log_at (completed new later) q).read ≡ taken_in start (events ++ event.Drain c n ∷ []) q)
+          both q =
+              elim (same_number q c) as (λ b. same_number q c ≡ b → ((log_at (completed new later) q).put ≡ put_in start (events ++ event.Drain c n ∷ []) q) × ((log_at (completed new later) q).read ≡ taken_in start (events ++ event.Drain c n ∷ []) q)) [
+                | true ↦ λ e.
+                    let key : q ≡ c = same_number_is q c e in
+                    (ap (λ k. (log_at (completed new later) k).put) key ∙ own_both.0 ∙ ap (put_in start events) (sym key) ∙ sym (put_same q),
+                    ap (λ k. (log_at (completed new later) k).read) key ∙ own_both.1 ∙ sym taken_same ∙ ap (taken_in start (events ++ event.Drain c n ∷ [])) (sym key))
+                | false ↦ λ e.
+                    let ne : q ≢ c = λ k. let no : true ≡ false = sym (ap (λ d. same_number d c) k ∙ same_itself c) ∙ e in absurd (cc) in
+                    (ap (λ (l : Log). l.put) (other q ne) ∙ r.put q ∙ sym (put_same q),
+                    ap (λ (l : Log). l.read) (other q ne) ∙ r.read q ∙ sym (taken_other q e))
+              ] refl

@@ -1,0 +1,29 @@
+-- What becomes of one client's session, if it has one.
+use Rattle.std.specs.Prelude.{◌≡◌, ℕ, ◌+◌, Bool, false, ◌||◌, List, ◌++◌, Option, Some, None, IsSome, is_some, slice_get}
+use Rattle.line_framer.specs.Frames.{frames, is_spoilt}
+use Rattle.lobby_model.specs.Schedule.{line_limit}
+use Rattle.line_framer.specs.Framed.{next_line}
+use Rattle.lobby_hall.specs.declared.session.Next.{Next}
+use Rattle.lobby_hall.specs.declared.session.Next.TheVariants.{Nothing}
+use Rattle.lobby_hall.specs.Serving.{Serving}
+use Rattle.lobby_hall.specs.Sessions.{Heard, IsNext}
+
+-- it heard the piece too
+abbrev pub Fed : Option Serving → Option Serving → List ℕ → Type 0
+Fed None new piece = new ≡ None
+Fed (Some old) new piece = (session : Serving) × (new ≡ Some session) × ((bytes : List ℕ) (accepted : ℕ) → Heard old.framed bytes accepted → Heard session.framed (bytes ++ piece) accepted)
+
+-- its next line, if one is there, was accepted
+abbrev pub Accepted : Option Serving → Option Serving → Type 0
+Accepted None new = new ≡ None
+Accepted (Some old) new = (session : Serving) × (new ≡ Some session) × (IsSome (next_line old.framed) → (bytes : List ℕ) (accepted : ℕ) → Heard old.framed bytes accepted → Heard session.framed bytes (accepted + 1))
+
+-- what it asks next
+abbrev pub IsNextOf : Option Serving → Next → Type 0
+IsNextOf None next = next ≡ Nothing
+IsNextOf (Some session) next = (bytes : List ℕ) (accepted : ℕ) → Heard session.framed bytes accepted → IsNext bytes accepted next
+
+-- whether a whole line or a spoilt place is next
+abbrev pub IsReady : Option Serving → Bool → Type 0
+IsReady None ready = ready ≡ false
+IsReady (Some session) ready = (bytes : List ℕ) (accepted : ℕ) → Heard session.framed bytes accepted → ready ≡ (is_some (slice_get (frames bytes line_limit) accepted) || is_spoilt bytes line_limit)

@@ -1,0 +1,265 @@
+//! A hall: a lobby, the sessions of its clients, and the record of what was put for each.
+
+ghost use Rattle.std.specs.Prelude.{◌≡◌, ◌≢◌, ℕ, ◌≤◌, List, [], ◌∷◌, ◌++◌, IfOk, OnOk, OnErr, None, length};
+ghost use Rattle.std.specs.List.{AllByRecursion};
+ghost use Rattle.lobby_model.specs.declared.event.Event.{Event};
+ghost use Rattle.lobby_model.specs.declared.event.Event.TheVariants as event;
+ghost use Rattle.lobby_model.specs.declared.schedule.Step.{Step};
+ghost use Rattle.lobby_model.specs.declared.schedule.Step.TheVariants as step;
+ghost use Rattle.lobby_model.specs.Configuration.{Configuration};
+ghost use Rattle.lobby_model.specs.Next.{next};
+ghost use Rattle.lobby_model.specs.Schedule.{World, new_world};
+ghost use Rattle.lobby_hall.specs.Copied.{IsWithin, changed_at, completed};
+ghost use Rattle.lobby_hall.specs.OneSession.{Accepted};
+ghost use Rattle.lobby_hall.specs.Schedules.{IsRecordOf, StandsFor};
+ghost use Rattle.lobby_hall.specs.Standing.{HasHome, Stands, TakesStep, is_ready, session_at};
+
+use crate::record::Record;
+use crate::session::{Next, Session};
+use crate::sessions::{accept, close, feed, is_ready, next_of};
+use command_grammar::Request;
+use lobby_machine::Lobby;
+use lobby_model::{Settings, Step};
+use std::alloc::{AllocError, Global};
+use std::marker::Model;
+use thiserror::Error;
+
+/// Why a hall did not take a step.
+#[derive(Clone, Copy, PartialEq, Eq, Debug, Error)]
+pub enum HallError {
+    /// Memory was refused, and the hall is as it was before.
+    #[error("no memory")]
+    Memory,
+}
+
+impl From<AllocError> for HallError {
+    ghost use Rattle.std.specs.Prelude.{◌≡◌};
+    ghost use Rattle.lobby_hall.specs.declared.hall.HallError.TheVariants.{Memory};
+
+    ghost from_gives = { λ _ e. e ≡ Memory };
+
+    fn from(_: AllocError) -> HallError {
+        HallError::Memory
+    }
+}
+
+/// A lobby that takes the steps of a schedule, and a record of the bytes put for each client.
+#[derive(Drop)]
+pub struct Hall {
+    alloc: Global,
+    lobby: Lobby,
+    // of client 1, 2, 3 and so on; none of a client that is removed
+    sessions: Vec<Option<Session>>,
+    // may lack bytes that still wait in the lobby
+    logs: Record,
+    // where the bytes that a client reads go
+    drained: Vec<u8>,
+}
+
+impl Model for Hall {
+    ghost use Rattle.lobby_hall.specs.Copied.{completed};
+    ghost use Rattle.lobby_hall.specs.Standing.{Kept};
+
+    ghost Value = { Kept };
+
+    ghost view = { λ h. record { lobby = h.lobby.plain; sessions = h.sessions.items; record_so_far = completed h.logs h.lobby.plain } };
+}
+
+impl Hall {
+    ghost use Rattle.std.specs.Borrow.{sem};
+    ghost use Rattle.std.specs.Io.BufRead.{Rests};
+    ghost use Rattle.lobby_hall.specs.contracts.hall.Hall.{the_row};
+
+    /// A hall with an empty lobby.
+    pub fn new(alloc: Global, settings: Settings) -> Result<Hall, HallError>
+        ensures stands { IfOk result (λ hall. Stands hall settings [] (new_world settings)) }
+        ensures schedule { IfOk result (λ hall. StandsFor hall settings []) }
+    {
+        Ok(Hall {
+            alloc,
+            lobby: Lobby::new(alloc, settings)?,
+            sessions: Vec::new(alloc),
+            logs: Record::new(alloc),
+            drained: Vec::new(alloc),
+        })
+    }
+
+    /// A client connects; an open that the lobby refuses does nothing.
+    fn open(&mut self, ip: [u8; 4], home: u8) -> Result<(), AllocError>
+        requires { home ≤ 63 }
+        ensures ok { OnOk result (TakesStep self.old self.new (step.Open ip home)) }
+        ensures err { OnErr result (self.new ≡ self.old) }
+    {
+        if !self.lobby.has_place() {
+            return Ok(());
+        }
+        self.logs.begin()?;
+        let session = Session::new(self.alloc, self.lobby.last_client() + 1);
+        match self.sessions.push(Some(session)) {
+            Ok(()) => {}
+            Err(_) => {
+                self.logs.take_back();
+                return Err(AllocError);
+            }
+        }
+        match self.lobby.open(ip, home) {
+            Ok(_) => Ok(()),
+            Err(_) => {
+                let _ = self.sessions.pop();
+                self.logs.take_back();
+                Err(AllocError)
+            }
+        }
+    }
+
+    /// Bytes come from a client.
+    fn arrive(&mut self, client: u64, bytes: &[u8]) -> Result<(), AllocError>
+        ensures ok { OnOk result (TakesStep self.old self.new (step.Arrive client bytes.now)) }
+        ensures err { OnErr result (self.new ≡ self.old) }
+    {
+        feed(&mut self.sessions, client, bytes)
+    }
+
+    /// The next line of a client is taken.
+    fn take(&mut self, client: u64) -> Result<(), AllocError>
+        ensures ok { OnOk result (TakesStep self.old self.new (step.Take client)) }
+        ensures err { OnErr result (self.new ≡ self.old) }
+    {
+        match next_of(&self.sessions, client)? {
+            Next::Nothing => Ok(()),
+            Next::Spoilt => self.remove(client),
+            Next::Line(request) => {
+                let said = self.say(client, &request);
+                request.discard();
+                said
+            }
+        }
+    }
+
+    /// The lobby is told the request, and the line that asked for it is accepted.
+    fn say(&mut self, client: u64, request: &Request) -> Result<(), AllocError>
+        ensures lobby { OnOk result (self.new.lobby ≡ next self.old.lobby (event.Say client request.now)) }
+        ensures accepted { OnOk result (Accepted (session_at self.old.sessions client) (session_at self.new.sessions client)) }
+        ensures others { (q : ℕ) → q ≢ client → session_at self.new.sessions q ≡ session_at self.old.sessions q }
+        ensures same_length { length self.new.sessions ≡ length self.old.sessions }
+        ensures logs { OnOk result (self.new.record_so_far ≡ completed self.old.record_so_far self.new.lobby) }
+        ensures within { OnOk result (AllByRecursion IsWithin self.old.record_so_far) }
+        ensures err { OnErr result (self.new ≡ self.old) }
+    {
+        self.logs.catch_up_all(&self.lobby)?;
+        let _ = self.lobby.say(client, request)?;
+        accept(&mut self.sessions, client);
+        Ok(())
+    }
+
+    /// A client is removed.
+    fn remove(&mut self, client: u64) -> Result<(), AllocError>
+        ensures lobby { OnOk result (self.new.lobby ≡ next self.old.lobby (event.Shut client)) }
+        ensures sessions { OnOk result (self.new.sessions ≡ changed_at (λ _. None) self.old.sessions client) }
+        ensures logs { OnOk result (self.new.record_so_far ≡ completed self.old.record_so_far self.new.lobby) }
+        ensures within { OnOk result (AllByRecursion IsWithin self.old.record_so_far) }
+        ensures err { OnErr result (self.new ≡ self.old) }
+    {
+        self.logs.catch_up_all(&self.lobby)?;
+        let _ = self.lobby.shut(client)?;
+        close(&mut self.sessions, client);
+        Ok(())
+    }
+
+    /// A client reads up to `count` of the bytes that wait for it.
+    fn read(&mut self, client: u64, count: usize) -> Result<(), AllocError>
+        ensures ok { OnOk result (TakesStep self.old self.new (step.Read client count)) }
+        ensures err { OnErr result (self.new ≡ self.old) }
+    {
+        if !self.lobby.has_client(client) {
+            return Ok(());
+        }
+        let wanted = count.min(self.lobby.unread(client));
+        self.drained.clear();
+        self.drained.resize(wanted, 0)?;
+        self.logs.catch_up(&self.lobby, client)?;
+        let drained = self.lobby.drain(client, &mut self.drained);
+        self.logs.note_read(client, drained.count);
+        Ok(())
+    }
+
+    /// A client's connection is closed.
+    fn shut(&mut self, client: u64) -> Result<(), AllocError>
+        ensures ok { OnOk result (TakesStep self.old self.new (step.Shut client)) }
+        ensures err { OnErr result (self.new ≡ self.old) }
+    {
+        if !self.lobby.has_client(client) {
+            return Ok(());
+        }
+        self.remove(client)
+    }
+
+    /// Takes one step of a schedule. A step for a client that is not open, and an open that the
+    /// lobby refuses, do nothing. Where memory is refused, nothing changes.
+    pub fn step(&mut self, step: &Step) -> Result<(), HallError>
+        requires { HasHome step.now }
+        ensures ok { OnOk result (TakesStep self.old self.new step.now) }
+        ensures schedule { OnOk result ((settings : Configuration) (steps : List Step) → StandsFor self.old settings steps → StandsFor self.new settings (steps ++ step.now ∷ [])) }
+        ensures err { OnErr result (self.new ≡ self.old) }
+    {
+        self.take_step(step)?;
+        Ok(())
+    }
+
+    fn take_step(&mut self, step: &Step) -> Result<(), AllocError>
+        requires { HasHome step.now }
+        ensures ok { OnOk result (TakesStep self.old self.new step.now) }
+        ensures err { OnErr result (self.new ≡ self.old) }
+    {
+        match step {
+            Step::Open { ip, home } => self.open(*ip, *home),
+            Step::Arrive { client, bytes } => self.arrive(*client, bytes.as_slice()),
+            Step::Take { client } => self.take(*client),
+            Step::Read { client, count } => self.read(*client, *count),
+            Step::Shut { client } => self.shut(*client),
+        }
+    }
+
+    /// Whether a take of a client's next line would give an event: a whole line or a spoilt place is next.
+    pub fn ready(&self, client: u64) -> bool
+        ensures { (settings : Configuration) (events : List Event) (world : World) → Stands self.now settings events world → result ≡ is_ready world client }
+    {
+        is_ready(&self.sessions, client)
+    }
+
+    /// The number of the last client that was opened, 0 before the first.
+    pub fn last_client(&self) -> u64
+        ensures { result ≡ self.now.lobby.last_client }
+    {
+        self.lobby.last_client()
+    }
+
+    /// The record of the steps so far.
+    pub fn record(&mut self) -> Result<&Record, HallError>
+        ensures* stays { sem 𝓛 (Rests the_row self.entry (λ hall. hall ≡ self.old)) }
+        ensures value { IfOk result (λ logs. logs.now ≡ self.old.record_so_far) }
+    {
+        self.logs.catch_up_all(&self.lobby)?;
+        Ok(&self.logs)
+    }
+
+    /// The record of the steps, which the hall gives up.
+    pub fn into_record(mut self) -> Result<Record, HallError>
+        ensures { IfOk result (λ logs. logs ≡ self.record_so_far) }
+    {
+        self.logs.catch_up_all(&self.lobby)?;
+        Ok(self.logs)
+    }
+}
+
+/// The record of a whole schedule: a lobby with these settings takes its steps in order.
+pub fn run(alloc: Global, settings: Settings, steps: &[Step]) -> Result<Record, HallError>
+    requires { AllByRecursion HasHome steps.now }
+    ensures { IfOk result (λ logs. IsRecordOf logs settings steps.now) }
+{
+    let mut hall = Hall::new(alloc, settings)?;
+    for step in steps {
+        hall.step(step)?;
+    }
+    hall.into_record()
+}

@@ -1,0 +1,113 @@
+//! The sessions of all clients that were ever opened, in the order of their numbers; none, once a
+//! client is removed.
+
+ghost use Rattle.std.specs.Prelude.{◌≡◌, ◌≢◌, ℕ, length, IfOk, OnOk, OnErr, None};
+ghost use Rattle.std.specs.Option.{option_copied};
+ghost use Rattle.lobby_hall.specs.Copied.{changed_at};
+ghost use Rattle.lobby_hall.specs.Standing.{session_at};
+ghost use Rattle.lobby_hall.specs.OneSession.{Accepted, Fed, IsNextOf, IsReady};
+
+use crate::place::place_of;
+use crate::session::{Next, Session};
+use line_framer::FeedError;
+use std::alloc::AllocError;
+
+/// Feeds a client's session, where it has one.
+pub fn feed(
+    sessions: &mut Vec<Option<Session>>,
+    client: u64,
+    piece: &[u8],
+) -> Result<(), AllocError>
+    ensures fed { OnOk result (Fed (session_at sessions.old.items client) (session_at sessions.new.items client) piece.now) }
+    ensures others { (q : ℕ) → q ≢ client → session_at sessions.new.items q ≡ session_at sessions.old.items q }
+    ensures same_length { length sessions.new.items ≡ length sessions.old.items }
+    ensures err { OnErr result (sessions.new.items ≡ sessions.old.items) }
+{
+    let Some(place) = place_of(client) else {
+        return Ok(());
+    };
+    if place >= sessions.len() {
+        return Ok(());
+    }
+    feed_one(&mut sessions[place], piece)
+}
+
+fn feed_one(session: &mut Option<Session>, piece: &[u8]) -> Result<(), AllocError>
+    ensures fed { OnOk result (Fed session.old session.new piece.now) }
+    ensures err { OnErr result (session.new ≡ session.old) }
+{
+    match session {
+        Some(session) => match session.feed(piece) {
+            Err(FeedError::Memory) => Err(AllocError),
+            _ => Ok(()),
+        },
+        None => Ok(()),
+    }
+}
+
+/// Accepts the next line of a client, where it has a session and the session a line.
+pub fn accept(sessions: &mut Vec<Option<Session>>, client: u64)
+    ensures accepted { Accepted (session_at sessions.old.items client) (session_at sessions.new.items client) }
+    ensures others { (q : ℕ) → q ≢ client → session_at sessions.new.items q ≡ session_at sessions.old.items q }
+    ensures same_length { length sessions.new.items ≡ length sessions.old.items }
+{
+    let Some(place) = place_of(client) else {
+        return;
+    };
+    if place >= sessions.len() {
+        return;
+    }
+    accept_one(&mut sessions[place]);
+}
+
+fn accept_one(session: &mut Option<Session>)
+    ensures { Accepted session.old session.new }
+{
+    if let Some(session) = session
+        && session.has_line()
+    {
+        session.accept_request();
+    }
+}
+
+/// Ends a client's session.
+pub fn close(sessions: &mut Vec<Option<Session>>, client: u64)
+    ensures { sessions.new.items ≡ changed_at (λ _. None) sessions.old.items client }
+{
+    let Some(place) = place_of(client) else {
+        return;
+    };
+    if place < sessions.len() {
+        sessions[place] = None;
+    }
+}
+
+/// What a client asks next: nothing, where it has no session.
+pub fn next_of(sessions: &[Option<Session>], client: u64) -> Result<Next, AllocError>
+    ensures { IfOk result (IsNextOf (session_at sessions.now client)) }
+{
+    match session_of(sessions, client) {
+        Some(session) => session.next_request(),
+        None => Ok(Next::Nothing),
+    }
+}
+
+/// Whether a client has a session with a whole line or a spoilt place next.
+pub fn is_ready(sessions: &[Option<Session>], client: u64) -> bool
+    ensures { IsReady (session_at sessions.now client) result }
+{
+    match session_of(sessions, client) {
+        Some(session) => session.is_ready(),
+        None => false,
+    }
+}
+
+/// A client's session.
+fn session_of(sessions: &[Option<Session>], client: u64) -> Option<&Session>
+    ensures { option_copied result ≡ session_at sessions.now client }
+{
+    match sessions.get(place_of(client)?) {
+        Some(Some(session)) => Some(session),
+        _ => None,
+    }
+}

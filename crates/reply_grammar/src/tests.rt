@@ -1,0 +1,158 @@
+//! A line for each reply, read and printed again, and lines that no reply prints.
+
+use super::*;
+use std::alloc::{AllocError, Global};
+use std::test::Fail;
+
+const LINES: [&[u8]; 53] = [
+    b"TASSERVER 0.38 * 8201 0",
+    b"#4 ACCEPTED Bert",
+    b"DENIED Invalid username or password",
+    b"MOTD Welcome",
+    b"MOTD ",
+    b"SERVERMSG Log in first",
+    b"#2147483647 SERVERMSG a tab\tand two  spaces ",
+    b"ADDUSER Bert ?? 2400 2",
+    b"ADDUSER [x]_9 SE -2147483648 4294967295",
+    b"REMOVEUSER Anna",
+    b"CLIENTSTATUS Bert 12",
+    b"LOGININFOEND",
+    b"PONG",
+    b"#7 PONG",
+    b"#0 PONG",
+    b"JOIN main",
+    b"CLIENTS big u01 u02",
+    b"CLIENTS big u01 u02 u03 u04 u05 u06 u07 u08 u09 u10 u11 u12 u13 u14 u15 u16 u17 u18 u19 u20 u21 u22 u23 u24 u25 u26 u27 u28 u29 u30 u31 u32",
+    b"JOINED main Bert",
+    b"LEFT main Anna",
+    b"JOINFAILED main Already in the channel",
+    b"SAID main Anna \xC3\xA4\xFF\x00",
+    b"SAIDEX main Anna waves",
+    b"#9 SAYPRIVATE Bert hi  there",
+    b"SAIDPRIVATE Anna  hi",
+    b"CHANNEL big 1",
+    b"ENDOFCHANNELS",
+    b"OPENBATTLE 1",
+    b"OPENBATTLEFAILED Already in a battle",
+    b"BATTLEOPENED 1 0 0 Anna 10.0.0.1 8452 8 0 0 123 Spring\t104.0\tComet Catcher\tAnna's game\tBA 9.46",
+    b"BATTLEOPENED 2147483647 1 2 Anna 10.0.0.1 65535 0 1 -1 4294967295 \t\t\t\t",
+    b"BATTLECLOSED 1",
+    b"JOINBATTLE 1 -1",
+    b"JOINBATTLEFAILED Wrong password",
+    b"JOINEDBATTLE 1 Bert",
+    b"JOINEDBATTLE 1 Bert pw9",
+    b"LEFTBATTLE 1 Bert",
+    b"UPDATEBATTLEINFO 1 0 1 123 Comet Catcher",
+    b"REQUESTBATTLESTATUS",
+    b"CLIENTBATTLESTATUS Anna 264345598 -1",
+    b"SAIDBATTLE Anna go",
+    b"SAIDBATTLEEX Anna ",
+    b"ADDBOT 1 Robo Anna 1024 255 KAIK",
+    b"UPDATEBOT 1 Robo 1024 255",
+    b"REMOVEBOT 1 Rex",
+    b"ADDSTARTRECT 1 0 0 200 60",
+    b"REMOVESTARTRECT 15",
+    b"SETSCRIPTTAGS k1=2",
+    b"SETSCRIPTTAGS a=1\tb=",
+    b"SETSCRIPTTAGS game/a=b=c d",
+    b"REMOVESCRIPTTAGS k2 k1",
+    b"FORCEQUITBATTLE",
+    b"RING Anna",
+];
+
+const REFUSED: [&[u8]; 51] = [
+    b"",
+    b" PONG",
+    b"PONG ",
+    b"pong",
+    b"PONG\r",
+    b"PINGPONG",
+    b"#7",
+    b"#7PONG",
+    b"#7  PONG",
+    b"# PONG",
+    b"#07 PONG",
+    b"#-1 PONG",
+    b"#2147483648 PONG",
+    b"#7 #8 PONG",
+    b"CLIENTSTATUS Bert 012",
+    b"CLIENTSTATUS Bert -0",
+    b"CLIENTSTATUS Bert -1",
+    b"CLIENTSTATUS Bert 4294967296",
+    b"CLIENTSTATUS Bert 99999999999",
+    b"CLIENTSTATUS Bert 1x",
+    b"CLIENTSTATUS Bert ",
+    b"CLIENTSTATUS Bert",
+    b"CLIENTSTATUS  Bert 12",
+    b"CLIENTSTATUS Bert 12 ",
+    b"CLIENTSTATUS Bert 12 3",
+    b"ACCEPTED a-b",
+    b"ACCEPTED u23456789012345678901",
+    b"ADDUSER Bert ?? -2147483649 2",
+    b"ADDUSER Bert ?? +1 2",
+    b"ADDUSER Bert S\tE 0 2",
+    b"MOTD",
+    b"MOTD a\rb",
+    b"MOTD a\nb",
+    b"CLIENTS big",
+    b"CLIENTS big u01  u02",
+    b"CLIENTS big u01 u02 u03 u04 u05 u06 u07 u08 u09 u10 u11 u12 u13 u14 u15 u16 u17 u18 u19 u20 u21 u22 u23 u24 u25 u26 u27 u28 u29 u30 u31 u32 u33",
+    b"OPENBATTLE 0",
+    b"OPENBATTLE 2147483648",
+    b"JOINEDBATTLE 1 Bert ",
+    b"JOINEDBATTLE 1 Bert pw9 x",
+    b"TASSERVER 0.38 * 65536 0",
+    b"TASSERVER 0.38 * 8201 2",
+    b"BATTLEOPENED 1 0 3 Anna 10.0.0.1 8452 8 0 0 123 a\tb\tc\td\te",
+    b"BATTLEOPENED 1 0 0 Anna 10.0.0.1 8452 8 0 0 123 a\tb\tc\td",
+    b"BATTLEOPENED 1 0 0 Anna 10.0.0.1 8452 8 0 0 123 a\tb\tc\td\te\tf",
+    b"UPDATEBATTLEINFO 1 0 2 123 Comet Catcher",
+    b"ADDSTARTRECT 16 0 0 200 60",
+    b"ADDSTARTRECT 1 0 0 201 60",
+    b"SETSCRIPTTAGS a b=1",
+    b"SETSCRIPTTAGS =1",
+    b"SETSCRIPTTAGS a=1\t",
+];
+
+#[test]
+fn each_reply_is_printed_as_it_was_read(rt: HostRuntime) -> Result<(), Fail> {
+    for line in LINES {
+        let printed = printed_again(rt.alloc(), line)?;
+        assert_eq!(rt; printed.as_slice(), with_end(rt.alloc(), line)?.as_slice());
+    }
+    Ok(())
+}
+
+#[test]
+fn what_no_reply_prints_is_refused(rt: HostRuntime) -> Result<(), Fail> {
+    for line in REFUSED {
+        let printed = printed_again(rt.alloc(), line)?;
+        assert!(rt; printed.is_empty(), "read: {line:?}");
+    }
+    Ok(())
+}
+
+#[test]
+fn a_line_stands_behind_what_was_there(rt: HostRuntime) -> Result<(), Fail> {
+    let mut out = Vec::from_slice(rt.alloc(), b"PONG\n")?;
+    print(&Reply::Pong, Some(7), &mut out)?;
+    assert_eq!(rt; out.as_slice(), b"PONG\n#7 PONG\n".as_slice());
+    Ok(())
+}
+
+// The line of the reply that was read, or nothing where there is none.
+fn printed_again(alloc: Global, line: &[u8]) -> Result<Vec<u8>, AllocError> {
+    let mut out = Vec::new(alloc);
+    if let Some((id, reply)) = read_reply(alloc, line)? {
+        let done = print(&reply, id, &mut out);
+        reply.discard();
+        done?;
+    }
+    Ok(out)
+}
+
+fn with_end(alloc: Global, line: &[u8]) -> Result<Vec<u8>, AllocError> {
+    let mut ended = Vec::from_slice(alloc, line)?;
+    ended.push(b'\n')?;
+    Ok(ended)
+}
