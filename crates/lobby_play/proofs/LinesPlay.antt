@@ -1,12 +1,13 @@
 -- Lines that play, and the first that is bad.
-use Rattle.std.proofs.Common.{◌≡◌, ◌≢◌, ℕ, false, List, [], ◌∷◌, ◌++◌, inr, refl, sym, ap, ◌∙◌, subst, append_assoc, append-nil}
+use Rattle.std.proofs.Common.{◌≡◌, ◌≢◌, ℕ, ◌+◌, length, false, List, [], ◌∷◌, ◌++◌, inr, refl, sym, ap, ◌∙◌, subst, append_assoc, append-nil}
 use Rattle.std.specs.Prelude.{Option, Some, None}
 use Rattle.lobby_play.specs.declared.action.Action.{Action}
 use Rattle.lobby_play.specs.declared.player.Player.{Player}
 use Rattle.lobby_play.specs.Words.{Finds}
 use Rattle.lobby_play.specs.Actions.{Says}
 use Rattle.lobby_play.specs.Scene.{Scene, is_allowed}
-use Rattle.lobby_play.specs.Script.{LinePlays, IsBad, Played}
+use Rattle.lobby_play.specs.Lines.{lines_of}
+use Rattle.lobby_play.specs.Script.{LinePlays, IsBad, Played, PlaysTo, StopsAt}
 use Rattle.lobby_play.specs.Player.{IsAt, Performed}
 
 pub line_plays : (new : Player) (s : Scene) (line out : List ℕ) (o : Option Action) (a : Action) → Finds (Says line) o → o ≡ Some a → Performed new s a out → (x : Scene) × LinePlays s line out x × IsAt new x
@@ -24,3 +25,17 @@ pub played_more : (front : List (List ℕ)) (s mid new : Scene) (out here line :
 played_more [] s mid new out here line (none, same) plays = (here, new, [], subst (λ x. LinePlays x line here new) same plays, (refl, refl), ap (λ l. l ++ here) none ∙ sym (append-nil here))
 played_more (first ∷ front) s mid new out here line (begins, between, later, one, others, whole) plays =
     (begins, between, later ++ here, one, played_more front between mid new later here line others plays, ap (λ l. l ++ here) whole ∙ append_assoc begins later here)
+
+-- the line after those that played is bad
+pub stops_at : (script : List ℕ) (front : List (List ℕ)) (line : List ℕ) (behind : List (List ℕ)) (before number : ℕ) (out : List ℕ) (scene : Scene) → lines_of script ≡ front ++ line ∷ behind → before ≡ length front → number ≡ before + 1
+    → PlaysTo front out scene → IsBad scene line → StopsAt script number out
+stops_at script front line behind before number out scene whole counted next plays bad = record {
+  front = front;
+  line = line;
+  behind = behind;
+  whole = whole;
+  number = next ∙ ap (λ n. n + 1) counted;
+  scene = scene;
+  plays = plays;
+  bad = bad;
+}

@@ -11,7 +11,7 @@ use Rattle.lobby_play.specs.declared.fault.PlayFault.TheVariants as script
 use Rattle.lobby_play.specs.Faults.{fault_at}
 use Rattle.lobby_play.specs.Lines.{lines_of, lines_left}
 use Rattle.lobby_play.specs.Scene.{unopened, default_settings}
-use Rattle.lobby_play.proofs.LinesPlay.{played_more}
+use Rattle.lobby_play.proofs.LinesPlay.{played_more, stops_at}
 use Rattle.lobby_play.proofs.play.play_script.Goals as goal
 
 pub loop-line-init : goal.loop-line-init
@@ -39,6 +39,20 @@ was_memory : (fault : LineFault) (k : ℕ) → fault_at fault k ≡ script.Memor
 was_memory line.BadStep k e = absurd cc
 was_memory line.Device k e = absurd cc
 was_memory line.Memory k e = refl
+
+was_bad_step : (fault : LineFault) (k number : ℕ) → fault_at fault k ≡ script.BadStep number → (fault ≡ line.BadStep) × (number ≡ k)
+was_bad_step line.BadStep k number e = (refl, cc)
+was_bad_step line.Device k number e = absurd cc
+was_bad_step line.Memory k number e = absurd cc
+
+pub returns-in-Err-clause-bad_step : goal.returns-in-Err-clause-bad_step
+returns-in-Err-clause-bad_step g c = λ number e.
+    let (front, whole, counted, (out, scene, plays, at, wrote)) = c.loop-line.invariant.played in
+    let same : c.at.result ≡ script.BadStep number = cc in
+    let bad = was_bad_step c.in-Err.fault (c.loop-line.number + 1) number (sym c.at.ensures ∙ same) in
+    let stops = stops_at c.args.script.now front c.in-Some.line.now (lines_left c.next.new.self.rest) c.loop-line.number number out scene
+      (whole ∙ ap (λ l. front ++ l) c.in-Some.ensures.steps) counted bad.1 plays (c.in-Err.ensures.bad (ap Err bad.0) scene at) in
+    (out, stops, Appends-kept _ _ _ out wrote (c.in-Err.ensures.unwritten (ap Err bad.0)))
 
 pub returns-in-Err-clause-memory : goal.returns-in-Err-clause-memory
 returns-in-Err-clause-memory g c = λ e.
