@@ -2,7 +2,8 @@
 
 use line_words::{NameBuf, PairList, SentenceBuf, TextBuf, WordBuf, WordList};
 
-/// Why a line could not be read as a command. The first fault from the left is the one that is told.
+/// Why a line could not be read as a command. A CR or LF inside the line comes before any other fault;
+/// of the others the first from the left is the one that is told.
 #[derive(Clone, Copy, PartialEq, Eq, Debug)]
 pub enum ReadFault {
     /// The command word is not one of the protocol's. Case matters.
