@@ -51,7 +51,7 @@ returns-in-Err-clause-bad_step g c = λ number e.
     let same : c.at.result ≡ script.BadStep number = cc in
     let bad = was_bad_step c.in-Err.fault (c.loop-line.number + 1) number (sym c.at.ensures ∙ same) in
     let stops = stops_at c.args.script.now front c.in-Some.line.now (lines_left c.next.new.self.rest) c.loop-line.number number out scene
-      (whole ∙ ap (λ l. front ++ l) c.in-Some.ensures.steps) counted bad.1 plays (c.in-Err.ensures.bad (ap Err bad.0) scene at) in
+    (whole ∙ ap (λ l. front ++ l) c.in-Some.ensures.steps) counted bad.1 plays (c.in-Err.ensures.bad (ap Err bad.0) scene at) in
     (out, stops, Appends-kept _ _ _ out wrote (c.in-Err.ensures.unwritten (ap Err bad.0)))
 
 pub returns-in-Err-clause-memory : goal.returns-in-Err-clause-memory
