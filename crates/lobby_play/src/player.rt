@@ -98,6 +98,7 @@ impl Player {
     fn limit(&mut self, bytes: u32) -> Result<(), LineFault>
         ensures ok { OnOk result ((scene : Scene) → IsAt self.old scene → Performed self.new scene (action.Limit bytes) []) }
         ensures bad { result ≡ Err fault.BadStep → (scene : Scene) → IsAt self.old scene → is_allowed scene (action.Limit bytes) ≡ false }
+        ensures device { result ≡ Err fault.Device → ⊥ }
     {
         if self.hall.is_some() {
             return Err(LineFault::BadStep);
@@ -113,6 +114,7 @@ impl Player {
         requires { IsSomewhere self.old }
         ensures ok { OnOk result ((scene : Scene) → IsAt self.old scene → Performed self.new scene (action.Open label ip) []) }
         ensures bad { result ≡ Err fault.BadStep → (scene : Scene) → IsAt self.old scene → is_allowed scene (action.Open label ip) ≡ false }
+        ensures device { result ≡ Err fault.Device → ⊥ }
     {
         if self.labels.contains_key(&label) {
             return Err(LineFault::BadStep);
@@ -159,7 +161,8 @@ impl Player {
 fn first_hall(alloc: Global, outbox_limit: usize) -> Result<Hall, LineFault>
     requires { IsTrue (is_configuration (with_limit default_settings outbox_limit)) }
     ensures ok { IfOk result (λ hall. Stands hall (with_limit default_settings outbox_limit) [] (new_world (with_limit default_settings outbox_limit))) }
-    ensures err { result ≡ Err fault.BadStep → ⊥ }
+    ensures step { result ≡ Err fault.BadStep → ⊥ }
+    ensures device { result ≡ Err fault.Device → ⊥ }
 {
     let settings = settings(alloc, outbox_limit)?;
     Ok(Hall::new(alloc, settings)?)

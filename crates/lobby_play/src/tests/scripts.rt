@@ -1,6 +1,7 @@
 //! Scripts that play to their end.
 
 use super::{GREETING, plays};
+use crate::fault::PlayFault;
 use std::alloc::{AllocError, Global};
 use std::test::Fail;
 
@@ -151,5 +152,22 @@ fn full_outboxes(rt: HostRuntime) -> Result<(), Fail> {
             Ok(()),
         );
     }
+    Ok(())
+}
+
+/// The lobby refuses the connect behind 10,000 others: its label does nothing and shows nothing,
+/// until the end of the script. After a shut the next connect finds a place.
+#[test]
+fn refused_opens(rt: HostRuntime) -> Result<(), Fail> {
+    let mut script = String::new(rt.alloc());
+    for label in 1..10_002u32 {
+        script.push_str(format!(in rt.alloc(); "open {label} 10.0.0.1\n")?.as_str())?;
+    }
+    script.push_str("send 10001 PING\\n\nall 10001\ntake 10001\nread 10001 4\nshow 10001\n")?;
+    script.push_str("show 10000\nshut 7\nopen 0 10.0.0.1\nshut 10001\nshow 10001\nshow 0\n")?;
+    script.push_str("open 10001 10.0.0.1\n")?;
+    let output = "10000> TASSERVER 0.38 * 8201 0\n0> TASSERVER 0.38 * 8201 0\n";
+    let end = Err(PlayFault::BadStep(10_013));
+    plays(&rt, rt.alloc(), script.as_bytes(), output.as_bytes(), end);
     Ok(())
 }
