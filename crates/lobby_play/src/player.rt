@@ -42,11 +42,12 @@ impl Player {
     ghost use Rattle.std.specs.Prelude.{◌≡◌, List, ℕ, [], false, OnOk, Err, IsTrue};
     ghost use Rattle.std.specs.Io.KnownBytes.{Appends, Keeps};
     ghost use Rattle.lobby_play.specs.Scene.{Scene, default_settings, is_allowed, unopened};
-    ghost use Rattle.lobby_play.specs.Acts.{Acts};
+
     ghost use Rattle.lobby_play.specs.Script.{IsBad, LinePlays};
     ghost use Rattle.lobby_play.specs.Player.{IsAt, IsSomewhere, Performed};
     ghost use Rattle.lobby_play.specs.declared.action.Action.TheVariants as action;
     ghost use Rattle.lobby_play.specs.declared.fault.LineFault.TheVariants as fault;
+    ghost use Rattle.lobby_play.specs.Acts.{IsShow};
 
     /// Before the first line of a script.
     pub fn new(alloc: Global) -> Player
@@ -84,6 +85,7 @@ impl Player {
         ensures ok { OnOk result ((scene : Scene) → IsAt self.old scene
             → (out : List ℕ) × Performed self.new scene action out × Appends (W.contents writer.old) (W.contents writer.new) out) }
         ensures bad { result ≡ Err fault.BadStep → (scene : Scene) → IsAt self.old scene → is_allowed scene action ≡ false }
+        ensures device { result ≡ Err fault.Device → IsShow action }
         ensures unwritten { result ≡ Err fault.BadStep → Keeps (W.contents writer.old) (W.contents writer.new) }
         ensures memory { result ≡ Err fault.Memory → Keeps (W.contents writer.old) (W.contents writer.new) }
     {
@@ -135,6 +137,7 @@ impl Player {
         ensures ok { OnOk result ((scene : Scene) → IsAt self.old scene
             → (out : List ℕ) × Performed self.new scene (action.Client label order) out × Appends (W.contents writer.old) (W.contents writer.new) out) }
         ensures bad { result ≡ Err fault.BadStep → (scene : Scene) → IsAt self.old scene → is_allowed scene (action.Client label order) ≡ false }
+        ensures device { result ≡ Err fault.Device → IsShow (action.Client label order) }
         ensures unwritten { result ≡ Err fault.BadStep → Keeps (W.contents writer.old) (W.contents writer.new) }
         ensures memory { result ≡ Err fault.Memory → Keeps (W.contents writer.old) (W.contents writer.new) }
     {
