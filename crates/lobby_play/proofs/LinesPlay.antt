@@ -10,6 +10,10 @@ use Rattle.lobby_play.specs.Lines.{lines_of}
 use Rattle.lobby_play.specs.Script.{LinePlays, IsBad, Played, PlaysTo, StopsAt}
 use Rattle.lobby_play.specs.Player.{IsAt, Performed}
 
+-- what was found is what the line says
+pub says_it_found : (line : List ℕ) (o : Option Action) (a : Action) → Finds (Says line) o → o ≡ Some a → Says line a
+says_it_found line o a found is = (subst (Finds (Says line)) is found).sound
+
 pub line_plays : (new : Player) (s : Scene) (line out : List ℕ) (o : Option Action) (a : Action) → Finds (Says line) o → o ≡ Some a → Performed new s a out → (x : Scene) × LinePlays s line out x × IsAt new x
 line_plays new s line out o a found is does = (does.1.0, inr (a, (subst (Finds (Says line)) is found).sound, does.0, does.1.1), does.1.2)
 

@@ -70,3 +70,8 @@ Acts s (action.Limit bytes) out new = (out ≡ []) × (new ≡ unopened (with_li
 Acts s (action.Open label ip) out new =
     (out ≡ []) × ((here : List Event) × (w : World) × StepGives s.world (step.Open ip 0) here w × (new ≡ with_label (happened s here w) label (given s.world) 0))
 Acts s (action.Client label o) out new = LabelActs s label (at_number s.labels label) o out new
+
+-- the only action that writes
+abbrev pub IsShow : Action → Type 0
+IsShow (action.Client label order.Show) = Unit {0}
+IsShow a = ⊥

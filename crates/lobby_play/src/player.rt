@@ -42,11 +42,13 @@ impl Player {
     ghost use Rattle.std.specs.Prelude.{◌≡◌, List, ℕ, [], false, OnOk, Err, IsTrue};
     ghost use Rattle.std.specs.Io.KnownBytes.{Appends, Keeps};
     ghost use Rattle.lobby_play.specs.Scene.{Scene, default_settings, is_allowed, unopened};
-    ghost use Rattle.lobby_play.specs.Acts.{Acts};
     ghost use Rattle.lobby_play.specs.Script.{IsBad, LinePlays};
     ghost use Rattle.lobby_play.specs.Player.{IsAt, IsSomewhere, Performed};
     ghost use Rattle.lobby_play.specs.declared.action.Action.TheVariants as action;
     ghost use Rattle.lobby_play.specs.declared.fault.LineFault.TheVariants as fault;
+    ghost use Rattle.lobby_play.specs.Acts.{IsShow};
+    ghost use Rattle.lobby_play.specs.Actions.{Says};
+    ghost use Rattle.lobby_play.specs.declared.action.Action.{Action};
 
     /// Before the first line of a script.
     pub fn new(alloc: Global) -> Player
@@ -67,6 +69,7 @@ impl Player {
         ensures ok { OnOk result ((scene : Scene) → IsAt self.old scene
             → (out : List ℕ) × ((new : Scene) × LinePlays scene line.now out new × IsAt self.new new) × Appends (W.contents writer.old) (W.contents writer.new) out) }
         ensures bad { result ≡ Err fault.BadStep → (scene : Scene) → IsAt self.old scene → IsBad scene line.now }
+        ensures device { result ≡ Err fault.Device → (a : Action) × Says line.now a × IsShow a }
         ensures unwritten { result ≡ Err fault.BadStep → Keeps (W.contents writer.old) (W.contents writer.new) }
         ensures memory { result ≡ Err fault.Memory → Keeps (W.contents writer.old) (W.contents writer.new) }
     {
@@ -84,6 +87,7 @@ impl Player {
         ensures ok { OnOk result ((scene : Scene) → IsAt self.old scene
             → (out : List ℕ) × Performed self.new scene action out × Appends (W.contents writer.old) (W.contents writer.new) out) }
         ensures bad { result ≡ Err fault.BadStep → (scene : Scene) → IsAt self.old scene → is_allowed scene action ≡ false }
+        ensures device { result ≡ Err fault.Device → IsShow action }
         ensures unwritten { result ≡ Err fault.BadStep → Keeps (W.contents writer.old) (W.contents writer.new) }
         ensures memory { result ≡ Err fault.Memory → Keeps (W.contents writer.old) (W.contents writer.new) }
     {
@@ -135,6 +139,7 @@ impl Player {
         ensures ok { OnOk result ((scene : Scene) → IsAt self.old scene
             → (out : List ℕ) × Performed self.new scene (action.Client label order) out × Appends (W.contents writer.old) (W.contents writer.new) out) }
         ensures bad { result ≡ Err fault.BadStep → (scene : Scene) → IsAt self.old scene → is_allowed scene (action.Client label order) ≡ false }
+        ensures device { result ≡ Err fault.Device → IsShow (action.Client label order) }
         ensures unwritten { result ≡ Err fault.BadStep → Keeps (W.contents writer.old) (W.contents writer.new) }
         ensures memory { result ≡ Err fault.Memory → Keeps (W.contents writer.old) (W.contents writer.new) }
     {

@@ -23,6 +23,7 @@ returns-in_ok-carry_out g c = record {
       let moves = c.in_ok-carry_out.ensures scene.settings scene.events scene.world (hall_stands c.args.self.now scene c.in-Some-hall.hall at c.in-Some-hall.is) in
       ([], order_acts c.args.self.now _ scene c.args.label c.in-Some.entry c.in-Some-client.client c.args.order c.in-Some-hall.hall c.carry_out.new.hall at found c.in-Some-client.is c.in_default-order.not-Show c.in-Some-hall.is refl moves, Appends-nil _);
   bad = λ e. absurd cc;
+  device = λ e. absurd cc;
   unwritten = λ e. absurd cc;
   memory = λ e. absurd cc;
 }

@@ -3,7 +3,7 @@ use Rattle.std.proofs.KnownBytes.{Appends-nil}
 use Rattle.std.proofs.lemmas.Bool.{false≢true}
 use Rattle.std.proofs.lemmas.Result.{IfOk-weaker}
 use Rattle.lobby_play.proofs.Parts.{nothing_left}
-use Rattle.lobby_play.proofs.LinesPlay.{line_plays, line_is_bad, says_nothing}
+use Rattle.lobby_play.proofs.LinesPlay.{says_it_found, line_plays, line_is_bad, says_nothing}
 use Rattle.lobby_play.proofs.player.Player.play_line.Goals as goal
 
 some_bytes : (line : List ℕ) (test : Bool) → test ≡ nat_eq (length line) 0 → test ≡ false → line ≢ []
@@ -25,3 +25,6 @@ returns-in-Some-clause-bad g c = λ is scene at.
 pub returns-in-None-clause-bad : goal.returns-in-None-clause-bad
 returns-in-None-clause-bad g c = λ is scene at.
     says_nothing scene c.args.line.now c.in_ok-action.field-0 (some_bytes _ _ c.is_empty.ensures c.if-is_empty.false) c.in_ok-action.ensures c.in-None.is
+
+pub returns-in-Some-clause-device : goal.returns-in-Some-clause-device
+returns-in-Some-clause-device g c = λ is. (c.in-Some.action, says_it_found c.args.line.now c.in_ok-action.field-0 c.in-Some.action c.in_ok-action.ensures c.in-Some.is, c.act.ensures.device is)
