@@ -65,7 +65,7 @@ pub read_ok : (s : State) (ss : List (Option Serving)) (ls : List Log) (c count 
     → TakesStep (record { lobby = s; sessions = ss; record_so_far = completed ls s }) (record { lobby = after; sessions = ss; record_so_far = completed new after }) (step.Read c count)
 read_ok s ss ls c count room got after caught new there room_is got_is after_is caught_is new_is none =
     elim (at_number s.clients c) as (λ o. at_number s.clients c ≡ o → is_some o ≡ true
-        → TakesStep (record { lobby = s; sessions = ss; record_so_far = completed ls s }) (record { lobby = after; sessions = ss; record_so_far = completed new after }) (step.Read c count)) [
+    → TakesStep (record { lobby = s; sessions = ss; record_so_far = completed ls s }) (record { lobby = after; sessions = ss; record_so_far = completed new after }) (step.Read c count)) [
       | None ↦ λ f e. absurd (cc)
       | Some x ↦ λ f e settings events w st.
           let unread : length (unread_of s c) ≡ length x.unread = ap (λ o. length (unread_in o)) f in
@@ -73,8 +73,8 @@ read_ok s ss ls c count room got after caught new there room_is got_is after_is 
           let next_is : next s (event.Drain c count) ≡ after = sym (same_drain s c count) ∙ ap (λ n. next s (event.Drain c n)) (sym room_is) ∙ sym after_is in
           subst (λ t. StandsAfter (record { lobby = t; sessions = ss; record_so_far = completed new t }) settings events w (step.Read c count)) next_is
           (was_read settings events w s ss ls st c count x f new
-            (new_is ∙ (λ i. changed_at (read_on (got_all i)) (caught_is i) c))
-            (λ z. none (got_all ∙ z) ∙ caught_is))
+          (new_is ∙ (λ i. changed_at (read_on (got_all i)) (caught_is i) c))
+          (λ z. none (got_all ∙ z) ∙ caught_is))
     ] refl there
 
 -- Over schedules.

@@ -129,8 +129,8 @@ module _ (settings : Configuration) (events : List Event) (logs : List Log) wher
       own : (log : Log) → of_client logs c ≡ Some log → (of_client new c ≡ Some (read_on count (completed_log log (unread_of here c)))) × (count ≡ 0 → of_client new c ≡ Some (completed_log log (unread_of here c)))
       own log f = (
         ap (λ ls. of_client ls c) read_more ∙ of-changed_same (read_on count) (caught_up logs here c) c
-        ∙ ap (option_map (read_on count)) (of-changed_same (λ log. completed_log log (unread_of here c)) logs c ∙ ap (option_map (λ log. completed_log log (unread_of here c))) f),
-        λ z. ap (λ ls. of_client ls c) (none z) ∙ of-changed_same (λ log. completed_log log (unread_of here c)) logs c ∙ ap (option_map (λ log. completed_log log (unread_of here c))) f
+            ∙ ap (option_map (read_on count)) (of-changed_same (λ log. completed_log log (unread_of here c)) logs c ∙ ap (option_map (λ log. completed_log log (unread_of here c))) f),
+        λ z. ap (λ ls. of_client ls c) (none z) ∙ of-changed_same (λ log. completed_log log (unread_of here c)) logs c ∙ ap (option_map (λ log. completed_log log (unread_of here c))) f,
       )
 
       -- all of them: what was put stays, and the client read on
@@ -149,13 +149,14 @@ module _ (settings : Configuration) (events : List Event) (logs : List Log) wher
                 let empty : x.unread ≡ [] = (balanced settings events c).gone x found k in
                 let zero_count : count ≡ 0 = ap (λ (u : List ℕ). min n (length u)) empty ∙ min_zero n in
                 let l : Log = completed_log log (unread_of here c) in
-                let is : log_at (completed new later) c ≡ completed_log l (drop n x.unread) = ap log_of (of-completed new later c ∙ ap (option_map (λ l. completed_log l (unread_of later c))) ((own log f).1 zero_count)) ∙ ap (λ u. completed_log l u) later_unread in
-                (ap (λ (l : Log). l.put) is
-                  ∙ ap (λ (u : List ℕ). (log.put ++ lacking log (unread_of here c)) ++ drop (length (log.put ++ lacking log (unread_of here c)) - length log.read) (drop n u)) empty
-                  ∙ ap (λ more. (log.put ++ lacking log (unread_of here c)) ++ more) (ap (drop (length (log.put ++ lacking log (unread_of here c)) - length log.read)) (drop_all n [] (omega arith)) ∙ drop_all (length (log.put ++ lacking log (unread_of here c)) - length log.read) [] (omega arith))
-                  ∙ append-nil (log.put ++ lacking log (unread_of here c)) ∙ ap (λ u. log.put ++ lacking log u) unread_is ∙ (own_log log f).0,
-                ap (λ (l : Log). l.read) is ∙ (own_log log f).1
-                  ∙ sym (append-nil (taken_in start events c)) ∙ ap (λ t. taken_in start events c ++ t) (sym (ap (take n) empty ∙ take_all n [] (omega arith))))
+                let is : log_at (completed new later) c ≡ completed_log l (drop n x.unread) = ap log_of (of-completed new later c ∙ ap (option_map (λ l. completed_log l (unread_of later c))) ((own log f).1 zero_count)) ∙ ap (λ u. completed_log l u) later_unread in (
+                  ap (λ (l : Log). l.put) is
+                      ∙ ap (λ (u : List ℕ). (log.put ++ lacking log (unread_of here c)) ++ drop (length (log.put ++ lacking log (unread_of here c)) - length log.read) (drop n u)) empty
+                      ∙ ap (λ more. (log.put ++ lacking log (unread_of here c)) ++ more) (ap (drop (length (log.put ++ lacking log (unread_of here c)) - length log.read)) (drop_all n [] (omega arith)) ∙ drop_all (length (log.put ++ lacking log (unread_of here c)) - length log.read) [] (omega arith))
+                      ∙ append-nil (log.put ++ lacking log (unread_of here c)) ∙ ap (λ u. log.put ++ lacking log u) unread_is ∙ (own_log log f).0,
+                  ap (λ (l : Log). l.read) is ∙ (own_log log f).1
+                      ∙ sym (append-nil (taken_in start events c)) ∙ ap (λ t. taken_in start events c ++ t) (sym (ap (take n) empty ∙ take_all n [] (omega arith))),
+                )
             | false ↦ λ k.
                 let put : List ℕ = log.put ++ lacking log (unread_of here c) in
                 let put_is : put ≡ put_in start events c = ap (λ u. log.put ++ lacking log u) unread_is ∙ (own_log log f).0 in
@@ -163,9 +164,10 @@ module _ (settings : Configuration) (events : List Event) (logs : List Log) wher
                 let l : Log = read_on count (completed_log log (unread_of here c)) in
                 let is : log_at (completed new later) c ≡ completed_log l (drop n x.unread) = ap log_of (of-completed new later c ∙ ap (option_map (λ l. completed_log l (unread_of later c))) (own log f).0) ∙ ap (λ u. completed_log l u) later_unread in
                 let read_is : take (length log.read + count) put ≡ log.read ++ take n x.unread = ap (take (length log.read + count)) whole ∙ read_part log.read x.unread count ∙ ap (λ t. log.read ++ t) (take_min n x.unread) in
-                let none_left : drop (length put - length (take (length log.read + count) put)) (drop n x.unread) ≡ [] = drop_all _ _ (enough put log.read x.unread n whole) in
-                (ap (λ (l : Log). l.put) is ∙ ap (λ more. put ++ more) none_left ∙ append-nil put ∙ put_is,
-                ap (λ (l : Log). l.read) is ∙ read_is ∙ ap (λ t. t ++ take n x.unread) (own_log log f).1)
+                let none_left : drop (length put - length (take (length log.read + count) put)) (drop n x.unread) ≡ [] = drop_all _ _ (enough put log.read x.unread n whole) in (
+                  ap (λ (l : Log). l.put) is ∙ ap (λ more. put ++ more) none_left ∙ append-nil put ∙ put_is,
+                  ap (λ (l : Log). l.read) is ∙ read_is ∙ ap (λ t. t ++ take n x.unread) (own_log log f).1,
+                )
           ] refl
         where
           enough : (put read unread : List ℕ) (n : ℕ) → put ≡ read ++ unread → length (drop n unread) ≤ length put - length (take (length read + min n (length unread)) put)
@@ -185,11 +187,13 @@ module _ (settings : Configuration) (events : List Event) (logs : List Log) wher
           both q =
               elim (same_number q c) as (λ b. same_number q c ≡ b → ((log_at (completed new later) q).put ≡ put_in start (events ++ event.Drain c n ∷ []) q) × ((log_at (completed new later) q).read ≡ taken_in start (events ++ event.Drain c n ∷ []) q)) [
                 | true ↦ λ e.
-                    let key : q ≡ c = same_number_is q c e in
-                    (ap (λ k. (log_at (completed new later) k).put) key ∙ own_both.0 ∙ ap (put_in start events) (sym key) ∙ sym (put_same q),
-                    ap (λ k. (log_at (completed new later) k).read) key ∙ own_both.1 ∙ sym taken_same ∙ ap (taken_in start (events ++ event.Drain c n ∷ [])) (sym key))
+                    let key : q ≡ c = same_number_is q c e in (
+                      ap (λ k. (log_at (completed new later) k).put) key ∙ own_both.0 ∙ ap (put_in start events) (sym key) ∙ sym (put_same q),
+                      ap (λ k. (log_at (completed new later) k).read) key ∙ own_both.1 ∙ sym taken_same ∙ ap (taken_in start (events ++ event.Drain c n ∷ [])) (sym key),
+                    )
                 | false ↦ λ e.
-                    let ne : q ≢ c = λ k. let no : true ≡ false = sym (ap (λ d. same_number d c) k ∙ same_itself c) ∙ e in absurd (cc) in
-                    (ap (λ (l : Log). l.put) (other q ne) ∙ r.put q ∙ sym (put_same q),
-                    ap (λ (l : Log). l.read) (other q ne) ∙ r.read q ∙ sym (taken_other q e))
+                    let ne : q ≢ c = λ k. let no : true ≡ false = sym (ap (λ d. same_number d c) k ∙ same_itself c) ∙ e in absurd (cc) in (
+                      ap (λ (l : Log). l.put) (other q ne) ∙ r.put q ∙ sym (put_same q),
+                      ap (λ (l : Log). l.read) (other q ne) ∙ r.read q ∙ sym (taken_other q e),
+                    )
               ] refl

@@ -70,9 +70,9 @@ module _ (k : ℕ) (logs : List Log) (s : State) (h : k < length logs) where
       ∙ changed-front (λ log. completed_log log (unread_of s (suc k))) (completed (take k logs) s) here (drop (suc k) logs) k front_length
       ∙ sym (append_assoc (completed (take k logs) s) (completed_log here (unread_of s (suc k)) ∷ []) (drop (suc k) logs))
       ∙ ap (λ ls. ls ++ drop (suc k) logs) (
-          ap (λ c. completed (take k logs) s ++ completed_log here (unread_of s c) ∷ []) (let e : suc k ≡ length (take k logs) + 1 = omega (arith, h, length-take k logs) in e)
-          ∙ sym (completed-append 1 (take k logs) (here ∷ []) s)
-          ∙ ap (λ ls. completed ls s) (sym (take-suc logs k no_log h)))
+      ap (λ c. completed (take k logs) s ++ completed_log here (unread_of s c) ∷ []) (let e : suc k ≡ length (take k logs) + 1 = omega (arith, h, length-take k logs) in e)
+      ∙ sym (completed-append 1 (take k logs) (here ∷ []) s)
+      ∙ ap (λ ls. completed ls s) (sym (take-suc logs k no_log h)))
 
   pub within_next : IfSome (of_client (halfway k logs s) (suc k)) IsWithin → AllByRecursion IsWithin (take k logs) → AllByRecursion IsWithin (take (suc k) logs)
   within_next told before =

@@ -131,25 +131,28 @@ module _ (settings : Configuration) (events : List Event) (logs : List Log) (ip 
           | Some log ↦ λ f.
               let old : q ≢ here.last_client + 1 = λ e. omega (arith, e, each, of-bounded logs q log f) in
               let is : log_at (completed (logs ++ no_log ∷ []) later) q ≡ log_at (completed logs here) q =
-                  ap log_of (of-completed (logs ++ no_log ∷ []) later q
-                  ∙ (λ i. option_map (λ l. completed_log l (unread_in (other_client here ip home place q old i))) (of-append_some logs (no_log ∷ []) q log f i))
-                  ∙ ap (option_map (λ l. completed_log l (unread_of here q))) (sym f)
-                  ∙ sym (of-completed logs here q)) in
-              (ap (λ (l : Log). l.put) is ∙ r.put q ∙ sym (put_in-snoc start events opening q ∙ ap (λ p. put_in start events q ++ p) (other_put here ip home place q old) ∙ append-nil (put_in start events q)),
-              ap (λ (l : Log). l.read) is ∙ r.read q ∙ sym (untaken q))
+              ap log_of (of-completed (logs ++ no_log ∷ []) later q
+              ∙ (λ i. option_map (λ l. completed_log l (unread_in (other_client here ip home place q old i))) (of-append_some logs (no_log ∷ []) q log f i))
+              ∙ ap (option_map (λ l. completed_log l (unread_of here q))) (sym f)
+              ∙ sym (of-completed logs here q)) in (
+                ap (λ (l : Log). l.put) is ∙ r.put q ∙ sym (put_in-snoc start events opening q ∙ ap (λ p. put_in start events q ++ p) (other_put here ip home place q old) ∙ append-nil (put_in start events q)),
+                ap (λ (l : Log). l.read) is ∙ r.read q ∙ sym (untaken q),
+              )
           | None ↦ λ f. elim (same_number q (suc (length logs))) as (λ b. same_number q (suc (length logs)) ≡ b → ((log_at (completed (logs ++ no_log ∷ []) later) q).put ≡ put_in start (events ++ opening ∷ []) q) × ((log_at (completed (logs ++ no_log ∷ []) later) q).read ≡ taken_in start (events ++ opening ∷ []) q)) [
             | true ↦ λ e.
                 let key : q ≡ suc (length logs) = same_number_is q (suc (length logs)) e in
                 let is : log_at (completed (logs ++ no_log ∷ []) later) (suc (length logs)) ≡ completed_log no_log (unread_of later (suc (length logs))) =
-                    ap log_of (of-completed (logs ++ no_log ∷ []) later (suc (length logs)) ∙ ap (option_map (λ l. completed_log l (unread_of later (suc (length logs))))) (of-append_new logs no_log)) in
-                (ap (λ k. (log_at (completed (logs ++ no_log ∷ []) later) k).put) key ∙ ap (λ (l : Log). l.put) is ∙ first_put ∙ ap (put_in start (events ++ opening ∷ [])) (sym key),
-                ap (λ k. (log_at (completed (logs ++ no_log ∷ []) later) k).read) key ∙ ap (λ (l : Log). l.read) is ∙ sym first_read ∙ ap (taken_in start (events ++ opening ∷ [])) (sym key))
+                ap log_of (of-completed (logs ++ no_log ∷ []) later (suc (length logs)) ∙ ap (option_map (λ l. completed_log l (unread_of later (suc (length logs))))) (of-append_new logs no_log)) in (
+                  ap (λ k. (log_at (completed (logs ++ no_log ∷ []) later) k).put) key ∙ ap (λ (l : Log). l.put) is ∙ first_put ∙ ap (put_in start (events ++ opening ∷ [])) (sym key),
+                  ap (λ k. (log_at (completed (logs ++ no_log ∷ []) later) k).read) key ∙ ap (λ (l : Log). l.read) is ∙ sym first_read ∙ ap (taken_in start (events ++ opening ∷ [])) (sym key),
+                )
             | false ↦ λ e.
                 let ne : q ≢ suc (length logs) = λ k. let no : true ≡ false = sym (ap (λ d. same_number d (suc (length logs))) k ∙ same_itself (suc (length logs))) ∙ e in absurd (cc) in
                 let was : log_at (completed logs here) q ≡ no_log = ap log_of (of-completed logs here q ∙ ap (option_map (λ l. completed_log l (unread_of here q))) f) in
-                let is : log_at (completed (logs ++ no_log ∷ []) later) q ≡ no_log = ap log_of (of-completed (logs ++ no_log ∷ []) later q ∙ ap (option_map (λ l. completed_log l (unread_of later q))) (of-append_past logs no_log q f ne)) in
-                (ap (λ (l : Log). l.put) (is ∙ sym was) ∙ r.put q ∙ sym (none_put q f ne),
-                ap (λ (l : Log). l.read) (is ∙ sym was) ∙ r.read q ∙ sym (untaken q))
+                let is : log_at (completed (logs ++ no_log ∷ []) later) q ≡ no_log = ap log_of (of-completed (logs ++ no_log ∷ []) later q ∙ ap (option_map (λ l. completed_log l (unread_of later q))) (of-append_past logs no_log q f ne)) in (
+                  ap (λ (l : Log). l.put) (is ∙ sym was) ∙ r.put q ∙ sym (none_put q f ne),
+                  ap (λ (l : Log). l.read) (is ∙ sym was) ∙ r.read q ∙ sym (untaken q),
+                )
           ] refl
         ] refl
 

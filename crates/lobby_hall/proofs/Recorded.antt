@@ -129,16 +129,16 @@ module _ (settings : Configuration) (events : List Event) where
             elim (of_client logs q) as (λ o. of_client logs q ≡ o → ((log_at (completed logs later) q).put ≡ put_in start (events ++ e ∷ []) q) × ((log_at (completed logs later) q).read ≡ taken_in start (events ++ e ∷ []) q)) [
               | None ↦ λ f. (
                 ap (λ o. (log_of o).put) (of-completed logs later q ∙ ap (option_map (λ log. completed_log log (unread_of later q))) f)
-                ∙ sym (put_in-snoc start events e q ∙ (λ i. (sym (r.put q) ∙ ap (λ o. (log_of o).put) f) i ++ put_by_none here e q (unborn q f) i)),
+                    ∙ sym (put_in-snoc start events e q ∙ (λ i. (sym (r.put q) ∙ ap (λ o. (log_of o).put) f) i ++ put_by_none here e q (unborn q f) i)),
                 ap (λ o. (log_of o).read) (of-completed logs later q ∙ ap (option_map (λ log. completed_log log (unread_of later q))) f)
-                ∙ sym (taken_in-snoc start events e q ∙ (λ i. (sym (r.read q) ∙ ap (λ o. (log_of o).read) f) i ++ nothing q i))
+                    ∙ sym (taken_in-snoc start events e q ∙ (λ i. (sym (r.read q) ∙ ap (λ o. (log_of o).read) f) i ++ nothing q i)),
               )
               | Some log ↦ λ f. (
                 ap (λ o. (log_of o).put) (of-completed logs later q ∙ ap (option_map (λ log. completed_log log (unread_of later q))) f)
-                ∙ (λ i. (sym (ap (λ o. (log_of o).put) f) ∙ r.put q) i ++ lacked q log f i)
-                ∙ sym (put_in-snoc start events e q),
+                    ∙ (λ i. (sym (ap (λ o. (log_of o).put) f) ∙ r.put q) i ++ lacked q log f i)
+                    ∙ sym (put_in-snoc start events e q),
                 ap (λ o. (log_of o).read) (of-completed logs later q ∙ ap (option_map (λ log. completed_log log (unread_of later q))) f)
-                ∙ sym (ap (λ o. (log_of o).read) f) ∙ r.read q ∙ sym (append-nil (taken_in start events q)) ∙ ap (λ n. taken_in start events q ++ n) (sym (nothing q))
-                ∙ sym (taken_in-snoc start events e q)
+                    ∙ sym (ap (λ o. (log_of o).read) f) ∙ r.read q ∙ sym (append-nil (taken_in start events q)) ∙ ap (λ n. taken_in start events q ++ n) (sym (nothing q))
+                    ∙ sym (taken_in-snoc start events e q),
               )
             ] refl

@@ -95,9 +95,11 @@ module _ (settings : Configuration) (events : List Event) (w : World) where
         → StandsAfter (record { lobby = s; sessions = new; record_so_far = rs }) settings events w (step.Arrive c piece)
     arrived c piece new fed others same =
         elim (session_at ss c) as (λ o. session_at ss c ≡ o → SessionOf o (is_open w c) (input w c) → Fed o (session_at new c) piece
-            → StandsAfter (record { lobby = s; sessions = new; record_so_far = rs }) settings events w (step.Arrive c piece)) [
+        → StandsAfter (record { lobby = s; sessions = new; record_so_far = rs }) settings events w (step.Arrive c piece)) [
           | None ↦ λ f there h. (
-            [], w, (refl, sym (ap (λ b. if b then with_bytes w c piece else w) there)),
+            [],
+            w,
+            (refl, sym (ap (λ b. if b then with_bytes w c piece else w) there)),
             stays _ (record {
               lobby = st.lobby;
               history = st.history;
@@ -108,23 +110,25 @@ module _ (settings : Configuration) (events : List Event) (w : World) where
               unheard = st.unheard;
               one_session_each = same ∙ st.one_session_each;
               one_log_each = st.one_log_each;
-            })
+            }),
           )
           | Some old ↦ λ f there h. (
-            [], with_bytes w c piece, (refl, sym (ap (λ b. if b then with_bytes w c piece else w) there.0)),
+            [],
+            with_bytes w c piece,
+            (refl, sym (ap (λ b. if b then with_bytes w c piece else w) there.0)),
             subst (λ es. Stands (record { lobby = s; sessions = new; record_so_far = rs }) settings es (with_bytes w c piece)) (sym (append-nil events)) (record {
               lobby = st.lobby;
               history = st.history;
               record_is = st.record_is;
               sessions = at_each (λ q. SessionOf (session_at new q) (is_open w q) (input (with_bytes w c piece) q)) c
                   (subst (λ o. SessionOf o (is_open w c) (input (with_bytes w c piece) c)) (sym h.1)
-                    (subst (λ (given : Input). SessionOf (Some h.0) (is_open w c) given) (sym (input_here w.inputs c _)) (there.0, h.2 (input w c).bytes (input w c).taken there.1)))
+                  (subst (λ (given : Input). SessionOf (Some h.0) (is_open w c) given) (sym (input_here w.inputs c _)) (there.0, h.2 (input w c).bytes (input w c).taken there.1)))
                   (λ q ne. subst (λ o. SessionOf o (is_open w q) (input (with_bytes w c piece) q)) (sym (others q ne))
-                    (subst (SessionOf (session_at ss q) (is_open w q)) (sym (input_there w.inputs c _ q ne)) (st.sessions q)));
+                  (subst (SessionOf (session_at ss q) (is_open w q)) (sym (input_there w.inputs c _ q ne)) (st.sessions q)));
               unheard = λ q late. input_there w.inputs c _ q (λ e. omega (arith, e, late, open_is_numbered _ st c there.0)) ∙ st.unheard q late;
               one_session_each = same ∙ st.one_session_each;
               one_log_each = st.one_log_each;
-            })
+            }),
           )
         ] refl (st.sessions c) fed
 
@@ -141,7 +145,7 @@ module _ (settings : Configuration) (events : List Event) (w : World) where
           sessions = at_each (λ q. SessionOf (session_at (changed_at (λ _. None) ss c) q) (is_open (moved w (event.Shut c ∷ [])) q) (input w q)) c
               (subst (λ o. SessionOf o (is_open (moved w (event.Shut c ∷ [])) c) (input w c)) (sym (gone c)) (shut_removes w.lobby c))
               (λ q ne. subst (λ o. SessionOf (session_of o) (is_open (moved w (event.Shut c ∷ [])) q) (input w q)) (sym (of-changed_other (λ _. None) ss c q ne))
-                (subst (λ b. SessionOf (session_at ss q) b (input w q)) (sym (shut_keeps w.lobby c q (not_same c q (λ e. ne (sym e))))) (st.sessions q)));
+              (subst (λ b. SessionOf (session_at ss q) b (input w q)) (sym (shut_keeps w.lobby c q (not_same c q (λ e. ne (sym e))))) (st.sessions q)));
           unheard = st.unheard;
           one_session_each = length-changed_at (λ _. None) ss c ∙ st.one_session_each;
           one_log_each = length-completed_from 1 rs (next s (event.Shut c)) ∙ st.one_log_each;
@@ -154,17 +158,19 @@ module _ (settings : Configuration) (events : List Event) (w : World) where
     pub shut_off : (c : ℕ) → AllByRecursion IsWithin rs → is_some (at_number s.clients c) ≡ true
         → StandsAfter (record { lobby = next s (event.Shut c); sessions = changed_at (λ _. None) ss c; record_so_far = completed rs (next s (event.Shut c)) }) settings events w (step.Shut c)
     shut_off c within there = (
-      event.Shut c ∷ [], moved w (event.Shut c ∷ []),
+      event.Shut c ∷ [],
+      moved w (event.Shut c ∷ []),
       (sym (ap (λ b. if b then event.Shut c ∷ [] else []) (sym (ap (λ (t : State). is_some (at_number t.clients c)) st.lobby) ∙ there)), refl),
-      removed_stands c within
+      removed_stands c within,
     )
 
     pub shut_nobody : (c : ℕ) → is_some (at_number s.clients c) ≡ false
         → StandsAfter (record { lobby = s; sessions = ss; record_so_far = rs }) settings events w (step.Shut c)
     shut_nobody c nobody = (
-      [], w,
+      [],
+      w,
       (sym (ap (λ b. if b then event.Shut c ∷ [] else []) (sym (ap (λ (t : State). is_some (at_number t.clients c)) st.lobby) ∙ nobody)), refl),
-      stays _ st
+      stays _ st,
     )
 
     -- a take where nothing is next
@@ -174,6 +180,7 @@ module _ (settings : Configuration) (events : List Event) (w : World) where
         calm : (o : Option (List ℕ)) → NextAt o (input w c).bytes Nothing → TakeGives w c o [] w
         calm None h = (sym (ap (λ b. if b then event.Shut c ∷ [] else []) h), refl)
         calm (Some line) h = absurd h
+
         gives : (o : Option Serving) → SessionOf o (is_open w c) (input w c) → IsNextOf o Nothing → StepGives w (step.Take c) [] w
         gives None there h = subst (λ b. MatchBool b (TakeGives w c (slice_get (frames (input w c).bytes line_limit) (input w c).taken) [] w) ((◌≡◌ {A = List Event} [] []) × (w ≡ w))) (sym there) (refl, refl)
         gives (Some session) there h =
@@ -188,6 +195,7 @@ module _ (settings : Configuration) (events : List Event) (w : World) where
         spoils : (o : Option (List ℕ)) → NextAt o (input w c).bytes Spoilt → TakeGives w c o (event.Shut c ∷ []) (moved w (event.Shut c ∷ []))
         spoils None h = (sym (ap (λ b. if b then event.Shut c ∷ [] else []) h), refl)
         spoils (Some line) h = absurd h
+
         gives : (o : Option Serving) → SessionOf o (is_open w c) (input w c) → IsNextOf o Spoilt → StepGives w (step.Take c) (event.Shut c ∷ []) (moved w (event.Shut c ∷ []))
         gives None there h = absurd (cc)
         gives (Some session) there h =
@@ -209,7 +217,7 @@ module _ (settings : Configuration) (events : List Event) (w : World) where
         gives None there h = absurd (cc)
         gives (Some session) there h =
             subst (λ b. MatchBool b (TakeGives w c (slice_get (frames (input w c).bytes line_limit) (input w c).taken) (event.Say c request ∷ []) (moved (with_taken w c) (event.Say c request ∷ [])))
-              ((event.Say c request ∷ [] ≡ []) × (moved (with_taken w c) (event.Say c request ∷ []) ≡ w))) (sym there.0)
+            ((event.Say c request ∷ [] ≡ []) × (moved (with_taken w c) (event.Say c request ∷ []) ≡ w))) (sym there.0)
             (reads (slice_get (frames (input w c).bytes line_limit) (input w c).taken) (h (input w c).bytes (input w c).taken there.1))
 
         open_still : (q : ℕ) → is_open (moved (with_taken w c) (event.Say c request ∷ [])) q ≡ is_open w q
@@ -225,7 +233,7 @@ module _ (settings : Configuration) (events : List Event) (w : World) where
             let line : IsSome (slice_get (frames (input w c).bytes line_limit) (input w c).taken) = some_line (slice_get (frames (input w c).bytes line_limit) (input w c).taken) (input w c).bytes request (h (input w c).bytes (input w c).taken there.1) in
             subst (λ o. SessionOf o (is_open (moved (with_taken w c) (event.Say c request ∷ [])) c) (input (moved (with_taken w c) (event.Say c request ∷ [])) c)) (sym a.1)
             (subst (λ (given : Input). (is_open (moved (with_taken w c) (event.Say c request ∷ [])) c ≡ true) × Heard a.0.framed given.bytes given.taken) (sym (input_here w.inputs c _))
-              (open_still c ∙ there.0, a.2 (has_next old.framed (input w c).bytes (input w c).taken there.1 line) (input w c).bytes (input w c).taken there.1))
+            (open_still c ∙ there.0, a.2 (has_next old.framed (input w c).bytes (input w c).taken there.1 line) (input w c).bytes (input w c).taken there.1))
 
         said_stands : Stands (record { lobby = next s (event.Say c request); sessions = new; record_so_far = completed rs (next s (event.Say c request)) }) settings (events ++ event.Say c request ∷ []) (moved (with_taken w c) (event.Say c request ∷ []))
         said_stands =
@@ -235,12 +243,12 @@ module _ (settings : Configuration) (events : List Event) (w : World) where
               history = ap (λ t. next t (event.Say c request)) st.history ∙ sym (after-snoc (empty_lobby settings) events (event.Say c request));
               record_is = subst (λ (t : State). IsRecord (completed rs (next t (event.Say c request))) (empty_lobby settings) (events ++ event.Say c request ∷ [])) (sym here)
                   (recorded settings events (event.Say c request) rs st.record_is within
-                    (st.one_log_each ∙ ap (λ (t : State). t.last_client) st.history ∙ sym (said_last (after (empty_lobby settings) events) c request)) (λ q. refl));
+                  (st.one_log_each ∙ ap (λ (t : State). t.last_client) st.history ∙ sym (said_last (after (empty_lobby settings) events) c request)) (λ q. refl));
               sessions = at_each (λ q. SessionOf (session_at new q) (is_open (moved (with_taken w c) (event.Say c request ∷ [])) q) (input (moved (with_taken w c) (event.Say c request ∷ [])) q)) c
                   (issuer (session_at ss c) (session_at new c) (st.sessions c) told accepted)
                   (λ q ne. subst (λ o. SessionOf o (is_open (moved (with_taken w c) (event.Say c request ∷ [])) q) (input (moved (with_taken w c) (event.Say c request ∷ [])) q)) (sym (others q ne))
-                    (subst (λ b. SessionOf (session_at ss q) b (input (moved (with_taken w c) (event.Say c request ∷ [])) q)) (sym (open_still q))
-                      (subst (SessionOf (session_at ss q) (is_open w q)) (sym (input_there w.inputs c _ q ne)) (st.sessions q))));
+                  (subst (λ b. SessionOf (session_at ss q) b (input (moved (with_taken w c) (event.Say c request ∷ [])) q)) (sym (open_still q))
+                  (subst (SessionOf (session_at ss q) (is_open w q)) (sym (input_there w.inputs c _ q ne)) (st.sessions q))));
               unheard = λ q late.
                   let last : (next w.lobby (event.Say c request)).last_client ≡ w.lobby.last_client = said_last w.lobby c request in
                   let numbered : c ≤ w.lobby.last_client = open_is_numbered _ st c (is_there (session_at ss c) (st.sessions c) told) in
@@ -262,52 +270,55 @@ module _ (settings : Configuration) (events : List Event) (w : World) where
         → new ≡ changed_at (read_on (min n (length x.unread))) (caught_up ls s c) c → (min n (length x.unread) ≡ 0 → new ≡ caught_up ls s c)
         → StandsAfter (record { lobby = next s (event.Drain c n); sessions = ss; record_so_far = completed new (next s (event.Drain c n)) }) settings events w (step.Read c n)
     was_read c n x found new read_more none = (
-      event.Drain c n ∷ [], moved w (event.Drain c n ∷ []),
+      event.Drain c n ∷ [],
+      moved w (event.Drain c n ∷ []),
       (sym (ap (λ b. if b then event.Drain c n ∷ [] else []) (sym (ap (λ (t : State). is_some (at_number t.clients c)) st.lobby) ∙ ap is_some found)), refl),
       record {
         lobby = ap (λ t. next t (event.Drain c n)) st.lobby;
         history = ap (λ t. next t (event.Drain c n)) st.history ∙ sym (after-snoc (empty_lobby settings) events (event.Drain c n));
         record_is = subst (λ (t : State). IsRecord (completed new (next t (event.Drain c n))) (empty_lobby settings) (events ++ event.Drain c n ∷ [])) (sym here_is)
             (drained_record settings events ls c n x (ap (λ (t : State). at_number t.clients c) (sym here_is) ∙ found)
-              (subst (λ (t : State). IsRecord (completed ls t) (empty_lobby settings) events) here_is st.record_is)
-              new (read_more ∙ ap (λ (t : State). changed_at (read_on (min n (length x.unread))) (caught_up ls t c) c) here_is) (λ z. none z ∙ ap (λ (t : State). caught_up ls t c) here_is) logs_each);
+            (subst (λ (t : State). IsRecord (completed ls t) (empty_lobby settings) events) here_is st.record_is)
+            new (read_more ∙ ap (λ (t : State). changed_at (read_on (min n (length x.unread))) (caught_up ls t c) c) here_is) (λ z. none z ∙ ap (λ (t : State). caught_up ls t c) here_is) logs_each);
         sessions = λ q. subst (λ b. SessionOf (session_at ss q) b (input w q)) (sym (drain_keeps w.lobby c n q)) (st.sessions q);
         unheard = st.unheard;
         one_session_each = st.one_session_each;
         one_log_each = length-completed_from 1 new (next s (event.Drain c n)) ∙ ap length read_more ∙ length-changed_at (read_on (min n (length x.unread))) (caught_up ls s c) c
             ∙ length-changed_at (λ log. completed_log log (unread_of s c)) ls c ∙ sym (length-completed_from 1 ls s) ∙ st.one_log_each;
-      }
+      },
     )
 
     pub read_nobody : (c n : ℕ) → is_some (at_number s.clients c) ≡ false
         → StandsAfter (record { lobby = s; sessions = ss; record_so_far = completed ls s }) settings events w (step.Read c n)
     read_nobody c n nobody = (
-      [], w,
+      [],
+      w,
       (sym (ap (λ b. if b then event.Drain c n ∷ [] else []) (sym (ap (λ (t : State). is_some (at_number t.clients c)) st.lobby) ∙ nobody)), refl),
-      stays _ st
+      stays _ st,
     )
 
     -- the next client is let in
     pub was_opened : (ip : List ℕ) (home : ℕ) (session : Serving) → Heard session.framed [] 0 → has_place s ≡ true
         → StandsAfter (record { lobby = next s (event.Open ip home); sessions = ss ++ Some session ∷ []; record_so_far = completed (ls ++ no_log ∷ []) (next s (event.Open ip home)) }) settings events w (step.Open ip home)
     was_opened ip home session heard place = (
-      event.Open ip home ∷ [], moved w (event.Open ip home ∷ []),
+      event.Open ip home ∷ [],
+      moved w (event.Open ip home ∷ []),
       (sym (ap (λ b. if b then event.Open ip home ∷ [] else []) there), refl),
       record {
         lobby = ap (λ t. next t (event.Open ip home)) st.lobby;
         history = ap (λ t. next t (event.Open ip home)) st.history ∙ sym (after-snoc (empty_lobby settings) events (event.Open ip home));
         record_is = subst (λ (t : State). IsRecord (completed (ls ++ no_log ∷ []) (next t (event.Open ip home))) (empty_lobby settings) (events ++ event.Open ip home ∷ [])) (sym here_is)
             (opened_record settings events ls ip home (ap has_place (sym here_is) ∙ place) logs_each
-              (subst (λ (t : State). IsRecord (completed ls t) (empty_lobby settings) events) here_is st.record_is));
+            (subst (λ (t : State). IsRecord (completed ls t) (empty_lobby settings) events) here_is st.record_is));
         sessions = at_each (λ q. SessionOf (session_at (ss ++ Some session ∷ []) q) (is_open (moved w (event.Open ip home ∷ [])) q) (input w q)) (suc (length ss))
             (subst (λ o. SessionOf (session_of o) (is_open (moved w (event.Open ip home ∷ [])) (suc (length ss))) (input w (suc (length ss)))) (sym (of-append_new ss (Some session)))
-              (is_let_in, subst (λ (given : Input). Heard session.framed given.bytes given.taken) (sym (st.unheard (suc (length ss)) (omega (arith, st.one_session_each)))) heard))
+            (is_let_in, subst (λ (given : Input). Heard session.framed given.bytes given.taken) (sym (st.unheard (suc (length ss)) (omega (arith, st.one_session_each)))) heard))
             (λ q ne. subst (λ o. SessionOf o (is_open (moved w (event.Open ip home ∷ [])) q) (input w q)) (sym (session_still q ne))
-              (subst (λ b. SessionOf (session_at ss q) b (input w q)) (sym (open_still q ne)) (st.sessions q)));
+            (subst (λ b. SessionOf (session_at ss q) b (input w q)) (sym (open_still q ne)) (st.sessions q)));
         unheard = λ q late. st.unheard q (omega (arith, late, last_now));
         one_session_each = length-append ss (Some session ∷ []) ∙ ap (λ n. n + 1) st.one_session_each ∙ sym last_now;
         one_log_each = length-completed_from 1 (ls ++ no_log ∷ []) (next s (event.Open ip home)) ∙ length-append ls (no_log ∷ []) ∙ ap (λ n. n + 1) (sym (length-completed_from 1 ls s) ∙ st.one_log_each) ∙ sym last_now;
-      }
+      },
     )
       where
         there : has_place w.lobby ≡ true
@@ -335,7 +346,8 @@ module _ (settings : Configuration) (events : List Event) (w : World) where
     pub open_refused : (ip : List ℕ) (home : ℕ) → has_place s ≡ false
         → StandsAfter (record { lobby = s; sessions = ss; record_so_far = completed ls s }) settings events w (step.Open ip home)
     open_refused ip home full = (
-      [], w,
+      [],
+      w,
       (sym (ap (λ b. if b then event.Open ip home ∷ [] else []) (sym (ap has_place st.lobby) ∙ full)), refl),
-      stays _ st
+      stays _ st,
     )

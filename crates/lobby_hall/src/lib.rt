@@ -8,7 +8,10 @@ pub mod record;
 pub mod session;
 pub mod sessions;
 
-pub use hall::{run, Hall, HallError};
+pub use hall::{Hall, HallError, run};
 pub use lobby_model::Step;
 pub use record::Record;
 pub use session::{Next, Session};
+
+#[cfg(test)]
+mod tests;

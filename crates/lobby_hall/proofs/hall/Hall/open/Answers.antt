@@ -15,5 +15,5 @@ returns-in-Ok-open-clause-ok c = λ settings events w st.
       record_so_far = completed (sym c.in_ok-begin.ensures i) (sym c.in-Ok-open.ensures.ok.1 i);
     })
     (was_opened settings events w c.self.inside.lobby.plain c.self.inside.sessions.items c.self.inside.logs
-      (subst (λ (h : Kept). Stands h settings events w) (sym c.self.view_is) st)
-      c.args.ip c.args.home c.new-session.result c.new-session.ensures.heard c.in-Ok-open.ensures.ok.0)
+    (subst (λ (h : Kept). Stands h settings events w) (sym c.self.view_is) st)
+    c.args.ip c.args.home c.new-session.result c.new-session.ensures.heard c.in-Ok-open.ensures.ok.0)

@@ -12,6 +12,6 @@ returns-clause-ok c =
     let place : length c.deref_mut.result.now ≡ c.min-wanted.result = c.deref_mut.ensures.len ∙ c.in_ok-resize.ensures.len in
     subst (λ old. TakesStep old (record { lobby = c.drain-drained.new.self.plain; sessions = c.self.inside.sessions.items; record_so_far = completed c.note_read.new.self c.drain-drained.new.self.plain }) (step.Read c.args.client c.args.count)) c.self.view_is
     (read_ok c.self.inside.lobby.plain c.self.inside.sessions.items c.self.inside.logs c.args.client c.args.count c.min-wanted.result c.drain-drained.result.count
-      c.drain-drained.new.self.plain c.catch_up.new.self c.note_read.new.self (sym c.if-not-has_client.ensures)
-      (omega (arith, c.min-wanted.ensures, c.unread.ensures.count)) (omega (arith, c.drain-drained.ensures.count, place))
-      (c.drain-drained.ensures.next ∙ ap (λ n. next c.self.inside.lobby.plain (event.Drain c.args.client n)) place) c.in_ok-catch_up.ensures.log c.note_read.ensures.log c.note_read.ensures.none)
+    c.drain-drained.new.self.plain c.catch_up.new.self c.note_read.new.self (sym c.if-not-has_client.ensures)
+    (omega (arith, c.min-wanted.ensures, c.unread.ensures.count)) (omega (arith, c.drain-drained.ensures.count, place))
+    (c.drain-drained.ensures.next ∙ ap (λ n. next c.self.inside.lobby.plain (event.Drain c.args.client n)) place) c.in_ok-catch_up.ensures.log c.note_read.ensures.log c.note_read.ensures.none)

@@ -16,7 +16,7 @@ returns-then-place-len-clause-within c =
 pub returns-clause-log : goal.returns-clause-log
 returns-clause-log c =
     rw (← c.self.view_is) (written_if (λ log. completed_log log (unread_of c.args.lobby.now.plain c.args.client)) c.self.inside.logs.items c.args.client c.in-Some.place c.in-Some.ensures.some
-      c.index_mut-log.result.now (omega arith) c.index_mut-log.ensures.value (is_ok c.catch_up.result) c.catch_up.new.self c.catch_up.ensures.log)
+    c.index_mut-log.result.now (omega arith) c.index_mut-log.ensures.value (is_ok c.catch_up.result) c.catch_up.new.self c.catch_up.ensures.log)
 
 pub returns-clause-within : goal.returns-clause-within
 returns-clause-within c =
