@@ -4,7 +4,7 @@ SCRIPT ?= examples/ping.play
 .PHONY: play hash test
 
 play:
-	@cd crates/lobby_play && rt run < ../../$(SCRIPT)
+	@(cd crates/lobby_play && rt run) < $(SCRIPT)
 
 hash:
 	@cd crates/lobby_main && rt run -- hash
