@@ -4,10 +4,9 @@
 ghost use Rattle.std.specs.Prelude.{◌≡◌, [], ◌∷◌, ◌++◌, IfOk, take, length, if◌then◌else◌, decimal};
 ghost use Rattle.std.specs.Fmt.{signed_decimal};
 ghost use Rattle.reply_grammar.specs.Kinds.{words_text, pair_text, pairs_text, optional_text};
-ghost use Rattle.reply_grammar.specs.Replies.{id_text, word_of};
+ghost use Rattle.reply_grammar.specs.Replies.{id_text};
 ghost use Rattle.reply_grammar.specs.Written.{argument_text, arguments_text, pieces_text};
 
-use crate::command_word::CommandWord;
 use itoa::Buffer;
 use line_words::{NameBuf, NameList, Pair, PairList, SentenceBuf, TextBuf, WordBuf, WordList};
 use std::alloc::AllocError;
@@ -169,14 +168,14 @@ fn put_arguments(out: &mut Vec<u8>, arguments: &[Argument]) -> Result<(), AllocE
 pub(super) fn put_pieces(
     out: &mut Vec<u8>,
     id: Option<u32>,
-    command: CommandWord,
+    word: &[u8],
     arguments: &[Argument],
 ) -> Result<(), AllocError>
-    ensures ok { IfOk result (λ _. out.new.items ≡ out.old.items ++ pieces_text id (word_of command) arguments.now) }
+    ensures ok { IfOk result (λ _. out.new.items ≡ out.old.items ++ pieces_text id word.now arguments.now) }
     ensures kept { take (length out.old.items) out.new.items ≡ out.old.items }
 {
     put_id(out, id)?;
-    out.extend_from_slice(command.text())?;
+    out.extend_from_slice(word)?;
     put_arguments(out, arguments)?;
     out.push(b'\n')?;
     Ok(())
