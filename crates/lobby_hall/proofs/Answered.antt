@@ -1,5 +1,5 @@
 -- What the calls of a hall answer, from what the calls inside them do.
-use Rattle.std.proofs.Common.{◌≡◌, ◌≢◌, ℕ, List, [], ◌∷◌, ◌++◌, length, min, refl, sym, ap, subst, ◌∙◌, append-nil, append_assoc, Bool, true, false, arith}
+use Rattle.std.proofs.Common.{◌≡◌, ◌≢◌, ℕ, List, [], ◌∷◌, ◌++◌, length, min, refl, sym, ap, subst, ◌∙◌, append-nil, append_assoc, true, arith}
 use Rattle.std.specs.Prelude.{Option, Some, None, Result, Ok, Err, OnOk, is_some}
 use Rattle.std.specs.List.{AllByRecursion}
 use Rattle.command_grammar.specs.declared.command.Request.{Request}
@@ -12,7 +12,7 @@ use Rattle.lobby_hall.specs.declared.session.Next.TheVariants.{Line, Spoilt}
 use Rattle.lobby_hall.specs.Record.{Log}
 use Rattle.lobby_hall.specs.Serving.{Serving}
 use Rattle.lobby_hall.specs.OneSession.{Fed, Accepted, IsNextOf}
-use Rattle.lobby_hall.specs.Standing.{Kept, session_at, TakesStep, Stands, StandsAfter}
+use Rattle.lobby_hall.specs.Standing.{Kept, session_at, TakesStep, StandsAfter}
 use Rattle.lobby_model.specs.declared.event.Event.{Event}
 use Rattle.lobby_model.specs.declared.schedule.Step.{Step}
 use Rattle.lobby_model.specs.Configuration.{Configuration}

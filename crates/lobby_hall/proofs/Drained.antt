@@ -1,23 +1,23 @@
 -- What a read adds to the record.
-use Rattle.std.proofs.Common.{◌≡◌, ◌≢◌, ℕ, zero, suc, ◌+◌, ◌-◌, ◌<◌, ◌≤◌, List, [], ◌∷◌, ◌++◌, length, take, drop, min, refl, sym, ap, subst, ◌∙◌, Bool, true, false, T, arith, append-nil, append_assoc, length-append, length-drop, length-take, cond}
-use Rattle.std.specs.Prelude.{Option, Some, None, ◌&&◌, if◌then◌else◌, IfSome}
+use Rattle.std.proofs.Common.{◌≡◌, ◌≢◌, ℕ, zero, suc, ◌+◌, ◌-◌, ◌≤◌, List, [], ◌∷◌, ◌++◌, length, take, drop, min, refl, sym, ap, ◌∙◌, true, false, arith, append-nil, length-append, length-drop, length-take, cond}
+use Rattle.std.specs.Prelude.{Option, Some, None, ◌&&◌, if◌then◌else◌}
 use Rattle.std.specs.Option.{option_map}
 use Rattle.std.specs.Ordering.{nat_cmp}
 use Rattle.std.specs.Cmp.{nat_cmp_total}
 use Rattle.std.specs.FinMap.Entries.{find-put}
-use Rattle.std.proofs.lemmas.List.{drop_all, take_all, take_at}
+use Rattle.std.proofs.lemmas.List.{drop_all, take_all}
 use Rattle.lobby_model.specs.declared.event.Event.{Event}
 use Rattle.lobby_model.specs.declared.event.Event.TheVariants as event
 use Rattle.lobby_model.specs.Table.{ByNumber, at_number, put_number, same_number}
 use Rattle.lobby_model.specs.Configuration.{Configuration}
 use Rattle.lobby_model.specs.State.{State, Client, is_live, empty_lobby}
 use Rattle.lobby_model.specs.Effect.{drained, drained_at, effect}
-use Rattle.lobby_model.specs.Next.{next, batch, put_by, put_to, taken_by, taken_from, has_room_for}
+use Rattle.lobby_model.specs.Next.{next, put_by, put_to, taken_from, has_room_for}
 use Rattle.lobby_model.specs.History.{after, put_in, taken_in}
 use Rattle.lobby_model.proofs.Delivered.{same_number_is, same_itself}
 use Rattle.lobby_model.proofs.Splits.{same_either_way}
 use Rattle.lobby_model.proofs.Quiet.{next_drain}
-use Rattle.lobby_model.proofs.Balance.{Balanced, balanced}
+use Rattle.lobby_model.proofs.Balance.{balanced}
 use Rattle.lobby_machine.specs.Shown.{unread_in, unread_of}
 use Rattle.lobby_hall.specs.ByClient.{of_client}
 use Rattle.lobby_hall.specs.Record.{Log, log_of, log_at, IsRecord}

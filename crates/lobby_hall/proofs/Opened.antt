@@ -1,11 +1,10 @@
 -- What an open adds to the record: the log of the next client.
-use Rattle.std.proofs.Common.{◌≡◌, ◌≢◌, ℕ, zero, suc, ◌+◌, ◌-◌, ◌<◌, ◌≤◌, List, [], ◌∷◌, ◌++◌, length, drop, refl, sym, ap, subst, ◌∙◌, Bool, true, false, T, arith, append-nil, cond}
+use Rattle.std.proofs.Common.{◌≡◌, ◌≢◌, ℕ, zero, suc, ◌+◌, ◌<◌, ◌≤◌, List, [], ◌∷◌, ◌++◌, length, refl, sym, ap, ◌∙◌, true, false, arith, append-nil, cond}
 use Rattle.std.specs.Prelude.{Option, Some, None, ◌&&◌, if◌then◌else◌, slice_get}
 use Rattle.std.specs.Option.{option_map}
 use Rattle.std.specs.Ordering.{nat_cmp}
 use Rattle.std.specs.Cmp.{nat_cmp_total}
 use Rattle.std.specs.FinMap.Entries.{find-put}
-use Rattle.std.proofs.lemmas.List.{drop_all}
 use Rattle.reply_grammar.specs.Replies.{print_all}
 use Rattle.lobby_model.specs.declared.event.Event.{Event}
 use Rattle.lobby_model.specs.declared.event.Event.TheVariants as event
@@ -21,8 +20,8 @@ use Rattle.lobby_model.proofs.Balance.{balanced, put_by_none, put_by_cut}
 use Rattle.lobby_machine.specs.Shown.{unread_in, unread_of}
 use Rattle.lobby_hall.specs.ByClient.{of_client}
 use Rattle.lobby_hall.specs.Record.{Log, log_of, log_at, IsRecord}
-use Rattle.lobby_hall.specs.Copied.{lacking, completed_log, completed, no_log}
-use Rattle.lobby_hall.proofs.Recorded.{of-completed, put_in-snoc, taken_in-snoc, balanced_later, of-some}
+use Rattle.lobby_hall.specs.Copied.{completed_log, completed, no_log}
+use Rattle.lobby_hall.proofs.Recorded.{of-completed, put_in-snoc, taken_in-snoc, balanced_later}
 use Rattle.lobby_hall.proofs.Drained.{put_nothing}
 
 -- a list with one more value

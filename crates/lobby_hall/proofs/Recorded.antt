@@ -1,23 +1,20 @@
 -- What an event adds to the record.
-use Rattle.std.proofs.Common.{◌≡◌, ◌≢◌, ℕ, zero, suc, ◌+◌, ◌-◌, ◌<◌, ◌≤◌, List, [], ◌∷◌, ◌++◌, length, take, drop, min, refl, sym, ap, subst, ◌∙◌, Bool, true, false, T, arith, append-nil, append_assoc, length-append, length-drop, length-take}
-use Rattle.std.specs.Prelude.{Option, Some, None, slice_get, if◌then◌else◌, IfSome}
+use Rattle.std.proofs.Common.{◌≡◌, ◌≢◌, ℕ, zero, suc, ◌+◌, ◌-◌, ◌<◌, ◌≤◌, List, [], ◌∷◌, ◌++◌, length, drop, refl, sym, ap, subst, ◌∙◌, true, false, arith, append-nil, append_assoc}
+use Rattle.std.specs.Prelude.{Some, None, slice_get, IfSome}
 use Rattle.std.specs.List.{AllByRecursion}
 use Rattle.std.specs.Option.{option_map}
-use Rattle.std.proofs.lemmas.List.{drop_all, drop_at, drop-drop, take_all, take_at, take-append-le}
+use Rattle.std.proofs.lemmas.List.{drop_all, drop_at, drop-drop}
 use Rattle.lobby_model.specs.declared.event.Event.{Event}
-use Rattle.lobby_model.specs.declared.event.Event.TheVariants as event
-use Rattle.lobby_model.specs.Table.{at_number, same_number}
+use Rattle.lobby_model.specs.Table.{at_number}
 use Rattle.lobby_model.specs.Configuration.{Configuration}
-use Rattle.lobby_model.specs.State.{State, Client, empty_lobby}
-use Rattle.lobby_model.specs.Next.{next, batch, put_by, put_to, taken_by, taken_from}
+use Rattle.lobby_model.specs.State.{State, empty_lobby}
+use Rattle.lobby_model.specs.Next.{next, put_by, taken_by}
 use Rattle.lobby_model.specs.History.{after, put_in, taken_in}
-use Rattle.lobby_model.proofs.Delivered.{same_number_is, same_itself}
 use Rattle.lobby_model.proofs.Balance.{Balanced, balanced, balanced_next, put_by_none, put_by_cut}
 use Rattle.lobby_machine.specs.Shown.{unread_in, unread_of}
 use Rattle.lobby_hall.specs.ByClient.{of_client}
 use Rattle.lobby_hall.specs.Record.{Log, log_of, log_at, IsRecord}
-use Rattle.lobby_hall.specs.Copied.{lacking, completed_log, completed_from, completed, no_log, IsWithin, changed_at, caught_up, read_on}
-use Rattle.lobby_hall.proofs.Changed.{of-changed_same, of-changed_other}
+use Rattle.lobby_hall.specs.Copied.{lacking, completed_log, completed_from, completed, IsWithin}
 
 -- histories with one more event
 

@@ -1,43 +1,40 @@
 -- What a hall stands for after a step.
-use Rattle.std.proofs.Common.{◌≡◌, ◌≢◌, ℕ, zero, suc, ◌+◌, ◌-◌, ◌<◌, ◌≤◌, List, [], ◌∷◌, ◌++◌, length, drop, min, refl, sym, ap, subst, ◌∙◌, Bool, true, false, T, arith, append-nil, length-append, cond}
-use Rattle.std.specs.Prelude.{Option, Some, None, ◌&&◌, ◌||◌, not, if◌then◌else◌, is_some, IsSome, slice_get, MatchBool}
+use Rattle.std.proofs.Common.{◌≡◌, ◌≢◌, ℕ, zero, suc, ◌+◌, ◌<◌, ◌≤◌, List, [], ◌∷◌, ◌++◌, length, drop, min, refl, sym, ap, subst, ◌∙◌, true, false, arith, append-nil, length-append, cond}
+use Rattle.std.specs.Prelude.{Option, Some, None, if◌then◌else◌, is_some, IsSome, slice_get, MatchBool}
 use Rattle.std.specs.List.{AllByRecursion}
 use Rattle.std.specs.Option.{option_map}
-use Rattle.std.specs.Ordering.{nat_cmp, is_eq}
+use Rattle.std.specs.Ordering.{nat_cmp}
 use Rattle.std.specs.Cmp.{nat_cmp_total}
-use Rattle.std.specs.FinMap.Entries.{find-put, find-where_key}
-use Rattle.line_framer.specs.Frames.{frames, is_spoilt}
+use Rattle.std.specs.FinMap.Entries.{find-put}
+use Rattle.line_framer.specs.Frames.{frames}
 use Rattle.line_framer.specs.Framed.{Framed, first, next_line}
 use Rattle.command_grammar.specs.declared.command.Request.{Request}
-use Rattle.command_grammar.specs.declared.command.Command.{Command}
-use Rattle.command_grammar.specs.declared.command.Command.TheVariants as command
-use Rattle.command_grammar.specs.Reads.{Reads}
 use Rattle.lobby_model.specs.declared.event.Event.{Event}
 use Rattle.lobby_model.specs.declared.event.Event.TheVariants as event
 use Rattle.lobby_model.specs.declared.schedule.Step.TheVariants as step
-use Rattle.lobby_model.specs.Table.{ByNumber, at_number, put_number, without_number, same_number}
+use Rattle.lobby_model.specs.Table.{ByNumber, at_number, put_number, same_number}
 use Rattle.lobby_model.specs.Configuration.{Configuration}
-use Rattle.lobby_model.specs.State.{State, Client, hears, empty_lobby}
-use Rattle.lobby_model.specs.Effect.{effect, has_place, opened}
-use Rattle.lobby_model.specs.Next.{next, taken_by}
+use Rattle.lobby_model.specs.State.{State, Client, empty_lobby}
+use Rattle.lobby_model.specs.Effect.{has_place, opened}
+use Rattle.lobby_model.specs.Next.{next}
 use Rattle.lobby_model.specs.History.{after}
 use Rattle.lobby_model.specs.Schedule.{World, Input, input, input_of, is_open, line_limit, with_bytes, with_taken, moved, StepGives, TakeGives}
-use Rattle.lobby_model.proofs.Delivered.{same_number_is, same_itself, find-values}
+use Rattle.lobby_model.proofs.Delivered.{same_number_is, same_itself}
 use Rattle.lobby_model.proofs.Balance.{is_numbered}
 use Rattle.lobby_hall.specs.ByClient.{of_client}
 use Rattle.lobby_hall.specs.Record.{Log, IsRecord}
 use Rattle.lobby_hall.specs.Serving.{Serving}
 use Rattle.lobby_hall.specs.declared.session.Next.TheVariants.{Nothing, Line, Spoilt}
-use Rattle.lobby_hall.specs.Sessions.{Heard, IsNext, NextAt}
-use Rattle.lobby_hall.specs.OneSession.{Fed, Accepted, IsNextOf, IsReady}
-use Rattle.lobby_hall.specs.Standing.{Kept, session_of, session_at, SessionOf, Stands, StandsAfter, is_ready}
+use Rattle.lobby_hall.specs.Sessions.{Heard, NextAt}
+use Rattle.lobby_hall.specs.OneSession.{Fed, Accepted, IsNextOf}
+use Rattle.lobby_hall.specs.Standing.{Kept, session_of, session_at, SessionOf, Stands, StandsAfter}
 use Rattle.lobby_hall.specs.Copied.{completed, completed_log, IsWithin, changed_at, caught_up, read_on, no_log}
 use Rattle.lobby_hall.proofs.Changed.{of-changed_same, of-changed_other, length-changed_at}
 use Rattle.lobby_hall.proofs.Logs.{length-completed_from}
 use Rattle.lobby_hall.proofs.Recorded.{after-snoc, recorded}
 use Rattle.lobby_machine.specs.Shown.{unread_of}
 use Rattle.lobby_hall.proofs.Drained.{drained_record}
-use Rattle.lobby_hall.proofs.Opened.{opened_record, last_is, of-append_some, of-append_new, of-append_past, other_client}
+use Rattle.lobby_hall.proofs.Opened.{opened_record, of-append_some, of-append_new, of-append_past, other_client}
 use Rattle.lobby_hall.proofs.Kept.{said_keeps, said_last, shut_removes, shut_keeps, drain_keeps, open_lets_in}
 
 -- cases on whether a number is c

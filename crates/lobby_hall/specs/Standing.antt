@@ -1,5 +1,5 @@
 -- What a hall stands for: the world that a schedule leaves, and the record of its events.
-use Rattle.std.specs.Prelude.{◌≡◌, ℕ, ◌≤◌, ◌<◌, Bool, ◌&&◌, ◌||◌, true, false, List, [], ◌∷◌, ◌++◌, length, Option, Some, None, is_some, slice_get}
+use Rattle.std.specs.Prelude.{◌≡◌, ℕ, ◌≤◌, ◌<◌, Bool, ◌&&◌, ◌||◌, true, false, List, ◌++◌, length, Option, Some, None, is_some, slice_get}
 use Rattle.line_framer.specs.Frames.{frames, is_spoilt}
 use Rattle.lobby_model.specs.declared.event.Event.{Event}
 use Rattle.lobby_model.specs.declared.schedule.Step.{Step}

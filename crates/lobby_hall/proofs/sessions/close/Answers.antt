@@ -1,4 +1,4 @@
-use Rattle.std.proofs.Common.{◌≡◌, ◌<◌, ◌≤◌, length, arith, refl}
+use Rattle.std.proofs.Common.{arith, refl}
 use Rattle.std.specs.Prelude.{None}
 use Rattle.lobby_hall.proofs.Changed.{past-changed, written}
 use Rattle.lobby_hall.proofs.sessions.close.Goals as goal

@@ -1,6 +1,5 @@
-use Rattle.std.proofs.Common.{◌≡◌, ◌∙◌, ap, sym, subst}
+use Rattle.std.proofs.Common.{sym, subst}
 use Rattle.lobby_model.specs.declared.schedule.Step.TheVariants as step
-use Rattle.lobby_model.specs.State.{State}
 use Rattle.lobby_hall.specs.Copied.{completed}
 use Rattle.lobby_hall.specs.Standing.{Kept, Stands, StandsAfter}
 use Rattle.lobby_hall.proofs.Steps.{was_opened}

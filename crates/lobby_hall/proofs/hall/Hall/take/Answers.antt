@@ -1,5 +1,4 @@
-use Rattle.std.proofs.Common.{◌≡◌, ◌∙◌, ap, sym, subst}
-use Rattle.lobby_hall.specs.declared.session.Next.{Next}
+use Rattle.std.proofs.Common.{◌∙◌, ap, subst}
 use Rattle.lobby_hall.specs.declared.session.Next.TheVariants.{Nothing, Line, Spoilt}
 use Rattle.lobby_hall.specs.OneSession.{IsNextOf}
 use Rattle.lobby_hall.specs.Standing.{Kept, session_at}

@@ -1,7 +1,7 @@
-use Rattle.std.proofs.Common.{◌≡◌, ◌∙◌, ◌<◌, ◌≤◌, length, ap, sym, subst, arith}
-use Rattle.std.specs.Prelude.{IfSome, is_ok}
+use Rattle.std.proofs.Common.{arith}
+use Rattle.std.specs.Prelude.{is_ok}
 use Rattle.lobby_machine.specs.Shown.{unread_of}
-use Rattle.lobby_hall.specs.Copied.{completed_log, IsWithin}
+use Rattle.lobby_hall.specs.Copied.{completed_log}
 use Rattle.lobby_hall.proofs.Changed.{past-changed, of-past, of-at, written_if}
 use Rattle.lobby_hall.proofs.record.Record.catch_up.Goals as goal
 

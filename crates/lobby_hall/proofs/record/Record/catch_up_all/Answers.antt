@@ -1,8 +1,8 @@
-use Rattle.std.proofs.Common.{◌≡◌, ◌∙◌, ◌+◌, ◌<◌, ◌≤◌, suc, ap, sym, subst, length, arith, add-one}
+use Rattle.std.proofs.Common.{◌∙◌, ◌<◌, suc, ap, subst, length, arith, add-one}
 use Rattle.std.specs.Prelude.{IfSome}
 use Rattle.lobby_hall.specs.ByClient.{of_client}
 use Rattle.lobby_hall.specs.Copied.{completed, caught_up, IsWithin}
-use Rattle.lobby_hall.proofs.Logs.{halfway, completed-halfway, halfway_next, halfway_end, within_next}
+use Rattle.lobby_hall.proofs.Logs.{completed-halfway, halfway_next, halfway_end, within_next}
 use Rattle.lobby_hall.proofs.record.Record.catch_up_all.Goals as goal
 
 pub returns-in_err-catch_up-clause-kept : goal.returns-in_err-catch_up-clause-kept

@@ -1,4 +1,4 @@
-use Rattle.std.proofs.Common.{◌≡◌, ◌∙◌, ◌<◌, ◌≤◌, ap, length, arith, slice_set}
+use Rattle.std.proofs.Common.{◌∙◌, ap, arith, slice_set}
 use Rattle.lobby_hall.specs.Copied.{read_on}
 use Rattle.lobby_hall.proofs.Changed.{past-changed, written, set-same}
 use Rattle.lobby_hall.proofs.record.Record.note_read.Goals as goal
