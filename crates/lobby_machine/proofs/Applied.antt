@@ -1,5 +1,5 @@
 -- From what a delivery makes of the clients to the next state, and from whom it touched to the workers.
-use Rattle.std.proofs.Common.{◌≡◌, ℕ, List, refl, sym, ap, ◌∙◌}
+use Rattle.std.proofs.Common.{◌≡◌, ℕ, List, sym, ap, ◌∙◌}
 use Rattle.std.specs.Prelude.{◌&&◌, Result, Ok, Err, OnOk, IfOk}
 use Rattle.std.specs.List.{list_any}
 use Rattle.lobby_model.specs.declared.event.Event.{Event}
@@ -7,7 +7,7 @@ use Rattle.lobby_model.specs.Table.{ByNumber, map_values, same_number}
 use Rattle.lobby_model.specs.State.{State, Client}
 use Rattle.lobby_model.specs.Effect.{effect}
 use Rattle.lobby_model.specs.Next.{next, batch, delivered, with_batch}
-use Rattle.lobby_model.specs.Touched.{is_touched, touches}
+use Rattle.lobby_model.specs.Touched.{is_touched}
 use Rattle.lobby_model.proofs.Quiet.{touched_is}
 use Rattle.lobby_machine.specs.declared.post.Letter.{Letter}
 use Rattle.lobby_machine.specs.Mask.{has_home}

@@ -1,7 +1,6 @@
 -- One client's slot among all: what a map of slots shows when one is changed, added or removed.
-use Rattle.std.proofs.Common.{◌≡◌, ℕ, List, [], ◌∷◌, ◌++◌, refl, sym, ap, subst, ◌∙◌, Bool, true, false, cond, not, T, map}
-use Rattle.std.specs.Prelude.{Option, Some, None, is_some, if◌then◌else◌, filter}
-use Rattle.std.specs.declared.cmp.Ordering.{Ordering}
+use Rattle.std.proofs.Common.{◌≡◌, ℕ, [], ◌∷◌, refl, sym, ap, subst, ◌∙◌, Bool, true, false, cond, not, T, map}
+use Rattle.std.specs.Prelude.{Some, None, is_some, if◌then◌else◌}
 use Rattle.std.specs.declared.cmp.Ordering.TheVariants.{Less, Equal, Greater}
 use Rattle.std.specs.Ordering.{nat_cmp, is_eq, is_lt}
 use Rattle.std.specs.Cmp.{nat_cmp_total}
@@ -14,7 +13,7 @@ use Rattle.std.specs.Map.{lookup, set_value, remove_entry}
 use Rattle.lobby_model.specs.Table.{ByNumber, at_number, put_number, without_number, same_number}
 use Rattle.lobby_model.specs.State.{Client}
 use Rattle.lobby_model.proofs.Tables.{lookup_is_find, insert_is_put, both}
-use Rattle.lobby_model.proofs.Splits.{Apart, apart_above, same_either_way, Split, split, lookup-values, set_value-values, at_of_lookup, at_of_none, keys-values}
+use Rattle.lobby_model.proofs.Splits.{Apart, apart_above, same_either_way, at_of_lookup, at_of_none, keys-values}
 use Rattle.std.specs.Option.{option_map}
 use Rattle.lobby_model.proofs.Delivered.{find-values, same_itself, same_number_is}
 use Rattle.lobby_machine.proofs.Letters.{IsWritten}

@@ -15,3 +15,6 @@ pub mod wakes;
 pub use lobby::{Lobby, OpenError};
 pub use maps::Drained;
 pub use wakes::Wakes;
+
+#[cfg(test)]
+mod tests;

@@ -1,6 +1,5 @@
-use Rattle.std.proofs.Common.{◌≡◌, ◌∙◌, ◌++◌, length, take, drop, min, arith, ap, sym, refl, subst, IsSome, true}
-use Rattle.std.specs.Prelude.{Some, None}
-use Rattle.lobby_model.specs.Table.{at_number, put_number}
+use Rattle.std.proofs.Common.{◌∙◌, ◌++◌, length, take, drop, min, arith, ap, sym, refl, subst, IsSome}
+use Rattle.lobby_model.specs.Table.{put_number}
 use Rattle.lobby_model.specs.Effect.{drained_at}
 use Rattle.lobby_machine.specs.Mail.{plain}
 use Rattle.lobby_machine.specs.Shown.{is_over, unread_in}

@@ -1,8 +1,8 @@
-use Rattle.std.proofs.Common.{◌≡◌, ◌∙◌, ap, sym, refl, subst, IsSome, Bool, true, false}
-use Rattle.std.specs.Prelude.{Option, Some, None, if◌then◌else◌}
+use Rattle.std.proofs.Common.{◌≡◌, ◌∙◌, ap, sym, refl, subst, IsSome}
+use Rattle.std.specs.Prelude.{Some, None, if◌then◌else◌}
 use Rattle.lobby_model.specs.declared.event.Phase.TheVariants.{Ended}
-use Rattle.lobby_model.specs.Table.{ByNumber, at_number, put_number}
-use Rattle.lobby_model.specs.State.{Client, is_live, is_live_client, in_phase, set_phase_of}
+use Rattle.lobby_model.specs.Table.{at_number, put_number}
+use Rattle.lobby_model.specs.State.{is_live, is_live_client, in_phase, set_phase_of}
 use Rattle.lobby_machine.specs.Mail.{plain}
 use Rattle.lobby_machine.proofs.Ties.{none_of}
 use Rattle.lobby_machine.proofs.Seats.{plain-at, plain-none, plain-written, put-same}

@@ -1,7 +1,7 @@
 use Rattle.std.proofs.Common.{◌∙◌, ap, sym, refl, subst, IsSome}
 use Rattle.lobby_model.specs.Next.{with_batch}
 use Rattle.lobby_machine.proofs.Ties.{none_of}
-use Rattle.lobby_machine.proofs.Rounds.{bytes_of, inside_next, once_next, fits_now, fits_next, fits_past, clients_next, clients_past, clients_end, wakes_next, wakes_past, wakes_end, limits_next}
+use Rattle.lobby_machine.proofs.Rounds.{inside_next, once_next, fits_now, fits_next, fits_past, clients_next, clients_past, clients_end, wakes_next, wakes_past, wakes_end, limits_next}
 use Rattle.lobby_machine.proofs.post.deliver.Goals as goal
 use Rattle.lobby_machine.proofs.post.deliver.Goals.{in-Some, in_default}
 

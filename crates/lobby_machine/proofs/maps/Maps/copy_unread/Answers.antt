@@ -1,5 +1,5 @@
-use Rattle.std.proofs.Common.{◌≡◌, ◌∙◌, ◌-◌, ◌++◌, ap, sym, length, min, take, drop, arith}
-use Rattle.lobby_machine.specs.Shown.{unread_in, unread_of}
+use Rattle.std.proofs.Common.{◌∙◌, ◌-◌, ◌++◌, ap, sym, length, min, take, drop, arith}
+use Rattle.lobby_machine.specs.Shown.{unread_in}
 use Rattle.lobby_machine.proofs.Seats.{plain-at, plain-none}
 use Rattle.lobby_machine.proofs.maps.Maps.copy_unread.Goals as goal
 

@@ -1,5 +1,4 @@
-use Rattle.std.proofs.Common.{◌∙◌, ap}
-use Rattle.std.specs.Prelude.{is_some}
+use Rattle.std.proofs.Common.{◌∙◌}
 use Rattle.lobby_machine.proofs.Seats.{plain-is_some}
 use Rattle.lobby_machine.proofs.maps.Maps.has_client.Goals as goal
 
