@@ -12,12 +12,12 @@ use Rattle.command_grammar.specs.declared.command.Command.TheVariants as command
 use Rattle.lobby_model.specs.declared.event.Event.{Event}
 use Rattle.lobby_model.specs.declared.event.Event.TheVariants as event
 use Rattle.lobby_model.specs.declared.event.Phase.TheVariants.{Ended}
-use Rattle.lobby_model.specs.Table.{ByNumber, at_number, put_number, without_number, map_values, same_number}
+use Rattle.lobby_model.specs.Table.{ByNumber, at_number, put_number, without_number, same_number}
 use Rattle.lobby_model.specs.State.{State, Client, is_live, hears, set_phase}
 use Rattle.lobby_model.specs.Effect.{effect, has_place, greeted, opened, obeyed, drained_at}
 use Rattle.lobby_model.specs.Refusal.{refusal}
-use Rattle.lobby_model.specs.Sent.{sent, greeting}
-use Rattle.lobby_model.specs.Next.{next, batch, delivered, with_batch, has_room_for, is_empty, put_to}
+use Rattle.lobby_model.specs.Sent.{greeting}
+use Rattle.lobby_model.specs.Next.{next, batch, delivered, with_batch, has_room_for, is_empty}
 use Rattle.lobby_model.specs.Touched.{is_touched, touches}
 use Rattle.lobby_model.proofs.Delivered.{with_batch_nil, map_values_none, map_values_one, put_put, same_itself}
 
