@@ -1,8 +1,9 @@
 -- What contracts see of an account, and which accounts there can be.
-use Rattle.std.specs.Prelude.{ℕ, Bool, false, ◌&&◌, ◌||◌, ◌==◌, nat_lt, nat_le, codes, List, length, Result, Ok, Err}
-use Rattle.std.specs.Char.{is_ascii_uppercase, is_ascii_alphanumeric}
+use Rattle.std.specs.Prelude.{ℕ, Bool, false, ◌&&◌, ◌||◌, ◌==◌, nat_le, codes, List, length, Result, Ok, Err}
+use Rattle.std.specs.Char.{is_ascii_uppercase}
 use Rattle.std.specs.List.{list_all}
-use Rattle.std.specs.Str.{bytes_eq, byte}
+use Rattle.std.specs.Str.{bytes_eq}
+use Rattle.line_words.specs.Bytes.{is_name}
 use Rattle.base64.specs.Engines.{standard}
 use Rattle.base64.specs.GeneralPurpose.{decode_of}
 use Rattle.base64.specs.declared.decode.DecodeError.{DecodeError}
@@ -17,14 +18,6 @@ pub record Account : Type 0 where
   pub access : Bool
   pub bot : Bool
   pub country : List ℕ
-
--- letters, digits, `_`, `[` and `]`
-abbrev pub is_name_byte : ℕ → Bool
-is_name_byte b = is_ascii_alphanumeric b || b == byte "_" || b == byte "[" || b == byte "]"
-
--- A name: 1 to 20 such bytes
-abbrev pub is_name : List ℕ → Bool
-is_name bytes = nat_lt 0 (length bytes) && nat_le (length bytes) 20 && list_all is_name_byte bytes
 
 -- whether so many bytes were decoded
 abbrev pub gives : ℕ → Result (List ℕ) DecodeError → Bool

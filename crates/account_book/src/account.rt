@@ -1,16 +1,14 @@
 //! One account.
 
 ghost use Rattle.std.specs.Prelude.{◌≡◌, ◌≢◌, ◌↔◌, ◌<◌, true, false, IfOk, IfErr};
-ghost use Rattle.std.specs.List.{list_all};
-ghost use Rattle.account_book.specs.Account.{is_name, is_name_byte, is_password_word, is_country, is_sound, stated};
+ghost use Rattle.line_words.specs.Bytes.{is_name};
+ghost use Rattle.account_book.specs.Account.{is_password_word, is_country, is_sound, stated};
 
 use crate::error::AccountsError;
 use base64::engine::general_purpose::STANDARD;
+use line_words::is_name;
 use std::alloc::Global;
 use std::marker::Model;
-
-/// The longest name, in bytes.
-const NAME_LIMIT: usize = 20;
 
 /// The highest rank.
 const TOP_RANK: u8 = 7;
@@ -140,20 +138,6 @@ impl Account {
     {
         &self.country
     }
-}
-
-/// Whether these bytes are a name.
-fn is_name(bytes: &[u8]) -> bool
-    ensures { result ≡ is_name bytes.now }
-{
-    !bytes.is_empty() && bytes.len() <= NAME_LIMIT && has_name_bytes(bytes)
-}
-
-/// Whether a name may have each of these bytes.
-fn has_name_bytes(bytes: &[u8]) -> bool
-    ensures { result ≡ list_all is_name_byte bytes.now }
-{
-    bytes.iter().all(|b| b.is_ascii_alphanumeric() || matches!(b, b'_' | b'[' | b']'))
 }
 
 /// Whether these bytes are the base64 text of 16 bytes.

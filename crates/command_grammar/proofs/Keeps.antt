@@ -11,7 +11,8 @@ use Rattle.line_words.specs.declared.lists.Pair.{Pair}
 use Rattle.command_grammar.specs.declared.command.ReadFault.{ReadFault}
 use Rattle.command_grammar.specs.declared.command.Command.{Command}
 use Rattle.command_grammar.specs.Arguments.{IsFault, Word, OptionalWord, Name, Number, Natural, Wide, Flag, Text, Sentences, Sentence, IsPair, PairsIn, AtLeastOne, Pairs, AreWords, Words}
-use Rattle.command_grammar.specs.Kinds.{is_up_to, is_wide, is_some_word, is_pair, are_some, keeps_kinds}
+use Rattle.command_grammar.specs.Kinds.{is_up_to, are_some, keeps_kinds}
+use Rattle.line_words.specs.Kinds.{is_wide, is_some_word, is_pair}
 use Rattle.command_grammar.proofs.Sequences.{first}
 use Rattle.command_grammar.proofs.Slices.{text_back, word_kind, sentence_kinds}
 use Rattle.command_grammar.proofs.Checks.{or_parts}

@@ -2,6 +2,7 @@
 use Rattle.std.specs.Prelude.{ℕ, ℤ, pos, negsuc, Bool, true, ◌&&◌, nat_le, List, length, Option, Some, None}
 use Rattle.std.specs.List.{list_all}
 use Rattle.line_words.specs.Bytes.{is_key, is_name, is_sentence, is_text, is_word}
+use Rattle.line_words.specs.Kinds.{is_pair, is_some_word, is_wide}
 use Rattle.line_words.specs.declared.lists.Pair.{Pair}
 use Rattle.command_grammar.specs.declared.command.Command.{Command}
 use Rattle.command_grammar.specs.declared.command.Command.TheVariants as command
@@ -9,20 +10,6 @@ use Rattle.command_grammar.specs.declared.command.Command.TheVariants as command
 -- at most this
 abbrev pub is_up_to : ℕ → ℕ → Bool
 is_up_to high n = nat_le n high
-
--- -2147483648 to 4294967295
-abbrev pub is_wide : ℤ → Bool
-is_wide (pos n) = nat_le n 4294967295
-is_wide (negsuc n) = nat_le n 2147483647
-
--- a word, if there is one
-abbrev pub is_some_word : Option (List ℕ) → Bool
-is_some_word None = true
-is_some_word (Some w) = is_word w
-
--- a key, and a sentence as its value
-abbrev pub is_pair : Pair → Bool
-is_pair p = is_key p.key && is_sentence p.value
 
 -- one or more of a kind
 abbrev pub are_some : {A : Type 0} → (A → Bool) → List A → Bool

@@ -3,3 +3,4 @@ pub mod Numbers
 pub mod Parts
 pub mod Words
 pub mod Sentences
+pub mod Kinds

@@ -7,7 +7,7 @@ use Rattle.std.proofs.lemmas.Bool.{and_parts, and_from, eqb-true, ne_eqb, leb-tr
 use Rattle.std.proofs.lemmas.Fmt.{digits_decimal}
 use Rattle.line_words.specs.Bytes.{is_word_byte, is_digit}
 use Rattle.line_words.specs.Parts.{Ends}
-use Rattle.reply_grammar.specs.Kinds.{is_wide}
+use Rattle.line_words.specs.Kinds.{is_wide}
 use Rattle.reply_grammar.specs.Reading.{◌>>=◌, piece_at, number_in, number_at, wide_at, natural, negative, whole}
 use Rattle.reply_grammar.proofs.Pieces.{bind_some, guard_some, some_is, piece_again, piece_takes}
 use Rattle.reply_grammar.proofs.Numbers.{all_digits, own, natural_again, natural_takes}

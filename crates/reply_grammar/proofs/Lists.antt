@@ -8,7 +8,8 @@ use Rattle.line_words.specs.declared.lists.Pair.{Pair}
 use Rattle.line_words.specs.Parts.{Ends, before, between, from, with_front}
 use Rattle.line_words.proofs.Splitting.{before-append, before-from, from-append}
 use Rattle.line_words.proofs.Splitting.{between-cons, from_ends, lacks}
-use Rattle.reply_grammar.specs.Kinds.{is_pair, words_text, pairs_text, pair_text}
+use Rattle.reply_grammar.specs.Kinds.{words_text, pairs_text, pair_text}
+use Rattle.line_words.specs.Kinds.{is_pair}
 use Rattle.reply_grammar.specs.Reading.{◌>>=◌, all_of, many, if_is, pair_of, pair_in}
 use Rattle.reply_grammar.proofs.Pieces.{bind_some, guard_some, some_is}
 

@@ -8,7 +8,8 @@ use Rattle.std.proofs.lemmas.Fmt.{digits_decimal}
 use Rattle.line_words.specs.Bytes.{is_word, is_key, is_name, is_sentence, is_text, is_word_byte, is_key_byte, is_name_byte, is_sentence_byte, is_text_byte}
 use Rattle.line_words.specs.declared.lists.Pair.{Pair}
 use Rattle.reply_grammar.specs.declared.Reply.{Reply}
-use Rattle.reply_grammar.specs.Kinds.{Kind, Word, Name, Number, Wide, Flag, OptionalWord, Words, Names, Sentence, NextSentence, Text, Pairs, Value, Values, is_pair, is_some_word, fits, printed, all_fit, all_printed, words_text, pairs_text, pair_text, optional_text}
+use Rattle.reply_grammar.specs.Kinds.{Kind, Word, Name, Number, Wide, Flag, OptionalWord, Words, Names, Sentence, NextSentence, Text, Pairs, Value, Values, fits, printed, all_fit, all_printed, words_text, pairs_text, pair_text, optional_text}
+use Rattle.line_words.specs.Kinds.{is_pair, is_some_word}
 use Rattle.reply_grammar.specs.Replies.{word_of, kinds_of, command_of, values_of, Fits, body, id_text, line_text, IsId}
 use Rattle.reply_grammar.proofs.Numbers.{own}
 use Rattle.reply_grammar.proofs.Fields.{digits_words, signed_words}

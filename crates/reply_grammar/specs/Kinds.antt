@@ -3,6 +3,7 @@ use Rattle.std.specs.Prelude.{ℕ, ℤ, pos, negsuc, Bool, true, if◌then◌els
 use Rattle.std.specs.Fmt.{signed_decimal}
 use Rattle.std.specs.List.{list_all}
 use Rattle.line_words.specs.Bytes.{is_word, is_key, is_name, is_sentence, is_text}
+use Rattle.line_words.specs.Kinds.{is_pair, is_some_word, is_wide}
 use Rattle.line_words.specs.declared.lists.Pair.{Pair}
 
 pub data Kind : Type 0 where
@@ -43,20 +44,6 @@ Value Sentence = List ℕ
 Value NextSentence = List ℕ
 Value Text = List ℕ
 Value Pairs = List Pair
-
--- -2147483648 to 4294967295
-abbrev pub is_wide : ℤ → Bool
-is_wide (pos n) = nat_le n 4294967295
-is_wide (negsuc n) = nat_le n 2147483647
-
--- a key, and a sentence as its value
-abbrev pub is_pair : Pair → Bool
-is_pair p = is_key p.key && is_sentence p.value
-
--- a word, if there is one
-abbrev pub is_some_word : Option (List ℕ) → Bool
-is_some_word None = true
-is_some_word (Some w) = is_word w
 
 -- the rule of each kind
 abbrev pub fits : (k : Kind) → Value k → Bool

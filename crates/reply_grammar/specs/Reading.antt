@@ -3,7 +3,8 @@ use Rattle.std.specs.Prelude.{◌≡◌, ℕ, zero, suc, ℤ, pos, negsuc, Bool,
 use Rattle.line_words.specs.Bytes.{is_word, is_key, is_name, is_sentence, is_text}
 use Rattle.line_words.specs.Numbers.{is_digits, value_of}
 use Rattle.line_words.specs.Parts.{before, from, between}
-use Rattle.reply_grammar.specs.Kinds.{Kind, Word, Name, Number, Wide, Flag, OptionalWord, Words, Names, Sentence, NextSentence, Text, Pairs, Value, Values, is_wide}
+use Rattle.reply_grammar.specs.Kinds.{Kind, Word, Name, Number, Wide, Flag, OptionalWord, Words, Names, Sentence, NextSentence, Text, Pairs, Value, Values}
+use Rattle.line_words.specs.Kinds.{is_wide}
 use Rattle.line_words.specs.declared.lists.Pair.{Pair}
 use Rattle.reply_grammar.specs.declared.reading.ReadError.{ReadError}
 use Rattle.reply_grammar.specs.declared.reading.ReadError.TheVariants as errors
