@@ -35,7 +35,7 @@ impl<'a> Words<'a> {
     pub fn rest(&self) -> &'a [u8]
         ensures { result.now ≡ self.now }
     {
-        self.rest
+        self.rest // lent for as long as the line
     }
 
     /// Passes over the spaces in front.

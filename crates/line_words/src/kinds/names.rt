@@ -42,7 +42,7 @@ impl<'a> Name<'a> {
         ensures value { result.now ≡ self.now }
         ensures kind { IsTrue (is_name self.now) }
     {
-        self.bytes
+        self.bytes // lent for as long as the line
     }
 }
 
@@ -99,6 +99,6 @@ impl NameBuf {
         ensures value { result.items ≡ self }
         ensures kind { IsTrue (is_name self) }
     {
-        self.bytes
+        self.bytes // moved, not copied
     }
 }

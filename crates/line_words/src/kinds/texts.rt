@@ -42,7 +42,7 @@ impl<'a> Text<'a> {
         ensures value { result.now ≡ self.now }
         ensures kind { IsTrue (is_text self.now) }
     {
-        self.bytes
+        self.bytes // lent for as long as the line
     }
 }
 
@@ -99,6 +99,6 @@ impl TextBuf {
         ensures value { result.items ≡ self }
         ensures kind { IsTrue (is_text self) }
     {
-        self.bytes
+        self.bytes // moved, not copied
     }
 }
