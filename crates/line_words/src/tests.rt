@@ -106,3 +106,13 @@ fn owned_kinds_are_made_and_given_back(rt: HostRuntime) -> Result<(), Fail> {
     assert_eq!(rt; pairs.into_vec().len(), 1);
     Ok(())
 }
+
+#[test]
+fn names_are_ordered_by_their_bytes(rt: HostRuntime) -> Result<(), Fail> {
+    let alloc = rt.alloc();
+    let anna = NameBuf::of(Vec::from_slice(alloc, b"Anna")?).ok_or("name")?;
+    let ann = NameBuf::of(Vec::from_slice(alloc, b"Ann")?).ok_or("name")?;
+    let lower = NameBuf::of(Vec::from_slice(alloc, b"anna")?).ok_or("name")?;
+    assert!(rt; ann < anna && anna < lower && anna != lower);
+    Ok(())
+}

@@ -1,10 +1,14 @@
 //! A name: 1 to 20 ASCII letters, digits, `_`, `[` and `]`.
 
-ghost use Rattle.std.specs.Prelude.{◌≡◌, ◌↔◌, IfOk, IfSome, IsSome, IsTrue};
+ghost use Rattle.std.specs.Prelude.{◌≡◌, ◌↔◌, nat_eq, IfOk, IfSome, IsSome, IsTrue, Some, refl};
+ghost use Rattle.std.specs.Ordering.{nat_cmp};
+ghost use Rattle.std.specs.Cmp.{partial_equiv_from_equiv};
+ghost use Rattle.std.specs.Cmp.Lexicographic.{pointwise, slice_cmp, nat_list_cmp_total, nat_list_eq_equiv, texts_po, texts_ties};
 ghost use Rattle.line_words.specs.Bytes.{is_name};
 
 use crate::bytes::is_name;
 use std::alloc::{AllocError, Global};
+use std::cmp::Ordering;
 use std::marker::Model;
 
 /// Lent bytes that are a name: 1 to 20 ASCII letters, digits, `_`, `[` and `]`.
@@ -46,7 +50,8 @@ impl<'a> Name<'a> {
     }
 }
 
-/// Owned bytes that are a name: 1 to 20 ASCII letters, digits, `_`, `[` and `]`.
+/// Owned bytes that are a name: 1 to 20 ASCII letters, digits, `_`, `[` and `]`. Names are ordered
+/// by their bytes.
 #[derive(Debug, Drop)]
 pub struct NameBuf {
     bytes: Vec<u8>,
@@ -100,5 +105,43 @@ impl NameBuf {
         ensures kind { IsTrue (is_name self) }
     {
         self.bytes // moved, not copied
+    }
+}
+
+impl PartialEq for NameBuf {
+    ghost eq = { pointwise nat_eq };
+
+    ghost laws = { partial_equiv_from_equiv nat_list_eq_equiv };
+
+    fn eq(&self, other: &Self) -> bool {
+        self.bytes == other.bytes
+    }
+}
+
+impl Eq for NameBuf {
+    ghost laws = { nat_list_eq_equiv };
+}
+
+impl PartialOrd for NameBuf {
+    ghost partial_cmp = { λ x y. Some (slice_cmp nat_cmp x y) };
+
+    ghost laws = { texts_po };
+
+    fn partial_cmp(&self, other: &Self) -> Option<Ordering> {
+        Some(self.cmp(other))
+    }
+}
+
+impl Ord for NameBuf {
+    ghost cmp = { slice_cmp nat_cmp };
+
+    ghost total = { nat_list_cmp_total };
+
+    ghost matches_partial_cmp = { λ x y. refl };
+
+    ghost matches_eq = { texts_ties };
+
+    fn cmp(&self, other: &Self) -> Ordering {
+        self.bytes.cmp(&other.bytes)
     }
 }
