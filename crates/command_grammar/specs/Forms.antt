@@ -1,7 +1,6 @@
 -- The commands: their words, and the form of the arguments behind each.
-use Rattle.std.specs.Prelude.{◌≡◌, ℕ, Bool, nat_eq, List, [], ◌∷◌, codes, Option, Some, None}
+use Rattle.std.specs.Prelude.{◌≡◌, ℕ, Bool, nat_eq, find, List, [], ◌∷◌, codes, Option, Some, None}
 use Rattle.std.specs.Cmp.Lexicographic.{pointwise}
-use Rattle.std.specs.Map.{lookup}
 use Rattle.command_grammar.specs.declared.command.ReadFault.TheVariants as fault
 use Rattle.command_grammar.specs.declared.command.Command.{Command}
 use Rattle.command_grammar.specs.declared.command.Command.TheVariants as command
@@ -9,39 +8,74 @@ use Rattle.command_grammar.specs.declared.command_word.CommandWord.{CommandWord}
 use Rattle.command_grammar.specs.declared.command_word.CommandWord.TheVariants as word
 use Rattle.command_grammar.specs.Arguments.{IsFault, Word, OptionalWord, Name, Natural, Wide, Flag, Text, Sentences, Sentence, Pairs, Words}
 
--- the command words
-abbrev pub command_words : List (List ℕ × CommandWord)
-command_words = (codes "PING", word.Ping)
-    ∷ (codes "EXIT", word.Exit)
-    ∷ (codes "LOGIN", word.Login)
-    ∷ (codes "MYSTATUS", word.MyStatus)
-    ∷ (codes "CHANNELS", word.Channels)
-    ∷ (codes "JOIN", word.Join)
-    ∷ (codes "LEAVE", word.Leave)
-    ∷ (codes "SAY", word.Say)
-    ∷ (codes "SAYEX", word.SayEx)
-    ∷ (codes "SAYPRIVATE", word.SayPrivate)
-    ∷ (codes "OPENBATTLE", word.OpenBattle)
-    ∷ (codes "JOINBATTLE", word.JoinBattle)
-    ∷ (codes "LEAVEBATTLE", word.LeaveBattle)
-    ∷ (codes "UPDATEBATTLEINFO", word.UpdateBattleInfo)
-    ∷ (codes "MYBATTLESTATUS", word.MyBattleStatus)
-    ∷ (codes "SAYBATTLE", word.SayBattle)
-    ∷ (codes "SAYBATTLEEX", word.SayBattleEx)
-    ∷ (codes "ADDBOT", word.AddBot)
-    ∷ (codes "UPDATEBOT", word.UpdateBot)
-    ∷ (codes "REMOVEBOT", word.RemoveBot)
-    ∷ (codes "ADDSTARTRECT", word.AddStartRect)
-    ∷ (codes "REMOVESTARTRECT", word.RemoveStartRect)
-    ∷ (codes "SETSCRIPTTAGS", word.SetScriptTags)
-    ∷ (codes "REMOVESCRIPTTAGS", word.RemoveScriptTags)
-    ∷ (codes "HANDICAP", word.Handicap)
-    ∷ (codes "FORCETEAMNO", word.ForceTeamNo)
-    ∷ (codes "FORCEALLYNO", word.ForceAllyNo)
-    ∷ (codes "FORCETEAMCOLOR", word.ForceTeamColor)
-    ∷ (codes "FORCESPECTATORMODE", word.ForceSpectatorMode)
-    ∷ (codes "KICKFROMBATTLE", word.KickFromBattle)
-    ∷ (codes "RING", word.Ring)
+-- the word of each command ..
+abbrev pub word_of : CommandWord → List ℕ
+word_of word.Ping = codes "PING"
+word_of word.Exit = codes "EXIT"
+word_of word.Login = codes "LOGIN"
+word_of word.MyStatus = codes "MYSTATUS"
+word_of word.Channels = codes "CHANNELS"
+word_of word.Join = codes "JOIN"
+word_of word.Leave = codes "LEAVE"
+word_of word.Say = codes "SAY"
+word_of word.SayEx = codes "SAYEX"
+word_of word.SayPrivate = codes "SAYPRIVATE"
+word_of word.OpenBattle = codes "OPENBATTLE"
+word_of word.JoinBattle = codes "JOINBATTLE"
+word_of word.LeaveBattle = codes "LEAVEBATTLE"
+word_of word.UpdateBattleInfo = codes "UPDATEBATTLEINFO"
+word_of word.MyBattleStatus = codes "MYBATTLESTATUS"
+word_of word.SayBattle = codes "SAYBATTLE"
+word_of word.SayBattleEx = codes "SAYBATTLEEX"
+word_of word.AddBot = codes "ADDBOT"
+word_of word.UpdateBot = codes "UPDATEBOT"
+word_of word.RemoveBot = codes "REMOVEBOT"
+word_of word.AddStartRect = codes "ADDSTARTRECT"
+word_of word.RemoveStartRect = codes "REMOVESTARTRECT"
+word_of word.SetScriptTags = codes "SETSCRIPTTAGS"
+word_of word.RemoveScriptTags = codes "REMOVESCRIPTTAGS"
+word_of word.Handicap = codes "HANDICAP"
+word_of word.ForceTeamNo = codes "FORCETEAMNO"
+word_of word.ForceAllyNo = codes "FORCEALLYNO"
+word_of word.ForceTeamColor = codes "FORCETEAMCOLOR"
+word_of word.ForceSpectatorMode = codes "FORCESPECTATORMODE"
+word_of word.KickFromBattle = codes "KICKFROMBATTLE"
+word_of word.Ring = codes "RING"
+
+-- .. and all of them
+abbrev pub commands : List CommandWord
+commands =
+    word.Ping
+    ∷ word.Exit
+    ∷ word.Login
+    ∷ word.MyStatus
+    ∷ word.Channels
+    ∷ word.Join
+    ∷ word.Leave
+    ∷ word.Say
+    ∷ word.SayEx
+    ∷ word.SayPrivate
+    ∷ word.OpenBattle
+    ∷ word.JoinBattle
+    ∷ word.LeaveBattle
+    ∷ word.UpdateBattleInfo
+    ∷ word.MyBattleStatus
+    ∷ word.SayBattle
+    ∷ word.SayBattleEx
+    ∷ word.AddBot
+    ∷ word.UpdateBot
+    ∷ word.RemoveBot
+    ∷ word.AddStartRect
+    ∷ word.RemoveStartRect
+    ∷ word.SetScriptTags
+    ∷ word.RemoveScriptTags
+    ∷ word.Handicap
+    ∷ word.ForceTeamNo
+    ∷ word.ForceAllyNo
+    ∷ word.ForceTeamColor
+    ∷ word.ForceSpectatorMode
+    ∷ word.KickFromBattle
+    ∷ word.Ring
     ∷ []
 
 -- two words are the same, byte for byte
@@ -50,7 +84,7 @@ is_same = pointwise nat_eq
 
 -- the command of that word
 abbrev pub command_named : List ℕ → Option CommandWord
-command_named name = lookup (is_same name) command_words
+command_named name = find (λ c. is_same name (word_of c)) commands
 
 -- rest, which is what stands behind the command word, and the command that it makes
 abbrev pub Form : Option CommandWord → List ℕ → Command → Type 0

@@ -1,9 +1,8 @@
 -- The kinds that the arguments of a command keep.
-use Rattle.std.specs.Prelude.{ℕ, ℤ, pos, negsuc, Bool, true, ◌&&◌, nat_le, List, length, Option, Some, None}
+use Rattle.std.specs.Prelude.{ℕ, Bool, true, ◌&&◌, nat_le, List, length}
 use Rattle.std.specs.List.{list_all}
-use Rattle.line_words.specs.Bytes.{is_key, is_name, is_sentence, is_text, is_word}
+use Rattle.line_words.specs.Bytes.{is_name, is_sentence, is_text, is_word}
 use Rattle.line_words.specs.Kinds.{is_pair, is_some_word, is_wide}
-use Rattle.line_words.specs.declared.lists.Pair.{Pair}
 use Rattle.command_grammar.specs.declared.command.Command.{Command}
 use Rattle.command_grammar.specs.declared.command.Command.TheVariants as command
 

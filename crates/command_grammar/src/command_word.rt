@@ -1,7 +1,7 @@
 //! The command words.
 
 ghost use Rattle.std.specs.Prelude.{◌≡◌};
-ghost use Rattle.command_grammar.specs.Forms.{command_named, is_same};
+ghost use Rattle.command_grammar.specs.Forms.{command_named, is_same, word_of};
 
 /// The commands by their first word.
 #[derive(Clone, Copy, PartialEq, Eq, Debug)]
@@ -39,104 +39,89 @@ pub(crate) enum CommandWord {
     Ring,
 }
 
-/// The command of this word, byte for byte.
-pub(crate) fn command_named(word: &[u8]) -> Option<CommandWord>
-    ensures { result ≡ command_named word.now }
-{
-    if is_same(word, b"PING") {
-        return Some(CommandWord::Ping);
+// The frequent ones first, since they are tried in this order.
+const ALL: [CommandWord; 31] = [
+    CommandWord::Ping,
+    CommandWord::Exit,
+    CommandWord::Login,
+    CommandWord::MyStatus,
+    CommandWord::Channels,
+    CommandWord::Join,
+    CommandWord::Leave,
+    CommandWord::Say,
+    CommandWord::SayEx,
+    CommandWord::SayPrivate,
+    CommandWord::OpenBattle,
+    CommandWord::JoinBattle,
+    CommandWord::LeaveBattle,
+    CommandWord::UpdateBattleInfo,
+    CommandWord::MyBattleStatus,
+    CommandWord::SayBattle,
+    CommandWord::SayBattleEx,
+    CommandWord::AddBot,
+    CommandWord::UpdateBot,
+    CommandWord::RemoveBot,
+    CommandWord::AddStartRect,
+    CommandWord::RemoveStartRect,
+    CommandWord::SetScriptTags,
+    CommandWord::RemoveScriptTags,
+    CommandWord::Handicap,
+    CommandWord::ForceTeamNo,
+    CommandWord::ForceAllyNo,
+    CommandWord::ForceTeamColor,
+    CommandWord::ForceSpectatorMode,
+    CommandWord::KickFromBattle,
+    CommandWord::Ring,
+];
+
+impl CommandWord {
+    /// The word as it is sent.
+    fn text(self) -> &'static [u8]
+        ensures { result.now ≡ word_of self }
+    {
+        match self {
+            CommandWord::Ping => b"PING",
+            CommandWord::Exit => b"EXIT",
+            CommandWord::Login => b"LOGIN",
+            CommandWord::MyStatus => b"MYSTATUS",
+            CommandWord::Channels => b"CHANNELS",
+            CommandWord::Join => b"JOIN",
+            CommandWord::Leave => b"LEAVE",
+            CommandWord::Say => b"SAY",
+            CommandWord::SayEx => b"SAYEX",
+            CommandWord::SayPrivate => b"SAYPRIVATE",
+            CommandWord::OpenBattle => b"OPENBATTLE",
+            CommandWord::JoinBattle => b"JOINBATTLE",
+            CommandWord::LeaveBattle => b"LEAVEBATTLE",
+            CommandWord::UpdateBattleInfo => b"UPDATEBATTLEINFO",
+            CommandWord::MyBattleStatus => b"MYBATTLESTATUS",
+            CommandWord::SayBattle => b"SAYBATTLE",
+            CommandWord::SayBattleEx => b"SAYBATTLEEX",
+            CommandWord::AddBot => b"ADDBOT",
+            CommandWord::UpdateBot => b"UPDATEBOT",
+            CommandWord::RemoveBot => b"REMOVEBOT",
+            CommandWord::AddStartRect => b"ADDSTARTRECT",
+            CommandWord::RemoveStartRect => b"REMOVESTARTRECT",
+            CommandWord::SetScriptTags => b"SETSCRIPTTAGS",
+            CommandWord::RemoveScriptTags => b"REMOVESCRIPTTAGS",
+            CommandWord::Handicap => b"HANDICAP",
+            CommandWord::ForceTeamNo => b"FORCETEAMNO",
+            CommandWord::ForceAllyNo => b"FORCEALLYNO",
+            CommandWord::ForceTeamColor => b"FORCETEAMCOLOR",
+            CommandWord::ForceSpectatorMode => b"FORCESPECTATORMODE",
+            CommandWord::KickFromBattle => b"KICKFROMBATTLE",
+            CommandWord::Ring => b"RING",
+        }
     }
-    if is_same(word, b"EXIT") {
-        return Some(CommandWord::Exit);
+
+    /// The command of this word, byte for byte.
+    pub(crate) fn named(word: &[u8]) -> Option<CommandWord>
+        ensures { result ≡ command_named word.now }
+    {
+        ALL.iter()
+            .copied()
+            .find(|command| is_same(word, command.text()))
     }
-    if is_same(word, b"LOGIN") {
-        return Some(CommandWord::Login);
-    }
-    if is_same(word, b"MYSTATUS") {
-        return Some(CommandWord::MyStatus);
-    }
-    if is_same(word, b"CHANNELS") {
-        return Some(CommandWord::Channels);
-    }
-    if is_same(word, b"JOIN") {
-        return Some(CommandWord::Join);
-    }
-    if is_same(word, b"LEAVE") {
-        return Some(CommandWord::Leave);
-    }
-    if is_same(word, b"SAY") {
-        return Some(CommandWord::Say);
-    }
-    if is_same(word, b"SAYEX") {
-        return Some(CommandWord::SayEx);
-    }
-    if is_same(word, b"SAYPRIVATE") {
-        return Some(CommandWord::SayPrivate);
-    }
-    if is_same(word, b"OPENBATTLE") {
-        return Some(CommandWord::OpenBattle);
-    }
-    if is_same(word, b"JOINBATTLE") {
-        return Some(CommandWord::JoinBattle);
-    }
-    if is_same(word, b"LEAVEBATTLE") {
-        return Some(CommandWord::LeaveBattle);
-    }
-    if is_same(word, b"UPDATEBATTLEINFO") {
-        return Some(CommandWord::UpdateBattleInfo);
-    }
-    if is_same(word, b"MYBATTLESTATUS") {
-        return Some(CommandWord::MyBattleStatus);
-    }
-    if is_same(word, b"SAYBATTLE") {
-        return Some(CommandWord::SayBattle);
-    }
-    if is_same(word, b"SAYBATTLEEX") {
-        return Some(CommandWord::SayBattleEx);
-    }
-    if is_same(word, b"ADDBOT") {
-        return Some(CommandWord::AddBot);
-    }
-    if is_same(word, b"UPDATEBOT") {
-        return Some(CommandWord::UpdateBot);
-    }
-    if is_same(word, b"REMOVEBOT") {
-        return Some(CommandWord::RemoveBot);
-    }
-    if is_same(word, b"ADDSTARTRECT") {
-        return Some(CommandWord::AddStartRect);
-    }
-    if is_same(word, b"REMOVESTARTRECT") {
-        return Some(CommandWord::RemoveStartRect);
-    }
-    if is_same(word, b"SETSCRIPTTAGS") {
-        return Some(CommandWord::SetScriptTags);
-    }
-    if is_same(word, b"REMOVESCRIPTTAGS") {
-        return Some(CommandWord::RemoveScriptTags);
-    }
-    if is_same(word, b"HANDICAP") {
-        return Some(CommandWord::Handicap);
-    }
-    if is_same(word, b"FORCETEAMNO") {
-        return Some(CommandWord::ForceTeamNo);
-    }
-    if is_same(word, b"FORCEALLYNO") {
-        return Some(CommandWord::ForceAllyNo);
-    }
-    if is_same(word, b"FORCETEAMCOLOR") {
-        return Some(CommandWord::ForceTeamColor);
-    }
-    if is_same(word, b"FORCESPECTATORMODE") {
-        return Some(CommandWord::ForceSpectatorMode);
-    }
-    if is_same(word, b"KICKFROMBATTLE") {
-        return Some(CommandWord::KickFromBattle);
-    }
-    if is_same(word, b"RING") {
-        return Some(CommandWord::Ring);
-    }
-    None
 }
 
 fn is_same(word: &[u8], other: &[u8]) -> bool

@@ -8,7 +8,7 @@ ghost use Rattle.command_grammar.specs.Reading.{Gives, without_spaces, arguments
 ghost use Rattle.command_grammar.specs.Reads.{Reads};
 
 use crate::command::{Command, ReadFault, Request};
-use crate::command_word::{CommandWord, command_named};
+use crate::command_word::CommandWord;
 use crate::fault::ReadError;
 use crate::forms;
 use line_words::{Words, is_text, read_number, split_at_byte};
@@ -111,7 +111,7 @@ fn read_command(alloc: Global, text: &[u8]) -> Result<Command, ReadError>
         return Err(ReadError::Fault(ReadFault::BadByte));
     }
     let (word, rest) = split_at_byte(text, b' ');
-    match command_named(word) {
+    match CommandWord::named(word) {
         None => Err(ReadError::Fault(ReadFault::UnknownCommand)),
         Some(word) => read_arguments(alloc, word, rest),
     }

@@ -12,7 +12,9 @@ mod reading;
 
 pub use laws::{each_reads_alone, no_break_inside, no_two_alike, reading_is_inverse};
 use line_words::{NameBuf, NameList, PairList, SentenceBuf, TextBuf, WordBuf, WordList};
-pub use printing::print;
+pub use printing::{
+    print, print_accepted, print_add_user, print_client_status, print_motd, print_remove_user,
+};
 pub use reading::read_reply;
 
 /// A line to a client, its fields the arguments in their order.

@@ -1,20 +1,35 @@
 //! A reply as its line.
 
-ghost use Rattle.std.specs.Prelude.{◌≡◌, [], ◌∷◌, ◌++◌, is_ok, if◌then◌else◌};
-ghost use Rattle.reply_grammar.specs.Replies.{printed_line, word_of};
-ghost use Rattle.reply_grammar.specs.Written.{pieces_text};
+ghost use Rattle.std.specs.Prelude.{◌≡◌, ◌++◌, IfOk, is_ok, if◌then◌else◌, length, take};
+ghost use Rattle.reply_grammar.specs.Replies.{printed_line};
 
+mod battles;
+mod channels;
 mod pieces;
+mod room;
+mod session;
 
 use crate::Reply;
-use crate::command_word::CommandWord;
-use pieces::{Argument, put_pieces};
+use pieces::whole;
+pub use session::{
+    print_accepted, print_add_user, print_client_status, print_motd, print_remove_user,
+};
 use std::alloc::AllocError;
 
 /// Appends the line of a reply with its LF, behind `#id ` where there is an id. Where memory is
 /// refused nothing is appended.
+#[tactic(auto, using(crate::proofs::Kept::kept_then, crate::proofs::Kept::kept_more))]
 pub fn print(reply: &Reply, id: Option<u32>, out: &mut Vec<u8>) -> Result<(), AllocError>
     ensures { out.new.items ≡ (if is_ok result then out.old.items ++ printed_line id reply.now else out.old.items) }
+{
+    let start = out.len();
+    let done = put_reply(out, id, reply);
+    whole(out, start, done)
+}
+
+fn put_reply(out: &mut Vec<u8>, id: Option<u32>, reply: &Reply) -> Result<(), AllocError>
+    ensures ok { IfOk result (λ _. out.new.items ≡ out.old.items ++ printed_line id reply.now) }
+    ensures kept { take (length out.old.items) out.new.items ≡ out.old.items }
 {
     match reply {
         Reply::TasServer {
@@ -22,220 +37,123 @@ pub fn print(reply: &Reply, id: Option<u32>, out: &mut Vec<u8>) -> Result<(), Al
             spring_version,
             udp_port,
             server_mode,
-        } => put_four(
+        } => session::put_tas_server(
             out,
             id,
-            CommandWord::TasServer,
-            Argument::Word(protocol_version),
-            Argument::Word(spring_version),
-            Argument::Number(*udp_port as u32),
-            Argument::Number(*server_mode as u32),
+            protocol_version,
+            spring_version,
+            *udp_port,
+            *server_mode,
         ),
-        Reply::Accepted { user } => put_one(out, id, CommandWord::Accepted, Argument::Name(user)),
-        Reply::Denied { text } => put_one(out, id, CommandWord::Denied, Argument::Text(text)),
-        Reply::Motd { text } => put_one(out, id, CommandWord::Motd, Argument::Text(text)),
-        Reply::ServerMsg { text } => put_one(out, id, CommandWord::ServerMsg, Argument::Text(text)),
+        Reply::Accepted { user } => session::put_accepted(out, id, user),
+        Reply::Denied { text } => session::put_denied(out, id, text),
+        Reply::Motd { text } => session::put_motd(out, id, text),
+        Reply::ServerMsg { text } => session::put_server_msg(out, id, text),
         Reply::AddUser {
             user,
             country,
             cpu,
             account,
-        } => put_four(
-            out,
-            id,
-            CommandWord::AddUser,
-            Argument::Name(user),
-            Argument::Word(country),
-            Argument::Wide(cpu),
-            Argument::Number(*account),
-        ),
-        Reply::RemoveUser { user } => put_one(
-            out,
-            id,
-            CommandWord::RemoveUser,
-            Argument::Name(user),
-        ),
-        Reply::ClientStatus { user, status } => put_two(
-            out,
-            id,
-            CommandWord::ClientStatus,
-            Argument::Name(user),
-            Argument::Number(*status),
-        ),
-        Reply::LoginInfoEnd => put_none(out, id, CommandWord::LoginInfoEnd),
-        Reply::Pong => put_none(out, id, CommandWord::Pong),
-        Reply::Join { channel } => put_one(out, id, CommandWord::Join, Argument::Name(channel)),
-        Reply::Clients { channel, names } => put_two(
-            out,
-            id,
-            CommandWord::Clients,
-            Argument::Name(channel),
-            Argument::Names(names),
-        ),
-        Reply::Joined { channel, user } => put_two(
-            out,
-            id,
-            CommandWord::Joined,
-            Argument::Name(channel),
-            Argument::Name(user),
-        ),
-        Reply::Left { channel, user } => put_two(
-            out,
-            id,
-            CommandWord::Left,
-            Argument::Name(channel),
-            Argument::Name(user),
-        ),
-        Reply::JoinFailed { channel, reason } => put_two(
-            out,
-            id,
-            CommandWord::JoinFailed,
-            Argument::Name(channel),
-            Argument::Text(reason),
+        } => session::put_add_user(out, id, user, country, cpu, *account),
+        Reply::RemoveUser { user } => session::put_remove_user(out, id, user),
+        Reply::ClientStatus { user, status } => session::put_client_status(out, id, user, *status),
+        Reply::LoginInfoEnd => session::put_login_info_end(out, id),
+        Reply::Pong => session::put_pong(out, id),
+        Reply::Join { channel } => channels::put_join(out, id, channel),
+        Reply::Clients { channel, names } => channels::put_clients(out, id, channel, names),
+        Reply::Joined { channel, user } => channels::put_joined(out, id, channel, user),
+        Reply::Left { channel, user } => channels::put_left(out, id, channel, user),
+        Reply::JoinFailed { channel, reason } => channels::put_join_failed(
+            out, id, channel, reason,
         ),
         Reply::Said {
             channel,
             user,
             text,
-        } => put_three(
-            out,
-            id,
-            CommandWord::Said,
-            Argument::Name(channel),
-            Argument::Name(user),
-            Argument::Text(text),
-        ),
+        } => channels::put_said(out, id, channel, user, text),
         Reply::SaidEx {
             channel,
             user,
             text,
-        } => put_three(
-            out,
-            id,
-            CommandWord::SaidEx,
-            Argument::Name(channel),
-            Argument::Name(user),
-            Argument::Text(text),
-        ),
-        Reply::SayPrivate { user, text } => put_two(
-            out,
-            id,
-            CommandWord::SayPrivate,
-            Argument::Name(user),
-            Argument::Text(text),
-        ),
-        Reply::SaidPrivate { user, text } => put_two(
-            out,
-            id,
-            CommandWord::SaidPrivate,
-            Argument::Name(user),
-            Argument::Text(text),
-        ),
+        } => channels::put_said_ex(out, id, channel, user, text),
+        Reply::SayPrivate { user, text } => channels::put_say_private(out, id, user, text),
+        Reply::SaidPrivate { user, text } => channels::put_said_private(out, id, user, text),
         Reply::Channel {
             channel,
             user_count,
-        } => put_two(
+        } => channels::put_channel(out, id, channel, *user_count),
+        Reply::EndOfChannels => channels::put_end_of_channels(out, id),
+        Reply::OpenBattle { battle } => battles::put_open_battle(out, id, *battle),
+        Reply::OpenBattleFailed { text } => battles::put_open_battle_failed(out, id, text),
+        Reply::BattleOpened {
+            battle,
+            battle_type,
+            nat_type,
+            founder,
+            ip,
+            port,
+            max_players,
+            passworded,
+            rank,
+            map_hash,
+            engine_name,
+            engine_version,
+            map,
+            title,
+            game_name,
+        } => battles::put_battle_opened(
             out,
             id,
-            CommandWord::Channel,
-            Argument::Name(channel),
-            Argument::Number(*user_count),
+            *battle,
+            *battle_type,
+            *nat_type,
+            founder,
+            ip,
+            *port,
+            *max_players,
+            *passworded,
+            rank,
+            map_hash,
+            engine_name,
+            engine_version,
+            map,
+            title,
+            game_name,
         ),
-        Reply::EndOfChannels => put_none(out, id, CommandWord::EndOfChannels),
-        Reply::OpenBattle { battle } => put_one(
-            out,
-            id,
-            CommandWord::OpenBattle,
-            Argument::Number(*battle),
+        Reply::BattleClosed { battle } => battles::put_battle_closed(out, id, *battle),
+        Reply::JoinBattle { battle, game_hash } => battles::put_join_battle(
+            out, id, *battle, game_hash,
         ),
-        Reply::OpenBattleFailed { text } => put_one(
-            out,
-            id,
-            CommandWord::OpenBattleFailed,
-            Argument::Text(text),
-        ),
-        Reply::BattleOpened { .. } => print_battle_opened(reply, id, out),
-        Reply::BattleClosed { battle } => put_one(
-            out,
-            id,
-            CommandWord::BattleClosed,
-            Argument::Number(*battle),
-        ),
-        Reply::JoinBattle { battle, game_hash } => put_two(
-            out,
-            id,
-            CommandWord::JoinBattle,
-            Argument::Number(*battle),
-            Argument::Wide(game_hash),
-        ),
-        Reply::JoinBattleFailed { text } => put_one(
-            out,
-            id,
-            CommandWord::JoinBattleFailed,
-            Argument::Text(text),
-        ),
+        Reply::JoinBattleFailed { text } => battles::put_join_battle_failed(out, id, text),
         Reply::JoinedBattle {
             battle,
             user,
             script_password,
-        } => put_three(
-            out,
-            id,
-            CommandWord::JoinedBattle,
-            Argument::Number(*battle),
-            Argument::Name(user),
-            Argument::OptionalWord(script_password),
-        ),
-        Reply::LeftBattle { battle, user } => put_two(
-            out,
-            id,
-            CommandWord::LeftBattle,
-            Argument::Number(*battle),
-            Argument::Name(user),
-        ),
+        } => battles::put_joined_battle(out, id, *battle, user, script_password),
+        Reply::LeftBattle { battle, user } => battles::put_left_battle(out, id, *battle, user),
         Reply::UpdateBattleInfo {
             battle,
             spectator_count,
             locked,
             map_hash,
             map,
-        } => put_five(
+        } => battles::put_update_battle_info(
             out,
             id,
-            CommandWord::UpdateBattleInfo,
-            Argument::Number(*battle),
-            Argument::Number(*spectator_count as u32),
-            Argument::Flag(*locked),
-            Argument::Wide(map_hash),
-            Argument::Sentence(map),
+            *battle,
+            *spectator_count,
+            *locked,
+            map_hash,
+            map,
         ),
-        Reply::RequestBattleStatus => put_none(out, id, CommandWord::RequestBattleStatus),
+        Reply::RequestBattleStatus => battles::put_request_battle_status(out, id),
         Reply::ClientBattleStatus {
             user,
             battle_status,
             team_color,
-        } => put_three(
-            out,
-            id,
-            CommandWord::ClientBattleStatus,
-            Argument::Name(user),
-            Argument::Number(*battle_status),
-            Argument::Wide(team_color),
-        ),
-        Reply::SaidBattle { user, text } => put_two(
-            out,
-            id,
-            CommandWord::SaidBattle,
-            Argument::Name(user),
-            Argument::Text(text),
-        ),
-        Reply::SaidBattleEx { user, text } => put_two(
-            out,
-            id,
-            CommandWord::SaidBattleEx,
-            Argument::Name(user),
-            Argument::Text(text),
-        ),
+        } => room::put_client_battle_status(out, id, user, *battle_status, team_color),
+        Reply::SaidBattle { user, text } => room::put_said_battle(out, id, user, text),
+        Reply::SaidBattleEx { user, text } => room::put_said_battle_ex(out, id, user, text),
         Reply::AddBot {
             battle,
             bot,
@@ -243,237 +161,25 @@ pub fn print(reply: &Reply, id: Option<u32>, out: &mut Vec<u8>) -> Result<(), Al
             battle_status,
             team_color,
             ai,
-        } => put_six(
-            out,
-            id,
-            CommandWord::AddBot,
-            Argument::Number(*battle),
-            Argument::Word(bot),
-            Argument::Name(owner),
-            Argument::Number(*battle_status),
-            Argument::Wide(team_color),
-            Argument::Sentence(ai),
-        ),
+        } => room::put_add_bot(out, id, *battle, bot, owner, *battle_status, team_color, ai),
         Reply::UpdateBot {
             battle,
             bot,
             battle_status,
             team_color,
-        } => put_four(
-            out,
-            id,
-            CommandWord::UpdateBot,
-            Argument::Number(*battle),
-            Argument::Word(bot),
-            Argument::Number(*battle_status),
-            Argument::Wide(team_color),
-        ),
-        Reply::RemoveBot { battle, bot } => put_two(
-            out,
-            id,
-            CommandWord::RemoveBot,
-            Argument::Number(*battle),
-            Argument::Word(bot),
-        ),
+        } => room::put_update_bot(out, id, *battle, bot, *battle_status, team_color),
+        Reply::RemoveBot { battle, bot } => room::put_remove_bot(out, id, *battle, bot),
         Reply::AddStartRect {
             ally,
             left,
             top,
             right,
             bottom,
-        } => put_five(
-            out,
-            id,
-            CommandWord::AddStartRect,
-            Argument::Number(*ally as u32),
-            Argument::Number(*left as u32),
-            Argument::Number(*top as u32),
-            Argument::Number(*right as u32),
-            Argument::Number(*bottom as u32),
-        ),
-        Reply::RemoveStartRect { ally } => put_one(
-            out,
-            id,
-            CommandWord::RemoveStartRect,
-            Argument::Number(*ally as u32),
-        ),
-        Reply::SetScriptTags { pairs } => put_one(
-            out,
-            id,
-            CommandWord::SetScriptTags,
-            Argument::Pairs(pairs),
-        ),
-        Reply::RemoveScriptTags { keys } => put_one(
-            out,
-            id,
-            CommandWord::RemoveScriptTags,
-            Argument::Words(keys),
-        ),
-        Reply::ForceQuitBattle => put_none(out, id, CommandWord::ForceQuitBattle),
-        Reply::Ring { user } => put_one(out, id, CommandWord::Ring, Argument::Name(user)),
+        } => room::put_add_start_rect(out, id, *ally, *left, *top, *right, *bottom),
+        Reply::RemoveStartRect { ally } => room::put_remove_start_rect(out, id, *ally),
+        Reply::SetScriptTags { pairs } => room::put_set_script_tags(out, id, pairs),
+        Reply::RemoveScriptTags { keys } => room::put_remove_script_tags(out, id, keys),
+        Reply::ForceQuitBattle => battles::put_force_quit_battle(out, id),
+        Reply::Ring { user } => room::put_ring(out, id, user),
     }
-}
-
-// Prints the longest reply, the only one that it is called for: `print` then needs no room for its many arguments.
-fn print_battle_opened(reply: &Reply, id: Option<u32>, out: &mut Vec<u8>) -> Result<(), AllocError>
-    ensures { out.new.items ≡ (if is_ok result then out.old.items ++ printed_line id reply.now else out.old.items) }
-{
-    let Reply::BattleOpened {
-        battle,
-        battle_type,
-        nat_type,
-        founder,
-        ip,
-        port,
-        max_players,
-        passworded,
-        rank,
-        map_hash,
-        engine_name,
-        engine_version,
-        map,
-        title,
-        game_name,
-    } = reply
-    else {
-        return Err(AllocError);
-    };
-    put_line(
-        out,
-        id,
-        CommandWord::BattleOpened.text(),
-        &[
-            Argument::Number(*battle),
-            Argument::Number(*battle_type as u32),
-            Argument::Number(*nat_type as u32),
-            Argument::Name(founder),
-            Argument::Word(ip),
-            Argument::Number(*port as u32),
-            Argument::Number(*max_players as u32),
-            Argument::Flag(*passworded),
-            Argument::Wide(rank),
-            Argument::Wide(map_hash),
-            Argument::Sentence(engine_name),
-            Argument::NextSentence(engine_version),
-            Argument::NextSentence(map),
-            Argument::NextSentence(title),
-            Argument::NextSentence(game_name),
-        ],
-    )
-}
-
-// One function for each number of arguments: a call pays at its start for every array that its body may make, so `print`
-// makes none itself.
-fn put_none(out: &mut Vec<u8>, id: Option<u32>, command: CommandWord) -> Result<(), AllocError>
-    ensures { out.new.items ≡ (if is_ok result then out.old.items ++ pieces_text id (word_of command) [] else out.old.items) }
-{
-    put_line(out, id, command.text(), &[])
-}
-
-fn put_one(
-    out: &mut Vec<u8>,
-    id: Option<u32>,
-    command: CommandWord,
-    first: Argument,
-) -> Result<(), AllocError>
-    ensures { out.new.items ≡ (if is_ok result then out.old.items ++ pieces_text id (word_of command) (first.entry ∷ []) else out.old.items) }
-{
-    put_line(out, id, command.text(), &[first])
-}
-
-fn put_two(
-    out: &mut Vec<u8>,
-    id: Option<u32>,
-    command: CommandWord,
-    first: Argument,
-    second: Argument,
-) -> Result<(), AllocError>
-    ensures { out.new.items ≡ (if is_ok result then out.old.items ++ pieces_text id (word_of command) (first.entry ∷ second.entry ∷ []) else out.old.items) }
-{
-    put_line(out, id, command.text(), &[first, second])
-}
-
-fn put_three(
-    out: &mut Vec<u8>,
-    id: Option<u32>,
-    command: CommandWord,
-    first: Argument,
-    second: Argument,
-    third: Argument,
-) -> Result<(), AllocError>
-    ensures { out.new.items ≡ (if is_ok result then out.old.items ++ pieces_text id (word_of command) (first.entry ∷ second.entry ∷ third.entry ∷ []) else out.old.items) }
-{
-    put_line(out, id, command.text(), &[first, second, third])
-}
-
-fn put_four(
-    out: &mut Vec<u8>,
-    id: Option<u32>,
-    command: CommandWord,
-    first: Argument,
-    second: Argument,
-    third: Argument,
-    fourth: Argument,
-) -> Result<(), AllocError>
-    ensures { out.new.items ≡ (if is_ok result then out.old.items ++ pieces_text id (word_of command) (first.entry ∷ second.entry ∷ third.entry ∷ fourth.entry ∷ []) else out.old.items) }
-{
-    put_line(out, id, command.text(), &[first, second, third, fourth])
-}
-
-fn put_five(
-    out: &mut Vec<u8>,
-    id: Option<u32>,
-    command: CommandWord,
-    first: Argument,
-    second: Argument,
-    third: Argument,
-    fourth: Argument,
-    fifth: Argument,
-) -> Result<(), AllocError>
-    ensures { out.new.items ≡ (if is_ok result then out.old.items ++ pieces_text id (word_of command) (first.entry ∷ second.entry ∷ third.entry ∷ fourth.entry ∷ fifth.entry ∷ []) else out.old.items) }
-{
-    put_line(
-        out,
-        id,
-        command.text(),
-        &[first, second, third, fourth, fifth],
-    )
-}
-
-fn put_six(
-    out: &mut Vec<u8>,
-    id: Option<u32>,
-    command: CommandWord,
-    first: Argument,
-    second: Argument,
-    third: Argument,
-    fourth: Argument,
-    fifth: Argument,
-    sixth: Argument,
-) -> Result<(), AllocError>
-    ensures { out.new.items ≡ (if is_ok result then out.old.items ++ pieces_text id (word_of command) (first.entry ∷ second.entry ∷ third.entry ∷ fourth.entry ∷ fifth.entry ∷ sixth.entry ∷ []) else out.old.items) }
-{
-    put_line(
-        out,
-        id,
-        command.text(),
-        &[first, second, third, fourth, fifth, sixth],
-    )
-}
-
-/// Appends a whole line or nothing.
-fn put_line(
-    out: &mut Vec<u8>,
-    id: Option<u32>,
-    word: &[u8],
-    arguments: &[Argument],
-) -> Result<(), AllocError>
-    ensures { out.new.items ≡ (if is_ok result then out.old.items ++ pieces_text id word.now arguments.now else out.old.items) }
-{
-    let start = out.len();
-    let done = put_pieces(out, id, word, arguments);
-    if done.is_err() {
-        out.truncate(start);
-    }
-    done
 }

@@ -1,34 +1,17 @@
 //! The pieces of a line, each appended behind the ones before it. Where memory is refused a piece may
 //! be there in part; what stood before it stays.
+#![tactic(auto, using(crate::proofs::Kept::kept_then, crate::proofs::Kept::kept_more))]
 
-ghost use Rattle.std.specs.Prelude.{◌≡◌, [], ◌∷◌, ◌++◌, IfOk, take, length, if◌then◌else◌, decimal};
+ghost use Rattle.std.specs.Prelude.{◌≡◌, [], ◌∷◌, ◌++◌, IfOk, is_ok, take, length, if◌then◌else◌, decimal};
 ghost use Rattle.std.specs.Fmt.{signed_decimal};
 ghost use Rattle.reply_grammar.specs.Kinds.{words_text, pair_text, pairs_text, optional_text};
-ghost use Rattle.reply_grammar.specs.Replies.{id_text};
-ghost use Rattle.reply_grammar.specs.Written.{argument_text, arguments_text, pieces_text};
+ghost use Rattle.reply_grammar.specs.Replies.{id_text, word_of};
 
+use crate::command_word::CommandWord;
 use itoa::Buffer;
-use line_words::{NameBuf, NameList, Pair, PairList, SentenceBuf, TextBuf, WordBuf, WordList};
+use line_words::{NameBuf, Pair, SentenceBuf, TextBuf, WordBuf};
 use std::alloc::AllocError;
 
-/// An argument as it is printed, with the space or the tab in front of it.
-#[derive(Clone, Copy)]
-pub(super) enum Argument<'a> {
-    Word(&'a WordBuf),
-    Name(&'a NameBuf),
-    Number(u32),
-    Wide(&'a i64),
-    Flag(bool),
-    OptionalWord(&'a Option<WordBuf>),
-    Words(&'a WordList),
-    Names(&'a NameList),
-    Sentence(&'a SentenceBuf),
-    NextSentence(&'a SentenceBuf),
-    Text(&'a TextBuf),
-    Pairs(&'a PairList),
-}
-
-#[tactic(auto, using(crate::proofs::Kept::kept_then, crate::proofs::Kept::kept_more))]
 fn put_behind(out: &mut Vec<u8>, mark: u8, bytes: &[u8]) -> Result<(), AllocError>
     ensures ok { IfOk result (λ _. out.new.items ≡ out.old.items ++ (mark ∷ bytes.now)) }
     ensures kept { take (length out.old.items) out.new.items ≡ out.old.items }
@@ -38,7 +21,7 @@ fn put_behind(out: &mut Vec<u8>, mark: u8, bytes: &[u8]) -> Result<(), AllocErro
     Ok(())
 }
 
-fn put_number(out: &mut Vec<u8>, n: u32) -> Result<(), AllocError>
+pub(super) fn put_number(out: &mut Vec<u8>, n: u32) -> Result<(), AllocError>
     ensures ok { IfOk result (λ _. out.new.items ≡ out.old.items ++ (32 ∷ decimal n)) }
     ensures kept { take (length out.old.items) out.new.items ≡ out.old.items }
 {
@@ -46,16 +29,15 @@ fn put_number(out: &mut Vec<u8>, n: u32) -> Result<(), AllocError>
     put_behind(out, b' ', buffer.format(n).as_bytes())
 }
 
-fn put_wide(out: &mut Vec<u8>, n: i64) -> Result<(), AllocError>
-    ensures ok { IfOk result (λ _. out.new.items ≡ out.old.items ++ (32 ∷ signed_decimal n)) }
+pub(super) fn put_wide(out: &mut Vec<u8>, n: &i64) -> Result<(), AllocError>
+    ensures ok { IfOk result (λ _. out.new.items ≡ out.old.items ++ (32 ∷ signed_decimal n.now)) }
     ensures kept { take (length out.old.items) out.new.items ≡ out.old.items }
 {
     let mut buffer = Buffer::new();
-    put_behind(out, b' ', buffer.format(n).as_bytes())
+    put_behind(out, b' ', buffer.format(*n).as_bytes())
 }
 
-#[tactic(auto, using(crate::proofs::Kept::kept_then, crate::proofs::Kept::kept_more))]
-fn put_words(out: &mut Vec<u8>, words: &[WordBuf]) -> Result<(), AllocError>
+pub(super) fn put_words(out: &mut Vec<u8>, words: &[WordBuf]) -> Result<(), AllocError>
     ensures ok { IfOk result (λ _. out.new.items ≡ out.old.items ++ words_text words.now) }
     ensures kept { take (length out.old.items) out.new.items ≡ out.old.items }
 {
@@ -65,8 +47,7 @@ fn put_words(out: &mut Vec<u8>, words: &[WordBuf]) -> Result<(), AllocError>
     Ok(())
 }
 
-#[tactic(auto, using(crate::proofs::Kept::kept_then, crate::proofs::Kept::kept_more))]
-fn put_names(out: &mut Vec<u8>, names: &[NameBuf]) -> Result<(), AllocError>
+pub(super) fn put_names(out: &mut Vec<u8>, names: &[NameBuf]) -> Result<(), AllocError>
     ensures ok { IfOk result (λ _. out.new.items ≡ out.old.items ++ words_text names.now) }
     ensures kept { take (length out.old.items) out.new.items ≡ out.old.items }
 {
@@ -76,7 +57,6 @@ fn put_names(out: &mut Vec<u8>, names: &[NameBuf]) -> Result<(), AllocError>
     Ok(())
 }
 
-#[tactic(auto, using(crate::proofs::Kept::kept_then, crate::proofs::Kept::kept_more))]
 fn put_pair(out: &mut Vec<u8>, mark: u8, pair: &Pair) -> Result<(), AllocError>
     ensures ok { IfOk result (λ _. out.new.items ≡ out.old.items ++ (mark ∷ pair_text pair.now)) }
     ensures kept { take (length out.old.items) out.new.items ≡ out.old.items }
@@ -85,8 +65,7 @@ fn put_pair(out: &mut Vec<u8>, mark: u8, pair: &Pair) -> Result<(), AllocError>
     put_behind(out, b'=', pair.value.as_slice())
 }
 
-#[tactic(auto, using(crate::proofs::Kept::kept_then, crate::proofs::Kept::kept_more))]
-fn put_pairs(out: &mut Vec<u8>, pairs: &[Pair]) -> Result<(), AllocError>
+pub(super) fn put_pairs(out: &mut Vec<u8>, pairs: &[Pair]) -> Result<(), AllocError>
     ensures ok { IfOk result (λ _. out.new.items ≡ out.old.items ++ pairs_text 32 pairs.now) }
     ensures kept { take (length out.old.items) out.new.items ≡ out.old.items }
 {
@@ -98,27 +77,7 @@ fn put_pairs(out: &mut Vec<u8>, pairs: &[Pair]) -> Result<(), AllocError>
     Ok(())
 }
 
-fn put_argument(out: &mut Vec<u8>, argument: &Argument) -> Result<(), AllocError>
-    ensures ok { IfOk result (λ _. out.new.items ≡ out.old.items ++ argument_text argument.now) }
-    ensures kept { take (length out.old.items) out.new.items ≡ out.old.items }
-{
-    match argument {
-        Argument::Word(word) => put_behind(out, b' ', word.as_slice()),
-        Argument::Name(name) => put_behind(out, b' ', name.as_slice()),
-        Argument::Number(n) => put_number(out, *n),
-        Argument::Wide(n) => put_wide(out, **n),
-        Argument::Flag(b) => put_flag(out, *b),
-        Argument::OptionalWord(word) => put_optional(out, word),
-        Argument::Words(words) => put_words(out, words.as_slice()),
-        Argument::Names(names) => put_names(out, names.as_slice()),
-        Argument::Sentence(sentence) => put_behind(out, b' ', sentence.as_slice()),
-        Argument::NextSentence(sentence) => put_behind(out, b'\t', sentence.as_slice()),
-        Argument::Text(text) => put_behind(out, b' ', text.as_slice()),
-        Argument::Pairs(pairs) => put_pairs(out, pairs.as_slice()),
-    }
-}
-
-fn put_flag(out: &mut Vec<u8>, b: bool) -> Result<(), AllocError>
+pub(super) fn put_flag(out: &mut Vec<u8>, b: bool) -> Result<(), AllocError>
     ensures ok { IfOk result (λ _. out.new.items ≡ out.old.items ++ (32 ∷ (if b then 49 else 48) ∷ [])) }
     ensures kept { take (length out.old.items) out.new.items ≡ out.old.items }
 {
@@ -129,8 +88,7 @@ fn put_flag(out: &mut Vec<u8>, b: bool) -> Result<(), AllocError>
     }
 }
 
-#[tactic(auto, using(crate::proofs::Kept::kept_then, crate::proofs::Kept::kept_more))]
-fn put_optional(out: &mut Vec<u8>, word: &Option<WordBuf>) -> Result<(), AllocError>
+pub(super) fn put_optional(out: &mut Vec<u8>, word: &Option<WordBuf>) -> Result<(), AllocError>
     ensures ok { IfOk result (λ _. out.new.items ≡ out.old.items ++ optional_text word.now) }
     ensures kept { take (length out.old.items) out.new.items ≡ out.old.items }
 {
@@ -140,7 +98,6 @@ fn put_optional(out: &mut Vec<u8>, word: &Option<WordBuf>) -> Result<(), AllocEr
     }
 }
 
-#[tactic(auto, using(crate::proofs::Kept::kept_then, crate::proofs::Kept::kept_more))]
 fn put_id(out: &mut Vec<u8>, id: Option<u32>) -> Result<(), AllocError>
     ensures ok { IfOk result (λ _. out.new.items ≡ out.old.items ++ id_text id) }
     ensures kept { take (length out.old.items) out.new.items ≡ out.old.items }
@@ -153,30 +110,73 @@ fn put_id(out: &mut Vec<u8>, id: Option<u32>) -> Result<(), AllocError>
     Ok(())
 }
 
-#[tactic(auto, using(crate::proofs::Kept::kept_then, crate::proofs::Kept::kept_more))]
-fn put_arguments(out: &mut Vec<u8>, arguments: &[Argument]) -> Result<(), AllocError>
-    ensures ok { IfOk result (λ _. out.new.items ≡ out.old.items ++ arguments_text arguments.now) }
-    ensures kept { take (length out.old.items) out.new.items ≡ out.old.items }
-{
-    for argument in arguments {
-        put_argument(out, argument)?;
-    }
-    Ok(())
-}
-
-#[tactic(auto, using(crate::proofs::Kept::kept_then, crate::proofs::Kept::kept_more))]
-pub(super) fn put_pieces(
+pub(super) fn put_command(
     out: &mut Vec<u8>,
     id: Option<u32>,
-    word: &[u8],
-    arguments: &[Argument],
+    command: CommandWord,
 ) -> Result<(), AllocError>
-    ensures ok { IfOk result (λ _. out.new.items ≡ out.old.items ++ pieces_text id word.now arguments.now) }
+    ensures ok { IfOk result (λ _. out.new.items ≡ out.old.items ++ (id_text id ++ word_of command)) }
     ensures kept { take (length out.old.items) out.new.items ≡ out.old.items }
 {
     put_id(out, id)?;
-    out.extend_from_slice(word)?;
-    put_arguments(out, arguments)?;
+    out.extend_from_slice(command.text())
+}
+
+pub(super) fn put_word(out: &mut Vec<u8>, word: &WordBuf) -> Result<(), AllocError>
+    ensures ok { IfOk result (λ _. out.new.items ≡ out.old.items ++ (32 ∷ word.now)) }
+    ensures kept { take (length out.old.items) out.new.items ≡ out.old.items }
+{
+    put_behind(out, b' ', word.as_slice())
+}
+
+pub(super) fn put_name(out: &mut Vec<u8>, name: &NameBuf) -> Result<(), AllocError>
+    ensures ok { IfOk result (λ _. out.new.items ≡ out.old.items ++ (32 ∷ name.now)) }
+    ensures kept { take (length out.old.items) out.new.items ≡ out.old.items }
+{
+    put_behind(out, b' ', name.as_slice())
+}
+
+pub(super) fn put_text(out: &mut Vec<u8>, text: &TextBuf) -> Result<(), AllocError>
+    ensures ok { IfOk result (λ _. out.new.items ≡ out.old.items ++ (32 ∷ text.now)) }
+    ensures kept { take (length out.old.items) out.new.items ≡ out.old.items }
+{
+    put_behind(out, b' ', text.as_slice())
+}
+
+pub(super) fn put_sentence(out: &mut Vec<u8>, sentence: &SentenceBuf) -> Result<(), AllocError>
+    ensures ok { IfOk result (λ _. out.new.items ≡ out.old.items ++ (32 ∷ sentence.now)) }
+    ensures kept { take (length out.old.items) out.new.items ≡ out.old.items }
+{
+    put_behind(out, b' ', sentence.as_slice())
+}
+
+pub(super) fn put_next_sentence(out: &mut Vec<u8>, sentence: &SentenceBuf) -> Result<(), AllocError>
+    ensures ok { IfOk result (λ _. out.new.items ≡ out.old.items ++ (9 ∷ sentence.now)) }
+    ensures kept { take (length out.old.items) out.new.items ≡ out.old.items }
+{
+    put_behind(out, b'\t', sentence.as_slice())
+}
+
+/// Ends the line.
+pub(super) fn put_end(out: &mut Vec<u8>) -> Result<(), AllocError>
+    ensures ok { IfOk result (λ _. out.new.items ≡ out.old.items ++ 10 ∷ []) }
+    ensures kept { take (length out.old.items) out.new.items ≡ out.old.items }
+{
     out.push(b'\n')?;
     Ok(())
+}
+
+/// Leaves what was put behind `start` where all of it was, and takes it back where memory was refused.
+pub(super) fn whole(
+    out: &mut Vec<u8>,
+    start: usize,
+    done: Result<(), AllocError>,
+) -> Result<(), AllocError>
+    ensures result { result ≡ done }
+    ensures items { out.new.items ≡ (if is_ok done then out.old.items else take start out.old.items) }
+{
+    if done.is_err() {
+        out.truncate(start);
+    }
+    done
 }

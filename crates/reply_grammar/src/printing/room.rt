@@ -1,0 +1,193 @@
+//! Printing the replies within a battle.
+#![tactic(auto, using(crate::proofs::Kept::kept_then, crate::proofs::Kept::kept_more))]
+
+ghost use Rattle.std.specs.Prelude.{◌≡◌, ◌++◌, IfOk, length, take};
+ghost use Rattle.reply_grammar.specs.declared.Reply.TheVariants as reply;
+ghost use Rattle.reply_grammar.specs.Replies.{printed_line};
+
+use super::pieces::{
+    put_command, put_end, put_name, put_number, put_pairs, put_sentence, put_text, put_wide,
+    put_word, put_words,
+};
+use crate::command_word::CommandWord;
+use line_words::{NameBuf, PairList, SentenceBuf, TextBuf, WordBuf, WordList};
+use std::alloc::AllocError;
+
+pub(super) fn put_client_battle_status(
+    out: &mut Vec<u8>,
+    id: Option<u32>,
+    user: &NameBuf,
+    battle_status: u32,
+    team_color: &i64,
+) -> Result<(), AllocError>
+    ensures ok { IfOk result (λ _. out.new.items ≡ out.old.items ++ printed_line id (reply.ClientBattleStatus user.now battle_status team_color.now)) }
+    ensures kept { take (length out.old.items) out.new.items ≡ out.old.items }
+{
+    put_command(out, id, CommandWord::ClientBattleStatus)?;
+    put_name(out, user)?;
+    put_number(out, battle_status)?;
+    put_wide(out, team_color)?;
+    put_end(out)?;
+    Ok(())
+}
+
+pub(super) fn put_said_battle(
+    out: &mut Vec<u8>,
+    id: Option<u32>,
+    user: &NameBuf,
+    text: &TextBuf,
+) -> Result<(), AllocError>
+    ensures ok { IfOk result (λ _. out.new.items ≡ out.old.items ++ printed_line id (reply.SaidBattle user.now text.now)) }
+    ensures kept { take (length out.old.items) out.new.items ≡ out.old.items }
+{
+    put_command(out, id, CommandWord::SaidBattle)?;
+    put_name(out, user)?;
+    put_text(out, text)?;
+    put_end(out)?;
+    Ok(())
+}
+
+pub(super) fn put_said_battle_ex(
+    out: &mut Vec<u8>,
+    id: Option<u32>,
+    user: &NameBuf,
+    text: &TextBuf,
+) -> Result<(), AllocError>
+    ensures ok { IfOk result (λ _. out.new.items ≡ out.old.items ++ printed_line id (reply.SaidBattleEx user.now text.now)) }
+    ensures kept { take (length out.old.items) out.new.items ≡ out.old.items }
+{
+    put_command(out, id, CommandWord::SaidBattleEx)?;
+    put_name(out, user)?;
+    put_text(out, text)?;
+    put_end(out)?;
+    Ok(())
+}
+
+pub(super) fn put_add_bot(
+    out: &mut Vec<u8>,
+    id: Option<u32>,
+    battle: u32,
+    bot: &WordBuf,
+    owner: &NameBuf,
+    battle_status: u32,
+    team_color: &i64,
+    ai: &SentenceBuf,
+) -> Result<(), AllocError>
+    ensures ok { IfOk result (λ _. out.new.items ≡ out.old.items ++ printed_line id (reply.AddBot battle bot.now owner.now battle_status team_color.now ai.now)) }
+    ensures kept { take (length out.old.items) out.new.items ≡ out.old.items }
+{
+    put_command(out, id, CommandWord::AddBot)?;
+    put_number(out, battle)?;
+    put_word(out, bot)?;
+    put_name(out, owner)?;
+    put_number(out, battle_status)?;
+    put_wide(out, team_color)?;
+    put_sentence(out, ai)?;
+    put_end(out)?;
+    Ok(())
+}
+
+pub(super) fn put_update_bot(
+    out: &mut Vec<u8>,
+    id: Option<u32>,
+    battle: u32,
+    bot: &WordBuf,
+    battle_status: u32,
+    team_color: &i64,
+) -> Result<(), AllocError>
+    ensures ok { IfOk result (λ _. out.new.items ≡ out.old.items ++ printed_line id (reply.UpdateBot battle bot.now battle_status team_color.now)) }
+    ensures kept { take (length out.old.items) out.new.items ≡ out.old.items }
+{
+    put_command(out, id, CommandWord::UpdateBot)?;
+    put_number(out, battle)?;
+    put_word(out, bot)?;
+    put_number(out, battle_status)?;
+    put_wide(out, team_color)?;
+    put_end(out)?;
+    Ok(())
+}
+
+pub(super) fn put_remove_bot(
+    out: &mut Vec<u8>,
+    id: Option<u32>,
+    battle: u32,
+    bot: &WordBuf,
+) -> Result<(), AllocError>
+    ensures ok { IfOk result (λ _. out.new.items ≡ out.old.items ++ printed_line id (reply.RemoveBot battle bot.now)) }
+    ensures kept { take (length out.old.items) out.new.items ≡ out.old.items }
+{
+    put_command(out, id, CommandWord::RemoveBot)?;
+    put_number(out, battle)?;
+    put_word(out, bot)?;
+    put_end(out)
+}
+
+pub(super) fn put_add_start_rect(
+    out: &mut Vec<u8>,
+    id: Option<u32>,
+    ally: u8,
+    left: u8,
+    top: u8,
+    right: u8,
+    bottom: u8,
+) -> Result<(), AllocError>
+    ensures ok { IfOk result (λ _. out.new.items ≡ out.old.items ++ printed_line id (reply.AddStartRect ally left top right bottom)) }
+    ensures kept { take (length out.old.items) out.new.items ≡ out.old.items }
+{
+    put_command(out, id, CommandWord::AddStartRect)?;
+    put_number(out, u32::from(ally))?;
+    put_number(out, u32::from(left))?;
+    put_number(out, u32::from(top))?;
+    put_number(out, u32::from(right))?;
+    put_number(out, u32::from(bottom))?;
+    put_end(out)?;
+    Ok(())
+}
+
+pub(super) fn put_remove_start_rect(
+    out: &mut Vec<u8>,
+    id: Option<u32>,
+    ally: u8,
+) -> Result<(), AllocError>
+    ensures ok { IfOk result (λ _. out.new.items ≡ out.old.items ++ printed_line id (reply.RemoveStartRect ally)) }
+    ensures kept { take (length out.old.items) out.new.items ≡ out.old.items }
+{
+    put_command(out, id, CommandWord::RemoveStartRect)?;
+    put_number(out, u32::from(ally))?;
+    put_end(out)
+}
+
+pub(super) fn put_set_script_tags(
+    out: &mut Vec<u8>,
+    id: Option<u32>,
+    pairs: &PairList,
+) -> Result<(), AllocError>
+    ensures ok { IfOk result (λ _. out.new.items ≡ out.old.items ++ printed_line id (reply.SetScriptTags pairs.now)) }
+    ensures kept { take (length out.old.items) out.new.items ≡ out.old.items }
+{
+    put_command(out, id, CommandWord::SetScriptTags)?;
+    put_pairs(out, pairs.as_slice())?;
+    put_end(out)
+}
+
+pub(super) fn put_remove_script_tags(
+    out: &mut Vec<u8>,
+    id: Option<u32>,
+    keys: &WordList,
+) -> Result<(), AllocError>
+    ensures ok { IfOk result (λ _. out.new.items ≡ out.old.items ++ printed_line id (reply.RemoveScriptTags keys.now)) }
+    ensures kept { take (length out.old.items) out.new.items ≡ out.old.items }
+{
+    put_command(out, id, CommandWord::RemoveScriptTags)?;
+    put_words(out, keys.as_slice())?;
+    put_end(out)
+}
+
+pub(super) fn put_ring(out: &mut Vec<u8>, id: Option<u32>, user: &NameBuf) -> Result<(), AllocError>
+    ensures ok { IfOk result (λ _. out.new.items ≡ out.old.items ++ printed_line id (reply.Ring user.now)) }
+    ensures kept { take (length out.old.items) out.new.items ≡ out.old.items }
+{
+    put_command(out, id, CommandWord::Ring)?;
+    put_name(out, user)?;
+    put_end(out)
+}

@@ -1,0 +1,206 @@
+//! Printing the replies on the greeting, logins and users.
+#![tactic(auto, using(crate::proofs::Kept::kept_then, crate::proofs::Kept::kept_more))]
+
+ghost use Rattle.std.specs.Prelude.{◌≡◌, ◌++◌, IfOk, is_ok, if◌then◌else◌, length, take};
+ghost use Rattle.reply_grammar.specs.declared.Reply.TheVariants as reply;
+ghost use Rattle.reply_grammar.specs.Replies.{printed_line};
+
+use super::pieces::{
+    put_command, put_end, put_name, put_number, put_text, put_wide, put_word, whole,
+};
+use crate::command_word::CommandWord;
+use line_words::{NameBuf, TextBuf, WordBuf};
+use std::alloc::AllocError;
+
+/// Appends `ACCEPTED` as `print` does, its field lent: the caller needs no reply of its own.
+pub fn print_accepted(user: &NameBuf, id: Option<u32>, out: &mut Vec<u8>) -> Result<(), AllocError>
+    ensures { out.new.items ≡ (if is_ok result then out.old.items ++ printed_line id (reply.Accepted user.now) else out.old.items) }
+{
+    let start = out.len();
+    let done = put_accepted(out, id, user);
+    whole(out, start, done)
+}
+
+/// Appends `MOTD` as `print` does, its field lent.
+pub fn print_motd(text: &TextBuf, id: Option<u32>, out: &mut Vec<u8>) -> Result<(), AllocError>
+    ensures { out.new.items ≡ (if is_ok result then out.old.items ++ printed_line id (reply.Motd text.now) else out.old.items) }
+{
+    let start = out.len();
+    let done = put_motd(out, id, text);
+    whole(out, start, done)
+}
+
+/// Appends `ADDUSER` as `print` does, its fields lent. `cpu` is -2147483648 to 4294967295.
+pub fn print_add_user(
+    user: &NameBuf,
+    country: &WordBuf,
+    cpu: i64,
+    account: u32,
+    id: Option<u32>,
+    out: &mut Vec<u8>,
+) -> Result<(), AllocError>
+    ensures { out.new.items ≡ (if is_ok result then out.old.items ++ printed_line id (reply.AddUser user.now country.now cpu account) else out.old.items) }
+{
+    let start = out.len();
+    let done = put_add_user(out, id, user, country, &cpu, account);
+    whole(out, start, done)
+}
+
+/// Appends `REMOVEUSER` as `print` does, its field lent.
+pub fn print_remove_user(
+    user: &NameBuf,
+    id: Option<u32>,
+    out: &mut Vec<u8>,
+) -> Result<(), AllocError>
+    ensures { out.new.items ≡ (if is_ok result then out.old.items ++ printed_line id (reply.RemoveUser user.now) else out.old.items) }
+{
+    let start = out.len();
+    let done = put_remove_user(out, id, user);
+    whole(out, start, done)
+}
+
+/// Appends `CLIENTSTATUS` as `print` does, its fields lent.
+pub fn print_client_status(
+    user: &NameBuf,
+    status: u32,
+    id: Option<u32>,
+    out: &mut Vec<u8>,
+) -> Result<(), AllocError>
+    ensures { out.new.items ≡ (if is_ok result then out.old.items ++ printed_line id (reply.ClientStatus user.now status) else out.old.items) }
+{
+    let start = out.len();
+    let done = put_client_status(out, id, user, status);
+    whole(out, start, done)
+}
+
+pub(super) fn put_tas_server(
+    out: &mut Vec<u8>,
+    id: Option<u32>,
+    protocol_version: &WordBuf,
+    spring_version: &WordBuf,
+    udp_port: u16,
+    server_mode: u8,
+) -> Result<(), AllocError>
+    ensures ok { IfOk result (λ _. out.new.items ≡ out.old.items ++ printed_line id (reply.TasServer protocol_version.now spring_version.now udp_port server_mode)) }
+    ensures kept { take (length out.old.items) out.new.items ≡ out.old.items }
+{
+    put_command(out, id, CommandWord::TasServer)?;
+    put_word(out, protocol_version)?;
+    put_word(out, spring_version)?;
+    put_number(out, u32::from(udp_port))?;
+    put_number(out, u32::from(server_mode))?;
+    put_end(out)?;
+    Ok(())
+}
+
+pub(super) fn put_accepted(
+    out: &mut Vec<u8>,
+    id: Option<u32>,
+    user: &NameBuf,
+) -> Result<(), AllocError>
+    ensures ok { IfOk result (λ _. out.new.items ≡ out.old.items ++ printed_line id (reply.Accepted user.now)) }
+    ensures kept { take (length out.old.items) out.new.items ≡ out.old.items }
+{
+    put_command(out, id, CommandWord::Accepted)?;
+    put_name(out, user)?;
+    put_end(out)
+}
+
+pub(super) fn put_denied(
+    out: &mut Vec<u8>,
+    id: Option<u32>,
+    text: &TextBuf,
+) -> Result<(), AllocError>
+    ensures ok { IfOk result (λ _. out.new.items ≡ out.old.items ++ printed_line id (reply.Denied text.now)) }
+    ensures kept { take (length out.old.items) out.new.items ≡ out.old.items }
+{
+    put_command(out, id, CommandWord::Denied)?;
+    put_text(out, text)?;
+    put_end(out)
+}
+
+pub(super) fn put_motd(out: &mut Vec<u8>, id: Option<u32>, text: &TextBuf) -> Result<(), AllocError>
+    ensures ok { IfOk result (λ _. out.new.items ≡ out.old.items ++ printed_line id (reply.Motd text.now)) }
+    ensures kept { take (length out.old.items) out.new.items ≡ out.old.items }
+{
+    put_command(out, id, CommandWord::Motd)?;
+    put_text(out, text)?;
+    put_end(out)
+}
+
+pub(super) fn put_server_msg(
+    out: &mut Vec<u8>,
+    id: Option<u32>,
+    text: &TextBuf,
+) -> Result<(), AllocError>
+    ensures ok { IfOk result (λ _. out.new.items ≡ out.old.items ++ printed_line id (reply.ServerMsg text.now)) }
+    ensures kept { take (length out.old.items) out.new.items ≡ out.old.items }
+{
+    put_command(out, id, CommandWord::ServerMsg)?;
+    put_text(out, text)?;
+    put_end(out)
+}
+
+pub(super) fn put_add_user(
+    out: &mut Vec<u8>,
+    id: Option<u32>,
+    user: &NameBuf,
+    country: &WordBuf,
+    cpu: &i64,
+    account: u32,
+) -> Result<(), AllocError>
+    ensures ok { IfOk result (λ _. out.new.items ≡ out.old.items ++ printed_line id (reply.AddUser user.now country.now cpu.now account)) }
+    ensures kept { take (length out.old.items) out.new.items ≡ out.old.items }
+{
+    put_command(out, id, CommandWord::AddUser)?;
+    put_name(out, user)?;
+    put_word(out, country)?;
+    put_wide(out, cpu)?;
+    put_number(out, account)?;
+    put_end(out)?;
+    Ok(())
+}
+
+pub(super) fn put_remove_user(
+    out: &mut Vec<u8>,
+    id: Option<u32>,
+    user: &NameBuf,
+) -> Result<(), AllocError>
+    ensures ok { IfOk result (λ _. out.new.items ≡ out.old.items ++ printed_line id (reply.RemoveUser user.now)) }
+    ensures kept { take (length out.old.items) out.new.items ≡ out.old.items }
+{
+    put_command(out, id, CommandWord::RemoveUser)?;
+    put_name(out, user)?;
+    put_end(out)
+}
+
+pub(super) fn put_client_status(
+    out: &mut Vec<u8>,
+    id: Option<u32>,
+    user: &NameBuf,
+    status: u32,
+) -> Result<(), AllocError>
+    ensures ok { IfOk result (λ _. out.new.items ≡ out.old.items ++ printed_line id (reply.ClientStatus user.now status)) }
+    ensures kept { take (length out.old.items) out.new.items ≡ out.old.items }
+{
+    put_command(out, id, CommandWord::ClientStatus)?;
+    put_name(out, user)?;
+    put_number(out, status)?;
+    put_end(out)
+}
+
+pub(super) fn put_login_info_end(out: &mut Vec<u8>, id: Option<u32>) -> Result<(), AllocError>
+    ensures ok { IfOk result (λ _. out.new.items ≡ out.old.items ++ printed_line id reply.LoginInfoEnd) }
+    ensures kept { take (length out.old.items) out.new.items ≡ out.old.items }
+{
+    put_command(out, id, CommandWord::LoginInfoEnd)?;
+    put_end(out)
+}
+
+pub(super) fn put_pong(out: &mut Vec<u8>, id: Option<u32>) -> Result<(), AllocError>
+    ensures ok { IfOk result (λ _. out.new.items ≡ out.old.items ++ printed_line id reply.Pong) }
+    ensures kept { take (length out.old.items) out.new.items ≡ out.old.items }
+{
+    put_command(out, id, CommandWord::Pong)?;
+    put_end(out)
+}
