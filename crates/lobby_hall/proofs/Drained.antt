@@ -6,6 +6,7 @@ use Rattle.std.specs.Ordering.{nat_cmp}
 use Rattle.std.specs.Cmp.{nat_cmp_total}
 use Rattle.std.specs.FinMap.Entries.{find-put}
 use Rattle.std.proofs.lemmas.List.{drop_all, take_all}
+use Rattle.account_book.specs.Account.{Account}
 use Rattle.lobby_model.specs.declared.event.Event.{Event}
 use Rattle.lobby_model.specs.declared.event.Event.TheVariants as event
 use Rattle.lobby_model.specs.Table.{ByNumber, at_number, put_number, same_number}
@@ -14,7 +15,7 @@ use Rattle.lobby_model.specs.State.{State, Client, is_live, empty_lobby}
 use Rattle.lobby_model.specs.Effect.{drained, drained_at, effect}
 use Rattle.lobby_model.specs.Next.{next, put_by, put_to, taken_from, has_room_for}
 use Rattle.lobby_model.specs.History.{after, put_in, taken_in}
-use Rattle.lobby_model.proofs.Delivered.{same_number_is, same_itself}
+use Rattle.lobby_model.proofs.Delivered.{same_itself}
 use Rattle.lobby_model.proofs.Splits.{same_either_way}
 use Rattle.lobby_model.proofs.Quiet.{next_drain}
 use Rattle.lobby_model.proofs.Balance.{balanced}
@@ -22,6 +23,7 @@ use Rattle.lobby_machine.specs.Shown.{unread_in, unread_of}
 use Rattle.lobby_hall.specs.ByClient.{of_client}
 use Rattle.lobby_hall.specs.Record.{Log, log_of, log_at, IsRecord}
 use Rattle.lobby_hall.specs.Copied.{lacking, completed_log, completed, changed_at, caught_up, read_on}
+use Rattle.lobby_hall.proofs.Each.{at_each, not_same}
 use Rattle.lobby_hall.proofs.Changed.{of-changed_same, of-changed_other}
 use Rattle.lobby_hall.proofs.Recorded.{of-completed, put_in-snoc, taken_in-snoc, nobody}
 
@@ -78,9 +80,9 @@ read_part : (taken unread : List ℕ) (n : ℕ) → take (length taken + n) (tak
 read_part [] unread n = ap (λ k. take k unread) (let e : 0 + n ≡ n = omega arith in e)
 read_part (x ∷ taken) unread n = ap (λ k. take k (x ∷ (taken ++ unread))) (let e : suc (length taken) + n ≡ suc (length taken + n) = omega arith in e) ∙ ap (λ v. x ∷ v) (read_part taken unread n)
 
-module _ (settings : Configuration) (events : List Event) (logs : List Log) where
+module _ (settings : Configuration) (accounts : List Account) (events : List Event) (logs : List Log) where
   abbrev start : State
-  start = empty_lobby settings
+  start = empty_lobby settings accounts
 
   abbrev here : State
   here = after start events
@@ -119,11 +121,8 @@ module _ (settings : Configuration) (events : List Event) (logs : List Log) wher
       other : (q : ℕ) → q ≢ c → log_at (completed new later) q ≡ log_at (completed logs here) q
       other q ne =
           ap log_of (of-completed new later q
-          ∙ (λ i. option_map (λ log. completed_log log (drained_other here c n q (not_same q ne) i)) (of_other q ne i))
+          ∙ (λ i. option_map (λ log. completed_log log (drained_other here c n q (not_same q c ne) i)) (of_other q ne i))
           ∙ sym (of-completed logs here q))
-        where
-          not_same : (q : ℕ) → q ≢ c → same_number q c ≡ false
-          not_same q ne = elim (same_number q c) as (λ b. same_number q c ≡ b → b ≡ false) [ true ↦ λ e. absurd (ne (same_number_is q c e)) | false ↦ λ e. refl ] refl
 
       -- the log of the client that reads: all that was put, of which it read more
       own : (log : Log) → of_client logs c ≡ Some log → (of_client new c ≡ Some (read_on count (completed_log log (unread_of here c)))) × (count ≡ 0 → of_client new c ≡ Some (completed_log log (unread_of here c)))
@@ -146,7 +145,7 @@ module _ (settings : Configuration) (events : List Event) (logs : List Log) wher
       own_is log f =
           elim x.cut as (λ b. x.cut ≡ b → ((log_at (completed new later) c).put ≡ put_in start events c) × ((log_at (completed new later) c).read ≡ taken_in start events c ++ take n x.unread)) [
             | true ↦ λ k.
-                let empty : x.unread ≡ [] = (balanced settings events c).gone x found k in
+                let empty : x.unread ≡ [] = (balanced settings accounts events c).gone x found k in
                 let zero_count : count ≡ 0 = ap (λ (u : List ℕ). min n (length u)) empty ∙ min_zero n in
                 let l : Log = completed_log log (unread_of here c) in
                 let is : log_at (completed new later) c ≡ completed_log l (drop n x.unread) = ap log_of (of-completed new later c ∙ ap (option_map (λ l. completed_log l (unread_of later c))) ((own log f).1 zero_count)) ∙ ap (λ u. completed_log l u) later_unread in (
@@ -160,7 +159,7 @@ module _ (settings : Configuration) (events : List Event) (logs : List Log) wher
             | false ↦ λ k.
                 let put : List ℕ = log.put ++ lacking log (unread_of here c) in
                 let put_is : put ≡ put_in start events c = ap (λ u. log.put ++ lacking log u) unread_is ∙ (own_log log f).0 in
-                let whole : put ≡ log.read ++ x.unread = put_is ∙ sym ((balanced settings events c).there x found k) ∙ ap (λ t. t ++ x.unread) (sym (own_log log f).1) in
+                let whole : put ≡ log.read ++ x.unread = put_is ∙ sym ((balanced settings accounts events c).there x found k) ∙ ap (λ t. t ++ x.unread) (sym (own_log log f).1) in
                 let l : Log = read_on count (completed_log log (unread_of here c)) in
                 let is : log_at (completed new later) c ≡ completed_log l (drop n x.unread) = ap log_of (of-completed new later c ∙ ap (option_map (λ l. completed_log l (unread_of later c))) (own log f).0) ∙ ap (λ u. completed_log l u) later_unread in
                 let read_is : take (length log.read + count) put ≡ log.read ++ take n x.unread = ap (take (length log.read + count)) whole ∙ read_part log.read x.unread count ∙ ap (λ t. log.read ++ t) (take_min n x.unread) in
@@ -179,21 +178,15 @@ module _ (settings : Configuration) (events : List Event) (logs : List Log) wher
           own_both : ((log_at (completed new later) c).put ≡ put_in start events c) × ((log_at (completed new later) c).read ≡ taken_in start events c ++ take n x.unread)
           own_both =
               elim (of_client logs c) as (λ o. of_client logs c ≡ o → ((log_at (completed new later) c).put ≡ put_in start events c) × ((log_at (completed new later) c).read ≡ taken_in start events c ++ take n x.unread)) [
-                | None ↦ λ f. absurd (let no : Some x ≡ None = sym found ∙ nobody settings events logs each c f in cc)
+                | None ↦ λ f. absurd (let no : Some x ≡ None = sym found ∙ nobody settings accounts events logs each c f in cc)
                 | Some log ↦ λ f. own_is log f
               ] refl
 
           both : (q : ℕ) → ((log_at (completed new later) q).put ≡ put_in start (events ++ event.Drain c n ∷ []) q) × ((log_at (completed new later) q).read ≡ taken_in start (events ++ event.Drain c n ∷ []) q)
-          both q =
-              elim (same_number q c) as (λ b. same_number q c ≡ b → ((log_at (completed new later) q).put ≡ put_in start (events ++ event.Drain c n ∷ []) q) × ((log_at (completed new later) q).read ≡ taken_in start (events ++ event.Drain c n ∷ []) q)) [
-                | true ↦ λ e.
-                    let key : q ≡ c = same_number_is q c e in (
-                      ap (λ k. (log_at (completed new later) k).put) key ∙ own_both.0 ∙ ap (put_in start events) (sym key) ∙ sym (put_same q),
-                      ap (λ k. (log_at (completed new later) k).read) key ∙ own_both.1 ∙ sym taken_same ∙ ap (taken_in start (events ++ event.Drain c n ∷ [])) (sym key),
-                    )
-                | false ↦ λ e.
-                    let ne : q ≢ c = λ k. let no : true ≡ false = sym (ap (λ d. same_number d c) k ∙ same_itself c) ∙ e in absurd (cc) in (
-                      ap (λ (l : Log). l.put) (other q ne) ∙ r.put q ∙ sym (put_same q),
-                      ap (λ (l : Log). l.read) (other q ne) ∙ r.read q ∙ sym (taken_other q e),
-                    )
-              ] refl
+          both =
+              at_each (λ q. ((log_at (completed new later) q).put ≡ put_in start (events ++ event.Drain c n ∷ []) q) × ((log_at (completed new later) q).read ≡ taken_in start (events ++ event.Drain c n ∷ []) q)) c
+              (own_both.0 ∙ sym (put_same c), own_both.1 ∙ sym taken_same)
+              (λ q ne. (
+                ap (λ (l : Log). l.put) (other q ne) ∙ r.put q ∙ sym (put_same q),
+                ap (λ (l : Log). l.read) (other q ne) ∙ r.read q ∙ sym (taken_other q (not_same q c ne)),
+              ))

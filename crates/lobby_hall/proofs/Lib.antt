@@ -1,3 +1,4 @@
+pub mod Each
 pub mod Changed
 pub mod Logs
 pub mod Recorded

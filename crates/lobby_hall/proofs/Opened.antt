@@ -6,21 +6,23 @@ use Rattle.std.specs.Ordering.{nat_cmp}
 use Rattle.std.specs.Cmp.{nat_cmp_total}
 use Rattle.std.specs.FinMap.Entries.{find-put}
 use Rattle.reply_grammar.specs.Replies.{print_all}
+use Rattle.account_book.specs.Account.{Account}
 use Rattle.lobby_model.specs.declared.event.Event.{Event}
 use Rattle.lobby_model.specs.declared.event.Event.TheVariants as event
-use Rattle.lobby_model.specs.Table.{at_number, same_number}
+use Rattle.lobby_model.specs.Table.{at_number}
 use Rattle.lobby_model.specs.Configuration.{Configuration}
 use Rattle.lobby_model.specs.State.{State, Client, empty_lobby}
 use Rattle.lobby_model.specs.Effect.{effect, has_place, greeted, opened}
 use Rattle.lobby_model.specs.Sent.{greeting}
 use Rattle.lobby_model.specs.Next.{next, batch, put_by, put_to, with_batch}
 use Rattle.lobby_model.specs.History.{after, put_in, taken_in}
-use Rattle.lobby_model.proofs.Delivered.{same_number_is, same_itself, with_batch_nil, find-values}
+use Rattle.lobby_model.proofs.Delivered.{with_batch_nil, find-values}
 use Rattle.lobby_model.proofs.Balance.{balanced, put_by_none, put_by_cut}
 use Rattle.lobby_machine.specs.Shown.{unread_in, unread_of}
 use Rattle.lobby_hall.specs.ByClient.{of_client}
 use Rattle.lobby_hall.specs.Record.{Log, log_of, log_at, IsRecord}
 use Rattle.lobby_hall.specs.Copied.{completed_log, completed, no_log}
+use Rattle.lobby_hall.proofs.Each.{at_each, not_same}
 use Rattle.lobby_hall.proofs.Recorded.{of-completed, put_in-snoc, taken_in-snoc, balanced_later}
 use Rattle.lobby_hall.proofs.Drained.{put_nothing}
 
@@ -58,9 +60,6 @@ pub of-bounded : {X : Type 0} (xs : List X) (q : ℕ) (x : X) → of_client xs q
 of-bounded xs zero x e = absurd (cc)
 of-bounded xs (suc k) x e = omega (arith, get-bounded xs k x e)
 
-not_same : (q c : ℕ) → q ≢ c → same_number q c ≡ false
-not_same q c ne = elim (same_number q c) as (λ b. same_number q c ≡ b → b ≡ false) [ true ↦ λ e. absurd (ne (same_number_is q c e)) | false ↦ λ e. refl ] refl
-
 -- the others get nothing, and have what they had
 module _ (s : State) (ip : List ℕ) (home : ℕ) (place : has_place s ≡ true) (q : ℕ) (ne : q ≢ s.last_client + 1) where
   nothing_sent : batch s (event.Open ip home) q ≡ []
@@ -83,9 +82,9 @@ module _ (s : State) (ip : List ℕ) (home : ℕ) (place : has_place s ≡ true)
   other_put = ap (λ b. put_to s.settings.outbox_limit b (at_number (effect s (event.Open ip home)).clients q)) nothing_sent
       ∙ put_nothing s.settings.outbox_limit (at_number (effect s (event.Open ip home)).clients q)
 
-module _ (settings : Configuration) (events : List Event) (logs : List Log) (ip : List ℕ) (home : ℕ) where
+module _ (settings : Configuration) (accounts : List Account) (events : List Event) (logs : List Log) (ip : List ℕ) (home : ℕ) where
   abbrev start : State
-  start = empty_lobby settings
+  start = empty_lobby settings accounts
 
   abbrev here : State
   here = after start events
@@ -107,17 +106,17 @@ module _ (settings : Configuration) (events : List Event) (logs : List Log) (ip 
     first_put : unread_of later (suc (length logs)) ≡ put_in start (events ++ opening ∷ []) (suc (length logs))
     first_put =
         let c : ℕ = suc (length logs) in
-        let new = (balanced settings events (suc (length logs))).fresh (omega (arith, each)) in
+        let new = (balanced settings accounts events (suc (length logs))).fresh (omega (arith, each)) in
         elim (at_number later.clients (suc (length logs))) as (λ o. at_number later.clients (suc (length logs)) ≡ o → unread_in o ≡ put_in start (events ++ opening ∷ []) (suc (length logs))) [
           | None ↦ λ f. sym (put_in-snoc start events opening c ∙ (λ i. new.1 i ++ put_by_none here opening c f i))
           | Some y ↦ λ f. elim y.cut as (λ b. y.cut ≡ b → y.unread ≡ put_in start (events ++ opening ∷ []) (suc (length logs))) [
-            | true ↦ λ k. (balanced_later settings events opening c).gone y f k ∙ sym (put_in-snoc start events opening c ∙ (λ i. new.1 i ++ put_by_cut here opening c _ _ y (balanced settings events c) f k i))
-            | false ↦ λ k. ap (λ t. t ++ y.unread) (sym (append-nil (taken_in start events c) ∙ new.0)) ∙ (balanced_later settings events opening c).there y f k ∙ sym (put_in-snoc start events opening c)
+            | true ↦ λ k. (balanced_later settings accounts events opening c).gone y f k ∙ sym (put_in-snoc start events opening c ∙ (λ i. new.1 i ++ put_by_cut here opening c _ _ y (balanced settings accounts events c) f k i))
+            | false ↦ λ k. ap (λ t. t ++ y.unread) (sym (append-nil (taken_in start events c) ∙ new.0)) ∙ (balanced_later settings accounts events opening c).there y f k ∙ sym (put_in-snoc start events opening c)
           ] refl
         ] refl
 
     first_read : taken_in start (events ++ opening ∷ []) (suc (length logs)) ≡ []
-    first_read = untaken (suc (length logs)) ∙ ((balanced settings events (suc (length logs))).fresh (omega (arith, each))).0
+    first_read = untaken (suc (length logs)) ∙ ((balanced settings accounts events (suc (length logs))).fresh (omega (arith, each))).0
 
     -- a number that nobody bears
     none_put : (q : ℕ) → of_client logs q ≡ None → q ≢ suc (length logs) → put_in start (events ++ opening ∷ []) q ≡ put_in start events q
@@ -137,22 +136,18 @@ module _ (settings : Configuration) (events : List Event) (logs : List Log) (ip 
                 ap (λ (l : Log). l.put) is ∙ r.put q ∙ sym (put_in-snoc start events opening q ∙ ap (λ p. put_in start events q ++ p) (other_put here ip home place q old) ∙ append-nil (put_in start events q)),
                 ap (λ (l : Log). l.read) is ∙ r.read q ∙ sym (untaken q),
               )
-          | None ↦ λ f. elim (same_number q (suc (length logs))) as (λ b. same_number q (suc (length logs)) ≡ b → ((log_at (completed (logs ++ no_log ∷ []) later) q).put ≡ put_in start (events ++ opening ∷ []) q) × ((log_at (completed (logs ++ no_log ∷ []) later) q).read ≡ taken_in start (events ++ opening ∷ []) q)) [
-            | true ↦ λ e.
-                let key : q ≡ suc (length logs) = same_number_is q (suc (length logs)) e in
-                let is : log_at (completed (logs ++ no_log ∷ []) later) (suc (length logs)) ≡ completed_log no_log (unread_of later (suc (length logs))) =
-                ap log_of (of-completed (logs ++ no_log ∷ []) later (suc (length logs)) ∙ ap (option_map (λ l. completed_log l (unread_of later (suc (length logs))))) (of-append_new logs no_log)) in (
-                  ap (λ k. (log_at (completed (logs ++ no_log ∷ []) later) k).put) key ∙ ap (λ (l : Log). l.put) is ∙ first_put ∙ ap (put_in start (events ++ opening ∷ [])) (sym key),
-                  ap (λ k. (log_at (completed (logs ++ no_log ∷ []) later) k).read) key ∙ ap (λ (l : Log). l.read) is ∙ sym first_read ∙ ap (taken_in start (events ++ opening ∷ [])) (sym key),
-                )
-            | false ↦ λ e.
-                let ne : q ≢ suc (length logs) = λ k. let no : true ≡ false = sym (ap (λ d. same_number d (suc (length logs))) k ∙ same_itself (suc (length logs))) ∙ e in absurd (cc) in
-                let was : log_at (completed logs here) q ≡ no_log = ap log_of (of-completed logs here q ∙ ap (option_map (λ l. completed_log l (unread_of here q))) f) in
-                let is : log_at (completed (logs ++ no_log ∷ []) later) q ≡ no_log = ap log_of (of-completed (logs ++ no_log ∷ []) later q ∙ ap (option_map (λ l. completed_log l (unread_of later q))) (of-append_past logs no_log q f ne)) in (
-                  ap (λ (l : Log). l.put) (is ∙ sym was) ∙ r.put q ∙ sym (none_put q f ne),
-                  ap (λ (l : Log). l.read) (is ∙ sym was) ∙ r.read q ∙ sym (untaken q),
-                )
-          ] refl
+          | None ↦ λ f. at_each (λ n. of_client logs n ≡ None → ((log_at (completed (logs ++ no_log ∷ []) later) n).put ≡ put_in start (events ++ opening ∷ []) n) × ((log_at (completed (logs ++ no_log ∷ []) later) n).read ≡ taken_in start (events ++ opening ∷ []) n)) (suc (length logs))
+              (λ g.
+              let is : log_at (completed (logs ++ no_log ∷ []) later) (suc (length logs)) ≡ completed_log no_log (unread_of later (suc (length logs))) =
+              ap log_of (of-completed (logs ++ no_log ∷ []) later (suc (length logs)) ∙ ap (option_map (λ l. completed_log l (unread_of later (suc (length logs))))) (of-append_new logs no_log)) in
+              (ap (λ (l : Log). l.put) is ∙ first_put, ap (λ (l : Log). l.read) is ∙ sym first_read))
+              (λ n ne g.
+              let was : log_at (completed logs here) n ≡ no_log = ap log_of (of-completed logs here n ∙ ap (option_map (λ l. completed_log l (unread_of here n))) g) in
+              let is : log_at (completed (logs ++ no_log ∷ []) later) n ≡ no_log = ap log_of (of-completed (logs ++ no_log ∷ []) later n ∙ ap (option_map (λ l. completed_log l (unread_of later n))) (of-append_past logs no_log n g ne)) in (
+                ap (λ (l : Log). l.put) (is ∙ sym was) ∙ r.put n ∙ sym (none_put n g ne),
+                ap (λ (l : Log). l.read) (is ∙ sym was) ∙ r.read n ∙ sym (untaken n),
+              ))
+              q f
         ] refl
 
     pub opened_record : IsRecord (completed (logs ++ no_log ∷ []) later) start (events ++ opening ∷ [])

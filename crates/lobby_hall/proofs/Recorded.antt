@@ -4,6 +4,7 @@ use Rattle.std.specs.Prelude.{Some, None, slice_get, IfSome}
 use Rattle.std.specs.List.{AllByRecursion}
 use Rattle.std.specs.Option.{option_map}
 use Rattle.std.proofs.lemmas.List.{drop_all, drop_at, drop-drop}
+use Rattle.account_book.specs.Account.{Account}
 use Rattle.lobby_model.specs.declared.event.Event.{Event}
 use Rattle.lobby_model.specs.Table.{at_number}
 use Rattle.lobby_model.specs.Configuration.{Configuration}
@@ -67,9 +68,9 @@ filled put read unread taken more same within is =
     ∙ drop-drop (length put - length read) (length read) (put ++ more)
     ∙ drop_at put more (length read + (length put - length read)) (omega (arith, within))
 
-module _ (settings : Configuration) (events : List Event) where
+module _ (settings : Configuration) (accounts : List Account) (events : List Event) where
   abbrev start : State
-  start = empty_lobby settings
+  start = empty_lobby settings accounts
 
   abbrev here : State
   here = after start events
@@ -80,7 +81,7 @@ module _ (settings : Configuration) (events : List Event) where
       elim (at_number here.clients q) as (λ o. at_number here.clients q ≡ o → o ≡ None) [
         | None ↦ λ e. refl
         | Some x ↦ λ e.
-            let known = (balanced settings events q).known x e in
+            let known = (balanced settings accounts events q).known x e in
             absurd (of-some logs q known.0 (omega (arith, known.1, each)) none)
       ] refl
 
@@ -89,7 +90,7 @@ module _ (settings : Configuration) (events : List Event) where
     later = next here e
 
     pub balanced_later : (q : ℕ) → Balanced later q (taken_in start events q ++ taken_by here e q) (put_in start events q ++ put_by here e q)
-    balanced_later q = balanced_next here e q _ _ (balanced settings events q)
+    balanced_later q = balanced_next here e q _ _ (balanced settings accounts events q)
 
     -- an event that takes nothing, where the logs were complete before it
     pub recorded : (logs : List Log) → IsRecord logs start events → AllByRecursion IsWithin logs → length logs ≡ later.last_client → ((q : ℕ) → taken_by here e q ≡ [])
@@ -111,7 +112,7 @@ module _ (settings : Configuration) (events : List Event) where
               | None ↦ λ f. drop_all (length log.put - length log.read) [] (omega arith) ∙ sym (put_by_none here e q f)
               | Some y ↦ λ f. elim y.cut as (λ b. y.cut ≡ b → drop (length log.put - length log.read) y.unread ≡ put_by here e q) [
                 | true ↦ λ k. ap (drop (length log.put - length log.read)) ((balanced_later q).gone y f k) ∙ drop_all (length log.put - length log.read) [] (omega arith)
-                    ∙ sym (put_by_cut here e q _ _ y (balanced settings events q) f k)
+                    ∙ sym (put_by_cut here e q _ _ y (balanced settings accounts events q) f k)
                 | false ↦ λ k.
                     let put_is : put_in start events q ≡ log.put = sym (r.put q) ∙ ap (λ o. (log_of o).put) found in
                     let read_is : log.read ≡ taken_in start events q = sym (ap (λ o. (log_of o).read) found) ∙ r.read q in

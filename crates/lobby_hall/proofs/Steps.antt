@@ -9,17 +9,18 @@ use Rattle.std.specs.FinMap.Entries.{find-put}
 use Rattle.line_framer.specs.Frames.{frames}
 use Rattle.line_framer.specs.Framed.{Framed, first, next_line}
 use Rattle.command_grammar.specs.declared.command.Request.{Request}
+use Rattle.account_book.specs.Account.{Account}
 use Rattle.lobby_model.specs.declared.event.Event.{Event}
 use Rattle.lobby_model.specs.declared.event.Event.TheVariants as event
 use Rattle.lobby_model.specs.declared.schedule.Step.TheVariants as step
-use Rattle.lobby_model.specs.Table.{ByNumber, at_number, put_number, same_number}
+use Rattle.lobby_model.specs.Table.{ByNumber, at_number, put_number}
 use Rattle.lobby_model.specs.Configuration.{Configuration}
 use Rattle.lobby_model.specs.State.{State, Client, empty_lobby}
 use Rattle.lobby_model.specs.Effect.{has_place, opened}
 use Rattle.lobby_model.specs.Next.{next}
 use Rattle.lobby_model.specs.History.{after}
 use Rattle.lobby_model.specs.Schedule.{World, Input, input, input_of, is_open, line_limit, with_bytes, with_taken, moved, StepGives, TakeGives}
-use Rattle.lobby_model.proofs.Delivered.{same_number_is, same_itself}
+use Rattle.lobby_model.proofs.Delivered.{same_itself}
 use Rattle.lobby_model.proofs.Balance.{is_numbered}
 use Rattle.lobby_hall.specs.ByClient.{of_client}
 use Rattle.lobby_hall.specs.Record.{Log, IsRecord}
@@ -29,24 +30,15 @@ use Rattle.lobby_hall.specs.Sessions.{Heard, NextAt}
 use Rattle.lobby_hall.specs.OneSession.{Fed, Accepted, IsNextOf}
 use Rattle.lobby_hall.specs.Standing.{Kept, session_of, session_at, SessionOf, Stands, StandsAfter}
 use Rattle.lobby_hall.specs.Copied.{completed, completed_log, IsWithin, changed_at, caught_up, read_on, no_log}
+use Rattle.lobby_hall.proofs.Each.{at_each, not_same}
 use Rattle.lobby_hall.proofs.Changed.{of-changed_same, of-changed_other, length-changed_at}
 use Rattle.lobby_hall.proofs.Logs.{length-completed_from}
 use Rattle.lobby_hall.proofs.Recorded.{after-snoc, recorded}
 use Rattle.lobby_machine.specs.Shown.{unread_of}
 use Rattle.lobby_hall.proofs.Drained.{drained_record}
 use Rattle.lobby_hall.proofs.Opened.{opened_record, of-append_some, of-append_new, of-append_past, other_client}
-use Rattle.lobby_hall.proofs.Kept.{said_keeps, said_last, shut_removes, shut_keeps, drain_keeps, open_lets_in}
-
--- cases on whether a number is c
-pub at_each : (P : ℕ → Type 0) (c : ℕ) → P c → ((q : ℕ) → q ≢ c → P q) → (q : ℕ) → P q
-at_each P c here others q =
-    elim (same_number q c) as (λ b. same_number q c ≡ b → P q) [
-      | true ↦ λ e. subst P (sym (same_number_is q c e)) here
-      | false ↦ λ e. others q (λ k. let no : true ≡ false = sym (ap (λ d. same_number d c) k ∙ same_itself c) ∙ e in absurd (cc))
-    ] refl
-
-not_same : (q c : ℕ) → q ≢ c → same_number q c ≡ false
-not_same q c ne = elim (same_number q c) as (λ b. same_number q c ≡ b → b ≡ false) [ true ↦ λ e. absurd (ne (same_number_is q c e)) | false ↦ λ e. refl ] refl
+use Rattle.lobby_model.proofs.Quiet.{shut_removes}
+use Rattle.lobby_hall.proofs.Kept.{said_keeps, said_last, shut_keeps, drain_keeps, open_lets_in}
 
 -- inputs with one written
 input_here : (inputs : ByNumber Input) (c : ℕ) (x : Input) → input_of (at_number (put_number inputs c x) c) ≡ x
@@ -70,29 +62,29 @@ some_line : (o : Option (List ℕ)) (bytes : List ℕ) (request : Request) → N
 some_line None bytes request h = absurd h
 some_line (Some line) bytes request h = refl
 
-module _ (settings : Configuration) (events : List Event) (w : World) where
+module _ (settings : Configuration) (accounts : List Account) (events : List Event) (w : World) where
   -- a step that gives no event and leaves the world
-  pub stays : (hall : Kept) → Stands hall settings events w → Stands hall settings (events ++ []) w
-  stays hall st = subst (λ es. Stands hall settings es w) (sym (append-nil events)) st
+  pub stays : (hall : Kept) → Stands hall settings accounts events w → Stands hall settings accounts (events ++ []) w
+  stays hall st = subst (λ es. Stands hall settings accounts es w) (sym (append-nil events)) st
 
   -- a client that is open bears a number that was given
-  open_is_numbered : (hall : Kept) → Stands hall settings events w → (c : ℕ) → is_open w c ≡ true → c ≤ w.lobby.last_client
+  open_is_numbered : (hall : Kept) → Stands hall settings accounts events w → (c : ℕ) → is_open w c ≡ true → c ≤ w.lobby.last_client
   open_is_numbered hall st c is =
       elim (at_number w.lobby.clients c) as (λ o. at_number w.lobby.clients c ≡ o → is_some o ≡ true → c ≤ w.lobby.last_client) [
         | None ↦ λ f e. absurd (cc)
         | Some x ↦ λ f e.
-            let known = is_numbered settings events c x (ap (λ (s : State). at_number s.clients c) (sym st.history) ∙ f) in
+            let known = is_numbered settings accounts events c x (ap (λ (s : State). at_number s.clients c) (sym st.history) ∙ f) in
             omega (arith, known.1, ap (λ (s : State). s.last_client) st.history)
       ] refl is
 
-  module _ (s : State) (ss : List (Option Serving)) (rs : List Log) (st : Stands (record { lobby = s; sessions = ss; record_so_far = rs }) settings events w) where
+  module _ (s : State) (ss : List (Option Serving)) (rs : List Log) (st : Stands (record { lobby = s; sessions = ss; record_so_far = rs }) settings accounts events w) where
     -- bytes come
     pub arrived : (c : ℕ) (piece : List ℕ) (new : List (Option Serving)) → Fed (session_at ss c) (session_at new c) piece
         → ((q : ℕ) → q ≢ c → session_at new q ≡ session_at ss q) → length new ≡ length ss
-        → StandsAfter (record { lobby = s; sessions = new; record_so_far = rs }) settings events w (step.Arrive c piece)
+        → StandsAfter (record { lobby = s; sessions = new; record_so_far = rs }) settings accounts events w (step.Arrive c piece)
     arrived c piece new fed others same =
         elim (session_at ss c) as (λ o. session_at ss c ≡ o → SessionOf o (is_open w c) (input w c) → Fed o (session_at new c) piece
-        → StandsAfter (record { lobby = s; sessions = new; record_so_far = rs }) settings events w (step.Arrive c piece)) [
+        → StandsAfter (record { lobby = s; sessions = new; record_so_far = rs }) settings accounts events w (step.Arrive c piece)) [
           | None ↦ λ f there h. (
             [],
             w,
@@ -113,7 +105,7 @@ module _ (settings : Configuration) (events : List Event) (w : World) where
             [],
             with_bytes w c piece,
             (refl, sym (ap (λ b. if b then with_bytes w c piece else w) there.0)),
-            subst (λ es. Stands (record { lobby = s; sessions = new; record_so_far = rs }) settings es (with_bytes w c piece)) (sym (append-nil events)) (record {
+            subst (λ es. Stands (record { lobby = s; sessions = new; record_so_far = rs }) settings accounts es (with_bytes w c piece)) (sym (append-nil events)) (record {
               lobby = st.lobby;
               history = st.history;
               record_is = st.record_is;
@@ -131,16 +123,16 @@ module _ (settings : Configuration) (events : List Event) (w : World) where
 
     -- the client's session is gone with it
     removed_stands : (c : ℕ) → AllByRecursion IsWithin rs
-        → Stands (record { lobby = next s (event.Shut c); sessions = changed_at (λ _. None) ss c; record_so_far = completed rs (next s (event.Shut c)) }) settings (events ++ event.Shut c ∷ []) (moved w (event.Shut c ∷ []))
+        → Stands (record { lobby = next s (event.Shut c); sessions = changed_at (λ _. None) ss c; record_so_far = completed rs (next s (event.Shut c)) }) settings accounts (events ++ event.Shut c ∷ []) (moved w (event.Shut c ∷ []))
     removed_stands c within =
-        let here : s ≡ after (empty_lobby settings) events = st.lobby ∙ st.history in
+        let here : s ≡ after (empty_lobby settings accounts) events = st.lobby ∙ st.history in
         record {
           lobby = ap (λ t. next t (event.Shut c)) st.lobby;
-          history = ap (λ t. next t (event.Shut c)) st.history ∙ sym (after-snoc (empty_lobby settings) events (event.Shut c));
-          record_is = subst (λ (t : State). IsRecord (completed rs (next t (event.Shut c))) (empty_lobby settings) (events ++ event.Shut c ∷ [])) (sym here)
-              (recorded settings events (event.Shut c) rs st.record_is within (st.one_log_each ∙ ap (λ (t : State). t.last_client) st.history) (λ q. refl));
+          history = ap (λ t. next t (event.Shut c)) st.history ∙ sym (after-snoc (empty_lobby settings accounts) events (event.Shut c));
+          record_is = subst (λ (t : State). IsRecord (completed rs (next t (event.Shut c))) (empty_lobby settings accounts) (events ++ event.Shut c ∷ [])) (sym here)
+              (recorded settings accounts events (event.Shut c) rs st.record_is within (st.one_log_each ∙ ap (λ (t : State). t.last_client) st.history) (λ q. refl));
           sessions = at_each (λ q. SessionOf (session_at (changed_at (λ _. None) ss c) q) (is_open (moved w (event.Shut c ∷ [])) q) (input w q)) c
-              (subst (λ o. SessionOf o (is_open (moved w (event.Shut c ∷ [])) c) (input w c)) (sym (gone c)) (shut_removes w.lobby c))
+              (subst (λ o. SessionOf o (is_open (moved w (event.Shut c ∷ [])) c) (input w c)) (sym (gone c)) (ap is_some (shut_removes w.lobby c)))
               (λ q ne. subst (λ o. SessionOf (session_of o) (is_open (moved w (event.Shut c ∷ [])) q) (input w q)) (sym (of-changed_other (λ _. None) ss c q ne))
               (subst (λ b. SessionOf (session_at ss q) b (input w q)) (sym (shut_keeps w.lobby c q (not_same c q (λ e. ne (sym e))))) (st.sessions q)));
           unheard = st.unheard;
@@ -153,7 +145,7 @@ module _ (settings : Configuration) (events : List Event) (w : World) where
 
     -- a client that is there is shut
     pub shut_off : (c : ℕ) → AllByRecursion IsWithin rs → is_some (at_number s.clients c) ≡ true
-        → StandsAfter (record { lobby = next s (event.Shut c); sessions = changed_at (λ _. None) ss c; record_so_far = completed rs (next s (event.Shut c)) }) settings events w (step.Shut c)
+        → StandsAfter (record { lobby = next s (event.Shut c); sessions = changed_at (λ _. None) ss c; record_so_far = completed rs (next s (event.Shut c)) }) settings accounts events w (step.Shut c)
     shut_off c within there = (
       event.Shut c ∷ [],
       moved w (event.Shut c ∷ []),
@@ -162,7 +154,7 @@ module _ (settings : Configuration) (events : List Event) (w : World) where
     )
 
     pub shut_nobody : (c : ℕ) → is_some (at_number s.clients c) ≡ false
-        → StandsAfter (record { lobby = s; sessions = ss; record_so_far = rs }) settings events w (step.Shut c)
+        → StandsAfter (record { lobby = s; sessions = ss; record_so_far = rs }) settings accounts events w (step.Shut c)
     shut_nobody c nobody = (
       [],
       w,
@@ -171,7 +163,7 @@ module _ (settings : Configuration) (events : List Event) (w : World) where
     )
 
     -- a take where nothing is next
-    pub took_nothing : (c : ℕ) → IsNextOf (session_at ss c) Nothing → StandsAfter (record { lobby = s; sessions = ss; record_so_far = rs }) settings events w (step.Take c)
+    pub took_nothing : (c : ℕ) → IsNextOf (session_at ss c) Nothing → StandsAfter (record { lobby = s; sessions = ss; record_so_far = rs }) settings accounts events w (step.Take c)
     took_nothing c told = ([], w, gives (session_at ss c) (st.sessions c) told, stays _ st)
       where
         calm : (o : Option (List ℕ)) → NextAt o (input w c).bytes Nothing → TakeGives w c o [] w
@@ -186,7 +178,7 @@ module _ (settings : Configuration) (events : List Event) (w : World) where
 
     -- a take at the spoilt place
     pub took_spoilt : (c : ℕ) → AllByRecursion IsWithin rs → IsNextOf (session_at ss c) Spoilt
-        → StandsAfter (record { lobby = next s (event.Shut c); sessions = changed_at (λ _. None) ss c; record_so_far = completed rs (next s (event.Shut c)) }) settings events w (step.Take c)
+        → StandsAfter (record { lobby = next s (event.Shut c); sessions = changed_at (λ _. None) ss c; record_so_far = completed rs (next s (event.Shut c)) }) settings accounts events w (step.Take c)
     took_spoilt c within told = (event.Shut c ∷ [], moved w (event.Shut c ∷ []), gives (session_at ss c) (st.sessions c) told, removed_stands c within)
       where
         spoils : (o : Option (List ℕ)) → NextAt o (input w c).bytes Spoilt → TakeGives w c o (event.Shut c ∷ []) (moved w (event.Shut c ∷ []))
@@ -202,7 +194,7 @@ module _ (settings : Configuration) (events : List Event) (w : World) where
     -- a take of a line
     pub took_line : (c : ℕ) (request : Request) (new : List (Option Serving)) → AllByRecursion IsWithin rs → IsNextOf (session_at ss c) (Line request)
         → Accepted (session_at ss c) (session_at new c) → ((q : ℕ) → q ≢ c → session_at new q ≡ session_at ss q) → length new ≡ length ss
-        → StandsAfter (record { lobby = next s (event.Say c request); sessions = new; record_so_far = completed rs (next s (event.Say c request)) }) settings events w (step.Take c)
+        → StandsAfter (record { lobby = next s (event.Say c request); sessions = new; record_so_far = completed rs (next s (event.Say c request)) }) settings accounts events w (step.Take c)
     took_line c request new within told accepted others same =
         (event.Say c request ∷ [], (moved (with_taken w c) (event.Say c request ∷ [])), gives (session_at ss c) (st.sessions c) told, said_stands)
       where
@@ -232,15 +224,15 @@ module _ (settings : Configuration) (events : List Event) (w : World) where
             (subst (λ (given : Input). (is_open (moved (with_taken w c) (event.Say c request ∷ [])) c ≡ true) × Heard a.0.framed given.bytes given.taken) (sym (input_here w.inputs c _))
             (open_still c ∙ there.0, a.2 (has_next old.framed (input w c).bytes (input w c).taken there.1 line) (input w c).bytes (input w c).taken there.1))
 
-        said_stands : Stands (record { lobby = next s (event.Say c request); sessions = new; record_so_far = completed rs (next s (event.Say c request)) }) settings (events ++ event.Say c request ∷ []) (moved (with_taken w c) (event.Say c request ∷ []))
+        said_stands : Stands (record { lobby = next s (event.Say c request); sessions = new; record_so_far = completed rs (next s (event.Say c request)) }) settings accounts (events ++ event.Say c request ∷ []) (moved (with_taken w c) (event.Say c request ∷ []))
         said_stands =
-            let here : s ≡ after (empty_lobby settings) events = st.lobby ∙ st.history in
+            let here : s ≡ after (empty_lobby settings accounts) events = st.lobby ∙ st.history in
             record {
               lobby = ap (λ t. next t (event.Say c request)) st.lobby;
-              history = ap (λ t. next t (event.Say c request)) st.history ∙ sym (after-snoc (empty_lobby settings) events (event.Say c request));
-              record_is = subst (λ (t : State). IsRecord (completed rs (next t (event.Say c request))) (empty_lobby settings) (events ++ event.Say c request ∷ [])) (sym here)
-                  (recorded settings events (event.Say c request) rs st.record_is within
-                  (st.one_log_each ∙ ap (λ (t : State). t.last_client) st.history ∙ sym (said_last (after (empty_lobby settings) events) c request)) (λ q. refl));
+              history = ap (λ t. next t (event.Say c request)) st.history ∙ sym (after-snoc (empty_lobby settings accounts) events (event.Say c request));
+              record_is = subst (λ (t : State). IsRecord (completed rs (next t (event.Say c request))) (empty_lobby settings accounts) (events ++ event.Say c request ∷ [])) (sym here)
+                  (recorded settings accounts events (event.Say c request) rs st.record_is within
+                  (st.one_log_each ∙ ap (λ (t : State). t.last_client) st.history ∙ sym (said_last (after (empty_lobby settings accounts) events) c request)) (λ q. refl));
               sessions = at_each (λ q. SessionOf (session_at new q) (is_open (moved (with_taken w c) (event.Say c request ∷ [])) q) (input (moved (with_taken w c) (event.Say c request ∷ [])) q)) c
                   (issuer (session_at ss c) (session_at new c) (st.sessions c) told accepted)
                   (λ q ne. subst (λ o. SessionOf o (is_open (moved (with_taken w c) (event.Say c request ∷ [])) q) (input (moved (with_taken w c) (event.Say c request ∷ [])) q)) (sym (others q ne))
@@ -255,27 +247,27 @@ module _ (settings : Configuration) (events : List Event) (w : World) where
               one_log_each = length-completed_from 1 rs (next s (event.Say c request)) ∙ st.one_log_each ∙ sym (said_last w.lobby c request);
             }
 
-  module _ (s : State) (ss : List (Option Serving)) (ls : List Log) (st : Stands (record { lobby = s; sessions = ss; record_so_far = completed ls s }) settings events w) where
-    logs_each : length ls ≡ (after (empty_lobby settings) events).last_client
+  module _ (s : State) (ss : List (Option Serving)) (ls : List Log) (st : Stands (record { lobby = s; sessions = ss; record_so_far = completed ls s }) settings accounts events w) where
+    logs_each : length ls ≡ (after (empty_lobby settings accounts) events).last_client
     logs_each = sym (length-completed_from 1 ls s) ∙ st.one_log_each ∙ ap (λ (t : State). t.last_client) st.history
 
-    here_is : s ≡ after (empty_lobby settings) events
+    here_is : s ≡ after (empty_lobby settings accounts) events
     here_is = st.lobby ∙ st.history
 
     -- a client that is there reads
     pub was_read : (c n : ℕ) (x : Client) → at_number s.clients c ≡ Some x → (new : List Log)
         → new ≡ changed_at (read_on (min n (length x.unread))) (caught_up ls s c) c → (min n (length x.unread) ≡ 0 → new ≡ caught_up ls s c)
-        → StandsAfter (record { lobby = next s (event.Drain c n); sessions = ss; record_so_far = completed new (next s (event.Drain c n)) }) settings events w (step.Read c n)
+        → StandsAfter (record { lobby = next s (event.Drain c n); sessions = ss; record_so_far = completed new (next s (event.Drain c n)) }) settings accounts events w (step.Read c n)
     was_read c n x found new read_more none = (
       event.Drain c n ∷ [],
       moved w (event.Drain c n ∷ []),
       (sym (ap (λ b. if b then event.Drain c n ∷ [] else []) (sym (ap (λ (t : State). is_some (at_number t.clients c)) st.lobby) ∙ ap is_some found)), refl),
       record {
         lobby = ap (λ t. next t (event.Drain c n)) st.lobby;
-        history = ap (λ t. next t (event.Drain c n)) st.history ∙ sym (after-snoc (empty_lobby settings) events (event.Drain c n));
-        record_is = subst (λ (t : State). IsRecord (completed new (next t (event.Drain c n))) (empty_lobby settings) (events ++ event.Drain c n ∷ [])) (sym here_is)
-            (drained_record settings events ls c n x (ap (λ (t : State). at_number t.clients c) (sym here_is) ∙ found)
-            (subst (λ (t : State). IsRecord (completed ls t) (empty_lobby settings) events) here_is st.record_is)
+        history = ap (λ t. next t (event.Drain c n)) st.history ∙ sym (after-snoc (empty_lobby settings accounts) events (event.Drain c n));
+        record_is = subst (λ (t : State). IsRecord (completed new (next t (event.Drain c n))) (empty_lobby settings accounts) (events ++ event.Drain c n ∷ [])) (sym here_is)
+            (drained_record settings accounts events ls c n x (ap (λ (t : State). at_number t.clients c) (sym here_is) ∙ found)
+            (subst (λ (t : State). IsRecord (completed ls t) (empty_lobby settings accounts) events) here_is st.record_is)
             new (read_more ∙ ap (λ (t : State). changed_at (read_on (min n (length x.unread))) (caught_up ls t c) c) here_is) (λ z. none z ∙ ap (λ (t : State). caught_up ls t c) here_is) logs_each);
         sessions = λ q. subst (λ b. SessionOf (session_at ss q) b (input w q)) (sym (drain_keeps w.lobby c n q)) (st.sessions q);
         unheard = st.unheard;
@@ -286,7 +278,7 @@ module _ (settings : Configuration) (events : List Event) (w : World) where
     )
 
     pub read_nobody : (c n : ℕ) → is_some (at_number s.clients c) ≡ false
-        → StandsAfter (record { lobby = s; sessions = ss; record_so_far = completed ls s }) settings events w (step.Read c n)
+        → StandsAfter (record { lobby = s; sessions = ss; record_so_far = completed ls s }) settings accounts events w (step.Read c n)
     read_nobody c n nobody = (
       [],
       w,
@@ -296,17 +288,17 @@ module _ (settings : Configuration) (events : List Event) (w : World) where
 
     -- the next client is let in
     pub was_opened : (ip : List ℕ) (home : ℕ) (session : Serving) → Heard session.framed [] 0 → has_place s ≡ true
-        → StandsAfter (record { lobby = next s (event.Open ip home); sessions = ss ++ Some session ∷ []; record_so_far = completed (ls ++ no_log ∷ []) (next s (event.Open ip home)) }) settings events w (step.Open ip home)
+        → StandsAfter (record { lobby = next s (event.Open ip home); sessions = ss ++ Some session ∷ []; record_so_far = completed (ls ++ no_log ∷ []) (next s (event.Open ip home)) }) settings accounts events w (step.Open ip home)
     was_opened ip home session heard place = (
       event.Open ip home ∷ [],
       moved w (event.Open ip home ∷ []),
       (sym (ap (λ b. if b then event.Open ip home ∷ [] else []) there), refl),
       record {
         lobby = ap (λ t. next t (event.Open ip home)) st.lobby;
-        history = ap (λ t. next t (event.Open ip home)) st.history ∙ sym (after-snoc (empty_lobby settings) events (event.Open ip home));
-        record_is = subst (λ (t : State). IsRecord (completed (ls ++ no_log ∷ []) (next t (event.Open ip home))) (empty_lobby settings) (events ++ event.Open ip home ∷ [])) (sym here_is)
-            (opened_record settings events ls ip home (ap has_place (sym here_is) ∙ place) logs_each
-            (subst (λ (t : State). IsRecord (completed ls t) (empty_lobby settings) events) here_is st.record_is));
+        history = ap (λ t. next t (event.Open ip home)) st.history ∙ sym (after-snoc (empty_lobby settings accounts) events (event.Open ip home));
+        record_is = subst (λ (t : State). IsRecord (completed (ls ++ no_log ∷ []) (next t (event.Open ip home))) (empty_lobby settings accounts) (events ++ event.Open ip home ∷ [])) (sym here_is)
+            (opened_record settings accounts events ls ip home (ap has_place (sym here_is) ∙ place) logs_each
+            (subst (λ (t : State). IsRecord (completed ls t) (empty_lobby settings accounts) events) here_is st.record_is));
         sessions = at_each (λ q. SessionOf (session_at (ss ++ Some session ∷ []) q) (is_open (moved w (event.Open ip home ∷ [])) q) (input w q)) (suc (length ss))
             (subst (λ o. SessionOf (session_of o) (is_open (moved w (event.Open ip home ∷ [])) (suc (length ss))) (input w (suc (length ss)))) (sym (of-append_new ss (Some session)))
             (is_let_in, subst (λ (given : Input). Heard session.framed given.bytes given.taken) (sym (st.unheard (suc (length ss)) (omega (arith, st.one_session_each)))) heard))
@@ -341,7 +333,7 @@ module _ (settings : Configuration) (events : List Event) (w : World) where
             ] refl
 
     pub open_refused : (ip : List ℕ) (home : ℕ) → has_place s ≡ false
-        → StandsAfter (record { lobby = s; sessions = ss; record_so_far = completed ls s }) settings events w (step.Open ip home)
+        → StandsAfter (record { lobby = s; sessions = ss; record_so_far = completed ls s }) settings accounts events w (step.Open ip home)
     open_refused ip home full = (
       [],
       w,

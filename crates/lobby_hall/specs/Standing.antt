@@ -1,6 +1,7 @@
 -- What a hall stands for: the world that a schedule leaves, and the record of its events.
 use Rattle.std.specs.Prelude.{◌≡◌, ℕ, ◌≤◌, ◌<◌, Bool, ◌&&◌, ◌||◌, true, false, List, ◌++◌, length, Option, Some, None, is_some, slice_get}
 use Rattle.line_framer.specs.Frames.{frames, is_spoilt}
+use Rattle.account_book.specs.Account.{Account}
 use Rattle.lobby_model.specs.declared.event.Event.{Event}
 use Rattle.lobby_model.specs.declared.schedule.Step.{Step}
 use Rattle.lobby_model.specs.declared.schedule.Step.TheVariants as step
@@ -32,23 +33,23 @@ abbrev pub SessionOf : Option Serving → Bool → Input → Type 0
 SessionOf None is_there given = is_there ≡ false
 SessionOf (Some session) is_there given = (is_there ≡ true) × Heard session.framed given.bytes given.taken
 
-pub record Stands (hall : Kept) (settings : Configuration) (events : List Event) (world : World) : Type 0 where
+pub record Stands (hall : Kept) (settings : Configuration) (accounts : List Account) (events : List Event) (world : World) : Type 0 where
   pub lobby : hall.lobby ≡ world.lobby
-  pub history : world.lobby ≡ after (empty_lobby settings) events
-  pub record_is : IsRecord hall.record_so_far (empty_lobby settings) events
+  pub history : world.lobby ≡ after (empty_lobby settings accounts) events
+  pub record_is : IsRecord hall.record_so_far (empty_lobby settings accounts) events
   pub sessions : (c : ℕ) → SessionOf (session_at hall.sessions c) (is_open world c) (input world c)
   pub unheard : (c : ℕ) → world.lobby.last_client < c → input world c ≡ input_of None
   pub one_session_each : length hall.sessions ≡ world.lobby.last_client
   pub one_log_each : length hall.record_so_far ≡ world.lobby.last_client
 
 -- after one further step the hall stands for what that step gives
-abbrev pub StandsAfter : Kept → Configuration → List Event → World → Step → Type 0
-StandsAfter hall settings events world s =
-    (here : List Event) × (new : World) × StepGives world s here new × Stands hall settings (events ++ here) new
+abbrev pub StandsAfter : Kept → Configuration → List Account → List Event → World → Step → Type 0
+StandsAfter hall settings accounts events world s =
+    (here : List Event) × (new : World) × StepGives world s here new × Stands hall settings accounts (events ++ here) new
 
 -- whatever world the old hall stood for, the new one stands for what the step gives
 abbrev pub TakesStep : Kept → Kept → Step → Type 0
-TakesStep old new s = (settings : Configuration) (events : List Event) (world : World) → Stands old settings events world → StandsAfter new settings events world s
+TakesStep old new s = (settings : Configuration) (accounts : List Account) (events : List Event) (world : World) → Stands old settings accounts events world → StandsAfter new settings accounts events world s
 
 -- a whole line, or a spoilt place, is next
 abbrev pub is_ready : World → ℕ → Bool

@@ -2,6 +2,7 @@
 
 ghost use Rattle.std.specs.Prelude.{◌≡◌, ◌≢◌, ℕ, ◌≤◌, List, [], ◌∷◌, ◌++◌, IfOk, OnOk, OnErr, None, length};
 ghost use Rattle.std.specs.List.{AllByRecursion};
+ghost use Rattle.account_book.specs.Account.{Account};
 ghost use Rattle.lobby_model.specs.declared.event.Event.{Event};
 ghost use Rattle.lobby_model.specs.declared.event.Event.TheVariants as event;
 ghost use Rattle.lobby_model.specs.declared.schedule.Step.{Step};
@@ -17,6 +18,7 @@ ghost use Rattle.lobby_hall.specs.Standing.{HasHome, Stands, TakesStep, is_ready
 use crate::record::Record;
 use crate::session::{Next, Session};
 use crate::sessions::{accept, close, feed, is_ready, next_of};
+use account_book::AccountBook;
 use command_grammar::Request;
 use lobby_machine::Lobby;
 use lobby_model::{Settings, Step};
@@ -70,14 +72,14 @@ impl Hall {
     ghost use Rattle.std.specs.Io.BufRead.{Rests};
     ghost use Rattle.lobby_hall.specs.contracts.hall.Hall.{the_row};
 
-    /// A hall with an empty lobby.
-    pub fn new(alloc: Global, settings: Settings) -> Result<Hall, HallError>
-        ensures stands { IfOk result (λ hall. Stands hall settings [] (new_world settings)) }
-        ensures schedule { IfOk result (λ hall. StandsFor hall settings []) }
+    /// A hall with an empty lobby, to which one may log in under these accounts.
+    pub fn new(alloc: Global, settings: Settings, accounts: AccountBook) -> Result<Hall, HallError>
+        ensures stands { IfOk result (λ hall. Stands hall settings accounts [] (new_world settings accounts)) }
+        ensures schedule { IfOk result (λ hall. StandsFor hall settings accounts []) }
     {
         Ok(Hall {
             alloc,
-            lobby: Lobby::new(alloc, settings)?,
+            lobby: Lobby::new(alloc, settings, accounts)?,
             sessions: Vec::new(alloc),
             logs: Record::new(alloc),
             drained: Vec::new(alloc),
@@ -199,7 +201,7 @@ impl Hall {
     pub fn step(&mut self, step: &Step) -> Result<(), HallError>
         requires { HasHome step.now }
         ensures ok { OnOk result (TakesStep self.old self.new step.now) }
-        ensures schedule { OnOk result ((settings : Configuration) (steps : List Step) → StandsFor self.old settings steps → StandsFor self.new settings (steps ++ step.now ∷ [])) }
+        ensures schedule { OnOk result ((settings : Configuration) (accounts : List Account) (steps : List Step) → StandsFor self.old settings accounts steps → StandsFor self.new settings accounts (steps ++ step.now ∷ [])) }
         ensures err { OnErr result (self.new ≡ self.old) }
     {
         self.take_step(step)?;
@@ -222,7 +224,7 @@ impl Hall {
 
     /// Whether a take of a client's next line would give an event: a whole line or a spoilt place is next.
     pub fn ready(&self, client: u64) -> bool
-        ensures { (settings : Configuration) (events : List Event) (world : World) → Stands self.now settings events world → result ≡ is_ready world client }
+        ensures { (settings : Configuration) (accounts : List Account) (events : List Event) (world : World) → Stands self.now settings accounts events world → result ≡ is_ready world client }
     {
         is_ready(&self.sessions, client)
     }
@@ -252,12 +254,18 @@ impl Hall {
     }
 }
 
-/// The record of a whole schedule: a lobby with these settings takes its steps in order.
-pub fn run(alloc: Global, settings: Settings, steps: &[Step]) -> Result<Record, HallError>
+/// The record of a whole schedule: a lobby with these settings, to which one may log in under these
+/// accounts, takes its steps in order.
+pub fn run(
+    alloc: Global,
+    settings: Settings,
+    accounts: AccountBook,
+    steps: &[Step],
+) -> Result<Record, HallError>
     requires { AllByRecursion HasHome steps.now }
-    ensures { IfOk result (λ logs. IsRecordOf logs settings steps.now) }
+    ensures { IfOk result (λ logs. IsRecordOf logs settings accounts steps.now) }
 {
-    let mut hall = Hall::new(alloc, settings)?;
+    let mut hall = Hall::new(alloc, settings, accounts)?;
     for step in steps {
         hall.step(step)?;
     }

@@ -2,11 +2,11 @@
 //! bytes that the events put for each client are recorded.
 #![tactic(auto)]
 
-pub mod hall;
+mod hall;
 mod place;
-pub mod record;
-pub mod session;
-pub mod sessions;
+mod record;
+mod session;
+mod sessions;
 
 pub use hall::{Hall, HallError, run};
 pub use lobby_model::Step;

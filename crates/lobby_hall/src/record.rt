@@ -75,7 +75,7 @@ impl Model for Record {
 
 impl Record {
     /// The record of no event.
-    pub fn new(alloc: Global) -> Record
+    pub(crate) fn new(alloc: Global) -> Record
         ensures { result ≡ [] }
     {
         Record {
@@ -111,7 +111,7 @@ impl Record {
     }
 
     /// Begins the log of the next client.
-    pub fn begin(&mut self) -> Result<(), AllocError>
+    pub(crate) fn begin(&mut self) -> Result<(), AllocError>
         ensures { self.new ≡ (if is_ok result then self.old ++ no_log ∷ [] else self.old) }
     {
         let alloc = *self.logs.allocator();
@@ -123,14 +123,14 @@ impl Record {
     }
 
     /// Takes back the last log that was begun.
-    pub fn take_back(&mut self)
+    pub(crate) fn take_back(&mut self)
         ensures { self.new ≡ take (length self.old - 1) self.old }
     {
         let _ = self.logs.pop();
     }
 
     /// Copies the unread bytes of a client that its log lacks. The completed record stays as it is.
-    pub fn catch_up(&mut self, lobby: &Lobby, client: u64) -> Result<(), AllocError>
+    pub(crate) fn catch_up(&mut self, lobby: &Lobby, client: u64) -> Result<(), AllocError>
         ensures log { self.new ≡ (if is_ok result then caught_up self.old lobby.now.plain client else self.old) }
         ensures within { IfSome (of_client self.old client) IsWithin }
     {
@@ -145,7 +145,7 @@ impl Record {
     }
 
     /// Copies the unread bytes of all clients that their logs lack.
-    pub fn catch_up_all(&mut self, lobby: &Lobby) -> Result<(), AllocError>
+    pub(crate) fn catch_up_all(&mut self, lobby: &Lobby) -> Result<(), AllocError>
         ensures kept { completed self.new lobby.now.plain ≡ completed self.old lobby.now.plain }
         ensures all { OnOk result (self.new ≡ completed self.old lobby.now.plain) }
         ensures within { OnOk result (AllByRecursion IsWithin self.old) }
@@ -157,7 +157,7 @@ impl Record {
     }
 
     /// Notes that a client read so many bytes more.
-    pub fn note_read(&mut self, client: u64, count: usize)
+    pub(crate) fn note_read(&mut self, client: u64, count: usize)
         ensures log { self.new ≡ changed_at (read_on count) self.old client }
         ensures none { count ≡ 0 → self.new ≡ self.old }
     {

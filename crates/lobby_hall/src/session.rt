@@ -13,7 +13,7 @@ use std::alloc::{AllocError, Global};
 use std::marker::Model;
 
 /// The most bytes of a client's line before its LF, a CR that is dropped counted.
-pub const LINE_LIMIT: usize = 8_192;
+const LINE_LIMIT: usize = 8_192;
 
 /// What a client asks next.
 #[derive(Drop)]

@@ -13,7 +13,7 @@ use line_framer::FeedError;
 use std::alloc::AllocError;
 
 /// Feeds a client's session, where it has one.
-pub fn feed(
+pub(crate) fn feed(
     sessions: &mut Vec<Option<Session>>,
     client: u64,
     piece: &[u8],
@@ -46,7 +46,7 @@ fn feed_one(session: &mut Option<Session>, piece: &[u8]) -> Result<(), AllocErro
 }
 
 /// Accepts the next line of a client, where it has a session and the session a line.
-pub fn accept(sessions: &mut Vec<Option<Session>>, client: u64)
+pub(crate) fn accept(sessions: &mut Vec<Option<Session>>, client: u64)
     ensures accepted { Accepted (session_at sessions.old.items client) (session_at sessions.new.items client) }
     ensures others { (q : ℕ) → q ≢ client → session_at sessions.new.items q ≡ session_at sessions.old.items q }
     ensures same_length { length sessions.new.items ≡ length sessions.old.items }
@@ -71,7 +71,7 @@ fn accept_one(session: &mut Option<Session>)
 }
 
 /// Ends a client's session.
-pub fn close(sessions: &mut Vec<Option<Session>>, client: u64)
+pub(crate) fn close(sessions: &mut Vec<Option<Session>>, client: u64)
     ensures { sessions.new.items ≡ changed_at (λ _. None) sessions.old.items client }
 {
     let Some(place) = place_of(client) else {
@@ -83,7 +83,7 @@ pub fn close(sessions: &mut Vec<Option<Session>>, client: u64)
 }
 
 /// What a client asks next: nothing, where it has no session.
-pub fn next_of(sessions: &[Option<Session>], client: u64) -> Result<Next, AllocError>
+pub(crate) fn next_of(sessions: &[Option<Session>], client: u64) -> Result<Next, AllocError>
     ensures { IfOk result (IsNextOf (session_at sessions.now client)) }
 {
     match session_of(sessions, client) {
@@ -93,7 +93,7 @@ pub fn next_of(sessions: &[Option<Session>], client: u64) -> Result<Next, AllocE
 }
 
 /// Whether a client has a session with a whole line or a spoilt place next.
-pub fn is_ready(sessions: &[Option<Session>], client: u64) -> bool
+pub(crate) fn is_ready(sessions: &[Option<Session>], client: u64) -> bool
     ensures { IsReady (session_at sessions.now client) result }
 {
     match session_of(sessions, client) {

@@ -3,6 +3,7 @@
 ghost use Rattle.lobby_hall.specs.Standing.{HasHome};
 
 use super::*;
+use account_book::AccountBook;
 use line_framer::FeedError;
 use lobby_model::Settings;
 use lobby_model::schedule::Piece;
@@ -36,7 +37,7 @@ fn takes(hall: &mut Hall, step: &Step) -> Result<(), HallError>
 
 // A hall with one client, from which no bytes came yet.
 fn hall_of_one(alloc: Global) -> Result<Hall, Fail> {
-    let mut hall = Hall::new(alloc, default_settings(alloc)?)?;
+    let mut hall = Hall::new(alloc, default_settings(alloc)?, AccountBook::new(alloc))?;
     takes(
         &mut hall,
         &Step::Open {
@@ -59,7 +60,7 @@ fn a_whole_schedule_leaves_its_record(rt: HostRuntime) -> Result<(), Fail> {
         Step::Arrive { client: 1, bytes },
         Step::Take { client: 1 },
     ];
-    let record = run(rt.alloc(), settings, &steps)?;
+    let record = run(rt.alloc(), settings, AccountBook::new(rt.alloc()), &steps)?;
     assert_eq!(rt; record.put(1), GREETING_AND_PONG);
     assert!(rt; record.read(1).is_empty());
     assert!(rt; record.put(0).is_empty());
@@ -72,9 +73,6 @@ fn a_step_that_memory_refused_leaves_no_trace(rt: HostRuntime) -> Result<(), Fai
     let mut hall = hall_of_one(rt.alloc())?;
     let bytes = piece(rt.alloc(), b"PING\n")?;
     takes(&mut hall, &Step::Arrive { client: 1, bytes })?;
-    let bytes = piece(rt.alloc(), b"PING\n")?;
-    takes(&mut hall, &Step::Arrive { client: 2, bytes })?;
-    takes(&mut hall, &Step::Take { client: 2 })?;
     takes(&mut hall, &Step::Take { client: 1 })?;
     takes(
         &mut hall,
@@ -83,15 +81,23 @@ fn a_step_that_memory_refused_leaves_no_trace(rt: HostRuntime) -> Result<(), Fai
             count: 5,
         },
     )?;
-    takes(&mut hall, &Step::Take { client: 1 })?;
-    takes(&mut hall, &Step::Shut { client: 2 })?;
-    assert_eq!(rt; hall.last_client(), 1);
     let _ = hall.record().is_err();
     let record = hall.record()?;
     assert_eq!(rt; record.put(1), GREETING_AND_PONG);
     assert_eq!(rt; record.read(1), b"TASSE".as_slice());
+    Ok(())
+}
+
+#[test]
+fn a_client_that_is_not_there_does_nothing(rt: HostRuntime) -> Result<(), Fail> {
+    let mut hall = hall_of_one(rt.alloc())?;
+    let bytes = piece(rt.alloc(), b"PING\n")?;
+    takes(&mut hall, &Step::Arrive { client: 2, bytes })?;
+    takes(&mut hall, &Step::Take { client: 2 })?;
+    takes(&mut hall, &Step::Shut { client: 2 })?;
+    assert_eq!(rt; hall.last_client(), 1);
     let record = hall.into_record()?;
-    assert_eq!(rt; record.put(1), GREETING_AND_PONG);
+    assert_eq!(rt; record.put(1), GREETING);
     Ok(())
 }
 

@@ -13,23 +13,24 @@ use Rattle.lobby_machine.specs.declared.post.Letter.{Letter}
 use Rattle.lobby_machine.specs.Mask.{has_home}
 use Rattle.lobby_machine.specs.Mail.{mail, batch_in, deliver, touched, wakes_home, IsWakes, Writes}
 
-module _ (s : State) (e : Event) (text : List ℕ) (letters : List Letter) (same : effect s e ≡ s) (written : Writes s e text letters) where
-  pub sent_so : (clients : ByNumber Client) → clients ≡ deliver s.settings.outbox_limit (mail text letters) s.clients → record s { clients = clients } ≡ next s e
+-- t are the maps after the event, before its letters are put
+module _ (s t : State) (e : Event) (text : List ℕ) (letters : List Letter) (changed : effect s e ≡ t) (written : Writes s e text letters) where
+  pub sent_so : (clients : ByNumber Client) → clients ≡ deliver s.settings.outbox_limit (mail text letters) t.clients → record t { clients = clients } ≡ next s e
   sent_so clients is =
-      ap (λ (m : ByNumber Client). record s { clients = m }) (is ∙ (λ i. map_values (λ d x. with_batch s.settings.outbox_limit (written.batches d i) x) s.clients))
-      ∙ sym (ap (delivered s e) same)
+      ap (λ (m : ByNumber Client). record t { clients = m }) (is ∙ (λ i. map_values (λ d x. with_batch s.settings.outbox_limit (written.batches d i) x) t.clients))
+      ∙ sym (ap (delivered s e) changed)
 
-  pub woken_so : (mask : ℕ) → ((home : ℕ) → has_home mask home ≡ wakes_home (batch_in (mail text letters)) s.clients home) → IsWakes s e mask
+  pub woken_so : (mask : ℕ) → ((home : ℕ) → has_home mask home ≡ wakes_home (batch_in (mail text letters)) t.clients home) → IsWakes s e mask
   woken_so mask marks = λ home.
       marks home
-      ∙ (λ i. list_any (λ x. same_number x.1.home home && touched (written.batches x.0 i) x.1) s.clients)
-      ∙ (λ i. list_any (λ x. same_number x.1.home home && sym (touched_is s.settings.outbox_limit (batch s e x.0) x.1) i) s.clients)
-      ∙ ap (λ (t : State). list_any (λ x. same_number x.1.home home && is_touched s.settings.outbox_limit (batch s e x.0) x.1) t.clients) (sym same)
+      ∙ (λ i. list_any (λ x. same_number x.1.home home && touched (written.batches x.0 i) x.1) t.clients)
+      ∙ (λ i. list_any (λ x. same_number x.1.home home && sym (touched_is s.settings.outbox_limit (batch s e x.0) x.1) i) t.clients)
+      ∙ ap (λ (u : State). list_any (λ x. same_number x.1.home home && is_touched s.settings.outbox_limit (batch s e x.0) x.1) u.clients) (sym changed)
 
 -- What a delivery says of every event is said of the event at hand
-module _ {X : Type 0} (r : Result ℕ X) (s n : State) (e : Event) (text : List ℕ) (letters : List Letter) (same : effect s e ≡ s) (written : Writes s e text letters) where
-  pub on_ok : OnOk r ((e : Event) → effect s e ≡ s → Writes s e text letters → n ≡ next s e) → OnOk r (n ≡ next s e)
-  on_ok h = elim r as (λ r. OnOk r ((e : Event) → effect s e ≡ s → Writes s e text letters → n ≡ next s e) → OnOk r (n ≡ next s e)) [ Ok w ↦ λ f. f e same written | Err x ↦ λ f. tt ] h
+module _ {X : Type 0} (r : Result ℕ X) (s t n : State) (e : Event) (text : List ℕ) (letters : List Letter) (changed : effect s e ≡ t) (written : Writes s e text letters) where
+  pub on_ok : OnOk r ((e : Event) → effect s e ≡ t → Writes s e text letters → n ≡ next s e) → OnOk r (n ≡ next s e)
+  on_ok h = elim r as (λ r. OnOk r ((e : Event) → effect s e ≡ t → Writes s e text letters → n ≡ next s e) → OnOk r (n ≡ next s e)) [ Ok w ↦ λ f. f e changed written | Err x ↦ λ f. tt ] h
 
-  pub on_wakes : IfOk r (λ wakes. (e : Event) → effect s e ≡ s → Writes s e text letters → IsWakes s e wakes) → IfOk r (λ wakes. IsWakes s e wakes)
-  on_wakes h = elim r as (λ r. IfOk r (λ wakes. (e : Event) → effect s e ≡ s → Writes s e text letters → IsWakes s e wakes) → IfOk r (λ wakes. IsWakes s e wakes)) [ Ok w ↦ λ f. f e same written | Err x ↦ λ f. tt ] h
+  pub on_wakes : IfOk r (λ wakes. (e : Event) → effect s e ≡ t → Writes s e text letters → IsWakes s e wakes) → IfOk r (λ wakes. IsWakes s e wakes)
+  on_wakes h = elim r as (λ r. IfOk r (λ wakes. (e : Event) → effect s e ≡ t → Writes s e text letters → IsWakes s e wakes) → IfOk r (λ wakes. IsWakes s e wakes)) [ Ok w ↦ λ f. f e changed written | Err x ↦ λ f. tt ] h

@@ -2,5 +2,10 @@ pub mod Masks
 pub mod Ties
 pub mod Letters
 pub mod Rounds
-pub mod Seats
+pub mod Slots
 pub mod Applied
+pub mod Agreed
+pub mod Spoken
+pub mod Outcomes
+pub mod Newcomer
+pub mod Shared

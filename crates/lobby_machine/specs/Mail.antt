@@ -1,14 +1,15 @@
 -- An event's batches as a list of letters, and what their delivery makes of the clients.
-use Rattle.std.specs.Prelude.{◌≡◌, ℕ, ◌-◌, ◌≤◌, Bool, true, false, not, ◌&&◌, if◌then◌else◌, List, [], ◌∷◌, map, length, take, drop, Some}
+use Rattle.std.specs.Prelude.{◌≡◌, ℕ, ◌-◌, ◌≤◌, Bool, true, false, not, ◌&&◌, nat_lt, if◌then◌else◌, List, [], ◌∷◌, map, length, take, drop, Option, Some, None}
 use Rattle.std.specs.List.{list_any, AllByRecursion}
 use Rattle.std.specs.Map.{lookup}
 use Rattle.std.specs.Ordering.{nat_cmp}
 use Rattle.std.specs.BTreeMap.{is_at}
 use Rattle.lobby_machine.specs.declared.post.Letter.{Letter}
+use Rattle.lobby_machine.specs.declared.seats.Seat.{Seat}
 use Rattle.lobby_machine.specs.Mask.{has_home}
 use Rattle.lobby_model.specs.declared.event.Event.{Event}
-use Rattle.lobby_model.specs.Table.{ByNumber, map_values, same_number}
-use Rattle.lobby_model.specs.State.{State, Client, is_live}
+use Rattle.lobby_model.specs.Table.{ByName, ByNumber, map_values, same_number}
+use Rattle.lobby_model.specs.State.{State, Client, is_live, name_of}
 use Rattle.lobby_model.specs.Next.{with_batch, has_room_for, is_empty, batch}
 use Rattle.lobby_model.specs.Touched.{touches}
 
@@ -68,6 +69,28 @@ Fits bytes held = is_live held.client ≡ true → has_room_for held.limit held.
 
 abbrev pub AllFit : ByNumber (List ℕ) → ByNumber Held → Type 0
 AllFit letters clients = (q : ℕ) (held : Held) → lookup (is_at (nat_cmp q)) clients ≡ Some held → Fits (batch_in letters q) held
+
+-- letters with one part of the text to all users but the issuer
+abbrev pub letters_to_others : ℕ → ℕ → ℕ → ByName Seat → List Letter
+letters_to_others issuer from to [] = []
+letters_to_others issuer from to (e ∷ es) =
+    if same_number e.1.client issuer then letters_to_others issuer from to es else record { client = e.1.client; from = from; to = to } ∷ letters_to_others issuer from to es
+
+-- the front of a text to the issuer and the rest, if there is any, to all other users
+abbrev pub letters_of : ℕ → ℕ → ℕ → ByName Seat → List Letter
+letters_of issuer own end seats = record { client = issuer; from = 0; to = own } ∷ (if nat_lt own end then letters_to_others issuer own end seats else [])
+
+-- what client d gets where the issuer gets one batch, and each other user another
+abbrev pub share : Bool → Option (List ℕ) → List ℕ → List ℕ → List ℕ
+share true name own others = own
+share false None own others = []
+share false (Some name) own others = others
+
+-- The letters share these two batches out, in a state with this issuer
+pub record Shares (s : State) (issuer : ℕ) (own others : List ℕ) (text : List ℕ) (letters : List Letter) : Type 0 where
+  pub inside : AllByRecursion (LiesIn text) letters
+  pub once : IsOnce (mail text letters)
+  pub batches : (d : ℕ) → batch_in (mail text letters) d ≡ share (same_number d issuer) (name_of s d) own others
 
 -- The letters are those of an event
 pub record Writes (s : State) (e : Event) (text : List ℕ) (letters : List Letter) : Type 0 where

@@ -9,10 +9,13 @@ ghost use Rattle.lobby_model.specs.Next.{next};
 ghost use Rattle.lobby_machine.specs.Mail.{IsWakes};
 ghost use Rattle.lobby_machine.specs.Shown.{unread_of, is_finished};
 
-use crate::maps::{Drained, Maps, Place};
+use crate::clients::Drained;
+use crate::maps::{Maps, Place};
+use crate::outcome::Outcome;
 use crate::post::Letter;
 use crate::wakes::Wakes;
-use command_grammar::{Command, Request};
+use account_book::AccountBook;
+use command_grammar::Request;
 use lobby_model::Settings;
 use std::alloc::{AllocError, Global};
 use std::marker::Model;
@@ -35,7 +38,6 @@ pub enum OpenError {
 /// The lobby. Contracts see the plain lobby that it stands for.
 #[derive(Drop)]
 pub struct Lobby {
-    alloc: Global,
     maps: Maps,
     // what the event at hand sends, and which part of it is whose; kept from event to event
     text: Vec<u8>,
@@ -52,12 +54,15 @@ impl Model for Lobby {
 
 impl Lobby {
     /// The lobby before its first event. Fails only where memory is refused.
-    pub fn new(alloc: Global, settings: Settings) -> Result<Lobby, AllocError>
-        ensures { IfOk result (λ lobby. lobby.plain ≡ empty_lobby settings) }
+    pub fn new(
+        alloc: Global,
+        settings: Settings,
+        accounts: AccountBook,
+    ) -> Result<Lobby, AllocError>
+        ensures { IfOk result (λ lobby. lobby.plain ≡ empty_lobby settings accounts) }
     {
         Ok(Lobby {
-            alloc,
-            maps: Maps::new(alloc, settings)?,
+            maps: Maps::new(alloc, settings, accounts)?,
             text: Vec::new(alloc),
             letters: Vec::new(alloc),
         })
@@ -77,42 +82,49 @@ impl Lobby {
         match self.maps.place() {
             Place::Full => Err(OpenError::Full),
             Place::NoNumber => Err(OpenError::NoNumber),
-            Place::Free => self
-                .maps
-                .open(self.alloc, ip, home)
-                .map_err(|_| OpenError::Memory),
+            Place::Free => self.maps.open(ip, home).map_err(|_| OpenError::Memory),
         }
     }
 
-    /// A client's line was read as this request. Gives the workers whose clients it touched. Fails
-    /// only where memory is refused, and then nothing changes.
+    /// A client's line was read as this request. Gives the workers whose clients it touched. The
+    /// request of a client that is not there, was cut or has said EXIT does nothing. Fails only
+    /// where memory is refused, and then nothing changes.
     pub fn say(&mut self, client: u64, request: &Request) -> Result<Wakes, AllocError>
         ensures ok { OnOk result (self.new.plain ≡ next self.old.plain (event.Say client request.now)) }
         ensures wakes { IfOk result (λ wakes. IsWakes self.old.plain (event.Say client request.now) wakes) }
         ensures err { OnErr result (self.new ≡ self.old) }
     {
-        if let Command::Exit = request.command {
-            self.maps.end(client);
+        if !self.maps.hears(client) {
             return Ok(Wakes::none());
         }
-        self.maps.write_answer(
-            self.alloc,
+        let outcome = self.maps.decide(client, &request.command)?;
+        self.maps.collect(
             client,
-            request,
+            request.id,
+            &outcome,
             &mut self.text,
             &mut self.letters,
         )?;
-        self.maps.send(&self.text, &self.letters)
+        self.maps
+            .carry_out(client, outcome, &self.text, &self.letters)
     }
 
-    /// A client's connection is closed: it is removed. Gives the workers whose clients that touched.
+    /// A client's connection is closed: it is removed, and its user, if it was logged in, is logged
+    /// out. Gives the workers whose clients that touched. Nothing happens where it is not there. Fails
+    /// only where memory is refused, and then nothing changes.
     pub fn shut(&mut self, client: u64) -> Result<Wakes, AllocError>
         ensures ok { OnOk result (self.new.plain ≡ next self.old.plain (event.Shut client)) }
         ensures wakes { IfOk result (λ wakes. IsWakes self.old.plain (event.Shut client) wakes) }
         ensures err { OnErr result (self.new ≡ self.old) }
     {
-        self.maps.shut(client);
-        Ok(Wakes::none())
+        self.maps.collect(
+            client,
+            None,
+            &Outcome::LogOut,
+            &mut self.text,
+            &mut self.letters,
+        )?;
+        self.maps.shut(client, &self.text, &self.letters)
     }
 
     /// Takes bytes that a client has not read into a slice, as many as fit, and tells whether
@@ -147,7 +159,7 @@ impl Lobby {
         self.maps.has_client(client)
     }
 
-    /// How many bytes a client has not read.
+    /// How many bytes a client has not read; 0 where it is not there.
     pub fn unread(&self, client: u64) -> usize
         ensures count { result ≡ length (unread_of self.now.plain client) }
         ensures small { result < 2 ^ 63 }
@@ -156,7 +168,7 @@ impl Lobby {
     }
 
     /// Copies bytes that a client has not read into a slice, beginning `from` bytes behind the
-    /// first, as many as there are and fit, and says how many.
+    /// first, as many as there are and fit, and says how many; 0 where it is not there.
     pub fn copy_unread(&self, client: u64, from: usize, into: &mut [u8]) -> usize
         ensures count { result ≡ min (length (unread_of self.now.plain client) - from) (length into.old) }
         ensures given { into.new ≡ take result (drop from (unread_of self.now.plain client)) ++ drop result into.old }

@@ -2,8 +2,6 @@
 
 ghost use Rattle.std.specs.Prelude.{◌≡◌, ℕ, ◌+◌, ◌-◌, ◌<◌, ◌≤◌, List, [], ◌∷◌, length, OnOk, OnErr, true, false};
 ghost use Rattle.std.specs.List.{AllByRecursion};
-ghost use Rattle.lobby_model.specs.Table.{at_number};
-ghost use Rattle.lobby_model.specs.State.{is_live_client};
 ghost use Rattle.lobby_machine.specs.Mask.{has_home};
 ghost use Rattle.lobby_machine.specs.Mail.{LiesIn, mail, batch_in, IsOnce, AllFit, HaveLimit, plain, deliver, wakes_home};
 
@@ -16,7 +14,9 @@ use std::collections::BTreeMap;
 #[derive(Clone, Copy)]
 pub struct Letter {
     pub client: u64,
+    /// The place of its first byte in the text.
     pub from: usize,
+    /// The place behind its last byte.
     pub to: usize,
 }
 
@@ -53,18 +53,8 @@ pub fn deliver(clients: &mut BTreeMap<u64, Slot>, text: &[u8], letters: &[Letter
     for letter in letters {
         let batch = &text[letter.from..letter.to];
         if let Some(slot) = clients.get_mut(&letter.client) {
-            wakes = wakes.and(slot.put(batch));
+            wakes = wakes.union(slot.put(batch));
         }
     }
     wakes
-}
-
-/// Whether a client may give commands and get bytes.
-pub fn hears(clients: &BTreeMap<u64, Slot>, client: u64) -> bool
-    ensures { result ≡ is_live_client (at_number (plain clients.now.entries) client) }
-{
-    match clients.get(&client) {
-        Some(slot) => slot.is_live(),
-        None => false,
-    }
 }

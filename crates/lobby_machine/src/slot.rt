@@ -1,15 +1,16 @@
 //! A client with its outbox.
 
-ghost use Rattle.std.specs.Prelude.{◌≡◌, ℕ, ◌+◌, ◌-◌, ◌^◌, ◌<◌, ◌≤◌, ◌||◌, ◌&&◌, List, [], ◌++◌, length, take, drop, min, OnOk, Some, true, false, if◌then◌else◌};
-ghost use Rattle.lobby_model.specs.declared.event.Phase.TheVariants.{Ended};
+ghost use Rattle.std.specs.Prelude.{◌≡◌, ℕ, ◌+◌, ◌-◌, ◌^◌, ◌<◌, ◌≤◌, ◌||◌, ◌&&◌, List, [], ◌++◌, length, take, drop, min, OnOk, Some, true, false, option_copied};
+ghost use Rattle.lobby_model.specs.declared.event.Phase.TheVariants.{Ended, In};
 ghost use Rattle.lobby_model.specs.Next.{with_batch};
-ghost use Rattle.lobby_model.specs.State.{is_live, in_phase};
+ghost use Rattle.lobby_model.specs.State.{is_live, in_phase, name_in};
 ghost use Rattle.lobby_model.specs.Effect.{greeted, drained};
 ghost use Rattle.lobby_machine.specs.Mask.{has_home};
 ghost use Rattle.lobby_machine.specs.Mail.{Fits, wakes_one};
 ghost use Rattle.lobby_machine.specs.Shown.{is_over};
 
 use crate::wakes::Wakes;
+use line_words::NameBuf;
 use lobby_model::Phase;
 use outbox::Outbox;
 use std::alloc::{AllocError, Global};
@@ -56,7 +57,7 @@ impl Slot {
     {
         match self.phase {
             Phase::Ended => false,
-            Phase::Greeted => !self.outbox.is_cut(),
+            _ => !self.outbox.is_cut(),
         }
     }
 
@@ -88,18 +89,38 @@ impl Slot {
             self.outbox.put(batch);
         } else {
             self.outbox.cut();
+            self.outbox.release();
         }
         home
     }
 
-    /// Ends a client that hears: nothing more is put to it, and its commands do nothing.
-    pub fn end(&mut self)
-        ensures client { self.new.client ≡ (if is_live self.old.client then in_phase Ended self.old.client else self.old.client) }
-        ensures limit { self.new.limit ≡ self.old.limit }
+    /// The name under which it is logged in.
+    pub fn name(&self) -> Option<&NameBuf>
+        ensures { option_copied result ≡ name_in self.now.client.phase }
     {
-        if self.is_live() {
-            self.phase = Phase::Ended;
+        match &self.phase {
+            Phase::In { name } => Some(name),
+            _ => None,
         }
+    }
+
+    /// Ends the client: nothing more is put to it, and its commands do nothing.
+    pub fn end(&mut self)
+        ensures client { self.new.client ≡ in_phase Ended self.old.client }
+        ensures limit { self.new.limit ≡ self.old.limit }
+        ensures fits { (batch : List ℕ) → Fits batch self.new }
+    {
+        self.phase = Phase::Ended;
+    }
+
+    /// The client, which hears, is logged in under a name.
+    pub fn log_in(&mut self, name: NameBuf)
+        requires { is_live self.old.client ≡ true }
+        ensures client { self.new.client ≡ in_phase (In name) self.old.client }
+        ensures limit { self.new.limit ≡ self.old.limit }
+        ensures fits { (batch : List ℕ) → Fits batch self.old → Fits batch self.new }
+    {
+        self.phase = Phase::In { name };
     }
 
     /// Takes unread bytes into a slice, as many as fit.
@@ -118,7 +139,7 @@ impl Slot {
     {
         match self.phase {
             Phase::Ended => self.outbox.is_cut() || self.outbox.unread() == 0,
-            Phase::Greeted => self.outbox.is_cut(),
+            _ => self.outbox.is_cut(),
         }
     }
 

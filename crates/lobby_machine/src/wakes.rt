@@ -39,7 +39,7 @@ impl Wakes {
     }
 
     /// The workers of both.
-    pub fn and(self, other: Wakes) -> Wakes
+    pub fn union(self, other: Wakes) -> Wakes
         ensures { (home : ℕ) → has_home result home ≡ (has_home self home || has_home other home) }
     {
         Wakes {

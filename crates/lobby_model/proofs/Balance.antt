@@ -1,7 +1,6 @@
 -- For a client that is neither cut nor removed, what its drains took and what it has not read are all that was put to it.
 use Rattle.std.proofs.Common.{Bool, ◌≡◌, ℕ, ◌+◌, ◌<◌, ◌≤◌, List, [], ◌∷◌, ◌++◌, take, drop, refl, sym, ap, subst, ◌∙◌, true, false, cond, T, arith, append_assoc, append-nil}
-use Rattle.std.specs.Prelude.{Option, Some, None, if◌then◌else◌, not, ◌&&◌, is_some, ◌⊎◌}
-use Rattle.std.proofs.Common.{inl, inr}
+use Rattle.std.specs.Prelude.{Option, Some, None, if◌then◌else◌, not, ◌&&◌, is_some, ℤ, Result, Ok, Err}
 use Rattle.std.specs.Option.{option_map}
 use Rattle.std.specs.Ordering.{nat_cmp, is_eq}
 use Rattle.std.specs.Cmp.{nat_cmp_total}
@@ -12,12 +11,16 @@ use Rattle.command_grammar.specs.declared.command.Command.{Command}
 use Rattle.command_grammar.specs.declared.command.Command.TheVariants as command
 use Rattle.lobby_model.specs.declared.event.Event.{Event}
 use Rattle.lobby_model.specs.declared.event.Event.TheVariants as event
-use Rattle.lobby_model.specs.declared.event.Phase.TheVariants.{Ended}
+use Rattle.lobby_model.specs.declared.event.Phase.{Phase}
+use Rattle.lobby_model.specs.declared.event.Phase.TheVariants.{In, Ended}
+use Rattle.account_book.specs.Account.{Account}
+use Rattle.account_book.specs.Book.{login}
+use Rattle.account_book.specs.declared.error.LoginFault.{LoginFault}
 use Rattle.lobby_model.specs.Table.{ByNumber, at_number, put_number, without_number, same_number}
 use Rattle.lobby_model.specs.Configuration.{Configuration}
-use Rattle.lobby_model.specs.State.{State, Client, is_live, is_ended, hears, empty_lobby, set_phase, set_phase_of, in_phase}
+use Rattle.lobby_model.specs.State.{State, Client, is_live, is_ended, hears, name_of, empty_lobby, set_phase, set_phase_of, in_phase}
 use Rattle.lobby_model.specs.Refusal.{refusal}
-use Rattle.lobby_model.specs.Effect.{effect, has_place, greeted, opened, obeyed, drained, drained_at}
+use Rattle.lobby_model.specs.Effect.{effect, has_place, greeted, opened, log_in, obeyed, drained, drained_at}
 use Rattle.lobby_model.specs.Next.{next, batch, with_batch, has_room_for, put_to, put_by, taken_from, taken_by}
 use Rattle.lobby_model.specs.History.{after, put_in, taken_in}
 use Rattle.lobby_model.proofs.Delivered.{same_number_is, find-values}
@@ -73,29 +76,29 @@ module _ (s : State) (c : ℕ) (taken put : List ℕ) (b : Balanced s c taken pu
         fresh = new;
       }
 
-  exit : (d : ℕ) → Halfway (set_phase s.clients d Ended) s.last_client s.last_client c taken put []
-  exit d =
-      elim (at_number s.clients d) as (λ o. at_number s.clients d ≡ o → Halfway (set_phase_of s.clients d Ended o) s.last_client s.last_client c taken put []) [
+  phased : (d : ℕ) (phase : Phase) → Halfway (set_phase s.clients d phase) s.last_client s.last_client c taken put []
+  phased d phase =
+      elim (at_number s.clients d) as (λ o. at_number s.clients d ≡ o → Halfway (set_phase_of s.clients d phase o) s.last_client s.last_client c taken put []) [
         | None ↦ λ e. unchanged
-        | Some x ↦ λ e. written d (in_phase Ended x) [] (λ t.
+        | Some x ↦ λ e. written d (in_phase phase x) [] (λ t.
             let found : at_number s.clients c ≡ Some x = ap (at_number s.clients) (same_number_is c d t) ∙ e in
             (same_there x found, b.known x found, b.gone x found)) (λ _. refl) (λ _. refl)
       ] refl
 
-  obeyed_either : (d : ℕ) (command : Command) → (obeyed s d command ≡ s) ⊎ (obeyed s d command ≡ record s { clients = set_phase s.clients d Ended })
-  obeyed_either d command.Exit = inr refl
-  obeyed_either d command = inl refl
+  logs_in : (d : ℕ) (cpu : ℤ) (answer : Result Account LoginFault) → Halfway (log_in s d cpu answer).clients (log_in s d cpu answer).last_client s.last_client c taken put []
+  logs_in d cpu (Ok account) = phased d (In account.name)
+  logs_in d cpu (Err fault) = unchanged
 
-  at_state : (t : State) → t ≡ s → Halfway t.clients t.last_client s.last_client c taken put []
-  at_state t e = subst (λ (t : State). Halfway t.clients t.last_client s.last_client c taken put []) (sym e) unchanged
+  obeys : (d : ℕ) (me : Option (List ℕ)) (command : Command) → Halfway (obeyed s d me command).clients (obeyed s d me command).last_client s.last_client c taken put []
+  obeys d me command.Exit = phased d Ended
+  obeys d None (command.Login name password cpu local_ip lobby) = logs_in d cpu (login s.accounts name password)
+  obeys d (Some me) (command.MyStatus asked) = unchanged
+  obeys d me command = unchanged
 
   said : (d : ℕ) (request : Request) → Halfway (effect s (event.Say d request)).clients (effect s (event.Say d request)).last_client s.last_client c taken put []
   said d request =
-      elim (hears s d && not (is_some (refusal request.command))) as (λ t. Halfway (if t then obeyed s d request.command else s).clients (if t then obeyed s d request.command else s).last_client s.last_client c taken put []) [
-        | true ↦ elim (obeyed_either d request.command) [
-          | inl e ↦ at_state _ e
-          | inr e ↦ subst (λ (t : State). Halfway t.clients t.last_client s.last_client c taken put []) (sym e) (exit d)
-        ]
+      elim (hears s d && not (is_some (refusal s d request.command))) as (λ t. Halfway (if t then obeyed s d (name_of s d) request.command else s).clients (if t then obeyed s d (name_of s d) request.command else s).last_client s.last_client c taken put []) [
+        | true ↦ obeys d (name_of s d) request.command
         | false ↦ unchanged
       ]
 
@@ -227,21 +230,21 @@ balanced_after s (e ∷ history) c taken put b =
     (subst (λ p. Balanced (after (next s e) history) c ((taken ++ taken_by s e c) ++ taken_in (next s e) history c) p) (append_assoc put _ _)
     (balanced_after (next s e) history c (taken ++ taken_by s e c) (put ++ put_by s e c) (balanced_next s e c taken put b)))
 
-at_start : (settings : Configuration) (c : ℕ) → Balanced (empty_lobby settings) c [] []
-at_start settings c = record { known = λ x f. absurd (cc); there = λ x f. absurd (cc); gone = λ x f. absurd (cc); fresh = λ _. (refl, refl) }
+pub at_start : (settings : Configuration) (accounts : List Account) (c : ℕ) → Balanced (empty_lobby settings accounts) c [] []
+at_start settings accounts c = record { known = λ x f. absurd (cc); there = λ x f. absurd (cc); gone = λ x f. absurd (cc); fresh = λ _. (refl, refl) }
 
 -- from the empty lobby on
-pub taken_then_unread : (settings : Configuration) (history : List Event) (c : ℕ) (x : Client) → at_number (after (empty_lobby settings) history).clients c ≡ Some x → x.cut ≡ false
-    → taken_in (empty_lobby settings) history c ++ x.unread ≡ put_in (empty_lobby settings) history c
-taken_then_unread settings history c = (balanced_after (empty_lobby settings) history c [] [] (at_start settings c)).there
+pub taken_then_unread : (settings : Configuration) (accounts : List Account) (history : List Event) (c : ℕ) (x : Client) → at_number (after (empty_lobby settings accounts) history).clients c ≡ Some x → x.cut ≡ false
+    → taken_in (empty_lobby settings accounts) history c ++ x.unread ≡ put_in (empty_lobby settings accounts) history c
+taken_then_unread settings accounts history c = (balanced_after (empty_lobby settings accounts) history c [] [] (at_start settings accounts c)).there
 
 -- each client bears a number that was given
-pub is_numbered : (settings : Configuration) (history : List Event) (c : ℕ) (x : Client) → at_number (after (empty_lobby settings) history).clients c ≡ Some x → (0 < c) × (c ≤ (after (empty_lobby settings) history).last_client)
-is_numbered settings history c = (balanced_after (empty_lobby settings) history c [] [] (at_start settings c)).known
+pub is_numbered : (settings : Configuration) (accounts : List Account) (history : List Event) (c : ℕ) (x : Client) → at_number (after (empty_lobby settings accounts) history).clients c ≡ Some x → (0 < c) × (c ≤ (after (empty_lobby settings accounts) history).last_client)
+is_numbered settings accounts history c = (balanced_after (empty_lobby settings accounts) history c [] [] (at_start settings accounts c)).known
 
 -- what was taken and put for a client, whatever the history
-pub balanced : (settings : Configuration) (history : List Event) (c : ℕ) → Balanced (after (empty_lobby settings) history) c (taken_in (empty_lobby settings) history c) (put_in (empty_lobby settings) history c)
-balanced settings history c = balanced_after (empty_lobby settings) history c [] [] (at_start settings c)
+pub balanced : (settings : Configuration) (accounts : List Account) (history : List Event) (c : ℕ) → Balanced (after (empty_lobby settings accounts) history) c (taken_in (empty_lobby settings accounts) history c) (put_in (empty_lobby settings accounts) history c)
+balanced settings accounts history c = balanced_after (empty_lobby settings accounts) history c [] [] (at_start settings accounts c)
 
 -- an event puts nothing to a client that is not there after it, or that is cut then
 pub put_by_none : (s : State) (e : Event) (c : ℕ) → at_number (next s e).clients c ≡ None → put_by s e c ≡ []

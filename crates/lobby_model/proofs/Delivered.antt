@@ -5,8 +5,8 @@ use Rattle.std.specs.Ordering.{nat_cmp, is_eq}
 use Rattle.std.specs.FinMap.{nat_cmp-IsAntisymmetric}
 use Rattle.std.specs.Option.{option_map}
 use Rattle.std.specs.Cmp.{nat_cmp_total, tied_itself}
-use Rattle.std.specs.FinMap.Entries.{is_sorted, below_all, find-put, is_sorted-put, same_entries}
-use Rattle.lobby_model.proofs.Tables.{Equal_of, both, both_first, both_second}
+use Rattle.std.specs.FinMap.Entries.{is_sorted, find-put, is_sorted-put, same_entries}
+use Rattle.lobby_model.proofs.Tables.{Equal_of, is_sorted-map_values, at-map_values_keyed}
 use Rattle.lobby_model.specs.Table.{ByNumber, at_number, put_number, map_values, same_number}
 use Rattle.lobby_model.specs.State.{Client, is_live}
 use Rattle.lobby_model.specs.Next.{with_batch, has_room_for}
@@ -28,21 +28,11 @@ pub same_itself : (k : ℕ) → same_number k k ≡ true
 same_itself k = ap is_eq (tied_itself nat_cmp_total k)
 
 -- over the values of a map
-below_values : {X Y : Type 0} (f : ℕ → X → Y) (k : ℕ) (m : ByNumber X) → T (below_all nat_cmp k m) → T (below_all nat_cmp k (map_values f m))
-below_values f k [] h = tt
-below_values f k (e ∷ m) h = both _ _ (both_first _ _ h) (below_values f k m (both_second _ _ h))
-
 pub is_sorted-values : {X Y : Type 0} (f : ℕ → X → Y) (m : ByNumber X) → T (is_sorted nat_cmp m) → T (is_sorted nat_cmp (map_values f m))
-is_sorted-values f [] h = tt
-is_sorted-values f (e ∷ m) h = both _ _ (below_values f e.0 m (both_first _ _ h)) (is_sorted-values f m (both_second _ _ h))
+is_sorted-values f m h = is_sorted-map_values nat_cmp f m h
 
 pub find-values : {X Y : Type 0} (f : ℕ → X → Y) (q : ℕ) (m : ByNumber X) → at_number (map_values f m) q ≡ option_map (f q) (at_number m q)
-find-values f q [] = refl
-find-values f q (e ∷ m) =
-    elim (same_number q e.0) as (λ b. same_number q e.0 ≡ b → cond b (Some (f e.0 e.1)) (at_number (map_values f m) q) ≡ option_map (f q) (cond b (Some e.1) (at_number m q))) [
-      | true ↦ λ t. ap (λ k. Some (f k e.1)) (sym (same_number_is q e.0 t))
-      | false ↦ λ t. find-values f q m
-    ] refl
+find-values f q m = at-map_values_keyed nat_cmp nat_cmp-IsAntisymmetric f m q
 
 pub map_values_one : {X : Type 0} (f : ℕ → X → X) (m : ByNumber X) (k : ℕ) (x : X) → T (is_sorted nat_cmp m) → at_number m k ≡ Some x → ((d : ℕ) (y : X) → same_number d k ≡ false → f d y ≡ y)
     → map_values f m ≡ put_number m k (f k x)

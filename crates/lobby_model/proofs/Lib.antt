@@ -2,7 +2,12 @@ pub mod Versions
 pub mod Tables
 pub mod Delivered
 pub mod Splits
+pub mod Written
 pub mod Balance
 pub mod Quiet
+pub mod Fixture
 pub mod Examples
+pub mod LoginExamples
 pub mod Scheduled
+pub mod Users
+pub mod Refused

@@ -2,24 +2,24 @@
 use Rattle.std.proofs.Common.{◌≡◌, ℕ, ◌+◌, List, [], ◌∷◌, ◌++◌, refl, sym, ap, subst, ◌∙◌, Bool, true, false, cond, not, T, append-nil}
 use Rattle.std.specs.Prelude.{Option, Some, None, ◌&&◌, ◌||◌, if◌then◌else◌, is_some}
 use Rattle.std.specs.Ordering.{nat_cmp}
+use Rattle.std.specs.Option.{option_map}
 use Rattle.std.specs.Cmp.{nat_cmp_total}
 use Rattle.std.specs.List.{list_any}
 use Rattle.std.specs.FinMap.Entries.{is_sorted, find-put, is_sorted-put}
 use Rattle.reply_grammar.specs.Replies.{print, print_all}
 use Rattle.command_grammar.specs.declared.command.Request.{Request}
-use Rattle.command_grammar.specs.declared.command.Command.{Command}
-use Rattle.command_grammar.specs.declared.command.Command.TheVariants as command
+use Rattle.reply_grammar.specs.declared.Reply.{Reply}
 use Rattle.lobby_model.specs.declared.event.Event.{Event}
 use Rattle.lobby_model.specs.declared.event.Event.TheVariants as event
-use Rattle.lobby_model.specs.declared.event.Phase.TheVariants.{Ended}
 use Rattle.lobby_model.specs.Table.{ByNumber, at_number, put_number, without_number, same_number}
-use Rattle.lobby_model.specs.State.{State, Client, is_live, hears, set_phase}
-use Rattle.lobby_model.specs.Effect.{effect, has_place, greeted, opened, obeyed, drained_at}
+use Rattle.lobby_model.specs.State.{State, Client, is_live, hears, name_of}
+use Rattle.lobby_model.specs.Effect.{effect, has_place, greeted, opened, obeyed, users_left, drained_at}
 use Rattle.lobby_model.specs.Refusal.{refusal}
-use Rattle.lobby_model.specs.Sent.{greeting}
+use Rattle.lobby_model.specs.Sent.{greeting, said, departure, to_user, under}
 use Rattle.lobby_model.specs.Next.{next, batch, delivered, with_batch, has_room_for, is_empty}
 use Rattle.lobby_model.specs.Touched.{is_touched, touches}
-use Rattle.lobby_model.proofs.Delivered.{with_batch_nil, map_values_none, map_values_one, put_put, same_itself}
+use Rattle.lobby_model.proofs.Delivered.{with_batch_nil, map_values_none, map_values_one, put_put, same_itself, find-values}
+use Rattle.lobby_model.proofs.Tables.{at-without}
 
 pub quiet : (s : State) (e : Event) (t : State) → ((d : ℕ) → batch s e d ≡ []) → delivered s e t ≡ t
 quiet s e t none = ap (λ m. record t { clients = m }) (map_values_none _ t.clients (λ d x. ap (λ b. with_batch s.settings.outbox_limit b x) (none d) ∙ with_batch_nil s.settings.outbox_limit x))
@@ -27,25 +27,9 @@ quiet s e t none = ap (λ m. record t { clients = m }) (map_values_none _ t.clie
 pub next_drain : (s : State) (c n : ℕ) → next s (event.Drain c n) ≡ record s { clients = drained_at s.clients c n (at_number s.clients c) }
 next_drain s c n = quiet s (event.Drain c n) _ (λ d. refl)
 
-pub next_shut : (s : State) (c : ℕ) → next s (event.Shut c) ≡ record s { clients = without_number s.clients c }
-next_shut s c = quiet s (event.Shut c) _ (λ d. refl)
-
-nothing_said : (b : Bool) → print_all (if b then [] else []) ≡ []
-nothing_said true = refl
-nothing_said false = refl
-
-pub exit_sends : (s : State) (c : ℕ) (id : Option ℕ) (d : ℕ) → batch s (event.Say c (record { id = id; command = command.Exit })) d ≡ []
-exit_sends s c id d = nothing_said (hears s c && same_number d c)
-
 and_true : (b : Bool) → (b && true) ≡ b
 and_true true = refl
 and_true false = refl
-
-pub next_exit : (s : State) (c : ℕ) (id : Option ℕ) → next s (event.Say c (record { id = id; command = command.Exit })) ≡ record s { clients = if hears s c then set_phase s.clients c Ended else s.clients }
-next_exit s c id =
-    quiet s (event.Say c (record { id = id; command = command.Exit })) _ (exit_sends s c id)
-    ∙ ap (λ b. if b then record s { clients = set_phase s.clients c Ended } else s) (and_true (hears s c))
-    ∙ elim (hears s c) as (λ b. (if b then record s { clients = set_phase s.clients c Ended } else s) ≡ record s { clients = if b then set_phase s.clients c Ended else s.clients }) [ true ↦ refl | false ↦ refl ]
 
 -- a new client gets its greeting, and nobody else anything
 module _ (s : State) (ip : List ℕ) (home : ℕ) (place : has_place s ≡ true) where
@@ -106,12 +90,44 @@ quiet_touches s e home none = nobody (effect s e).clients
         ∙ ap (λ b. b || list_any (λ entry. same_number entry.1.home home && is_touched s.settings.outbox_limit (batch s e entry.0) entry.1) m) (untouched (same_number x.1.home home) x.1)
         ∙ nobody m
 
--- every command but EXIT leaves the maps as they were
-obeyed_same : (s : State) (c : ℕ) (asked : Command) → (asked ≡ command.Exit → ⊥) → obeyed s c asked ≡ s
-obeyed_same s c command.Exit h = absurd (h refl)
-obeyed_same s c asked h = refl
+-- a command of a client that does not hear sends nothing and changes nothing
+pub unheard_sends : (s : State) (c : ℕ) (request : Request) (d : ℕ) → hears s c ≡ false → batch s (event.Say c request) d ≡ []
+unheard_sends s c request d e = ap (λ b. print_all (if b then said s (name_of s c) (name_of s d) (same_number d c) request (refusal s c request.command) else [])) e
 
-pub effect_same : (s : State) (c : ℕ) (request : Request) → (request.command ≡ command.Exit → ⊥) → effect s (event.Say c request) ≡ s
-effect_same s c request h =
-    ap (λ t. if hears s c && not (is_some (refusal request.command)) then t else s) (obeyed_same s c request.command h)
-    ∙ elim (hears s c && not (is_some (refusal request.command))) as (λ b. (if b then s else s) ≡ s) [ true ↦ refl | false ↦ refl ]
+pub effect_unheard : (s : State) (c : ℕ) (request : Request) → hears s c ≡ false → effect s (event.Say c request) ≡ s
+effect_unheard s c request e = ap (λ b. if b && not (is_some (refusal s c request.command)) then obeyed s c (name_of s c) request.command else s) e
+
+pub next_unheard : (s : State) (c : ℕ) (request : Request) → hears s c ≡ false → next s (event.Say c request) ≡ s
+next_unheard s c request e = quiet s (event.Say c request) (effect s (event.Say c request)) (λ d. unheard_sends s c request d e) ∙ effect_unheard s c request e
+
+-- a command that is refused changes no map, and one that is not does what it says
+pub effect_refused : (s : State) (c : ℕ) (request : Request) (reply : Reply) → refusal s c request.command ≡ Some reply → effect s (event.Say c request) ≡ s
+effect_refused s c request reply e =
+    ap (λ (o : Option Reply). if hears s c && not (is_some o) then obeyed s c (name_of s c) request.command else s) e
+    ∙ elim (hears s c) as (λ b. (if b && false then obeyed s c (name_of s c) request.command else s) ≡ s) [ true ↦ refl | false ↦ refl ]
+
+pub effect_obeyed : (s : State) (c : ℕ) (request : Request) → hears s c ≡ true → refusal s c request.command ≡ None → effect s (event.Say c request) ≡ obeyed s c (name_of s c) request.command
+effect_obeyed s c request heard allowed =
+    ap (λ (o : Option Reply). if hears s c && not (is_some o) then obeyed s c (name_of s c) request.command else s) allowed
+    ∙ ap (λ b. if b && true then obeyed s c (name_of s c) request.command else s) heard
+
+-- a client that is shut is gone; where it was not logged in, nothing else happens
+pub shut_removes : (s : State) (c : ℕ) → at_number (next s (event.Shut c)).clients c ≡ None
+shut_removes s c =
+    find-values (λ d x. with_batch s.settings.outbox_limit (batch s (event.Shut c) d) x) c (without_number s.clients c)
+    ∙ ap (option_map (with_batch s.settings.outbox_limit (batch s (event.Shut c) c))) (at-without nat_cmp nat_cmp_total s.clients c c ∙ ap (λ b. cond (not b) (at_number s.clients c) None) (same_itself c))
+
+pub next_shut_unnamed : (s : State) (c : ℕ) → name_of s c ≡ None → next s (event.Shut c) ≡ record s { clients = without_number s.clients c }
+next_shut_unnamed s c unnamed =
+    quiet s (event.Shut c) (effect s (event.Shut c)) none
+    ∙ ap (λ me. record s { users = users_left s.users me; clients = without_number s.clients c }) unnamed
+  where
+    nobody : (to : Option (List ℕ)) → to_user to [] ≡ []
+    nobody None = refl
+    nobody (Some name) = refl
+
+    none : (d : ℕ) → batch s (event.Shut c) d ≡ []
+    none d =
+        ap (λ me. print_all (if same_number d c then [] else under None (to_user (name_of s d) (departure me)))) unnamed
+        ∙ ap (λ (replies : List Reply). print_all (if same_number d c then [] else under None replies)) (nobody (name_of s d))
+        ∙ elim (same_number d c) as (λ b. print_all (if b then [] else []) ≡ []) [ true ↦ refl | false ↦ refl ]

@@ -1,5 +1,5 @@
 -- A map split at one of its keys.
-use Rattle.std.proofs.Common.{◌≡◌, ℕ, [], ◌∷◌, ◌++◌, refl, sym, ap, subst, ◌∙◌, Bool, true, false, cond, map}
+use Rattle.std.proofs.Common.{◌≡◌, ℕ, List, [], ◌∷◌, ◌++◌, refl, sym, ap, subst, ◌∙◌, Bool, true, false, cond, map}
 use Rattle.std.specs.Prelude.{Some, None, ◌||◌}
 use Rattle.std.specs.declared.cmp.Ordering.TheVariants.{Less}
 use Rattle.std.specs.Ordering.{is_eq, nat_cmp}
@@ -85,12 +85,13 @@ module _ {X Y : Type 0} where
   values-append f [] n = refl
   values-append f (e ∷ m) n = ap (λ es. (e.0, f e.0 e.1) ∷ es) (values-append f m n)
 
-  -- a function of the values alone
-  pub keys-values : (f : X → Y) (m : ByNumber X) → map (λ e. e.0) (map_values (λ c x. f x) m) ≡ map (λ e. e.0) m
+-- a function of the values alone, in a map with any keys
+module _ {K X Y : Type 0} where
+  pub keys-values : (f : X → Y) (m : List (K × X)) → map (λ e. e.0) (map_values (λ c x. f x) m) ≡ map (λ e. e.0) m
   keys-values f [] = refl
   keys-values f (e ∷ m) = ap (λ ks. e.0 ∷ ks) (keys-values f m)
 
-  pub lookup-values : (f : X → Y) (test : ℕ → Bool) (x : X) (m : ByNumber X) → lookup test m ≡ Some x → lookup test (map_values (λ c x. f x) m) ≡ Some (f x)
+  pub lookup-values : (f : X → Y) (test : K → Bool) (x : X) (m : List (K × X)) → lookup test m ≡ Some x → lookup test (map_values (λ c x. f x) m) ≡ Some (f x)
   lookup-values f test x [] h = absurd (cc)
   lookup-values f test x (e ∷ m) h =
       elim (test e.0) as (λ b. cond b (Some e.1) (lookup test m) ≡ Some x → cond b (Some (f e.1)) (lookup test (map_values (λ c x. f x) m)) ≡ Some (f x)) [
@@ -98,7 +99,7 @@ module _ {X Y : Type 0} where
         | false ↦ λ t. lookup-values f test x m t
       ] h
 
-  pub lookup-values-none : (f : X → Y) (test : ℕ → Bool) (m : ByNumber X) → lookup test m ≡ None → lookup test (map_values (λ c x. f x) m) ≡ None
+  pub lookup-values-none : (f : X → Y) (test : K → Bool) (m : List (K × X)) → lookup test m ≡ None → lookup test (map_values (λ c x. f x) m) ≡ None
   lookup-values-none f test [] h = refl
   lookup-values-none f test (e ∷ m) h =
       elim (test e.0) as (λ b. cond b (Some e.1) (lookup test m) ≡ None → cond b (Some (f e.1)) (lookup test (map_values (λ c x. f x) m)) ≡ None) [
@@ -106,7 +107,7 @@ module _ {X Y : Type 0} where
         | false ↦ λ t. lookup-values-none f test m t
       ] h
 
-  pub set_value-values : (f : X → Y) (test : ℕ → Bool) (w : X) (m : ByNumber X) → map_values (λ c x. f x) (set_value test m w) ≡ set_value test (map_values (λ c x. f x) m) (f w)
+  pub set_value-values : (f : X → Y) (test : K → Bool) (w : X) (m : List (K × X)) → map_values (λ c x. f x) (set_value test m w) ≡ set_value test (map_values (λ c x. f x) m) (f w)
   set_value-values f test w [] = refl
   set_value-values f test w (e ∷ m) =
       elim (test e.0) as (λ b. map_values (λ c x. f x) (cond b ((e.0, w) ∷ m) (e ∷ set_value test m w)) ≡ cond b ((e.0, f w) ∷ map_values (λ c x. f x) m) ((e.0, f e.1) ∷ set_value test (map_values (λ c x. f x) m) (f w))) [

@@ -9,3 +9,4 @@ pub mod Next
 pub mod Touched
 pub mod History
 pub mod Schedule
+pub mod Laws

@@ -9,6 +9,7 @@ use Rattle.lobby_model.specs.declared.schedule.Step.{Step}
 use Rattle.lobby_model.specs.declared.schedule.Step.TheVariants as step
 use Rattle.lobby_model.specs.Table.{ByNumber, at_number, put_number}
 use Rattle.lobby_model.specs.Configuration.{Configuration}
+use Rattle.account_book.specs.Account.{Account}
 use Rattle.lobby_model.specs.State.{State, empty_lobby}
 use Rattle.lobby_model.specs.Effect.{has_place}
 use Rattle.lobby_model.specs.History.{after}
@@ -27,8 +28,8 @@ pub record World : Type 0 where
   pub lobby : State
   pub inputs : ByNumber Input
 
-abbrev pub new_world : Configuration → World
-new_world settings = record { lobby = empty_lobby settings; inputs = [] }
+abbrev pub new_world : Configuration → List Account → World
+new_world settings accounts = record { lobby = empty_lobby settings accounts; inputs = [] }
 
 abbrev pub is_open : World → ℕ → Bool
 is_open w c = is_some (at_number w.lobby.clients c)

@@ -14,5 +14,12 @@ fault_text BadPair = codes "Bad key or value"
 abbrev pub log_in_first : List ℕ
 log_in_first = codes "Log in first"
 
+-- of a login
+abbrev pub already_in : List ℕ
+already_in = codes "Already logged in"
+
 abbrev pub invalid_login : List ℕ
 invalid_login = codes "Invalid username or password"
+
+abbrev pub user_is_in : List ℕ
+user_is_in = codes "User is already logged in"

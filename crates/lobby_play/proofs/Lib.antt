@@ -1,6 +1,7 @@
 mod Parts
 mod Numbers
 mod EscapeLemmas
+mod AccountLemmas
 mod ActionLemmas
 mod Opened
 mod Takings

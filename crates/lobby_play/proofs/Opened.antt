@@ -2,6 +2,7 @@
 use Rattle.std.proofs.Common.{◌≡◌, ℕ, ◌+◌, Bool, true, false, not, cond, nat_eq, List, [], ◌∷◌, Some, None, refl, ap, ◌∙◌, arith, eq-eqb}
 use Rattle.std.specs.Bool.{then_some}
 use Rattle.std.proofs.lemmas.Bool.{eqb-true}
+use Rattle.account_book.specs.Account.{Account}
 use Rattle.lobby_model.specs.declared.event.Event.{Event}
 use Rattle.lobby_model.specs.declared.event.Event.TheVariants as event
 use Rattle.lobby_model.specs.declared.schedule.Step.TheVariants as step
@@ -30,9 +31,9 @@ told a b true e = ap (λ q. then_some (not q) a) (not_equal a b (nat_eq a b) ref
 told a b false e = ap (λ q. then_some (not q) a) (eq-eqb a b e)
 
 -- a last number that rose was given
-pub is_given : (old new : Kept) (settings : Configuration) (events : List Event) (world : World) (ip : List ℕ) → Stands old settings events world → StandsAfter new settings events world (step.Open ip 0)
+pub is_given : (old new : Kept) (settings : Configuration) (accounts : List Account) (events : List Event) (world : World) (ip : List ℕ) → Stands old settings accounts events world → StandsAfter new settings accounts events world (step.Open ip 0)
     → then_some (not (nat_eq new.lobby.last_client old.lobby.last_client)) new.lobby.last_client ≡ given world
-is_given old new settings events world ip stands (here, later, gives, now) =
+is_given old new settings accounts events world ip stands (here, later, gives, now) =
     let before : old.lobby.last_client ≡ world.lobby.last_client = ap (λ (s : State). s.last_client) stands.lobby in
     let after_it : new.lobby.last_client ≡ later.lobby.last_client = ap (λ (s : State). s.last_client) now.lobby in
     let moved_to : later.lobby.last_client ≡ (after world.lobby here).last_client = ap (λ (w : World). w.lobby.last_client) gives.1 in

@@ -1,5 +1,5 @@
 -- A player is where the action leads.
-use Rattle.std.proofs.Common.{◌≡◌, ℕ, Bool, false, not, List, [], ◌∷◌, length, drop, refl, sym, ap, ◌∙◌, subst}
+use Rattle.std.proofs.Common.{◌≡◌, ℕ, Bool, true, false, not, ◌&&◌, List, [], ◌∷◌, length, drop, refl, sym, ap, ◌∙◌, subst}
 use Rattle.std.specs.Prelude.{Option, Some, None, is_some, IsTrue}
 use Rattle.std.proofs.lemmas.Bool.{false≢true}
 use Rattle.std.specs.Ordering.{nat_cmp}
@@ -16,11 +16,13 @@ use Rattle.lobby_model.proofs.Tables.{lookup_is_find, insert_is_put}
 use Rattle.lobby_hall.specs.Standing.{Kept, Stands}
 use Rattle.lobby_hall.specs.Record.{log_at}
 use Rattle.lobby_play.specs.declared.action.Action.TheVariants as action
+use Rattle.lobby_play.specs.declared.action.Setting.{Setting}
 use Rattle.lobby_play.specs.declared.action.Order.{Order}
 use Rattle.lobby_play.specs.declared.action.Order.TheVariants as order
 use Rattle.lobby_play.specs.declared.label.Label.{Label}
 use Rattle.lobby_play.specs.declared.player.Player.{Player}
-use Rattle.lobby_play.specs.Scene.{Scene, default_settings, with_limit, has_no_label, is_allowed}
+use Rattle.lobby_play.specs.Prepared.{Prepared, can_be_set, with_setting}
+use Rattle.lobby_play.specs.Scene.{Scene, unopened, has_no_label, is_allowed}
 use Rattle.lobby_play.specs.Acts.{Acts, LabelActs, ClientActs, OrderGives, given, happened, with_label, labelled, put_so_far}
 use Rattle.lobby_play.specs.Halls.{Moves}
 use Rattle.lobby_play.specs.Player.{HallStands, IsAt, Performed}
@@ -58,16 +60,16 @@ refused_acts player s label entry o at found none = let acts = acts_for s label 
 -- with no hall there is no label
 pub no_hall_no_label : (player : Player) (s : Scene) (label : ℕ) (entry : Label) → IsAt player s → player.hall ≡ None → at_number s.labels label ≡ Some entry → ⊥
 no_hall_no_label player s label entry at none found =
-    let fresh = subst (λ h. HallStands h s) none at.hall in
+    let fresh = subst (λ h. HallStands h player.setup s) none at.hall in
     let nothing : at_number s.labels label ≡ None = ap (λ (x : Scene). at_number x.labels label) fresh in
     let e = sym nothing ∙ found in
     cc
 
-pub hall_stands : (player : Player) (s : Scene) (hall : Kept) → IsAt player s → player.hall ≡ Some hall → Stands hall s.settings s.events s.world
-hall_stands player s hall at is = (subst (λ h. HallStands h s) is at.hall).0
+pub hall_stands : (player : Player) (s : Scene) (hall : Kept) → IsAt player s → player.hall ≡ Some hall → Stands hall s.prepared.settings s.prepared.accounts s.events s.world
+hall_stands player s hall at is = (subst (λ h. HallStands h player.setup s) is at.hall).0
 
 has_label : (player : Player) (s : Scene) (hall : Kept) → IsAt player s → player.hall ≡ Some hall → has_no_label s.labels ≡ false
-has_label player s hall at is = (subst (λ h. HallStands h s) is at.hall).1
+has_label player s hall at is = (subst (λ h. HallStands h player.setup s) is at.hall).1
 
 -- an order that is no show
 ordered : (s : Scene) (label : ℕ) (entry : Label) (client : ℕ) (o : Order) (here : List Event) (w : World) → (o ≡ order.Show → ⊥) → OrderGives s.world client o here w → ClientActs s label entry (Some client) o [] (happened s here w)
@@ -75,11 +77,11 @@ ordered s label entry client order.Show here w ne gives = absurd (ne refl)
 ordered s label entry client _ here w ne gives = (refl, (here, w, gives, refl))
 
 pub order_acts : (player new : Player) (s : Scene) (label : ℕ) (entry : Label) (client : ℕ) (o : Order) (hall after : Kept) → IsAt player s → at_number s.labels label ≡ Some entry → entry.client ≡ Some client → (o ≡ order.Show → ⊥)
-    → player.hall ≡ Some hall → new ≡ record player { hall = Some after } → Moves after s.settings s.events (OrderGives s.world client o)
+    → player.hall ≡ Some hall → new ≡ record player { hall = Some after } → Moves after s.prepared.settings s.prepared.accounts s.events (OrderGives s.world client o)
     → Performed new s (action.Client label o) []
 order_acts player new s label entry client o hall after at found is ne was now (here, w, gives, stands) =
     let acts = acts_for s label entry (Some client) o [] (happened s here w) found is (ordered s label entry client o here w ne gives) in
-    let there : IsAt (record player { hall = Some after }) (happened s here w) = record { settings = at.settings; in_bounds = at.in_bounds; hall = (stands, has_label player s hall at was); labels = at.labels } in
+    let there : IsAt (record player { hall = Some after }) (happened s here w) = record { hall = (stands, has_label player s hall at was); labels = at.labels } in
     (acts.0, (happened s here w, acts.1, subst (λ p. IsAt p (happened s here w)) (sym now) there))
 
 -- what the hall has put is what its events put
@@ -87,38 +89,61 @@ pub hall_put : (player : Player) (s : Scene) (hall : Kept) (client : ℕ) → Is
 hall_put player s hall client at is = (hall_stands player s hall at is).record_is.put client
 
 pub show_acts : (player new : Player) (s : Scene) (label : ℕ) (entry : Label) (client : ℕ) (hall after : Kept) (put : ℕ) → IsAt player s → at_number s.labels label ≡ Some entry → entry.client ≡ Some client → player.hall ≡ Some hall
-    → new.hall ≡ Some after → after ≡ hall → new.outbox_limit ≡ player.outbox_limit → new.labels.entries ≡ insert_entry nat_cmp player.labels.entries label (record entry { shown = put }) → put ≡ length (log_at hall.record_so_far client).put
+    → new.hall ≡ Some after → after ≡ hall → new.labels.entries ≡ insert_entry nat_cmp player.labels.entries label (record entry { shown = put }) → put ≡ length (log_at hall.record_so_far client).put
     → Performed new s (action.Client label order.Show) (labelled label (drop entry.shown (log_at hall.record_so_far client).put))
-show_acts player new s label entry client hall after put at found is was now stays limit entries all =
+show_acts player new s label entry client hall after put at found is was now stays entries all =
     let bytes = hall_put player s hall client at was in
     let shown : record entry { shown = put } ≡ record { client = Some client; shown = length (put_so_far s client) } =
     ap (λ c. let e : Label = record { client = c; shown = put } in e) is ∙ ap (λ n. let e : Label = record { client = Some client; shown = n } in e) (all ∙ ap (λ (l : List ℕ). length l) bytes) in
     let next = with_label s label (Some client) (length (put_so_far s client)) in
     let acts = acts_for s label entry (Some client) order.Show (labelled label (drop entry.shown (log_at hall.record_so_far client).put)) next found is (ap (λ l. labelled label (drop entry.shown l)) bytes, refl) in
     let there : IsAt new next = record {
-      settings = at.settings ∙ ap (with_limit default_settings) (sym limit);
-      in_bounds = at.in_bounds;
-      hall = subst (λ h. HallStands h next) (sym now) (subst (λ h. Stands h s.settings s.events s.world) (sym stays) (hall_stands player s hall at was), put_some s.labels label _);
+      hall = subst (λ h. HallStands h new.setup next) (sym now) (subst (λ h. Stands h s.prepared.settings s.prepared.accounts s.events s.world) (sym stays) (hall_stands player s hall at was), put_some s.labels label _);
       labels = entries_put player s new.labels.entries label _ at entries ∙ ap (put_number s.labels label) shown;
     } in
     (acts.0, (next, acts.1, there))
 
+-- ---- what is set before the first open
+
+module _ (player : Player) (s : Scene) (setting : Setting) (at : IsAt player s) where
+  is_fresh : is_some player.hall ≡ false → s ≡ unopened player.setup
+  is_fresh none = subst (λ h. HallStands h player.setup s) (none_from_test player.hall none) at.hall
+
+  pub set_acts : (new : Player) → is_some player.hall ≡ false → new ≡ record player { setup = with_setting player.setup setting } → can_be_set player.setup setting ≡ true → Performed new s (action.Set setting) []
+  set_acts new none now allowed =
+      let fresh = is_fresh none in
+      let before : Prepared = player.setup in
+      let after : Scene = unopened (with_setting before setting) in
+      let there : IsAt (record player { setup = with_setting before setting }) after = record {
+        hall = subst (λ h. HallStands h (with_setting before setting) after) (sym (none_from_test player.hall none)) refl;
+        labels = at.labels ∙ ap (λ (x : Scene). x.labels) fresh;
+      } in
+      (ap (λ (x : Scene). is_allowed x (action.Set setting)) fresh ∙ allowed, (after, (refl, ap (λ (x : Scene). unopened (with_setting x.prepared setting)) (sym fresh)), subst (λ p. IsAt p after) (sym now) there))
+
+  pub not_settable : is_some player.hall ≡ false → can_be_set player.setup setting ≡ false → is_allowed s (action.Set setting) ≡ false
+  not_settable none refused = ap (λ (x : Scene). is_allowed x (action.Set setting)) (is_fresh none) ∙ refused
+
+  pub set_too_late : is_some player.hall ≡ true → is_allowed s (action.Set setting) ≡ false
+  set_too_late some =
+      elim player.hall as (λ o. player.hall ≡ o → is_some o ≡ true → is_allowed s (action.Set setting) ≡ false) [
+        | None ↦ λ e h. absurd (false≢true h)
+        | Some hall ↦ λ e h. ap (λ b. b && can_be_set s.prepared setting) (has_label player s hall at e)
+      ] refl some
+
 -- ---- an open
 
-pub first_stands : (player : Player) (s : Scene) (hall : Kept) → IsAt player s → player.hall ≡ None → Stands hall (with_limit default_settings player.outbox_limit) [] (new_world (with_limit default_settings player.outbox_limit)) → Stands hall s.settings s.events s.world
+pub first_stands : (player : Player) (s : Scene) (hall : Kept) → IsAt player s → player.hall ≡ None → Stands hall player.setup.settings player.setup.accounts [] (new_world player.setup.settings player.setup.accounts)
+    → Stands hall s.prepared.settings s.prepared.accounts s.events s.world
 first_stands player s hall at none stands =
-    let fresh = subst (λ h. HallStands h s) none at.hall in
-    subst (λ (x : Scene). Stands hall x.settings x.events x.world) (sym fresh) (subst (λ c. Stands hall c [] (new_world c)) (sym at.settings) stands)
+    subst (λ (x : Scene). Stands hall x.prepared.settings x.prepared.accounts x.events x.world) (sym (subst (λ h. HallStands h player.setup s) none at.hall)) stands
 
 pub open_acts : (player new : Player) (s : Scene) (label : ℕ) (ip : List ℕ) (client : Option ℕ) (hall : Kept) → IsAt player s → at_number s.labels label ≡ None
-    → Moves hall s.settings s.events (StepGives s.world (step.Open ip 0)) → client ≡ given s.world → new.hall ≡ Some hall → new.outbox_limit ≡ player.outbox_limit
+    → Moves hall s.prepared.settings s.prepared.accounts s.events (StepGives s.world (step.Open ip 0)) → client ≡ given s.world → new.hall ≡ Some hall
     → new.labels.entries ≡ insert_entry nat_cmp player.labels.entries label (record { client = client; shown = 0 }) → Performed new s (action.Open label ip) []
-open_acts player new s label ip client hall at free (here, w, gives, stands) number now limit entries =
+open_acts player new s label ip client hall at free (here, w, gives, stands) number now entries =
     let next = with_label (happened s here w) label (given s.world) 0 in
     let there : IsAt new next = record {
-      settings = at.settings ∙ ap (with_limit default_settings) (sym limit);
-      in_bounds = at.in_bounds;
-      hall = subst (λ h. HallStands h next) (sym now) (stands, put_some s.labels label _);
+      hall = subst (λ h. HallStands h new.setup next) (sym now) (stands, put_some s.labels label _);
       labels = entries_put player s new.labels.entries label _ at entries ∙ ap (λ c. put_number s.labels label (record { client = c; shown = 0 })) number;
     } in
     (ap (λ o. not (is_some o)) free, (next, (refl, (here, w, gives, refl)), there))

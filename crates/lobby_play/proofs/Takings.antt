@@ -1,23 +1,22 @@
 -- Takes of a client's lines come to an end.
-use Rattle.std.proofs.Common.{◌≡◌, ℕ, zero, suc, ◌+◌, ◌-◌, ◌<◌, ◌≤◌, Bool, true, false, not, ◌&&◌, ◌||◌, cond, List, [], ◌∷◌, ◌++◌, length, Option, Some, None, is_some, refl, sym, ap, ◌∙◌, subst, arith, append_assoc, length-drop, append-nil}
+use Rattle.std.proofs.Common.{◌≡◌, ℕ, zero, suc, ◌+◌, ◌-◌, ◌<◌, ◌≤◌, Bool, true, false, ◌&&◌, ◌||◌, cond, List, [], ◌∷◌, ◌++◌, length, Option, Some, None, is_some, refl, sym, ap, ◌∙◌, subst, arith, append_assoc, length-drop, append-nil}
 use Rattle.std.proofs.lemmas.List.{length-map}
 use Rattle.std.proofs.lemmas.Option.{slice_get_within}
 use Rattle.std.specs.Prelude.{slice_get, MatchBool}
-use Rattle.std.specs.Ordering.{nat_cmp, eq_by_cmp}
+use Rattle.std.specs.Ordering.{nat_cmp}
 use Rattle.std.specs.Cmp.{nat_cmp_total}
 use Rattle.std.specs.FinMap.Entries.{find, find-put}
 use Rattle.std.proofs.lemmas.Bool.{false≢true}
 use Rattle.line_framer.specs.Frames.{frames, is_spoilt, lines_in, without_cr}
 use Rattle.line_framer.specs.Framed.{Framed, StandsFor}
+use Rattle.account_book.specs.Account.{Account}
 use Rattle.lobby_model.specs.declared.event.Event.{Event}
 use Rattle.lobby_model.specs.declared.event.Event.TheVariants as event
 use Rattle.lobby_model.specs.declared.schedule.Step.TheVariants as step
 use Rattle.lobby_model.specs.Configuration.{Configuration}
-use Rattle.lobby_model.specs.Table.{ByNumber, at_number, without_number}
-use Rattle.lobby_model.specs.State.{State}
 use Rattle.lobby_model.specs.Schedule.{World, Input, input, input_of, is_open, line_limit, moved, with_taken, TakeGives, StepGives}
 use Rattle.lobby_model.proofs.Delivered.{same_itself}
-use Rattle.lobby_model.proofs.Quiet.{next_shut}
+use Rattle.lobby_model.proofs.Quiet.{shut_removes}
 use Rattle.lobby_hall.specs.Standing.{Kept, Stands, StandsAfter, SessionOf, is_ready, session_at}
 use Rattle.lobby_hall.specs.Serving.{Serving}
 use Rattle.lobby_play.specs.Acts.{Takes}
@@ -44,16 +43,8 @@ first_holds : (a b : Bool) → (a && b) ≡ true → a ≡ true
 first_holds true b h = refl
 first_holds false b h = h
 
-gone : {X : Type 0} (c : ℕ) (m : ByNumber X) → at_number (without_number m c) c ≡ None
-gone c [] = refl
-gone c (e ∷ m) =
-    elim (eq_by_cmp nat_cmp c e.0) as (λ b. eq_by_cmp nat_cmp c e.0 ≡ b → find nat_cmp c (cond (not b) (e ∷ without_number m c) (without_number m c)) ≡ None) [
-      | true ↦ λ h. gone c m
-      | false ↦ λ h. ap (λ b. cond b (Some e.1) (find nat_cmp c (without_number m c))) h ∙ gone c m
-    ] refl
-
 shut_is_gone : (w : World) (c : ℕ) → is_open (moved w (event.Shut c ∷ [])) c ≡ false
-shut_is_gone w c = ap (λ (s : State). is_some (at_number s.clients c)) (next_shut w.lobby c) ∙ ap is_some (gone c w.lobby.clients)
+shut_is_gone w c = ap is_some (shut_removes w.lobby c)
 
 -- a line was taken of what is the input now
 taken_input : (w : World) (c : ℕ) → input (with_taken w c) c ≡ record { bytes = (input w c).bytes; taken = (input w c).taken + 1 }
@@ -106,9 +97,9 @@ less_left w new c here None e ready gives session stands =
     let nothing = left_when_shut session (input new c) (subst (λ b. SessionOf session b (input new c)) shut stands) in
     omega (arith, nothing)
 
-pub take_lessens : (hall new : Kept) (c : ℕ) (settings : Configuration) (events : List Event) (world : World) → Stands hall settings events world → is_ready world c ≡ true → StandsAfter new settings events world (step.Take c)
+pub take_lessens : (hall new : Kept) (c : ℕ) (settings : Configuration) (accounts : List Account) (events : List Event) (world : World) → Stands hall settings accounts events world → is_ready world c ≡ true → StandsAfter new settings accounts events world (step.Take c)
     → left_to_take new c < left_to_take hall c
-take_lessens hall new c settings events world stands ready (here, later, gives, now) =
+take_lessens hall new c settings accounts events world stands ready (here, later, gives, now) =
     let opened = first_holds (is_open world c) _ ready in
     let taken = subst (λ b. MatchBool b (TakeGives world c (slice_get (frames (input world c).bytes line_limit) (input world c).taken) here later) ((here ≡ []) × (later ≡ world))) opened gives in
     let before = left_when_open (session_at hall.sessions c) (input world c) (subst (λ b. SessionOf (session_at hall.sessions c) b (input world c)) opened (stands.sessions c)) in

@@ -1,15 +1,21 @@
 -- What a line of a script says.
-use Rattle.std.specs.Prelude.{◌≡◌, ℕ, List, ◌∷◌, ◌++◌, codes}
+use Rattle.std.specs.Prelude.{◌≡◌, ℕ, List, ◌∷◌, ◌++◌, codes, IsTrue}
+use Rattle.line_words.specs.Bytes.{is_text}
+use Rattle.account_book.specs.Account.{Account}
 use Rattle.lobby_play.specs.declared.action.Action.{Action}
 use Rattle.lobby_play.specs.declared.action.Action.TheVariants as action
+use Rattle.lobby_play.specs.declared.action.Setting.TheVariants as setting
 use Rattle.lobby_play.specs.declared.action.Order.{Order}
 use Rattle.lobby_play.specs.declared.action.Order.TheVariants as order
 use Rattle.lobby_play.specs.Words.{IsNumber, LeadsWith, IsAddress}
+use Rattle.lobby_play.specs.Accounts.{WritesAccount}
 use Rattle.lobby_play.specs.Escapes.{StandsForBytes}
 
 -- the word that a line begins with
 abbrev pub verb_of : Action → List ℕ
-verb_of (action.Limit bytes) = codes "limit"
+verb_of (action.Set (setting.Account account)) = codes "account"
+verb_of (action.Set (setting.Motd line)) = codes "motd"
+verb_of (action.Set (setting.Limit bytes)) = codes "limit"
 verb_of (action.Open label ip) = codes "open"
 verb_of (action.Client label (order.Send bytes)) = codes "send"
 verb_of (action.Client label order.Take) = codes "take"
@@ -18,9 +24,11 @@ verb_of (action.Client label (order.Read count)) = codes "read"
 verb_of (action.Client label order.Shut) = codes "shut"
 verb_of (action.Client label order.Show) = codes "show"
 
--- what stands behind that word and one space: a number, or a label with one space behind it and then the rest
+-- what stands behind that word and one space: an account, a text, a number, or a label with one space behind it and then the rest
 abbrev pub Arguments : List ℕ → Action → Type 0
-Arguments text (action.Limit bytes) = IsNumber text bytes
+Arguments text (action.Set (setting.Account account)) = WritesAccount text account
+Arguments text (action.Set (setting.Motd line)) = (text ≡ line) × IsTrue (is_text line)
+Arguments text (action.Set (setting.Limit bytes)) = IsNumber text bytes
 Arguments text (action.Open label ip) = (rest : List ℕ) × LeadsWith 32 text label rest × IsAddress rest ip
 Arguments text (action.Client label (order.Send bytes)) = (rest : List ℕ) × LeadsWith 32 text label rest × StandsForBytes rest bytes
 Arguments text (action.Client label order.Take) = IsNumber text label
@@ -36,8 +44,14 @@ pub record Says (line : List ℕ) (action : Action) : Type 0 where
   pub arguments : Arguments rest action
 
 -- the actions of one verb
+abbrev pub IsAccount : List ℕ → Action → Type 0
+IsAccount text a = (account : Account) × (a ≡ action.Set (setting.Account account)) × WritesAccount text account
+
+abbrev pub IsMotd : List ℕ → Action → Type 0
+IsMotd text a = (a ≡ action.Set (setting.Motd text)) × IsTrue (is_text text)
+
 abbrev pub IsLimit : List ℕ → Action → Type 0
-IsLimit text a = (bytes : ℕ) × (a ≡ action.Limit bytes) × IsNumber text bytes
+IsLimit text a = (bytes : ℕ) × (a ≡ action.Set (setting.Limit bytes)) × IsNumber text bytes
 
 abbrev pub IsOpen : List ℕ → Action → Type 0
 IsOpen text a = (label : ℕ) × (ip : List ℕ) × (a ≡ action.Open label ip) × Arguments text a

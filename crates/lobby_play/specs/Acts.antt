@@ -14,7 +14,8 @@ use Rattle.lobby_play.specs.declared.action.Action.TheVariants as action
 use Rattle.lobby_play.specs.declared.action.Order.{Order}
 use Rattle.lobby_play.specs.declared.action.Order.TheVariants as order
 use Rattle.lobby_play.specs.declared.label.Label.{Label}
-use Rattle.lobby_play.specs.Scene.{Scene, unopened, with_limit}
+use Rattle.lobby_play.specs.Prepared.{with_setting}
+use Rattle.lobby_play.specs.Scene.{Scene, unopened}
 
 -- so many takes, each of which found a whole line or a spoilt place
 abbrev pub Takes : ℕ → World → ℕ → List Event → World → Type 0
@@ -45,7 +46,7 @@ labelled label bytes = flat_map (λ line. decimal label ++ 62 ∷ 32 ∷ (line +
 
 -- all bytes that were put to client c so far
 abbrev pub put_so_far : Scene → ℕ → List ℕ
-put_so_far s c = put_in (empty_lobby s.settings) s.events c
+put_so_far s c = put_in (empty_lobby s.prepared.settings s.prepared.accounts) s.events c
 
 abbrev pub happened : Scene → List Event → World → Scene
 happened s here w = record s { world = w; events = s.events ++ here }
@@ -66,7 +67,7 @@ LabelActs s label (Some entry) o out new = ClientActs s label entry entry.client
 
 -- the output of an action that is allowed, and the scene after it
 abbrev pub Acts : Scene → Action → List ℕ → Scene → Type 0
-Acts s (action.Limit bytes) out new = (out ≡ []) × (new ≡ unopened (with_limit s.settings bytes))
+Acts s (action.Set setting) out new = (out ≡ []) × (new ≡ unopened (with_setting s.prepared setting))
 Acts s (action.Open label ip) out new =
     (out ≡ []) × ((here : List Event) × (w : World) × StepGives s.world (step.Open ip 0) here w × (new ≡ with_label (happened s here w) label (given s.world) 0))
 Acts s (action.Client label o) out new = LabelActs s label (at_number s.labels label) o out new

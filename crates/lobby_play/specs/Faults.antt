@@ -1,5 +1,7 @@
 -- Which fault is told.
 use Rattle.std.specs.Prelude.{ℕ}
+use Rattle.account_book.specs.declared.error.AccountsError.{AccountsError}
+use Rattle.account_book.specs.declared.error.AccountsError.TheVariants as accounts
 use Rattle.lobby_model.specs.declared.settings.SettingsError.{SettingsError}
 use Rattle.lobby_model.specs.declared.settings.SettingsError.TheVariants as settings
 use Rattle.lobby_play.specs.declared.fault.LineFault.{LineFault}
@@ -15,6 +17,12 @@ fault_at line.Memory k = script.Memory
 abbrev pub refused_settings : SettingsError → LineFault
 refused_settings settings.OutOfBounds = line.BadStep
 refused_settings settings.Memory = line.Memory
+
+abbrev pub refused_account : AccountsError → LineFault
+refused_account accounts.NotToml = line.BadStep
+refused_account (accounts.BadField place) = line.BadStep
+refused_account accounts.DuplicateName = line.BadStep
+refused_account accounts.Memory = line.Memory
 
 -- the exit status of a script that was not played to its end
 abbrev pub status_of : PlayFault → ℕ

@@ -1,8 +1,11 @@
 pub mod Words
 pub mod Lines
 pub mod Escapes
+pub mod Accounts
+pub mod Fields
 pub mod Actions
 pub mod Faults
+pub mod Prepared
 pub mod Scene
 pub mod Acts
 pub mod Halls

@@ -3,7 +3,8 @@ use Rattle.std.specs.Prelude.{◌≡◌, ◌≢◌, ℕ, ◌+◌, ◌⊎◌, fal
 use Rattle.lobby_play.specs.declared.action.Action.{Action}
 use Rattle.lobby_play.specs.Actions.{Says}
 use Rattle.lobby_play.specs.Lines.{lines_of}
-use Rattle.lobby_play.specs.Scene.{Scene, is_allowed, unopened, default_settings}
+use Rattle.lobby_play.specs.Prepared.{nothing_set}
+use Rattle.lobby_play.specs.Scene.{Scene, is_allowed, unopened}
 use Rattle.lobby_play.specs.Acts.{Acts}
 
 -- the line says an action that is allowed, which does and shows this
@@ -23,9 +24,9 @@ abbrev pub Played : Scene → List (List ℕ) → List ℕ → Scene → Type 0
 Played s [] out new = (out ≡ []) × (new ≡ s)
 Played s (line ∷ lines) out new = (here : List ℕ) × (mid : Scene) × (later : List ℕ) × LinePlays s line here mid × Played mid lines later new × (out ≡ here ++ later)
 
--- these lines play, from the empty lobby with the default settings on
+-- these lines play, from the empty lobby with the default settings and no account on
 abbrev pub PlaysTo : List (List ℕ) → List ℕ → Scene → Type 0
-PlaysTo lines out end = Played (unopened default_settings) lines out end
+PlaysTo lines out end = Played (unopened nothing_set) lines out end
 
 -- the whole script plays, with this output
 abbrev pub OutputOf : List ℕ → List ℕ → Type 0

@@ -2,22 +2,36 @@
 
 ghost use Rattle.std.specs.Prelude.{◌≡◌, ℕ, List, IfOk};
 ghost use Rattle.lobby_play.specs.Words.{Finds};
-ghost use Rattle.lobby_play.specs.Actions.{Arguments, IsLimit, IsOpen, IsPlain, IsRead, IsSend, Says, verb_of};
+ghost use Rattle.lobby_play.specs.Actions.{Arguments, IsAccount, IsLimit, IsMotd, IsOpen, IsPlain, IsRead, IsSend, Says, verb_of};
 
+use crate::accounts::read_account;
 use crate::escapes::unescape;
 use crate::words::{address, number, number_before, part_at};
+use account_book::Account;
+use line_words::{TextBuf, is_text};
 use lobby_model::schedule::Piece;
 use std::alloc::{AllocError, Global};
 
 /// What a line of a script asks for. A label names a client within the script.
 #[derive(Drop)]
 pub enum Action {
-    /// `limit N`: the most bytes that may wait unread for a client.
-    Limit { bytes: u32 },
+    /// Something that is set before the first open.
+    Set { setting: Setting },
     /// `open N IP`: a client connects, and gets the label.
     Open { label: u32, ip: [u8; 4] },
     /// Something for the client of a label.
     Client { label: u32, order: Order },
+}
+
+/// What is set before the first open.
+#[derive(Drop)]
+pub enum Setting {
+    /// `account NAME WORD ID RANK [COUNTRY]`: one more account.
+    Account { account: Account },
+    /// `motd TEXT`: one more line of the message of the day.
+    Motd { line: TextBuf },
+    /// `limit N`: the most bytes that may wait unread for a client.
+    Limit { bytes: u32 },
 }
 
 /// What is done for a client.
@@ -36,6 +50,10 @@ pub enum Order {
     /// `show N`: what was put to it is shown.
     Show,
 }
+
+const ACCOUNT: &[u8] = b"account";
+
+const MOTD: &[u8] = b"motd";
 
 const LIMIT: &[u8] = b"limit";
 
@@ -66,7 +84,11 @@ pub fn read_action(alloc: Global, line: &[u8]) -> Result<Option<Action>, AllocEr
 fn read_arguments(alloc: Global, verb: &[u8], text: &[u8]) -> Result<Option<Action>, AllocError>
     ensures { IfOk result (Finds (λ action. (verb.now ≡ verb_of action) × Arguments text.now action)) }
 {
-    if verb == LIMIT {
+    if verb == ACCOUNT {
+        account(alloc, text)
+    } else if verb == MOTD {
+        motd(alloc, text)
+    } else if verb == LIMIT {
         Ok(limit(text))
     } else if verb == OPEN {
         Ok(open(text))
@@ -87,11 +109,34 @@ fn read_arguments(alloc: Global, verb: &[u8], text: &[u8]) -> Result<Option<Acti
     }
 }
 
+fn account(alloc: Global, text: &[u8]) -> Result<Option<Action>, AllocError>
+    ensures { IfOk result (Finds (IsAccount text.now)) }
+{
+    let Some(account) = read_account(alloc, text)? else {
+        return Ok(None);
+    };
+    let setting = Setting::Account { account };
+    Ok(Some(Action::Set { setting }))
+}
+
+fn motd(alloc: Global, text: &[u8]) -> Result<Option<Action>, AllocError>
+    ensures { IfOk result (Finds (IsMotd text.now)) }
+{
+    if !is_text(text) {
+        return Ok(None);
+    }
+    let setting = Setting::Motd {
+        line: TextBuf::copy_of(alloc, text)?,
+    };
+    Ok(Some(Action::Set { setting }))
+}
+
 fn limit(text: &[u8]) -> Option<Action>
     ensures { Finds (IsLimit text.now) result }
 {
     let bytes = number(text)?;
-    Some(Action::Limit { bytes })
+    let setting = Setting::Limit { bytes };
+    Some(Action::Set { setting })
 }
 
 fn open(text: &[u8]) -> Option<Action>

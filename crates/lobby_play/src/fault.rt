@@ -3,6 +3,7 @@
 ghost use Rattle.std.specs.Prelude.{◌≡◌};
 ghost use Rattle.lobby_play.specs.Faults.{fault_at, status_of};
 
+use account_book::AccountsError;
 use lobby_hall::HallError;
 use lobby_model::SettingsError;
 use std::alloc::{AllocError, AllocFailed};
@@ -116,6 +117,22 @@ impl From<SettingsError> for LineFault {
         match error {
             SettingsError::OutOfBounds => LineFault::BadStep,
             SettingsError::Memory => LineFault::Memory,
+        }
+    }
+}
+
+impl From<AccountsError> for LineFault {
+    ghost use Rattle.std.specs.Prelude.{◌≡◌};
+    ghost use Rattle.lobby_play.specs.Faults.{refused_account};
+
+    ghost from_gives = { λ error e. e ≡ refused_account error };
+
+    fn from(error: AccountsError) -> LineFault {
+        match error {
+            AccountsError::NotToml | AccountsError::BadField(_) | AccountsError::DuplicateName => {
+                LineFault::BadStep
+            }
+            AccountsError::Memory => LineFault::Memory,
         }
     }
 }

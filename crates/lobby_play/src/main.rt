@@ -2,6 +2,7 @@
 //! was sent. The script comes on standard input, and what it shows goes to standard output.
 #![tactic(auto)]
 
+mod accounts;
 mod action;
 mod escapes;
 mod fault;
@@ -11,6 +12,7 @@ mod lines;
 mod orders;
 mod play;
 mod player;
+mod setup;
 mod show;
 mod words;
 

@@ -1,6 +1,7 @@
 //! What is done for a client, as steps of the hall.
 
 ghost use Rattle.std.specs.Prelude.{◌≡◌, List, IfOk, OnOk};
+ghost use Rattle.account_book.specs.Account.{Account};
 ghost use Rattle.lobby_model.specs.declared.event.Event.{Event};
 ghost use Rattle.lobby_model.specs.Configuration.{Configuration};
 ghost use Rattle.lobby_model.specs.Schedule.{World, StepGives};
@@ -15,8 +16,8 @@ use lobby_model::Step;
 
 /// Connects a client from this address. The number that it gets, if the lobby has a place.
 pub fn connect(hall: &mut Hall, ip: [u8; 4]) -> Result<Option<u64>, HallError>
-    ensures number { IfOk result (λ client. (settings : Configuration) (events : List Event) (world : World) → Stands hall.old settings events world → client ≡ given world) }
-    ensures moves { OnOk result ((settings : Configuration) (events : List Event) (world : World) → Stands hall.old settings events world → Moves hall.new settings events (StepGives world (step.Open ip 0))) }
+    ensures number { IfOk result (λ client. (settings : Configuration) (accounts : List Account) (events : List Event) (world : World) → Stands hall.old settings accounts events world → client ≡ given world) }
+    ensures moves { OnOk result ((settings : Configuration) (accounts : List Account) (events : List Event) (world : World) → Stands hall.old settings accounts events world → Moves hall.new settings accounts events (StepGives world (step.Open ip 0))) }
 {
     let before = hall.last_client();
     hall.step(&Step::Open { ip, home: 0 })?;
@@ -27,7 +28,7 @@ pub fn connect(hall: &mut Hall, ip: [u8; 4]) -> Result<Option<u64>, HallError>
 /// Does this for the client.
 pub fn carry_out(hall: &mut Hall, client: u64, order: Order) -> Result<(), HallError>
     requires { IsStanding hall.old }
-    ensures { OnOk result ((settings : Configuration) (events : List Event) (world : World) → Stands hall.old settings events world → Moves hall.new settings events (OrderGives world client order)) }
+    ensures { OnOk result ((settings : Configuration) (accounts : List Account) (events : List Event) (world : World) → Stands hall.old settings accounts events world → Moves hall.new settings accounts events (OrderGives world client order)) }
 {
     match order {
         Order::Send { bytes } => hall.step(&Step::Arrive { client, bytes }),
@@ -45,7 +46,7 @@ pub fn carry_out(hall: &mut Hall, client: u64, order: Order) -> Result<(), HallE
 /// Takes lines of the client as long as one is ready.
 fn take_all(hall: &mut Hall, client: u64) -> Result<(), HallError>
     requires { IsStanding hall.old }
-    ensures { OnOk result ((settings : Configuration) (events : List Event) (world : World) → Stands hall.old settings events world → Moves hall.new settings events (TakesAll world client)) }
+    ensures { OnOk result ((settings : Configuration) (accounts : List Account) (events : List Event) (world : World) → Stands hall.old settings accounts events world → Moves hall.new settings accounts events (TakesAll world client)) }
 {
     while hall.ready(client) {
         hall.step(&Step::Take { client })?;

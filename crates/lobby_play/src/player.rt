@@ -1,21 +1,12 @@
 //! Plays the lines of a script, one after another.
 
-ghost use Rattle.std.specs.Prelude.{◌≡◌, ◌↔◌, [], false, Err, IfOk, IsTrue};
-ghost use Rattle.lobby_model.specs.Configuration.{is_configuration};
-ghost use Rattle.lobby_model.specs.declared.settings.SettingsError.TheVariants as refused;
-ghost use Rattle.lobby_model.specs.Schedule.{new_world};
-ghost use Rattle.lobby_hall.specs.Standing.{Stands};
-ghost use Rattle.lobby_play.specs.Scene.{default_settings, with_limit};
-ghost use Rattle.lobby_play.specs.declared.fault.LineFault.TheVariants as fault;
-
-use crate::action::{Action, Order, read_action};
+use crate::action::{Action, Order, Setting, read_action};
 use crate::fault::LineFault;
 use crate::label::Label;
 use crate::orders::{carry_out, connect};
+use crate::setup::Setup;
 use crate::show::show;
 use lobby_hall::Hall;
-use lobby_model::settings::DEFAULT_OUTBOX_LIMIT;
-use lobby_model::{Settings, SettingsError};
 use std::alloc::Global;
 use std::collections::BTreeMap;
 use std::io::Write;
@@ -24,24 +15,18 @@ use std::io::Write;
 #[derive(Drop)]
 pub struct Player {
     alloc: Global,
-    outbox_limit: usize,
-    /// There is one from the first open on; until then the settings may change.
+    /// What the first open makes the hall with.
+    setup: Setup,
+    /// There is one from the first open on.
     hall: Option<Hall>,
     labels: BTreeMap<u32, Label>,
-}
-
-/// The default settings, with this limit of an outbox.
-fn settings(alloc: Global, outbox_limit: usize) -> Result<Settings, SettingsError>
-    ensures ok { IfOk result (λ settings. settings ≡ with_limit default_settings outbox_limit) }
-    ensures bounds { (result ≡ Err refused.OutOfBounds) ↔ (is_configuration (with_limit default_settings outbox_limit) ≡ false) }
-{
-    Settings::new(alloc, b"0.38", b"*", 8201, 0, &[], outbox_limit)
 }
 
 impl Player {
     ghost use Rattle.std.specs.Prelude.{◌≡◌, List, ℕ, [], false, OnOk, Err, IsTrue};
     ghost use Rattle.std.specs.Io.KnownBytes.{Appends, Keeps};
-    ghost use Rattle.lobby_play.specs.Scene.{Scene, default_settings, is_allowed, unopened};
+    ghost use Rattle.lobby_play.specs.Prepared.{nothing_set};
+    ghost use Rattle.lobby_play.specs.Scene.{Scene, is_allowed, unopened};
     ghost use Rattle.lobby_play.specs.Script.{IsBad, LinePlays};
     ghost use Rattle.lobby_play.specs.Player.{IsAt, IsSomewhere, Performed};
     ghost use Rattle.lobby_play.specs.declared.action.Action.TheVariants as action;
@@ -52,11 +37,11 @@ impl Player {
 
     /// Before the first line of a script.
     pub fn new(alloc: Global) -> Player
-        ensures { IsAt result (unopened default_settings) }
+        ensures { IsAt result (unopened nothing_set) }
     {
         Player {
             alloc,
-            outbox_limit: DEFAULT_OUTBOX_LIMIT,
+            setup: Setup::new(alloc),
             hall: None,
             labels: BTreeMap::new(alloc),
         }
@@ -92,30 +77,26 @@ impl Player {
         ensures memory { result ≡ Err fault.Memory → Keeps (W.contents writer.old) (W.contents writer.new) }
     {
         match action {
-            Action::Limit { bytes } => self.limit(bytes),
+            Action::Set { setting } => self.set(setting),
             Action::Open { label, ip } => self.open(label, ip),
             Action::Client { label, order } => self.order(label, order, writer),
         }
     }
 
-    /// Sets the limit of an outbox, before the first open.
-    fn limit(&mut self, bytes: u32) -> Result<(), LineFault>
-        ensures ok { OnOk result ((scene : Scene) → IsAt self.old scene → Performed self.new scene (action.Limit bytes) []) }
-        ensures bad { result ≡ Err fault.BadStep → (scene : Scene) → IsAt self.old scene → is_allowed scene (action.Limit bytes) ≡ false }
+    /// Sets this, before the first open.
+    fn set(&mut self, setting: Setting) -> Result<(), LineFault>
+        ensures ok { OnOk result ((scene : Scene) → IsAt self.old scene → Performed self.new scene (action.Set setting) []) }
+        ensures bad { result ≡ Err fault.BadStep → (scene : Scene) → IsAt self.old scene → is_allowed scene (action.Set setting) ≡ false }
         ensures device { result ≡ Err fault.Device → ⊥ }
     {
         if self.hall.is_some() {
             return Err(LineFault::BadStep);
         }
-        let outbox_limit = bytes as usize;
-        let _ = settings(self.alloc, outbox_limit)?;
-        self.outbox_limit = outbox_limit;
-        Ok(())
+        self.setup.set(setting)
     }
 
     /// Connects a client from this address, which gets the label. The first one opens the hall.
     fn open(&mut self, label: u32, ip: [u8; 4]) -> Result<(), LineFault>
-        requires { IsSomewhere self.old }
         ensures ok { OnOk result ((scene : Scene) → IsAt self.old scene → Performed self.new scene (action.Open label ip) []) }
         ensures bad { result ≡ Err fault.BadStep → (scene : Scene) → IsAt self.old scene → is_allowed scene (action.Open label ip) ≡ false }
         ensures device { result ≡ Err fault.Device → ⊥ }
@@ -125,7 +106,7 @@ impl Player {
         }
         let mut hall = match self.hall.take() {
             Some(hall) => hall,
-            None => first_hall(self.alloc, self.outbox_limit)?,
+            None => self.setup.open()?,
         };
         let client = connect(&mut hall, ip)?;
         self.labels.insert(label, Label { client, shown: 0 })?;
@@ -160,15 +141,4 @@ impl Player {
         }
         Ok(())
     }
-}
-
-/// The hall that the first client enters.
-fn first_hall(alloc: Global, outbox_limit: usize) -> Result<Hall, LineFault>
-    requires { IsTrue (is_configuration (with_limit default_settings outbox_limit)) }
-    ensures ok { IfOk result (λ hall. Stands hall (with_limit default_settings outbox_limit) [] (new_world (with_limit default_settings outbox_limit))) }
-    ensures step { result ≡ Err fault.BadStep → ⊥ }
-    ensures device { result ≡ Err fault.Device → ⊥ }
-{
-    let settings = settings(alloc, outbox_limit)?;
-    Ok(Hall::new(alloc, settings)?)
 }

@@ -3,10 +3,11 @@
 mod bad_steps;
 mod devices;
 mod scripts;
+mod users;
 
 use crate::fault::PlayFault;
 use crate::play::play;
-use std::alloc::Global;
+use std::alloc::{AllocError, Global};
 use std::process::Abort;
 
 /// What the server greets each client with, after its label.
@@ -19,4 +20,11 @@ fn plays(rt: &impl Abort, alloc: Global, script: &[u8], output: &[u8], end: Resu
     let played = play(alloc, &mut reader, &mut writer);
     assert!(rt; played == end, "{script:?}");
     assert!(rt; writer.as_slice() == output, "{script:?}");
+}
+
+fn add_times(text: &mut String, part: &str, times: usize) -> Result<(), AllocError> {
+    for _ in 0..times {
+        text.push_str(part)?;
+    }
+    Ok(())
 }

@@ -1,11 +1,11 @@
 //! Scripts that stop at a line that they may not have there.
 
-use super::plays;
+use super::{add_times, plays};
 use crate::fault::PlayFault;
 use std::test::Fail;
 
 /// Lines that are bad after a label 1 was opened.
-const AFTER_OPEN: [&str; 61] = [
+const AFTER_OPEN: [&str; 62] = [
     "show 2",
     "take 2",
     "all 2",
@@ -16,6 +16,7 @@ const AFTER_OPEN: [&str; 61] = [
     "open 1 10.0.0.1",
     "account Anna X03MO1qnZdYdgyfeuILPmQ== 1 0",
     "motd Welcome",
+    "motd ",
     "motd",
     " ",
     "show",
@@ -80,8 +81,8 @@ fn after_an_open(rt: HostRuntime) -> Result<(), Fail> {
     Ok(())
 }
 
-/// Lines that are bad at the front of a script.
-const AT_FIRST: [&str; 13] = [
+/// Lines that are bad at the front of a script, behind one account and one line of the day.
+const AT_FIRST: [&str; 37] = [
     "limit",
     "limit ",
     "limit 65535",
@@ -90,8 +91,32 @@ const AT_FIRST: [&str; 13] = [
     "limit 065536",
     "limit 65536 ",
     "limit 4294967296",
-    "account Anna X03MO1qnZdYdgyfeuILPmQ== 1 0",
-    "motd Welcome",
+    "motd",
+    "motd\tx",
+    "motd x\r",
+    "motd \r",
+    "Motd x",
+    "account",
+    "account ",
+    "account Anna",
+    "account Anna X03MO1qnZdYdgyfeuILPmQ==",
+    "account Anna X03MO1qnZdYdgyfeuILPmQ== 1",
+    "account Anna X03MO1qnZdYdgyfeuILPmQ== 1 ",
+    "account Anna X03MO1qnZdYdgyfeuILPmQ== 1 8",
+    "account Anna X03MO1qnZdYdgyfeuILPmQ== 1 00",
+    "account Anna X03MO1qnZdYdgyfeuILPmQ== 1 256",
+    "account Anna X03MO1qnZdYdgyfeuILPmQ== 01 0",
+    "account Anna X03MO1qnZdYdgyfeuILPmQ== 4294967296 0",
+    "account Anna X03MO1qnZdYdgyfeuILPmQ== 1 0 ",
+    "account Anna X03MO1qnZdYdgyfeuILPmQ== 1 0 de",
+    "account Anna X03MO1qnZdYdgyfeuILPmQ== 1 0 DEU",
+    "account Anna X03MO1qnZdYdgyfeuILPmQ== 1 0 DE x",
+    "account  Anna X03MO1qnZdYdgyfeuILPmQ== 1 0",
+    "account Anna  X03MO1qnZdYdgyfeuILPmQ== 1 0",
+    "account A-b X03MO1qnZdYdgyfeuILPmQ== 1 0",
+    "account Anna X03MO1qnZdYdgyfeuILPmQ 1 0",
+    "account Anna X03MO1qnZdYdgyfeuILPmR== 1 0",
+    "account Bert X03MO1qnZdYdgyfeuILPmQ== 1 0",
     "show 1",
     "send 1 x",
     "\r",
@@ -100,8 +125,28 @@ const AT_FIRST: [&str; 13] = [
 #[test]
 fn before_an_open(rt: HostRuntime) -> Result<(), Fail> {
     for line in AT_FIRST {
-        let script = format!(in rt.alloc(); "\n{line}\nopen 1 10.0.0.1\nshow 1\n")?;
-        let end = Err(PlayFault::BadStep(2));
+        let script = format!(in rt.alloc();
+            "motd x\naccount Bert X03MO1qnZdYdgyfeuILPmQ== 4294967295 7 DE\n\n{line}\nopen 1 10.0.0.1\nshow 1\n"
+        )?;
+        let end = Err(PlayFault::BadStep(4));
+        plays(&rt, rt.alloc(), script.as_bytes(), b"".as_slice(), end);
+    }
+    Ok(())
+}
+
+/// A line of the day has at most 1,000 bytes, and there are at most 100 of them.
+#[test]
+fn too_much_of_the_day(rt: HostRuntime) -> Result<(), Fail> {
+    for (lines, bytes, end) in [
+        (100, 1000, Ok(())),
+        (101, 0, Err(PlayFault::BadStep(101))),
+        (1, 1001, Err(PlayFault::BadStep(1))),
+    ] {
+        let mut line = String::from_str(rt.alloc(), "motd ")?;
+        add_times(&mut line, "x", bytes)?;
+        line.push_str("\n")?;
+        let mut script = String::new(rt.alloc());
+        add_times(&mut script, line.as_str(), lines)?;
         plays(&rt, rt.alloc(), script.as_bytes(), b"".as_slice(), end);
     }
     Ok(())

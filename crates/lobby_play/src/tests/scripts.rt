@@ -1,6 +1,6 @@
 //! Scripts that play to their end.
 
-use super::{GREETING, plays};
+use super::{GREETING, add_times, plays};
 use crate::fault::PlayFault;
 use std::alloc::{AllocError, Global};
 use std::test::Fail;
@@ -98,13 +98,6 @@ fn whole_scripts(rt: HostRuntime) {
             Ok(()),
         );
     }
-}
-
-fn add_times(text: &mut String, part: &str, times: usize) -> Result<(), AllocError> {
-    for _ in 0..times {
-        text.push_str(part)?;
-    }
-    Ok(())
 }
 
 /// A line of 8,192 bytes is answered. One of 8,193 spoils the stream: the line before it is

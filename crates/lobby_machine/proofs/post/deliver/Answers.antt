@@ -23,7 +23,7 @@ loop-letter-preserved c =
             clients = λ limit all. clients_next c.args.text.now c.args.letters.now c.loop-letter.letter-index c.loop-letter-test.true limit w.in-Some.slot.now w.put.new.self c.loop-letter.clients.entries _ c.get_mut.ensures.ordered h.0 w.in-Some.ensures.value
                 (w.put.ensures.client ∙ ap (λ n. with_batch n _ w.in-Some.slot.now.client) (inv.limits limit all _ w.in-Some.slot.now (sym w.in-Some.ensures.value))) inv.once ∙ inv.clients limit all;
             wakes = λ home. wakes_next c.args.text.now c.args.letters.now c.loop-letter.letter-index c.loop-letter-test.true w.in-Some.slot.now.limit w.in-Some.slot.now w.put.new.self c.loop-letter.clients.entries _ c.get_mut.ensures.ordered h.0 w.in-Some.ensures.value w.put.ensures.client inv.once
-                c.loop-letter.wakes w.put.result _ home (w.and-wakes.ensures home) (w.put.ensures.home home) ∙ inv.wakes home;
+                c.loop-letter.wakes w.put.result _ home (w.union-wakes.ensures home) (w.put.ensures.home home) ∙ inv.wakes home;
           })
       | in_default w ↦
           let none = sym (none_of c.get_mut.result w.in_default.not-Some ∙ c.get_mut.ensures.value) in

@@ -18,4 +18,4 @@ pub returns-in-Shut : goal.returns-in-Shut
 returns-in-Shut c = rw c.in-Shut.is c.step-in-Shut.ensures.ok
 
 pub returns-in-Show : goal.returns-in-Show
-returns-in-Show c = λ settings events world stands. rw c.in-Show.is ([], world, (refl, refl), subst (λ e. Stands c.args.hall.now settings e world) (sym (append-nil events)) stands)
+returns-in-Show c = λ settings accounts events world stands. rw c.in-Show.is ([], world, (refl, refl), subst (λ e. Stands c.args.hall.now settings accounts e world) (sym (append-nil events)) stands)

@@ -1,4 +1,5 @@
 use Rattle.std.proofs.Common.{ℕ, List}
+use Rattle.account_book.specs.Account.{Account}
 use Rattle.lobby_model.specs.declared.event.Event.{Event}
 use Rattle.lobby_model.specs.Configuration.{Configuration}
 use Rattle.lobby_model.specs.Schedule.{World}
@@ -12,7 +13,7 @@ use Rattle.lobby_play.proofs.orders.take_all.Given as goal
 abbrev pub invariant-loop-hall : goal.invariant-loop-hall
 invariant-loop-hall l = record {
   standing : IsStanding l.hall;
-  taken : (settings : Configuration) (events : List Event) (world : World) → Stands l.initial.hall settings events world → (n : ℕ) × Moves l.hall settings events (Takes n world l.client);
+  taken : (settings : Configuration) (accounts : List Account) (events : List Event) (world : World) → Stands l.initial.hall settings accounts events world → (n : ℕ) × Moves l.hall settings accounts events (Takes n world l.client);
 }
 
 abbrev pub decreases-loop-hall : goal.decreases-loop-hall

@@ -10,7 +10,8 @@ use Rattle.lobby_play.specs.declared.fault.LineFault.TheVariants as line
 use Rattle.lobby_play.specs.declared.fault.PlayFault.TheVariants as script
 use Rattle.lobby_play.specs.Faults.{fault_at}
 use Rattle.lobby_play.specs.Lines.{lines_of, lines_left}
-use Rattle.lobby_play.specs.Scene.{unopened, default_settings}
+use Rattle.lobby_play.specs.Prepared.{nothing_set}
+use Rattle.lobby_play.specs.Scene.{unopened}
 use Rattle.lobby_play.proofs.LinesPlay.{played_more, stops_at}
 use Rattle.lobby_play.proofs.play.play_script.Goals as goal
 
@@ -18,7 +19,7 @@ pub loop-line-init : goal.loop-line-init
 loop-line-init g c = record {
   next = tt;
   ends = tt;
-  played = ([], rw c.into_iter-line-iterator.ensures.into_iter_gives (sym c.of-line-items.ensures), refl, ([], unopened default_settings, (refl, refl), c.new-player.ensures, Appends-nil _));
+  played = ([], rw c.into_iter-line-iterator.ensures.into_iter_gives (sym c.of-line-items.ensures), refl, ([], unopened nothing_set, (refl, refl), c.new-player.ensures, Appends-nil _));
 }
 
 few_lines : (script : List ℕ) (front left : List (List ℕ)) → lines_of script ≡ front ++ left → length front ≤ length script + 1

@@ -6,13 +6,13 @@ use Rattle.lobby_hall.proofs.Steps.{was_opened}
 use Rattle.lobby_hall.proofs.hall.Hall.open.Goals as goal
 
 pub returns-in-Ok-open-clause-ok : goal.returns-in-Ok-open-clause-ok
-returns-in-Ok-open-clause-ok c = λ settings events w st.
-    subst (λ (h : Kept). StandsAfter h settings events w (step.Open c.args.ip c.args.home))
+returns-in-Ok-open-clause-ok c = λ settings accounts events w st.
+    subst (λ (h : Kept). StandsAfter h settings accounts events w (step.Open c.args.ip c.args.home))
     (λ i. record {
       lobby = sym c.in-Ok-open.ensures.ok.1 i;
       sessions = sym c.in-Ok.ensures.items i;
       record_so_far = completed (sym c.in_ok-begin.ensures i) (sym c.in-Ok-open.ensures.ok.1 i);
     })
-    (was_opened settings events w c.self.inside.lobby.plain c.self.inside.sessions.items c.self.inside.logs
-    (subst (λ (h : Kept). Stands h settings events w) (sym c.self.view_is) st)
+    (was_opened settings accounts events w c.self.inside.lobby.plain c.self.inside.sessions.items c.self.inside.logs
+    (subst (λ (h : Kept). Stands h settings accounts events w) (sym c.self.view_is) st)
     c.args.ip c.args.home c.new-session.result c.new-session.ensures.heard c.in-Ok-open.ensures.ok.0)

@@ -10,7 +10,7 @@ pub returns-in-Nothing-clause-ok : goal.returns-in-Nothing-clause-ok
 returns-in-Nothing-clause-ok c =
     let told : IsNextOf (session_at c.args.self.now.sessions c.args.client) Nothing =
     subst (IsNextOf (session_at c.args.self.now.sessions c.args.client)) c.in-Nothing.is (subst (λ ss. IsNextOf (session_at ss c.args.client) c.in_ok-next_of.field-0) (c.deref.ensures.value ∙ ap (λ (h : Kept). h.sessions) c.self.view_is) c.in_ok-next_of.ensures) in
-    λ settings events w st. took_nothing settings events w c.args.self.now.lobby c.args.self.now.sessions c.args.self.now.record_so_far st c.args.client told
+    λ settings accounts events w st. took_nothing settings accounts events w c.args.self.now.lobby c.args.self.now.sessions c.args.self.now.record_so_far st c.args.client told
 
 pub returns-in-Spoilt-clause-ok : goal.returns-in-Spoilt-clause-ok
 returns-in-Spoilt-clause-ok c =

@@ -1,6 +1,6 @@
 use Rattle.std.proofs.Common.{◌∙◌, ◌-◌, ◌++◌, ap, sym, length, min, take, drop, arith}
 use Rattle.lobby_machine.specs.Shown.{unread_in}
-use Rattle.lobby_machine.proofs.Seats.{plain-at, plain-none}
+use Rattle.lobby_machine.proofs.Slots.{plain-at, plain-none}
 use Rattle.lobby_machine.proofs.maps.Maps.copy_unread.Goals as goal
 
 pub returns-in-Some-clause-count : goal.returns-in-Some-clause-count

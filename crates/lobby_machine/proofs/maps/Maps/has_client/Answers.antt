@@ -1,5 +1,5 @@
 use Rattle.std.proofs.Common.{◌∙◌}
-use Rattle.lobby_machine.proofs.Seats.{plain-is_some}
+use Rattle.lobby_machine.proofs.Slots.{plain-is_some}
 use Rattle.lobby_machine.proofs.maps.Maps.has_client.Goals as goal
 
 pub returns : goal.returns

@@ -1,0 +1,15 @@
+-- What a login tells of a user, part by part.
+use Rattle.std.specs.Prelude.{ℕ, List, [], ◌∷◌, flat_map}
+use Rattle.reply_grammar.specs.declared.Reply.{Reply}
+use Rattle.lobby_machine.specs.declared.lines.Part.{Part}
+use Rattle.lobby_machine.specs.declared.lines.Part.TheVariants.{Presence, Status}
+use Rattle.lobby_model.specs.Table.{ByName}
+use Rattle.lobby_model.specs.State.{User}
+use Rattle.lobby_model.specs.Sent.{added, shown_status}
+
+abbrev pub part_of : Part → List ℕ → User → List Reply
+part_of Presence name user = added name user ∷ []
+part_of Status name user = shown_status name user
+
+abbrev pub parts_of : Part → ByName User → List Reply
+parts_of part users = flat_map (λ e. part_of part e.0 e.1) users

@@ -1,0 +1,27 @@
+//! The line that a client is greeted with.
+
+ghost use Rattle.std.specs.Prelude.{◌≡◌, IfOk, None};
+ghost use Rattle.reply_grammar.specs.Replies.{printed_line};
+ghost use Rattle.lobby_model.specs.Sent.{greeting};
+
+use line_words::WordBuf;
+use lobby_model::Settings;
+use reply_grammar::{Reply, print};
+use std::alloc::{AllocError, Global};
+
+/// The line that a client is greeted with, printed.
+pub fn greeting_of(alloc: Global, settings: &Settings) -> Result<Vec<u8>, AllocError>
+    ensures { IfOk result (λ line. line.items ≡ printed_line None (greeting settings.now)) }
+{
+    let reply = Reply::TasServer {
+        protocol_version: WordBuf::copy_of(alloc, settings.protocol_version().as_slice())?,
+        spring_version: WordBuf::copy_of(alloc, settings.spring_version().as_slice())?,
+        udp_port: settings.udp_port(),
+        server_mode: settings.server_mode(),
+    };
+    let mut line = Vec::new(alloc);
+    let printed = print(&reply, None, &mut line);
+    reply.discard();
+    printed?;
+    Ok(line)
+}
