@@ -1,0 +1,88 @@
+//! Tells users of changed statuses, written by hand over Rust's std alone: a baseline of crates/bench_lobby.
+//!
+//! Each client has a buffer of its own in a map by number, and each user a client and a status in a map by name. An event
+//! looks its user up, formats one line and appends it to the buffer of each user. Every 100 events all users read all.
+
+use std::collections::BTreeMap;
+use std::io::Write;
+use std::time::Instant;
+
+const EVENTS_A_ROUND: u64 = 100;
+const STRIDE: u64 = 7_919;
+
+#[derive(Default)]
+struct Client {
+    name: Option<String>,
+    outbox: Vec<u8>,
+}
+
+struct User {
+    client: u64,
+    status: u32,
+}
+
+#[derive(Default)]
+struct Lobby {
+    clients: BTreeMap<u64, Client>,
+    users: BTreeMap<String, User>,
+    line: Vec<u8>,
+}
+
+impl Lobby {
+    fn set_status(&mut self, client: u64, status: u32) {
+        let Some(name) = self.clients.get(&client).and_then(|client| client.name.as_ref()) else {
+            return;
+        };
+        let Some(user) = self.users.get_mut(name) else {
+            return;
+        };
+        user.status = status;
+        self.line.clear();
+        let _ = writeln!(self.line, "CLIENTSTATUS {name} {}", user.status);
+        for user in self.users.values() {
+            if let Some(client) = self.clients.get_mut(&user.client) {
+                client.outbox.extend_from_slice(&self.line);
+            }
+        }
+    }
+
+    fn read(&mut self, client: u64, piece: &mut [u8]) -> usize {
+        let Some(client) = self.clients.get_mut(&client) else {
+            return 0;
+        };
+        let count = client.outbox.len();
+        piece[..count].copy_from_slice(&client.outbox);
+        client.outbox.clear();
+        count
+    }
+}
+
+fn main() {
+    let sizes: Vec<u64> = std::env::args().skip(1).map(|word| word.parse().unwrap()).collect();
+    let [clients, users, events, ..] = sizes[..] else { panic!("usage: fanout CLIENTS USERS EVENTS") };
+    let mut lobby = Lobby::default();
+    for number in 1..=clients {
+        lobby.clients.insert(number, Client::default());
+    }
+    let chosen: Vec<u64> = (0..users).map(|user| 1 + user * STRIDE % clients).collect();
+    for (user, client) in chosen.iter().enumerate() {
+        let name = format!("u{user:04}");
+        lobby.clients.get_mut(client).unwrap().name = Some(name.clone());
+        lobby.users.insert(name, User { client: *client, status: 0 });
+    }
+    let mut piece = vec![0; 65_536];
+    let mut size = 0;
+
+    let start = Instant::now();
+    for event in 0..events {
+        let status = if event / users % 2 == 0 { 2 } else { 0 };
+        lobby.set_status(chosen[(event % users) as usize], status);
+        if event % EVENTS_A_ROUND == EVENTS_A_ROUND - 1 || event == events - 1 {
+            size += chosen.iter().map(|client| lobby.read(*client, &mut piece)).sum::<usize>();
+        }
+    }
+    let picoseconds = start.elapsed().as_nanos() * 1000;
+    let lines = events * users;
+    println!("lines: {lines}, {size} bytes");
+    println!("{} picoseconds each", picoseconds / u128::from(lines.max(1)));
+}

@@ -1,0 +1,343 @@
+//! How long a lobby takes to log users in, to tell all of them of a status, and to answer a `PING`.
+//!
+//! `bench_lobby CLIENTS USERS EVENTS PINGS` opens so many clients and logs in so many of them, has them
+//! send so many `MYSTATUS` in turn, and one of them so many `PING`. It prints how many logins, lines to
+//! users and answers that made, a sum of the bytes that came out, and the picoseconds of each. Without
+//! arguments it does so in a small lobby, and prints no times.
+#![tactic(auto)]
+
+use account_book::{Account, AccountBook};
+use anyhow::{Result, anyhow};
+use command_grammar::{Request, read_request};
+use lobby_machine::Lobby;
+use lobby_model::Settings;
+use std::alloc::{AllocError, Global};
+use std::env;
+use std::rt::{Clock, Env};
+use std::time::{Duration, Instant};
+
+/// The password word of every account.
+const WORD: &str = "X03MO1qnZdYdgyfeuILPmQ==";
+
+/// How many bytes may wait for a client.
+const OUTBOX_LIMIT: usize = 16_777_216;
+
+/// After so many events all that waits for the users is read.
+const EVENTS_A_ROUND: u64 = 100;
+
+/// A step between the clients of two users, which leads through all clients in no order.
+const STRIDE: usize = 7_919;
+
+/// What a run is asked for.
+#[derive(Clone, Copy)]
+struct Sizes {
+    clients: u64,
+    users: u32,
+    events: u64,
+    pings: u64,
+}
+
+const SMALL: Sizes = Sizes {
+    clients: 10,
+    users: 4,
+    events: 250,
+    pings: 150,
+};
+
+/// Where users read what waits for them: one piece of memory for all.
+#[derive(Drop)]
+struct Reader {
+    piece: Vec<u8>,
+}
+
+impl Reader {
+    fn new(alloc: Global) -> Result<Reader, AllocError> {
+        Ok(Reader {
+            piece: Vec::from_elem(alloc, 0, 65_536)?,
+        })
+    }
+
+    /// Reads all that waits for a client, and gives its size.
+    fn read(&mut self, lobby: &mut Lobby, client: u64) -> u64 {
+        let mut size = 0u64;
+        for _ in 0..OUTBOX_LIMIT {
+            let count = lobby.drain(client, &mut self.piece).count;
+            size = size.wrapping_add(count as u64);
+            if count < self.piece.len() {
+                break;
+            }
+        }
+        size
+    }
+
+    /// Reads all that waits for some clients, and gives its size.
+    fn read_all(&mut self, lobby: &mut Lobby, clients: &[u64]) -> u64 {
+        let mut size = 0u64;
+        for client in clients {
+            size = size.wrapping_add(self.read(lobby, *client));
+        }
+        size
+    }
+
+    /// The bytes that were read last, with what is left of those before, added up.
+    fn sum(&self) -> u64 {
+        let mut sum = 0u64;
+        for byte in &self.piece {
+            sum = sum.wrapping_add(u64::from(*byte));
+        }
+        sum
+    }
+}
+
+/// A lobby whose clients are open and whose users are still to log in.
+#[derive(Drop)]
+struct Bench {
+    lobby: Lobby,
+    reader: Reader,
+    /// All clients.
+    clients: Vec<u64>,
+    /// The clients at which users log in, in the order of the users' names.
+    users: Vec<u64>,
+}
+
+impl Bench {
+    fn new(alloc: Global, sizes: Sizes) -> Result<Bench> {
+        let mut lobby = new_lobby(alloc, sizes.users)?;
+        let clients = open(alloc, &mut lobby, sizes.clients)?;
+        Ok(Bench {
+            lobby,
+            reader: Reader::new(alloc)?,
+            users: choose(alloc, &clients, sizes.users)?,
+            clients,
+        })
+    }
+
+    /// Logs users in one after another, who read all that comes of it. Gives the size of that.
+    fn log_in(&mut self, logins: &[Request]) -> Result<u64, AllocError> {
+        let mut size = 0u64;
+        for (count, (client, login)) in (1u64..).zip(self.users.iter().zip(logins)) {
+            let _ = self.lobby.say(*client, login)?;
+            if count % EVENTS_A_ROUND == 0 {
+                size = size.wrapping_add(self.reader.read_all(&mut self.lobby, &self.users));
+            }
+        }
+        Ok(size.wrapping_add(self.reader.read_all(&mut self.lobby, &self.users)))
+    }
+
+    /// Has the users send requests in turn, each the first and then each the next, and all of them
+    /// read what comes of it. Gives the size of that.
+    fn tell(&mut self, requests: &[Request], events: u64) -> Result<u64, AllocError> {
+        serve(
+            &mut self.lobby,
+            &self.users,
+            requests,
+            events,
+            &mut self.reader,
+        )
+    }
+
+    /// Has one client send requests in turn and read the answers. Gives the size of those.
+    fn ask(&mut self, requests: &[Request], events: u64) -> Result<u64, AllocError> {
+        let client = self.clients.get(self.clients.len() / 2).copied();
+        let client = client.unwrap_or(0);
+        serve(
+            &mut self.lobby,
+            &[client],
+            requests,
+            events,
+            &mut self.reader,
+        )
+    }
+}
+
+fn main(rt: HostRuntime) -> Result<()> {
+    match arguments(&rt)? {
+        Some(sizes) => run(&rt, sizes, true),
+        None => run(&rt, SMALL, false),
+    }
+}
+
+/// The arguments, if there are any.
+fn arguments<R: Env + AllocGlobal>(rt: &R) -> Result<Option<Sizes>> {
+    let mut words = env::args(rt)?;
+    words.next();
+    let mut sizes = Vec::new(rt.alloc());
+    for word in words {
+        sizes.push(word.parse::<u64>()?)?;
+    }
+    match sizes.as_slice() {
+        [] => Ok(None),
+        [clients, users, events, pings] => Ok(Some(Sizes {
+            clients: *clients,
+            users: u32::try_from(*users)?,
+            events: *events,
+            pings: *pings,
+        })),
+        _ => Err(anyhow!("usage: bench_lobby CLIENTS USERS EVENTS PINGS")),
+    }
+}
+
+fn run<R: Clock + Print + AllocGlobal>(rt: &R, sizes: Sizes, is_timed: bool) -> Result<()> {
+    let mut bench = Bench::new(rt.alloc(), sizes)?;
+    time_logins(rt, &mut bench, sizes, is_timed)?;
+    time_statuses(rt, &mut bench, sizes, is_timed)?;
+    time_pings(rt, &mut bench, sizes, is_timed)?;
+    println!(rt; "sum of the bytes read last: {}", bench.reader.sum())?;
+    Ok(())
+}
+
+fn time_logins<R: Clock + Print + AllocGlobal>(
+    rt: &R,
+    bench: &mut Bench,
+    sizes: Sizes,
+    is_timed: bool,
+) -> Result<()> {
+    let logins = logins(rt.alloc(), sizes.users)?;
+    let start = Instant::now(rt)?;
+    let size = bench.log_in(&logins)?;
+    let taken = start.elapsed(rt)?;
+    report(
+        rt,
+        "logins",
+        u64::from(sizes.users),
+        size,
+        is_timed.then_some(taken),
+    )
+}
+
+fn time_statuses<R: Clock + Print + AllocGlobal>(
+    rt: &R,
+    bench: &mut Bench,
+    sizes: Sizes,
+    is_timed: bool,
+) -> Result<()> {
+    let statuses = requests(rt.alloc(), &[b"MYSTATUS 2", b"MYSTATUS 0"])?;
+    let start = Instant::now(rt)?;
+    let size = bench.tell(&statuses, sizes.events)?;
+    let taken = start.elapsed(rt)?;
+    let lines = sizes.events.saturating_mul(u64::from(sizes.users));
+    report(rt, "lines", lines, size, is_timed.then_some(taken))
+}
+
+fn time_pings<R: Clock + Print + AllocGlobal>(
+    rt: &R,
+    bench: &mut Bench,
+    sizes: Sizes,
+    is_timed: bool,
+) -> Result<()> {
+    let pings = requests(rt.alloc(), &[b"PING"])?;
+    let start = Instant::now(rt)?;
+    let size = bench.ask(&pings, sizes.pings)?;
+    let taken = start.elapsed(rt)?;
+    report(rt, "answers", sizes.pings, size, is_timed.then_some(taken))
+}
+
+/// Prints what came out, and how long each took where that was measured.
+fn report<R: Print>(
+    rt: &R,
+    what: &str,
+    count: u64,
+    size: u64,
+    taken: Option<Duration>,
+) -> Result<()> {
+    println!(rt; "{what}: {count}, {size} bytes")?;
+    if let Some(taken) = taken
+        && count > 0
+    {
+        let picoseconds = taken.as_nanos().saturating_mul(1000) / u128::from(count);
+        println!(rt; "{picoseconds} picoseconds each")?;
+    }
+    Ok(())
+}
+
+/// The name of a user.
+fn name(alloc: Global, user: u32) -> Result<String, AllocError> {
+    format!(in alloc; "u{user:04}")
+}
+
+/// A lobby with an account for each user.
+fn new_lobby(alloc: Global, users: u32) -> Result<Lobby> {
+    let settings = Settings::new(alloc, b"0.38", b"*", 8201, 0, &[], OUTBOX_LIMIT)?;
+    let mut accounts = AccountBook::new(alloc);
+    for user in 0..users {
+        let name = name(alloc, user)?;
+        let account = Account::new(
+            alloc,
+            name.as_bytes(),
+            WORD.as_bytes(),
+            user,
+            0,
+            false,
+            false,
+            b"DE",
+        )?;
+        accounts.add(account)?;
+    }
+    Ok(Lobby::new(alloc, settings, accounts)?)
+}
+
+/// Opens clients, and gives their numbers.
+fn open(alloc: Global, lobby: &mut Lobby, count: u64) -> Result<Vec<u64>> {
+    let mut clients = Vec::new(alloc);
+    for _ in 0..count {
+        clients.push(lobby.open([10, 0, 0, 1], 0)?)?;
+    }
+    Ok(clients)
+}
+
+/// The clients at which users log in, in the order of the users' names.
+fn choose(alloc: Global, clients: &[u64], count: u32) -> Result<Vec<u64>, AllocError> {
+    let mut chosen = Vec::new(alloc);
+    let mut at = 0usize;
+    for _ in 0..count {
+        if let Some(client) = clients.get(at) {
+            chosen.push(*client)?;
+            at = at.wrapping_add(STRIDE) % clients.len();
+        }
+    }
+    Ok(chosen)
+}
+
+fn requests(alloc: Global, lines: &[&[u8]]) -> Result<Vec<Request>, AllocError> {
+    let mut requests = Vec::new(alloc);
+    for line in lines {
+        requests.push(read_request(alloc, line)?)?;
+    }
+    Ok(requests)
+}
+
+/// The login of each user.
+fn logins(alloc: Global, users: u32) -> Result<Vec<Request>, AllocError> {
+    let mut logins = Vec::new(alloc);
+    for user in 0..users {
+        let name = name(alloc, user)?;
+        let line = format!(in alloc; "LOGIN {name} {WORD} 0 * TestLobby 1.0")?;
+        logins.push(read_request(alloc, line.as_bytes())?)?;
+    }
+    Ok(logins)
+}
+
+/// Has clients send requests in turn, each the first and then each the next, and read all that comes of
+/// them. Gives the size of that.
+fn serve(
+    lobby: &mut Lobby,
+    clients: &[u64],
+    requests: &[Request],
+    events: u64,
+    reader: &mut Reader,
+) -> Result<u64, AllocError> {
+    let mut size = 0u64;
+    if clients.is_empty() || requests.is_empty() {
+        return Ok(size);
+    }
+    for event in 0..events {
+        let turn = event as usize;
+        let client = clients[turn % clients.len()];
+        let request = &requests[turn / clients.len() % requests.len()];
+        let _ = lobby.say(client, request)?;
+        if event % EVENTS_A_ROUND == EVENTS_A_ROUND - 1 {
+            size = size.wrapping_add(reader.read_all(lobby, clients));
+        }
+    }
+    Ok(size.wrapping_add(reader.read_all(lobby, clients)))
+}
