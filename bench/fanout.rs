@@ -1,9 +1,10 @@
 //! Tells users of changed statuses, written by hand over Rust's std alone: a baseline of crates/bench_lobby.
 //!
-//! Each client has a buffer of its own in a map by number, and each user a client and a status in a map by name. An event
-//! looks its user up, formats one line and appends it to the buffer of each user. Every 100 events all users read all.
+//! Each client has a buffer of its own in a map by number, and each user a status in a map by name. An event looks its
+//! user up, formats one line and appends it to the buffer of each user, in the order of the clients. Every 100 events all
+//! users read all.
 
-use std::collections::BTreeMap;
+use std::collections::{BTreeMap, BTreeSet};
 use std::io::Write;
 use std::time::Instant;
 
@@ -16,15 +17,12 @@ struct Client {
     outbox: Vec<u8>,
 }
 
-struct User {
-    client: u64,
-    status: u32,
-}
-
 #[derive(Default)]
 struct Lobby {
     clients: BTreeMap<u64, Client>,
-    users: BTreeMap<String, User>,
+    users: BTreeMap<String, u32>,
+    // the clients of the users
+    listed: BTreeSet<u64>,
     line: Vec<u8>,
 }
 
@@ -33,14 +31,14 @@ impl Lobby {
         let Some(name) = self.clients.get(&client).and_then(|client| client.name.as_ref()) else {
             return;
         };
-        let Some(user) = self.users.get_mut(name) else {
+        let Some(kept) = self.users.get_mut(name) else {
             return;
         };
-        user.status = status;
+        *kept = status;
         self.line.clear();
-        let _ = writeln!(self.line, "CLIENTSTATUS {name} {}", user.status);
-        for user in self.users.values() {
-            if let Some(client) = self.clients.get_mut(&user.client) {
+        let _ = writeln!(self.line, "CLIENTSTATUS {name} {kept}");
+        for number in &self.listed {
+            if let Some(client) = self.clients.get_mut(number) {
                 client.outbox.extend_from_slice(&self.line);
             }
         }
@@ -68,7 +66,8 @@ fn main() {
     for (user, client) in chosen.iter().enumerate() {
         let name = format!("u{user:04}");
         lobby.clients.get_mut(client).unwrap().name = Some(name.clone());
-        lobby.users.insert(name, User { client: *client, status: 0 });
+        lobby.users.insert(name, 0);
+        lobby.listed.insert(*client);
     }
     let mut piece = vec![0; 65_536];
     let mut size = 0;

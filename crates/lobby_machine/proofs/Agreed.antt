@@ -1,13 +1,13 @@
 -- Who is logged in where, as clients and users change.
-use Rattle.std.proofs.Common.{◌≡◌, ℕ, ◌+◌, ◌≤◌, List, ◌++◌, refl, sym, ap, subst, ◌∙◌, true, false, cond, not, arith}
+use Rattle.std.proofs.Common.{◌≡◌, ℕ, ◌+◌, ◌≤◌, Bool, List, ◌++◌, refl, sym, ap, subst, ◌∙◌, true, false, cond, not, arith}
 use Rattle.std.specs.Prelude.{Option, Some, None, [], is_some, if◌then◌else◌}
 use Rattle.std.specs.Ordering.{nat_cmp}
 use Rattle.std.specs.Cmp.{nat_cmp_total}
 use Rattle.std.specs.Option.{option_map}
 use Rattle.lobby_model.specs.declared.event.Phase.{Phase}
-use Rattle.lobby_model.specs.declared.event.Phase.TheVariants.{In, Ended, Greeted}
+use Rattle.lobby_model.specs.declared.event.Phase.TheVariants.{In, Ended}
 use Rattle.lobby_model.specs.Table.{ByName, ByNumber, at_number, at_name, put_number, put_name, without_number, without_name, same_number, same_name, name_cmp}
-use Rattle.lobby_model.specs.State.{Client, User, is_live, name_in, name_at, name_of_client, in_phase, set_phase, set_phase_of}
+use Rattle.lobby_model.specs.State.{Client, is_live, name_in, name_at, name_of_client, in_phase, set_phase, set_phase_of}
 use Rattle.lobby_model.specs.Effect.{drained, drained_at, users_left, with_status, with_status_of}
 use Rattle.lobby_model.specs.Next.{with_batch, has_room_for}
 use Rattle.lobby_model.proofs.Tables.{at-put, at-without, at-map_values, map_values-put, map_values-without, name_cmp_total, same_name_is, same_name_itself}
@@ -18,7 +18,7 @@ use Rattle.lobby_machine.specs.declared.outcome.Outcome.{Outcome}
 use Rattle.lobby_machine.specs.declared.outcome.Outcome.TheVariants.{Silence, Pong, Refused, LogOut, LogIn, SetStatus}
 use Rattle.lobby_machine.specs.Mail.{batch_in, deliver}
 use Rattle.lobby_machine.specs.Outcome.{clients_after}
-use Rattle.lobby_machine.specs.Seats.{Agree, Numbered, seats_left, seat_status, seat_status_of, user_in, users_of}
+use Rattle.lobby_machine.specs.Seats.{Agree, IsListed, IsSet, Numbered, has_number, seats_left, seat_status, seat_status_of, user_in, users_of}
 
 -- names after a change of one client
 
@@ -96,14 +96,33 @@ some_is x y e = cc
 not_none : {A : Type 0} (x : A) → Some x ≡ None → ⊥
 not_none x e = absurd (cc)
 
+set_others : (m : ByNumber Client) (c : ℕ) (phase : Phase) (d : ℕ) → same_number d c ≡ false → name_at (set_phase m c phase) d ≡ name_at m d
+set_others m c phase d apart = name_set m c phase d ∙ ap (λ b. if b then (if is_some (at_number m c) then name_in phase else None) else name_at m d) apart
+
+logged_in_here : (m : ByNumber Client) (c : ℕ) (name : List ℕ) → is_some (at_number m c) ≡ true → name_at (set_phase m c (In name)) c ≡ Some name
+logged_in_here m c name there =
+    name_set m c (In name) c ∙ ap (λ b. if b then (if is_some (at_number m c) then Some name else None) else name_at m c) (same_itself c) ∙ ap (λ b. if b then Some name else None) there
+
+ended_here : (m : ByNumber Client) (c : ℕ) → name_at (set_phase m c Ended) c ≡ None
+ended_here m c =
+    name_set m c Ended c ∙ ap (λ b. if b then (if is_some (at_number m c) then None else None) else name_at m c) (same_itself c)
+    ∙ elim (is_some (at_number m c)) as (λ b. ◌≡◌ {A = Option (List ℕ)} (if b then None else None) None) [ true ↦ refl | false ↦ refl ]
+
+ended_others : (m : ByNumber Client) (c d : ℕ) → same_number d c ≡ false → name_at (set_phase m c Ended) d ≡ name_at m d
+ended_others m c = set_others m c Ended
+
+removed_here : (m : ByNumber Client) (c : ℕ) → name_at (without_number m c) c ≡ None
+removed_here m c = name_without m c c ∙ ap (λ b. if b then None else name_at m c) (same_itself c)
+
+removed_others : (m : ByNumber Client) (c d : ℕ) → same_number d c ≡ false → name_at (without_number m c) d ≡ name_at m d
+removed_others m c d apart = name_without m c d ∙ ap (λ b. if b then None else name_at m d) apart
+
 -- one who logs in
 pub agree_log_in : (m : ByNumber Client) (seats : ByName Seat) (c : ℕ) (name : List ℕ) (seat : Seat) → is_some (at_number m c) ≡ true → name_at m c ≡ None → at_name seats name ≡ None → seat.client ≡ c
     → Agree m seats → Agree (set_phase m c (In name)) (put_name seats name seat)
 agree_log_in m seats c name seat there nobody free own agree =
-    let mine : name_at (set_phase m c (In name)) c ≡ Some name =
-    name_set m c (In name) c ∙ ap (λ b. if b then (if is_some (at_number m c) then Some name else None) else name_at m c) (same_itself c) ∙ ap (λ b. if b then Some name else None) there in
-    let others : (d : ℕ) → same_number d c ≡ false → name_at (set_phase m c (In name)) d ≡ name_at m d = λ d apart.
-    name_set m c (In name) d ∙ ap (λ b. if b then (if is_some (at_number m c) then Some name else None) else name_at m d) apart in
+    let mine : name_at (set_phase m c (In name)) c ≡ Some name = logged_in_here m c name there in
+    let others : (d : ℕ) → same_number d c ≡ false → name_at (set_phase m c (In name)) d ≡ name_at m d = set_others m c (In name) in
     record {
       seated = λ q x found.
           elim (same_name q name) as (λ b. same_name q name ≡ b → cond b (Some seat) (at_name seats q) ≡ Some x → name_at (set_phase m c (In name)) x.client ≡ Some q) [
@@ -182,16 +201,10 @@ agree_left m n seats c gone others agree =
     ] refl
 
 pub agree_ended : (m : ByNumber Client) (seats : ByName Seat) (c : ℕ) → Agree m seats → Agree (set_phase m c Ended) (seats_left seats (name_at m c))
-agree_ended m seats c =
-    agree_left m (set_phase m c Ended) seats c
-    (name_set m c Ended c ∙ ap (λ b. if b then (if is_some (at_number m c) then None else None) else name_at m c) (same_itself c) ∙ elim (is_some (at_number m c)) as (λ b. ◌≡◌ {A = Option (List ℕ)} (if b then None else None) None) [ true ↦ refl | false ↦ refl ])
-    (λ d apart. name_set m c Ended d ∙ ap (λ b. if b then (if is_some (at_number m c) then None else None) else name_at m d) apart)
+agree_ended m seats c = agree_left m (set_phase m c Ended) seats c (ended_here m c) (ended_others m c)
 
 pub agree_removed : (m : ByNumber Client) (seats : ByName Seat) (c : ℕ) → Agree m seats → Agree (without_number m c) (seats_left seats (name_at m c))
-agree_removed m seats c =
-    agree_left m (without_number m c) seats c
-    (name_without m c c ∙ ap (λ b. if b then None else name_at m c) (same_itself c))
-    (λ d apart. name_without m c d ∙ ap (λ b. if b then None else name_at m d) apart)
+agree_removed m seats c = agree_left m (without_number m c) seats c (removed_here m c) (removed_others m c)
 
 pub agree_status : (m : ByNumber Client) (seats : ByName Seat) (name : List ℕ) (status : ℕ) → Agree m seats → Agree m (seat_status seats name status)
 agree_status m seats name status agree =
@@ -218,21 +231,65 @@ agree_status m seats name status agree =
     ] refl
 
 -- a new client, at which nobody is logged in
-pub agree_opened : (last : ℕ) (m : ByNumber Client) (seats : ByName Seat) (w : Client) → name_in w.phase ≡ None → Numbered last m → Agree m seats → Agree (put_number m (last + 1) w) seats
-agree_opened last m seats w nobody numbered agree =
-    agree_kept m (put_number m (last + 1) w) seats
-    (λ q. ap name_of_client (put_at m (last + 1) w q)
+name_opened : (last : ℕ) (m : ByNumber Client) (w : Client) → name_in w.phase ≡ None → Numbered last m → (q : ℕ) → name_at (put_number m (last + 1) w) q ≡ name_at m q
+name_opened last m w nobody numbered q =
+    ap name_of_client (put_at m (last + 1) w q)
     ∙ elim (same_number q (last + 1)) as (λ b. same_number q (last + 1) ≡ b → name_of_client (cond b (Some w) (at_number m q)) ≡ name_at m q) [
-      | true ↦ λ t. nobody ∙ sym (ap name_of_client (fresh q (same_number_is q (last + 1) t)))
+      | true ↦ λ t. nobody ∙ sym (ap name_of_client (fresh (same_number_is q (last + 1) t)))
       | false ↦ λ t. refl
-    ] refl) agree
+    ] refl
   where
-    fresh : (q : ℕ) → q ≡ last + 1 → at_number m q ≡ None
-    fresh q is =
+    fresh : q ≡ last + 1 → at_number m q ≡ None
+    fresh is =
         elim (at_number m q) as (λ o. at_number m q ≡ o → o ≡ None) [
           | None ↦ λ e. refl
           | Some x ↦ λ e. absurd (let small : q ≤ last = numbered q (ap is_some e) in omega (arith, small, is))
         ] refl
+
+pub agree_opened : (last : ℕ) (m : ByNumber Client) (seats : ByName Seat) (w : Client) → name_in w.phase ≡ None → Numbered last m → Agree m seats → Agree (put_number m (last + 1) w) seats
+agree_opened last m seats w nobody numbered agree = agree_kept m (put_number m (last + 1) w) seats (name_opened last m w nobody numbered) agree
+
+-- the numbers of the clients that are logged in
+
+pub listed_kept : (numbers : List ℕ) (m n : ByNumber Client) → ((c : ℕ) → name_at n c ≡ name_at m c) → IsListed numbers m → IsListed numbers n
+listed_kept numbers m n names listed = λ c. listed c ∙ ap is_some (sym (names c))
+
+pub listed_opened : (last : ℕ) (m : ByNumber Client) (numbers : List ℕ) (w : Client) → name_in w.phase ≡ None → Numbered last m → IsListed numbers m → IsListed numbers (put_number m (last + 1) w)
+listed_opened last m numbers w nobody numbered = listed_kept numbers m (put_number m (last + 1) w) (name_opened last m w nobody numbered)
+
+pub listed_delivered : (limit : ℕ) (letters : ByNumber (List ℕ)) (numbers : List ℕ) (m n : ByNumber Client) → n ≡ deliver limit letters m → IsListed numbers m → IsListed numbers n
+listed_delivered limit letters numbers m n is = listed_kept numbers m n (λ c. ap (λ (x : ByNumber Client). name_at x c) is ∙ name_delivered limit letters m c)
+
+-- where the name at client c alone changes
+listed_set : (m n : ByNumber Client) (was now : List ℕ) (c : ℕ) (there : Bool) → IsSet c there was now → there ≡ is_some (name_at n c) → ((d : ℕ) → same_number d c ≡ false → name_at n d ≡ name_at m d)
+    → IsListed was m → IsListed now n
+listed_set m n was now c there set is others listed = λ d.
+    set d
+    ∙ elim (same_number c d) as (λ b. same_number c d ≡ b → (if b then there else has_number was d) ≡ is_some (name_at n d)) [
+      | true ↦ λ t. is ∙ ap (λ k. is_some (name_at n k)) (same_number_is c d t)
+      | false ↦ λ t. listed d ∙ ap is_some (sym (others d (same_either_way d c ∙ t)))
+    ] refl
+
+pub listed_ended : (m : ByNumber Client) (was now : List ℕ) (c : ℕ) → IsSet c false was now → IsListed was m → IsListed now (set_phase m c Ended)
+listed_ended m was now c set = listed_set m (set_phase m c Ended) was now c false set (sym (ap is_some (ended_here m c))) (ended_others m c)
+
+pub listed_removed : (m : ByNumber Client) (was now : List ℕ) (c : ℕ) → IsSet c false was now → IsListed was m → IsListed now (without_number m c)
+listed_removed m was now c set = listed_set m (without_number m c) was now c false set (sym (ap is_some (removed_here m c))) (removed_others m c)
+
+pub listed_log_in : (m : ByNumber Client) (was now : List ℕ) (c : ℕ) (name : List ℕ) → is_some (at_number m c) ≡ true → IsSet c true was now → IsListed was m → IsListed now (set_phase m c (In name))
+listed_log_in m was now c name there set = listed_set m (set_phase m c (In name)) was now c true set (sym (ap is_some (logged_in_here m c name there))) (set_others m c (In name))
+
+-- a login that was refused memory, of one who was not logged in
+pub listed_undone : (m : ByNumber Client) (was now : List ℕ) (c : ℕ) → name_at m c ≡ None → IsSet c false was now → IsListed was m → IsListed now m
+listed_undone m was now c nobody set = listed_set m m was now c false set (sym (ap is_some nobody)) (λ d apart. refl)
+
+-- where nobody was logged in there is no number to take away
+pub unlisted : (m : ByNumber Client) (numbers : List ℕ) (c : ℕ) → name_at m c ≡ None → IsListed numbers m → IsSet c false numbers numbers
+unlisted m numbers c nobody listed = λ d.
+    elim (same_number c d) as (λ b. same_number c d ≡ b → has_number numbers d ≡ (if b then false else has_number numbers d)) [
+      | true ↦ λ t. listed d ∙ ap (λ k. is_some (name_at m k)) (sym (same_number_is c d t)) ∙ ap is_some nobody
+      | false ↦ λ t. refl
+    ] refl
 
 -- numbers
 

@@ -9,7 +9,7 @@ use Rattle.lobby_model.specs.Table.{same_number}
 use Rattle.lobby_model.specs.State.{State, hears, name_of}
 use Rattle.lobby_model.specs.Refusal.{refusal}
 use Rattle.lobby_model.specs.Effect.{effect, obeyed}
-use Rattle.lobby_model.specs.Sent.{own_replies, other_replies, to_user, under, said, departure}
+use Rattle.lobby_model.specs.Sent.{to_user, under, said, departure}
 use Rattle.lobby_model.specs.Next.{batch}
 use Rattle.lobby_machine.specs.declared.post.Letter.{Letter}
 use Rattle.lobby_machine.specs.declared.outcome.Outcome.{Outcome}

@@ -5,10 +5,9 @@ use Rattle.std.specs.Map.{lookup}
 use Rattle.std.specs.Ordering.{nat_cmp}
 use Rattle.std.specs.BTreeMap.{is_at}
 use Rattle.lobby_machine.specs.declared.post.Letter.{Letter}
-use Rattle.lobby_machine.specs.declared.seats.Seat.{Seat}
 use Rattle.lobby_machine.specs.Mask.{has_home}
 use Rattle.lobby_model.specs.declared.event.Event.{Event}
-use Rattle.lobby_model.specs.Table.{ByName, ByNumber, map_values, same_number}
+use Rattle.lobby_model.specs.Table.{ByNumber, map_values, same_number}
 use Rattle.lobby_model.specs.State.{State, Client, is_live, name_of}
 use Rattle.lobby_model.specs.Next.{with_batch, has_room_for, is_empty, batch}
 use Rattle.lobby_model.specs.Touched.{touches}
@@ -70,15 +69,15 @@ Fits bytes held = is_live held.client ≡ true → has_room_for held.limit held.
 abbrev pub AllFit : ByNumber (List ℕ) → ByNumber Held → Type 0
 AllFit letters clients = (q : ℕ) (held : Held) → lookup (is_at (nat_cmp q)) clients ≡ Some held → Fits (batch_in letters q) held
 
--- letters with one part of the text to all users but the issuer
-abbrev pub letters_to_others : ℕ → ℕ → ℕ → ByName Seat → List Letter
+-- letters with one part of the text to all of these clients but the issuer
+abbrev pub letters_to_others : ℕ → ℕ → ℕ → List ℕ → List Letter
 letters_to_others issuer from to [] = []
-letters_to_others issuer from to (e ∷ es) =
-    if same_number e.1.client issuer then letters_to_others issuer from to es else record { client = e.1.client; from = from; to = to } ∷ letters_to_others issuer from to es
+letters_to_others issuer from to (c ∷ cs) =
+    if same_number c issuer then letters_to_others issuer from to cs else record { client = c; from = from; to = to } ∷ letters_to_others issuer from to cs
 
--- the front of a text to the issuer and the rest, if there is any, to all other users
-abbrev pub letters_of : ℕ → ℕ → ℕ → ByName Seat → List Letter
-letters_of issuer own end seats = record { client = issuer; from = 0; to = own } ∷ (if nat_lt own end then letters_to_others issuer own end seats else [])
+-- the front of a text to the issuer and the rest, if there is any, to all others of these clients
+abbrev pub letters_of : ℕ → ℕ → ℕ → List ℕ → List Letter
+letters_of issuer own end clients = record { client = issuer; from = 0; to = own } ∷ (if nat_lt own end then letters_to_others issuer own end clients else [])
 
 -- what client d gets where the issuer gets one batch, and each other user another
 abbrev pub share : Bool → Option (List ℕ) → List ℕ → List ℕ → List ℕ

@@ -1,7 +1,8 @@
 -- Where users are logged in, and how that agrees with the clients.
-use Rattle.std.specs.Prelude.{◌≡◌, ℕ, ◌≤◌, true, List, Option, Some, None, is_some}
+use Rattle.std.specs.Prelude.{◌≡◌, ℕ, ◌≤◌, Bool, true, if◌then◌else◌, List, Option, Some, None, is_some}
+use Rattle.std.specs.List.{list_any}
 use Rattle.lobby_machine.specs.declared.seats.Seat.{Seat}
-use Rattle.lobby_model.specs.Table.{ByName, ByNumber, at_number, at_name, put_name, without_name, map_values}
+use Rattle.lobby_model.specs.Table.{ByName, ByNumber, at_number, at_name, put_name, without_name, map_values, same_number}
 use Rattle.lobby_model.specs.State.{User, Client, name_at}
 
 -- a seat as the plain lobby has it
@@ -32,3 +33,14 @@ pub record Agree (clients : ByNumber Client) (seats : ByName Seat) : Type 0 wher
 -- no client bears a number beyond the last that was given
 abbrev pub Numbered : ℕ → ByNumber Client → Type 0
 Numbered last clients = (c : ℕ) → is_some (at_number clients c) ≡ true → c ≤ last
+
+abbrev pub has_number : List ℕ → ℕ → Bool
+has_number numbers c = list_any (same_number c) numbers
+
+-- the numbers are those of the clients that are logged in
+abbrev pub IsListed : List ℕ → ByNumber Client → Type 0
+IsListed numbers clients = (c : ℕ) → has_number numbers c ≡ is_some (name_at clients c)
+
+-- two lists of numbers differ at most in c, which the second has or has not
+abbrev pub IsSet : ℕ → Bool → List ℕ → List ℕ → Type 0
+IsSet c there was now = (d : ℕ) → has_number now d ≡ (if same_number c d then there else has_number was d)

@@ -20,6 +20,3 @@ mod wakes;
 pub use clients::Drained;
 pub use lobby::{Lobby, OpenError};
 pub use wakes::Wakes;
-
-#[cfg(test)]
-mod tests;

@@ -15,10 +15,9 @@ mod decide;
 
 use crate::clients::{Drained, drain, hears, insert};
 use crate::greeting::greeting_of;
-use crate::seats::Seat;
+use crate::seats::Seats;
 use crate::slot::Slot;
 use account_book::AccountBook;
-use line_words::NameBuf;
 use lobby_model::Settings;
 use std::alloc::{AllocError, Global};
 use std::collections::BTreeMap;
@@ -47,7 +46,7 @@ pub struct Maps {
     // what each client is greeted with, printed once
     greeting_line: Vec<u8>,
     clients: BTreeMap<u64, Slot>,
-    users: BTreeMap<NameBuf, Seat>,
+    seats: Seats,
     last_client: u64,
 }
 
@@ -57,13 +56,13 @@ impl Model for Maps {
     ghost use Rattle.lobby_model.specs.State.{State};
     ghost use Rattle.lobby_model.specs.Sent.{greeting};
     ghost use Rattle.lobby_machine.specs.Mail.{plain, HaveLimit};
-    ghost use Rattle.lobby_machine.specs.Seats.{users_of, Agree, Numbered};
+    ghost use Rattle.lobby_machine.specs.Seats.{users_of, Agree, IsListed, Numbered};
 
     ghost Value = { State };
 
-    ghost view = { λ m. record { settings = m.settings; accounts = m.accounts; clients = plain m.clients.entries; users = users_of m.users.entries; last_client = m.last_client } };
+    ghost view = { λ m. record { settings = m.settings; accounts = m.accounts; clients = plain m.clients.entries; users = users_of m.seats.users.entries; last_client = m.last_client } };
 
-    ghost invariant = { λ m. (m.greeting_line.items ≡ printed_line None (greeting m.settings)) × HaveLimit m.settings.outbox_limit m.clients.entries × Agree (plain m.clients.entries) m.users.entries × Numbered m.last_client (plain m.clients.entries) };
+    ghost invariant = { λ m. (m.greeting_line.items ≡ printed_line None (greeting m.settings)) × HaveLimit m.settings.outbox_limit m.clients.entries × Agree (plain m.clients.entries) m.seats.users.entries × Numbered m.last_client (plain m.clients.entries) × IsListed m.seats.clients.keys (plain m.clients.entries) };
 }
 
 impl Maps {
@@ -78,7 +77,7 @@ impl Maps {
             accounts,
             greeting_line,
             clients: BTreeMap::new(alloc),
-            users: BTreeMap::new(alloc),
+            seats: Seats::new(alloc),
             last_client: 0,
         })
     }

@@ -16,6 +16,10 @@ use outbox::Outbox;
 use std::alloc::{AllocError, Global};
 use std::marker::Model;
 
+/// The room, in bytes, that an outbox may keep when all is read: many lines, but not those of a login
+/// among thousands of users.
+const KEPT_ROOM: usize = 4_096;
+
 /// A client, with what waits for it.
 #[derive(Drop)]
 pub struct Slot {
@@ -89,7 +93,7 @@ impl Slot {
             self.outbox.put(batch);
         } else {
             self.outbox.cut();
-            self.outbox.release();
+            self.outbox.release(0);
         }
         home
     }
@@ -130,7 +134,9 @@ impl Slot {
         ensures client { self.new.client ≡ drained (length into.old) self.old.client }
         ensures limit { self.new.limit ≡ self.old.limit }
     {
-        self.outbox.take(into)
+        let count = self.outbox.take(into);
+        self.outbox.release(KEPT_ROOM);
+        count
     }
 
     /// Whether nothing will ever come of it again.

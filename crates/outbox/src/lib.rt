@@ -173,13 +173,15 @@ impl Outbox {
         count
     }
 
-    /// Gives the buffer back where nothing is unread, so that a quiet client holds no memory.
-    pub fn release(&mut self)
+    /// Gives the buffer back where nothing is unread and it has room for more than `most` bytes, so
+    /// that a quiet client holds little memory.
+    pub fn release(&mut self, most: usize)
         ensures unchanged { self.new ≡ record self.old { spare = self.new.spare } }
-        ensures released { self.old.unread ≡ [] → self.new.spare ≡ 0 }
-        ensures kept { 0 < length self.old.unread → self.new ≡ self.old }
+        ensures released { self.old.unread ≡ [] → self.new.spare ≤ most }
+        ensures unread_kept { 0 < length self.old.unread → self.new ≡ self.old }
+        ensures little_kept { self.old.spare ≤ most → self.new ≡ self.old }
     {
-        if self.unread() == 0 {
+        if self.unread() == 0 && self.bytes.capacity() - self.bytes.len() > most {
             self.taken = 0;
             self.bytes = Vec::new(*self.bytes.allocator());
         }
@@ -227,7 +229,7 @@ mod tests {
         assert_eq!(rt; outbox.take(&mut piece), 3);
         assert_eq!(rt; &piece, b"NG\n#1 PO");
         assert_eq!(rt; outbox.take(&mut piece), 0);
-        outbox.release();
+        outbox.release(0);
         put_all(&mut outbox, b"PONG\n")?;
         assert_eq!(rt; outbox.unread(), 5);
         Ok(())

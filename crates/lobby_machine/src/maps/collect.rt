@@ -12,7 +12,6 @@ use crate::clients::name_of;
 use crate::lines::{write_arrival, write_burst, write_refusal};
 use crate::outcome::Outcome;
 use crate::post::Letter;
-use crate::seats::address;
 use reply_grammar::{Reply, print, print_client_status, print_remove_user};
 use status_bits::UserStatus;
 use std::alloc::AllocError;
@@ -35,7 +34,7 @@ impl Maps {
         self.write_own(client, id, outcome, text)?;
         let own = text.len();
         self.write_others(client, outcome, text)?;
-        address(&self.users, client, own, text.len(), letters)
+        self.seats.address(client, own, text.len(), letters)
     }
 
     /// What its issuer gets.
@@ -53,7 +52,7 @@ impl Maps {
             Outcome::Pong => print(&Reply::Pong, id, text),
             Outcome::Refused(refusal) => write_refusal(self.alloc, *refusal, id, text),
             Outcome::LogIn { name, seat } => {
-                write_burst(&self.settings, &self.users, name, seat, id, text)
+                write_burst(&self.settings, &self.seats.users, name, seat, id, text)
             }
             Outcome::SetStatus { status } => self.write_status(client, *status, id, text),
         }

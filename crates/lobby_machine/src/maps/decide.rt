@@ -68,7 +68,7 @@ impl Maps {
         let Some(name) = name_of(&self.clients, client) else {
             return Outcome::Refused(Refusal::LogInFirst);
         };
-        let status = match self.users.get(name) {
+        let status = match self.seats.users.get(name) {
             Some(seat) => merge_user(seat.status, asked),
             None => unreachable!(),
         };
@@ -87,7 +87,7 @@ impl Maps {
         ensures { IfOk result (λ outcome. (user_name password local_ip lobby : List ℕ) → login self.now.accounts user_name password ≡ Ok account.now → ComesTo self.now client (command.Login user_name password cpu local_ip lobby) outcome) }
     {
         let name = NameBuf::copy_of(self.alloc, account.name())?;
-        if self.users.contains_key(&name) {
+        if self.seats.users.contains_key(&name) {
             return Ok(Outcome::Refused(Refusal::UserIsIn));
         }
         let seat = Seat {

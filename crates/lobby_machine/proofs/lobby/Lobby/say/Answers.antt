@@ -1,7 +1,6 @@
 use Rattle.std.proofs.Common.{◌≡◌, ◌∙◌, ap, sym, true, false}
 use Rattle.lobby_model.specs.declared.event.Event.TheVariants as event
 use Rattle.lobby_model.specs.State.{State, hears}
-use Rattle.lobby_model.specs.Effect.{effect}
 use Rattle.lobby_model.proofs.Quiet.{next_unheard, quiet_touches, unheard_sends}
 use Rattle.lobby_machine.specs.Mail.{Writes}
 use Rattle.lobby_machine.specs.Outcome.{ComesTo, changed}

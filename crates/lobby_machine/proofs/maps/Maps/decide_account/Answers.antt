@@ -10,7 +10,7 @@ use Rattle.lobby_machine.proofs.maps.Maps.decide_account.Goals as goal
 pub returns-then-contains_key : goal.returns-then-contains_key
 returns-then-contains_key c =
     let there : is_some (at_name c.args.self.now.users c.args.account.now.name) ≡ true =
-    is_user_at c.self.inside.users.entries c.args.self.now.users c.in_ok-name.name c.args.account.now.name (ap (λ (s : State). s.users) c.self.view_is) (c.in_ok-name.ensures ∙ c.name.ensures.value) ∙ sym c.if-contains_key.ensures in
+    is_user_at c.self.inside.seats.users.entries c.args.self.now.users c.in_ok-name.name c.args.account.now.name (ap (λ (s : State). s.users) c.self.view_is) (c.in_ok-name.ensures ∙ c.name.ensures.value) ∙ sym c.if-contains_key.ensures in
     λ user_name password local_ip lobby let_in. user_is_there c.args.self.now c.args.client user_name password c.args.cpu local_ip lobby c.requires.nobody c.args.account.now let_in there
 
 pub copy_of-requires-2 : goal.copy_of-requires-2
@@ -20,7 +20,7 @@ pub returns : goal.returns
 returns c =
     let named : c.in_ok-name.name ≡ c.args.account.now.name = c.in_ok-name.ensures ∙ c.name.ensures.value in
     let free : is_some (at_name c.args.self.now.users c.args.account.now.name) ≡ false =
-    is_user_at c.self.inside.users.entries c.args.self.now.users c.in_ok-name.name c.args.account.now.name (ap (λ (s : State). s.users) c.self.view_is) named ∙ sym c.if-contains_key.ensures in
+    is_user_at c.self.inside.seats.users.entries c.args.self.now.users c.in_ok-name.name c.args.account.now.name (ap (λ (s : State). s.users) c.self.view_is) named ∙ sym c.if-contains_key.ensures in
     λ user_name password local_ip lobby let_in.
     logged c.args.self.now c.args.client user_name password c.args.cpu local_ip lobby c.requires.nobody c.args.account.now let_in _ _ c.requires.hears free named
     (λ i. record {

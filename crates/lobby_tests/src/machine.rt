@@ -1,12 +1,12 @@
 //! A lobby with memory at hand: its answers, logins and statuses, and how a client ends.
 
-use super::*;
 use account_book::{Account, AccountBook};
 use command_grammar::{Request, read_request};
 use line_words::TextBuf;
+use lobby_machine::{Drained, Lobby, OpenError, Wakes};
 use lobby_model::Settings;
 use lobby_model::settings::LEAST_OUTBOX_LIMIT;
-use std::alloc::Global;
+use std::alloc::{AllocError, Global};
 use std::test::Fail;
 
 const WORD: &[u8] = b"X03MO1qnZdYdgyfeuILPmQ==";
@@ -226,6 +226,14 @@ fn users_see_each_other_and_nobody_else_does(rt: HostRuntime) -> Result<(), Fail
     Ok(())
 }
 
+// Reads a line, once more where memory was refused.
+fn read_at_last(alloc: Global, line: &[u8]) -> Result<Request, AllocError> {
+    match read_request(alloc, line) {
+        Err(_) => read_request(alloc, line),
+        read => read,
+    }
+}
+
 // Says the request until memory suffices; after each refusal nobody has a byte to read.
 fn say_at_last(lobby: &mut Lobby, client: u64, request: &Request) -> Result<(), Fail> {
     for _ in 0..64 {
@@ -254,7 +262,7 @@ fn an_event_that_memory_refused_leaves_no_trace(rt: HostRuntime) -> Result<(), F
         for reader in 1..4 {
             let _ = lobby.drain(reader, &mut [0; 512]);
         }
-        let request = read_request(rt.alloc(), line)?;
+        let request = read_at_last(rt.alloc(), line)?;
         let said = say_at_last(&mut lobby, client, &request);
         request.discard();
         said?;
