@@ -14,8 +14,6 @@ mod forms;
 mod laws;
 mod lists;
 mod reading;
-#[cfg(test)]
-mod tests;
 
 pub use command::{Command, ReadFault, Request};
 pub use laws::{fits_into_its_line, keeps_kinds, reads_as_one_request};

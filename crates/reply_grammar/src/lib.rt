@@ -251,6 +251,3 @@ impl Reply {
     /// is dear to check, or too dear: call this, or lend the reply to a function that does the rest.
     pub fn discard(self) {}
 }
-
-#[cfg(test)]
-mod tests;

@@ -1,6 +1,6 @@
 //! Lines that are read with memory at hand.
 
-use super::*;
+use command_grammar::{Command, ReadFault, Request, read_request};
 use std::test::Fail;
 
 fn fault_of(request: &Request) -> Option<ReadFault> {

@@ -1,6 +1,6 @@
 //! A line for each reply, read and printed again, and lines that no reply prints.
 
-use super::*;
+use reply_grammar::{Reply, print, read_reply};
 use std::alloc::{AllocError, Global};
 use std::test::Fail;
 
