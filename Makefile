@@ -1,7 +1,7 @@
 # The recipes of this repository, one line each.
 SCRIPT ?= examples/ping.play
 
-.PHONY: play hash test
+.PHONY: play hash test memory
 
 play:
 	@(cd crates/lobby_play && rt run) < $(SCRIPT)
@@ -11,3 +11,6 @@ hash:
 
 test:
 	rt ci
+
+memory:
+	@checks/refused_memory.sh
