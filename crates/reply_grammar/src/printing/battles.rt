@@ -3,21 +3,52 @@
 
 ghost use Rattle.std.specs.Prelude.{◌≡◌, ◌∷◌, ◌++◌, IfOk, length, take};
 ghost use Rattle.reply_grammar.specs.declared.Reply.TheVariants as reply;
-ghost use Rattle.reply_grammar.specs.Replies.{printed_line};
+ghost use Rattle.reply_grammar.specs.declared.command_word.CommandWord.TheVariants as command;
+ghost use Rattle.reply_grammar.specs.Groups.{Battles, group_of};
+ghost use Rattle.reply_grammar.specs.Replies.{command_of, printed_line};
 
 use super::pieces::{
     put_command, put_end, put_flag, put_name, put_next_sentence, put_number, put_optional,
     put_sentence, put_text, put_wide, put_word,
 };
+use crate::Reply;
 use crate::command_word::CommandWord;
 use line_words::{NameBuf, SentenceBuf, TextBuf, WordBuf};
 use std::alloc::AllocError;
 
-pub(super) fn put_open_battle(
-    out: &mut Vec<u8>,
-    id: Option<u32>,
-    battle: u32,
-) -> Result<(), AllocError>
+// The reply is one of the group.
+pub(super) fn put_reply(out: &mut Vec<u8>, id: Option<u32>, reply: &Reply) -> Result<(), AllocError>
+    requires { group_of (command_of reply.now) ≡ Battles }
+    ensures ok { IfOk result (λ _. out.new.items ≡ out.old.items ++ printed_line id reply.now) }
+    ensures kept { take (length out.old.items) out.new.items ≡ out.old.items }
+{
+    match reply {
+        Reply::OpenBattle { battle } => put_open_battle(out, id, *battle),
+        Reply::OpenBattleFailed { text } => put_open_battle_failed(out, id, text),
+        Reply::BattleOpened { .. } => put_battle_opened(out, id, reply),
+        Reply::BattleClosed { battle } => put_battle_closed(out, id, *battle),
+        Reply::JoinBattle { battle, game_hash } => put_join_battle(out, id, *battle, game_hash),
+        Reply::JoinBattleFailed { text } => put_join_battle_failed(out, id, text),
+        Reply::JoinedBattle {
+            battle,
+            user,
+            script_password,
+        } => put_joined_battle(out, id, *battle, user, script_password),
+        Reply::LeftBattle { battle, user } => put_left_battle(out, id, *battle, user),
+        Reply::UpdateBattleInfo {
+            battle,
+            spectator_count,
+            locked,
+            map_hash,
+            map,
+        } => put_update_battle_info(out, id, *battle, *spectator_count, *locked, map_hash, map),
+        Reply::RequestBattleStatus => put_request_battle_status(out, id),
+        Reply::ForceQuitBattle => put_force_quit_battle(out, id),
+        _ => unreachable!(),
+    }
+}
+
+fn put_open_battle(out: &mut Vec<u8>, id: Option<u32>, battle: u32) -> Result<(), AllocError>
     ensures ok { IfOk result (λ _. out.new.items ≡ out.old.items ++ printed_line id (reply.OpenBattle battle)) }
     ensures kept { take (length out.old.items) out.new.items ≡ out.old.items }
 {
@@ -26,7 +57,7 @@ pub(super) fn put_open_battle(
     put_end(out)
 }
 
-pub(super) fn put_open_battle_failed(
+fn put_open_battle_failed(
     out: &mut Vec<u8>,
     id: Option<u32>,
     text: &TextBuf,
@@ -39,37 +70,41 @@ pub(super) fn put_open_battle_failed(
     put_end(out)
 }
 
-pub(super) fn put_battle_opened(
-    out: &mut Vec<u8>,
-    id: Option<u32>,
-    battle: u32,
-    battle_type: u8,
-    nat_type: u8,
-    founder: &NameBuf,
-    ip: &WordBuf,
-    port: u16,
-    max_players: u16,
-    passworded: bool,
-    rank: &i64,
-    map_hash: &i64,
-    engine_name: &SentenceBuf,
-    engine_version: &SentenceBuf,
-    map: &SentenceBuf,
-    title: &SentenceBuf,
-    game_name: &SentenceBuf,
-) -> Result<(), AllocError>
-    ensures ok { IfOk result (λ _. out.new.items ≡ out.old.items ++ printed_line id (reply.BattleOpened battle battle_type nat_type founder.now ip.now port max_players passworded rank.now map_hash.now engine_name.now engine_version.now map.now title.now game_name.now)) }
+// The reply is BATTLEOPENED.
+fn put_battle_opened(out: &mut Vec<u8>, id: Option<u32>, reply: &Reply) -> Result<(), AllocError>
+    requires { command_of reply.now ≡ command.BattleOpened }
+    ensures ok { IfOk result (λ _. out.new.items ≡ out.old.items ++ printed_line id reply.now) }
     ensures kept { take (length out.old.items) out.new.items ≡ out.old.items }
 {
+    let Reply::BattleOpened {
+        battle,
+        battle_type,
+        nat_type,
+        founder,
+        ip,
+        port,
+        max_players,
+        passworded,
+        rank,
+        map_hash,
+        engine_name,
+        engine_version,
+        map,
+        title,
+        game_name,
+    } = reply
+    else {
+        unreachable!()
+    };
     put_command(out, id, CommandWord::BattleOpened)?;
-    put_number(out, battle)?;
-    put_number(out, u32::from(battle_type))?;
-    put_number(out, u32::from(nat_type))?;
+    put_number(out, *battle)?;
+    put_number(out, u32::from(*battle_type))?;
+    put_number(out, u32::from(*nat_type))?;
     put_name(out, founder)?;
     put_word(out, ip)?;
-    put_number(out, u32::from(port))?;
-    put_number(out, u32::from(max_players))?;
-    put_flag(out, passworded)?;
+    put_number(out, u32::from(*port))?;
+    put_number(out, u32::from(*max_players))?;
+    put_flag(out, *passworded)?;
     put_wide(out, rank)?;
     put_wide(out, map_hash)?;
     put_titles(out, engine_name, engine_version, map, title, game_name)?;
@@ -96,11 +131,7 @@ fn put_titles(
     Ok(())
 }
 
-pub(super) fn put_battle_closed(
-    out: &mut Vec<u8>,
-    id: Option<u32>,
-    battle: u32,
-) -> Result<(), AllocError>
+fn put_battle_closed(out: &mut Vec<u8>, id: Option<u32>, battle: u32) -> Result<(), AllocError>
     ensures ok { IfOk result (λ _. out.new.items ≡ out.old.items ++ printed_line id (reply.BattleClosed battle)) }
     ensures kept { take (length out.old.items) out.new.items ≡ out.old.items }
 {
@@ -109,7 +140,7 @@ pub(super) fn put_battle_closed(
     put_end(out)
 }
 
-pub(super) fn put_join_battle(
+fn put_join_battle(
     out: &mut Vec<u8>,
     id: Option<u32>,
     battle: u32,
@@ -124,7 +155,7 @@ pub(super) fn put_join_battle(
     put_end(out)
 }
 
-pub(super) fn put_join_battle_failed(
+fn put_join_battle_failed(
     out: &mut Vec<u8>,
     id: Option<u32>,
     text: &TextBuf,
@@ -137,7 +168,7 @@ pub(super) fn put_join_battle_failed(
     put_end(out)
 }
 
-pub(super) fn put_joined_battle(
+fn put_joined_battle(
     out: &mut Vec<u8>,
     id: Option<u32>,
     battle: u32,
@@ -155,7 +186,7 @@ pub(super) fn put_joined_battle(
     Ok(())
 }
 
-pub(super) fn put_left_battle(
+fn put_left_battle(
     out: &mut Vec<u8>,
     id: Option<u32>,
     battle: u32,
@@ -170,7 +201,7 @@ pub(super) fn put_left_battle(
     put_end(out)
 }
 
-pub(super) fn put_update_battle_info(
+fn put_update_battle_info(
     out: &mut Vec<u8>,
     id: Option<u32>,
     battle: u32,
@@ -192,10 +223,7 @@ pub(super) fn put_update_battle_info(
     Ok(())
 }
 
-pub(super) fn put_request_battle_status(
-    out: &mut Vec<u8>,
-    id: Option<u32>,
-) -> Result<(), AllocError>
+fn put_request_battle_status(out: &mut Vec<u8>, id: Option<u32>) -> Result<(), AllocError>
     ensures ok { IfOk result (λ _. out.new.items ≡ out.old.items ++ printed_line id reply.RequestBattleStatus) }
     ensures kept { take (length out.old.items) out.new.items ≡ out.old.items }
 {
@@ -203,7 +231,7 @@ pub(super) fn put_request_battle_status(
     put_end(out)
 }
 
-pub(super) fn put_force_quit_battle(out: &mut Vec<u8>, id: Option<u32>) -> Result<(), AllocError>
+fn put_force_quit_battle(out: &mut Vec<u8>, id: Option<u32>) -> Result<(), AllocError>
     ensures ok { IfOk result (λ _. out.new.items ≡ out.old.items ++ printed_line id reply.ForceQuitBattle) }
     ensures kept { take (length out.old.items) out.new.items ≡ out.old.items }
 {

@@ -3,18 +3,49 @@
 
 ghost use Rattle.std.specs.Prelude.{◌≡◌, ◌++◌, IfOk, length, take};
 ghost use Rattle.reply_grammar.specs.declared.Reply.TheVariants as reply;
-ghost use Rattle.reply_grammar.specs.Replies.{printed_line};
+ghost use Rattle.reply_grammar.specs.Groups.{Channels, group_of};
+ghost use Rattle.reply_grammar.specs.Replies.{command_of, printed_line};
 
 use super::pieces::{put_command, put_end, put_name, put_names, put_number, put_text};
+use crate::Reply;
 use crate::command_word::CommandWord;
 use line_words::{NameBuf, NameList, TextBuf};
 use std::alloc::AllocError;
 
-pub(super) fn put_join(
-    out: &mut Vec<u8>,
-    id: Option<u32>,
-    channel: &NameBuf,
-) -> Result<(), AllocError>
+// The reply is one of the group.
+pub(super) fn put_reply(out: &mut Vec<u8>, id: Option<u32>, reply: &Reply) -> Result<(), AllocError>
+    requires { group_of (command_of reply.now) ≡ Channels }
+    ensures ok { IfOk result (λ _. out.new.items ≡ out.old.items ++ printed_line id reply.now) }
+    ensures kept { take (length out.old.items) out.new.items ≡ out.old.items }
+{
+    match reply {
+        Reply::Join { channel } => put_join(out, id, channel),
+        Reply::Clients { channel, names } => put_clients(out, id, channel, names),
+        Reply::Joined { channel, user } => put_joined(out, id, channel, user),
+        Reply::Left { channel, user } => put_left(out, id, channel, user),
+        Reply::JoinFailed { channel, reason } => put_join_failed(out, id, channel, reason),
+        Reply::Said {
+            channel,
+            user,
+            text,
+        } => put_said(out, id, channel, user, text),
+        Reply::SaidEx {
+            channel,
+            user,
+            text,
+        } => put_said_ex(out, id, channel, user, text),
+        Reply::SayPrivate { user, text } => put_say_private(out, id, user, text),
+        Reply::SaidPrivate { user, text } => put_said_private(out, id, user, text),
+        Reply::Channel {
+            channel,
+            user_count,
+        } => put_channel(out, id, channel, *user_count),
+        Reply::EndOfChannels => put_end_of_channels(out, id),
+        _ => unreachable!(),
+    }
+}
+
+fn put_join(out: &mut Vec<u8>, id: Option<u32>, channel: &NameBuf) -> Result<(), AllocError>
     ensures ok { IfOk result (λ _. out.new.items ≡ out.old.items ++ printed_line id (reply.Join channel.now)) }
     ensures kept { take (length out.old.items) out.new.items ≡ out.old.items }
 {
@@ -23,7 +54,7 @@ pub(super) fn put_join(
     put_end(out)
 }
 
-pub(super) fn put_clients(
+fn put_clients(
     out: &mut Vec<u8>,
     id: Option<u32>,
     channel: &NameBuf,
@@ -38,7 +69,7 @@ pub(super) fn put_clients(
     put_end(out)
 }
 
-pub(super) fn put_joined(
+fn put_joined(
     out: &mut Vec<u8>,
     id: Option<u32>,
     channel: &NameBuf,
@@ -53,7 +84,7 @@ pub(super) fn put_joined(
     put_end(out)
 }
 
-pub(super) fn put_left(
+fn put_left(
     out: &mut Vec<u8>,
     id: Option<u32>,
     channel: &NameBuf,
@@ -68,7 +99,7 @@ pub(super) fn put_left(
     put_end(out)
 }
 
-pub(super) fn put_join_failed(
+fn put_join_failed(
     out: &mut Vec<u8>,
     id: Option<u32>,
     channel: &NameBuf,
@@ -84,7 +115,7 @@ pub(super) fn put_join_failed(
     Ok(())
 }
 
-pub(super) fn put_said(
+fn put_said(
     out: &mut Vec<u8>,
     id: Option<u32>,
     channel: &NameBuf,
@@ -102,7 +133,7 @@ pub(super) fn put_said(
     Ok(())
 }
 
-pub(super) fn put_said_ex(
+fn put_said_ex(
     out: &mut Vec<u8>,
     id: Option<u32>,
     channel: &NameBuf,
@@ -120,7 +151,7 @@ pub(super) fn put_said_ex(
     Ok(())
 }
 
-pub(super) fn put_say_private(
+fn put_say_private(
     out: &mut Vec<u8>,
     id: Option<u32>,
     user: &NameBuf,
@@ -136,7 +167,7 @@ pub(super) fn put_say_private(
     Ok(())
 }
 
-pub(super) fn put_said_private(
+fn put_said_private(
     out: &mut Vec<u8>,
     id: Option<u32>,
     user: &NameBuf,
@@ -152,7 +183,7 @@ pub(super) fn put_said_private(
     Ok(())
 }
 
-pub(super) fn put_channel(
+fn put_channel(
     out: &mut Vec<u8>,
     id: Option<u32>,
     channel: &NameBuf,
@@ -167,7 +198,7 @@ pub(super) fn put_channel(
     put_end(out)
 }
 
-pub(super) fn put_end_of_channels(out: &mut Vec<u8>, id: Option<u32>) -> Result<(), AllocError>
+fn put_end_of_channels(out: &mut Vec<u8>, id: Option<u32>) -> Result<(), AllocError>
     ensures ok { IfOk result (λ _. out.new.items ≡ out.old.items ++ printed_line id reply.EndOfChannels) }
     ensures kept { take (length out.old.items) out.new.items ≡ out.old.items }
 {

@@ -3,17 +3,63 @@
 
 ghost use Rattle.std.specs.Prelude.{◌≡◌, ◌++◌, IfOk, length, take};
 ghost use Rattle.reply_grammar.specs.declared.Reply.TheVariants as reply;
-ghost use Rattle.reply_grammar.specs.Replies.{printed_line};
+ghost use Rattle.reply_grammar.specs.Groups.{Room, group_of};
+ghost use Rattle.reply_grammar.specs.Replies.{command_of, printed_line};
 
 use super::pieces::{
     put_command, put_end, put_name, put_number, put_pairs, put_sentence, put_text, put_wide,
     put_word, put_words,
 };
+use crate::Reply;
 use crate::command_word::CommandWord;
 use line_words::{NameBuf, PairList, SentenceBuf, TextBuf, WordBuf, WordList};
 use std::alloc::AllocError;
 
-pub(super) fn put_client_battle_status(
+// The reply is one of the group.
+pub(super) fn put_reply(out: &mut Vec<u8>, id: Option<u32>, reply: &Reply) -> Result<(), AllocError>
+    requires { group_of (command_of reply.now) ≡ Room }
+    ensures ok { IfOk result (λ _. out.new.items ≡ out.old.items ++ printed_line id reply.now) }
+    ensures kept { take (length out.old.items) out.new.items ≡ out.old.items }
+{
+    match reply {
+        Reply::ClientBattleStatus {
+            user,
+            battle_status,
+            team_color,
+        } => put_client_battle_status(out, id, user, *battle_status, team_color),
+        Reply::SaidBattle { user, text } => put_said_battle(out, id, user, text),
+        Reply::SaidBattleEx { user, text } => put_said_battle_ex(out, id, user, text),
+        Reply::AddBot {
+            battle,
+            bot,
+            owner,
+            battle_status,
+            team_color,
+            ai,
+        } => put_add_bot(out, id, *battle, bot, owner, *battle_status, team_color, ai),
+        Reply::UpdateBot {
+            battle,
+            bot,
+            battle_status,
+            team_color,
+        } => put_update_bot(out, id, *battle, bot, *battle_status, team_color),
+        Reply::RemoveBot { battle, bot } => put_remove_bot(out, id, *battle, bot),
+        Reply::AddStartRect {
+            ally,
+            left,
+            top,
+            right,
+            bottom,
+        } => put_add_start_rect(out, id, *ally, *left, *top, *right, *bottom),
+        Reply::RemoveStartRect { ally } => put_remove_start_rect(out, id, *ally),
+        Reply::SetScriptTags { pairs } => put_set_script_tags(out, id, pairs),
+        Reply::RemoveScriptTags { keys } => put_remove_script_tags(out, id, keys),
+        Reply::Ring { user } => put_ring(out, id, user),
+        _ => unreachable!(),
+    }
+}
+
+fn put_client_battle_status(
     out: &mut Vec<u8>,
     id: Option<u32>,
     user: &NameBuf,
@@ -31,7 +77,7 @@ pub(super) fn put_client_battle_status(
     Ok(())
 }
 
-pub(super) fn put_said_battle(
+fn put_said_battle(
     out: &mut Vec<u8>,
     id: Option<u32>,
     user: &NameBuf,
@@ -47,7 +93,7 @@ pub(super) fn put_said_battle(
     Ok(())
 }
 
-pub(super) fn put_said_battle_ex(
+fn put_said_battle_ex(
     out: &mut Vec<u8>,
     id: Option<u32>,
     user: &NameBuf,
@@ -63,7 +109,7 @@ pub(super) fn put_said_battle_ex(
     Ok(())
 }
 
-pub(super) fn put_add_bot(
+fn put_add_bot(
     out: &mut Vec<u8>,
     id: Option<u32>,
     battle: u32,
@@ -87,7 +133,7 @@ pub(super) fn put_add_bot(
     Ok(())
 }
 
-pub(super) fn put_update_bot(
+fn put_update_bot(
     out: &mut Vec<u8>,
     id: Option<u32>,
     battle: u32,
@@ -107,7 +153,7 @@ pub(super) fn put_update_bot(
     Ok(())
 }
 
-pub(super) fn put_remove_bot(
+fn put_remove_bot(
     out: &mut Vec<u8>,
     id: Option<u32>,
     battle: u32,
@@ -122,7 +168,7 @@ pub(super) fn put_remove_bot(
     put_end(out)
 }
 
-pub(super) fn put_add_start_rect(
+fn put_add_start_rect(
     out: &mut Vec<u8>,
     id: Option<u32>,
     ally: u8,
@@ -144,11 +190,7 @@ pub(super) fn put_add_start_rect(
     Ok(())
 }
 
-pub(super) fn put_remove_start_rect(
-    out: &mut Vec<u8>,
-    id: Option<u32>,
-    ally: u8,
-) -> Result<(), AllocError>
+fn put_remove_start_rect(out: &mut Vec<u8>, id: Option<u32>, ally: u8) -> Result<(), AllocError>
     ensures ok { IfOk result (λ _. out.new.items ≡ out.old.items ++ printed_line id (reply.RemoveStartRect ally)) }
     ensures kept { take (length out.old.items) out.new.items ≡ out.old.items }
 {
@@ -157,7 +199,7 @@ pub(super) fn put_remove_start_rect(
     put_end(out)
 }
 
-pub(super) fn put_set_script_tags(
+fn put_set_script_tags(
     out: &mut Vec<u8>,
     id: Option<u32>,
     pairs: &PairList,
@@ -170,7 +212,7 @@ pub(super) fn put_set_script_tags(
     put_end(out)
 }
 
-pub(super) fn put_remove_script_tags(
+fn put_remove_script_tags(
     out: &mut Vec<u8>,
     id: Option<u32>,
     keys: &WordList,
@@ -183,7 +225,7 @@ pub(super) fn put_remove_script_tags(
     put_end(out)
 }
 
-pub(super) fn put_ring(out: &mut Vec<u8>, id: Option<u32>, user: &NameBuf) -> Result<(), AllocError>
+fn put_ring(out: &mut Vec<u8>, id: Option<u32>, user: &NameBuf) -> Result<(), AllocError>
     ensures ok { IfOk result (λ _. out.new.items ≡ out.old.items ++ printed_line id (reply.Ring user.now)) }
     ensures kept { take (length out.old.items) out.new.items ≡ out.old.items }
 {

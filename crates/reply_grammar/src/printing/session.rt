@@ -3,11 +3,13 @@
 
 ghost use Rattle.std.specs.Prelude.{◌≡◌, ◌++◌, IfOk, is_ok, if◌then◌else◌, length, take};
 ghost use Rattle.reply_grammar.specs.declared.Reply.TheVariants as reply;
-ghost use Rattle.reply_grammar.specs.Replies.{printed_line};
+ghost use Rattle.reply_grammar.specs.Groups.{Session, group_of};
+ghost use Rattle.reply_grammar.specs.Replies.{command_of, printed_line};
 
 use super::pieces::{
     put_command, put_end, put_name, put_number, put_text, put_wide, put_word, whole,
 };
+use crate::Reply;
 use crate::command_word::CommandWord;
 use line_words::{NameBuf, TextBuf, WordBuf};
 use std::alloc::AllocError;
@@ -73,7 +75,45 @@ pub fn print_client_status(
     whole(out, start, done)
 }
 
-pub(super) fn put_tas_server(
+// The reply is one of the group.
+pub(super) fn put_reply(out: &mut Vec<u8>, id: Option<u32>, reply: &Reply) -> Result<(), AllocError>
+    requires { group_of (command_of reply.now) ≡ Session }
+    ensures ok { IfOk result (λ _. out.new.items ≡ out.old.items ++ printed_line id reply.now) }
+    ensures kept { take (length out.old.items) out.new.items ≡ out.old.items }
+{
+    match reply {
+        Reply::TasServer {
+            protocol_version,
+            spring_version,
+            udp_port,
+            server_mode,
+        } => put_tas_server(
+            out,
+            id,
+            protocol_version,
+            spring_version,
+            *udp_port,
+            *server_mode,
+        ),
+        Reply::Accepted { user } => put_accepted(out, id, user),
+        Reply::Denied { text } => put_denied(out, id, text),
+        Reply::Motd { text } => put_motd(out, id, text),
+        Reply::ServerMsg { text } => put_server_msg(out, id, text),
+        Reply::AddUser {
+            user,
+            country,
+            cpu,
+            account,
+        } => put_add_user(out, id, user, country, cpu, *account),
+        Reply::RemoveUser { user } => put_remove_user(out, id, user),
+        Reply::ClientStatus { user, status } => put_client_status(out, id, user, *status),
+        Reply::LoginInfoEnd => put_login_info_end(out, id),
+        Reply::Pong => put_pong(out, id),
+        _ => unreachable!(),
+    }
+}
+
+fn put_tas_server(
     out: &mut Vec<u8>,
     id: Option<u32>,
     protocol_version: &WordBuf,
@@ -93,11 +133,7 @@ pub(super) fn put_tas_server(
     Ok(())
 }
 
-pub(super) fn put_accepted(
-    out: &mut Vec<u8>,
-    id: Option<u32>,
-    user: &NameBuf,
-) -> Result<(), AllocError>
+fn put_accepted(out: &mut Vec<u8>, id: Option<u32>, user: &NameBuf) -> Result<(), AllocError>
     ensures ok { IfOk result (λ _. out.new.items ≡ out.old.items ++ printed_line id (reply.Accepted user.now)) }
     ensures kept { take (length out.old.items) out.new.items ≡ out.old.items }
 {
@@ -106,11 +142,7 @@ pub(super) fn put_accepted(
     put_end(out)
 }
 
-pub(super) fn put_denied(
-    out: &mut Vec<u8>,
-    id: Option<u32>,
-    text: &TextBuf,
-) -> Result<(), AllocError>
+fn put_denied(out: &mut Vec<u8>, id: Option<u32>, text: &TextBuf) -> Result<(), AllocError>
     ensures ok { IfOk result (λ _. out.new.items ≡ out.old.items ++ printed_line id (reply.Denied text.now)) }
     ensures kept { take (length out.old.items) out.new.items ≡ out.old.items }
 {
@@ -119,7 +151,7 @@ pub(super) fn put_denied(
     put_end(out)
 }
 
-pub(super) fn put_motd(out: &mut Vec<u8>, id: Option<u32>, text: &TextBuf) -> Result<(), AllocError>
+fn put_motd(out: &mut Vec<u8>, id: Option<u32>, text: &TextBuf) -> Result<(), AllocError>
     ensures ok { IfOk result (λ _. out.new.items ≡ out.old.items ++ printed_line id (reply.Motd text.now)) }
     ensures kept { take (length out.old.items) out.new.items ≡ out.old.items }
 {
@@ -128,11 +160,7 @@ pub(super) fn put_motd(out: &mut Vec<u8>, id: Option<u32>, text: &TextBuf) -> Re
     put_end(out)
 }
 
-pub(super) fn put_server_msg(
-    out: &mut Vec<u8>,
-    id: Option<u32>,
-    text: &TextBuf,
-) -> Result<(), AllocError>
+fn put_server_msg(out: &mut Vec<u8>, id: Option<u32>, text: &TextBuf) -> Result<(), AllocError>
     ensures ok { IfOk result (λ _. out.new.items ≡ out.old.items ++ printed_line id (reply.ServerMsg text.now)) }
     ensures kept { take (length out.old.items) out.new.items ≡ out.old.items }
 {
@@ -141,7 +169,7 @@ pub(super) fn put_server_msg(
     put_end(out)
 }
 
-pub(super) fn put_add_user(
+fn put_add_user(
     out: &mut Vec<u8>,
     id: Option<u32>,
     user: &NameBuf,
@@ -161,11 +189,7 @@ pub(super) fn put_add_user(
     Ok(())
 }
 
-pub(super) fn put_remove_user(
-    out: &mut Vec<u8>,
-    id: Option<u32>,
-    user: &NameBuf,
-) -> Result<(), AllocError>
+fn put_remove_user(out: &mut Vec<u8>, id: Option<u32>, user: &NameBuf) -> Result<(), AllocError>
     ensures ok { IfOk result (λ _. out.new.items ≡ out.old.items ++ printed_line id (reply.RemoveUser user.now)) }
     ensures kept { take (length out.old.items) out.new.items ≡ out.old.items }
 {
@@ -174,7 +198,7 @@ pub(super) fn put_remove_user(
     put_end(out)
 }
 
-pub(super) fn put_client_status(
+fn put_client_status(
     out: &mut Vec<u8>,
     id: Option<u32>,
     user: &NameBuf,
@@ -189,7 +213,7 @@ pub(super) fn put_client_status(
     put_end(out)
 }
 
-pub(super) fn put_login_info_end(out: &mut Vec<u8>, id: Option<u32>) -> Result<(), AllocError>
+fn put_login_info_end(out: &mut Vec<u8>, id: Option<u32>) -> Result<(), AllocError>
     ensures ok { IfOk result (λ _. out.new.items ≡ out.old.items ++ printed_line id reply.LoginInfoEnd) }
     ensures kept { take (length out.old.items) out.new.items ≡ out.old.items }
 {
@@ -197,7 +221,7 @@ pub(super) fn put_login_info_end(out: &mut Vec<u8>, id: Option<u32>) -> Result<(
     put_end(out)
 }
 
-pub(super) fn put_pong(out: &mut Vec<u8>, id: Option<u32>) -> Result<(), AllocError>
+fn put_pong(out: &mut Vec<u8>, id: Option<u32>) -> Result<(), AllocError>
     ensures ok { IfOk result (λ _. out.new.items ≡ out.old.items ++ printed_line id reply.Pong) }
     ensures kept { take (length out.old.items) out.new.items ≡ out.old.items }
 {

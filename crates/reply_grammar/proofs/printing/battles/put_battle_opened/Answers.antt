@@ -3,7 +3,7 @@ use Rattle.reply_grammar.proofs.Kept.{kept_more}
 use Rattle.reply_grammar.proofs.printing.battles.put_battle_opened.Goals as goal
 
 pub returns-clause-ok : goal.returns-clause-ok
-returns-clause-ok c = rw (c.in_ok-put_end.ensures.ok, c.in_ok-put_titles.ensures.ok, append_assoc, c.in_ok-put_wide-2.ensures.ok, append_assoc, c.in_ok-put_wide.ensures.ok, append_assoc, c.in_ok-put_flag.ensures.ok, append_assoc, c.in_ok-put_number-5.ensures.ok, append_assoc, c.in_ok-put_number-4.ensures.ok, append_assoc, c.in_ok-put_word.ensures.ok, append_assoc, c.in_ok-put_name.ensures.ok, append_assoc, c.in_ok-put_number-3.ensures.ok, append_assoc, c.in_ok-put_number-2.ensures.ok, append_assoc, c.in_ok-put_number.ensures.ok, append_assoc, c.in_ok-put_command.ensures.ok, append_assoc) (simp append_assoc (rw (c.from.ensures, c.from-2.ensures, c.from-3.ensures, c.from-4.ensures)))
+returns-clause-ok c = rw (c.in-BattleOpened.is, c.in_ok-put_end.ensures.ok, c.in_ok-put_titles.ensures.ok, append_assoc, c.in_ok-put_wide-2.ensures.ok, append_assoc, c.in_ok-put_wide.ensures.ok, append_assoc, c.in_ok-put_flag.ensures.ok, append_assoc, c.in_ok-put_number-5.ensures.ok, append_assoc, c.in_ok-put_number-4.ensures.ok, append_assoc, c.in_ok-put_word.ensures.ok, append_assoc, c.in_ok-put_name.ensures.ok, append_assoc, c.in_ok-put_number-3.ensures.ok, append_assoc, c.in_ok-put_number-2.ensures.ok, append_assoc, c.in_ok-put_number.ensures.ok, append_assoc, c.in_ok-put_command.ensures.ok, append_assoc) (simp append_assoc (rw (c.from.ensures, c.from-2.ensures, c.from-3.ensures, c.from-4.ensures)))
 
 pub returns-clause-kept : goal.returns-clause-kept
 returns-clause-kept c = rw (c.in_ok-put_end.ensures.ok, c.in_ok-put_titles.ensures.ok, append_assoc, c.in_ok-put_wide-2.ensures.ok, append_assoc, c.in_ok-put_wide.ensures.ok, append_assoc, c.in_ok-put_flag.ensures.ok, append_assoc, c.in_ok-put_number-5.ensures.ok, append_assoc, c.in_ok-put_number-4.ensures.ok, append_assoc, c.in_ok-put_word.ensures.ok, append_assoc, c.in_ok-put_name.ensures.ok, append_assoc, c.in_ok-put_number-3.ensures.ok, append_assoc, c.in_ok-put_number-2.ensures.ok, append_assoc, c.in_ok-put_number.ensures.ok, append_assoc, c.in_ok-put_command.ensures.ok, append_assoc) (kept_more _ _)

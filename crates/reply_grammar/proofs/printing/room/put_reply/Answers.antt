@@ -1,0 +1,34 @@
+use Rattle.reply_grammar.proofs.printing.room.put_reply.Goals as goal
+
+pub returns-in-ClientBattleStatus-clause-ok : goal.returns-in-ClientBattleStatus-clause-ok
+returns-in-ClientBattleStatus-clause-ok c = rw (c.in-ClientBattleStatus.is) c.put_client_battle_status.ensures.ok
+
+pub returns-in-SaidBattle-clause-ok : goal.returns-in-SaidBattle-clause-ok
+returns-in-SaidBattle-clause-ok c = rw (c.in-SaidBattle.is) c.put_said_battle.ensures.ok
+
+pub returns-in-SaidBattleEx-clause-ok : goal.returns-in-SaidBattleEx-clause-ok
+returns-in-SaidBattleEx-clause-ok c = rw (c.in-SaidBattleEx.is) c.put_said_battle_ex.ensures.ok
+
+pub returns-in-AddBot-clause-ok : goal.returns-in-AddBot-clause-ok
+returns-in-AddBot-clause-ok c = rw (c.in-AddBot.is) c.put_add_bot.ensures.ok
+
+pub returns-in-UpdateBot-clause-ok : goal.returns-in-UpdateBot-clause-ok
+returns-in-UpdateBot-clause-ok c = rw (c.in-UpdateBot.is) c.put_update_bot.ensures.ok
+
+pub returns-in-RemoveBot-clause-ok : goal.returns-in-RemoveBot-clause-ok
+returns-in-RemoveBot-clause-ok c = rw (c.in-RemoveBot.is) c.put_remove_bot.ensures.ok
+
+pub returns-in-AddStartRect-clause-ok : goal.returns-in-AddStartRect-clause-ok
+returns-in-AddStartRect-clause-ok c = rw (c.in-AddStartRect.is) c.put_add_start_rect.ensures.ok
+
+pub returns-in-RemoveStartRect-clause-ok : goal.returns-in-RemoveStartRect-clause-ok
+returns-in-RemoveStartRect-clause-ok c = rw (c.in-RemoveStartRect.is) c.put_remove_start_rect.ensures.ok
+
+pub returns-in-SetScriptTags-clause-ok : goal.returns-in-SetScriptTags-clause-ok
+returns-in-SetScriptTags-clause-ok c = rw (c.in-SetScriptTags.is) c.put_set_script_tags.ensures.ok
+
+pub returns-in-RemoveScriptTags-clause-ok : goal.returns-in-RemoveScriptTags-clause-ok
+returns-in-RemoveScriptTags-clause-ok c = rw (c.in-RemoveScriptTags.is) c.put_remove_script_tags.ensures.ok
+
+pub returns-in-Ring-clause-ok : goal.returns-in-Ring-clause-ok
+returns-in-Ring-clause-ok c = rw (c.in-Ring.is) c.put_ring.ensures.ok
