@@ -39,10 +39,14 @@ fn new_lobby(alloc: Global) -> Result<Lobby, Fail> {
 }
 
 fn say(lobby: &mut Lobby, alloc: Global, client: u64, line: &[u8]) -> Result<Wakes, Fail> {
-    let request = read_request(alloc, line)?;
-    let said = lobby.say(client, &request);
-    request.discard();
-    Ok(said?)
+    match read_request(alloc, line) {
+        Ok(request) => {
+            let said = lobby.say(client, &request);
+            request.discard();
+            Ok(said?)
+        }
+        Err(refused) => Err(Fail::from(refused)),
+    }
 }
 
 fn say_often(
@@ -216,6 +220,12 @@ fn lobby_of_three(alloc: Global) -> Result<Lobby, Fail> {
 }
 
 #[test]
+fn three_clients_are_numbered_in_order(rt: HostRuntime) -> Result<(), Fail> {
+    assert_eq!(rt; lobby_of_three(rt.alloc())?.last_client(), 3);
+    Ok(())
+}
+
+#[test]
 fn users_see_each_other_and_nobody_else_does(rt: HostRuntime) -> Result<(), Fail> {
     let mut lobby = lobby_of_three(rt.alloc())?;
     for (client, line, reader, put) in TALK {
@@ -228,10 +238,7 @@ fn users_see_each_other_and_nobody_else_does(rt: HostRuntime) -> Result<(), Fail
 
 // Reads a line, once more where memory was refused.
 fn read_at_last(alloc: Global, line: &[u8]) -> Result<Request, AllocError> {
-    match read_request(alloc, line) {
-        Err(_) => read_request(alloc, line),
-        read => read,
-    }
+    read_request(alloc, line).or_else(|_| read_request(alloc, line))
 }
 
 // Says the request until memory suffices; after each refusal nobody has a byte to read.
