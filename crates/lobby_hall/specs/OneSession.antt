@@ -1,12 +1,10 @@
 -- What becomes of one client's session, if it has one.
-use Rattle.std.specs.Prelude.{◌≡◌, ℕ, ◌+◌, Bool, false, ◌||◌, List, ◌++◌, Option, Some, None, IsSome, is_some, slice_get}
-use Rattle.line_framer.specs.Frames.{frames, is_spoilt}
-use Rattle.lobby_model.specs.Schedule.{line_limit}
+use Rattle.std.specs.Prelude.{◌≡◌, ℕ, ◌+◌, Bool, false, List, ◌++◌, Option, Some, None, IsSome}
 use Rattle.line_framer.specs.Framed.{next_line}
 use Rattle.lobby_hall.specs.declared.session.Next.{Next}
 use Rattle.lobby_hall.specs.declared.session.Next.TheVariants.{Nothing}
 use Rattle.lobby_hall.specs.Serving.{Serving}
-use Rattle.lobby_hall.specs.Sessions.{Heard, IsNext}
+use Rattle.lobby_hall.specs.Sessions.{Heard, IsNext, has_next}
 
 -- it heard the piece too
 abbrev pub Fed : Option Serving → Option Serving → List ℕ → Type 0
@@ -23,7 +21,7 @@ abbrev pub IsNextOf : Option Serving → Next → Type 0
 IsNextOf None next = next ≡ Nothing
 IsNextOf (Some session) next = (bytes : List ℕ) (accepted : ℕ) → Heard session.framed bytes accepted → IsNext bytes accepted next
 
--- whether a whole line or a spoilt place is next
+-- whether something is next
 abbrev pub IsReady : Option Serving → Bool → Type 0
 IsReady None ready = ready ≡ false
-IsReady (Some session) ready = (bytes : List ℕ) (accepted : ℕ) → Heard session.framed bytes accepted → ready ≡ (is_some (slice_get (frames bytes line_limit) accepted) || is_spoilt bytes line_limit)
+IsReady (Some session) ready = (bytes : List ℕ) (accepted : ℕ) → Heard session.framed bytes accepted → ready ≡ has_next bytes accepted

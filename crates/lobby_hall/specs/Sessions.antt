@@ -1,5 +1,5 @@
 -- What a session stands for: the bytes that its client sent, and how many of its lines were accepted.
-use Rattle.std.specs.Prelude.{◌≡◌, ℕ, List, Option, Some, None, true, false, slice_get}
+use Rattle.std.specs.Prelude.{◌≡◌, ℕ, Bool, ◌||◌, List, Option, Some, None, is_some, true, false, slice_get}
 use Rattle.line_framer.specs.Frames.{frames, is_spoilt}
 use Rattle.line_framer.specs.Framed.{Framed, StandsFor}
 use Rattle.command_grammar.specs.Reads.{Reads}
@@ -22,3 +22,7 @@ NextAt None bytes Spoilt = is_spoilt bytes line_limit ≡ true
 
 abbrev pub IsNext : List ℕ → ℕ → Next → Type 0
 IsNext bytes accepted next = NextAt (slice_get (frames bytes line_limit) accepted) bytes next
+
+-- whether a whole line or a spoilt place is next
+abbrev pub has_next : List ℕ → ℕ → Bool
+has_next bytes accepted = is_some (slice_get (frames bytes line_limit) accepted) || is_spoilt bytes line_limit

@@ -1,6 +1,5 @@
 -- What a hall stands for: the world that a schedule leaves, and the record of its events.
-use Rattle.std.specs.Prelude.{◌≡◌, ℕ, ◌≤◌, ◌<◌, Bool, ◌&&◌, ◌||◌, true, false, List, ◌++◌, length, Option, Some, None, is_some, slice_get}
-use Rattle.line_framer.specs.Frames.{frames, is_spoilt}
+use Rattle.std.specs.Prelude.{◌≡◌, ℕ, ◌≤◌, ◌<◌, Bool, ◌&&◌, true, false, List, ◌++◌, length, Option, Some, None}
 use Rattle.account_book.specs.Account.{Account}
 use Rattle.lobby_model.specs.declared.event.Event.{Event}
 use Rattle.lobby_model.specs.declared.schedule.Step.{Step}
@@ -8,11 +7,11 @@ use Rattle.lobby_model.specs.declared.schedule.Step.TheVariants as step
 use Rattle.lobby_model.specs.Configuration.{Configuration}
 use Rattle.lobby_model.specs.State.{State, empty_lobby}
 use Rattle.lobby_model.specs.History.{after}
-use Rattle.lobby_model.specs.Schedule.{World, Input, input, input_of, is_open, line_limit, StepGives}
+use Rattle.lobby_model.specs.Schedule.{World, Input, input, input_of, is_open, StepGives}
 use Rattle.lobby_hall.specs.ByClient.{of_client}
 use Rattle.lobby_hall.specs.Record.{Log, IsRecord}
 use Rattle.lobby_hall.specs.Serving.{Serving}
-use Rattle.lobby_hall.specs.Sessions.{Heard}
+use Rattle.lobby_hall.specs.Sessions.{Heard, has_next}
 
 -- What a contract sees of a hall: the plain lobby, what is kept of the bytes of each client that was ever opened (nothing,
 -- once it is removed), and the record of the events so far
@@ -51,9 +50,9 @@ StandsAfter hall settings accounts events world s =
 abbrev pub TakesStep : Kept → Kept → Step → Type 0
 TakesStep old new s = (settings : Configuration) (accounts : List Account) (events : List Event) (world : World) → Stands old settings accounts events world → StandsAfter new settings accounts events world s
 
--- a whole line, or a spoilt place, is next
+-- it is open, and a whole line or a spoilt place is next
 abbrev pub is_ready : World → ℕ → Bool
-is_ready w c = is_open w c && (is_some (slice_get (frames (input w c).bytes line_limit) (input w c).taken) || is_spoilt (input w c).bytes line_limit)
+is_ready w c = is_open w c && has_next (input w c).bytes (input w c).taken
 
 -- the workers are numbered 0 to 63
 abbrev pub HasHome : Step → Type 0

@@ -1,11 +1,9 @@
 //! One client's bytes, read line by line.
 
-ghost use Rattle.std.specs.Prelude.{◌≡◌, ℕ, ◌+◌, ◌||◌, ◌↔◌, List, [], ◌++◌, IfOk, IsSome, IsTrue, is_some, slice_get, true};
-ghost use Rattle.line_framer.specs.Frames.{frames, is_spoilt};
+ghost use Rattle.std.specs.Prelude.{◌≡◌, ℕ, ◌+◌, ◌↔◌, List, [], ◌++◌, IfOk, IsSome, IsTrue, true};
 ghost use Rattle.line_framer.specs.Feeding.{IsJudged};
 ghost use Rattle.line_framer.specs.Framed.{next_line};
-ghost use Rattle.lobby_model.specs.Schedule.{line_limit};
-ghost use Rattle.lobby_hall.specs.Sessions.{Heard, IsNext};
+ghost use Rattle.lobby_hall.specs.Sessions.{Heard, IsNext, has_next};
 
 use command_grammar::{Request, read_request};
 use line_framer::{FeedError, Framer};
@@ -91,7 +89,7 @@ impl Session {
 
     /// Whether a whole line or a spoilt place is next.
     pub fn is_ready(&self) -> bool
-        ensures { (bytes : List ℕ) (accepted : ℕ) → Heard self.now.framed bytes accepted → result ≡ (is_some (slice_get (frames bytes line_limit) accepted) || is_spoilt bytes line_limit) }
+        ensures { (bytes : List ℕ) (accepted : ℕ) → Heard self.now.framed bytes accepted → result ≡ has_next bytes accepted }
     {
         self.framer.peek().is_some() || self.framer.is_spoilt()
     }

@@ -118,20 +118,37 @@ fn a_line_of_8193_bytes_disconnects(rt: HostRuntime) -> Result<(), Fail> {
     Ok(())
 }
 
+// Which of its three forms the next request has.
+#[derive(Clone, Copy, PartialEq, Eq, Debug)]
+enum Kind {
+    Line,
+    Spoilt,
+    Nothing,
+}
+
+fn next_kind(session: &Session) -> Result<Kind, Fail> {
+    match session.next_request() {
+        Ok(Next::Line(request)) => {
+            request.discard();
+            Ok(Kind::Line)
+        }
+        Ok(Next::Spoilt) => Ok(Kind::Spoilt),
+        Ok(Next::Nothing) => Ok(Kind::Nothing),
+        Err(refused) => Err(Fail::from(refused)),
+    }
+}
+
 #[test]
 fn a_session_gives_lines_up_to_the_spoilt_place(rt: HostRuntime) -> Result<(), Fail> {
     let mut session = Session::new(rt.alloc(), 7);
     assert_eq!(rt; session.client(), 7);
-    assert!(rt; matches!(session.next_request()?, Next::Nothing));
+    assert_eq!(rt; next_kind(&session)?, Kind::Nothing);
     session.feed(b"PING\nPI")?;
     assert!(rt; session.is_ready());
-    match session.next_request()? {
-        Next::Line(request) => request.discard(),
-        _ => return Err(Fail::from("no line")),
-    }
+    assert_eq!(rt; next_kind(&session)?, Kind::Line);
     assert_eq!(rt; session.feed(&[b'N'; 8191]), Err(FeedError::Spoilt));
     assert!(rt; session.has_line());
     session.accept_request();
-    assert!(rt; matches!(session.next_request()?, Next::Spoilt));
+    assert_eq!(rt; next_kind(&session)?, Kind::Spoilt);
     Ok(())
 }
