@@ -5,7 +5,8 @@ use Rattle.std.specs.Borrow.{Bor}
 use Rattle.account_book.specs.Account.{Account}
 use Rattle.account_book.specs.declared.error.AccountsError.{AccountsError}
 use Rattle.account_book.specs.declared.error.AccountsError.TheVariants.{BadField, Memory}
-use Rattle.lobby_play.specs.Words.{PartedAt, LeadsWith, has_byte}
+use Rattle.line_words.specs.Bytes.{has_byte}
+use Rattle.lobby_play.specs.Words.{PartedAt, LeadsWith}
 use Rattle.lobby_play.specs.Accounts.{HasFields, IsRankAndCountry}
 use Rattle.lobby_play.proofs.Parts.{parted_once, never_parted, lacks_digits}
 

@@ -1,11 +1,11 @@
 -- The verb of a line decides which action it says.
 use Rattle.std.proofs.Common.{◌≡◌, ℕ, ◌+◌, ◌*◌, false, List, ◌∷◌, ◌++◌, get_or, Option, Some, None, refl, sym, ap, ◌∙◌, subst, arith, codes}
-use Rattle.line_words.specs.Bytes.{is_text}
+use Rattle.line_words.specs.Bytes.{is_text, has_byte}
 use Rattle.lobby_play.specs.declared.action.Action.{Action}
 use Rattle.lobby_play.specs.declared.action.Action.TheVariants as action
 use Rattle.lobby_play.specs.declared.action.Setting.TheVariants as setting
 use Rattle.lobby_play.specs.declared.action.Order.TheVariants as order
-use Rattle.lobby_play.specs.Words.{Finds, PartedAt, has_byte}
+use Rattle.lobby_play.specs.Words.{Finds, PartedAt}
 use Rattle.lobby_play.proofs.Parts.{parted_once}
 use Rattle.lobby_play.specs.Actions.{Arguments, IsAccount, IsLimit, IsMotd, IsOpen, IsPlain, IsRead, IsSend, Says, verb_of}
 

@@ -3,7 +3,8 @@ use Rattle.std.proofs.Common.{◌≡◌, ℕ, false, cond, nat_eq, List, [], ◌
 use Rattle.std.specs.Prelude.{Option, Some}
 use Rattle.std.specs.List.{onto_first}
 use Rattle.std.specs.Borrow.{Bor}
-use Rattle.lobby_play.specs.Words.{PartedAt, has_byte}
+use Rattle.line_words.specs.Bytes.{has_byte}
+use Rattle.lobby_play.specs.Words.{PartedAt}
 use Rattle.lobby_play.specs.Lines.{lines_of, lines_left}
 use Rattle.lobby_play.proofs.Parts.{first_of_or, second_of_or}
 

@@ -5,7 +5,7 @@ use Rattle.std.proofs.lemmas.Bool.{false≢true, eqb-true}
 use Rattle.std.proofs.lemmas.List.{take_all, get_or-take}
 use Rattle.std.proofs.lemmas.Str.Parse.{digit_at}
 use Rattle.std.proofs.lemmas.Fmt.{decimal_is_IsNumeral}
-use Rattle.lobby_play.specs.Words.{has_byte}
+use Rattle.line_words.specs.Bytes.{has_byte}
 
 pub first_of_or : (a b : Bool) → (a || b) ≡ false → a ≡ false
 first_of_or true b h = h

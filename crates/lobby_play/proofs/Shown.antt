@@ -4,7 +4,8 @@ use Rattle.std.specs.Prelude.{flat_map}
 use Rattle.std.specs.Io.KnownBytes.{Appends}
 use Rattle.std.proofs.KnownBytes.{Appends-trans}
 use Rattle.line_framer.specs.Frames.{Parts, parts, with_byte, lines_in}
-use Rattle.lobby_play.specs.Words.{PartedAt, has_byte}
+use Rattle.line_words.specs.Bytes.{has_byte}
+use Rattle.lobby_play.specs.Words.{PartedAt}
 use Rattle.lobby_play.proofs.Parts.{first_of_or, second_of_or}
 use Rattle.lobby_play.specs.Acts.{labelled}
 

@@ -1,14 +1,11 @@
 -- How a script writes numbers and addresses, and what finds them.
-use Rattle.std.specs.Prelude.{◌≡◌, ℕ, ◌^◌, ◌<◌, Bool, false, ◌==◌, List, [], ◌∷◌, ◌++◌, decimal, Option, Some, IfSome}
-use Rattle.std.specs.List.{list_any}
+use Rattle.std.specs.Prelude.{◌≡◌, ℕ, ◌^◌, ◌<◌, false, List, [], ◌∷◌, ◌++◌, decimal, Option, Some, IfSome}
+use Rattle.line_words.specs.Bytes.{has_byte}
 
 -- the answer is the one value of which P holds, and None where P holds of none
 pub record Finds {X : Type 0} (P : X → Type 0) (answer : Option X) : Type 0 where
   pub sound : IfSome answer P
   pub complete : (x : X) → P x → answer ≡ Some x
-
-abbrev pub has_byte : ℕ → List ℕ → Bool
-has_byte b = list_any (λ x. x == b)
 
 -- front is all before the first such byte, and behind is all after it
 pub record PartedAt (mark : ℕ) (bytes front behind : List ℕ) : Type 0 where

@@ -1,7 +1,8 @@
 //! The words of a script's line: numbers, and addresses.
 
 ghost use Rattle.std.specs.Prelude.{◌≡◌, ◌<◌, ℕ, List, false, IfSome, IsSomeAnd, MatchOption};
-ghost use Rattle.lobby_play.specs.Words.{Finds, IsAddress, IsNumber, LeadsWith, LeadsWithOctet, PartedAt, has_byte};
+ghost use Rattle.line_words.specs.Bytes.{has_byte};
+ghost use Rattle.lobby_play.specs.Words.{Finds, IsAddress, IsNumber, LeadsWith, LeadsWithOctet, PartedAt};
 
 use itoa::Buffer;
 use memchr::memchr;
