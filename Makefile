@@ -1,7 +1,7 @@
 # The recipes of this repository, one line each.
 SCRIPT ?= examples/ping.play
 
-.PHONY: play hash test memory
+.PHONY: play hash test memory programs
 
 play:
 	@(cd crates/lobby_play && rt run) < $(SCRIPT)
@@ -14,3 +14,6 @@ test:
 
 memory:
 	@checks/refused_memory.sh
+
+programs:
+	@checks/programs.sh
