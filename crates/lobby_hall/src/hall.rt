@@ -26,10 +26,10 @@ use std::alloc::{AllocError, Global};
 use std::marker::Model;
 use thiserror::Error;
 
-/// Why a hall did not take a step.
+/// Why a hall was not made, or did not take a step or give its record.
 #[derive(Clone, Copy, PartialEq, Eq, Debug, Error)]
 pub enum HallError {
-    /// Memory was refused, and the hall is as it was before.
+    /// Memory was refused. A hall that is kept is as it was before.
     #[error("no memory")]
     Memory,
 }
@@ -72,7 +72,8 @@ impl Hall {
     ghost use Rattle.std.specs.Io.BufRead.{Rests};
     ghost use Rattle.lobby_hall.specs.contracts.hall.Hall.{the_row};
 
-    /// A hall with an empty lobby, to which one may log in under these accounts.
+    /// A hall with an empty lobby, to which one may log in under these accounts. Fails only where
+    /// memory is refused.
     pub fn new(alloc: Global, settings: Settings, accounts: AccountBook) -> Result<Hall, HallError>
         ensures stands { IfOk result (λ hall. Stands hall settings accounts [] (new_world settings accounts)) }
         ensures schedule { IfOk result (λ hall. StandsFor hall settings accounts []) }
@@ -236,7 +237,7 @@ impl Hall {
         self.lobby.last_client()
     }
 
-    /// The record of the steps so far.
+    /// The record of the steps so far. Fails only where memory is refused, and then nothing changes.
     pub fn record(&mut self) -> Result<&Record, HallError>
         ensures* stays { sem 𝓛 (Rests the_row self.entry (λ hall. hall ≡ self.old)) }
         ensures value { IfOk result (λ logs. logs.now ≡ self.old.record_so_far) }
@@ -245,7 +246,8 @@ impl Hall {
         Ok(&self.logs)
     }
 
-    /// The record of the steps, which the hall gives up.
+    /// The record of the steps, which the hall gives up. Fails only where memory is refused; the
+    /// record is lost then.
     pub fn into_record(mut self) -> Result<Record, HallError>
         ensures { IfOk result (λ logs. logs ≡ self.record_so_far) }
     {
@@ -255,7 +257,7 @@ impl Hall {
 }
 
 /// The record of a whole schedule: a lobby with these settings, to which one may log in under these
-/// accounts, takes its steps in order.
+/// accounts, takes its steps in order. Fails only where memory is refused.
 pub fn run(
     alloc: Global,
     settings: Settings,

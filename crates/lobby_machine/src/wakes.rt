@@ -30,7 +30,7 @@ impl Wakes {
         Wakes { mask: 0 }
     }
 
-    /// One worker.
+    /// One worker, by its number 0 to 63.
     pub fn one(home: u8) -> Wakes
         requires { home < 64 }
         ensures { (other : ℕ) → has_home result other ≡ same_number home other }
@@ -47,7 +47,7 @@ impl Wakes {
         }
     }
 
-    /// Whether a worker is among them.
+    /// Whether a worker, by its number 0 to 63, is among them.
     pub fn has(self, home: u8) -> bool
         requires { home < 64 }
         ensures { result ≡ has_home self home }
