@@ -1,19 +1,25 @@
 # The recipes of this repository, one line each.
 SCRIPT ?= examples/ping.play
 
-.PHONY: play hash test memory programs
+.PHONY: play hash build test check bench memory
 
 play:
-	@(cd crates/lobby_play && rt run) < $(SCRIPT)
+	@checks/run.sh lobby_play < $(SCRIPT)
 
 hash:
-	@cd crates/lobby_main && rt run -- hash
+	@checks/run.sh lobby_main hash
+
+build:
+	@checks/build.sh
 
 test:
-	rt ci
+	rt ci && checks/rows.sh && checks/programs.sh && checks/links.py
+
+check:
+	@cd crates/$(or $(CRATE),$(error give a crate, as make check CRATE=line_words)) && rt check
+
+bench:
+	@for figures in bench/*.sh; do echo "== $$figures"; $$figures || exit 1; done
 
 memory:
 	@checks/refused_memory.sh
-
-programs:
-	@checks/programs.sh

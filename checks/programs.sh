@@ -1,15 +1,17 @@
 #!/usr/bin/env bash
-# Runs both programs with good and bad arguments and inputs, and compares what they print, what they tell on standard
-# error and their exit status; and reads the file of accounts in examples/.
+# Runs both programs, as the gate built them, with good and bad arguments and inputs, and compares what they print, what they
+# tell on standard error and their exit status; and reads the file of accounts in examples/.
 set -euo pipefail
 cd "$(dirname "$0")/.."
-(cd crates/lobby_play && rt run < /dev/null > /dev/null)
-(cd crates/lobby_main && rt run -- hash < /dev/null > /dev/null)
-(cd crates/bench_accounts && rt run > /dev/null)
 play=crates/lobby_play/out/lobby_play
 main=crates/lobby_main/out/lobby_main
+accounts=crates/bench_accounts/out/bench_accounts
+for program in "$play" "$main" "$accounts"; do
+    [ -x "$program" ] || { echo "there is no $program: make test builds it"; exit 1; }
+done
 usage='usage: lobby_main serve SETTINGS ACCOUNTS or lobby_main hash'
-bad=0
+passed=0
+failed=0
 room=$(mktemp -d)
 trap 'rm -rf "$room"' EXIT
 
@@ -22,9 +24,9 @@ expect() {
     local from=$1
     shift
     "$@" < "$from" > "$room/out" 2> "$room/err" || got=$?
-    printf "$output" | cmp -s - "$room/out" && printf "$error" | cmp -s - "$room/err" && [ "$got" -eq "$status" ] && return
+    printf "$output" | cmp -s - "$room/out" && printf "$error" | cmp -s - "$room/err" && [ "$got" -eq "$status" ] && { passed=$((passed + 1)); return; }
     echo "$* < ${input:0:40}: status $got, not $status, or other output"
-    bad=$((bad + 1))
+    failed=$((failed + 1))
 }
 
 expect 0 'X03MO1qnZdYdgyfeuILPmQ==\n' '' 'password\n' "$main" hash
@@ -45,7 +47,11 @@ expect 1 "$greeting" 'line 3: bad step\n' 'open 1 10.0.0.1\nshow 1\nshow 2\nshow
 expect 2 '' 'device fault\n' . "$play"
 expect 2 '' 'script too long\n' "$(printf '\\n%.0s' {1..1048577})" "$play"
 
-accounts=$(crates/bench_accounts/out/bench_accounts examples/accounts.toml 0 2>&1 | head -1)
-[[ $accounts == "3 accounts read in "* ]] || { echo "examples/accounts.toml: $accounts"; bad=$((bad + 1)); }
+said=$("$accounts" examples/accounts.toml 0 2>&1 | head -1)
+case $said in
+    "3 accounts read in "*) passed=$((passed + 1)) ;;
+    *) echo "examples/accounts.toml: $said"; failed=$((failed + 1)) ;;
+esac
 
-[ "$bad" -eq 0 ] && echo "both programs print, tell and end as they should"
+echo "programs: $passed passed, $failed failed"
+[ "$failed" -eq 0 ]

@@ -11,6 +11,3 @@ pub use account::Account;
 pub use book::AccountBook;
 pub use error::{AccountsError, LoginFault};
 pub use password::password_word;
-
-#[cfg(test)]
-mod tests;

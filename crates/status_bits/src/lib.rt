@@ -8,6 +8,3 @@ mod user;
 
 pub use battle::{BattleStatus, merge_battle};
 pub use user::{UserStatus, merge_user};
-
-#[cfg(test)]
-mod tests;

@@ -1,0 +1,68 @@
+# Takes a row apart: for each of its scripts, the files FOLDER/K.script, K.shown, K.error and K.status, K from 1.
+# rows/README.md says what the lines of a row are.
+
+# {N TEXT} written out, and bytes that would not be seen.
+function written(text,    inner, at, times, out) {
+    while (match(text, /\{[0-9]+ [^}]*\}/)) {
+        inner = substr(text, RSTART + 1, RLENGTH - 2)
+        at = index(inner, " ")
+        out = ""
+        for (times = substr(inner, 1, at - 1); times > 0; times--) out = out substr(inner, at + 1)
+        text = substr(text, 1, RSTART - 1) out substr(text, RSTART + RLENGTH)
+    }
+    gsub(/<space>/, " ", text)
+    gsub(/<tab>/, "\t", text)
+    gsub(/<cr>/, "\r", text)
+    return text
+}
+
+function refuse(why) { print FILENAME ":" FNR ": " why > "/dev/stderr"; exit 2 }
+
+# A line of the script, or one that the show above it writes.
+function line(text,    label) {
+    if (text !~ /^[0-9]+> /) {
+        script = script text "\n"
+        last = text
+        return
+    }
+    label = substr(text, 1, index(text, ">") - 1)
+    sub(/<end>$/, "", last)
+    if (last != "show " label) refuse("what is shown stands behind another line than show " label)
+    shown = shown text "\n"
+}
+
+/^# / { next }
+/^! / {
+    if (!match($0, / \(status [0-9]+\)$/)) refuse("an end without its status")
+    error = substr($0, 3, RSTART - 3) "\n"
+    status = substr($0, RSTART + 9, RLENGTH - 10)
+    next
+}
+/^each / { cases[++count] = written(substr($0, 6)); next }
+/^repeat [0-9]+ [0-9]+ / {
+    text = $0
+    sub(/^repeat [0-9]+ [0-9]+ /, "", text)
+    text = written(text)
+    for (number = $2; number <= $3; number++) {
+        each = text
+        gsub(/%/, number, each)
+        line(each)
+    }
+    next
+}
+{ line(written($0)) }
+
+END {
+    sub(/<end>\n$/, "", script)
+    if (count == 0) cases[count = 1] = ""
+    at = index("\n" script, "\n@\n")
+    for (k = 1; k <= count; k++) {
+        name = FOLDER "/" k
+        whole = at ? substr(script, 1, at - 1) cases[k] "\n" substr(script, at + 2) : script
+        printf "%s", whole > (name ".script")
+        printf "%s", shown > (name ".shown")
+        printf "%s", error > (name ".error")
+        printf "%s", status + 0 > (name ".status")
+        close(name ".script"); close(name ".shown"); close(name ".error"); close(name ".status")
+    }
+}

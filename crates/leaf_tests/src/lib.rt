@@ -1,0 +1,19 @@
+//! Tests of the crates below the lobby, by their public calls: values of the protocol, vectors of standards, and each call
+//! that may be refused memory with memory at hand. They stand in a crate of their own, since a crate with tests is proved
+//! twice.
+#![tactic(auto)]
+
+#[cfg(test)]
+mod accounts;
+#[cfg(test)]
+mod frames;
+#[cfg(test)]
+mod replies;
+#[cfg(test)]
+mod requests;
+#[cfg(test)]
+mod settings;
+#[cfg(test)]
+mod status_words;
+#[cfg(test)]
+mod words;
