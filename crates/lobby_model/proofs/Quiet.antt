@@ -117,17 +117,17 @@ shut_removes s c =
     find-values (λ d x. with_batch s.settings.outbox_limit (batch s (event.Shut c) d) x) c (without_number s.clients c)
     ∙ ap (option_map (with_batch s.settings.outbox_limit (batch s (event.Shut c) c))) (at-without nat_cmp nat_cmp_total s.clients c c ∙ ap (λ b. cond (not b) (at_number s.clients c) None) (same_itself c))
 
+to_nobody : (to : Option (List ℕ)) → to_user to [] ≡ []
+to_nobody None = refl
+to_nobody (Some name) = refl
+
+pub unnamed_shut_sends : (s : State) (c : ℕ) → name_of s c ≡ None → (d : ℕ) → batch s (event.Shut c) d ≡ []
+unnamed_shut_sends s c unnamed d =
+    ap (λ me. print_all (if same_number d c then [] else under None (to_user (name_of s d) (departure me)))) unnamed
+    ∙ ap (λ (replies : List Reply). print_all (if same_number d c then [] else under None replies)) (to_nobody (name_of s d))
+    ∙ elim (same_number d c) as (λ b. print_all (if b then [] else []) ≡ []) [ true ↦ refl | false ↦ refl ]
+
 pub next_shut_unnamed : (s : State) (c : ℕ) → name_of s c ≡ None → next s (event.Shut c) ≡ record s { clients = without_number s.clients c }
 next_shut_unnamed s c unnamed =
-    quiet s (event.Shut c) (effect s (event.Shut c)) none
+    quiet s (event.Shut c) (effect s (event.Shut c)) (unnamed_shut_sends s c unnamed)
     ∙ ap (λ me. record s { users = users_left s.users me; clients = without_number s.clients c }) unnamed
-  where
-    nobody : (to : Option (List ℕ)) → to_user to [] ≡ []
-    nobody None = refl
-    nobody (Some name) = refl
-
-    none : (d : ℕ) → batch s (event.Shut c) d ≡ []
-    none d =
-        ap (λ me. print_all (if same_number d c then [] else under None (to_user (name_of s d) (departure me)))) unnamed
-        ∙ ap (λ (replies : List Reply). print_all (if same_number d c then [] else under None replies)) (nobody (name_of s d))
-        ∙ elim (same_number d c) as (λ b. print_all (if b then [] else []) ≡ []) [ true ↦ refl | false ↦ refl ]
