@@ -10,7 +10,8 @@ use Rattle.lobby_model.specs.State.{State, Client, is_live, is_ended, empty_lobb
 use Rattle.lobby_model.specs.Effect.{effect}
 use Rattle.lobby_model.specs.Next.{next, batch, with_batch, has_room_for, put_to, put_by, taken_by}
 use Rattle.lobby_model.specs.History.{after, put_in, taken_in}
-use Rattle.lobby_model.proofs.Origins.{LetIn, Stayed, delivered_at, given_is, last_given, nothing_taken, origin, rises, undelivered}
+use Rattle.lobby_model.proofs.Delivered.{delivered_at}
+use Rattle.lobby_model.proofs.Origins.{LetIn, Stayed, given_is, last_given, nothing_taken, origin, rises, undelivered}
 
 -- so many bytes were taken and put for client c up to the state s
 pub record Balanced (s : State) (c : ℕ) (taken put : List ℕ) : Type 0 where

@@ -14,8 +14,8 @@ use Rattle.lobby_model.specs.Next.{next, batch, with_batch}
 use Rattle.lobby_model.specs.History.{after}
 use Rattle.lobby_model.specs.Laws.{number_given}
 use Rattle.lobby_model.proofs.Tables.{at-put}
-use Rattle.lobby_model.proofs.Delivered.{same_itself}
-use Rattle.lobby_model.proofs.Origins.{delivered_at, given_is, last_given, origin, rises, undelivered}
+use Rattle.lobby_model.proofs.Delivered.{delivered_at, same_itself}
+use Rattle.lobby_model.proofs.Origins.{given_is, last_given, origin, rises, undelivered}
 
 rises_after : (s : State) (history : List Event) → s.last_client ≤ (after s history).last_client
 rises_after s [] = omega arith

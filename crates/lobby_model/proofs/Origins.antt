@@ -23,7 +23,7 @@ use Rattle.lobby_model.specs.Effect.{effect, has_place, greeted, opened, log_in,
 use Rattle.lobby_model.specs.Next.{next, batch, with_batch, taken_from, taken_by}
 use Rattle.lobby_model.specs.Laws.{number_given}
 use Rattle.lobby_model.proofs.Tables.{at-put, at-without}
-use Rattle.lobby_model.proofs.Delivered.{same_number_is, find-values}
+use Rattle.lobby_model.proofs.Delivered.{same_number_is, delivered_at}
 use Rattle.lobby_model.proofs.Splits.{same_either_way}
 
 -- A command gives no number, and of the clients it changes at most the phase of its issuer d
@@ -155,10 +155,6 @@ nothing_taken s (event.Drain d n) c none =
       | false ↦ λ t. refl
     ] refl
 nothing_taken s e c none = refl
-
--- delivery adds and removes no client
-pub delivered_at : (s : State) (e : Event) (c : ℕ) → at_number (next s e).clients c ≡ option_map (with_batch s.settings.outbox_limit (batch s e c)) (at_number (effect s e).clients c)
-delivered_at s e c = find-values (λ d x. with_batch s.settings.outbox_limit (batch s e d) x) c (effect s e).clients
 
 some_of : {A B : Type 0} (f : A → B) (o : Option A) (y : B) → option_map f o ≡ Some y → (x : A) × (o ≡ Some x) × (f x ≡ y)
 some_of f None y e = absurd (cc)
