@@ -8,8 +8,10 @@ use Rattle.std.specs.Cmp.{nat_cmp_total, tied_itself}
 use Rattle.std.specs.FinMap.Entries.{is_sorted, find-put, is_sorted-put, same_entries}
 use Rattle.lobby_model.proofs.Tables.{Equal_of, is_sorted-map_values, at-map_values_keyed}
 use Rattle.lobby_model.specs.Table.{ByNumber, at_number, put_number, map_values, same_number}
-use Rattle.lobby_model.specs.State.{Client, is_live}
-use Rattle.lobby_model.specs.Next.{with_batch, has_room_for}
+use Rattle.lobby_model.specs.declared.event.Event.{Event}
+use Rattle.lobby_model.specs.State.{State, Client, is_live}
+use Rattle.lobby_model.specs.Effect.{effect}
+use Rattle.lobby_model.specs.Next.{next, batch, with_batch, has_room_for}
 
 pub with_batch_nil : (limit : ℕ) (client : Client) → with_batch limit [] client ≡ client
 with_batch_nil limit client =
@@ -33,6 +35,10 @@ is_sorted-values f m h = is_sorted-map_values nat_cmp f m h
 
 pub find-values : {X Y : Type 0} (f : ℕ → X → Y) (q : ℕ) (m : ByNumber X) → at_number (map_values f m) q ≡ option_map (f q) (at_number m q)
 find-values f q m = at-map_values_keyed nat_cmp nat_cmp-IsAntisymmetric f m q
+
+-- a delivery adds and removes no client
+pub delivered_at : (s : State) (e : Event) (c : ℕ) → at_number (next s e).clients c ≡ option_map (with_batch s.settings.outbox_limit (batch s e c)) (at_number (effect s e).clients c)
+delivered_at s e c = find-values (λ d x. with_batch s.settings.outbox_limit (batch s e d) x) c (effect s e).clients
 
 pub map_values_one : {X : Type 0} (f : ℕ → X → X) (m : ByNumber X) (k : ℕ) (x : X) → T (is_sorted nat_cmp m) → at_number m k ≡ Some x → ((d : ℕ) (y : X) → same_number d k ≡ false → f d y ≡ y)
     → map_values f m ≡ put_number m k (f k x)

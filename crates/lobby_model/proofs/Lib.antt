@@ -3,6 +3,7 @@ pub mod Tables
 pub mod Delivered
 pub mod Splits
 pub mod Written
+pub mod Origins
 pub mod Balance
 pub mod Quiet
 pub mod Fixture
@@ -11,3 +12,6 @@ pub mod LoginExamples
 pub mod Scheduled
 pub mod Users
 pub mod Refused
+pub mod Void
+pub mod Silent
+pub mod Numbers

@@ -18,7 +18,7 @@ use Rattle.lobby_model.specs.Refusal.{refusal}
 use Rattle.lobby_model.specs.Sent.{greeting, said, departure, to_user, under}
 use Rattle.lobby_model.specs.Next.{next, batch, delivered, with_batch, has_room_for, is_empty}
 use Rattle.lobby_model.specs.Touched.{is_touched, touches}
-use Rattle.lobby_model.proofs.Delivered.{with_batch_nil, map_values_none, map_values_one, put_put, same_itself, find-values}
+use Rattle.lobby_model.proofs.Delivered.{with_batch_nil, map_values_none, map_values_one, put_put, same_itself, delivered_at}
 use Rattle.lobby_model.proofs.Tables.{at-without}
 
 pub quiet : (s : State) (e : Event) (t : State) → ((d : ℕ) → batch s e d ≡ []) → delivered s e t ≡ t
@@ -114,20 +114,20 @@ effect_obeyed s c request heard allowed =
 -- a client that is shut is gone; where it was not logged in, nothing else happens
 pub shut_removes : (s : State) (c : ℕ) → at_number (next s (event.Shut c)).clients c ≡ None
 shut_removes s c =
-    find-values (λ d x. with_batch s.settings.outbox_limit (batch s (event.Shut c) d) x) c (without_number s.clients c)
+    delivered_at s (event.Shut c) c
     ∙ ap (option_map (with_batch s.settings.outbox_limit (batch s (event.Shut c) c))) (at-without nat_cmp nat_cmp_total s.clients c c ∙ ap (λ b. cond (not b) (at_number s.clients c) None) (same_itself c))
+
+to_nobody : (to : Option (List ℕ)) → to_user to [] ≡ []
+to_nobody None = refl
+to_nobody (Some name) = refl
+
+pub unnamed_shut_sends : (s : State) (c : ℕ) → name_of s c ≡ None → (d : ℕ) → batch s (event.Shut c) d ≡ []
+unnamed_shut_sends s c unnamed d =
+    ap (λ me. print_all (if same_number d c then [] else under None (to_user (name_of s d) (departure me)))) unnamed
+    ∙ ap (λ (replies : List Reply). print_all (if same_number d c then [] else under None replies)) (to_nobody (name_of s d))
+    ∙ elim (same_number d c) as (λ b. print_all (if b then [] else []) ≡ []) [ true ↦ refl | false ↦ refl ]
 
 pub next_shut_unnamed : (s : State) (c : ℕ) → name_of s c ≡ None → next s (event.Shut c) ≡ record s { clients = without_number s.clients c }
 next_shut_unnamed s c unnamed =
-    quiet s (event.Shut c) (effect s (event.Shut c)) none
+    quiet s (event.Shut c) (effect s (event.Shut c)) (unnamed_shut_sends s c unnamed)
     ∙ ap (λ me. record s { users = users_left s.users me; clients = without_number s.clients c }) unnamed
-  where
-    nobody : (to : Option (List ℕ)) → to_user to [] ≡ []
-    nobody None = refl
-    nobody (Some name) = refl
-
-    none : (d : ℕ) → batch s (event.Shut c) d ≡ []
-    none d =
-        ap (λ me. print_all (if same_number d c then [] else under None (to_user (name_of s d) (departure me)))) unnamed
-        ∙ ap (λ (replies : List Reply). print_all (if same_number d c then [] else under None replies)) (nobody (name_of s d))
-        ∙ elim (same_number d c) as (λ b. print_all (if b then [] else []) ≡ []) [ true ↦ refl | false ↦ refl ]

@@ -28,7 +28,7 @@ use Rattle.lobby_model.specs.Next.{next, batch, with_batch, has_room_for}
 use Rattle.lobby_model.specs.History.{after}
 use Rattle.lobby_model.specs.Laws.{OneForEach}
 use Rattle.lobby_model.proofs.Tables.{at-put, at-without, name_cmp_total, same_name_is, same_name_itself}
-use Rattle.lobby_model.proofs.Delivered.{same_number_is, same_itself, find-values}
+use Rattle.lobby_model.proofs.Delivered.{same_number_is, same_itself, delivered_at}
 use Rattle.lobby_model.proofs.Splits.{same_either_way}
 use Rattle.lobby_model.proofs.Balance.{Balanced, balanced_next, at_start}
 
@@ -238,7 +238,7 @@ phase_kept limit bytes x =
 -- the names of clients are those of the maps before lines are put
 pub names_kept : (s : State) (e : Event) (c : ℕ) → name_of (next s e) c ≡ name_of (effect s e) c
 names_kept s e c =
-    ap name_of_client (find-values (λ d x. with_batch s.settings.outbox_limit (batch s e d) x) c (effect s e).clients)
+    ap name_of_client (delivered_at s e c)
     ∙ elim (at_number (effect s e).clients c) as (λ o. name_of_client (option_map (with_batch s.settings.outbox_limit (batch s e c)) o) ≡ name_of_client o) [
       | None ↦ refl
       | Some x ↦ ap name_in (phase_kept s.settings.outbox_limit (batch s e c) x)

@@ -1,6 +1,7 @@
 //! Laws of the plain lobby. Each function takes nothing and does nothing: its contract is the law.
 
-ghost use Rattle.std.specs.Prelude.{◌≡◌, ℕ, List, ◌++◌, Some, false};
+ghost use Rattle.std.specs.Prelude.{◌≡◌, ◌≤◌, ◌<◌, ◌⊎◌, ℕ, List, [], ◌∷◌, ◌++◌, Some, None, IsSome, true, false};
+ghost use Rattle.std.specs.Option.{unwrap_or};
 ghost use Rattle.account_book.specs.Account.{Account};
 ghost use Rattle.command_grammar.specs.declared.command.Request.{Request};
 ghost use Rattle.reply_grammar.specs.declared.Reply.{Reply};
@@ -12,10 +13,10 @@ ghost use Rattle.lobby_model.specs.Configuration.{Configuration};
 ghost use Rattle.lobby_model.specs.State.{State, Client, empty_lobby};
 ghost use Rattle.lobby_model.specs.Refusal.{refusal};
 ghost use Rattle.lobby_model.specs.Effect.{effect};
-ghost use Rattle.lobby_model.specs.Next.{next};
+ghost use Rattle.lobby_model.specs.Next.{next, put_by, taken_by};
 ghost use Rattle.lobby_model.specs.History.{after, put_in, taken_in};
 ghost use Rattle.lobby_model.specs.Schedule.{World, Gives};
-ghost use Rattle.lobby_model.specs.Laws.{OneForEach, without_bytes};
+ghost use Rattle.lobby_model.specs.Laws.{IsVoid, OneForEach, number_given, without_bytes};
 
 /// No byte is lost or made: for a client that is neither cut nor removed, what its drains took,
 /// followed by what it has not read, is all that was put to it.
@@ -51,4 +52,43 @@ pub fn refused_command_changes_no_map()
 pub fn one_client_for_each_user()
     ensures { (settings : Configuration) (accounts : List Account) (history : List Event)
         → OneForEach (after (empty_lobby settings accounts) history) }
+{}
+
+/// A void event, that of a client that is not there or an open that is refused, does nothing: the
+/// state stays as it is, no client gets a byte, and none is taken.
+pub fn void_event_does_nothing()
+    ensures state { (s : State) (e : Event) → IsVoid s e → next s e ≡ s }
+    ensures put { (s : State) (e : Event) → IsVoid s e → (c : ℕ) → put_by s e c ≡ [] }
+    ensures taken { (s : State) (e : Event) → IsVoid s e → (c : ℕ) → taken_by s e c ≡ [] }
+{}
+
+/// A client that is cut has nothing to read, gets nothing more, and stays cut for as long as it is
+/// there.
+pub fn cut_client_gets_nothing()
+    ensures unread { (settings : Configuration) (accounts : List Account) (history : List Event) (c : ℕ) (client : Client)
+        → at_number (after (empty_lobby settings accounts) history).clients c ≡ Some client → client.cut ≡ true
+        → client.unread ≡ [] }
+    ensures put { (settings : Configuration) (accounts : List Account) (history later : List Event) (c : ℕ) (client : Client)
+        → at_number (after (empty_lobby settings accounts) history).clients c ≡ Some client → client.cut ≡ true
+        → put_in (after (empty_lobby settings accounts) history) later c ≡ [] }
+    ensures stays { (settings : Configuration) (accounts : List Account) (history later : List Event) (c : ℕ) (client end : Client)
+        → at_number (after (empty_lobby settings accounts) history).clients c ≡ Some client → client.cut ≡ true
+        → at_number (after (after (empty_lobby settings accounts) history) later).clients c ≡ Some end → end.cut ≡ true }
+{}
+
+/// No client number is given twice: one that is given later is greater. A number comes with a
+/// client, and no client has one that was not given: numbers are 1 to the last one given. Once its
+/// client is gone a number has no client again.
+pub fn no_number_is_given_twice()
+    ensures later { (s : State) (first : Event) (between : List Event) (second : Event) (n m : ℕ)
+        → number_given s first ≡ Some n → number_given (after s (first ∷ between)) second ≡ Some m → n < m }
+    ensures last { (s : State) (e : Event) → (next s e).last_client ≡ unwrap_or (number_given s e) s.last_client }
+    ensures client { (s : State) (e : Event) (n : ℕ) → number_given s e ≡ Some n → IsSome (at_number (next s e).clients n) }
+    ensures given { (s : State) (e : Event) (c : ℕ)
+        → IsSome (at_number (next s e).clients c) → IsSome (at_number s.clients c) ⊎ (number_given s e ≡ Some c) }
+    ensures numbers { (settings : Configuration) (accounts : List Account) (history : List Event) (c : ℕ) (client : Client)
+        → at_number (after (empty_lobby settings accounts) history).clients c ≡ Some client
+        → (0 < c) × (c ≤ (after (empty_lobby settings accounts) history).last_client) }
+    ensures gone { (s : State) (history : List Event) (c : ℕ)
+        → c ≤ s.last_client → at_number s.clients c ≡ None → at_number (after s history).clients c ≡ None }
 {}

@@ -1,0 +1,51 @@
+-- A void event does nothing.
+use Rattle.std.proofs.Common.{◌≡◌, ℕ, ◌+◌, List, [], ◌∷◌, refl, ap, ◌∙◌, true, false}
+use Rattle.std.specs.Prelude.{Option, Some, None, ◌&&◌, if◌then◌else◌}
+use Rattle.std.specs.Ordering.{nat_cmp}
+use Rattle.reply_grammar.specs.Replies.{print_all}
+use Rattle.lobby_model.specs.declared.event.Event.{Event}
+use Rattle.lobby_model.specs.declared.event.Event.TheVariants as event
+use Rattle.lobby_model.specs.Table.{at_number, same_number}
+use Rattle.lobby_model.specs.State.{State, Client, is_live, is_live_client, hears, name_of, name_of_client}
+use Rattle.lobby_model.specs.Effect.{effect, opened, users_left, drained_at}
+use Rattle.lobby_model.specs.Sent.{greeting}
+use Rattle.lobby_model.specs.Next.{next, batch, has_room_for, put_by, put_to, taken_by, taken_from}
+use Rattle.lobby_model.specs.Laws.{IsVoid}
+use Rattle.lobby_model.proofs.Tables.{without_absent}
+use Rattle.lobby_model.proofs.Quiet.{quiet, effect_unheard, unheard_sends, unnamed_shut_sends}
+
+unheard : (s : State) (c : ℕ) → at_number s.clients c ≡ None → hears s c ≡ false
+unheard s c none = ap is_live_client none
+
+unnamed : (s : State) (c : ℕ) → at_number s.clients c ≡ None → name_of s c ≡ None
+unnamed s c none = ap name_of_client none
+
+same_effect : (s : State) (e : Event) → IsVoid s e → effect s e ≡ s
+same_effect s (event.Open ip home) full = ap (λ b. if b then opened s ip home else s) full
+same_effect s (event.Say c request) none = effect_unheard s c request (unheard s c none)
+same_effect s (event.Shut c) none = λ i. record s { users = users_left s.users (unnamed s c none i); clients = without_absent nat_cmp s.clients c none i }
+same_effect s (event.Drain c n) none = ap (λ o. record s { clients = drained_at s.clients c n o }) none
+
+sends_nothing : (s : State) (e : Event) → IsVoid s e → (d : ℕ) → batch s e d ≡ []
+sends_nothing s (event.Open ip home) full d = ap (λ b. print_all (if b && same_number d (s.last_client + 1) then (None, greeting s.settings) ∷ [] else [])) full
+sends_nothing s (event.Say c request) none d = unheard_sends s c request d (unheard s c none)
+sends_nothing s (event.Shut c) none d = unnamed_shut_sends s c (unnamed s c none) d
+sends_nothing s (event.Drain c n) none d = refl
+
+pub same_state : (s : State) (e : Event) → IsVoid s e → next s e ≡ s
+same_state s e void = quiet s e (effect s e) (sends_nothing s e void) ∙ same_effect s e void
+
+nothing_of_nothing : (limit : ℕ) (o : Option Client) → put_to limit [] o ≡ []
+nothing_of_nothing limit None = refl
+nothing_of_nothing limit (Some x) = elim (is_live x) as (λ l. ◌≡◌ {A = List ℕ} (if l && has_room_for limit x [] then [] else []) []) [ true ↦ refl | false ↦ refl ]
+
+pub puts_nothing : (s : State) (e : Event) → IsVoid s e → (c : ℕ) → put_by s e c ≡ []
+puts_nothing s e void c =
+    ap (λ bytes. put_to s.settings.outbox_limit bytes (at_number (effect s e).clients c)) (sends_nothing s e void c)
+    ∙ nothing_of_nothing s.settings.outbox_limit (at_number (effect s e).clients c)
+
+pub takes_nothing : (s : State) (e : Event) → IsVoid s e → (c : ℕ) → taken_by s e c ≡ []
+takes_nothing s (event.Drain d n) none c =
+    ap (λ o. if same_number d c then taken_from n o else []) none
+    ∙ elim (same_number d c) as (λ b. ◌≡◌ {A = List ℕ} (if b then [] else []) []) [ true ↦ refl | false ↦ refl ]
+takes_nothing s e void c = refl
