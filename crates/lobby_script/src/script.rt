@@ -16,8 +16,9 @@ use std::io::{Read, Write};
 /// what it shows. `BadStep` tells the first line that a script may not have there, and the lines
 /// before it have played. A script of more than 1,048,576 bytes is `TooLong`, and a read that
 /// fails, or an end that does not come within 1,048,577 reads, is `Device`: both come before
-/// anything is written. A write that fails is `Device` too, and what stands written then is open.
-/// Where memory is refused, what is written is the output of the script's first lines.
+/// anything is written, so nothing of a script that is too long is ever played. A write that fails
+/// is `Device` too, and what stands written then is open. Where memory is refused, what is written
+/// is the output of the script's first lines.
 pub fn play<R: Read, W: Write>(
     alloc: Global,
     reader: &mut R,
@@ -29,6 +30,8 @@ pub fn play<R: Read, W: Write>(
     ensures too_long { result ≡ Err fault.TooLong → IfSome (R.remaining reader.old) (λ script. SCRIPT_LIMIT < length script) × Keeps (W.contents writer.old) (W.contents writer.new) }
     ensures memory { result ≡ Err fault.Memory → IfSome (R.remaining reader.old) (λ script. (out : List ℕ) × OutputOfFront script out × Appends (W.contents writer.old) (W.contents writer.new) out) }
     ensures fits { OnOk result (IfSome (R.remaining reader.old) (λ script. length script ≤ SCRIPT_LIMIT)) }
+    ensures bad_step_fits { (line : ℕ) → result ≡ Err (fault.BadStep line) → IfSome (R.remaining reader.old) (λ script. length script ≤ SCRIPT_LIMIT) }
+    ensures nothing_of_too_long { IfSome (R.remaining reader.old) (λ script. SCRIPT_LIMIT < length script → Keeps (W.contents writer.old) (W.contents writer.new)) }
 {
     let script = read_script(alloc, reader)?;
     let played = play_script(alloc, script.as_slice(), writer);
