@@ -2,22 +2,7 @@
 //! was sent. The script comes on standard input, and what it shows goes to standard output.
 #![tactic(auto)]
 
-mod accounts;
-mod action;
-mod escapes;
-mod fault;
-mod input;
-mod label;
-mod lines;
-mod orders;
-mod play;
-mod player;
-mod setup;
-mod show;
-mod words;
-
-use crate::fault::PlayFault;
-use crate::play::play;
+use lobby_script::{PlayFault, play};
 use std::io;
 use std::io::BufWriter;
 use std::process::ExitCode;
@@ -41,6 +26,3 @@ fn run<R: Input + Print + Eprint + AllocGlobal>(rt: &R) -> u8 {
 fn main(rt: HostRuntime) -> ExitCode {
     ExitCode::from(run(&rt))
 }
-
-#[cfg(test)]
-mod tests;

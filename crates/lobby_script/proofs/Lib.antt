@@ -1,0 +1,14 @@
+mod Parts
+mod Numbers
+mod EscapeLemmas
+mod AccountLemmas
+mod ActionLemmas
+mod Opened
+mod Takings
+mod Shown
+mod Performs
+mod LinesPlay
+mod LineSplits
+mod OneWriting
+mod OneAction
+mod OneCourse

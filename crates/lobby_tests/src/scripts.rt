@@ -1,0 +1,160 @@
+//! Scripts whose reader or writer fails, and scripts of the largest size.
+
+use lobby_script::{MOST_READS, PlayFault, SCRIPT_LIMIT, play};
+use std::io;
+use std::io::{Error, ErrorKind, Read, Write};
+use std::test::Fail;
+
+const SCRIPT: &[u8] = b"open 1 10.0.0.1\nshow 1\n";
+
+/// What the script shows.
+const SHOWN: &[u8] = b"1> TASSERVER 0.38 * 8201 0\n";
+
+/// The script and a line that is a bad step.
+const SPOILT: &[u8] = b"open 1 10.0.0.1\nshow 1\nx\n";
+
+/// How many reads may be interrupted where the script comes a byte at a time, and one read more
+/// finds its end.
+const SPARE_READS: u32 = MOST_READS - SCRIPT.len() as u32 - 1;
+
+/// Gives a script a byte at a time. Behind the first byte so many reads are interrupted, and the
+/// last read may fail.
+#[derive(Drop)]
+struct Faulty<'a> {
+    rest: &'a [u8],
+    interruptions: u32,
+    end: Option<ErrorKind>,
+}
+
+impl Read for Faulty<'_> {
+    fn read(&mut self, buf: &mut [u8]) -> io::Result<usize> {
+        if self.interruptions > 0 && self.rest.len() < SCRIPT.len() {
+            self.interruptions -= 1;
+            return Err(Error::from(ErrorKind::Interrupted));
+        }
+        let Some((first, rest)) = self.rest.split_first() else {
+            return match self.end {
+                Some(kind) => Err(Error::from(kind)),
+                None => Ok(0),
+            };
+        };
+        if buf.is_empty() {
+            return Ok(0);
+        }
+        buf[0] = *first;
+        self.rest = rest;
+        Ok(1)
+    }
+}
+
+/// Takes so many writes, and then fails.
+#[derive(Drop)]
+struct Full {
+    writes: usize,
+    flushes: bool,
+}
+
+impl Write for Full {
+    fn write(&mut self, buf: &[u8]) -> io::Result<usize> {
+        if self.writes == 0 {
+            return Err(Error::from(ErrorKind::Other));
+        }
+        self.writes -= 1;
+        Ok(buf.len())
+    }
+
+    fn flush(&mut self) -> io::Result<()> {
+        if self.flushes {
+            Ok(())
+        } else {
+            Err(Error::from(ErrorKind::Other))
+        }
+    }
+}
+
+/// How many reads are interrupted, how the last one fails, and what comes of it.
+type Reading = (u32, Option<ErrorKind>, Result<(), PlayFault>, &'static [u8]);
+
+const READINGS: [Reading; 4] = [
+    (1, None, Ok(()), SHOWN),
+    (1, Some(ErrorKind::Other), Err(PlayFault::Device), b""),
+    (SPARE_READS, None, Ok(()), SHOWN),
+    (SPARE_READS + 1, None, Err(PlayFault::Device), b""),
+];
+
+#[test]
+fn interrupted_and_failed_reads(rt: HostRuntime) {
+    for (interruptions, end, told, output) in READINGS {
+        let mut reader = Faulty {
+            rest: SCRIPT,
+            interruptions,
+            end,
+        };
+        let mut writer = Vec::new(rt.alloc());
+        let played = play(rt.alloc(), &mut reader, &mut writer);
+        assert!(&rt; played == told, "{interruptions}");
+        assert!(&rt; writer.as_slice() == output, "{interruptions}");
+    }
+}
+
+#[test]
+fn failed_writes(rt: HostRuntime) {
+    for writes in 0..6 {
+        for flushes in [false, true] {
+            let mut reader = SCRIPT;
+            let mut writer = Full { writes, flushes };
+            let played = play(rt.alloc(), &mut reader, &mut writer);
+            let told = if writes >= 4 && flushes {
+                Ok(())
+            } else {
+                Err(PlayFault::Device)
+            };
+            assert!(&rt; played == told, "{writes}");
+        }
+    }
+}
+
+/// What a script begins with, how many bytes it has with the empty lines behind that, and what
+/// comes of it. One that is too long shows nothing, though a bad step stands in it.
+type Size = (&'static [u8], usize, Result<(), PlayFault>, &'static [u8]);
+
+const SIZES: [Size; 6] = [
+    (b"", SCRIPT_LIMIT, Ok(()), b""),
+    (b"", SCRIPT_LIMIT + 1, Err(PlayFault::TooLong), b""),
+    (b"x\n", SCRIPT_LIMIT, Err(PlayFault::BadStep(1)), b""),
+    (b"x\n", SCRIPT_LIMIT + 1, Err(PlayFault::TooLong), b""),
+    (SPOILT, SCRIPT_LIMIT, Err(PlayFault::BadStep(3)), SHOWN),
+    (SPOILT, SCRIPT_LIMIT + 1, Err(PlayFault::TooLong), b""),
+];
+
+#[test]
+fn largest_scripts(rt: HostRuntime) -> Result<(), Fail> {
+    for (front, size, told, output) in SIZES {
+        let mut script = Vec::new(rt.alloc());
+        script.extend_from_slice(front)?;
+        script.resize(size, b'\n')?;
+        let mut reader = script.as_slice();
+        let mut writer = Vec::new(rt.alloc());
+        let played = play(rt.alloc(), &mut reader, &mut writer);
+        assert!(&rt; played == told, "{size}");
+        assert!(&rt; writer.as_slice() == output, "{size}");
+    }
+    Ok(())
+}
+
+/// What is told of each fault, and the exit status.
+const FAULTS: [(PlayFault, &str, u8); 4] = [
+    (PlayFault::BadStep(3), "line 3: bad step", 1),
+    (PlayFault::Device, "device fault", 2),
+    (PlayFault::TooLong, "script too long", 2),
+    (PlayFault::Memory, "no memory", 4),
+];
+
+#[test]
+fn each_fault_has_its_text_and_status(rt: HostRuntime) -> Result<(), Fail> {
+    for (fault, text, status) in FAULTS {
+        assert_eq!(rt; format!(in rt.alloc(); "{fault}")?.as_str(), text);
+        assert_eq!(rt; fault.status(), status);
+    }
+    Ok(())
+}
