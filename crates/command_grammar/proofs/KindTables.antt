@@ -20,7 +20,7 @@ form_keeps (Some word.Exit) rest h = made_keeps refl
 form_keeps (Some word.Login) rest h = Word-keeps (λ user_name a. Word-keeps (λ password b. Wide-keeps (λ cpu c. Word-keeps (λ local_ip d. Sentences-keeps (Sentence-keeps (λ lobby e more t. made_keeps (both (both (both (both a b) c) d) e))))))) rest h
 form_keeps (Some word.MyStatus) rest h = Natural-keeps (λ status a end t. made_keeps a) rest h
 form_keeps (Some word.Channels) rest h = made_keeps refl
-form_keeps (Some word.Join) rest h = Name-keeps (λ channel a. Optional-keeps {K = λ key end c. c ≡ command.Join channel} (λ key is_key end t. made_keeps a)) rest h
+form_keeps (Some word.Join) rest h = Name-keeps (λ channel a. Optional-keeps {K = λ key end c. c ≡ command.Join channel key} (λ key b end t. made_keeps (both a b))) rest h
 form_keeps (Some word.Leave) rest h = Name-keeps (λ channel a end t. made_keeps a) rest h
 form_keeps (Some word.Say) rest h = Name-keeps (λ channel a. Text-keeps (λ text b. made_keeps (both a b))) rest h
 form_keeps (Some word.SayEx) rest h = Name-keeps (λ channel a. Text-keeps (λ text b. made_keeps (both a b))) rest h

@@ -19,7 +19,7 @@ form_fits (Some word.Exit) rest = made_fits (omega arith)
 form_fits (Some word.Login) rest = Word-fits (λ user_name. Word-fits (λ password. Wide-fits (λ cpu. Word-fits (λ local_ip. Sentences-fits (Sentence-fits (λ lobby more. made_fits (omega arith))))))) rest
 form_fits (Some word.MyStatus) rest = Natural-fits (λ status end. made_fits (omega arith)) rest
 form_fits (Some word.Channels) rest = made_fits (omega arith)
-form_fits (Some word.Join) rest = Name-fits (λ channel. Optional-fits {K = λ key end c. c ≡ command.Join channel} (λ key end. made_fits (omega arith))) rest
+form_fits (Some word.Join) rest = Name-fits (λ channel. Optional-fits {K = λ key end c. c ≡ command.Join channel key} (λ key end. made_fits (omega arith))) rest
 form_fits (Some word.Leave) rest = Name-fits (λ channel end. made_fits (omega arith)) rest
 form_fits (Some word.Say) rest = Name-fits (λ channel. Text-fits (λ text. made_fits (omega arith))) rest
 form_fits (Some word.SayEx) rest = Name-fits (λ channel. Text-fits (λ text. made_fits (omega arith))) rest

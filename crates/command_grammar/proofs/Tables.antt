@@ -5,11 +5,12 @@ use Rattle.line_words.specs.Words.{EndsWord}
 use Rattle.command_grammar.specs.declared.command_word.CommandWord.{CommandWord}
 use Rattle.command_grammar.specs.declared.command_word.CommandWord.TheVariants as word
 use Rattle.command_grammar.specs.Forms.{Form}
-use Rattle.command_grammar.specs.Reading.{known_at}
+use Rattle.command_grammar.specs.Reading.{known_at, named_battle}
 use Rattle.command_grammar.proofs.Settles.{Settles, made, fault_made, Word-settles, Optional-settles, Name-settles, Natural-settles, Wide-settles, Flag-settles}
 use Rattle.command_grammar.proofs.Sequences.{Text-settles, Sentences-settles, Sentence-settles, Pairs-settles, Words-settles}
 
 pub form_settles : (o : Option CommandWord) (rest : List ℕ) → EndsWord rest → Settles (Form o rest) (known_at o rest)
+unfolding named_battle
 form_settles None rest e = fault_made
 form_settles (Some word.Ping) rest e = made
 form_settles (Some word.Exit) rest e = made

@@ -96,7 +96,7 @@ Form (Some word.Login) rest c =
     c ≡ command.Login user_name password cpu local_ip lobby)))))) rest c
 Form (Some word.MyStatus) rest c = Natural 4294967295 (λ status end c. c ≡ command.MyStatus status) rest c
 Form (Some word.Channels) rest c = c ≡ command.Channels
-Form (Some word.Join) rest c = Name (λ channel. OptionalWord (λ key end c. c ≡ command.Join channel)) rest c
+Form (Some word.Join) rest c = Name (λ channel. OptionalWord (λ key end c. c ≡ command.Join channel key)) rest c
 Form (Some word.Leave) rest c = Name (λ channel end c. c ≡ command.Leave channel) rest c
 Form (Some word.Say) rest c = Name (λ channel. Text (λ text c. c ≡ command.Say channel text)) rest c
 Form (Some word.SayEx) rest c = Name (λ channel. Text (λ text c. c ≡ command.SayEx channel text)) rest c

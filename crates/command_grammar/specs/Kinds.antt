@@ -14,11 +14,17 @@ is_up_to high n = nat_le n high
 abbrev pub are_some : {A : Type 0} → (A → Bool) → List A → Bool
 are_some test xs = nat_le 1 (length xs) && list_all test xs
 
--- each argument is of its kind
+-- each argument is of its kind; each command is named, so that none is forgotten
 abbrev pub keeps_kinds : Command → Bool
+keeps_kinds command.Blank = true
+keeps_kinds (command.Unread fault) = true
 keeps_kinds (command.Login user_name password cpu local_ip lobby) = is_word user_name && is_word password && is_wide cpu && is_word local_ip && is_sentence lobby
+keeps_kinds command.Ping = true
+keeps_kinds command.Channels = true
+keeps_kinds command.LeaveBattle = true
+keeps_kinds command.Exit = true
 keeps_kinds (command.MyStatus status) = is_up_to 4294967295 status
-keeps_kinds (command.Join channel) = is_name channel
+keeps_kinds (command.Join channel key) = is_name channel && is_some_word key
 keeps_kinds (command.Leave channel) = is_name channel
 keeps_kinds (command.Say channel text) = is_name channel && is_text text
 keeps_kinds (command.SayEx channel text) = is_name channel && is_text text
@@ -45,4 +51,3 @@ keeps_kinds (command.ForceTeamColor user team_color) = is_name user && is_wide t
 keeps_kinds (command.ForceSpectatorMode user) = is_name user
 keeps_kinds (command.KickFromBattle user) = is_name user
 keeps_kinds (command.Ring user) = is_name user
-keeps_kinds _ = true

@@ -204,6 +204,17 @@ words_in rest = without_empty (between 32 rest)
 unfoldable pub words_at : List ℕ → Result (List (List ℕ)) ReadFault
 words_at rest = if has_byte 9 rest then Err fault.BadByte else at_least_one (words_in rest)
 
+-- the battle of these arguments, and of the sentences of the rest
+unfoldable pub named_battle : ℕ → ℕ → List ℕ → ℕ → ℕ → ℤ → ℤ → ℤ → List ℕ → Result Command ReadFault
+named_battle battle_type nat_type password port max_players game_hash rank map_hash rest = do
+  sentences ← sentences_at rest
+  engine_name ← sentence_in sentences
+  engine_version ← sentence_in engine_name.1
+  map ← sentence_in engine_version.1
+  title ← sentence_in map.1
+  game_name ← sentence_in title.1
+  Ok (command.OpenBattle battle_type nat_type password port max_players game_hash rank map_hash engine_name.0 engine_version.0 map.0 title.0 game_name.0)
+
 -- what the form of a command makes of the rest of its line
 abbrev pub arguments_at : CommandWord → List ℕ → Result Command ReadFault
 arguments_at word.Ping rest = Ok command.Ping
@@ -223,7 +234,7 @@ arguments_at word.Channels rest = Ok command.Channels
 arguments_at word.Join rest = do
   channel ← name_at rest
   key ← optional_at channel.1
-  Ok (command.Join channel.0)
+  Ok (command.Join channel.0 key.0)
 arguments_at word.Leave rest = do
   channel ← name_at rest
   Ok (command.Leave channel.0)
@@ -248,13 +259,7 @@ arguments_at word.OpenBattle rest = do
   game_hash ← wide_at max_players.1
   rank ← wide_at game_hash.1
   map_hash ← wide_at rank.1
-  sentences ← sentences_at map_hash.1
-  engine_name ← sentence_in sentences
-  engine_version ← sentence_in engine_name.1
-  map ← sentence_in engine_version.1
-  title ← sentence_in map.1
-  game_name ← sentence_in title.1
-  Ok (command.OpenBattle battle_type.0 nat_type.0 password.0 port.0 max_players.0 game_hash.0 rank.0 map_hash.0 engine_name.0 engine_version.0 map.0 title.0 game_name.0)
+  named_battle battle_type.0 nat_type.0 password.0 port.0 max_players.0 game_hash.0 rank.0 map_hash.0 map_hash.1
 arguments_at word.JoinBattle rest = do
   battle ← natural_at 2147483647 rest
   password ← optional_at battle.1

@@ -48,9 +48,10 @@ pub enum Command {
     MyStatus {
         status: u32,
     },
-    /// `JOIN channel key`: the key is not kept.
+    /// `JOIN channel [key]`: the key is kept, and the lobby ignores it.
     Join {
         channel: NameBuf,
+        key: Option<WordBuf>,
     },
     /// `LEAVE channel`
     Leave {
@@ -89,7 +90,7 @@ pub enum Command {
         title: SentenceBuf,
         game_name: SentenceBuf,
     },
-    /// `JOINBATTLE battleID password scriptPassword`: `battle` is 0 to 2147483647.
+    /// `JOINBATTLE battleID [password] [scriptPassword]`: `battle` is 0 to 2147483647.
     JoinBattle {
         battle: u32,
         password: Option<WordBuf>,

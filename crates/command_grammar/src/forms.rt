@@ -5,7 +5,7 @@ ghost use Rattle.std.specs.Prelude.{◌≡◌, IfOk, IfSome, IsTrue, OnErr, is_s
 ghost use Rattle.std.specs.Option.{option_map};
 ghost use Rattle.line_words.specs.Bytes.{is_text, is_word};
 ghost use Rattle.command_grammar.specs.declared.command_word.CommandWord.TheVariants as words;
-ghost use Rattle.command_grammar.specs.Reading.{Gives, arguments_at};
+ghost use Rattle.command_grammar.specs.Reading.{Gives, arguments_at, named_battle};
 
 use crate::arguments::{
     flag_at, name_at, natural_at, optional_at, sentence_in, sentences_at, text_at, wide_at, word_at,
@@ -48,9 +48,10 @@ pub(crate) fn join(alloc: Global, rest: &[u8]) -> Result<Command, ReadError>
     ensures { Gives result (arguments_at words.Join rest.now) }
 {
     let (channel, rest) = name_at(rest)?;
-    let (_key, _) = optional_at(rest)?;
+    let (key, _) = optional_at(rest)?;
     Ok(Command::Join {
         channel: NameBuf::copy_of(alloc, channel)?,
+        key: copy_of_optional(alloc, key)?,
     })
 }
 
@@ -112,6 +113,40 @@ pub(crate) fn open_battle(alloc: Global, rest: &[u8]) -> Result<Command, ReadErr
     let (game_hash, rest) = wide_at(rest)?;
     let (rank, rest) = wide_at(rest)?;
     let (map_hash, rest) = wide_at(rest)?;
+    let battle = LentBattle {
+        battle_type: battle_type as u8,
+        nat_type: nat_type as u8,
+        password,
+        port: port as u16,
+        max_players: max_players as u16,
+        game_hash,
+        rank,
+        map_hash,
+    };
+    named_battle(alloc, &battle, rest)
+}
+
+// What stands before the sentences of OPENBATTLE.
+#[derive(Drop)]
+struct LentBattle<'a> {
+    battle_type: u8,
+    nat_type: u8,
+    password: &'a [u8],
+    port: u16,
+    max_players: u16,
+    game_hash: i64,
+    rank: i64,
+    map_hash: i64,
+}
+
+// The sentences of OPENBATTLE. They have a function of their own, since one over all its arguments is
+// proved far slower.
+#[tactic(auto, unfolding(crate::specs::Reading::named_battle))]
+fn named_battle(alloc: Global, battle: &LentBattle<'_>, rest: &[u8]) -> Result<Command, ReadError>
+    requires text { IsTrue (is_text rest.now) }
+    requires password { IsTrue (is_word battle.now.password.now) }
+    ensures { Gives result (named_battle battle.now.battle_type battle.now.nat_type battle.now.password.now battle.now.port battle.now.max_players battle.now.game_hash battle.now.rank battle.now.map_hash rest.now) }
+{
     let mut sentences = sentences_at(rest)?;
     let engine_name = sentence_in(&mut sentences)?;
     let engine_version = sentence_in(&mut sentences)?;
@@ -119,14 +154,14 @@ pub(crate) fn open_battle(alloc: Global, rest: &[u8]) -> Result<Command, ReadErr
     let title = sentence_in(&mut sentences)?;
     let game_name = sentence_in(&mut sentences)?;
     Ok(Command::OpenBattle {
-        battle_type: battle_type as u8,
-        nat_type: nat_type as u8,
-        password: WordBuf::copy_of(alloc, password)?,
-        port: port as u16,
-        max_players: max_players as u16,
-        game_hash,
-        rank,
-        map_hash,
+        battle_type: battle.battle_type,
+        nat_type: battle.nat_type,
+        password: WordBuf::copy_of(alloc, battle.password)?,
+        port: battle.port,
+        max_players: battle.max_players,
+        game_hash: battle.game_hash,
+        rank: battle.rank,
+        map_hash: battle.map_hash,
         engine_name: SentenceBuf::copy_of(alloc, engine_name)?,
         engine_version: SentenceBuf::copy_of(alloc, engine_version)?,
         map: SentenceBuf::copy_of(alloc, map)?,

@@ -1,12 +1,33 @@
 //! Lines that are read with memory at hand.
 
-use command_grammar::{Command, ReadFault, Request, read_request};
+use command_grammar::{Command, ReadFault, read_request};
+use line_words::{Pair, WordBuf};
+use std::alloc::{AllocError, Global};
 use std::test::Fail;
 
-fn fault_of(request: &Request) -> Option<ReadFault> {
-    match &request.command {
-        Command::Unread(fault) => Some(*fault),
-        _ => None,
+// The fault of a line that is no command.
+fn fault_of(alloc: Global, line: &[u8]) -> Result<Option<ReadFault>, AllocError> {
+    match read_request(alloc, line) {
+        Ok(request) => {
+            let fault = match &request.command {
+                Command::Unread(fault) => Some(*fault),
+                _ => None,
+            };
+            request.discard();
+            Ok(fault)
+        }
+        Err(refusal) => Err(refusal),
+    }
+}
+
+fn id_of(alloc: Global, line: &[u8]) -> Result<Option<u32>, AllocError> {
+    match read_request(alloc, line) {
+        Ok(request) => {
+            let id = request.id;
+            request.discard();
+            Ok(id)
+        }
+        Err(refusal) => Err(refusal),
     }
 }
 
@@ -48,16 +69,14 @@ const GOOD_LINES: [&[u8]; 31] = [
 #[test]
 fn each_command_is_read(rt: HostRuntime) -> Result<(), Fail> {
     for line in GOOD_LINES {
-        let request = read_request(rt.alloc(), line)?;
-        assert_eq!(rt; fault_of(&request), None, "{line:?}");
-        request.discard();
+        assert_eq!(rt; fault_of(rt.alloc(), line)?, None, "{line:?}");
     }
     Ok(())
 }
 
 #[test]
 fn faults_are_told(rt: HostRuntime) -> Result<(), Fail> {
-    let faults: [(&[u8], ReadFault); 12] = [
+    let faults: [(&[u8], ReadFault); 13] = [
         (b"ping", ReadFault::UnknownCommand),
         (b"#9", ReadFault::UnknownCommand),
         (b"#2147483648 PING", ReadFault::UnknownCommand),
@@ -65,6 +84,7 @@ fn faults_are_told(rt: HostRuntime) -> Result<(), Fail> {
         (b"REMOVESCRIPTTAGS", ReadFault::MissingArgument),
         (b"MYSTATUS 1x", ReadFault::BadNumber),
         (b"MYSTATUS 4294967296", ReadFault::BadNumber),
+        (b"MYSTATUS 00000000001", ReadFault::BadNumber),
         (b"REMOVESTARTRECT 16", ReadFault::BadNumber),
         (b"JOIN a-b", ReadFault::BadName),
         (b"JOIN a\tb", ReadFault::BadByte),
@@ -72,9 +92,7 @@ fn faults_are_told(rt: HostRuntime) -> Result<(), Fail> {
         (b"SETSCRIPTTAGS =1", ReadFault::BadPair),
     ];
     for (line, fault) in faults {
-        let request = read_request(rt.alloc(), line)?;
-        assert_eq!(rt; fault_of(&request), Some(fault), "{line:?}");
-        request.discard();
+        assert_eq!(rt; fault_of(rt.alloc(), line)?, Some(fault), "{line:?}");
     }
     Ok(())
 }
@@ -90,29 +108,137 @@ fn ids_are_read(rt: HostRuntime) -> Result<(), Fail> {
         (b"#9 ", Some(9)),
     ];
     for (line, id) in ids {
-        let request = read_request(rt.alloc(), line)?;
-        assert_eq!(rt; request.id, id, "{line:?}");
-        request.discard();
+        assert_eq!(rt; id_of(rt.alloc(), line)?, id, "{line:?}");
     }
     Ok(())
 }
 
-#[test]
-fn tags_are_kept_in_order(rt: HostRuntime) -> Result<(), Fail> {
-    let request = read_request(rt.alloc(), b"SETSCRIPTTAGS \ta=1\t\tb=")?;
-    match request.command {
-        Command::SetScriptTags { pairs } => {
-            let pairs = pairs.into_vec();
-            assert_eq!(rt; pairs.len(), 2);
-            assert_eq!(rt; pairs[0].key.as_slice(), b"a".as_slice());
-            assert_eq!(rt; pairs[0].value.as_slice(), b"1".as_slice());
-            assert_eq!(rt; pairs[1].key.as_slice(), b"b".as_slice());
-            assert_eq!(rt; pairs[1].value.as_slice(), b"".as_slice());
-        }
-        other => {
-            other.discard();
-            assert!(rt; false, "not read as tags");
-        }
+// What the arguments of a line must be.
+#[derive(Clone, Copy)]
+enum Expected<'a> {
+    Join {
+        channel: &'a [u8],
+        key: Option<&'a [u8]>,
+    },
+    SayPrivate {
+        user: &'a [u8],
+        text: &'a [u8],
+    },
+    MyStatus {
+        status: u32,
+    },
+}
+
+fn is_word(word: &Option<WordBuf>, expected: Option<&[u8]>) -> bool {
+    match (word, expected) {
+        (Some(word), Some(expected)) => word.as_slice() == expected,
+        (None, None) => true,
+        _ => false,
     }
-    Ok(())
+}
+
+fn has_arguments(command: &Command, expected: Expected<'_>) -> bool {
+    match expected {
+        Expected::Join { channel, key } => match command {
+            Command::Join {
+                channel: name,
+                key: word,
+            } => name.as_slice() == channel && is_word(word, key),
+            _ => false,
+        },
+        Expected::SayPrivate { user, text } => match command {
+            Command::SayPrivate {
+                user: name,
+                text: said,
+            } => name.as_slice() == user && said.as_slice() == text,
+            _ => false,
+        },
+        Expected::MyStatus { status } => match command {
+            Command::MyStatus { status: asked } => *asked == status,
+            _ => false,
+        },
+    }
+}
+
+#[test]
+fn arguments_are_read(rt: HostRuntime) {
+    let lines: [(&[u8], Expected<'_>); 6] = [
+        (
+            b"JOIN  main  ",
+            Expected::Join {
+                channel: b"main",
+                key: None,
+            },
+        ),
+        (
+            b"JOIN main k",
+            Expected::Join {
+                channel: b"main",
+                key: Some(b"k"),
+            },
+        ),
+        (
+            b"JOIN main  k more",
+            Expected::Join {
+                channel: b"main",
+                key: Some(b"k"),
+            },
+        ),
+        (
+            b"SAYPRIVATE Bert  hi",
+            Expected::SayPrivate {
+                user: b"Bert",
+                text: b" hi",
+            },
+        ),
+        (b"MYSTATUS -0", Expected::MyStatus { status: 0 }),
+        (
+            b"MYSTATUS 4294967295",
+            Expected::MyStatus { status: 4294967295 },
+        ),
+    ];
+    for (line, expected) in lines {
+        let is_read = match read_request(rt.alloc(), line) {
+            Ok(request) => {
+                let is_read = has_arguments(&request.command, expected);
+                request.discard();
+                is_read
+            }
+            Err(_) => false,
+        };
+        assert!(rt; is_read, "{line:?}");
+    }
+}
+
+fn is_pair(pair: Option<&Pair>, key: &[u8], value: &[u8]) -> bool {
+    match pair {
+        Some(pair) => pair.key.as_slice() == key && pair.value.as_slice() == value,
+        None => false,
+    }
+}
+
+// The tags a=1 and b=.
+fn has_both_tags(command: &Command) -> bool {
+    match command {
+        Command::SetScriptTags { pairs } => {
+            let pairs = pairs.as_slice();
+            pairs.len() == 2
+                && is_pair(pairs.get(0), b"a", b"1")
+                && is_pair(pairs.get(1), b"b", b"")
+        }
+        _ => false,
+    }
+}
+
+#[test]
+fn tags_are_kept_in_order(rt: HostRuntime) {
+    let is_read = match read_request(rt.alloc(), b"SETSCRIPTTAGS \ta=1\t\tb=") {
+        Ok(request) => {
+            let is_read = has_both_tags(&request.command);
+            request.discard();
+            is_read
+        }
+        Err(_) => false,
+    };
+    assert!(rt; is_read);
 }

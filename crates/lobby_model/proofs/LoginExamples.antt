@@ -1,6 +1,6 @@
 -- Worked examples of users, computed from the definitions.
 use Rattle.std.proofs.Common.{◌≡◌, List, [], ◌∷◌, refl, false}
-use Rattle.std.specs.Prelude.{codes, pos, Some, is_some}
+use Rattle.std.specs.Prelude.{codes, pos, Some, None, is_some}
 use Rattle.std.specs.Fmt.{digits}
 use Rattle.command_grammar.specs.declared.command.Command.TheVariants as command
 use Rattle.command_grammar.specs.declared.command.ReadFault.TheVariants as fault
@@ -103,7 +103,7 @@ unfolding digits
 stranger_goes = refl
 
 -- a command that is not served
-not_served : put_in start (connect 1 ∷ says 1 (login anna right_word (pos 0)) ∷ says_with (Some 6) 1 (command.Join (codes "main")) ∷ []) 1
+not_served : put_in start (connect 1 ∷ says 1 (login anna right_word (pos 0)) ∷ says_with (Some 6) 1 (command.Join (codes "main") None) ∷ []) 1
     ≡ lines (codes "TASSERVER 0.38 * 8201 0" ∷ codes "ACCEPTED Anna" ∷ codes "MOTD Welcome" ∷ codes "ADDUSER Anna DE 0 1" ∷ codes "LOGININFOEND" ∷ codes "#6 SERVERMSG Unknown command" ∷ [])
 unfolding digits
 not_served = refl

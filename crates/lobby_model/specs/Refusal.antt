@@ -12,10 +12,16 @@ use Rattle.lobby_model.specs.Table.{at_name}
 use Rattle.lobby_model.specs.State.{State, name_of}
 use Rattle.lobby_model.specs.Texts.{fault_text, log_in_first, already_in, invalid_login, user_is_in}
 
--- The commands that the lobby does not serve yet
+-- the commands that the lobby does not serve yet; each command is named, so that none is forgotten
 abbrev pub is_unserved : Command → Bool
+is_unserved command.Blank = false
+is_unserved (command.Unread fault) = false
+is_unserved (command.Login user_name password cpu local_ip lobby) = false
+is_unserved command.Ping = false
+is_unserved command.Exit = false
+is_unserved (command.MyStatus status) = false
 is_unserved command.Channels = true
-is_unserved (command.Join channel) = true
+is_unserved (command.Join channel key) = true
 is_unserved (command.Leave channel) = true
 is_unserved (command.Say channel text) = true
 is_unserved (command.SayEx channel text) = true
@@ -24,24 +30,23 @@ is_unserved (command.OpenBattle battle_type nat_type password port max_players g
 is_unserved (command.JoinBattle battle password script_password) = true
 is_unserved command.LeaveBattle = true
 is_unserved (command.UpdateBattleInfo spectator_count locked map_hash map) = true
-is_unserved (command.MyBattleStatus status colour) = true
+is_unserved (command.MyBattleStatus battle_status team_color) = true
 is_unserved (command.SayBattle text) = true
 is_unserved (command.SayBattleEx text) = true
-is_unserved (command.AddBot bot status colour ai) = true
-is_unserved (command.UpdateBot bot status colour) = true
+is_unserved (command.AddBot bot battle_status team_color ai) = true
+is_unserved (command.UpdateBot bot battle_status team_color) = true
 is_unserved (command.RemoveBot bot) = true
-is_unserved (command.AddStartRect ally left top right bottom) = true
-is_unserved (command.RemoveStartRect ally) = true
+is_unserved (command.AddStartRect ally_no left top right bottom) = true
+is_unserved (command.RemoveStartRect ally_no) = true
 is_unserved (command.SetScriptTags pairs) = true
 is_unserved (command.RemoveScriptTags keys) = true
 is_unserved (command.Handicap user value) = true
 is_unserved (command.ForceTeamNo user number) = true
 is_unserved (command.ForceAllyNo user number) = true
-is_unserved (command.ForceTeamColor user colour) = true
+is_unserved (command.ForceTeamColor user team_color) = true
 is_unserved (command.ForceSpectatorMode user) = true
 is_unserved (command.KickFromBattle user) = true
 is_unserved (command.Ring user) = true
-is_unserved command = false
 
 -- a login of one who is greeted, at what the accounts answer it
 abbrev pub refusal_login : State → Result Account LoginFault → Option Reply
