@@ -45,13 +45,13 @@ pub(super) fn put_reply(out: &mut Vec<u8>, id: Option<u32>, reply: &Reply) -> Re
         } => put_update_bot(out, id, *battle, bot, *battle_status, team_color),
         Reply::RemoveBot { battle, bot } => put_remove_bot(out, id, *battle, bot),
         Reply::AddStartRect {
-            ally,
+            ally_no,
             left,
             top,
             right,
             bottom,
-        } => put_add_start_rect(out, id, *ally, *left, *top, *right, *bottom),
-        Reply::RemoveStartRect { ally } => put_remove_start_rect(out, id, *ally),
+        } => put_add_start_rect(out, id, *ally_no, *left, *top, *right, *bottom),
+        Reply::RemoveStartRect { ally_no } => put_remove_start_rect(out, id, *ally_no),
         Reply::SetScriptTags { pairs } => put_set_script_tags(out, id, pairs),
         Reply::RemoveScriptTags { keys } => put_remove_script_tags(out, id, keys),
         Reply::Ring { user } => put_ring(out, id, user),
@@ -171,17 +171,17 @@ fn put_remove_bot(
 fn put_add_start_rect(
     out: &mut Vec<u8>,
     id: Option<u32>,
-    ally: u8,
+    ally_no: u8,
     left: u8,
     top: u8,
     right: u8,
     bottom: u8,
 ) -> Result<(), AllocError>
-    ensures ok { IfOk result (λ _. out.new.items ≡ out.old.items ++ printed_line id (reply.AddStartRect ally left top right bottom)) }
+    ensures ok { IfOk result (λ _. out.new.items ≡ out.old.items ++ printed_line id (reply.AddStartRect ally_no left top right bottom)) }
     ensures kept { take (length out.old.items) out.new.items ≡ out.old.items }
 {
     put_command(out, id, CommandWord::AddStartRect)?;
-    put_number(out, u32::from(ally))?;
+    put_number(out, u32::from(ally_no))?;
     put_number(out, u32::from(left))?;
     put_number(out, u32::from(top))?;
     put_number(out, u32::from(right))?;
@@ -190,12 +190,12 @@ fn put_add_start_rect(
     Ok(())
 }
 
-fn put_remove_start_rect(out: &mut Vec<u8>, id: Option<u32>, ally: u8) -> Result<(), AllocError>
-    ensures ok { IfOk result (λ _. out.new.items ≡ out.old.items ++ printed_line id (reply.RemoveStartRect ally)) }
+fn put_remove_start_rect(out: &mut Vec<u8>, id: Option<u32>, ally_no: u8) -> Result<(), AllocError>
+    ensures ok { IfOk result (λ _. out.new.items ≡ out.old.items ++ printed_line id (reply.RemoveStartRect ally_no)) }
     ensures kept { take (length out.old.items) out.new.items ≡ out.old.items }
 {
     put_command(out, id, CommandWord::RemoveStartRect)?;
-    put_number(out, u32::from(ally))?;
+    put_number(out, u32::from(ally_no))?;
     put_end(out)
 }
 
