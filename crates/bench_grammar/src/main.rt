@@ -7,7 +7,8 @@
 use anyhow::anyhow;
 use command_grammar::{Command, read_request};
 use line_words::Pair;
-use reply_grammar::{Reply, print, read_reply};
+use reply_grammar::{Reply, print};
+use reply_reader::read_reply;
 use std::alloc::{AllocError, Global};
 use std::env;
 use std::rt::Clock;

@@ -1,6 +1,7 @@
 //! A line for each reply, read and printed again, and lines that no reply prints.
 
-use reply_grammar::{Reply, print, read_reply};
+use reply_grammar::{Reply, print};
+use reply_reader::read_reply;
 use std::alloc::{AllocError, Global};
 use std::test::Fail;
 

@@ -11,11 +11,9 @@ use Rattle.reply_grammar.specs.declared.Reply.{Reply}
 use Rattle.reply_grammar.specs.Kinds.{Kind, Word, Name, Number, Wide, Flag, OptionalWord, Words, Names, Sentence, NextSentence, Text, Pairs, Value, Values, fits, printed, all_fit, all_printed, words_text, pairs_text, pair_text, optional_text}
 use Rattle.line_words.specs.Kinds.{is_pair, is_some_word}
 use Rattle.reply_grammar.specs.Replies.{word_of, kinds_of, command_of, values_of, Fits, body, id_text, line_text, IsId}
-use Rattle.reply_grammar.proofs.Numbers.{own}
-use Rattle.reply_grammar.proofs.Fields.{digits_words, signed_words}
-use Rattle.reply_grammar.proofs.Lists.{all_append, all_more, word_name}
-use Rattle.reply_grammar.proofs.Rows.{is_row, is_kind, leads}
-use Rattle.reply_grammar.proofs.Whole.{plain_word, rows}
+use Rattle.reply_grammar.proofs.Bytes.{all_append, all_more, word_name}
+use Rattle.reply_grammar.proofs.Decimals.{own, digits_words, signed_words}
+use Rattle.reply_grammar.proofs.Table.{is_kind, is_row, leads, plain_word, rows}
 
 sentence_text : (b : ℕ) → is_sentence_byte b ≡ true → is_text_byte b ≡ true
 sentence_text b h = (and_parts (not (b == 9)) (is_text_byte b) h).1

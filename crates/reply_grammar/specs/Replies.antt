@@ -235,6 +235,10 @@ line_text id r = id_text id ++ body r
 abbrev pub printed_line : Option ℕ → Reply → List ℕ
 printed_line id r = line_text id r ++ 10 ∷ []
 
+-- the line of these arguments, with its LF
+abbrev pub line_with : Option ℕ → CommandWord → (ks : List Kind) → Values ks → List ℕ
+line_with id c ks xs = (id_text id ++ (word_of c ++ all_printed ks xs)) ++ 10 ∷ []
+
 -- a reply with the message id that it bears
 abbrev pub Line : Type 0
 Line = Option ℕ × Reply

@@ -1,12 +1,11 @@
 //! The command words of the replies.
 
 ghost use Rattle.std.specs.Prelude.{◌≡◌};
-ghost use Rattle.reply_grammar.specs.Lines.{named, same};
 ghost use Rattle.reply_grammar.specs.Replies.{word_of};
 
 /// The command word of a reply.
 #[derive(Clone, Copy)]
-pub(crate) enum CommandWord {
+pub enum CommandWord {
     TasServer,
     Accepted,
     Denied,
@@ -52,55 +51,9 @@ pub(crate) enum CommandWord {
     Ring,
 }
 
-const ALL: [CommandWord; 43] = [
-    CommandWord::TasServer,
-    CommandWord::Accepted,
-    CommandWord::Denied,
-    CommandWord::Motd,
-    CommandWord::ServerMsg,
-    CommandWord::AddUser,
-    CommandWord::RemoveUser,
-    CommandWord::ClientStatus,
-    CommandWord::LoginInfoEnd,
-    CommandWord::Pong,
-    CommandWord::Join,
-    CommandWord::Clients,
-    CommandWord::Joined,
-    CommandWord::Left,
-    CommandWord::JoinFailed,
-    CommandWord::Said,
-    CommandWord::SaidEx,
-    CommandWord::SayPrivate,
-    CommandWord::SaidPrivate,
-    CommandWord::Channel,
-    CommandWord::EndOfChannels,
-    CommandWord::OpenBattle,
-    CommandWord::OpenBattleFailed,
-    CommandWord::BattleOpened,
-    CommandWord::BattleClosed,
-    CommandWord::JoinBattle,
-    CommandWord::JoinBattleFailed,
-    CommandWord::JoinedBattle,
-    CommandWord::LeftBattle,
-    CommandWord::UpdateBattleInfo,
-    CommandWord::RequestBattleStatus,
-    CommandWord::ClientBattleStatus,
-    CommandWord::SaidBattle,
-    CommandWord::SaidBattleEx,
-    CommandWord::AddBot,
-    CommandWord::UpdateBot,
-    CommandWord::RemoveBot,
-    CommandWord::AddStartRect,
-    CommandWord::RemoveStartRect,
-    CommandWord::SetScriptTags,
-    CommandWord::RemoveScriptTags,
-    CommandWord::ForceQuitBattle,
-    CommandWord::Ring,
-];
-
 impl CommandWord {
     /// The word as it is printed.
-    pub(crate) fn text(self) -> &'static [u8]
+    pub fn text(self) -> &'static [u8]
         ensures { result.now ≡ word_of self }
     {
         match self {
@@ -149,20 +102,4 @@ impl CommandWord {
             CommandWord::Ring => b"RING",
         }
     }
-
-    /// The command word that prints so.
-    #[tactic(auto, unfolding(crate::specs::Lines::named))]
-    pub(crate) fn named(word: &[u8]) -> Option<CommandWord>
-        ensures { result ≡ named word.now }
-    {
-        ALL.iter()
-            .copied()
-            .find(|command| is_same(word, command.text()))
-    }
-}
-
-fn is_same(word: &[u8], other: &[u8]) -> bool
-    ensures { result ≡ same word.now other.now }
-{
-    word == other
 }

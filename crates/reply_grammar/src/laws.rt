@@ -1,29 +1,11 @@
 //! Laws of the printed lines.
 
-ghost use Rattle.std.specs.Prelude.{◌≡◌, ◌↔◌, ℕ, List, Option, Some, IsTrue};
+ghost use Rattle.std.specs.Prelude.{ℕ, Option, IsTrue};
 ghost use Rattle.line_words.specs.Bytes.{is_text};
 ghost use Rattle.reply_grammar.specs.declared.Reply.{Reply};
-ghost use Rattle.reply_grammar.specs.Lines.{read_line};
-ghost use Rattle.reply_grammar.specs.Replies.{Fits, IsId, Line, ReadsAs, line_text};
-
-/// Two different pairs of a message id and a reply never print alike.
-pub fn no_two_alike()
-    ensures { (id other_id : Option ℕ) (reply other : Reply) → IsId id → Fits reply → IsId other_id → Fits other
-        → line_text id reply ≡ line_text other_id other → (id ≡ other_id) × (reply ≡ other) }
-{}
+ghost use Rattle.reply_grammar.specs.Replies.{Fits, IsId, line_text};
 
 /// A line has no CR, and no LF before its end.
 pub fn no_break_inside()
     ensures { (id : Option ℕ) (reply : Reply) → IsId id → Fits reply → IsTrue (is_text (line_text id reply)) }
-{}
-
-/// The line of a reply, without its LF, reads as that id and that reply, and as no other pair.
-pub fn each_reads_alone()
-    ensures { (id : Option ℕ) (reply : Reply) → IsId id → Fits reply
-        → (other : Line) → ReadsAs (line_text id reply) other ↔ (other ≡ (id, reply)) }
-{}
-
-/// Reading from left to right finds exactly the pair that a line reads as.
-pub fn reading_is_inverse()
-    ensures { (bytes : List ℕ) (read : Line) → (read_line bytes ≡ Some read) ↔ ReadsAs bytes read }
 {}

@@ -1,21 +1,20 @@
-//! The replies of the lobby: the lines that it sends, printed and read back.
+//! The replies of the lobby: the lines that it sends, and how they are printed.
 //!
 //! A line is an optional message id (`#7 `), the command word, the arguments, and LF. Each word
 //! stands behind one space; the first sentence or the text stands behind one space too, and
-//! further sentences behind tabs. Printing and reading are exact inverses.
+//! further sentences behind tabs. The crate `reply_reader` reads the lines back.
 #![tactic(auto)]
 
 mod command_word;
 mod laws;
 mod printing;
-mod reading;
 
-pub use laws::{each_reads_alone, no_break_inside, no_two_alike, reading_is_inverse};
+pub use command_word::CommandWord;
+pub use laws::no_break_inside;
 use line_words::{NameBuf, NameList, PairList, SentenceBuf, TextBuf, WordBuf, WordList};
 pub use printing::{
     print, print_accepted, print_add_user, print_client_status, print_motd, print_remove_user,
 };
-pub use reading::read_reply;
 
 /// A line to a client, its fields the arguments in their order.
 ///
@@ -220,7 +219,7 @@ pub enum Reply {
     },
     /// `ADDSTARTRECT`. The start rectangle of an ally team (`allyNo`), in two-hundredths of the map.
     AddStartRect {
-        ally: u8,
+        ally_no: u8,
         left: u8,
         top: u8,
         right: u8,
@@ -228,7 +227,7 @@ pub enum Reply {
     },
     /// `REMOVESTARTRECT`. An ally team has no start rectangle any more.
     RemoveStartRect {
-        ally: u8,
+        ally_no: u8,
     },
     /// `SETSCRIPTTAGS`. Script tags that are set, at least one.
     SetScriptTags {

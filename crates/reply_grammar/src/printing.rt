@@ -8,6 +8,7 @@ mod channels;
 mod pieces;
 mod room;
 mod session;
+mod shapes;
 
 use crate::Reply;
 use pieces::whole;

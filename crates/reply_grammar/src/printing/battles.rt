@@ -1,7 +1,8 @@
 //! Printing the replies on battles as all see them.
 #![tactic(auto, using(crate::proofs::Kept::kept_then, crate::proofs::Kept::kept_more))]
 
-ghost use Rattle.std.specs.Prelude.{◌≡◌, ◌∷◌, ◌++◌, IfOk, length, take};
+ghost use Rattle.std.specs.Prelude.{◌≡◌, [], ◌∷◌, ◌++◌, IfOk, decimal, if◌then◌else◌, length, take};
+ghost use Rattle.std.specs.Fmt.{signed_decimal};
 ghost use Rattle.reply_grammar.specs.declared.Reply.TheVariants as reply;
 ghost use Rattle.reply_grammar.specs.declared.command_word.CommandWord.TheVariants as command;
 ghost use Rattle.reply_grammar.specs.Groups.{Battles, group_of};
@@ -9,11 +10,12 @@ ghost use Rattle.reply_grammar.specs.Replies.{command_of, printed_line};
 
 use super::pieces::{
     put_command, put_end, put_flag, put_name, put_next_sentence, put_number, put_optional,
-    put_sentence, put_text, put_wide, put_word,
+    put_sentence, put_wide, put_word,
 };
+use super::shapes::{put_nothing, put_only_battle, put_only_text};
 use crate::Reply;
 use crate::command_word::CommandWord;
-use line_words::{NameBuf, SentenceBuf, TextBuf, WordBuf};
+use line_words::{NameBuf, SentenceBuf, WordBuf};
 use std::alloc::AllocError;
 
 // The reply is one of the group.
@@ -23,12 +25,18 @@ pub(super) fn put_reply(out: &mut Vec<u8>, id: Option<u32>, reply: &Reply) -> Re
     ensures kept { take (length out.old.items) out.new.items ≡ out.old.items }
 {
     match reply {
-        Reply::OpenBattle { battle } => put_open_battle(out, id, *battle),
-        Reply::OpenBattleFailed { text } => put_open_battle_failed(out, id, text),
+        Reply::OpenBattle { battle } => put_only_battle(out, id, CommandWord::OpenBattle, *battle),
+        Reply::OpenBattleFailed { text } => {
+            put_only_text(out, id, CommandWord::OpenBattleFailed, text)
+        }
         Reply::BattleOpened { .. } => put_battle_opened(out, id, reply),
-        Reply::BattleClosed { battle } => put_battle_closed(out, id, *battle),
+        Reply::BattleClosed { battle } => {
+            put_only_battle(out, id, CommandWord::BattleClosed, *battle)
+        }
         Reply::JoinBattle { battle, game_hash } => put_join_battle(out, id, *battle, game_hash),
-        Reply::JoinBattleFailed { text } => put_join_battle_failed(out, id, text),
+        Reply::JoinBattleFailed { text } => {
+            put_only_text(out, id, CommandWord::JoinBattleFailed, text)
+        }
         Reply::JoinedBattle {
             battle,
             user,
@@ -42,32 +50,10 @@ pub(super) fn put_reply(out: &mut Vec<u8>, id: Option<u32>, reply: &Reply) -> Re
             map_hash,
             map,
         } => put_update_battle_info(out, id, *battle, *spectator_count, *locked, map_hash, map),
-        Reply::RequestBattleStatus => put_request_battle_status(out, id),
-        Reply::ForceQuitBattle => put_force_quit_battle(out, id),
+        Reply::RequestBattleStatus => put_nothing(out, id, CommandWord::RequestBattleStatus),
+        Reply::ForceQuitBattle => put_nothing(out, id, CommandWord::ForceQuitBattle),
         _ => unreachable!(),
     }
-}
-
-fn put_open_battle(out: &mut Vec<u8>, id: Option<u32>, battle: u32) -> Result<(), AllocError>
-    ensures ok { IfOk result (λ _. out.new.items ≡ out.old.items ++ printed_line id (reply.OpenBattle battle)) }
-    ensures kept { take (length out.old.items) out.new.items ≡ out.old.items }
-{
-    put_command(out, id, CommandWord::OpenBattle)?;
-    put_number(out, battle)?;
-    put_end(out)
-}
-
-fn put_open_battle_failed(
-    out: &mut Vec<u8>,
-    id: Option<u32>,
-    text: &TextBuf,
-) -> Result<(), AllocError>
-    ensures ok { IfOk result (λ _. out.new.items ≡ out.old.items ++ printed_line id (reply.OpenBattleFailed text.now)) }
-    ensures kept { take (length out.old.items) out.new.items ≡ out.old.items }
-{
-    put_command(out, id, CommandWord::OpenBattleFailed)?;
-    put_text(out, text)?;
-    put_end(out)
 }
 
 // The reply is BATTLEOPENED.
@@ -97,18 +83,50 @@ fn put_battle_opened(out: &mut Vec<u8>, id: Option<u32>, reply: &Reply) -> Resul
         unreachable!()
     };
     put_command(out, id, CommandWord::BattleOpened)?;
-    put_number(out, *battle)?;
-    put_number(out, u32::from(*battle_type))?;
-    put_number(out, u32::from(*nat_type))?;
-    put_name(out, founder)?;
-    put_word(out, ip)?;
-    put_number(out, u32::from(*port))?;
-    put_number(out, u32::from(*max_players))?;
-    put_flag(out, *passworded)?;
-    put_wide(out, rank)?;
-    put_wide(out, map_hash)?;
+    put_host(out, *battle, *battle_type, *nat_type, founder, ip, *port)?;
+    put_entry(out, *max_players, *passworded, rank, map_hash)?;
     put_titles(out, engine_name, engine_version, map, title, game_name)?;
     put_end(out)?;
+    Ok(())
+}
+
+// What the battle is, and who hosts it where.
+fn put_host(
+    out: &mut Vec<u8>,
+    battle: u32,
+    battle_type: u8,
+    nat_type: u8,
+    founder: &NameBuf,
+    ip: &WordBuf,
+    port: u16,
+) -> Result<(), AllocError>
+    ensures ok { IfOk result (λ _. out.new.items ≡ out.old.items ++ ((32 ∷ decimal battle) ++ ((32 ∷ decimal battle_type) ++ ((32 ∷ decimal nat_type) ++ ((32 ∷ founder.now) ++ ((32 ∷ ip.now) ++ (32 ∷ decimal port))))))) }
+    ensures kept { take (length out.old.items) out.new.items ≡ out.old.items }
+{
+    put_number(out, battle)?;
+    put_number(out, u32::from(battle_type))?;
+    put_number(out, u32::from(nat_type))?;
+    put_name(out, founder)?;
+    put_word(out, ip)?;
+    put_number(out, u32::from(port))?;
+    Ok(())
+}
+
+// Who may enter, and the map as its hash.
+fn put_entry(
+    out: &mut Vec<u8>,
+    max_players: u16,
+    passworded: bool,
+    rank: &i64,
+    map_hash: &i64,
+) -> Result<(), AllocError>
+    ensures ok { IfOk result (λ _. out.new.items ≡ out.old.items ++ ((32 ∷ decimal max_players) ++ ((32 ∷ (if passworded then 49 else 48) ∷ []) ++ ((32 ∷ signed_decimal rank.now) ++ (32 ∷ signed_decimal map_hash.now))))) }
+    ensures kept { take (length out.old.items) out.new.items ≡ out.old.items }
+{
+    put_number(out, u32::from(max_players))?;
+    put_flag(out, passworded)?;
+    put_wide(out, rank)?;
+    put_wide(out, map_hash)?;
     Ok(())
 }
 
@@ -131,15 +149,6 @@ fn put_titles(
     Ok(())
 }
 
-fn put_battle_closed(out: &mut Vec<u8>, id: Option<u32>, battle: u32) -> Result<(), AllocError>
-    ensures ok { IfOk result (λ _. out.new.items ≡ out.old.items ++ printed_line id (reply.BattleClosed battle)) }
-    ensures kept { take (length out.old.items) out.new.items ≡ out.old.items }
-{
-    put_command(out, id, CommandWord::BattleClosed)?;
-    put_number(out, battle)?;
-    put_end(out)
-}
-
 fn put_join_battle(
     out: &mut Vec<u8>,
     id: Option<u32>,
@@ -152,19 +161,6 @@ fn put_join_battle(
     put_command(out, id, CommandWord::JoinBattle)?;
     put_number(out, battle)?;
     put_wide(out, game_hash)?;
-    put_end(out)
-}
-
-fn put_join_battle_failed(
-    out: &mut Vec<u8>,
-    id: Option<u32>,
-    text: &TextBuf,
-) -> Result<(), AllocError>
-    ensures ok { IfOk result (λ _. out.new.items ≡ out.old.items ++ printed_line id (reply.JoinBattleFailed text.now)) }
-    ensures kept { take (length out.old.items) out.new.items ≡ out.old.items }
-{
-    put_command(out, id, CommandWord::JoinBattleFailed)?;
-    put_text(out, text)?;
     put_end(out)
 }
 
@@ -221,20 +217,4 @@ fn put_update_battle_info(
     put_sentence(out, map)?;
     put_end(out)?;
     Ok(())
-}
-
-fn put_request_battle_status(out: &mut Vec<u8>, id: Option<u32>) -> Result<(), AllocError>
-    ensures ok { IfOk result (λ _. out.new.items ≡ out.old.items ++ printed_line id reply.RequestBattleStatus) }
-    ensures kept { take (length out.old.items) out.new.items ≡ out.old.items }
-{
-    put_command(out, id, CommandWord::RequestBattleStatus)?;
-    put_end(out)
-}
-
-fn put_force_quit_battle(out: &mut Vec<u8>, id: Option<u32>) -> Result<(), AllocError>
-    ensures ok { IfOk result (λ _. out.new.items ≡ out.old.items ++ printed_line id reply.ForceQuitBattle) }
-    ensures kept { take (length out.old.items) out.new.items ≡ out.old.items }
-{
-    put_command(out, id, CommandWord::ForceQuitBattle)?;
-    put_end(out)
 }

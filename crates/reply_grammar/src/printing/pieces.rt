@@ -8,8 +8,7 @@ ghost use Rattle.reply_grammar.specs.Kinds.{words_text, pair_text, pairs_text, o
 ghost use Rattle.reply_grammar.specs.Replies.{id_text, word_of};
 
 use crate::command_word::CommandWord;
-use itoa::Buffer;
-use line_words::{NameBuf, Pair, SentenceBuf, TextBuf, WordBuf};
+use line_words::{NameBuf, Pair, SentenceBuf, TextBuf, WordBuf, write_number};
 use std::alloc::AllocError;
 
 fn put_behind(out: &mut Vec<u8>, mark: u8, bytes: &[u8]) -> Result<(), AllocError>
@@ -21,20 +20,27 @@ fn put_behind(out: &mut Vec<u8>, mark: u8, bytes: &[u8]) -> Result<(), AllocErro
     Ok(())
 }
 
+fn put_decimal(out: &mut Vec<u8>, mark: u8, n: i64) -> Result<(), AllocError>
+    ensures ok { IfOk result (λ _. out.new.items ≡ out.old.items ++ (mark ∷ signed_decimal n)) }
+    ensures kept { take (length out.old.items) out.new.items ≡ out.old.items }
+{
+    let mut digits = [0u8; 20];
+    let length = write_number(n, &mut digits);
+    put_behind(out, mark, &digits[..length])
+}
+
 pub(super) fn put_number(out: &mut Vec<u8>, n: u32) -> Result<(), AllocError>
     ensures ok { IfOk result (λ _. out.new.items ≡ out.old.items ++ (32 ∷ decimal n)) }
     ensures kept { take (length out.old.items) out.new.items ≡ out.old.items }
 {
-    let mut buffer = Buffer::new();
-    put_behind(out, b' ', buffer.format(n).as_bytes())
+    put_decimal(out, b' ', i64::from(n))
 }
 
 pub(super) fn put_wide(out: &mut Vec<u8>, n: &i64) -> Result<(), AllocError>
     ensures ok { IfOk result (λ _. out.new.items ≡ out.old.items ++ (32 ∷ signed_decimal n.now)) }
     ensures kept { take (length out.old.items) out.new.items ≡ out.old.items }
 {
-    let mut buffer = Buffer::new();
-    put_behind(out, b' ', buffer.format(*n).as_bytes())
+    put_decimal(out, b' ', *n)
 }
 
 pub(super) fn put_words(out: &mut Vec<u8>, words: &[WordBuf]) -> Result<(), AllocError>
@@ -103,8 +109,7 @@ fn put_id(out: &mut Vec<u8>, id: Option<u32>) -> Result<(), AllocError>
     ensures kept { take (length out.old.items) out.new.items ≡ out.old.items }
 {
     if let Some(id) = id {
-        let mut buffer = Buffer::new();
-        put_behind(out, b'#', buffer.format(id).as_bytes())?;
+        put_decimal(out, b'#', i64::from(id))?;
         out.push(b' ')?;
     }
     Ok(())

@@ -7,12 +7,13 @@ ghost use Rattle.reply_grammar.specs.Groups.{Room, group_of};
 ghost use Rattle.reply_grammar.specs.Replies.{command_of, printed_line};
 
 use super::pieces::{
-    put_command, put_end, put_name, put_number, put_pairs, put_sentence, put_text, put_wide,
-    put_word, put_words,
+    put_command, put_end, put_name, put_number, put_pairs, put_sentence, put_wide, put_word,
+    put_words,
 };
+use super::shapes::{put_name_and_text, put_only_name};
 use crate::Reply;
 use crate::command_word::CommandWord;
-use line_words::{NameBuf, PairList, SentenceBuf, TextBuf, WordBuf, WordList};
+use line_words::{NameBuf, PairList, SentenceBuf, WordBuf, WordList};
 use std::alloc::AllocError;
 
 // The reply is one of the group.
@@ -27,8 +28,12 @@ pub(super) fn put_reply(out: &mut Vec<u8>, id: Option<u32>, reply: &Reply) -> Re
             battle_status,
             team_color,
         } => put_client_battle_status(out, id, user, *battle_status, team_color),
-        Reply::SaidBattle { user, text } => put_said_battle(out, id, user, text),
-        Reply::SaidBattleEx { user, text } => put_said_battle_ex(out, id, user, text),
+        Reply::SaidBattle { user, text } => {
+            put_name_and_text(out, id, CommandWord::SaidBattle, user, text)
+        }
+        Reply::SaidBattleEx { user, text } => {
+            put_name_and_text(out, id, CommandWord::SaidBattleEx, user, text)
+        }
         Reply::AddBot {
             battle,
             bot,
@@ -45,16 +50,16 @@ pub(super) fn put_reply(out: &mut Vec<u8>, id: Option<u32>, reply: &Reply) -> Re
         } => put_update_bot(out, id, *battle, bot, *battle_status, team_color),
         Reply::RemoveBot { battle, bot } => put_remove_bot(out, id, *battle, bot),
         Reply::AddStartRect {
-            ally,
+            ally_no,
             left,
             top,
             right,
             bottom,
-        } => put_add_start_rect(out, id, *ally, *left, *top, *right, *bottom),
-        Reply::RemoveStartRect { ally } => put_remove_start_rect(out, id, *ally),
+        } => put_add_start_rect(out, id, *ally_no, *left, *top, *right, *bottom),
+        Reply::RemoveStartRect { ally_no } => put_remove_start_rect(out, id, *ally_no),
         Reply::SetScriptTags { pairs } => put_set_script_tags(out, id, pairs),
         Reply::RemoveScriptTags { keys } => put_remove_script_tags(out, id, keys),
-        Reply::Ring { user } => put_ring(out, id, user),
+        Reply::Ring { user } => put_only_name(out, id, CommandWord::Ring, user),
         _ => unreachable!(),
     }
 }
@@ -73,38 +78,6 @@ fn put_client_battle_status(
     put_name(out, user)?;
     put_number(out, battle_status)?;
     put_wide(out, team_color)?;
-    put_end(out)?;
-    Ok(())
-}
-
-fn put_said_battle(
-    out: &mut Vec<u8>,
-    id: Option<u32>,
-    user: &NameBuf,
-    text: &TextBuf,
-) -> Result<(), AllocError>
-    ensures ok { IfOk result (λ _. out.new.items ≡ out.old.items ++ printed_line id (reply.SaidBattle user.now text.now)) }
-    ensures kept { take (length out.old.items) out.new.items ≡ out.old.items }
-{
-    put_command(out, id, CommandWord::SaidBattle)?;
-    put_name(out, user)?;
-    put_text(out, text)?;
-    put_end(out)?;
-    Ok(())
-}
-
-fn put_said_battle_ex(
-    out: &mut Vec<u8>,
-    id: Option<u32>,
-    user: &NameBuf,
-    text: &TextBuf,
-) -> Result<(), AllocError>
-    ensures ok { IfOk result (λ _. out.new.items ≡ out.old.items ++ printed_line id (reply.SaidBattleEx user.now text.now)) }
-    ensures kept { take (length out.old.items) out.new.items ≡ out.old.items }
-{
-    put_command(out, id, CommandWord::SaidBattleEx)?;
-    put_name(out, user)?;
-    put_text(out, text)?;
     put_end(out)?;
     Ok(())
 }
@@ -171,17 +144,17 @@ fn put_remove_bot(
 fn put_add_start_rect(
     out: &mut Vec<u8>,
     id: Option<u32>,
-    ally: u8,
+    ally_no: u8,
     left: u8,
     top: u8,
     right: u8,
     bottom: u8,
 ) -> Result<(), AllocError>
-    ensures ok { IfOk result (λ _. out.new.items ≡ out.old.items ++ printed_line id (reply.AddStartRect ally left top right bottom)) }
+    ensures ok { IfOk result (λ _. out.new.items ≡ out.old.items ++ printed_line id (reply.AddStartRect ally_no left top right bottom)) }
     ensures kept { take (length out.old.items) out.new.items ≡ out.old.items }
 {
     put_command(out, id, CommandWord::AddStartRect)?;
-    put_number(out, u32::from(ally))?;
+    put_number(out, u32::from(ally_no))?;
     put_number(out, u32::from(left))?;
     put_number(out, u32::from(top))?;
     put_number(out, u32::from(right))?;
@@ -190,12 +163,12 @@ fn put_add_start_rect(
     Ok(())
 }
 
-fn put_remove_start_rect(out: &mut Vec<u8>, id: Option<u32>, ally: u8) -> Result<(), AllocError>
-    ensures ok { IfOk result (λ _. out.new.items ≡ out.old.items ++ printed_line id (reply.RemoveStartRect ally)) }
+fn put_remove_start_rect(out: &mut Vec<u8>, id: Option<u32>, ally_no: u8) -> Result<(), AllocError>
+    ensures ok { IfOk result (λ _. out.new.items ≡ out.old.items ++ printed_line id (reply.RemoveStartRect ally_no)) }
     ensures kept { take (length out.old.items) out.new.items ≡ out.old.items }
 {
     put_command(out, id, CommandWord::RemoveStartRect)?;
-    put_number(out, u32::from(ally))?;
+    put_number(out, u32::from(ally_no))?;
     put_end(out)
 }
 
@@ -222,14 +195,5 @@ fn put_remove_script_tags(
 {
     put_command(out, id, CommandWord::RemoveScriptTags)?;
     put_words(out, keys.as_slice())?;
-    put_end(out)
-}
-
-fn put_ring(out: &mut Vec<u8>, id: Option<u32>, user: &NameBuf) -> Result<(), AllocError>
-    ensures ok { IfOk result (λ _. out.new.items ≡ out.old.items ++ printed_line id (reply.Ring user.now)) }
-    ensures kept { take (length out.old.items) out.new.items ≡ out.old.items }
-{
-    put_command(out, id, CommandWord::Ring)?;
-    put_name(out, user)?;
     put_end(out)
 }

@@ -6,9 +6,8 @@ ghost use Rattle.reply_grammar.specs.declared.Reply.TheVariants as reply;
 ghost use Rattle.reply_grammar.specs.Groups.{Session, group_of};
 ghost use Rattle.reply_grammar.specs.Replies.{command_of, printed_line};
 
-use super::pieces::{
-    put_command, put_end, put_name, put_number, put_text, put_wide, put_word, whole,
-};
+use super::pieces::{put_command, put_end, put_name, put_number, put_wide, put_word, whole};
+use super::shapes::{put_name_and_number, put_nothing, put_only_name, put_only_text};
 use crate::Reply;
 use crate::command_word::CommandWord;
 use line_words::{NameBuf, TextBuf, WordBuf};
@@ -19,7 +18,7 @@ pub fn print_accepted(user: &NameBuf, id: Option<u32>, out: &mut Vec<u8>) -> Res
     ensures { out.new.items ≡ (if is_ok result then out.old.items ++ printed_line id (reply.Accepted user.now) else out.old.items) }
 {
     let start = out.len();
-    let done = put_accepted(out, id, user);
+    let done = put_only_name(out, id, CommandWord::Accepted, user);
     whole(out, start, done)
 }
 
@@ -28,7 +27,7 @@ pub fn print_motd(text: &TextBuf, id: Option<u32>, out: &mut Vec<u8>) -> Result<
     ensures { out.new.items ≡ (if is_ok result then out.old.items ++ printed_line id (reply.Motd text.now) else out.old.items) }
 {
     let start = out.len();
-    let done = put_motd(out, id, text);
+    let done = put_only_text(out, id, CommandWord::Motd, text);
     whole(out, start, done)
 }
 
@@ -57,7 +56,7 @@ pub fn print_remove_user(
     ensures { out.new.items ≡ (if is_ok result then out.old.items ++ printed_line id (reply.RemoveUser user.now) else out.old.items) }
 {
     let start = out.len();
-    let done = put_remove_user(out, id, user);
+    let done = put_only_name(out, id, CommandWord::RemoveUser, user);
     whole(out, start, done)
 }
 
@@ -71,7 +70,7 @@ pub fn print_client_status(
     ensures { out.new.items ≡ (if is_ok result then out.old.items ++ printed_line id (reply.ClientStatus user.now status) else out.old.items) }
 {
     let start = out.len();
-    let done = put_client_status(out, id, user, status);
+    let done = put_name_and_number(out, id, CommandWord::ClientStatus, user, status);
     whole(out, start, done)
 }
 
@@ -87,28 +86,32 @@ pub(super) fn put_reply(out: &mut Vec<u8>, id: Option<u32>, reply: &Reply) -> Re
             spring_version,
             udp_port,
             server_mode,
-        } => put_tas_server(
-            out,
-            id,
-            protocol_version,
-            spring_version,
-            *udp_port,
-            *server_mode,
-        ),
-        Reply::Accepted { user } => put_accepted(out, id, user),
-        Reply::Denied { text } => put_denied(out, id, text),
-        Reply::Motd { text } => put_motd(out, id, text),
-        Reply::ServerMsg { text } => put_server_msg(out, id, text),
+        } => {
+            put_tas_server(
+                out,
+                id,
+                protocol_version,
+                spring_version,
+                *udp_port,
+                *server_mode,
+            )
+        }
+        Reply::Accepted { user } => put_only_name(out, id, CommandWord::Accepted, user),
+        Reply::Denied { text } => put_only_text(out, id, CommandWord::Denied, text),
+        Reply::Motd { text } => put_only_text(out, id, CommandWord::Motd, text),
+        Reply::ServerMsg { text } => put_only_text(out, id, CommandWord::ServerMsg, text),
         Reply::AddUser {
             user,
             country,
             cpu,
             account,
         } => put_add_user(out, id, user, country, cpu, *account),
-        Reply::RemoveUser { user } => put_remove_user(out, id, user),
-        Reply::ClientStatus { user, status } => put_client_status(out, id, user, *status),
-        Reply::LoginInfoEnd => put_login_info_end(out, id),
-        Reply::Pong => put_pong(out, id),
+        Reply::RemoveUser { user } => put_only_name(out, id, CommandWord::RemoveUser, user),
+        Reply::ClientStatus { user, status } => {
+            put_name_and_number(out, id, CommandWord::ClientStatus, user, *status)
+        }
+        Reply::LoginInfoEnd => put_nothing(out, id, CommandWord::LoginInfoEnd),
+        Reply::Pong => put_nothing(out, id, CommandWord::Pong),
         _ => unreachable!(),
     }
 }
@@ -133,42 +136,6 @@ fn put_tas_server(
     Ok(())
 }
 
-fn put_accepted(out: &mut Vec<u8>, id: Option<u32>, user: &NameBuf) -> Result<(), AllocError>
-    ensures ok { IfOk result (λ _. out.new.items ≡ out.old.items ++ printed_line id (reply.Accepted user.now)) }
-    ensures kept { take (length out.old.items) out.new.items ≡ out.old.items }
-{
-    put_command(out, id, CommandWord::Accepted)?;
-    put_name(out, user)?;
-    put_end(out)
-}
-
-fn put_denied(out: &mut Vec<u8>, id: Option<u32>, text: &TextBuf) -> Result<(), AllocError>
-    ensures ok { IfOk result (λ _. out.new.items ≡ out.old.items ++ printed_line id (reply.Denied text.now)) }
-    ensures kept { take (length out.old.items) out.new.items ≡ out.old.items }
-{
-    put_command(out, id, CommandWord::Denied)?;
-    put_text(out, text)?;
-    put_end(out)
-}
-
-fn put_motd(out: &mut Vec<u8>, id: Option<u32>, text: &TextBuf) -> Result<(), AllocError>
-    ensures ok { IfOk result (λ _. out.new.items ≡ out.old.items ++ printed_line id (reply.Motd text.now)) }
-    ensures kept { take (length out.old.items) out.new.items ≡ out.old.items }
-{
-    put_command(out, id, CommandWord::Motd)?;
-    put_text(out, text)?;
-    put_end(out)
-}
-
-fn put_server_msg(out: &mut Vec<u8>, id: Option<u32>, text: &TextBuf) -> Result<(), AllocError>
-    ensures ok { IfOk result (λ _. out.new.items ≡ out.old.items ++ printed_line id (reply.ServerMsg text.now)) }
-    ensures kept { take (length out.old.items) out.new.items ≡ out.old.items }
-{
-    put_command(out, id, CommandWord::ServerMsg)?;
-    put_text(out, text)?;
-    put_end(out)
-}
-
 fn put_add_user(
     out: &mut Vec<u8>,
     id: Option<u32>,
@@ -187,44 +154,4 @@ fn put_add_user(
     put_number(out, account)?;
     put_end(out)?;
     Ok(())
-}
-
-fn put_remove_user(out: &mut Vec<u8>, id: Option<u32>, user: &NameBuf) -> Result<(), AllocError>
-    ensures ok { IfOk result (λ _. out.new.items ≡ out.old.items ++ printed_line id (reply.RemoveUser user.now)) }
-    ensures kept { take (length out.old.items) out.new.items ≡ out.old.items }
-{
-    put_command(out, id, CommandWord::RemoveUser)?;
-    put_name(out, user)?;
-    put_end(out)
-}
-
-fn put_client_status(
-    out: &mut Vec<u8>,
-    id: Option<u32>,
-    user: &NameBuf,
-    status: u32,
-) -> Result<(), AllocError>
-    ensures ok { IfOk result (λ _. out.new.items ≡ out.old.items ++ printed_line id (reply.ClientStatus user.now status)) }
-    ensures kept { take (length out.old.items) out.new.items ≡ out.old.items }
-{
-    put_command(out, id, CommandWord::ClientStatus)?;
-    put_name(out, user)?;
-    put_number(out, status)?;
-    put_end(out)
-}
-
-fn put_login_info_end(out: &mut Vec<u8>, id: Option<u32>) -> Result<(), AllocError>
-    ensures ok { IfOk result (λ _. out.new.items ≡ out.old.items ++ printed_line id reply.LoginInfoEnd) }
-    ensures kept { take (length out.old.items) out.new.items ≡ out.old.items }
-{
-    put_command(out, id, CommandWord::LoginInfoEnd)?;
-    put_end(out)
-}
-
-fn put_pong(out: &mut Vec<u8>, id: Option<u32>) -> Result<(), AllocError>
-    ensures ok { IfOk result (λ _. out.new.items ≡ out.old.items ++ printed_line id reply.Pong) }
-    ensures kept { take (length out.old.items) out.new.items ≡ out.old.items }
-{
-    put_command(out, id, CommandWord::Pong)?;
-    put_end(out)
 }

@@ -1,9 +1,18 @@
-use Rattle.std.proofs.Common.{append_assoc}
-use Rattle.reply_grammar.proofs.Kept.{kept_more}
+use Rattle.std.proofs.Common.{◌≡◌, ℕ, List, [], ◌∷◌, ◌++◌, append_assoc, if◌then◌else◌, codes, decimal}
+use Rattle.std.specs.Fmt.{signed_decimal}
+use Rattle.reply_grammar.specs.Replies.{id_text}
 use Rattle.reply_grammar.proofs.printing.battles.put_battle_opened.Goals as goal
 
-pub returns-clause-ok : goal.returns-clause-ok
-returns-clause-ok c = rw (c.in-BattleOpened.is, c.in_ok-put_end.ensures.ok, c.in_ok-put_titles.ensures.ok, append_assoc, c.in_ok-put_wide-2.ensures.ok, append_assoc, c.in_ok-put_wide.ensures.ok, append_assoc, c.in_ok-put_flag.ensures.ok, append_assoc, c.in_ok-put_number-5.ensures.ok, append_assoc, c.in_ok-put_number-4.ensures.ok, append_assoc, c.in_ok-put_word.ensures.ok, append_assoc, c.in_ok-put_name.ensures.ok, append_assoc, c.in_ok-put_number-3.ensures.ok, append_assoc, c.in_ok-put_number-2.ensures.ok, append_assoc, c.in_ok-put_number.ensures.ok, append_assoc, c.in_ok-put_command.ensures.ok, append_assoc) (simp append_assoc (rw (c.from.ensures, c.from-2.ensures, c.from-3.ensures, c.from-4.ensures)))
+-- the parts of the line, and all of it
+regroup : (out id word battle kind nat founder ip port players flag rank hash engine version map title game end : List ℕ)
+    → ((((out ++ (id ++ word)) ++ (battle ++ (kind ++ (nat ++ (founder ++ (ip ++ port)))))) ++ (players ++ (flag ++ (rank ++ hash)))) ++ (engine ++ (version ++ (map ++ (title ++ game))))) ++ end
+    ≡ out ++ ((id ++ (word ++ (battle ++ (kind ++ (nat ++ (founder ++ (ip ++ (port ++ (players ++ (flag ++ (rank ++ (hash ++ (engine ++ (version ++ (map ++ (title ++ (game ++ []))))))))))))))))) ++ end)
+regroup out id word battle kind nat founder ip port players flag rank hash engine version map title game end = simp append_assoc
 
-pub returns-clause-kept : goal.returns-clause-kept
-returns-clause-kept c = rw (c.in_ok-put_end.ensures.ok, c.in_ok-put_titles.ensures.ok, append_assoc, c.in_ok-put_wide-2.ensures.ok, append_assoc, c.in_ok-put_wide.ensures.ok, append_assoc, c.in_ok-put_flag.ensures.ok, append_assoc, c.in_ok-put_number-5.ensures.ok, append_assoc, c.in_ok-put_number-4.ensures.ok, append_assoc, c.in_ok-put_word.ensures.ok, append_assoc, c.in_ok-put_name.ensures.ok, append_assoc, c.in_ok-put_number-3.ensures.ok, append_assoc, c.in_ok-put_number-2.ensures.ok, append_assoc, c.in_ok-put_number.ensures.ok, append_assoc, c.in_ok-put_command.ensures.ok, append_assoc) (kept_more _ _)
+pub returns-clause-ok : goal.returns-clause-ok
+returns-clause-ok c =
+    let b = c.in-BattleOpened in
+    rw (b.is, c.in_ok-put_end.ensures.ok, c.in_ok-put_titles.ensures.ok, c.in_ok-put_entry.ensures.ok, c.in_ok-put_host.ensures.ok, c.in_ok-put_command.ensures.ok)
+    (regroup c.args.out.now.items (id_text c.args.id) (codes "BATTLEOPENED") (32 ∷ decimal b.battle) (32 ∷ decimal b.battle_type) (32 ∷ decimal b.nat_type) (32 ∷ b.founder) (32 ∷ b.ip) (32 ∷ decimal b.port)
+    (32 ∷ decimal b.max_players) (32 ∷ (if b.passworded then 49 else 48) ∷ []) (32 ∷ signed_decimal b.rank) (32 ∷ signed_decimal b.map_hash)
+    (32 ∷ b.engine_name) (9 ∷ b.engine_version) (9 ∷ b.map) (9 ∷ b.title) (9 ∷ b.game_name) (10 ∷ []))

@@ -4,10 +4,10 @@ pub returns-in-ClientBattleStatus-clause-ok : goal.returns-in-ClientBattleStatus
 returns-in-ClientBattleStatus-clause-ok c = rw (c.in-ClientBattleStatus.is) c.put_client_battle_status.ensures.ok
 
 pub returns-in-SaidBattle-clause-ok : goal.returns-in-SaidBattle-clause-ok
-returns-in-SaidBattle-clause-ok c = rw (c.in-SaidBattle.is) c.put_said_battle.ensures.ok
+returns-in-SaidBattle-clause-ok c = rw (c.in-SaidBattle.is) c.put_name_and_text.ensures.ok
 
 pub returns-in-SaidBattleEx-clause-ok : goal.returns-in-SaidBattleEx-clause-ok
-returns-in-SaidBattleEx-clause-ok c = rw (c.in-SaidBattleEx.is) c.put_said_battle_ex.ensures.ok
+returns-in-SaidBattleEx-clause-ok c = rw (c.in-SaidBattleEx.is) c.put_name_and_text-in-SaidBattleEx.ensures.ok
 
 pub returns-in-AddBot-clause-ok : goal.returns-in-AddBot-clause-ok
 returns-in-AddBot-clause-ok c = rw (c.in-AddBot.is) c.put_add_bot.ensures.ok
@@ -31,4 +31,4 @@ pub returns-in-RemoveScriptTags-clause-ok : goal.returns-in-RemoveScriptTags-cla
 returns-in-RemoveScriptTags-clause-ok c = rw (c.in-RemoveScriptTags.is) c.put_remove_script_tags.ensures.ok
 
 pub returns-in-Ring-clause-ok : goal.returns-in-Ring-clause-ok
-returns-in-Ring-clause-ok c = rw (c.in-Ring.is) c.put_ring.ensures.ok
+returns-in-Ring-clause-ok c = rw (c.in-Ring.is) c.put_only_name.ensures.ok

@@ -4,28 +4,28 @@ pub returns-in-TasServer-clause-ok : goal.returns-in-TasServer-clause-ok
 returns-in-TasServer-clause-ok c = rw (c.in-TasServer.is) c.put_tas_server.ensures.ok
 
 pub returns-in-Accepted-clause-ok : goal.returns-in-Accepted-clause-ok
-returns-in-Accepted-clause-ok c = rw (c.in-Accepted.is) c.put_accepted.ensures.ok
+returns-in-Accepted-clause-ok c = rw (c.in-Accepted.is) c.put_only_name.ensures.ok
 
 pub returns-in-Denied-clause-ok : goal.returns-in-Denied-clause-ok
-returns-in-Denied-clause-ok c = rw (c.in-Denied.is) c.put_denied.ensures.ok
+returns-in-Denied-clause-ok c = rw (c.in-Denied.is) c.put_only_text.ensures.ok
 
 pub returns-in-Motd-clause-ok : goal.returns-in-Motd-clause-ok
-returns-in-Motd-clause-ok c = rw (c.in-Motd.is) c.put_motd.ensures.ok
+returns-in-Motd-clause-ok c = rw (c.in-Motd.is) c.put_only_text-in-Motd.ensures.ok
 
 pub returns-in-ServerMsg-clause-ok : goal.returns-in-ServerMsg-clause-ok
-returns-in-ServerMsg-clause-ok c = rw (c.in-ServerMsg.is) c.put_server_msg.ensures.ok
+returns-in-ServerMsg-clause-ok c = rw (c.in-ServerMsg.is) c.put_only_text-in-ServerMsg.ensures.ok
 
 pub returns-in-AddUser-clause-ok : goal.returns-in-AddUser-clause-ok
 returns-in-AddUser-clause-ok c = rw (c.in-AddUser.is) c.put_add_user.ensures.ok
 
 pub returns-in-RemoveUser-clause-ok : goal.returns-in-RemoveUser-clause-ok
-returns-in-RemoveUser-clause-ok c = rw (c.in-RemoveUser.is) c.put_remove_user.ensures.ok
+returns-in-RemoveUser-clause-ok c = rw (c.in-RemoveUser.is) c.put_only_name-in-RemoveUser.ensures.ok
 
 pub returns-in-ClientStatus-clause-ok : goal.returns-in-ClientStatus-clause-ok
-returns-in-ClientStatus-clause-ok c = rw (c.in-ClientStatus.is) c.put_client_status.ensures.ok
+returns-in-ClientStatus-clause-ok c = rw (c.in-ClientStatus.is) c.put_name_and_number.ensures.ok
 
 pub returns-in-LoginInfoEnd-clause-ok : goal.returns-in-LoginInfoEnd-clause-ok
-returns-in-LoginInfoEnd-clause-ok c = rw (c.in-LoginInfoEnd.is) c.put_login_info_end.ensures.ok
+returns-in-LoginInfoEnd-clause-ok c = rw (c.in-LoginInfoEnd.is) c.put_nothing.ensures.ok
 
 pub returns-in-Pong-clause-ok : goal.returns-in-Pong-clause-ok
-returns-in-Pong-clause-ok c = rw (c.in-Pong.is) c.put_pong.ensures.ok
+returns-in-Pong-clause-ok c = rw (c.in-Pong.is) c.put_nothing-in-Pong.ensures.ok

@@ -1,8 +1,0 @@
-use Rattle.reply_grammar.proofs.Whole.{line_takes, not_read}
-use Rattle.reply_grammar.proofs.reading.read_reply.Goals as goal
-
-pub returns-in-Ok-clause-some : goal.returns-in-Ok-clause-some
-returns-in-Ok-clause-some c = line_takes c.args.line.now c.in-Ok.pair c.in-Ok.ensures
-
-pub returns-in-Err-Unread-clause-none : goal.returns-in-Err-Unread-clause-none
-returns-in-Err-Unread-clause-none c pair reads = not_read c.args.line.now pair (rw c.in-Err-Unread.field-0-is at c.in-Err-Unread.ensures) reads

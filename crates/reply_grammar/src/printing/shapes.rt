@@ -1,0 +1,133 @@
+//! Printing the lines of the arguments that several replies share.
+#![tactic(auto, using(crate::proofs::Kept::kept_then, crate::proofs::Kept::kept_more))]
+
+ghost use Rattle.std.specs.Prelude.{◌≡◌, [], ◌∷◌, ◌++◌, IfOk, length, take};
+ghost use Rattle.reply_grammar.specs.Kinds.{Name, Text};
+ghost use Rattle.reply_grammar.specs.Replies.{battle_number, line_with, status_word};
+
+use super::pieces::{put_command, put_end, put_name, put_number, put_text};
+use crate::command_word::CommandWord;
+use line_words::{NameBuf, TextBuf};
+use std::alloc::AllocError;
+
+pub(super) fn put_nothing(
+    out: &mut Vec<u8>,
+    id: Option<u32>,
+    command: CommandWord,
+) -> Result<(), AllocError>
+    ensures ok { IfOk result (λ _. out.new.items ≡ out.old.items ++ line_with id command [] tt) }
+    ensures kept { take (length out.old.items) out.new.items ≡ out.old.items }
+{
+    put_command(out, id, command)?;
+    put_end(out)
+}
+
+pub(super) fn put_only_battle(
+    out: &mut Vec<u8>,
+    id: Option<u32>,
+    command: CommandWord,
+    battle: u32,
+) -> Result<(), AllocError>
+    ensures ok { IfOk result (λ _. out.new.items ≡ out.old.items ++ line_with id command (battle_number ∷ []) (battle, tt)) }
+    ensures kept { take (length out.old.items) out.new.items ≡ out.old.items }
+{
+    put_command(out, id, command)?;
+    put_number(out, battle)?;
+    put_end(out)
+}
+
+pub(super) fn put_only_name(
+    out: &mut Vec<u8>,
+    id: Option<u32>,
+    command: CommandWord,
+    name: &NameBuf,
+) -> Result<(), AllocError>
+    ensures ok { IfOk result (λ _. out.new.items ≡ out.old.items ++ line_with id command (Name ∷ []) (name.now, tt)) }
+    ensures kept { take (length out.old.items) out.new.items ≡ out.old.items }
+{
+    put_command(out, id, command)?;
+    put_name(out, name)?;
+    put_end(out)
+}
+
+pub(super) fn put_only_text(
+    out: &mut Vec<u8>,
+    id: Option<u32>,
+    command: CommandWord,
+    text: &TextBuf,
+) -> Result<(), AllocError>
+    ensures ok { IfOk result (λ _. out.new.items ≡ out.old.items ++ line_with id command (Text ∷ []) (text.now, tt)) }
+    ensures kept { take (length out.old.items) out.new.items ≡ out.old.items }
+{
+    put_command(out, id, command)?;
+    put_text(out, text)?;
+    put_end(out)
+}
+
+pub(super) fn put_two_names(
+    out: &mut Vec<u8>,
+    id: Option<u32>,
+    command: CommandWord,
+    first: &NameBuf,
+    second: &NameBuf,
+) -> Result<(), AllocError>
+    ensures ok { IfOk result (λ _. out.new.items ≡ out.old.items ++ line_with id command (Name ∷ Name ∷ []) (first.now, (second.now, tt))) }
+    ensures kept { take (length out.old.items) out.new.items ≡ out.old.items }
+{
+    put_command(out, id, command)?;
+    put_name(out, first)?;
+    put_name(out, second)?;
+    put_end(out)
+}
+
+pub(super) fn put_name_and_number(
+    out: &mut Vec<u8>,
+    id: Option<u32>,
+    command: CommandWord,
+    name: &NameBuf,
+    number: u32,
+) -> Result<(), AllocError>
+    ensures ok { IfOk result (λ _. out.new.items ≡ out.old.items ++ line_with id command (Name ∷ status_word ∷ []) (name.now, (number, tt))) }
+    ensures kept { take (length out.old.items) out.new.items ≡ out.old.items }
+{
+    put_command(out, id, command)?;
+    put_name(out, name)?;
+    put_number(out, number)?;
+    put_end(out)
+}
+
+pub(super) fn put_name_and_text(
+    out: &mut Vec<u8>,
+    id: Option<u32>,
+    command: CommandWord,
+    name: &NameBuf,
+    text: &TextBuf,
+) -> Result<(), AllocError>
+    ensures ok { IfOk result (λ _. out.new.items ≡ out.old.items ++ line_with id command (Name ∷ Text ∷ []) (name.now, (text.now, tt))) }
+    ensures kept { take (length out.old.items) out.new.items ≡ out.old.items }
+{
+    put_command(out, id, command)?;
+    put_name(out, name)?;
+    put_text(out, text)?;
+    put_end(out)?;
+    Ok(())
+}
+
+pub(super) fn put_two_names_and_text(
+    out: &mut Vec<u8>,
+    id: Option<u32>,
+    command: CommandWord,
+    first: &NameBuf,
+    second: &NameBuf,
+    text: &TextBuf,
+) -> Result<(), AllocError>
+    ensures ok { IfOk result (λ _. out.new.items ≡ out.old.items ++ line_with id command (Name ∷ Name ∷ Text ∷ []) (first.now, (second.now, (text.now, tt)))) }
+    ensures kept { take (length out.old.items) out.new.items ≡ out.old.items }
+{
+    put_command(out, id, command)?;
+    put_name(out, first)?;
+    put_name(out, second)?;
+    put_text(out, text)?;
+    put_end(out)?;
+    Ok(())
+}

@@ -1,0 +1,9 @@
+pub mod Pieces
+pub mod Naturals
+pub mod NumberFields
+pub mod Several
+pub mod Rows
+pub mod Whole
+pub mod Signed
+pub mod Many
+pub mod Dispatch

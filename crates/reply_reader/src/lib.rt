@@ -1,0 +1,20 @@
+//! The lobby's replies, read back from their lines: the inverse of `reply_grammar::print`.
+//!
+//! Servers print; bots, clients and tests read.
+#![tactic(auto)]
+
+mod battles;
+mod channels;
+mod command_words;
+mod error;
+mod fields;
+mod laws;
+mod lists;
+mod numbers;
+mod reading;
+mod room;
+mod session;
+mod shapes;
+
+pub use laws::{each_reads_alone, no_two_alike};
+pub use reading::read_reply;
