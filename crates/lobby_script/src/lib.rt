@@ -1,7 +1,7 @@
-//! Scripts of a schedule: connects, bytes and disconnects, a line each. A script is played against a
-//! lobby of its own, and what each client was sent is shown. This is the layer above the hall: it
-//! knows lines of a script, and where they are read from and shown to only as a reader and a
-//! writer. It knows no standard streams, exits or arguments, and no sockets.
+//! Scripts of a schedule: connects, bytes and disconnects, a line each. `play` plays a script
+//! against a lobby of its own, and shows what each client was sent. This layer stands on the hall.
+//! Of the world outside it knows a reader and a writer alone: standard streams and arguments are the
+//! program's, and of sockets nothing is known here.
 #![tactic(auto)]
 
 mod accounts;
