@@ -1,6 +1,10 @@
-//! Tests of the lobby machine, by its public calls. They stand in a crate of their own, since a
-//! crate with tests is proved twice.
+//! Tests of the lobby machine and of halls, by their public calls. They stand in a crate of their
+//! own, since a crate with tests is proved twice.
 #![tactic(auto)]
 
 #[cfg(test)]
+mod hall;
+#[cfg(test)]
 mod machine;
+#[cfg(test)]
+mod settings;
