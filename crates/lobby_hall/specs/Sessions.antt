@@ -1,7 +1,9 @@
 -- What a session stands for: the bytes that its client sent, and how many of its lines were accepted.
-use Rattle.std.specs.Prelude.{◌≡◌, ℕ, Bool, ◌||◌, List, Option, Some, None, is_some, true, false, slice_get}
+use Rattle.std.specs.Prelude.{◌≡◌, ℕ, Bool, ◌||◌, List, Option, Some, None, is_some, IsTrue, true, false, slice_get}
 use Rattle.line_framer.specs.Frames.{frames, is_spoilt}
 use Rattle.line_framer.specs.Framed.{Framed, StandsFor}
+use Rattle.command_grammar.specs.declared.command.Request.{Request}
+use Rattle.command_grammar.specs.Owning.{owns_bytes}
 use Rattle.command_grammar.specs.Reads.{Reads}
 use Rattle.lobby_model.specs.Schedule.{line_limit}
 use Rattle.lobby_hall.specs.declared.session.Next.{Next}
@@ -22,6 +24,14 @@ NextAt None bytes Spoilt = is_spoilt bytes line_limit ≡ true
 
 abbrev pub IsNext : List ℕ → ℕ → Next → Type 0
 IsNext bytes accepted next = NextAt (slice_get (frames bytes line_limit) accepted) bytes next
+
+-- a line is next, and the command that it reads as owns bytes
+abbrev pub NeedsMemoryAt : Option (List ℕ) → Type 0
+NeedsMemoryAt (Some line) = (request : Request) → Reads line request → IsTrue (owns_bytes request.command)
+NeedsMemoryAt None = ⊥
+
+abbrev pub NeedsMemory : List ℕ → ℕ → Type 0
+NeedsMemory bytes accepted = NeedsMemoryAt (slice_get (frames bytes line_limit) accepted)
 
 -- whether a whole line or a spoilt place is next
 abbrev pub has_next : List ℕ → ℕ → Bool

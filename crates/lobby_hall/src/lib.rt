@@ -12,6 +12,3 @@ pub use hall::{Hall, HallError, run};
 pub use lobby_model::Step;
 pub use record::Record;
 pub use session::{Next, Session};
-
-#[cfg(test)]
-mod tests;

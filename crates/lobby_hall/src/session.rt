@@ -1,9 +1,9 @@
 //! One client's bytes, read line by line.
 
-ghost use Rattle.std.specs.Prelude.{◌≡◌, ℕ, ◌+◌, ◌↔◌, List, [], ◌++◌, IfOk, IsSome, IsTrue, true};
+ghost use Rattle.std.specs.Prelude.{◌≡◌, ℕ, ◌+◌, ◌↔◌, List, [], ◌++◌, IfOk, OnErr, IsSome, IsTrue, true};
 ghost use Rattle.line_framer.specs.Feeding.{IsJudged};
 ghost use Rattle.line_framer.specs.Framed.{next_line};
-ghost use Rattle.lobby_hall.specs.Sessions.{Heard, IsNext, has_next};
+ghost use Rattle.lobby_hall.specs.Sessions.{Heard, IsNext, NeedsMemory, has_next};
 
 use command_grammar::{Request, read_request};
 use line_framer::{FeedError, Framer};
@@ -22,6 +22,15 @@ pub enum Next {
     Line(Request),
     /// No whole line is left before a line that is too long.
     Spoilt,
+}
+
+impl Next {
+    /// Lets it go, as `Request::discard` does.
+    pub fn discard(self) {
+        if let Next::Line(request) = self {
+            request.discard();
+        }
+    }
 }
 
 /// The bytes that came from one client, from the next line on.
@@ -73,9 +82,10 @@ impl Session {
     }
 
     /// What the client asks next: the request of the first line that was not accepted. Memory is
-    /// taken for what the request owns alone.
+    /// taken for the bytes that its command owns alone; the error says that it was refused.
     pub fn next_request(&self) -> Result<Next, AllocError>
-        ensures { IfOk result (λ next. (bytes : List ℕ) (accepted : ℕ) → Heard self.now.framed bytes accepted → IsNext bytes accepted next) }
+        ensures ok { IfOk result (λ next. (bytes : List ℕ) (accepted : ℕ) → Heard self.now.framed bytes accepted → IsNext bytes accepted next) }
+        ensures refused { OnErr result ((bytes : List ℕ) (accepted : ℕ) → Heard self.now.framed bytes accepted → NeedsMemory bytes accepted) }
     {
         match self.framer.peek() {
             Some(line) => Ok(Next::Line(read_request(self.alloc, line)?)),

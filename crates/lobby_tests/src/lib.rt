@@ -1,8 +1,12 @@
-//! Tests of the lobby machine and of scripts, by public calls alone. They stand in a crate of their
-//! own, since a crate with tests is proved twice.
+//! Tests of the lobby machine, of halls and of scripts, by public calls alone. They stand in a crate
+//! of their own, since a crate with tests is proved twice.
 #![tactic(auto)]
 
+#[cfg(test)]
+mod hall;
 #[cfg(test)]
 mod machine;
 #[cfg(test)]
 mod scripts;
+#[cfg(test)]
+mod settings;

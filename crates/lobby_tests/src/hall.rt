@@ -1,0 +1,141 @@
+//! Halls and sessions with memory at hand, and a step that memory refused.
+
+ghost use Rattle.std.specs.List.{AllByRecursion};
+ghost use Rattle.lobby_hall.specs.Standing.{HasHome};
+
+use crate::settings::settings;
+use account_book::AccountBook;
+use command_grammar::Request;
+use line_framer::FeedError;
+use lobby_hall::{Hall, HallError, Next, Record, Session, run};
+use lobby_model::Step;
+use lobby_model::schedule::Piece;
+use std::alloc::{AllocError, Global};
+use std::test::Fail;
+
+const GREETING_AND_PONG: &[u8] = b"TASSERVER 0.38 * 8201 0\nPONG\n";
+
+fn piece(alloc: Global, bytes: &[u8]) -> Result<Piece, AllocError> {
+    Vec::from_slice(alloc, bytes).map(Piece::of)
+}
+
+// The record of these steps, to which nobody may log in.
+fn record_of(alloc: Global, steps: &[Step]) -> Result<Record, Fail>
+    requires { AllByRecursion HasHome steps.now }
+{
+    let settings = settings(alloc, &[])?;
+    Ok(run(alloc, settings, AccountBook::new(alloc), steps)?)
+}
+
+#[test]
+fn a_whole_schedule_leaves_its_record(rt: HostRuntime) -> Result<(), Fail> {
+    let bytes = piece(rt.alloc(), b"PING\n")?;
+    let steps = [
+        Step::Open {
+            ip: [192, 168, 0, 1],
+            home: 0,
+        },
+        Step::Arrive { client: 1, bytes },
+        Step::Take { client: 1 },
+        Step::Read {
+            client: 1,
+            count: 5,
+        },
+    ];
+    let record = record_of(rt.alloc(), &steps)?;
+    assert_eq!(rt; record.put(1), GREETING_AND_PONG);
+    assert_eq!(rt; record.read(1), b"TASSE".as_slice());
+    assert!(rt; record.put(0).is_empty() && record.read(0).is_empty());
+    assert!(rt; record.put(2).is_empty() && record.read(2).is_empty());
+    Ok(())
+}
+
+fn new_hall(alloc: Global) -> Result<Hall, Fail> {
+    let settings = settings(alloc, &[])?;
+    Ok(Hall::new(alloc, settings, AccountBook::new(alloc))?)
+}
+
+// Takes the step, once more where memory was refused, since that changed nothing.
+fn takes(hall: &mut Hall, step: &Step) -> Result<(), HallError>
+    requires { HasHome step.now }
+{
+    match hall.step(step) {
+        Err(HallError::Memory) => hall.step(step),
+        Ok(()) => Ok(()),
+    }
+}
+
+// A client connects, says PING, and is answered.
+fn serve_ping(hall: &mut Hall, alloc: Global) -> Result<(), HallError> {
+    takes(
+        hall,
+        &Step::Open {
+            ip: [192, 168, 0, 1],
+            home: 0,
+        },
+    )?;
+    let bytes = piece(alloc, b"PING\n")?;
+    takes(hall, &Step::Arrive { client: 1, bytes })?;
+    takes(hall, &Step::Take { client: 1 })
+}
+
+#[test]
+fn a_step_that_memory_refused_leaves_no_trace(rt: HostRuntime) -> Result<(), Fail> {
+    let mut hall = new_hall(rt.alloc())?;
+    assert_eq!(rt; serve_ping(&mut hall, rt.alloc()), Ok(()));
+    assert_eq!(rt; hall.last_client(), 1);
+    let step = Step::Read {
+        client: 1,
+        count: 5,
+    };
+    assert_eq!(rt; takes(&mut hall, &step), Ok(()));
+    assert_eq!(rt; hall.record()?.put(1), GREETING_AND_PONG);
+    assert_eq!(rt; hall.into_record()?.read(1), b"TASSE".as_slice());
+    Ok(())
+}
+
+// What a client asks next: nothing, a request with this id, or to be disconnected.
+#[derive(Clone, Copy, PartialEq, Eq, Debug)]
+enum Asked {
+    Nothing,
+    Request(Option<u32>),
+    Spoilt,
+}
+
+fn id_of(request: Request) -> Asked {
+    let id = request.id;
+    request.discard();
+    Asked::Request(id)
+}
+
+fn asked_by(next: Next) -> Asked {
+    match next {
+        Next::Nothing => Asked::Nothing,
+        Next::Line(request) => id_of(request),
+        Next::Spoilt => Asked::Spoilt,
+    }
+}
+
+fn next_asked(session: &Session) -> Result<Asked, AllocError> {
+    match session.next_request() {
+        Ok(next) => Ok(asked_by(next)),
+        Err(refused) => Err(refused),
+    }
+}
+
+#[test]
+fn a_session_gives_lines_up_to_the_spoilt_place(rt: HostRuntime) -> Result<(), Fail> {
+    let mut session = Session::new(rt.alloc(), 7);
+    assert_eq!(rt; session.client(), 7);
+    assert!(rt; !session.is_ready());
+    assert_eq!(rt; next_asked(&session), Ok(Asked::Nothing));
+    assert_eq!(rt; session.feed(b"#7 PING\nPI"), Ok(()));
+    assert!(rt; session.is_ready());
+    assert_eq!(rt; next_asked(&session), Ok(Asked::Request(Some(7))));
+    assert_eq!(rt; session.feed(&[b'N'; 8191]), Err(FeedError::Spoilt));
+    assert!(rt; session.has_line());
+    session.accept_request();
+    assert!(rt; !session.has_line());
+    assert_eq!(rt; next_asked(&session), Ok(Asked::Spoilt));
+    Ok(())
+}
