@@ -10,7 +10,7 @@ use line_words::is_name;
 use std::alloc::Global;
 use std::marker::Model;
 
-/// The highest rank.
+/// The highest rank: a status word has three bits for it.
 const TOP_RANK: u8 = 7;
 
 /// An account under which a client can log in.

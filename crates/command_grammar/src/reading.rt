@@ -14,7 +14,8 @@ use crate::forms;
 use line_words::{Words, is_text, read_number, split_at_byte};
 use std::alloc::{AllocError, Global};
 
-/// The largest message id.
+/// The largest message id: clients keep it as a number of 32 bits with a sign, and would not know a
+/// larger one again.
 const ID_LIMIT: i64 = 2147483647;
 
 /// What the line asks for: the one request that it reads as. `line` is a client's line without its

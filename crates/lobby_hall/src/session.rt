@@ -10,7 +10,8 @@ use line_framer::{FeedError, Framer};
 use std::alloc::{AllocError, Global};
 use std::marker::Model;
 
-/// The most bytes of a client's line before its LF, a CR that is dropped counted.
+/// The most bytes of a client's line before its LF, a CR that is dropped counted. Without a limit one
+/// client could fill the memory by a line that never ends.
 const LINE_LIMIT: usize = 8_192;
 
 /// What a client asks next.

@@ -23,7 +23,8 @@ use std::alloc::{AllocError, Global};
 use std::collections::BTreeMap;
 use std::marker::Model;
 
-/// The most clients that are not yet disconnected.
+/// The most clients that are not yet disconnected. Without a limit connects alone could fill the
+/// memory, since each client has an outbox.
 pub const CLIENT_LIMIT: usize = 10_000;
 
 /// Whether an open gets a number.
