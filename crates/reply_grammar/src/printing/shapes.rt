@@ -1,4 +1,5 @@
-//! Printing the lines of the arguments that several replies share.
+//! Printing the lines of the arguments that several replies share. They are inlined, so that the
+//! command word is a constant where they are called.
 #![tactic(auto, using(crate::proofs::Kept::kept_then, crate::proofs::Kept::kept_more))]
 
 ghost use Rattle.std.specs.Prelude.{◌≡◌, [], ◌∷◌, ◌++◌, IfOk, length, take};
@@ -10,6 +11,7 @@ use crate::command_word::CommandWord;
 use line_words::{NameBuf, TextBuf};
 use std::alloc::AllocError;
 
+#[inline(always)]
 pub(super) fn put_nothing(
     out: &mut Vec<u8>,
     id: Option<u32>,
@@ -22,6 +24,7 @@ pub(super) fn put_nothing(
     put_end(out)
 }
 
+#[inline(always)]
 pub(super) fn put_only_battle(
     out: &mut Vec<u8>,
     id: Option<u32>,
@@ -36,6 +39,7 @@ pub(super) fn put_only_battle(
     put_end(out)
 }
 
+#[inline(always)]
 pub(super) fn put_only_name(
     out: &mut Vec<u8>,
     id: Option<u32>,
@@ -50,6 +54,7 @@ pub(super) fn put_only_name(
     put_end(out)
 }
 
+#[inline(always)]
 pub(super) fn put_only_text(
     out: &mut Vec<u8>,
     id: Option<u32>,
@@ -64,6 +69,7 @@ pub(super) fn put_only_text(
     put_end(out)
 }
 
+#[inline(always)]
 pub(super) fn put_two_names(
     out: &mut Vec<u8>,
     id: Option<u32>,
@@ -80,6 +86,7 @@ pub(super) fn put_two_names(
     put_end(out)
 }
 
+#[inline(always)]
 pub(super) fn put_name_and_number(
     out: &mut Vec<u8>,
     id: Option<u32>,
@@ -96,6 +103,7 @@ pub(super) fn put_name_and_number(
     put_end(out)
 }
 
+#[inline(always)]
 pub(super) fn put_name_and_text(
     out: &mut Vec<u8>,
     id: Option<u32>,
@@ -113,6 +121,7 @@ pub(super) fn put_name_and_text(
     Ok(())
 }
 
+#[inline(always)]
 pub(super) fn put_two_names_and_text(
     out: &mut Vec<u8>,
     id: Option<u32>,
