@@ -11,6 +11,7 @@ use lobby_hall::{Hall, HallError, Next, Record, Session, run};
 use lobby_model::Step;
 use lobby_model::schedule::Piece;
 use std::alloc::{AllocError, Global};
+use std::process::Abort;
 use std::test::Fail;
 
 const GREETING_AND_PONG: &[u8] = b"TASSERVER 0.38 * 8201 0\nPONG\n";
@@ -27,6 +28,13 @@ fn record_of(alloc: Global, steps: &[Step]) -> Result<Record, Fail>
     Ok(run(alloc, settings, AccountBook::new(alloc), steps)?)
 }
 
+fn compare(rt: &impl Abort, record: &Record) {
+    assert_eq!(rt; record.put(1), GREETING_AND_PONG);
+    assert_eq!(rt; record.read(1), b"TASSE".as_slice());
+    assert!(rt; record.put(0).is_empty() && record.read(0).is_empty());
+    assert!(rt; record.put(2).is_empty() && record.read(2).is_empty());
+}
+
 #[test]
 fn a_whole_schedule_leaves_its_record(rt: HostRuntime) -> Result<(), Fail> {
     let bytes = piece(rt.alloc(), b"PING\n")?;
@@ -41,12 +49,11 @@ fn a_whole_schedule_leaves_its_record(rt: HostRuntime) -> Result<(), Fail> {
             client: 1,
             count: 5,
         },
+        // There is no such client.
+        Step::Shut { client: 2 },
     ];
     let record = record_of(rt.alloc(), &steps)?;
-    assert_eq!(rt; record.put(1), GREETING_AND_PONG);
-    assert_eq!(rt; record.read(1), b"TASSE".as_slice());
-    assert!(rt; record.put(0).is_empty() && record.read(0).is_empty());
-    assert!(rt; record.put(2).is_empty() && record.read(2).is_empty());
+    compare(&rt, &record);
     Ok(())
 }
 
@@ -79,18 +86,29 @@ fn serve_ping(hall: &mut Hall, alloc: Global) -> Result<(), HallError> {
     takes(hall, &Step::Take { client: 1 })
 }
 
-#[test]
-fn a_step_that_memory_refused_leaves_no_trace(rt: HostRuntime) -> Result<(), Fail> {
-    let mut hall = new_hall(rt.alloc())?;
-    assert_eq!(rt; serve_ping(&mut hall, rt.alloc()), Ok(()));
-    assert_eq!(rt; hall.last_client(), 1);
+// The first call for the record takes all memory that it needs, unless that is refused.
+fn read_on(rt: &impl Abort, hall: &mut Hall) -> Result<(), HallError> {
     let step = Step::Read {
         client: 1,
         count: 5,
     };
-    assert_eq!(rt; takes(&mut hall, &step), Ok(()));
+    assert_eq!(rt; takes(hall, &step), Ok(()));
+    assert_eq!(rt; hall.last_client(), 1);
+    let _ = hall.record().is_err();
     assert_eq!(rt; hall.record()?.put(1), GREETING_AND_PONG);
-    assert_eq!(rt; hall.into_record()?.read(1), b"TASSE".as_slice());
+    Ok(())
+}
+
+fn has_read(hall: Hall) -> Result<bool, HallError> {
+    Ok(hall.into_record()?.read(1) == b"TASSE".as_slice())
+}
+
+#[test]
+fn a_step_that_memory_refused_leaves_no_trace(rt: HostRuntime) -> Result<(), Fail> {
+    let mut hall = new_hall(rt.alloc())?;
+    assert_eq!(rt; serve_ping(&mut hall, rt.alloc()), Ok(()));
+    assert_eq!(rt; read_on(&rt, &mut hall), Ok(()));
+    assert_eq!(rt; has_read(hall), Ok(true));
     Ok(())
 }
 
@@ -123,19 +141,26 @@ fn next_asked(session: &Session) -> Result<Asked, AllocError> {
     }
 }
 
-#[test]
-fn a_session_gives_lines_up_to_the_spoilt_place(rt: HostRuntime) -> Result<(), Fail> {
-    let mut session = Session::new(rt.alloc(), 7);
-    assert_eq!(rt; session.client(), 7);
+fn ask(rt: &impl Abort, session: &mut Session) {
     assert!(rt; !session.is_ready());
-    assert_eq!(rt; next_asked(&session), Ok(Asked::Nothing));
+    assert_eq!(rt; next_asked(session), Ok(Asked::Nothing));
     assert_eq!(rt; session.feed(b"#7 PING\nPI"), Ok(()));
     assert!(rt; session.is_ready());
-    assert_eq!(rt; next_asked(&session), Ok(Asked::Request(Some(7))));
+    assert_eq!(rt; next_asked(session), Ok(Asked::Request(Some(7))));
+}
+
+fn spoil(rt: &impl Abort, session: &mut Session) {
     assert_eq!(rt; session.feed(&[b'N'; 8191]), Err(FeedError::Spoilt));
     assert!(rt; session.has_line());
     session.accept_request();
     assert!(rt; !session.has_line());
-    assert_eq!(rt; next_asked(&session), Ok(Asked::Spoilt));
-    Ok(())
+    assert_eq!(rt; next_asked(session), Ok(Asked::Spoilt));
+}
+
+#[test]
+fn a_session_gives_lines_up_to_the_spoilt_place(rt: HostRuntime) {
+    let mut session = Session::new(rt.alloc(), 7);
+    assert_eq!(rt; session.client(), 7);
+    ask(&rt, &mut session);
+    spoil(&rt, &mut session);
 }

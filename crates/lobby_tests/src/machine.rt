@@ -9,6 +9,7 @@ use line_words::TextBuf;
 use lobby_machine::{Lobby, OpenError, Wakes};
 use lobby_model::Settings;
 use std::alloc::{AllocError, Global};
+use std::process::Abort;
 use std::test::Fail;
 
 const WORD: &[u8] = b"X03MO1qnZdYdgyfeuILPmQ==";
@@ -60,50 +61,74 @@ fn drains(lobby: &mut Lobby, client: u64, into: &mut [u8], want: &[u8]) -> bool 
     drained.count == want.len() && into.starts_with(want)
 }
 
-// Whether a line of client 1 wakes this worker alone.
-fn wakes_alone(lobby: &mut Lobby, alloc: Global, line: &[u8], worker: u8) -> Result<bool, Fail>
+// Whether a line of a client wakes this worker alone.
+fn wakes_alone(
+    lobby: &mut Lobby,
+    alloc: Global,
+    client: u64,
+    line: &[u8],
+    worker: u8,
+) -> Result<bool, Fail>
     requires { worker < 64 }
 {
-    let wakes = say(lobby, alloc, 1, line)?;
+    let wakes = say(lobby, alloc, client, line)?;
     Ok(wakes.has(worker) && wakes == Wakes::one(worker))
+}
+
+// Whether a line of a client wakes nobody.
+fn wakes_nobody(lobby: &mut Lobby, alloc: Global, client: u64, line: &[u8]) -> Result<bool, Fail> {
+    Ok(say(lobby, alloc, client, line)? == Wakes::none())
+}
+
+fn open_two(rt: &impl Abort, lobby: &mut Lobby) {
+    assert!(rt; lobby.has_place());
+    assert_eq!(rt; lobby.open([10, 0, 0, 1], 5), Ok(1));
+    assert_eq!(rt; lobby.open([10, 0, 0, 2], 63), Ok(2));
+    assert_eq!(rt; lobby.last_client(), 2);
+}
+
+fn wake(rt: &impl Abort, alloc: Global, lobby: &mut Lobby) -> Result<(), Fail> {
+    assert!(rt; wakes_alone(lobby, alloc, 1, b"PING", 5)?);
+    assert!(rt; wakes_alone(lobby, alloc, 2, b"PING", 63)?);
+    assert!(rt; wakes_nobody(lobby, alloc, 1, b"   ")?);
+    Ok(())
 }
 
 #[test]
 fn an_answer_wakes_the_worker_of_its_client(rt: HostRuntime) -> Result<(), Fail> {
     let mut lobby = new_lobby(rt.alloc())?;
-    assert!(rt; lobby.has_place());
-    assert_eq!(rt; lobby.open([10, 0, 0, 1], 63), Ok(1));
-    assert_eq!(rt; lobby.open([10, 0, 0, 2], 5), Ok(2));
-    assert_eq!(rt; lobby.last_client(), 2);
-    assert!(rt; wakes_alone(&mut lobby, rt.alloc(), b"PING", 63)?);
+    open_two(&rt, &mut lobby);
+    wake(&rt, rt.alloc(), &mut lobby)
+}
+
+fn exit(rt: &impl Abort, alloc: Global, lobby: &mut Lobby) -> Result<(), Fail> {
+    assert_eq!(rt; lobby.open([10, 0, 0, 1], 0), Ok(1));
+    assert!(rt; wakes_nobody(lobby, alloc, 1, b"EXIT bye")?);
+    assert!(rt; wakes_nobody(lobby, alloc, 1, b"PING")?);
     Ok(())
 }
 
-// A client says EXIT, which wakes nobody, and then a line that counts no more.
-fn exit(lobby: &mut Lobby, alloc: Global, client: u64) -> Result<(), Fail> {
-    for line in [b"EXIT bye".as_slice(), b"PING"] {
-        if say(lobby, alloc, client, line)? != Wakes::none() {
-            return Err(Fail::from("a worker is woken"));
-        }
-    }
-    Ok(())
+fn read_on(rt: &impl Abort, lobby: &mut Lobby) {
+    let mut piece = [0; 16];
+    assert!(rt; lobby.copy_unread(1, 19, &mut piece) == 5 && piece.starts_with(b"01 0\n"));
+    assert!(rt; drains(lobby, 1, &mut piece, b"TASSERVER 0.38 *"));
+    assert!(rt; !lobby.drain(1, &mut []).finished);
+    assert!(rt; drains(lobby, 1, &mut piece, b" 8201 0\n"));
+    assert!(rt; lobby.drain(1, &mut []).finished);
+}
+
+fn leave(rt: &impl Abort, lobby: &mut Lobby) {
+    assert!(rt; lobby.has_client(1));
+    assert_eq!(rt; lobby.shut(1), Ok(Wakes::none()));
+    assert!(rt; !lobby.has_client(1));
 }
 
 #[test]
 fn a_client_that_exits_may_read_on(rt: HostRuntime) -> Result<(), Fail> {
     let mut lobby = new_lobby(rt.alloc())?;
-    let client = 1;
-    assert_eq!(rt; lobby.open([10, 0, 0, 1], 0), Ok(client));
-    exit(&mut lobby, rt.alloc(), client)?;
-    let mut piece = [0; 16];
-    assert!(rt; lobby.copy_unread(client, 19, &mut piece) == 5 && piece.starts_with(b"01 0\n"));
-    assert!(rt; drains(&mut lobby, client, &mut piece, b"TASSERVER 0.38 *"));
-    assert!(rt; !lobby.drain(client, &mut []).finished);
-    assert!(rt; drains(&mut lobby, client, &mut piece, b" 8201 0\n"));
-    assert!(rt; lobby.drain(client, &mut []).finished);
-    assert!(rt; lobby.has_client(client));
-    assert_eq!(rt; lobby.shut(client), Ok(Wakes::none()));
-    assert!(rt; !lobby.has_client(client));
+    exit(&rt, rt.alloc(), &mut lobby)?;
+    read_on(&rt, &mut lobby);
+    leave(&rt, &mut lobby);
     Ok(())
 }
 
@@ -114,28 +139,37 @@ fn ping_often(lobby: &mut Lobby, alloc: Global, client: u64, times: u32) -> Resu
     Ok(())
 }
 
-#[test]
-fn a_client_that_reads_nothing_is_cut_at_the_limit(rt: HostRuntime) -> Result<(), Fail> {
-    let mut lobby = new_lobby(rt.alloc())?;
+// A greeting takes 24 bytes, and each answer 17.
+fn fill(rt: &impl Abort, alloc: Global, lobby: &mut Lobby) -> Result<(), Fail> {
     assert_eq!(rt; lobby.open([10, 0, 0, 1], 0), Ok(1));
-    // Its greeting takes 24 bytes, and each answer 17.
-    ping_often(&mut lobby, rt.alloc(), 1, 3853)?;
+    ping_often(lobby, alloc, 1, 3853)?;
     assert_eq!(rt; lobby.unread(1), 65_525);
-    assert!(rt; wakes_alone(&mut lobby, rt.alloc(), b"#2147483647 PING", 0)?);
+    Ok(())
+}
+
+fn cut(rt: &impl Abort, alloc: Global, lobby: &mut Lobby) -> Result<(), Fail> {
+    assert!(rt; wakes_alone(lobby, alloc, 1, b"#2147483647 PING", 0)?);
     assert_eq!(rt; lobby.unread(1), 0);
     assert!(rt; lobby.drain(1, &mut []).finished);
     Ok(())
 }
 
-fn read_greeting(lobby: &mut Lobby, client: u64) {
-    let _ = lobby.drain(client, &mut [0; 64]);
+#[test]
+fn a_client_that_reads_nothing_is_cut_at_the_limit(rt: HostRuntime) -> Result<(), Fail> {
+    let mut lobby = new_lobby(rt.alloc())?;
+    fill(&rt, rt.alloc(), &mut lobby)?;
+    cut(&rt, rt.alloc(), &mut lobby)
+}
+
+fn read_all(lobby: &mut Lobby, client: u64) {
+    let _ = lobby.drain(client, &mut [0; 512]);
 }
 
 // The clients 1, 2 and 3, which the workers of the same numbers serve, read their greetings.
 fn open_three(lobby: &mut Lobby) -> Result<(), OpenError> {
     for home in 1..4 {
         let client = lobby.open([10, 0, 0, 1], home)?;
-        read_greeting(lobby, client);
+        read_all(lobby, client);
     }
     Ok(())
 }
@@ -183,29 +217,47 @@ const EVENTS: [(u64, &[u8]); 4] = [
     (3, b"LOGIN Cleo X03MO1qnZdYdgyfeuILPmQ== 0 * TestLobby 1.0"),
 ];
 
-#[test]
-fn an_event_that_memory_refused_leaves_no_trace(rt: HostRuntime) -> Result<(), Fail> {
-    let mut lobby = lobby_of_three(rt.alloc())?;
-    for (client, line) in EVENTS {
-        for reader in 1..4 {
-            let _ = lobby.drain(reader, &mut [0; 512]);
-        }
-        let request = read_at_last(rt.alloc(), line)?;
-        let said = say_at_last(&mut lobby, client, &request);
-        request.discard();
-        said?;
+fn serve(lobby: &mut Lobby, alloc: Global, client: u64, line: &[u8]) -> Result<(), Fail> {
+    for reader in 1..4 {
+        read_all(lobby, reader);
     }
+    match read_at_last(alloc, line) {
+        Ok(request) => {
+            let said = say_at_last(lobby, client, &request);
+            request.discard();
+            said
+        }
+        Err(refused) => Err(Fail::from(refused)),
+    }
+}
+
+fn serve_all(lobby: &mut Lobby, alloc: Global) -> Result<(), Fail> {
+    for (client, line) in EVENTS {
+        serve(lobby, alloc, client, line)?;
+    }
+    Ok(())
+}
+
+// What the last login sent.
+fn see_cleo(rt: &impl Abort, lobby: &mut Lobby) {
     let mut into = [0; 256];
-    assert!(rt; drains(&mut lobby, 1, &mut into, b"ADDUSER Cleo FR 0 3\n"));
-    assert!(rt; drains(&mut lobby, 2, &mut into, b"ADDUSER Cleo FR 0 3\n"));
+    assert!(rt; drains(lobby, 1, &mut into, b"ADDUSER Cleo FR 0 3\n"));
+    assert!(rt; drains(lobby, 2, &mut into, b"ADDUSER Cleo FR 0 3\n"));
     assert!(rt;
         drains(
-            &mut lobby,
+            lobby,
             3,
             &mut into,
             b"ACCEPTED Cleo\nMOTD Welcome\nADDUSER Anna DE 0 1\nADDUSER Bert ?? 0 2\nADDUSER Cleo FR 0 3\nCLIENTSTATUS Anna 1\nCLIENTSTATUS Bert 12\nLOGININFOEND\n",
         )
     );
+}
+
+#[test]
+fn an_event_that_memory_refused_leaves_no_trace(rt: HostRuntime) -> Result<(), Fail> {
+    let mut lobby = lobby_of_three(rt.alloc())?;
+    serve_all(&mut lobby, rt.alloc())?;
+    see_cleo(&rt, &mut lobby);
     Ok(())
 }
 
@@ -216,13 +268,17 @@ fn open_often(lobby: &mut Lobby, times: u32) -> Result<(), OpenError> {
     Ok(())
 }
 
-#[test]
-fn ten_thousand_clients_are_full(rt: HostRuntime) -> Result<(), Fail> {
-    let mut lobby = new_lobby(rt.alloc())?;
-    assert_eq!(rt; open_often(&mut lobby, 10_000), Ok(()));
+fn find_it_full(rt: &impl Abort, lobby: &mut Lobby) {
     assert_eq!(rt; lobby.open([10, 0, 0, 1], 0), Err(OpenError::Full));
     assert_eq!(rt; lobby.last_client(), 10_000);
     assert!(rt; lobby.shut(7).is_ok());
     assert_eq!(rt; lobby.open([10, 0, 0, 1], 0), Ok(10_001));
+}
+
+#[test]
+fn ten_thousand_clients_are_full(rt: HostRuntime) -> Result<(), Fail> {
+    let mut lobby = new_lobby(rt.alloc())?;
+    assert_eq!(rt; open_often(&mut lobby, 10_000), Ok(()));
+    find_it_full(&rt, &mut lobby);
     Ok(())
 }
