@@ -5,6 +5,8 @@ set -euo pipefail
 cd "$(dirname "$0")/.."
 programs=(lobby_play lobby_main)
 mkdir -p bin
+# The programs get the time at which this began, so that a source edited meanwhile is newer than they.
+touch bin/begun
 
 # The libraries of the repository that the programs stand on, lowest first, as crates.txt lists them.
 mapfile -t libraries < <(awk -v programs="${programs[*]}" '
@@ -18,6 +20,7 @@ mapfile -t libraries < <(awk -v programs="${programs[*]}" '
         for (i = 1; i <= count; i++) if (order[i] in wanted) print order[i]
     }' crates.txt)
 
+[ "${#libraries[@]}" -gt 0 ] || { echo "crates.txt names no library"; exit 1; }
 all=$((${#libraries[@]} + ${#programs[@]}))
 count=0
 
@@ -39,5 +42,8 @@ for crate in "${libraries[@]}"; do prove "$crate" rt lib; done
 # `rt run` builds the program, and then runs it on nothing.
 prove lobby_play rt run
 prove lobby_main rt run -- hash
-for program in "${programs[@]}"; do cp "crates/$program/out/$program" bin/; done
+for program in "${programs[@]}"; do
+    cp "crates/$program/out/$program" bin/
+    touch -r bin/begun "bin/$program"
+done
 echo "bin/lobby_play and bin/lobby_main are built"

@@ -52,7 +52,7 @@ def fault(document, text, target):
             return f"nothing there is named {name}", target
         if number != int(line[1]):
             return f"{name} is at line {number}", f"{path}#L{number}"
-    elif place and file.suffix == ".md" and place not in headings(file):
+    elif place and (file.suffix != ".md" or place not in headings(file)):
         return f"it has no heading {place}", target
     return None, target
 

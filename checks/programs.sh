@@ -47,7 +47,7 @@ expect 1 "$greeting" 'line 3: bad step\n' 'open 1 10.0.0.1\nshow 1\nshow 2\nshow
 expect 2 '' 'device fault\n' . "$play"
 expect 2 '' 'script too long\n' "$(printf '\\n%.0s' {1..1048577})" "$play"
 
-said=$("$accounts" examples/accounts.toml 0 2>&1 | head -1)
+said=$({ "$accounts" examples/accounts.toml 0 2>&1 || true; } | head -1)
 case $said in
     "3 accounts read in "*) passed=$((passed + 1)) ;;
     *) echo "examples/accounts.toml: $said"; failed=$((failed + 1)) ;;

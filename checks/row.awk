@@ -1,4 +1,5 @@
-# Takes a row apart: for each of its scripts, the files FOLDER/K.script, K.shown, K.error and K.status, K from 1.
+# Takes a row apart: for each of its scripts, K from 1, the files FOLDER/K.script, K.shown, K.error, K.status, and K.case with
+# the line that stands in the place of `@`.
 # rows/README.md says what the lines of a row are.
 
 # {N TEXT} written out, and bytes that would not be seen.
@@ -16,7 +17,7 @@ function written(text,    inner, at, times, out) {
     return text
 }
 
-function refuse(why) { print FILENAME ":" FNR ": " why > "/dev/stderr"; exit 2 }
+function refuse(why) { print FILENAME ":" FNR ": " why > "/dev/stderr"; refused = 1; exit 2 }
 
 # A line of the script, or one that the show above it writes.
 function line(text,    label) {
@@ -33,6 +34,7 @@ function line(text,    label) {
 
 /^# / { next }
 /^! / {
+    if (error != "") refuse("a second end")
     if (!match($0, / \(status [0-9]+\)$/)) refuse("an end without its status")
     error = substr($0, 3, RSTART - 3) "\n"
     status = substr($0, RSTART + 9, RLENGTH - 10)
@@ -53,9 +55,11 @@ function line(text,    label) {
 { line(written($0)) }
 
 END {
+    if (refused) exit 2
     sub(/<end>\n$/, "", script)
-    if (count == 0) cases[count = 1] = ""
     at = index("\n" script, "\n@\n")
+    if ((at > 0) != (count > 0)) refuse(at ? "a line @ without each" : "each without a line @")
+    if (count == 0) cases[count = 1] = ""
     for (k = 1; k <= count; k++) {
         name = FOLDER "/" k
         whole = at ? substr(script, 1, at - 1) cases[k] "\n" substr(script, at + 2) : script
@@ -63,6 +67,7 @@ END {
         printf "%s", shown > (name ".shown")
         printf "%s", error > (name ".error")
         printf "%s", status + 0 > (name ".status")
-        close(name ".script"); close(name ".shown"); close(name ".error"); close(name ".status")
+        printf "%s", cases[k] > (name ".case")
+        close(name ".script"); close(name ".shown"); close(name ".error"); close(name ".status"); close(name ".case")
     }
 }

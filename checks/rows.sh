@@ -13,7 +13,7 @@ failed=0
 # compare NAME FOLDER/K : plays K.script, and compares with K.shown, K.error and K.status.
 compare() {
     local got=0
-    "$program" < "$2.script" > "$room/shown" 2> "$room/error" || got=$?
+    timeout 60 "$program" < "$2.script" > "$room/shown" 2> "$room/error" || got=$?
     if cmp -s "$2.shown" "$room/shown" && cmp -s "$2.error" "$room/error" && [ "$got" -eq "$(cat "$2.status")" ]; then
         passed=$((passed + 1))
         return
@@ -34,7 +34,7 @@ for row in rows/*/*.row; do
     fi
     for script in "$room"/parts/*.script; do
         part=${script%.script}
-        compare "$row (${part##*/})" "$part"
+        compare "$row$(sed 's/^/ at: /' "$part.case")" "$part"
     done
 done
 

@@ -1,6 +1,7 @@
 #!/usr/bin/env bash
 # run.sh PROGRAM ARGUMENT.. : runs the program that `make build` proved and built, in bin/, where no source is newer.
-# Otherwise it builds one on the spot, in about half a minute, without any proof, and says so.
+# Otherwise it builds one on the spot, in about half a minute, without any proof, and says so. Such a build shows at most
+# 1 MiB, and runs for at most a minute.
 set -euo pipefail
 root=$(cd "$(dirname "$0")/.." && pwd)
 name=$1
@@ -11,11 +12,17 @@ if [ -x "$program" ] && [ -z "$(find "$root/crates.txt" "$root/crates" \( -name 
     exec "$program" "$@"
 fi
 echo "$name: this build is not the proved one, which 'make build' makes; it takes about half a minute" >&2
-# What rt says of its own stands behind what the program told.
 room=$(mktemp -d)
 trap 'rm -rf "$room"' EXIT
+# rt try reads no terminal, and does not wait for a pipe: the input is taken first, of a terminal one line.
+if [ -t 0 ]; then head -n 1 > "$room/input"; else cat > "$room/input"; fi
 cd "$root/crates/$name"
 status=0
-rt try -- "$@" 2> "$room/told" || status=$?
-grep -v -E '^(checked: |interpreted: |run=)' "$room/told" >&2 || true
+rt try -- "$@" < "$room/input" 2> "$room/told" || status=$?
+# Of a program that came to its end, only what it told itself.
+if grep -q '^run=ended ' "$room/told"; then
+    grep -v -E '^(checked: |interpreted: |run=)' "$room/told" >&2 || true
+else
+    cat "$room/told" >&2
+fi
 exit "$status"

@@ -8,6 +8,8 @@ mod accounts;
 #[cfg(test)]
 mod frames;
 #[cfg(test)]
+mod outboxes;
+#[cfg(test)]
 mod replies;
 #[cfg(test)]
 mod requests;

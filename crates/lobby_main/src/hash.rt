@@ -8,8 +8,7 @@ ghost use Rattle.lobby_main.specs.Reading.{GivesByte, Begins};
 use account_book::password_word;
 use std::io::{ErrorKind, Read, Write};
 
-/// The longest line, in bytes before its LF, a CR counted: no client could send a longer one, and an input without an end would
-/// be read for ever.
+/// The longest line, in bytes before its LF, a CR counted. Without a limit an input that never ends would be read for ever.
 const LINE_LIMIT: usize = 8_192;
 
 /// A line of the limit, its LF, and one read to spare for a call that was interrupted. Without a last one an input that is

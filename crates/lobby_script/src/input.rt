@@ -10,7 +10,8 @@ use std::io::{ErrorKind, Read};
 /// The most bytes of a script: no device that never ends can fill the memory.
 pub const SCRIPT_LIMIT: usize = 1_048_576;
 
-/// The most reads of a script: one for each byte, and one that finds the end.
+/// The most reads of a script: one for each byte, and one that finds the end. Without a last one an
+/// input that is interrupted again and again would be read for ever.
 pub const MOST_READS: u32 = 1_048_577;
 
 const PIECE: usize = 4096;

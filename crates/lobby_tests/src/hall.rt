@@ -38,6 +38,7 @@ fn compare(rt: &impl Abort, record: &Record) {
 #[test]
 fn a_whole_schedule_leaves_its_record(rt: HostRuntime) -> Result<(), Fail> {
     let bytes = piece(rt.alloc(), b"PING\n")?;
+    let lost = piece(rt.alloc(), b"PING\n")?;
     let steps = [
         Step::Open {
             ip: [192, 168, 0, 1],
@@ -50,6 +51,15 @@ fn a_whole_schedule_leaves_its_record(rt: HostRuntime) -> Result<(), Fail> {
             count: 5,
         },
         // There is no such client.
+        Step::Arrive {
+            client: 2,
+            bytes: lost,
+        },
+        Step::Take { client: 2 },
+        Step::Read {
+            client: 2,
+            count: 5,
+        },
         Step::Shut { client: 2 },
     ];
     let record = record_of(rt.alloc(), &steps)?;

@@ -6,7 +6,7 @@ use crate::settings::settings;
 use account_book::{Account, AccountBook};
 use command_grammar::{Request, read_request};
 use line_words::TextBuf;
-use lobby_machine::{Lobby, OpenError, Wakes};
+use lobby_machine::{Drained, Lobby, OpenError, Wakes};
 use lobby_model::Settings;
 use std::alloc::{AllocError, Global};
 use std::process::Abort;
@@ -55,10 +55,10 @@ fn say(lobby: &mut Lobby, alloc: Global, client: u64, line: &[u8]) -> Result<Wak
     }
 }
 
-// Whether these bytes come first of those that a client has not read, into a slice with room for more.
-fn drains(lobby: &mut Lobby, client: u64, into: &mut [u8], want: &[u8]) -> bool {
-    let drained = lobby.drain(client, into);
-    drained.count == want.len() && into.starts_with(want)
+// Whether a drain into a slice gives these bytes and no more, and says so of whether anything will come again.
+fn drains(lobby: &mut Lobby, client: u64, into: &mut [u8], want: &[u8], finished: bool) -> bool {
+    let count = want.len();
+    lobby.drain(client, into) == Drained { count, finished } && into.starts_with(want)
 }
 
 // Whether a line of a client wakes this worker alone.
@@ -87,10 +87,27 @@ fn open_two(rt: &impl Abort, lobby: &mut Lobby) {
     assert_eq!(rt; lobby.last_client(), 2);
 }
 
+// Lines that are answered, most of them by a refusal.
+const ANSWERED: [&[u8]; 9] = [
+    b"PING",
+    b"ping",
+    b"SAY main",
+    b"MYSTATUS 1x",
+    b"JOIN a-b",
+    b"JOIN a\tb",
+    b"SETSCRIPTTAGS =1",
+    b"JOIN main",
+    b"LOGIN Anna 1B2M2Y8AsgTpgAmY7PhCfg== 0 * TestLobby 1.0",
+];
+
 fn wake(rt: &impl Abort, alloc: Global, lobby: &mut Lobby) -> Result<(), Fail> {
-    assert!(rt; wakes_alone(lobby, alloc, 1, b"PING", 5)?);
-    assert!(rt; wakes_alone(lobby, alloc, 2, b"PING", 63)?);
-    assert!(rt; wakes_nobody(lobby, alloc, 1, b"   ")?);
+    for line in ANSWERED {
+        assert!(rt; wakes_alone(lobby, alloc, 1, line, 5)?, "{line:?}");
+        assert!(rt; wakes_alone(lobby, alloc, 2, line, 63)?, "{line:?}");
+    }
+    for line in [b"   ".as_slice(), b"#9 "] {
+        assert!(rt; wakes_nobody(lobby, alloc, 1, line)?, "{line:?}");
+    }
     Ok(())
 }
 
@@ -109,12 +126,12 @@ fn exit(rt: &impl Abort, alloc: Global, lobby: &mut Lobby) -> Result<(), Fail> {
 }
 
 fn read_on(rt: &impl Abort, lobby: &mut Lobby) {
-    let mut piece = [0; 16];
-    assert!(rt; lobby.copy_unread(1, 19, &mut piece) == 5 && piece.starts_with(b"01 0\n"));
-    assert!(rt; drains(lobby, 1, &mut piece, b"TASSERVER 0.38 *"));
-    assert!(rt; !lobby.drain(1, &mut []).finished);
-    assert!(rt; drains(lobby, 1, &mut piece, b" 8201 0\n"));
-    assert!(rt; lobby.drain(1, &mut []).finished);
+    let mut piece = [b'.'; 16];
+    assert_eq!(rt; lobby.copy_unread(1, 19, &mut piece), 5);
+    assert!(rt; piece.starts_with(b"01 0\n..........."));
+    assert!(rt; drains(lobby, 1, &mut piece, b"TASSERVER 0.38 *", false));
+    assert!(rt; drains(lobby, 1, &mut piece, b" 8201 0\n", true));
+    assert!(rt; piece.starts_with(b" 8201 0\nR 0.38 *"));
 }
 
 fn leave(rt: &impl Abort, lobby: &mut Lobby) {
@@ -150,7 +167,7 @@ fn fill(rt: &impl Abort, alloc: Global, lobby: &mut Lobby) -> Result<(), Fail> {
 fn cut(rt: &impl Abort, alloc: Global, lobby: &mut Lobby) -> Result<(), Fail> {
     assert!(rt; wakes_alone(lobby, alloc, 1, b"#2147483647 PING", 0)?);
     assert_eq!(rt; lobby.unread(1), 0);
-    assert!(rt; lobby.drain(1, &mut []).finished);
+    assert!(rt; drains(lobby, 1, &mut [0; 8], b"", true));
     Ok(())
 }
 
@@ -241,14 +258,15 @@ fn serve_all(lobby: &mut Lobby, alloc: Global) -> Result<(), Fail> {
 // What the last login sent.
 fn see_cleo(rt: &impl Abort, lobby: &mut Lobby) {
     let mut into = [0; 256];
-    assert!(rt; drains(lobby, 1, &mut into, b"ADDUSER Cleo FR 0 3\n"));
-    assert!(rt; drains(lobby, 2, &mut into, b"ADDUSER Cleo FR 0 3\n"));
+    assert!(rt; drains(lobby, 1, &mut into, b"ADDUSER Cleo FR 0 3\n", false));
+    assert!(rt; drains(lobby, 2, &mut into, b"ADDUSER Cleo FR 0 3\n", false));
     assert!(rt;
         drains(
             lobby,
             3,
             &mut into,
             b"ACCEPTED Cleo\nMOTD Welcome\nADDUSER Anna DE 0 1\nADDUSER Bert ?? 0 2\nADDUSER Cleo FR 0 3\nCLIENTSTATUS Anna 1\nCLIENTSTATUS Bert 12\nLOGININFOEND\n",
+            false,
         )
     );
 }
@@ -259,6 +277,24 @@ fn an_event_that_memory_refused_leaves_no_trace(rt: HostRuntime) -> Result<(), F
     serve_all(&mut lobby, rt.alloc())?;
     see_cleo(&rt, &mut lobby);
     Ok(())
+}
+
+// Anna logs in and out again, and reads what she got.
+fn log_in_and_out(rt: &impl Abort, alloc: Global, lobby: &mut Lobby) -> Result<(), Fail> {
+    let (client, line) = EVENTS[0];
+    assert!(rt; wakes_alone(lobby, alloc, client, line, 1)?);
+    assert!(rt; wakes_nobody(lobby, alloc, client, b"#5 EXIT bye")?);
+    assert!(rt; wakes_nobody(lobby, alloc, client, b"PING")?);
+    let mut into = [0; 256];
+    let got = b"ACCEPTED Anna\nMOTD Welcome\nADDUSER Anna DE 0 1\nLOGININFOEND\n";
+    assert!(rt; drains(lobby, client, &mut into, got, true));
+    Ok(())
+}
+
+#[test]
+fn a_user_that_exits_is_finished_when_all_is_read(rt: HostRuntime) -> Result<(), Fail> {
+    let mut lobby = lobby_of_three(rt.alloc())?;
+    log_in_and_out(&rt, rt.alloc(), &mut lobby)
 }
 
 fn open_often(lobby: &mut Lobby, times: u32) -> Result<(), OpenError> {

@@ -17,18 +17,19 @@ const SPOILT: &[u8] = b"open 1 10.0.0.1\nshow 1\nx\n";
 /// finds its end.
 const SPARE_READS: u32 = MOST_READS - SCRIPT.len() as u32 - 1;
 
-/// Gives a script a byte at a time. Behind the first byte so many reads are interrupted, and the
-/// last read may fail.
+/// Gives a script a byte at a time. Once no more than so many bytes are left, so many reads are
+/// interrupted, and the last read may fail.
 #[derive(Drop)]
 struct Faulty<'a> {
     rest: &'a [u8],
+    left: usize,
     interruptions: u32,
     end: Option<ErrorKind>,
 }
 
 impl Read for Faulty<'_> {
     fn read(&mut self, buf: &mut [u8]) -> io::Result<usize> {
-        if self.interruptions > 0 && self.rest.len() < SCRIPT.len() {
+        if self.interruptions > 0 && self.rest.len() <= self.left {
             self.interruptions -= 1;
             return Err(Error::from(ErrorKind::Interrupted));
         }
@@ -72,21 +73,31 @@ impl Write for Full {
     }
 }
 
-/// How many reads are interrupted, how the last one fails, and what comes of it.
-type Reading = (u32, Option<ErrorKind>, Result<(), PlayFault>, &'static [u8]);
+/// How many bytes are left when reads are interrupted, how many are, how the last one fails, and what
+/// comes of it.
+type Reading = (
+    usize,
+    u32,
+    Option<ErrorKind>,
+    Result<(), PlayFault>,
+    &'static [u8],
+);
 
-const READINGS: [Reading; 4] = [
-    (1, None, Ok(()), SHOWN),
-    (1, Some(ErrorKind::Other), Err(PlayFault::Device), b""),
-    (SPARE_READS, None, Ok(()), SHOWN),
-    (SPARE_READS + 1, None, Err(PlayFault::Device), b""),
+const READINGS: [Reading; 6] = [
+    (SCRIPT.len(), 1, None, Ok(()), SHOWN),
+    (7, 2, None, Ok(()), SHOWN),
+    (0, 1, None, Ok(()), SHOWN),
+    (7, 1, Some(ErrorKind::Other), Err(PlayFault::Device), b""),
+    (22, SPARE_READS, None, Ok(()), SHOWN),
+    (22, SPARE_READS + 1, None, Err(PlayFault::Device), b""),
 ];
 
 #[test]
 fn interrupted_and_failed_reads(rt: HostRuntime) {
-    for (interruptions, end, told, output) in READINGS {
+    for (left, interruptions, end, told, output) in READINGS {
         let mut reader = Faulty {
             rest: SCRIPT,
+            left,
             interruptions,
             end,
         };

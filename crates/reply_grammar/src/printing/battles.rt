@@ -12,7 +12,7 @@ use super::pieces::{
     put_command, put_end, put_flag, put_name, put_next_sentence, put_number, put_optional,
     put_sentence, put_wide, put_word,
 };
-use super::shapes::{put_nothing, put_only_battle, put_only_text};
+use super::shapes::{put_bare, put_only_battle, put_only_text};
 use crate::Reply;
 use crate::command_word::CommandWord;
 use line_words::{NameBuf, SentenceBuf, WordBuf};
@@ -50,8 +50,8 @@ pub(super) fn put_reply(out: &mut Vec<u8>, id: Option<u32>, reply: &Reply) -> Re
             map_hash,
             map,
         } => put_update_battle_info(out, id, *battle, *spectator_count, *locked, map_hash, map),
-        Reply::RequestBattleStatus => put_nothing(out, id, CommandWord::RequestBattleStatus),
-        Reply::ForceQuitBattle => put_nothing(out, id, CommandWord::ForceQuitBattle),
+        Reply::RequestBattleStatus => put_bare(out, id, CommandWord::RequestBattleStatus),
+        Reply::ForceQuitBattle => put_bare(out, id, CommandWord::ForceQuitBattle),
         _ => unreachable!(),
     }
 }

@@ -8,7 +8,7 @@ ghost use Rattle.reply_grammar.specs.Replies.{command_of, printed_line};
 
 use super::pieces::{put_command, put_end, put_name, put_names};
 use super::shapes::{
-    put_name_and_number, put_name_and_text, put_nothing, put_only_name, put_two_names,
+    put_bare, put_name_and_number, put_name_and_text, put_only_name, put_two_names,
     put_two_names_and_text,
 };
 use crate::Reply;
@@ -52,7 +52,7 @@ pub(super) fn put_reply(out: &mut Vec<u8>, id: Option<u32>, reply: &Reply) -> Re
             channel,
             user_count,
         } => put_name_and_number(out, id, CommandWord::Channel, channel, *user_count),
-        Reply::EndOfChannels => put_nothing(out, id, CommandWord::EndOfChannels),
+        Reply::EndOfChannels => put_bare(out, id, CommandWord::EndOfChannels),
         _ => unreachable!(),
     }
 }

@@ -7,7 +7,7 @@ ghost use Rattle.reply_grammar.specs.Groups.{Session, group_of};
 ghost use Rattle.reply_grammar.specs.Replies.{command_of, printed_line};
 
 use super::pieces::{put_command, put_end, put_name, put_number, put_wide, put_word, whole};
-use super::shapes::{put_name_and_number, put_nothing, put_only_name, put_only_text};
+use super::shapes::{put_bare, put_name_and_number, put_only_name, put_only_text};
 use crate::Reply;
 use crate::command_word::CommandWord;
 use line_words::{NameBuf, TextBuf, WordBuf};
@@ -110,8 +110,8 @@ pub(super) fn put_reply(out: &mut Vec<u8>, id: Option<u32>, reply: &Reply) -> Re
         Reply::ClientStatus { user, status } => {
             put_name_and_number(out, id, CommandWord::ClientStatus, user, *status)
         }
-        Reply::LoginInfoEnd => put_nothing(out, id, CommandWord::LoginInfoEnd),
-        Reply::Pong => put_nothing(out, id, CommandWord::Pong),
+        Reply::LoginInfoEnd => put_bare(out, id, CommandWord::LoginInfoEnd),
+        Reply::Pong => put_bare(out, id, CommandWord::Pong),
         _ => unreachable!(),
     }
 }

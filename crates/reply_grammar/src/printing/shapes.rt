@@ -12,7 +12,7 @@ use line_words::{NameBuf, TextBuf};
 use std::alloc::AllocError;
 
 #[inline(always)]
-pub(super) fn put_nothing(
+pub(super) fn put_bare(
     out: &mut Vec<u8>,
     id: Option<u32>,
     command: CommandWord,

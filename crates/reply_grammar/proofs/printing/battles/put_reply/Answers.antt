@@ -28,7 +28,7 @@ pub returns-in-UpdateBattleInfo-clause-ok : goal.returns-in-UpdateBattleInfo-cla
 returns-in-UpdateBattleInfo-clause-ok c = rw (c.in-UpdateBattleInfo.is) c.put_update_battle_info.ensures.ok
 
 pub returns-in-RequestBattleStatus-clause-ok : goal.returns-in-RequestBattleStatus-clause-ok
-returns-in-RequestBattleStatus-clause-ok c = rw (c.in-RequestBattleStatus.is) c.put_nothing.ensures.ok
+returns-in-RequestBattleStatus-clause-ok c = rw (c.in-RequestBattleStatus.is) c.put_bare.ensures.ok
 
 pub returns-in-ForceQuitBattle-clause-ok : goal.returns-in-ForceQuitBattle-clause-ok
-returns-in-ForceQuitBattle-clause-ok c = rw (c.in-ForceQuitBattle.is) c.put_nothing-in-ForceQuitBattle.ensures.ok
+returns-in-ForceQuitBattle-clause-ok c = rw (c.in-ForceQuitBattle.is) c.put_bare-in-ForceQuitBattle.ensures.ok

@@ -31,4 +31,4 @@ pub returns-in-Channel-clause-ok : goal.returns-in-Channel-clause-ok
 returns-in-Channel-clause-ok c = rw (c.in-Channel.is) c.put_name_and_number.ensures.ok
 
 pub returns-in-EndOfChannels-clause-ok : goal.returns-in-EndOfChannels-clause-ok
-returns-in-EndOfChannels-clause-ok c = rw (c.in-EndOfChannels.is) c.put_nothing.ensures.ok
+returns-in-EndOfChannels-clause-ok c = rw (c.in-EndOfChannels.is) c.put_bare.ensures.ok

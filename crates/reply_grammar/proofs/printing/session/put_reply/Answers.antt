@@ -25,7 +25,7 @@ pub returns-in-ClientStatus-clause-ok : goal.returns-in-ClientStatus-clause-ok
 returns-in-ClientStatus-clause-ok c = rw (c.in-ClientStatus.is) c.put_name_and_number.ensures.ok
 
 pub returns-in-LoginInfoEnd-clause-ok : goal.returns-in-LoginInfoEnd-clause-ok
-returns-in-LoginInfoEnd-clause-ok c = rw (c.in-LoginInfoEnd.is) c.put_nothing.ensures.ok
+returns-in-LoginInfoEnd-clause-ok c = rw (c.in-LoginInfoEnd.is) c.put_bare.ensures.ok
 
 pub returns-in-Pong-clause-ok : goal.returns-in-Pong-clause-ok
-returns-in-Pong-clause-ok c = rw (c.in-Pong.is) c.put_nothing-in-Pong.ensures.ok
+returns-in-Pong-clause-ok c = rw (c.in-Pong.is) c.put_bare-in-Pong.ensures.ok
