@@ -4,13 +4,13 @@ SCRIPT ?= examples/ping.play
 .PHONY: play hash build test check bench memory
 
 play:
-	@checks/run.sh lobby_play < $(SCRIPT)
+	@tools/run.sh lobby_play < $(SCRIPT)
 
 hash:
-	@checks/run.sh lobby_main hash
+	@tools/run.sh lobby_main hash
 
 build:
-	@checks/build.sh
+	@tools/build.sh
 
 test:
 	rt ci && checks/rows.sh && checks/programs.sh && checks/links.py
