@@ -1,6 +1,6 @@
 -- What a read adds to the record.
 use Rattle.std.proofs.Common.{◌≡◌, ◌≢◌, ℕ, zero, suc, ◌+◌, ◌-◌, ◌≤◌, List, [], ◌∷◌, ◌++◌, length, take, drop, min, refl, sym, ap, ◌∙◌, true, false, arith, append-nil, length-append, length-drop, length-take, cond}
-use Rattle.std.specs.Prelude.{Option, Some, None, ◌&&◌, if◌then◌else◌}
+use Rattle.std.specs.Prelude.{Option, Some, None, if◌then◌else◌}
 use Rattle.std.specs.Option.{option_map}
 use Rattle.std.specs.Ordering.{nat_cmp}
 use Rattle.std.specs.Cmp.{nat_cmp_total}
@@ -11,11 +11,11 @@ use Rattle.lobby_model.specs.declared.event.Event.{Event}
 use Rattle.lobby_model.specs.declared.event.Event.TheVariants as event
 use Rattle.lobby_model.specs.Table.{ByNumber, at_number, put_number, same_number}
 use Rattle.lobby_model.specs.Configuration.{Configuration}
-use Rattle.lobby_model.specs.State.{State, Client, is_live, empty_lobby}
+use Rattle.lobby_model.specs.State.{State, Client, empty_lobby}
 use Rattle.lobby_model.specs.Effect.{drained, drained_at, effect}
-use Rattle.lobby_model.specs.Next.{next, put_by, put_to, taken_from, has_room_for}
+use Rattle.lobby_model.specs.Next.{next, put_by, taken_from}
 use Rattle.lobby_model.specs.History.{after, put_in, taken_in}
-use Rattle.lobby_model.proofs.Delivered.{same_itself}
+use Rattle.lobby_model.proofs.Delivered.{put_nothing, same_itself}
 use Rattle.lobby_model.proofs.Splits.{same_either_way}
 use Rattle.lobby_model.proofs.Quiet.{next_drain}
 use Rattle.lobby_model.proofs.Balance.{balanced}
@@ -26,10 +26,6 @@ use Rattle.lobby_hall.specs.Copied.{lacking, completed_log, completed, changed_a
 use Rattle.lobby_hall.proofs.Each.{at_each, not_same}
 use Rattle.lobby_hall.proofs.Changed.{of-changed_same, of-changed_other}
 use Rattle.lobby_hall.proofs.Recorded.{of-completed, put_in-snoc, taken_in-snoc, nobody}
-
-pub put_nothing : (limit : ℕ) (o : Option Client) → put_to limit [] o ≡ []
-put_nothing limit None = refl
-put_nothing limit (Some x) = elim (is_live x && has_room_for limit x []) as (λ b. ◌≡◌ {A = List ℕ} (if b then [] else []) []) [ true ↦ refl | false ↦ refl ]
 
 min_zero : (n : ℕ) → min n 0 ≡ 0
 min_zero n = omega arith

@@ -16,7 +16,7 @@ use Rattle.lobby_model.specs.Effect.{effect, has_place, greeted, opened}
 use Rattle.lobby_model.specs.Sent.{greeting}
 use Rattle.lobby_model.specs.Next.{next, batch, put_by, put_to, with_batch}
 use Rattle.lobby_model.specs.History.{after, put_in, taken_in}
-use Rattle.lobby_model.proofs.Delivered.{with_batch_nil, find-values}
+use Rattle.lobby_model.proofs.Delivered.{put_nothing, with_batch_nil, find-values}
 use Rattle.lobby_model.proofs.Balance.{balanced, put_by_none, put_by_cut}
 use Rattle.lobby_machine.specs.Shown.{unread_in, unread_of}
 use Rattle.lobby_hall.specs.ByClient.{of_client}
@@ -24,7 +24,6 @@ use Rattle.lobby_hall.specs.Record.{Log, log_of, log_at, IsRecord}
 use Rattle.lobby_hall.specs.Copied.{completed_log, completed, no_log}
 use Rattle.lobby_hall.proofs.Each.{at_each, not_same}
 use Rattle.lobby_hall.proofs.Recorded.{of-completed, put_in-snoc, taken_in-snoc, balanced_later}
-use Rattle.lobby_hall.proofs.Drained.{put_nothing}
 
 -- a list with one more value
 

@@ -1,6 +1,6 @@
 -- What a delivery makes of the clients: nothing of those who get nothing, and of one who gets something his entry.
 use Rattle.std.proofs.Common.{◌≡◌, ℕ, List, [], ◌∷◌, ◌++◌, refl, sym, ap, ◌∙◌, true, false, cond, T, append-nil}
-use Rattle.std.specs.Prelude.{Some, None, if◌then◌else◌}
+use Rattle.std.specs.Prelude.{Option, Some, None, ◌&&◌, if◌then◌else◌}
 use Rattle.std.specs.Ordering.{nat_cmp, is_eq}
 use Rattle.std.specs.FinMap.{nat_cmp-IsAntisymmetric}
 use Rattle.std.specs.Option.{option_map}
@@ -11,7 +11,12 @@ use Rattle.lobby_model.specs.Table.{ByNumber, at_number, put_number, map_values,
 use Rattle.lobby_model.specs.declared.event.Event.{Event}
 use Rattle.lobby_model.specs.State.{State, Client, is_live}
 use Rattle.lobby_model.specs.Effect.{effect}
-use Rattle.lobby_model.specs.Next.{next, batch, with_batch, has_room_for}
+use Rattle.lobby_model.specs.Next.{next, batch, put_to, with_batch, has_room_for}
+
+-- no byte is put of an empty batch
+pub put_nothing : (limit : ℕ) (o : Option Client) → put_to limit [] o ≡ []
+put_nothing limit None = refl
+put_nothing limit (Some x) = elim (is_live x && has_room_for limit x []) as (λ b. ◌≡◌ {A = List ℕ} (if b then [] else []) []) [ true ↦ refl | false ↦ refl ]
 
 pub with_batch_nil : (limit : ℕ) (client : Client) → with_batch limit [] client ≡ client
 with_batch_nil limit client =

@@ -1,17 +1,18 @@
 -- A void event does nothing.
 use Rattle.std.proofs.Common.{◌≡◌, ℕ, ◌+◌, List, [], ◌∷◌, refl, ap, ◌∙◌, true, false}
-use Rattle.std.specs.Prelude.{Option, Some, None, ◌&&◌, if◌then◌else◌}
+use Rattle.std.specs.Prelude.{None, ◌&&◌, if◌then◌else◌}
 use Rattle.std.specs.Ordering.{nat_cmp}
 use Rattle.reply_grammar.specs.Replies.{print_all}
 use Rattle.lobby_model.specs.declared.event.Event.{Event}
 use Rattle.lobby_model.specs.declared.event.Event.TheVariants as event
 use Rattle.lobby_model.specs.Table.{at_number, same_number}
-use Rattle.lobby_model.specs.State.{State, Client, is_live, is_live_client, hears, name_of, name_of_client}
+use Rattle.lobby_model.specs.State.{State, is_live_client, hears, name_of, name_of_client}
 use Rattle.lobby_model.specs.Effect.{effect, opened, users_left, drained_at}
 use Rattle.lobby_model.specs.Sent.{greeting}
-use Rattle.lobby_model.specs.Next.{next, batch, has_room_for, put_by, put_to, taken_by, taken_from}
+use Rattle.lobby_model.specs.Next.{next, batch, put_by, put_to, taken_by, taken_from}
 use Rattle.lobby_model.specs.Laws.{IsVoid}
 use Rattle.lobby_model.proofs.Tables.{without_absent}
+use Rattle.lobby_model.proofs.Delivered.{put_nothing}
 use Rattle.lobby_model.proofs.Quiet.{quiet, effect_unheard, unheard_sends, unnamed_shut_sends}
 
 unheard : (s : State) (c : ℕ) → at_number s.clients c ≡ None → hears s c ≡ false
@@ -35,14 +36,10 @@ sends_nothing s (event.Drain c n) none d = refl
 pub same_state : (s : State) (e : Event) → IsVoid s e → next s e ≡ s
 same_state s e void = quiet s e (effect s e) (sends_nothing s e void) ∙ same_effect s e void
 
-nothing_of_nothing : (limit : ℕ) (o : Option Client) → put_to limit [] o ≡ []
-nothing_of_nothing limit None = refl
-nothing_of_nothing limit (Some x) = elim (is_live x) as (λ l. ◌≡◌ {A = List ℕ} (if l && has_room_for limit x [] then [] else []) []) [ true ↦ refl | false ↦ refl ]
-
 pub puts_nothing : (s : State) (e : Event) → IsVoid s e → (c : ℕ) → put_by s e c ≡ []
 puts_nothing s e void c =
     ap (λ bytes. put_to s.settings.outbox_limit bytes (at_number (effect s e).clients c)) (sends_nothing s e void c)
-    ∙ nothing_of_nothing s.settings.outbox_limit (at_number (effect s e).clients c)
+    ∙ put_nothing s.settings.outbox_limit (at_number (effect s e).clients c)
 
 pub takes_nothing : (s : State) (e : Event) → IsVoid s e → (c : ℕ) → taken_by s e c ≡ []
 takes_nothing s (event.Drain d n) none c =

@@ -25,7 +25,7 @@ pub the_some : {X : Type 0} (P : X → Type 0) (o : Option X) (x : X) → o ≡ 
 the_some P o x e h = subst (λ o. IsSomeAnd o P) e h
 
 -- a rank, with a country behind it or without one
-digits_lack_space : (rank : ℕ) → rank < 2 ^ 8 → has_byte 32 (decimal rank) ≡ false
+pub digits_lack_space : (rank : ℕ) → rank < 2 ^ 8 → has_byte 32 (decimal rank) ≡ false
 digits_lack_space rank small = lacks_digits 32 rank (omega arith) (omega (arith, small))
 
 pub ends_with_country : (text digits behind : List ℕ) (rank : ℕ) (country : List ℕ) → PartedAt 32 text digits behind → IsRankAndCountry text rank country → (digits ≡ decimal rank) × (behind ≡ country)

@@ -4,13 +4,12 @@ use Rattle.std.specs.Char.{digit_value}
 use Rattle.std.proofs.lemmas.Bool.{eqb-true}
 use Rattle.std.proofs.lemmas.Fmt.{decimal_injective}
 use Rattle.account_book.specs.Account.{Account}
-use Rattle.line_words.specs.Bytes.{has_byte}
 use Rattle.lobby_script.specs.Words.{IsNumber, LeadsWith, PartedAt, IsAddress, dotted}
 use Rattle.lobby_script.specs.Escapes.{Written, plain, line_feed, tab, carriage_return, backslash, hexadecimal, BeginsWritten, StandsForBytes}
 use Rattle.lobby_script.specs.Accounts.{HasFields, IsRankAndCountry}
 use Rattle.lobby_script.proofs.Parts.{parted_once, never_parted, lacks_digits}
 use Rattle.lobby_script.proofs.EscapeLemmas.{front_of_nothing}
-use Rattle.lobby_script.proofs.AccountLemmas.{same_parts}
+use Rattle.lobby_script.proofs.AccountLemmas.{digits_lack_space, same_parts}
 
 -- ---- numbers
 
@@ -98,13 +97,10 @@ same_bytes text (byte ∷ bytes) (other ∷ others) p q =
 
 -- ---- accounts
 
-no_space : (rank : ℕ) → rank < 2 ^ 8 → has_byte 32 (decimal rank) ≡ false
-no_space rank small = lacks_digits 32 rank (omega arith) (omega (arith, small))
-
 same_end : (text : List ℕ) (rank other : ℕ) (country land : List ℕ) → IsRankAndCountry text rank country → IsRankAndCountry text other land → (rank ≡ other) × (country ≡ land)
 same_end text rank other country land (small, inl (whole, none)) (few, inl (all, unknown)) = (decimal_injective rank other (omega (arith, small)) (omega (arith, few)) (sym whole ∙ all), none ∙ sym unknown)
-same_end text rank other country land (small, inl (whole, none)) (few, inr all) = absurd (never_parted 32 (decimal rank) (decimal other) land (no_space rank small) (sym whole ∙ all))
-same_end text rank other country land (small, inr whole) (few, inl (all, unknown)) = absurd (never_parted 32 (decimal other) (decimal rank) country (no_space other few) (sym all ∙ whole))
+same_end text rank other country land (small, inl (whole, none)) (few, inr all) = absurd (never_parted 32 (decimal rank) (decimal other) land (digits_lack_space rank small) (sym whole ∙ all))
+same_end text rank other country land (small, inr whole) (few, inl (all, unknown)) = absurd (never_parted 32 (decimal other) (decimal rank) country (digits_lack_space other few) (sym all ∙ whole))
 same_end text rank other country land (small, inr whole) (few, inr all) = before_mark 32 rank other country land (omega arith) (omega (arith, small)) (omega (arith, few)) (sym whole ∙ all)
 
 pub same_account : (text : List ℕ) (a b : Account) → HasFields text a → HasFields text b → a ≡ b
