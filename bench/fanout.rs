@@ -1,8 +1,9 @@
-//! Tells users of changed statuses, written by hand over Rust's std alone: a baseline of crates/bench_lobby.
+//! Tells users of changed statuses, and the members of a channel what one of them says, written by hand over Rust's std
+//! alone: a baseline of crates/bench_lobby.
 //!
 //! Each client has a buffer of its own in a map by number, and each user a status in a map by name. An event looks its
-//! user up, formats one line and appends it to the buffer of each user, in the order of the clients. Every 100 events all
-//! users read all.
+//! user up, formats one line and appends it to the buffer of each user, in the order of the clients, or of each member of
+//! the channel, in the order of joining. Every 100 events all who are told read all.
 
 use std::collections::{BTreeMap, BTreeSet};
 use std::io::Write;
@@ -23,6 +24,8 @@ struct Lobby {
     users: BTreeMap<String, u32>,
     // the clients of the users
     listed: BTreeSet<u64>,
+    // the clients of the channel's members
+    members: Vec<u64>,
     line: Vec<u8>,
 }
 
@@ -44,6 +47,22 @@ impl Lobby {
         }
     }
 
+    fn say(&mut self, client: u64, word: &str, text: &str) {
+        let Some(name) = self.clients.get(&client).and_then(|client| client.name.as_ref()) else {
+            return;
+        };
+        if !self.users.contains_key(name) {
+            return;
+        }
+        self.line.clear();
+        let _ = writeln!(self.line, "{word} main {name} {text}");
+        for number in &self.members {
+            if let Some(client) = self.clients.get_mut(number) {
+                client.outbox.extend_from_slice(&self.line);
+            }
+        }
+    }
+
     fn read(&mut self, client: u64, piece: &mut [u8]) -> usize {
         let Some(client) = self.clients.get_mut(&client) else {
             return 0;
@@ -57,7 +76,9 @@ impl Lobby {
 
 fn main() {
     let sizes: Vec<u64> = std::env::args().skip(1).map(|word| word.parse().unwrap()).collect();
-    let [clients, users, events, ..] = sizes[..] else { panic!("usage: fanout CLIENTS USERS EVENTS") };
+    let [clients, users, events, members, words] = sizes[..] else {
+        panic!("usage: fanout CLIENTS USERS EVENTS MEMBERS WORDS")
+    };
     let mut lobby = Lobby::default();
     for number in 1..=clients {
         lobby.clients.insert(number, Client::default());
@@ -80,8 +101,28 @@ fn main() {
             size += chosen.iter().map(|client| lobby.read(*client, &mut piece)).sum::<usize>();
         }
     }
+    report("lines", start, events * users, size);
+
+    lobby.members = chosen[..members as usize].to_vec();
+    size = 0;
+    let start = Instant::now();
+    for event in 0..words {
+        let (word, text) = if event / members % 2 == 0 { ("SAID", "who plays?") } else { ("SAIDEX", "would play") };
+        let client = lobby.members[(event % members) as usize];
+        lobby.say(client, word, text);
+        if event % EVENTS_A_ROUND == EVENTS_A_ROUND - 1 || event == words - 1 {
+            for at in 0..lobby.members.len() {
+                size += lobby.read(lobby.members[at], &mut piece);
+            }
+        }
+    }
+    report("words", start, words * members, size);
+}
+
+fn report(what: &str, start: Instant, count: u64, size: usize) {
     let picoseconds = start.elapsed().as_nanos() * 1000;
-    let lines = events * users;
-    println!("lines: {lines}, {size} bytes");
-    println!("{} picoseconds each", picoseconds / u128::from(lines.max(1)));
+    println!("{what}: {count}, {size} bytes");
+    if count > 0 {
+        println!("{} picoseconds each", picoseconds / u128::from(count));
+    }
 }

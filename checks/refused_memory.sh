@@ -1,21 +1,26 @@
 #!/usr/bin/env bash
-# Refuses each allocation in turn, one a run, to the test whose lobby serves three logins and a status. It tries again what
-# was refused, and fails where the refusal left a trace; only what makes the lobby, at first, is not tried again: as many
-# allocations as a test takes that makes the lobby and no more. Says how many those are, and how many were refused after them.
+# Refuses each allocation in turn, one a run, to two tests: one whose lobby serves logins, a status, talk and log outs of
+# three users, one whose last of 33 users joins a channel. A test tries again what was refused, and fails where the refusal
+# left a trace; what comes before, in a test of its own that ends there, is not tried again. Says how many allocations that
+# takes, and how many were refused after them.
 set -euo pipefail
 cd "$(dirname "$0")/.."
-made=machine::three_clients_are_numbered_in_order
-served=machine::an_event_that_memory_refused_leaves_no_trace
 (cd crates/lobby_tests && rt test > /dev/null)
 out=crates/lobby_tests/out
 gcc -O2 -shared -fPIC -o "$out/refuse_allocation.so" checks/refuse_allocation.c
 run() { REFUSED=$1 LD_PRELOAD="$PWD/$out/refuse_allocation.so" "$out/lobby_tests_tests" "$2" 2>&1; }
 taken() { run 0 "$1" | sed -n 's/^allocations: //p'; }
-first=$(taken "$made")
-last=$(taken "$served")
-failed=0
-for ((number = first + 1; number <= last; number++)); do
-    run "$number" "$served" > /dev/null || { echo "allocation $number refused: the test fails"; failed=$((failed + 1)); }
-done
-echo "$first allocations make the lobby; $((last - first)) more were refused one by one, and $failed left a trace"
-[ "$failed" -eq 0 ] && [ "$first" -lt "$last" ]
+status=0
+refuse() {
+    local made=$1 served=$2 first last number failed=0
+    first=$(taken "$made")
+    last=$(taken "$served")
+    for ((number = first + 1; number <= last; number++)); do
+        run "$number" "$served" > /dev/null || { echo "allocation $number refused: $served fails"; failed=$((failed + 1)); }
+    done
+    echo "$served: $first allocations before; $((last - first)) more were refused one by one, and $failed left a trace"
+    [ "$failed" -eq 0 ] && [ "$first" -lt "$last" ] || status=1
+}
+refuse machine::three_clients_are_numbered_in_order machine::an_event_that_memory_refused_leaves_no_trace
+refuse talk::all_but_one_are_in_a_channel talk::a_join_that_memory_refused_leaves_no_trace
+exit "$status"

@@ -1,10 +1,16 @@
-//! How long a lobby takes to log users in, to tell all of them of a status, and to answer a `PING`.
+//! How long a lobby takes to log users in, to tell all of them of a status, to answer a `PING`, to
+//! refuse a line, to tell the members of a channel what one of them says, and to log out one who is in
+//! many channels.
 //!
-//! `bench_lobby CLIENTS USERS EVENTS PINGS` opens so many clients and logs in so many of them, has them
-//! send so many `MYSTATUS` in turn, and one of them so many `PING`. It prints how many logins, lines to
-//! users and answers that made, a sum of the bytes that came out, and the picoseconds of each. Without
+//! `bench_lobby CLIENTS USERS EVENTS PINGS REFUSALS MEMBERS WORDS CHANNELS` opens so many clients and logs
+//! in so many of them, has them send so many `MYSTATUS` in turn, and one of them so many `PING` and so
+//! many lines that are no command; then so many of them join a channel and say so much in it in turn; at
+//! last one of them joins so many more channels, with another, and goes. It prints how many logins, lines
+//! and answers each of that made, a sum of the bytes that came out, and the picoseconds of each. Without
 //! arguments it does so in a small lobby, and prints no times.
 #![tactic(auto)]
+
+mod talk;
 
 use account_book::{Account, AccountBook};
 use anyhow::{Result, anyhow};
@@ -35,6 +41,10 @@ struct Sizes {
     users: u32,
     events: u64,
     pings: u64,
+    refusals: u64,
+    members: u32,
+    words: u64,
+    channels: u32,
 }
 
 const SMALL: Sizes = Sizes {
@@ -42,6 +52,10 @@ const SMALL: Sizes = Sizes {
     users: 4,
     events: 250,
     pings: 150,
+    refusals: 50,
+    members: 3,
+    words: 20,
+    channels: 2,
 };
 
 /// Where users read what waits for them: one piece of memory for all.
@@ -165,23 +179,50 @@ fn arguments<R: Env + AllocGlobal>(rt: &R) -> Result<Option<Sizes>> {
     for word in words {
         sizes.push(word.parse::<u64>()?)?;
     }
-    match sizes.as_slice() {
-        [] => Ok(None),
-        [clients, users, events, pings] => Ok(Some(Sizes {
-            clients: *clients,
-            users: u32::try_from(*users)?,
-            events: *events,
-            pings: *pings,
-        })),
-        _ => Err(anyhow!("usage: bench_lobby CLIENTS USERS EVENTS PINGS")),
+    if sizes.is_empty() {
+        return Ok(None);
+    }
+    Ok(Some(Sizes {
+        clients: size(&sizes, 0)?,
+        users: u32::try_from(size(&sizes, 1)?)?,
+        events: size(&sizes, 2)?,
+        pings: size(&sizes, 3)?,
+        refusals: size(&sizes, 4)?,
+        members: u32::try_from(size(&sizes, 5)?)?,
+        words: size(&sizes, 6)?,
+        channels: u32::try_from(size(&sizes, 7)?)?,
+    }))
+}
+
+/// One of the arguments, counted from 0.
+fn size(sizes: &[u64], at: usize) -> Result<u64> {
+    match sizes.get(at) {
+        Some(size) => Ok(*size),
+        None => Err(anyhow!(
+            "usage: bench_lobby CLIENTS USERS EVENTS PINGS REFUSALS MEMBERS WORDS CHANNELS"
+        )),
     }
 }
 
 fn run<R: Clock + Print + AllocGlobal>(rt: &R, sizes: Sizes, is_timed: bool) -> Result<()> {
-    let mut bench = Bench::new(rt.alloc(), sizes)?;
-    time_logins(rt, &mut bench, sizes, is_timed)?;
-    time_statuses(rt, &mut bench, sizes, is_timed)?;
-    time_pings(rt, &mut bench, sizes, is_timed)?;
+    match Bench::new(rt.alloc(), sizes) {
+        Ok(mut bench) => time_all(rt, &mut bench, sizes, is_timed),
+        Err(error) => Err(error),
+    }
+}
+
+fn time_all<R: Clock + Print + AllocGlobal>(
+    rt: &R,
+    bench: &mut Bench,
+    sizes: Sizes,
+    is_timed: bool,
+) -> Result<()> {
+    time_logins(rt, bench, sizes, is_timed)?;
+    time_statuses(rt, bench, sizes, is_timed)?;
+    time_answers(rt, bench, "answers", b"PING", sizes.pings, is_timed)?;
+    time_answers(rt, bench, "refusals", b"NONE", sizes.refusals, is_timed)?;
+    talk::time_words(rt, bench, sizes.members, sizes.words, is_timed)?;
+    talk::time_log_out(rt, bench, sizes.channels, is_timed)?;
     println!(rt; "sum of the bytes read last: {}", bench.reader.sum())?;
     Ok(())
 }
@@ -219,17 +260,20 @@ fn time_statuses<R: Clock + Print + AllocGlobal>(
     report(rt, "lines", lines, size, is_timed.then_some(taken))
 }
 
-fn time_pings<R: Clock + Print + AllocGlobal>(
+/// Has one client send the same line so many times, and says how long each took.
+fn time_answers<R: Clock + Print + AllocGlobal>(
     rt: &R,
     bench: &mut Bench,
-    sizes: Sizes,
+    what: &str,
+    line: &[u8],
+    count: u64,
     is_timed: bool,
 ) -> Result<()> {
-    let pings = requests(rt.alloc(), &[b"PING"])?;
+    let asked = requests(rt.alloc(), &[line])?;
     let start = Instant::now(rt)?;
-    let size = bench.ask(&pings, sizes.pings)?;
+    let size = bench.ask(&asked, count)?;
     let taken = start.elapsed(rt)?;
-    report(rt, "answers", sizes.pings, size, is_timed.then_some(taken))
+    report(rt, what, count, size, is_timed.then_some(taken))
 }
 
 /// Prints what came out, and how long each took where that was measured.

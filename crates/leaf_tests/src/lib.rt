@@ -6,6 +6,8 @@
 #[cfg(test)]
 mod accounts;
 #[cfg(test)]
+mod channels;
+#[cfg(test)]
 mod frames;
 #[cfg(test)]
 mod outboxes;

@@ -1,6 +1,7 @@
 //! A line for each reply, read and printed again, and lines that no reply prints.
 
-use reply_grammar::{Reply, print};
+use line_words::{NameBuf, Text, TextBuf, WordBuf};
+use reply_grammar::{LentReply, Reply, print, print_id, print_lent};
 use reply_reader::read_reply;
 use std::alloc::{AllocError, Global};
 use std::test::Fail;
@@ -139,6 +140,71 @@ fn a_line_stands_behind_what_was_there(rt: HostRuntime) -> Result<(), Fail> {
     print(&Reply::Pong, Some(7), &mut out)?;
     assert_eq!(rt; out.as_slice(), b"PONG\n#7 PONG\n".as_slice());
     Ok(())
+}
+
+#[test]
+fn a_lent_reply_prints_as_an_owned_one(rt: HostRuntime) -> Result<(), Fail> {
+    let alloc = rt.alloc();
+    let bert = NameBuf::copy_of(alloc, b"Bert")?;
+    let nowhere = WordBuf::copy_of(alloc, b"??")?;
+    let hello = TextBuf::copy_of(alloc, b"hi  there")?;
+    let mut out = Vec::new(alloc);
+    print_lent_lines(&bert, &nowhere, &hello, &mut out)?;
+    assert_eq!(rt;
+        out.as_slice(),
+        b"#7 SERVERMSG Log in first\nADDUSER Bert ?? -1 4294967295\n#9 SAYPRIVATE Bert hi  there\n".as_slice()
+    );
+    Ok(())
+}
+
+#[test]
+fn lent_names_may_have_one_more(rt: HostRuntime) -> Result<(), Fail> {
+    let alloc = rt.alloc();
+    let main = NameBuf::copy_of(alloc, b"main")?;
+    let bert = NameBuf::copy_of(alloc, b"Bert")?;
+    let mut names = Vec::new(alloc);
+    names.push(NameBuf::copy_of(alloc, b"u01")?)?;
+    names.push(NameBuf::copy_of(alloc, b"u02")?)?;
+    let mut out = Vec::new(alloc);
+    print_lent(
+        LentReply::Clients(&main, names.as_slice()),
+        Some(3),
+        &mut out,
+    )?;
+    print_lent(
+        LentReply::LastClients(&main, names.as_slice(), &bert),
+        None,
+        &mut out,
+    )?;
+    assert_eq!(rt;
+        out.as_slice(),
+        b"#3 CLIENTS main u01 u02\nCLIENTS main u01 u02 Bert\n".as_slice()
+    );
+    Ok(())
+}
+
+#[test]
+fn a_line_behind_an_id_is_the_line_under_it(rt: HostRuntime) -> Result<(), Fail> {
+    let mut out = Vec::new(rt.alloc());
+    print_id(Some(7), &mut out)?;
+    print_lent(LentReply::Pong, None, &mut out)?;
+    print_id(None, &mut out)?;
+    print_lent(LentReply::EndOfChannels, None, &mut out)?;
+    assert_eq!(rt; out.as_slice(), b"#7 PONG\nENDOFCHANNELS\n".as_slice());
+    Ok(())
+}
+
+// A fixed text, numbers at their ends and what a user wrote, with an id and without.
+fn print_lent_lines(
+    user: &NameBuf,
+    country: &WordBuf,
+    text: &TextBuf,
+    out: &mut Vec<u8>,
+) -> Result<(), AllocError> {
+    let refusal = Text::lend(b"Log in first");
+    print_lent(LentReply::ServerMsg(&refusal), Some(7), out)?;
+    print_lent(LentReply::AddUser(user, country, -1, 4294967295), None, out)?;
+    print_lent(LentReply::SayPrivate(user, text), Some(9), out)
 }
 
 // The line of the reply that was read, or nothing where there is none.

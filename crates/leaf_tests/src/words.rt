@@ -96,10 +96,10 @@ fn kinds_keep_their_rules(rt: HostRuntime) -> Result<(), Fail> {
 #[test]
 fn owned_kinds_are_made_and_given_back(rt: HostRuntime) -> Result<(), Fail> {
     let alloc = rt.alloc();
-    let name = NameBuf::of(Vec::from_slice(alloc, b"Anna")?).ok_or("name")?;
+    let name = NameBuf::of(b"Anna").ok_or("name")?;
     assert_eq!(rt; name.as_slice(), b"Anna".as_slice());
-    assert_eq!(rt; name.into_vec().as_slice(), b"Anna".as_slice());
-    assert!(rt; NameBuf::of(Vec::from_slice(alloc, b"a b")?).is_none());
+    assert_eq!(rt; name.copy().as_slice(), b"Anna".as_slice());
+    assert!(rt; NameBuf::of(b"a b").is_none());
     let key = KeyBuf::of(Vec::from_slice(alloc, b"a")?).ok_or("key")?;
     let value = SentenceBuf::of(Vec::from_slice(alloc, b"1 2")?).ok_or("value")?;
     let mut pairs = Vec::new(alloc);
@@ -112,10 +112,9 @@ fn owned_kinds_are_made_and_given_back(rt: HostRuntime) -> Result<(), Fail> {
 
 #[test]
 fn names_are_ordered_by_their_bytes(rt: HostRuntime) -> Result<(), Fail> {
-    let alloc = rt.alloc();
-    let anna = NameBuf::of(Vec::from_slice(alloc, b"Anna")?).ok_or("name")?;
-    let ann = NameBuf::of(Vec::from_slice(alloc, b"Ann")?).ok_or("name")?;
-    let lower = NameBuf::of(Vec::from_slice(alloc, b"anna")?).ok_or("name")?;
+    let anna = NameBuf::of(b"Anna").ok_or("name")?;
+    let ann = NameBuf::of(b"Ann").ok_or("name")?;
+    let lower = NameBuf::of(b"anna").ok_or("name")?;
     assert!(rt; ann < anna && anna < lower && anna != lower);
     Ok(())
 }

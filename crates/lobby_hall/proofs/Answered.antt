@@ -6,7 +6,7 @@ use Rattle.command_grammar.specs.declared.command.Request.{Request}
 use Rattle.account_book.specs.Account.{Account}
 use Rattle.lobby_model.specs.declared.event.Event.TheVariants as event
 use Rattle.lobby_model.specs.declared.schedule.Step.TheVariants as step
-use Rattle.lobby_model.specs.Table.{at_number}
+use Rattle.line_words.specs.Table.{at_number}
 use Rattle.lobby_model.specs.State.{State}
 use Rattle.lobby_model.specs.Next.{next}
 use Rattle.lobby_hall.specs.declared.session.Next.TheVariants.{Line, Spoilt}
@@ -20,9 +20,10 @@ use Rattle.lobby_model.specs.Configuration.{Configuration}
 use Rattle.lobby_model.specs.Schedule.{World, StepGives, Gives, new_world}
 use Rattle.lobby_hall.specs.Schedules.{StandsFor}
 use Rattle.lobby_hall.specs.Copied.{completed, IsWithin, changed_at, caught_up, read_on}
-use Rattle.lobby_machine.specs.Shown.{unread_in, unread_of}
+use Rattle.lobby_machine.specs.Shown.{unread_of}
+use Rattle.lobby_hall.proofs.Unread.{unread_there}
 use Rattle.lobby_hall.proofs.Drained.{same_drain}
-use Rattle.lobby_hall.proofs.Steps.{arrived, shut_off, took_spoilt, took_line, was_read}
+use Rattle.lobby_hall.proofs.Steps.{clients_in_order, arrived, shut_off, took_spoilt, took_line, was_read}
 
 -- the new hall, field by field
 removed_is : (s : State) (ss : List (Option Serving)) (rs : List Log) (new : Kept) (c : ℕ) → new.lobby ≡ next s (event.Shut c) → new.sessions ≡ changed_at (λ _. None) ss c → new.record_so_far ≡ completed rs new.lobby
@@ -69,9 +70,10 @@ read_ok s ss ls c count room got after caught new there room_is got_is after_is 
     → TakesStep (record { lobby = s; sessions = ss; record_so_far = completed ls s }) (record { lobby = after; sessions = ss; record_so_far = completed new after }) (step.Read c count)) [
       | None ↦ λ f e. absurd (cc)
       | Some x ↦ λ f e settings accounts events w st.
-          let unread : length (unread_of s c) ≡ length x.unread = ap (λ o. length (unread_in o)) f in
+          let unread : length (unread_of s c) ≡ length x.unread = ap length (unread_there s c x f) in
           let got_all : got ≡ min count (length x.unread) = omega (arith, room_is, got_is, unread) in
-          let next_is : next s (event.Drain c count) ≡ after = sym (same_drain s c count) ∙ ap (λ n. next s (event.Drain c n)) (sym room_is) ∙ sym after_is in
+          let in_order = clients_in_order settings accounts events w s ss (completed ls s) st in
+          let next_is : next s (event.Drain c count) ≡ after = sym (same_drain s c count in_order) ∙ ap (λ n. next s (event.Drain c n)) (sym room_is) ∙ sym after_is in
           subst (λ t. StandsAfter (record { lobby = t; sessions = ss; record_so_far = completed new t }) settings accounts events w (step.Read c count)) next_is
           (was_read settings accounts events w s ss ls st c count x f new
           (new_is ∙ (λ i. changed_at (read_on (got_all i)) (caught_is i) c))

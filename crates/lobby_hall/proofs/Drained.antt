@@ -1,29 +1,34 @@
 -- What a read adds to the record.
-use Rattle.std.proofs.Common.{◌≡◌, ◌≢◌, ℕ, zero, suc, ◌+◌, ◌-◌, ◌≤◌, List, [], ◌∷◌, ◌++◌, length, take, drop, min, refl, sym, ap, ◌∙◌, true, false, arith, append-nil, length-append, length-drop, length-take, cond}
-use Rattle.std.specs.Prelude.{Option, Some, None, if◌then◌else◌}
+use Rattle.std.proofs.Common.{◌≡◌, ◌≢◌, ℕ, zero, suc, ◌+◌, ◌-◌, ◌≤◌, List, [], ◌∷◌, ◌++◌, length, take, drop, min, refl, sym, ap, ◌∙◌, true, false, arith, append-nil, length-append, length-drop, length-take, T}
+use Rattle.std.specs.Prelude.{Some, None, if◌then◌else◌}
 use Rattle.std.specs.Option.{option_map}
 use Rattle.std.specs.Ordering.{nat_cmp}
 use Rattle.std.specs.Cmp.{nat_cmp_total}
-use Rattle.std.specs.FinMap.Entries.{find-put}
+use Rattle.std.specs.FinMap.{nat_cmp-IsAntisymmetric}
+use Rattle.std.specs.FinMap.Entries.{is_sorted}
+use Rattle.std.proofs.lemmas.Iterator.Adapters.{option_map_id}
 use Rattle.std.proofs.lemmas.List.{drop_all, take_all}
 use Rattle.account_book.specs.Account.{Account}
 use Rattle.lobby_model.specs.declared.event.Event.{Event}
 use Rattle.lobby_model.specs.declared.event.Event.TheVariants as event
-use Rattle.lobby_model.specs.Table.{ByNumber, at_number, put_number, same_number}
+use Rattle.line_words.specs.Table.{ByNumber, at_number, same_number}
 use Rattle.lobby_model.specs.Configuration.{Configuration}
 use Rattle.lobby_model.specs.State.{State, Client, empty_lobby}
-use Rattle.lobby_model.specs.Effect.{drained, drained_at, effect}
+use Rattle.lobby_model.specs.Sessions.{drained}
+use Rattle.lobby_model.specs.Events.{effect}
 use Rattle.lobby_model.specs.Next.{next, put_by, taken_from}
 use Rattle.lobby_model.specs.History.{after, put_in, taken_in}
+use Rattle.line_words.proofs.Tables.{at-change, change_alike}
 use Rattle.lobby_model.proofs.Delivered.{put_nothing, same_itself}
 use Rattle.lobby_model.proofs.Splits.{same_either_way}
 use Rattle.lobby_model.proofs.Quiet.{next_drain}
 use Rattle.lobby_model.proofs.Balance.{balanced}
-use Rattle.lobby_machine.specs.Shown.{unread_in, unread_of}
+use Rattle.lobby_machine.specs.Shown.{unread_of}
 use Rattle.lobby_hall.specs.ByClient.{of_client}
 use Rattle.lobby_hall.specs.Record.{Log, log_of, log_at, IsRecord}
 use Rattle.lobby_hall.specs.Copied.{lacking, completed_log, completed, changed_at, caught_up, read_on}
 use Rattle.lobby_hall.proofs.Each.{at_each, not_same}
+use Rattle.lobby_hall.proofs.Unread.{unread_there, unread_same}
 use Rattle.lobby_hall.proofs.Changed.{of-changed_same, of-changed_other}
 use Rattle.lobby_hall.proofs.Recorded.{of-completed, put_in-snoc, taken_in-snoc, nobody}
 
@@ -47,29 +52,35 @@ drop_min (suc n) [] = ap (λ (k : ℕ). drop {A = ℕ} k []) (min_zero (suc n))
 drop_min (suc n) (x ∷ u) = ap (λ k. drop k (x ∷ u)) (min_suc n (length u)) ∙ drop_min n u
 
 -- taking as many bytes as there are is taking as many as were asked for
-pub same_drain : (s : State) (c n : ℕ) → next s (event.Drain c (min n (length (unread_of s c)))) ≡ next s (event.Drain c n)
-same_drain s c n =
+pub same_drain : (s : State) (c n : ℕ) → T (is_sorted nat_cmp s.clients)
+    → next s (event.Drain c (min n (length (unread_of s c)))) ≡ next s (event.Drain c n)
+same_drain s c n in_order =
     next_drain s c (min n (length (unread_of s c)))
-    ∙ ap (λ (m : ByNumber Client). record s { clients = m }) (by_client (at_number s.clients c))
+    ∙ ap (λ (m : ByNumber Client). record s { clients = m }) (
+    change_alike nat_cmp nat_cmp_total nat_cmp-IsAntisymmetric _ _ s.clients c in_order alike)
     ∙ sym (next_drain s c n)
   where
-    by_client : (o : Option Client) → drained_at s.clients c (min n (length (unread_in o))) o ≡ drained_at s.clients c n o
-    by_client None = refl
-    by_client (Some x) = ap (λ (u : List ℕ). put_number s.clients c (record x { unread = u })) (drop_min n x.unread)
+    alike : (x : Client) → at_number s.clients c ≡ Some x → drained (min n (length (unread_of s c))) x ≡ drained n x
+    alike x found =
+        ap (λ (u : List ℕ). record x { unread = u }) (ap (λ u. drop (min n (length u)) x.unread) (unread_there s c x found) ∙ drop_min n x.unread)
 
 -- only the client that reads has less to read
+drained_at : (s : State) (c n q : ℕ)
+    → at_number (next s (event.Drain c n)).clients q ≡ option_map (λ x. if same_number c q then drained n x else x) (at_number s.clients q)
+drained_at s c n q =
+    ap (λ (t : State). at_number t.clients q) (next_drain s c n) ∙ at-change nat_cmp nat_cmp-IsAntisymmetric (drained n) s.clients c q
+
 drained_other : (s : State) (c n q : ℕ) → same_number q c ≡ false → unread_of (next s (event.Drain c n)) q ≡ unread_of s q
 drained_other s c n q other =
-    ap (λ (t : State). unread_of t q) (next_drain s c n) ∙ by_client (at_number s.clients c)
-  where
-    by_client : (o : Option Client) → unread_in (at_number (drained_at s.clients c n o) q) ≡ unread_in (at_number s.clients q)
-    by_client None = refl
-    by_client (Some x) = ap unread_in (find-put nat_cmp nat_cmp_total q c (drained n x) s.clients ∙ ap (λ b. cond b (Some (drained n x)) (at_number s.clients q)) other)
+    unread_same s (next s (event.Drain c n)) q
+    (drained_at s c n q
+    ∙ ap (λ b. option_map (λ x. if b then drained n x else x) (at_number s.clients q)) (same_either_way c q ∙ other)
+    ∙ option_map_id (at_number s.clients q))
 
 drained_same : (s : State) (c n : ℕ) (x : Client) → at_number s.clients c ≡ Some x → unread_of (next s (event.Drain c n)) c ≡ drop n x.unread
 drained_same s c n x found =
-    ap (λ (t : State). unread_of t c) (next_drain s c n ∙ ap (λ o. record s { clients = drained_at s.clients c n o }) found)
-    ∙ ap unread_in (find-put nat_cmp nat_cmp_total c c (drained n x) s.clients ∙ ap (λ b. cond b (Some (drained n x)) (at_number s.clients c)) (same_itself c))
+    unread_there (next s (event.Drain c n)) c (drained n x)
+    (drained_at s c n c ∙ (λ i. option_map (λ x. if same_itself c i then drained n x else x) (found i)))
 
 -- the bytes of a log that was completed, and of which more were read
 read_part : (taken unread : List ℕ) (n : ℕ) → take (length taken + n) (taken ++ unread) ≡ taken ++ take n unread
@@ -108,7 +119,7 @@ module _ (settings : Configuration) (accounts : List Account) (events : List Eve
         ∙ (λ i. taken_in start events c ++ (if same_itself c i then taken_from n (found i) else []))
 
     abbrev unread_is : unread_of here c ≡ x.unread
-    unread_is = ap unread_in found
+    unread_is = unread_there here c x found
 
     module _ (new : List Log) (read_more : new ≡ changed_at (read_on count) (caught_up logs here c) c) (none : count ≡ 0 → new ≡ caught_up logs here c) where
       of_other : (q : ℕ) → q ≢ c → of_client new q ≡ of_client logs q

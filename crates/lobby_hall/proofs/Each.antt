@@ -1,6 +1,6 @@
 -- Cases on whether a number is that of client c.
 use Rattle.std.proofs.Common.{◌≡◌, ◌≢◌, ℕ, refl, sym, ap, subst, ◌∙◌, true, false}
-use Rattle.lobby_model.specs.Table.{same_number}
+use Rattle.line_words.specs.Table.{same_number}
 use Rattle.lobby_model.proofs.Delivered.{same_number_is, same_itself}
 
 pub not_same : (q c : ℕ) → q ≢ c → same_number q c ≡ false

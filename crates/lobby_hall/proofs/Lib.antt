@@ -1,9 +1,10 @@
 pub mod Each
+pub mod Unread
 pub mod Changed
 pub mod Logs
 pub mod Recorded
+pub mod Kept
 pub mod Drained
 pub mod Opened
-pub mod Kept
 pub mod Steps
 pub mod Answered

@@ -1,28 +1,31 @@
 -- What an open adds to the record: the log of the next client.
-use Rattle.std.proofs.Common.{◌≡◌, ◌≢◌, ℕ, zero, suc, ◌+◌, ◌<◌, ◌≤◌, List, [], ◌∷◌, ◌++◌, length, refl, sym, ap, ◌∙◌, true, false, arith, append-nil, cond}
-use Rattle.std.specs.Prelude.{Option, Some, None, ◌&&◌, if◌then◌else◌, slice_get}
+use Rattle.std.proofs.Common.{◌≡◌, ◌≢◌, ℕ, zero, suc, ◌+◌, ◌<◌, ◌≤◌, List, [], ◌∷◌, ◌++◌, length, refl, sym, ap, ◌∙◌, true, false, arith, append-nil, cond, T}
+use Rattle.std.specs.Prelude.{Some, None, slice_get}
 use Rattle.std.specs.Option.{option_map}
 use Rattle.std.specs.Ordering.{nat_cmp}
 use Rattle.std.specs.Cmp.{nat_cmp_total}
-use Rattle.std.specs.FinMap.Entries.{find-put}
-use Rattle.reply_grammar.specs.Replies.{print_all}
+use Rattle.std.specs.FinMap.Entries.{is_sorted}
 use Rattle.account_book.specs.Account.{Account}
 use Rattle.lobby_model.specs.declared.event.Event.{Event}
 use Rattle.lobby_model.specs.declared.event.Event.TheVariants as event
-use Rattle.lobby_model.specs.Table.{at_number}
+use Rattle.line_words.specs.Table.{at_number, put_number}
 use Rattle.lobby_model.specs.Configuration.{Configuration}
 use Rattle.lobby_model.specs.State.{State, Client, empty_lobby}
-use Rattle.lobby_model.specs.Effect.{effect, has_place, greeted, opened}
-use Rattle.lobby_model.specs.Sent.{greeting}
-use Rattle.lobby_model.specs.Next.{next, batch, put_by, put_to, with_batch}
+use Rattle.lobby_model.specs.Sessions.{has_place}
+use Rattle.lobby_model.specs.Events.{effect}
+use Rattle.lobby_model.specs.Next.{next, put_by, put_to}
 use Rattle.lobby_model.specs.History.{after, put_in, taken_in}
-use Rattle.lobby_model.proofs.Delivered.{put_nothing, with_batch_nil, find-values}
+use Rattle.line_words.proofs.Tables.{at-put}
+use Rattle.lobby_model.proofs.Delivered.{put_nothing}
+use Rattle.lobby_model.proofs.Quiet.{greeted_at, next_open}
+use Rattle.lobby_model.proofs.EventsKept.{always_sound}
 use Rattle.lobby_model.proofs.Balance.{balanced, put_by_none, put_by_cut}
-use Rattle.lobby_machine.specs.Shown.{unread_in, unread_of}
+use Rattle.lobby_machine.specs.Shown.{unread_of}
 use Rattle.lobby_hall.specs.ByClient.{of_client}
 use Rattle.lobby_hall.specs.Record.{Log, log_of, log_at, IsRecord}
 use Rattle.lobby_hall.specs.Copied.{completed_log, completed, no_log}
 use Rattle.lobby_hall.proofs.Each.{at_each, not_same}
+use Rattle.lobby_hall.proofs.Unread.{unread_nobody, unread_there, unread_same}
 use Rattle.lobby_hall.proofs.Recorded.{of-completed, put_in-snoc, taken_in-snoc, balanced_later}
 
 -- a list with one more value
@@ -61,24 +64,18 @@ of-bounded xs (suc k) x e = omega (arith, get-bounded xs k x e)
 
 -- the others get nothing, and have what they had
 module _ (s : State) (ip : List ℕ) (home : ℕ) (place : has_place s ≡ true) (q : ℕ) (ne : q ≢ s.last_client + 1) where
-  nothing_sent : batch s (event.Open ip home) q ≡ []
-  nothing_sent = (λ i. print_all (if place i && not_same q (s.last_client + 1) ne i then (None, greeting s.settings) ∷ [] else []))
+  elsewhere : (x : Client) → at_number (put_number s.clients (s.last_client + 1) x) q ≡ at_number s.clients q
+  elsewhere x =
+      at-put nat_cmp nat_cmp_total s.clients (s.last_client + 1) x q
+      ∙ ap (λ b. cond b (Some x) (at_number s.clients q)) (not_same q (s.last_client + 1) ne)
 
-  pub other_client : at_number (next s (event.Open ip home)).clients q ≡ at_number s.clients q
-  other_client =
-      find-values (λ d x. with_batch s.settings.outbox_limit (batch s (event.Open ip home) d) x) q (effect s (event.Open ip home)).clients
-      ∙ ap (λ b. option_map (λ x. with_batch s.settings.outbox_limit b x) (at_number (effect s (event.Open ip home)).clients q)) nothing_sent
-      ∙ kept (at_number (effect s (event.Open ip home)).clients q)
-      ∙ ap (λ b. at_number (if b then opened s ip home else s).clients q) place
-      ∙ find-put nat_cmp nat_cmp_total q (s.last_client + 1) (greeted ip home) s.clients
-      ∙ ap (λ b. cond b (Some (greeted ip home)) (at_number s.clients q)) (not_same q (s.last_client + 1) ne)
-    where
-      kept : (o : Option Client) → option_map (λ x. with_batch s.settings.outbox_limit [] x) o ≡ o
-      kept None = refl
-      kept (Some x) = ap (λ y. Some y) (with_batch_nil s.settings.outbox_limit x)
+  pub other_client : T (is_sorted nat_cmp s.clients) → at_number (next s (event.Open ip home)).clients q ≡ at_number s.clients q
+  other_client in_order = ap (λ (t : State). at_number t.clients q) (next_open s ip home place in_order) ∙ elsewhere _
 
   other_put : put_by s (event.Open ip home) q ≡ []
-  other_put = ap (λ b. put_to s.settings.outbox_limit b (at_number (effect s (event.Open ip home)).clients q)) nothing_sent
+  other_put =
+      ap (λ b. put_to s.settings.outbox_limit b (at_number (effect s (event.Open ip home)).clients q))
+      (greeted_at s ip home place q false (not_same q (s.last_client + 1) ne))
       ∙ put_nothing s.settings.outbox_limit (at_number (effect s (event.Open ip home)).clients q)
 
 module _ (settings : Configuration) (accounts : List Account) (events : List Event) (logs : List Log) (ip : List ℕ) (home : ℕ) where
@@ -95,8 +92,8 @@ module _ (settings : Configuration) (accounts : List Account) (events : List Eve
   later = next here (event.Open ip home)
 
   module _ (place : has_place here ≡ true) (each : length logs ≡ here.last_client) (r : IsRecord (completed logs here) start events) where
-    pub last_is : later.last_client ≡ here.last_client + 1
-    last_is = ap (λ b. (if b then opened here ip home else here).last_client) place
+    in_order : T (is_sorted nat_cmp here.clients)
+    in_order = (always_sound settings accounts events).clients.in_order
 
     untaken : (q : ℕ) → taken_in start (events ++ opening ∷ []) q ≡ taken_in start events q
     untaken q = taken_in-snoc start events opening q ∙ append-nil (taken_in start events q)
@@ -106,9 +103,9 @@ module _ (settings : Configuration) (accounts : List Account) (events : List Eve
     first_put =
         let c : ℕ = suc (length logs) in
         let new = (balanced settings accounts events (suc (length logs))).fresh (omega (arith, each)) in
-        elim (at_number later.clients (suc (length logs))) as (λ o. at_number later.clients (suc (length logs)) ≡ o → unread_in o ≡ put_in start (events ++ opening ∷ []) (suc (length logs))) [
-          | None ↦ λ f. sym (put_in-snoc start events opening c ∙ (λ i. new.1 i ++ put_by_none here opening c f i))
-          | Some y ↦ λ f. elim y.cut as (λ b. y.cut ≡ b → y.unread ≡ put_in start (events ++ opening ∷ []) (suc (length logs))) [
+        elim (at_number later.clients c) as (λ o. at_number later.clients c ≡ o → unread_of later c ≡ put_in start (events ++ opening ∷ []) c) [
+          | None ↦ λ f. unread_nobody later c f ∙ sym (put_in-snoc start events opening c ∙ (λ i. new.1 i ++ put_by_none here opening c f i))
+          | Some y ↦ λ f. unread_there later c y f ∙ elim y.cut as (λ b. y.cut ≡ b → y.unread ≡ put_in start (events ++ opening ∷ []) c) [
             | true ↦ λ k. (balanced_later settings accounts events opening c).gone y f k ∙ sym (put_in-snoc start events opening c ∙ (λ i. new.1 i ++ put_by_cut here opening c _ _ y (balanced settings accounts events c) f k i))
             | false ↦ λ k. ap (λ t. t ++ y.unread) (sym (append-nil (taken_in start events c) ∙ new.0)) ∙ (balanced_later settings accounts events opening c).there y f k ∙ sym (put_in-snoc start events opening c)
           ] refl
@@ -129,7 +126,8 @@ module _ (settings : Configuration) (accounts : List Account) (events : List Eve
               let old : q ≢ here.last_client + 1 = λ e. omega (arith, e, each, of-bounded logs q log f) in
               let is : log_at (completed (logs ++ no_log ∷ []) later) q ≡ log_at (completed logs here) q =
               ap log_of (of-completed (logs ++ no_log ∷ []) later q
-              ∙ (λ i. option_map (λ l. completed_log l (unread_in (other_client here ip home place q old i))) (of-append_some logs (no_log ∷ []) q log f i))
+              ∙ (λ i. option_map (λ l. completed_log l (unread_same here later q (other_client here ip home place q old in_order) i))
+              (of-append_some logs (no_log ∷ []) q log f i))
               ∙ ap (option_map (λ l. completed_log l (unread_of here q))) (sym f)
               ∙ sym (of-completed logs here q)) in (
                 ap (λ (l : Log). l.put) is ∙ r.put q ∙ sym (put_in-snoc start events opening q ∙ ap (λ p. put_in start events q ++ p) (other_put here ip home place q old) ∙ append-nil (put_in start events q)),

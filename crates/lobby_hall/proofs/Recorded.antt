@@ -6,13 +6,14 @@ use Rattle.std.specs.Option.{option_map}
 use Rattle.std.proofs.lemmas.List.{drop_all, drop_at, drop-drop}
 use Rattle.account_book.specs.Account.{Account}
 use Rattle.lobby_model.specs.declared.event.Event.{Event}
-use Rattle.lobby_model.specs.Table.{at_number}
+use Rattle.line_words.specs.Table.{at_number}
 use Rattle.lobby_model.specs.Configuration.{Configuration}
 use Rattle.lobby_model.specs.State.{State, empty_lobby}
 use Rattle.lobby_model.specs.Next.{next, put_by, taken_by}
 use Rattle.lobby_model.specs.History.{after, put_in, taken_in}
 use Rattle.lobby_model.proofs.Balance.{Balanced, balanced, balanced_next, put_by_none, put_by_cut}
-use Rattle.lobby_machine.specs.Shown.{unread_in, unread_of}
+use Rattle.lobby_machine.specs.Shown.{unread_of}
+use Rattle.lobby_hall.proofs.Unread.{unread_nobody, unread_there}
 use Rattle.lobby_hall.specs.ByClient.{of_client}
 use Rattle.lobby_hall.specs.Record.{Log, log_of, log_at, IsRecord}
 use Rattle.lobby_hall.specs.Copied.{lacking, completed_log, completed_from, completed, IsWithin}
@@ -108,10 +109,10 @@ module _ (settings : Configuration) (accounts : List Account) (events : List Eve
 
         lacked : (q : ℕ) (log : Log) → of_client logs q ≡ Some log → lacking log (unread_of later q) ≡ put_by here e q
         lacked q log found =
-            elim (at_number later.clients q) as (λ o. at_number later.clients q ≡ o → drop (length log.put - length log.read) (unread_in o) ≡ put_by here e q) [
-              | None ↦ λ f. drop_all (length log.put - length log.read) [] (omega arith) ∙ sym (put_by_none here e q f)
-              | Some y ↦ λ f. elim y.cut as (λ b. y.cut ≡ b → drop (length log.put - length log.read) y.unread ≡ put_by here e q) [
-                | true ↦ λ k. ap (drop (length log.put - length log.read)) ((balanced_later q).gone y f k) ∙ drop_all (length log.put - length log.read) [] (omega arith)
+            elim (at_number later.clients q) as (λ o. at_number later.clients q ≡ o → lacking log (unread_of later q) ≡ put_by here e q) [
+              | None ↦ λ f. ap (lacking log) (unread_nobody later q f) ∙ drop_all (length log.put - length log.read) [] (omega arith) ∙ sym (put_by_none here e q f)
+              | Some y ↦ λ f. ap (lacking log) (unread_there later q y f) ∙ elim y.cut as (λ b. y.cut ≡ b → lacking log y.unread ≡ put_by here e q) [
+                | true ↦ λ k. ap (lacking log) ((balanced_later q).gone y f k) ∙ drop_all (length log.put - length log.read) [] (omega arith)
                     ∙ sym (put_by_cut here e q _ _ y (balanced settings accounts events q) f k)
                 | false ↦ λ k.
                     let put_is : put_in start events q ≡ log.put = sym (r.put q) ∙ ap (λ o. (log_of o).put) found in

@@ -1,11 +1,11 @@
 -- What a hall stands for after a step.
-use Rattle.std.proofs.Common.{◌≡◌, ◌≢◌, ℕ, zero, suc, ◌+◌, ◌<◌, ◌≤◌, List, [], ◌∷◌, ◌++◌, length, drop, min, refl, sym, ap, subst, ◌∙◌, true, false, arith, append-nil, length-append, cond}
+use Rattle.std.proofs.Common.{◌≡◌, ◌≢◌, ℕ, zero, suc, ◌+◌, ◌<◌, ◌≤◌, List, [], ◌∷◌, ◌++◌, length, drop, min, refl, sym, ap, subst, ◌∙◌, true, false, arith, append-nil, length-append, cond, T}
 use Rattle.std.specs.Prelude.{Option, Some, None, if◌then◌else◌, is_some, IsSome, slice_get, MatchBool}
 use Rattle.std.specs.List.{AllByRecursion}
 use Rattle.std.specs.Option.{option_map}
 use Rattle.std.specs.Ordering.{nat_cmp}
 use Rattle.std.specs.Cmp.{nat_cmp_total}
-use Rattle.std.specs.FinMap.Entries.{find-put}
+use Rattle.std.specs.FinMap.Entries.{find-put, is_sorted}
 use Rattle.line_framer.specs.Frames.{frames}
 use Rattle.line_framer.specs.Framed.{Framed, first, next_line}
 use Rattle.command_grammar.specs.declared.command.Request.{Request}
@@ -13,10 +13,10 @@ use Rattle.account_book.specs.Account.{Account}
 use Rattle.lobby_model.specs.declared.event.Event.{Event}
 use Rattle.lobby_model.specs.declared.event.Event.TheVariants as event
 use Rattle.lobby_model.specs.declared.schedule.Step.TheVariants as step
-use Rattle.lobby_model.specs.Table.{ByNumber, at_number, put_number}
+use Rattle.line_words.specs.Table.{ByNumber, at_number, put_number}
 use Rattle.lobby_model.specs.Configuration.{Configuration}
 use Rattle.lobby_model.specs.State.{State, Client, empty_lobby}
-use Rattle.lobby_model.specs.Effect.{has_place, opened}
+use Rattle.lobby_model.specs.Sessions.{has_place}
 use Rattle.lobby_model.specs.Next.{next}
 use Rattle.lobby_model.specs.History.{after}
 use Rattle.lobby_model.specs.Schedule.{World, Input, input, input_of, is_open, line_limit, with_bytes, with_taken, moved, StepGives, TakeGives}
@@ -38,7 +38,9 @@ use Rattle.lobby_machine.specs.Shown.{unread_of}
 use Rattle.lobby_hall.proofs.Drained.{drained_record}
 use Rattle.lobby_hall.proofs.Opened.{opened_record, of-append_some, of-append_new, of-append_past, other_client}
 use Rattle.lobby_model.proofs.Quiet.{shut_removes}
-use Rattle.lobby_hall.proofs.Kept.{said_keeps, said_last, shut_keeps, drain_keeps, open_lets_in}
+use Rattle.lobby_model.proofs.Origins.{last_after}
+use Rattle.lobby_model.proofs.EventsKept.{always_sound}
+use Rattle.lobby_hall.proofs.Kept.{said_keeps, shut_keeps, drain_keeps, open_lets_in, open_gives}
 
 -- inputs with one written
 input_here : (inputs : ByNumber Input) (c : ℕ) (x : Input) → input_of (at_number (put_number inputs c x) c) ≡ x
@@ -78,6 +80,10 @@ module _ (settings : Configuration) (accounts : List Account) (events : List Eve
       ] refl is
 
   module _ (s : State) (ss : List (Option Serving)) (rs : List Log) (st : Stands (record { lobby = s; sessions = ss; record_so_far = rs }) settings accounts events w) where
+    pub clients_in_order : T (is_sorted nat_cmp s.clients)
+    clients_in_order =
+        subst (λ (t : State). T (is_sorted nat_cmp t.clients)) (sym (st.lobby ∙ st.history)) (always_sound settings accounts events).clients.in_order
+
     -- bytes come
     pub arrived : (c : ℕ) (piece : List ℕ) (new : List (Option Serving)) → Fed (session_at ss c) (session_at new c) piece
         → ((q : ℕ) → q ≢ c → session_at new q ≡ session_at ss q) → length new ≡ length ss
@@ -130,14 +136,18 @@ module _ (settings : Configuration) (accounts : List Account) (events : List Eve
           lobby = ap (λ t. next t (event.Shut c)) st.lobby;
           history = ap (λ t. next t (event.Shut c)) st.history ∙ sym (after-snoc (empty_lobby settings accounts) events (event.Shut c));
           record_is = subst (λ (t : State). IsRecord (completed rs (next t (event.Shut c))) (empty_lobby settings accounts) (events ++ event.Shut c ∷ [])) (sym here)
-              (recorded settings accounts events (event.Shut c) rs st.record_is within (st.one_log_each ∙ ap (λ (t : State). t.last_client) st.history) (λ q. refl));
+              (recorded settings accounts events (event.Shut c) rs st.record_is within
+              (st.one_log_each ∙ ap (λ (t : State). t.last_client) st.history
+              ∙ sym (last_after (after (empty_lobby settings accounts) events) (event.Shut c))) (λ q. refl));
           sessions = at_each (λ q. SessionOf (session_at (changed_at (λ _. None) ss c) q) (is_open (moved w (event.Shut c ∷ [])) q) (input w q)) c
               (subst (λ o. SessionOf o (is_open (moved w (event.Shut c ∷ [])) c) (input w c)) (sym (gone c)) (ap is_some (shut_removes w.lobby c)))
               (λ q ne. subst (λ o. SessionOf (session_of o) (is_open (moved w (event.Shut c ∷ [])) q) (input w q)) (sym (of-changed_other (λ _. None) ss c q ne))
               (subst (λ b. SessionOf (session_at ss q) b (input w q)) (sym (shut_keeps w.lobby c q (not_same c q (λ e. ne (sym e))))) (st.sessions q)));
-          unheard = st.unheard;
-          one_session_each = length-changed_at (λ _. None) ss c ∙ st.one_session_each;
-          one_log_each = length-completed_from 1 rs (next s (event.Shut c)) ∙ st.one_log_each;
+          unheard = λ q late.
+              let last : (next w.lobby (event.Shut c)).last_client ≡ w.lobby.last_client = last_after w.lobby (event.Shut c) in
+              st.unheard q (omega (arith, last, late));
+          one_session_each = length-changed_at (λ _. None) ss c ∙ st.one_session_each ∙ sym (last_after w.lobby (event.Shut c));
+          one_log_each = length-completed_from 1 rs (next s (event.Shut c)) ∙ st.one_log_each ∙ sym (last_after w.lobby (event.Shut c));
         }
       where
         gone : (c : ℕ) → session_at (changed_at (λ _. None) ss c) c ≡ None
@@ -232,19 +242,20 @@ module _ (settings : Configuration) (accounts : List Account) (events : List Eve
               history = ap (λ t. next t (event.Say c request)) st.history ∙ sym (after-snoc (empty_lobby settings accounts) events (event.Say c request));
               record_is = subst (λ (t : State). IsRecord (completed rs (next t (event.Say c request))) (empty_lobby settings accounts) (events ++ event.Say c request ∷ [])) (sym here)
                   (recorded settings accounts events (event.Say c request) rs st.record_is within
-                  (st.one_log_each ∙ ap (λ (t : State). t.last_client) st.history ∙ sym (said_last (after (empty_lobby settings accounts) events) c request)) (λ q. refl));
+                  (st.one_log_each ∙ ap (λ (t : State). t.last_client) st.history
+                  ∙ sym (last_after (after (empty_lobby settings accounts) events) (event.Say c request))) (λ q. refl));
               sessions = at_each (λ q. SessionOf (session_at new q) (is_open (moved (with_taken w c) (event.Say c request ∷ [])) q) (input (moved (with_taken w c) (event.Say c request ∷ [])) q)) c
                   (issuer (session_at ss c) (session_at new c) (st.sessions c) told accepted)
                   (λ q ne. subst (λ o. SessionOf o (is_open (moved (with_taken w c) (event.Say c request ∷ [])) q) (input (moved (with_taken w c) (event.Say c request ∷ [])) q)) (sym (others q ne))
                   (subst (λ b. SessionOf (session_at ss q) b (input (moved (with_taken w c) (event.Say c request ∷ [])) q)) (sym (open_still q))
                   (subst (SessionOf (session_at ss q) (is_open w q)) (sym (input_there w.inputs c _ q ne)) (st.sessions q))));
               unheard = λ q late.
-                  let last : (next w.lobby (event.Say c request)).last_client ≡ w.lobby.last_client = said_last w.lobby c request in
+                  let last : (next w.lobby (event.Say c request)).last_client ≡ w.lobby.last_client = last_after w.lobby (event.Say c request) in
                   let numbered : c ≤ w.lobby.last_client = open_is_numbered _ st c (is_there (session_at ss c) (st.sessions c) told) in
                   let later : w.lobby.last_client < q = omega (arith, last, late) in
                   input_there w.inputs c _ q (λ e. omega (arith, e, later, numbered)) ∙ st.unheard q later;
-              one_session_each = same ∙ st.one_session_each ∙ sym (said_last w.lobby c request);
-              one_log_each = length-completed_from 1 rs (next s (event.Say c request)) ∙ st.one_log_each ∙ sym (said_last w.lobby c request);
+              one_session_each = same ∙ st.one_session_each ∙ sym (last_after w.lobby (event.Say c request));
+              one_log_each = length-completed_from 1 rs (next s (event.Say c request)) ∙ st.one_log_each ∙ sym (last_after w.lobby (event.Say c request));
             }
 
   module _ (s : State) (ss : List (Option Serving)) (ls : List Log) (st : Stands (record { lobby = s; sessions = ss; record_so_far = completed ls s }) settings accounts events w) where
@@ -314,7 +325,10 @@ module _ (settings : Configuration) (accounts : List Account) (events : List Eve
         there = sym (ap has_place st.lobby) ∙ place
 
         last_now : (next w.lobby (event.Open ip home)).last_client ≡ w.lobby.last_client + 1
-        last_now = ap (λ b. (if b then opened w.lobby ip home else w.lobby).last_client) there
+        last_now = open_gives w.lobby ip home there
+
+        in_order : T (is_sorted nat_cmp w.lobby.clients)
+        in_order = subst (λ (t : State). T (is_sorted nat_cmp t.clients)) st.lobby (clients_in_order s ss (completed ls s) st)
 
         number_is : suc (length ss) ≡ w.lobby.last_client + 1
         number_is = omega (arith, st.one_session_each)
@@ -323,7 +337,7 @@ module _ (settings : Configuration) (accounts : List Account) (events : List Eve
         is_let_in = ap (is_open (moved w (event.Open ip home ∷ []))) number_is ∙ open_lets_in w.lobby ip home there
 
         open_still : (q : ℕ) → q ≢ suc (length ss) → is_open (moved w (event.Open ip home ∷ [])) q ≡ is_open w q
-        open_still q ne = ap is_some (other_client w.lobby ip home there q (λ e. ne (e ∙ sym number_is)))
+        open_still q ne = ap is_some (other_client w.lobby ip home there q (λ e. ne (e ∙ sym number_is)) in_order)
 
         session_still : (q : ℕ) → q ≢ suc (length ss) → session_at (ss ++ Some session ∷ []) q ≡ session_at ss q
         session_still q ne =

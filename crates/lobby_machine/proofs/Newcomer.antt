@@ -1,19 +1,19 @@
 -- Users told in the order of names, and a newcomer among them.
 use Rattle.std.proofs.Common.{◌≡◌, ◌∙◌, ◌++◌, List, [], ◌∷◌, map, ℕ, Bool, true, false, ap, sym, refl, append_assoc, append-nil, Bor}
 use Rattle.std.proofs.lemmas.List.{map-append}
-use Rattle.std.proofs.lemmas.Grind.{flat_map-append}
-use Rattle.std.specs.Prelude.{Option, if◌then◌else◌}
+use Rattle.std.specs.Prelude.{if◌then◌else◌}
 use Rattle.std.specs.declared.cmp.Ordering.{Ordering}
 use Rattle.std.specs.declared.cmp.Ordering.TheVariants.{Less, Equal, Greater}
 use Rattle.std.specs.Ordering.{is_le, is_ne}
 use Rattle.std.specs.Map.Iter.{deref_pair}
 use Rattle.std.specs.FinMap.Entries.{by_order}
-use Rattle.reply_grammar.specs.Replies.{print, print_all}
-use Rattle.lobby_model.specs.Table.{ByName, put_name, name_cmp}
+use Rattle.reply_grammar.specs.declared.Reply.{Reply}
+use Rattle.line_words.specs.Table.{ByName, put_name, name_cmp}
 use Rattle.lobby_model.specs.State.{User}
-use Rattle.lobby_model.specs.Sent.{under}
-use Rattle.lobby_model.proofs.Tables.{name_cmp_same}
-use Rattle.lobby_machine.specs.declared.lines.Part.{Part}
+use Rattle.line_words.proofs.Tables.{name_cmp_same}
+use Rattle.lobby_post.specs.Posted.{Posted, with_own}
+use Rattle.lobby_post.proofs.Telling.{with_own_more}
+use Rattle.lobby_machine.specs.declared.rules.burst.Part.{Part}
 use Rattle.lobby_machine.specs.declared.seats.Seat.{Seat}
 use Rattle.lobby_machine.specs.Seats.{user_in, users_of}
 use Rattle.lobby_machine.specs.Parts.{part_of, parts_of}
@@ -29,68 +29,69 @@ map_of_map : (lent : List (Bor (List ℕ) × Bor Seat)) → users_lent lent ≡ 
 map_of_map [] = refl
 map_of_map (e ∷ es) = ap (λ us. user_lent e ∷ us) (map_of_map es)
 
-module _ (id : Option ℕ) (part : Part) where
-  -- what is written of one user, and of some
-  abbrev pub told : List ℕ → User → List ℕ
-  told name user = print_all (under id (part_of part name user))
+module _ (part : Part) (name : List ℕ) (user : User) where
+  -- what is yet to be told, and with it the newcomer that was not
+  abbrev pub left : Bool → ByName User → ByName User
+  left is_told users = if is_told then users else put_name users name user
 
-  abbrev pub all_told : ByName User → List ℕ
-  all_told users = print_all (under id (parts_of part users))
+  -- the newcomer's order where it was not told
+  abbrev pub order_at : Bool → List ℕ → Ordering
+  order_at is_told other = if is_told then Greater else name_cmp name other
 
-  all_told-cons : (e : List ℕ × User) (users : ByName User) → all_told (e ∷ users) ≡ told e.0 e.1 ++ all_told users
-  all_told-cons e users = ap print_all (map-append (λ r. (id, r)) (part_of part e.0 e.1) (parts_of part users)) ∙ flat_map-append print _ _
+  -- what is told of the newcomer, and of the other
+  abbrev pub first_told : Bool → List Reply
+  first_told now = if now then part_of part name user else []
 
-  module _ (name : List ℕ) (user : User) where
-    -- what is yet to be told, and with it the newcomer that was not
-    abbrev pub left : Bool → ByName User → ByName User
-    left is_told users = if is_told then users else put_name users name user
+  abbrev pub other_told : Bool → List ℕ × User → List Reply
+  other_told now e = if now then part_of part e.0 e.1 else []
 
-    left-none : all_told (left false []) ≡ told name user
-    left-none = all_told-cons (name, user) [] ∙ append-nil _
+  abbrev pub told_at : Ordering → List ℕ × User → List Reply
+  told_at order e = first_told (is_le order) ++ other_told (is_ne order) e
 
-    -- the newcomer's order where it was not told
-    abbrev pub order_at : Bool → List ℕ → Ordering
-    order_at is_told other = if is_told then Greater else name_cmp name other
+  by_turn : (e : List ℕ × User) (order : Ordering) (users : ByName User) → (order ≡ Equal → name ≡ e.0)
+      → parts_of part (by_order order ((name, user) ∷ e ∷ users) ((e.0, user) ∷ users) (e ∷ put_name users name user))
+      ≡ told_at order e ++ parts_of part (left (is_le order) users)
+  by_turn e Less users same = sym (append_assoc (part_of part name user) _ _)
+  by_turn e Equal users same = (λ i. part_of part (sym (same refl) i) user ++ parts_of part users)
+      ∙ ap (λ t. t ++ parts_of part users) (sym (append-nil (part_of part name user)))
+  by_turn e Greater users same = refl
 
-    -- what is written of the newcomer, and of the other
-    abbrev pub written : Ordering → List ℕ × User → List ℕ
-    written order e = (if is_le order then told name user else []) ++ (if is_ne order then told e.0 e.1 else [])
+  turn : (is_told : Bool) (e : List ℕ × User) (order : Ordering) (users : ByName User) → order ≡ order_at is_told e.0
+      → parts_of part (left is_told (e ∷ users)) ≡ told_at order e ++ parts_of part (left (if is_le order then true else is_told) users)
+  turn true e order users is = ap (λ o. told_at o e ++ parts_of part (left (if is_le o then true else true) users)) (sym is)
+  turn false e order users is =
+      ap (λ o. parts_of part (by_order o ((name, user) ∷ e ∷ users) ((e.0, user) ∷ users) (e ∷ put_name users name user))) (sym is)
+      ∙ by_turn e order users (λ tie. name_cmp_same name e.0 (sym is ∙ tie))
+      ∙ elim (is_le order) as (λ b. told_at order e ++ parts_of part (left b users)
+      ≡ told_at order e ++ parts_of part (left (if b then true else false) users)) [ true ↦ refl | false ↦ refl ]
 
-    by_turn : (e : List ℕ × User) (order : Ordering) (users : ByName User) → (order ≡ Equal → name ≡ e.0)
-        → all_told (by_order order ((name, user) ∷ e ∷ users) ((e.0, user) ∷ users) (e ∷ put_name users name user)) ≡ written order e ++ all_told (left (is_le order) users)
-    by_turn e Less users same = all_told-cons (name, user) (e ∷ users) ∙ ap (λ t. told name user ++ t) (all_told-cons e users) ∙ sym (append_assoc (told name user) _ _)
-    by_turn e Equal users same =
-        all_told-cons (e.0, user) users ∙ (λ i. told (sym (same refl) i) user ++ all_told users) ∙ ap (λ t. t ++ all_told users) (sym (append-nil (told name user)))
-    by_turn e Greater users same = all_told-cons e _
+  -- from what was told when it began, and what is told now, to all that is told
+  abbrev pub Tells : Posted → Posted → ByName User → Bool → Type 0
+  Tells start now users is_told = (rest : ByName User)
+      → with_own start (parts_of part (put_name (users ++ rest) name user)) ≡ with_own now (parts_of part (left is_told rest))
 
-    turn : (is_told : Bool) (e : List ℕ × User) (order : Ordering) (users : ByName User) → order ≡ order_at is_told e.0
-        → all_told (left is_told (e ∷ users)) ≡ written order e ++ all_told (left (if is_le order then true else is_told) users)
-    turn true e order users is = all_told-cons e users ∙ ap (λ o. written o e ++ all_told (left (if is_le o then true else true) users)) (sym is)
-    turn false e order users is =
-        ap (λ o. all_told (by_order o ((name, user) ∷ e ∷ users) ((e.0, user) ∷ users) (e ∷ put_name users name user))) (sym is)
-        ∙ by_turn e order users (λ tie. name_cmp_same name e.0 (sym is ∙ tie))
-        ∙ elim (is_le order) as (λ b. written order e ++ all_told (left b users) ≡ written order e ++ all_told (left (if b then true else false) users)) [ true ↦ refl | false ↦ refl ]
+  pub tells_next : (start now : Posted) (lent : List (Bor (List ℕ) × Bor Seat)) (is_told : Bool) (e : Bor (List ℕ) × Bor Seat) (order : Ordering)
+      (one more : Posted) (is_told_now : Bool)
+      → Tells start now (users_lent lent) is_told → order ≡ order_at is_told e.0.now
+      → one ≡ with_own now (first_told (is_le order)) → is_told_now ≡ (if is_le order then true else is_told)
+      → more ≡ with_own one (other_told (is_ne order) (e.0.now, user_in e.1.now)) → Tells start more (users_lent (lent ++ e ∷ [])) is_told_now
+  tells_next start now lent is_told e order one more is_told_now tells is first after second = λ rest.
+      let all : more ≡ with_own now (told_at order (user_lent e)) = second ∙ ap (λ p. with_own p (other_told (is_ne order) (user_lent e))) first
+      ∙ with_own_more now (first_told (is_le order)) (other_told (is_ne order) (user_lent e)) in
+      ap (λ us. with_own start (parts_of part (put_name us name user))) (ap (λ us. us ++ rest) (map-append user_lent lent (e ∷ []))
+      ∙ append_assoc (users_lent lent) (user_lent e ∷ []) rest)
+      ∙ tells (user_lent e ∷ rest)
+      ∙ ap (with_own now) (turn is_told (user_lent e) order rest is)
+      ∙ sym (with_own_more now (told_at order (user_lent e)) _)
+      ∙ (λ i. with_own (sym all i) (parts_of part (left (sym after i) rest)))
 
-    -- from what was to be told when it began, and what is written, to all that is told
-    abbrev pub Tells : List ℕ → List ℕ → ByName User → Bool → Type 0
-    Tells start text users is_told = (rest : ByName User) → start ++ all_told (put_name (users ++ rest) name user) ≡ text ++ all_told (left is_told rest)
-
-    pub tells_next : (start text : List ℕ) (lent : List (Bor (List ℕ) × Bor Seat)) (is_told : Bool) (e : Bor (List ℕ) × Bor Seat) (order : Ordering) (one more : List ℕ) (is_told_now : Bool)
-        → Tells start text (users_lent lent) is_told → order ≡ order_at is_told e.0.now
-        → one ≡ text ++ (if is_le order then told name user else []) → is_told_now ≡ (if is_le order then true else is_told)
-        → more ≡ one ++ (if is_ne order then told e.0.now (user_in e.1.now) else []) → Tells start more (users_lent (lent ++ e ∷ [])) is_told_now
-    tells_next start text lent is_told e order one more is_told_now tells is first now second rest =
-        ap (λ us. start ++ all_told (put_name us name user)) (ap (λ us. us ++ rest) (map-append user_lent lent (e ∷ [])) ∙ append_assoc (users_lent lent) (user_lent e ∷ []) rest)
-        ∙ tells (user_lent e ∷ rest)
-        ∙ ap (λ t. text ++ t) (turn is_told (user_lent e) order rest is)
-        ∙ sym (append_assoc text (written order (user_lent e)) _)
-        ∙ ap (λ t. t ++ all_told (left (if is_le order then true else is_told) rest)) (sym (append_assoc text _ _))
-        ∙ (λ i. (sym (second ∙ ap (λ t. t ++ (if is_ne order then told e.0.now (user_in e.1.now) else [])) first) i) ++ all_told (left (sym now i) rest))
-
-    pub tells_all : (start text more : List ℕ) (lent : List (Bor (List ℕ) × Bor Seat)) (seats : ByName Seat) (is_told : Bool) → Tells start text (users_lent lent) is_told
-        → map deref_pair lent ≡ seats → more ≡ text ++ (if is_told then [] else told name user) → more ≡ start ++ all_told (put_name (users_of seats) name user)
-    tells_all start text more lent seats is_told tells all last =
-        last
-        ∙ elim is_told as (λ b. text ++ (if b then [] else told name user) ≡ text ++ all_told (left b [])) [ true ↦ refl | false ↦ ap (λ t. text ++ t) (sym left-none) ]
-        ∙ sym (tells [])
-        ∙ ap (λ us. start ++ all_told (put_name us name user)) (append-nil _ ∙ map_of_map lent ∙ ap users_of all)
+  pub tells_all : (start now more : Posted) (lent : List (Bor (List ℕ) × Bor Seat)) (seats : ByName Seat) (is_told : Bool)
+      → Tells start now (users_lent lent) is_told
+      → map deref_pair lent ≡ seats → more ≡ with_own now (if is_told then [] else part_of part name user)
+      → more ≡ with_own start (parts_of part (put_name (users_of seats) name user))
+  tells_all start now more lent seats is_told tells all last =
+      last
+      ∙ ap (with_own now) (elim is_told as (λ b. (if b then [] else part_of part name user)
+      ≡ parts_of part (left b [])) [ true ↦ refl | false ↦ sym (append-nil _) ])
+      ∙ sym (tells [])
+      ∙ ap (λ us. with_own start (parts_of part (put_name us name user))) (append-nil _ ∙ map_of_map lent ∙ ap users_of all)

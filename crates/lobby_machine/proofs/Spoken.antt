@@ -1,56 +1,184 @@
--- A command that comes to an outcome, and a disconnect: what they change and send is what the outcome does.
-use Rattle.std.proofs.Common.{◌≡◌, ℕ, List, sym, ap, refl, ◌∙◌, Bool, true, false, not}
-use Rattle.std.specs.Prelude.{Option, Some, None, [], ◌&&◌, if◌then◌else◌, is_some}
-use Rattle.command_grammar.specs.declared.command.Request.{Request}
+-- What single commands come to.
+use Rattle.std.proofs.Common.{◌≡◌, ◌≢◌, ◌==◌, ℕ, ℤ, List, [], ◌∷◌, ◌++◌, refl, sym, ap, subst, ◌∙◌, true, false, append-nil, arith}
+use Rattle.std.specs.Prelude.{Option, Some, None, Bool, Result, Ok, Err, is_ok, is_some, ◌&&◌, if◌then◌else◌}
+use Rattle.std.specs.Option.{option_map}
+use Rattle.std.specs.BTreeMap.{is_at}
+use Rattle.std.specs.Map.{lookup}
+use Rattle.account_book.specs.Account.{Account}
+use Rattle.account_book.specs.declared.error.LoginFault.{LoginFault}
+use Rattle.command_grammar.specs.declared.command.Command.{Command}
+use Rattle.command_grammar.specs.declared.command.Command.TheVariants as command
+use Rattle.command_grammar.specs.declared.command.ReadFault.{ReadFault}
+use Rattle.command_grammar.specs.declared.command.ReadFault.TheVariants.{UnknownCommand}
+use Rattle.status_bits.specs.Fields.{merge}
+use Rattle.status_bits.specs.UserWord.{user_table}
+use Rattle.reply_grammar.specs.Replies.{print_all, printed_line}
 use Rattle.reply_grammar.specs.declared.Reply.{Reply}
-use Rattle.reply_grammar.specs.Replies.{print_all}
-use Rattle.lobby_model.specs.declared.event.Event.TheVariants as event
-use Rattle.lobby_model.specs.Table.{same_number}
-use Rattle.lobby_model.specs.State.{State, hears, name_of}
-use Rattle.lobby_model.specs.Refusal.{refusal}
-use Rattle.lobby_model.specs.Effect.{effect, obeyed}
-use Rattle.lobby_model.specs.Sent.{to_user, under, said, departure}
-use Rattle.lobby_model.specs.Next.{batch}
-use Rattle.lobby_machine.specs.declared.post.Letter.{Letter}
-use Rattle.lobby_machine.specs.declared.outcome.Outcome.{Outcome}
-use Rattle.lobby_machine.specs.Mail.{Shares, Writes, share}
-use Rattle.lobby_machine.specs.Outcome.{ComesTo, own_of, others_of, changed}
+use Rattle.reply_grammar.specs.declared.Reply.TheVariants as reply
+use Rattle.line_words.specs.Table.{ByName, at_name, put_name, change_name, name_cmp}
+use Rattle.lobby_model.specs.State.{State, User, user_with, hears, name_of}
+use Rattle.lobby_model.specs.Texts.{user_is_in, invalid_login, fault_text}
+use Rattle.lobby_model.specs.Outcome.{done, refuse_if, message, Outcome, Refused, tell, issuer, everyone, others}
+use Rattle.lobby_model.specs.Sessions.{status_in, set_user_status, added, shown_status, burst, arrival, logs_in, log_in, user_of}
+use Rattle.lobby_model.specs.Events.{under}
+use Rattle.lobby_model.specs.Commands.{answer}
+use Rattle.lobby_model.specs.Unserved.{answered, is_unserved}
+use Rattle.line_words.proofs.Tables.{at-map_values, lookup_is_find}
+use Rattle.lobby_post.specs.Posted.{Posted, Sends, Told, with_others}
+use Rattle.lobby_post.proofs.Telling.{told_then, told_lines_to_others}
+use Rattle.lobby_machine.specs.declared.seats.Seat.{Seat}
+use Rattle.lobby_machine.specs.declared.change.Change.TheVariants.{Nothing, Status, LogIn}
+use Rattle.lobby_machine.specs.declared.refusal.Refusal.{Refusal}
+use Rattle.lobby_machine.specs.declared.refusal.Refusal.TheVariants.{LogInFirst}
+use Rattle.lobby_machine.specs.declared.refusal.Stop.{Stop}
+use Rattle.lobby_machine.specs.declared.refusal.Stop.TheVariants as stop
+use Rattle.lobby_machine.specs.Seats.{user_in, users_of}
+use Rattle.lobby_machine.specs.Answers.{Obeyed, Answers, Refuses, refusal_of_unserved, refusal_reply}
 
-shared : (mine : Bool) (to : Option (List ℕ)) (id : Option ℕ) (own others : List Reply)
-    → print_all (if mine then under id own else under None (to_user to others)) ≡ share mine to (print_all (under id own)) (print_all (under None others))
-shared true to id own others = refl
-shared false None id own others = refl
-shared false (Some user) id own others = refl
+-- the user of a name, by the seat of that name
+pub user_at : (seats : ByName Seat) (users : ByName User) (name : List ℕ) (seat : Option Seat) → users_of seats ≡ users
+    → seat ≡ lookup (is_at (name_cmp name)) seats → at_name users name ≡ option_map user_in seat
+user_at seats users name seat are found =
+    ap (λ us. at_name us name) (sym are) ∙ at-map_values name_cmp user_in seats name
+    ∙ ap (option_map user_in) (sym (found ∙ lookup_is_find name_cmp name seats))
 
-module _ (s : State) (c : ℕ) (request : Request) (outcome : Outcome) (live : hears s c ≡ true) (comes : ComesTo s c request.command outcome) where
-  pub said_changes : effect s (event.Say c request) ≡ changed s c outcome
-  said_changes =
-      ap (λ b. if b && not (is_some (refusal s c request.command)) then obeyed s c (name_of s c) request.command else s) live ∙ comes.change
+pub is_user_at : (seats : ByName Seat) (users : ByName User) (key name : List ℕ) → users_of seats ≡ users → key ≡ name
+    → is_some (at_name users name) ≡ is_some (lookup (is_at (name_cmp key)) seats)
+is_user_at seats users key name are same =
+    ap (λ k. is_some (at_name users k)) (sym same) ∙ ap is_some (user_at seats users key _ are refl)
+    ∙ elim (lookup (is_at (name_cmp key)) seats) as (λ o. is_some (option_map user_in o) ≡ is_some o) [ None ↦ refl | Some seat ↦ refl ]
 
-  said_sends : (d : ℕ) → batch s (event.Say c request) d
-      ≡ share (same_number d c) (name_of s d) (print_all (under request.id (own_of s (name_of s c) outcome))) (print_all (under None (others_of (name_of s c) outcome)))
-  said_sends d =
-      ap (λ b. print_all (if b then said s (name_of s c) (name_of s d) (same_number d c) request (refusal s c request.command) else [])) live
-      ∙ (λ i. print_all (if same_number d c then under request.id (comes.own i) else under None (to_user (name_of s d) (comes.others i))))
-      ∙ shared (same_number d c) (name_of s d) request.id (own_of s (name_of s c) outcome) (others_of (name_of s c) outcome)
+pub status_set : (s : State) (c : ℕ) (me name : List ℕ) (asked status word : ℕ) (old new : Posted) {user : User} → name ≡ me
+    → status ≡ merge user_table user.status asked → word ≡ status → at_name s.users me ≡ Some user
+    → Told s old new (tell everyone (reply.ClientStatus me word ∷ []) ∷ []) → Obeyed s c old new (Status name status) (set_user_status s me asked)
+status_set s c me name asked status word old new named merged same there told =
+    let is : status ≡ merge user_table (status_in (at_name s.users me)) asked = merged ∙ ap (λ u. merge user_table (status_in u) asked) (sym there) in
+    record {
+      told = subst (λ w. Told s old new (tell everyone (reply.ClientStatus me w ∷ []) ∷ [])) (same ∙ is) told;
+      effect = λ i. record s { users = change_name s.users (sym named i) (user_with (sym is i)) };
+      can_be = tt;
+    }
 
-  pub said_writes : (text : List ℕ) (letters : List Letter)
-      → Shares s c (print_all (under request.id (own_of s (name_of s c) outcome))) (print_all (under None (others_of (name_of s c) outcome))) text letters
-      → Writes s (event.Say c request) text letters
-  said_writes text letters shares = record {
-    inside = shares.inside;
-    once = shares.once;
-    batches = λ d. shares.batches d ∙ sym (said_sends d);
-  }
+-- one who is told why
+pub refused : (s : State) (c : ℕ) (old mid new : Posted) (r : Reply) (outcome : Outcome) → outcome ≡ Refused r → mid ≡ old
+    → ((s : State) → Told s mid new (tell issuer (r ∷ []) ∷ [])) → Obeyed s c old new Nothing outcome
+refused s c old mid new r outcome is kept told =
+    subst (λ o. Obeyed s c old new Nothing o) (sym is) (record {
+      told = subst (λ p. Told s p new (tell issuer (r ∷ []) ∷ [])) kept
+          (told s);
+      effect = refl;
+      can_be = tt;
+    })
 
-pub shut_writes : (s : State) (c : ℕ) (text : List ℕ) (letters : List Letter) → Shares s c [] (print_all (under None (departure (name_of s c)))) text letters → Writes s (event.Shut c) text letters
-shut_writes s c text letters shares = record {
-  inside = shares.inside;
-  once = shares.once;
-  batches = λ d. shares.batches d ∙ sym (shut_sends d (same_number d c) (name_of s d));
+-- a guard that stops a command
+pub stopped : (s : State) (c : ℕ) (post : Posted) (outcome : Outcome) (refusal : Refusal) {P : Type 0} (why : Stop) → Refuses refusal P why
+    → (P → outcome ≡ Refused (refusal_reply refusal)) → Answers s c post post outcome (Err why)
+stopped s c post outcome refusal (stop.Refused refused) because comes = record {
+  is = comes because.1
+      ∙ ap (λ r. Refused (refusal_reply r)) (sym because.0);
+  kept = refl;
 }
-  where
-    shut_sends : (d : ℕ) (mine : Bool) (to : Option (List ℕ)) → print_all (if mine then [] else under None (to_user to (departure (name_of s c)))) ≡ share mine to [] (print_all (under None (departure (name_of s c))))
-    shut_sends d true to = refl
-    shut_sends d false None = refl
-    shut_sends d false (Some user) = refl
+stopped s c post outcome refusal stop.Memory because comes = tt
+
+-- a command that is served, and one that is not
+and_false : (b : Bool) → (b && false) ≡ false
+and_false true = refl
+and_false false = refl
+
+pub served : (s : State) (c : ℕ) (me : Option (List ℕ)) (x : Command) → is_unserved x ≡ false → answered s c me x ≡ answer s c me x
+served s c me x is = ap (λ b. refuse_if b (message (fault_text UnknownCommand)) (answer s c me x)) (ap (λ b. is_some me && b) is
+    ∙ and_false (is_some me))
+
+open_refused : (s : State) (c : ℕ) (x : Command) → is_unserved x ≡ true → answer s c None x ≡ Refused (refusal_reply LogInFirst)
+open_refused s c command.Blank h = absurd (cc)
+open_refused s c (command.Unread fault) h = absurd (cc)
+open_refused s c command.Ping h = absurd (cc)
+open_refused s c command.Exit h = absurd (cc)
+open_refused s c (command.Login name password cpu local_ip lobby) h = absurd (cc)
+open_refused s c x h = refl
+
+pub unserved_refused : (s : State) (c : ℕ) (me : Option (List ℕ)) (x : Command) (r : Refusal) → is_unserved x ≡ true → r ≡ refusal_of_unserved me
+    → answered s c me x ≡ Refused (refusal_reply r)
+unserved_refused s c (Some me) x r h is = ap (λ b. refuse_if b (message (fault_text UnknownCommand)) (answer s c (Some me) x)) h
+    ∙ ap (λ r. Refused (refusal_reply r)) (sym is)
+unserved_refused s c None x r h is = open_refused s c x h ∙ ap (λ r. Refused (refusal_reply r)) (sym is)
+
+-- the table is whole: what it does not name is not served
+pub all_named : (x : Command) → is_unserved x ≡ false → x ≢ command.Blank → ((fault : ReadFault) → x ≢ command.Unread fault) → x ≢ command.Ping
+    → x ≢ command.Exit → ((user_name password : List ℕ) (cpu : ℤ) (local_ip lobby : List ℕ) → x ≢ command.Login user_name password cpu local_ip lobby)
+    → ((asked : ℕ) → x ≢ command.MyStatus asked)
+    → ((channel : List ℕ) (key : Option (List ℕ)) → x ≢ command.Join channel key) → ((channel : List ℕ) → x ≢ command.Leave channel)
+    → ((channel text : List ℕ) → x ≢ command.Say channel text) → ((channel text : List ℕ) → x ≢ command.SayEx channel text)
+    → ((target text : List ℕ) → x ≢ command.SayPrivate target text) → x ≢ command.Channels → ⊥
+all_named command.Blank h blank unread ping exit login status join leave say say_ex say_private channels = blank refl
+all_named (command.Unread fault) h blank unread ping exit login status join leave say say_ex say_private channels = unread fault refl
+all_named command.Ping h blank unread ping exit login status join leave say say_ex say_private channels = ping refl
+all_named command.Exit h blank unread ping exit login status join leave say say_ex say_private channels = exit refl
+all_named (command.Login user_name password cpu local_ip lobby) h blank unread ping exit login status join leave say say_ex say_private channels =
+    login user_name password cpu local_ip lobby refl
+all_named (command.MyStatus asked) h blank unread ping exit login status join leave say say_ex say_private channels = status asked refl
+all_named (command.Join channel key) h blank unread ping exit login status join leave say say_ex say_private channels = join channel key refl
+all_named (command.Leave channel) h blank unread ping exit login status join leave say say_ex say_private channels = leave channel refl
+all_named (command.Say channel text) h blank unread ping exit login status join leave say say_ex say_private channels = say channel text refl
+all_named (command.SayEx channel text) h blank unread ping exit login status join leave say say_ex say_private channels = say_ex channel text refl
+all_named (command.SayPrivate target text) h blank unread ping exit login status join leave say say_ex say_private channels = say_private target text refl
+all_named command.Channels h blank unread ping exit login status join leave say say_ex say_private channels = channels refl
+all_named x h blank unread ping exit login status join leave say say_ex say_private channels = absurd (cc)
+
+-- a login
+none_there : {X : Type 0} (o : Option X) → is_some o ≡ false → o ≡ None
+none_there None h = refl
+none_there (Some x) h = absurd (cc)
+
+pub not_let_in : (s : State) (c : ℕ) (cpu : ℤ) (r : Result Account LoginFault) → is_ok r ≡ false
+    → log_in s c cpu r ≡ Refused (reply.Denied invalid_login)
+not_let_in s c cpu (Ok account) h = absurd (cc)
+not_let_in s c cpu (Err fault) h = refl
+
+module _ (s : State) (c : ℕ) (cpu : ℤ) (r : Result Account LoginFault) (account : Account) (let_in : r ≡ Ok account) where
+  pub name_taken : is_some (at_name s.users account.name) ≡ true → log_in s c cpu r ≡ Refused (reply.Denied user_is_in)
+  name_taken there = ap (log_in s c cpu) let_in ∙ ap (λ b. refuse_if b (reply.Denied user_is_in)
+      (done (logs_in c account.name (user_of account cpu) s))) there
+
+  pub logged_in_so : (old a new : Posted) (name : List ℕ) (seat : Seat) → hears s c ≡ true → name_of s c ≡ None
+      → is_some (at_name s.users account.name) ≡ false → name ≡ account.name → seat.client ≡ c → user_in seat ≡ user_of account cpu
+      → Told s old a (tell issuer (burst s.settings.motd name (put_name s.users name (user_in seat)) s.battles) ∷ [])
+      → Told s a new (tell others (arrival name (user_in seat)) ∷ [])
+      → Obeyed s c old new (LogIn name seat) (log_in s c cpu r)
+  logged_in_so old a new name seat live nobody free named here same first second =
+      let comes : log_in s c cpu r ≡ done (logs_in c name (user_in seat) s) =
+      ap (log_in s c cpu) let_in ∙ ap (λ b. refuse_if b (reply.Denied user_is_in) (done (logs_in c account.name (user_of account cpu) s))) free
+      ∙ (λ i. done (logs_in c (sym named i) (sym same i) s)) in
+      subst (λ o. Obeyed s c old new (LogIn name seat) o) (sym comes) (record {
+        told = told_then s old a new _ _ first second;
+        effect = refl;
+        can_be = record { hears = live; nobody = nobody; free = ap (at_name s.users) named ∙ none_there _ free; here = here };
+      })
+
+-- the others are told of one who logs in, its status where that is not 0
+pub not_zero : (n : ℕ) → n ≢ 0 → (n == 0) ≡ false
+not_zero n h = grind (arith)
+
+module _ (s : State) (old first mid new : Posted) (name : List ℕ) (user : User) (word : ℕ) (same : word ≡ user.status) where
+  abbrev pub arrived : Bool → Posted
+  arrived at_zero = if at_zero then first else with_others first (reply.ClientStatus name word ∷ [])
+
+  pub arrival_told : first ≡ record old { own = []; shared = printed_line None (added name user) } → mid ≡ arrived (word == 0)
+      → Sends s mid new everyone → Told s old new (tell others (arrival name user) ∷ [])
+  arrival_told one is sends =
+      let written : mid ≡ record old { own = []; shared = printed_line None (added name user) ++ print_all (under None (shown_status name user)) } =
+      is
+      ∙ elim (word == 0) as (λ b. arrived b ≡ record old {
+        own = [];
+        shared = printed_line None (added name user) ++ print_all
+            (under None (if b then [] else reply.ClientStatus name word ∷ []));
+      }) [
+        | true ↦ one ∙ (λ i. record old { own = []; shared = sym (append-nil (printed_line None (added name user))) i })
+        | false ↦ ap (λ p. with_others p (reply.ClientStatus name word ∷ [])) one
+      ]
+      ∙ (λ i. record old {
+        own = [];
+        shared = printed_line None (added name user) ++ print_all
+            (under None (if same i == 0 then [] else reply.ClientStatus name (same i) ∷ []));
+      }) in
+      told_lines_to_others s old mid new _ _ written (arrival name user) everyone sends refl refl

@@ -1,6 +1,6 @@
-pub mod Mask
-pub mod Mail
 pub mod Seats
-pub mod Outcome
 pub mod Parts
 pub mod Shown
+pub mod Talk
+pub mod Changes
+pub mod Answers

@@ -1,11 +1,11 @@
 -- What a login tells of a user, part by part.
 use Rattle.std.specs.Prelude.{ℕ, List, [], ◌∷◌, flat_map}
 use Rattle.reply_grammar.specs.declared.Reply.{Reply}
-use Rattle.lobby_machine.specs.declared.lines.Part.{Part}
-use Rattle.lobby_machine.specs.declared.lines.Part.TheVariants.{Presence, Status}
-use Rattle.lobby_model.specs.Table.{ByName}
+use Rattle.line_words.specs.Table.{ByName}
 use Rattle.lobby_model.specs.State.{User}
-use Rattle.lobby_model.specs.Sent.{added, shown_status}
+use Rattle.lobby_model.specs.Sessions.{added, shown_status}
+use Rattle.lobby_machine.specs.declared.rules.burst.Part.{Part}
+use Rattle.lobby_machine.specs.declared.rules.burst.Part.TheVariants.{Presence, Status}
 
 abbrev pub part_of : Part → List ℕ → User → List Reply
 part_of Presence name user = added name user ∷ []

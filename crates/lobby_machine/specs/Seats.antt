@@ -1,9 +1,11 @@
 -- Where users are logged in, and how that agrees with the clients.
-use Rattle.std.specs.Prelude.{◌≡◌, ℕ, ◌≤◌, Bool, true, if◌then◌else◌, List, Option, Some, None, is_some}
-use Rattle.std.specs.List.{list_any}
-use Rattle.lobby_machine.specs.declared.seats.Seat.{Seat}
-use Rattle.lobby_model.specs.Table.{ByName, ByNumber, at_number, at_name, put_name, without_name, map_values, same_number}
+use Rattle.std.specs.Prelude.{◌≡◌, ℕ, ◌≤◌, Bool, true, if◌then◌else◌, List, [], ◌∷◌, flat_map, Option, Some, None, is_some}
+use Rattle.line_words.specs.Table.{ByName, ByNumber, at_number, at_name, without_name, map_values, same_number, same_name}
 use Rattle.lobby_model.specs.State.{User, Client, name_at}
+use Rattle.lobby_model.specs.Outcome.{is_named}
+use Rattle.lobby_machine.specs.declared.seats.Seat.{Seat}
+use Rattle.lobby_post.specs.Posted.{has_number}
+use Rattle.lobby_post.specs.Mail.{Crowd, AreDue, plain}
 
 -- a seat as the plain lobby has it
 abbrev pub user_in : Seat → User
@@ -12,30 +14,29 @@ user_in seat = record { country = seat.country; cpu = seat.cpu; account = seat.a
 abbrev pub users_of : ByName Seat → ByName User
 users_of seats = map_values (λ name seat. user_in seat) seats
 
--- the seats where that of a user has a status
-abbrev pub seat_status_of : ByName Seat → List ℕ → ℕ → Option Seat → ByName Seat
-seat_status_of seats name status None = seats
-seat_status_of seats name status (Some seat) = put_name seats name (record seat { status = status })
+abbrev pub seat_with : ℕ → Seat → Seat
+seat_with status seat = record seat { status = status }
 
-abbrev pub seat_status : ByName Seat → List ℕ → ℕ → ByName Seat
-seat_status seats name status = seat_status_of seats name status (at_name seats name)
+-- changed by f, where there is somebody for it
+abbrev pub where_some : {A B : Type 0} → (A → B → B) → Option A → B → B
+where_some f None b = b
+where_some f (Some a) b = f a b
 
--- the seats without that of one who logs out
-abbrev pub seats_left : ByName Seat → Option (List ℕ) → ByName Seat
-seats_left seats None = seats
-seats_left seats (Some me) = without_name seats me
+abbrev pub without_one : {X : Type 0} → List ℕ → ByName X → ByName X
+without_one name m = without_name m name
 
--- Each seat's client is logged in under the seat's name, and each client that is logged in has the seat of its name
-pub record Agree (clients : ByNumber Client) (seats : ByName Seat) : Type 0 where
-  pub seated : (name : List ℕ) (seat : Seat) → at_name seats name ≡ Some seat → name_at clients seat.client ≡ Some name
-  pub listed : (c : ℕ) (name : List ℕ) → name_at clients c ≡ Some name → (seat : Seat) × (at_name seats name ≡ Some seat) × (seat.client ≡ c)
+-- the client at which a user is, where there is one of this name
+abbrev pub client_in : Option Seat → List ℕ
+client_in None = []
+client_in (Some seat) = seat.client ∷ []
 
--- no client bears a number beyond the last that was given
-abbrev pub Numbered : ℕ → ByNumber Client → Type 0
-Numbered last clients = (c : ℕ) → is_some (at_number clients c) ≡ true → c ≤ last
+-- the clients at which the users of these names are
+abbrev pub clients_of : ByName Seat → List (List ℕ) → List ℕ
+clients_of seats names = flat_map (λ name. client_in (at_name seats name)) names
 
-abbrev pub has_number : List ℕ → ℕ → Bool
-has_number numbers c = list_any (same_number c) numbers
+-- The client of a name's seat is the one that is logged in under the name
+abbrev pub Agree : ByNumber Client → ByName Seat → Type 0
+Agree clients seats = (name : List ℕ) (c : ℕ) → has_number (client_in (at_name seats name)) c ≡ is_named (same_name name) (name_at clients c)
 
 -- the numbers are those of the clients that are logged in
 abbrev pub IsListed : List ℕ → ByNumber Client → Type 0
@@ -44,3 +45,15 @@ IsListed numbers clients = (c : ℕ) → has_number numbers c ≡ is_some (name_
 -- two lists of numbers differ at most in c, which the second has or has not
 abbrev pub IsSet : ℕ → Bool → List ℕ → List ℕ → Type 0
 IsSet c there was now = (d : ℕ) → has_number now d ≡ (if same_number c d then there else has_number was d)
+
+-- no client bears a number beyond the last that was given
+abbrev pub Numbered : ℕ → ByNumber Client → Type 0
+Numbered last clients = (c : ℕ) → is_some (at_number clients c) ≡ true → c ≤ last
+
+-- How the maps fit together: outboxes have one limit and wait for nothing, users and clients agree, numbers are given once
+pub record Fit (limit : ℕ) (clients : Crowd) (seats : ByName Seat) (numbers : List ℕ) (last : ℕ) : Type 0 where
+  pub limited : clients.limit ≡ limit
+  pub rest : AreDue [] clients.slots
+  pub agree : Agree (plain clients.slots) seats
+  pub listed : IsListed numbers (plain clients.slots)
+  pub numbered : Numbered last (plain clients.slots)

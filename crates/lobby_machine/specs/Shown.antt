@@ -1,25 +1,32 @@
--- What contracts see of a lobby, and what a drain tells.
-use Rattle.std.specs.Prelude.{ℕ, Bool, true, ◌&&◌, ◌||◌, List, [], Option, Some, None}
-use Rattle.lobby_model.specs.Table.{at_number}
-use Rattle.lobby_model.specs.State.{State, Client, is_ended}
-use Rattle.lobby_model.specs.Next.{is_empty}
+-- What contracts see of a lobby.
+use Rattle.std.specs.Prelude.{ℕ, Bool, List, []}
+use Rattle.account_book.specs.Account.{Account}
+use Rattle.line_words.specs.Table.{ByName, ByNumber, at_number}
+use Rattle.channel_book.specs.Channels.{Channels}
+use Rattle.lobby_model.specs.Configuration.{Configuration}
+use Rattle.lobby_model.specs.State.{State, User, Client}
+pub use Rattle.lobby_post.specs.Unread.{unread_in, is_over}
+
+-- the plain lobby of these maps; battles are not served yet
+abbrev pub lobby_of : Configuration → List Account → ByNumber Client → ByName User → Channels → ℕ → State
+lobby_of settings accounts clients users channels last_client = record {
+  settings = settings;
+  accounts = accounts;
+  clients = clients;
+  users = users;
+  channels = channels;
+  battles = [];
+  last_client = last_client;
+  last_battle = 0;
+}
 
 -- the plain lobby that it stands for
 pub record Shown : Type 0 where
   pub plain : State
 
-abbrev pub unread_in : Option Client → List ℕ
-unread_in None = []
-unread_in (Some client) = client.unread
-
 -- what a client has not read; nothing, where there is no such client
 abbrev pub unread_of : State → ℕ → List ℕ
 unread_of s c = unread_in (at_number s.clients c)
-
--- nothing will ever come of it again: it is not there, it was cut, or it is Ended and has nothing left to read
-abbrev pub is_over : Option Client → Bool
-is_over None = true
-is_over (Some client) = client.cut || (is_ended client.phase && is_empty client.unread)
 
 abbrev pub is_finished : State → ℕ → Bool
 is_finished s c = is_over (at_number s.clients c)

@@ -2,7 +2,7 @@
 
 ghost use Rattle.std.specs.Prelude.{◌≡◌, IfOk, None};
 ghost use Rattle.reply_grammar.specs.Replies.{printed_line};
-ghost use Rattle.lobby_model.specs.Sent.{greeting};
+ghost use Rattle.lobby_model.specs.Sessions.{greeting};
 
 use line_words::WordBuf;
 use lobby_model::Settings;

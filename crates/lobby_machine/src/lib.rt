@@ -1,22 +1,18 @@
 //! The lobby: one mutable value that applies events one after another.
 //!
-//! An event is applied in steps that every command shares: decide what is refused or changed;
-//! write what each client is sent, once; make room for it in every outbox that takes it; change
-//! the maps; put. Memory is asked for in the first three alone, and for a new user before any map
-//! changes, so that want of it changes nothing.
+//! A command is one function of `rules`, which reads like its equation in the plain lobby: guards
+//! that find a thing or refuse, tells, a change. What it tells waits in the post. Then there is made
+//! room for all that is told, the maps are changed, and the post is delivered. Memory is asked for
+//! before the first change alone, so that want of it changes nothing.
 #![tactic(auto)]
 
-mod clients;
+mod change;
 mod greeting;
-mod lines;
 mod lobby;
 mod maps;
-mod outcome;
-mod post;
+mod refusal;
+mod rules;
 mod seats;
-mod slot;
-mod wakes;
 
-pub use clients::Drained;
 pub use lobby::{Lobby, OpenError};
-pub use wakes::Wakes;
+pub use lobby_post::{Drained, Wakes};

@@ -2,21 +2,18 @@
 
 ghost use Rattle.std.specs.Prelude.{◌≡◌, ℕ, ◌+◌, ◌-◌, ◌^◌, ◌<◌, ◌≤◌, ◌↔◌, ◌++◌, length, take, drop, min, OnOk, OnErr, IfOk, true, false, is_some};
 ghost use Rattle.lobby_model.specs.declared.event.Event.TheVariants as event;
-ghost use Rattle.lobby_model.specs.Table.{at_number};
+ghost use Rattle.line_words.specs.Table.{at_number};
 ghost use Rattle.lobby_model.specs.State.{empty_lobby};
-ghost use Rattle.lobby_model.specs.Effect.{has_place};
+ghost use Rattle.lobby_model.specs.Sessions.{has_place};
 ghost use Rattle.lobby_model.specs.Next.{next};
-ghost use Rattle.lobby_machine.specs.Mail.{IsWakes};
+ghost use Rattle.lobby_post.specs.Mail.{IsWakes};
 ghost use Rattle.lobby_machine.specs.Shown.{unread_of, is_finished};
 
-use crate::clients::Drained;
 use crate::maps::{Maps, Place};
-use crate::outcome::Outcome;
-use crate::post::Letter;
-use crate::wakes::Wakes;
 use account_book::AccountBook;
 use command_grammar::Request;
 use lobby_model::Settings;
+use lobby_post::{Drained, Post, Wakes};
 use std::alloc::{AllocError, Global};
 use std::marker::Model;
 use thiserror::Error;
@@ -39,9 +36,8 @@ pub enum OpenError {
 #[derive(Drop)]
 pub struct Lobby {
     maps: Maps,
-    // what the event at hand sends, and which part of it is whose; kept from event to event
-    text: Vec<u8>,
-    letters: Vec<Letter>,
+    // what the event at hand tells; its buffers are kept from event to event
+    post: Post,
 }
 
 impl Model for Lobby {
@@ -63,8 +59,7 @@ impl Lobby {
     {
         Ok(Lobby {
             maps: Maps::new(alloc, settings, accounts)?,
-            text: Vec::new(alloc),
-            letters: Vec::new(alloc),
+            post: Post::new(alloc),
         })
     }
 
@@ -94,19 +89,13 @@ impl Lobby {
         ensures wakes { IfOk result (λ wakes. IsWakes self.old.plain (event.Say client request.now) wakes) }
         ensures err { OnErr result (self.new ≡ self.old) }
     {
-        if !self.maps.hears(client) {
+        let Some(me) = self.maps.issuer(client) else {
             return Ok(Wakes::none());
-        }
-        let outcome = self.maps.decide(client, &request.command)?;
-        self.maps.collect(
-            client,
-            request.id,
-            &outcome,
-            &mut self.text,
-            &mut self.letters,
-        )?;
-        self.maps
-            .carry_out(client, outcome, &self.text, &self.letters)
+        };
+        let change = self
+            .maps
+            .decide(client, me, request.id, &request.command, &mut self.post)?;
+        self.maps.carry_out(client, change, &self.post)
     }
 
     /// A client's connection is closed: it is removed, and its user, if it was logged in, is logged
@@ -117,14 +106,8 @@ impl Lobby {
         ensures wakes { IfOk result (λ wakes. IsWakes self.old.plain (event.Shut client) wakes) }
         ensures err { OnErr result (self.new ≡ self.old) }
     {
-        self.maps.collect(
-            client,
-            None,
-            &Outcome::LogOut,
-            &mut self.text,
-            &mut self.letters,
-        )?;
-        self.maps.shut(client, &self.text, &self.letters)
+        let change = self.maps.close(client, &mut self.post)?;
+        self.maps.carry_out(client, change, &self.post)
     }
 
     /// Takes bytes that a client has not read into a slice, as many as fit, and tells whether

@@ -1,26 +1,32 @@
-//! The lobby's maps. What an event comes to and sends is decided over `&Maps`, which changes
-//! nothing; only then is room made, and the maps are changed.
+//! The lobby's maps: how each audience is told, and how an event is carried out.
 
-ghost use Rattle.std.specs.Prelude.{◌≡◌, ℕ, ◌+◌, ◌-◌, ◌^◌, ◌<◌, ◌≤◌, ◌↔◌, ◌++◌, length, take, drop, min, OnOk, OnErr, IfOk, true, is_some};
+ghost use Rattle.std.specs.Prelude.{◌≡◌, ℕ, ◌+◌, ◌-◌, ◌^◌, ◌<◌, ◌≤◌, ◌↔◌, [], ◌∷◌, ◌++◌, length, take, drop, min, OnOk, OnErr, IfOk, IfSome, true, is_some, option_copied};
+ghost use Rattle.std.specs.List.{IsDistinct};
+ghost use Rattle.line_words.specs.Table.{at_number, same_name};
+ghost use Rattle.reply_grammar.specs.Lent.{reply_of};
+ghost use Rattle.lobby_model.specs.declared.event.Event.{Event};
 ghost use Rattle.lobby_model.specs.declared.event.Event.TheVariants as event;
-ghost use Rattle.lobby_model.specs.Table.{at_number};
-ghost use Rattle.lobby_model.specs.State.{empty_lobby, hears};
-ghost use Rattle.lobby_model.specs.Effect.{has_place};
+ghost use Rattle.lobby_model.specs.State.{empty_lobby, hears, name_of};
+ghost use Rattle.lobby_model.specs.Outcome.{tell, everyone, others, user, users};
+ghost use Rattle.lobby_model.specs.Sessions.{has_place};
+ghost use Rattle.lobby_model.specs.Events.{effect};
 ghost use Rattle.lobby_model.specs.Next.{next};
+ghost use Rattle.lobby_post.specs.Mail.{IsWakes};
+ghost use Rattle.lobby_post.specs.Posted.{Told, but_issuer};
+ghost use Rattle.lobby_machine.specs.Answers.{Matches};
+ghost use Rattle.lobby_machine.specs.Changes.{CanBe, changed};
 ghost use Rattle.lobby_machine.specs.Shown.{unread_of, is_finished};
 
-mod change;
-mod collect;
-mod decide;
-
-use crate::clients::{Drained, drain, hears, insert};
+use crate::change::{Change, apply};
 use crate::greeting::greeting_of;
 use crate::seats::Seats;
-use crate::slot::Slot;
 use account_book::AccountBook;
+use channel_book::ChannelBook;
+use line_words::NameBuf;
 use lobby_model::Settings;
+use lobby_post::{Clients, Drained, Post, Wakes};
+use reply_grammar::LentReply;
 use std::alloc::{AllocError, Global};
-use std::collections::BTreeMap;
 use std::marker::Model;
 
 /// The most clients that are not yet disconnected. Without a limit connects alone could fill the
@@ -41,13 +47,14 @@ pub enum Place {
 /// The maps. Contracts see the plain lobby.
 #[derive(Drop)]
 pub struct Maps {
-    alloc: Global,
-    settings: Settings,
-    accounts: AccountBook,
+    pub(crate) alloc: Global,
+    pub(crate) settings: Settings,
+    pub(crate) accounts: AccountBook,
     // what each client is greeted with, printed once
     greeting_line: Vec<u8>,
-    clients: BTreeMap<u64, Slot>,
-    seats: Seats,
+    pub(crate) clients: Clients,
+    pub(crate) seats: Seats,
+    pub(crate) channels: ChannelBook,
     last_client: u64,
 }
 
@@ -55,15 +62,16 @@ impl Model for Maps {
     ghost use Rattle.std.specs.Prelude.{◌≡◌, None};
     ghost use Rattle.reply_grammar.specs.Replies.{printed_line};
     ghost use Rattle.lobby_model.specs.State.{State};
-    ghost use Rattle.lobby_model.specs.Sent.{greeting};
-    ghost use Rattle.lobby_machine.specs.Mail.{plain, HaveLimit};
-    ghost use Rattle.lobby_machine.specs.Seats.{users_of, Agree, IsListed, Numbered};
+    ghost use Rattle.lobby_model.specs.Sessions.{greeting};
+    ghost use Rattle.lobby_post.specs.Mail.{plain};
+    ghost use Rattle.lobby_machine.specs.Seats.{users_of, Fit};
+    ghost use Rattle.lobby_machine.specs.Shown.{lobby_of};
 
     ghost Value = { State };
 
-    ghost view = { λ m. record { settings = m.settings; accounts = m.accounts; clients = plain m.clients.entries; users = users_of m.seats.users.entries; last_client = m.last_client } };
+    ghost view = { λ m. lobby_of m.settings m.accounts (plain m.clients.slots) (users_of m.seats.users.entries) m.channels m.last_client };
 
-    ghost invariant = { λ m. (m.greeting_line.items ≡ printed_line None (greeting m.settings)) × HaveLimit m.settings.outbox_limit m.clients.entries × Agree (plain m.clients.entries) m.seats.users.entries × Numbered m.last_client (plain m.clients.entries) × IsListed m.seats.clients.keys (plain m.clients.entries) };
+    ghost invariant = { λ m. (m.greeting_line.items ≡ printed_line None (greeting m.settings)) × Fit m.settings.outbox_limit m.clients m.seats.users.entries m.seats.clients.keys m.last_client };
 }
 
 impl Maps {
@@ -74,11 +82,12 @@ impl Maps {
         let greeting_line = greeting_of(alloc, &settings)?;
         Ok(Maps {
             alloc,
+            clients: Clients::new(alloc, settings.outbox_limit()),
             settings,
             accounts,
             greeting_line,
-            clients: BTreeMap::new(alloc),
             seats: Seats::new(alloc),
+            channels: ChannelBook::new(alloc),
             last_client: 0,
         })
     }
@@ -106,20 +115,110 @@ impl Maps {
         ensures ok { OnOk result (self.new ≡ next self.old (event.Open ip home)) }
         ensures err { OnErr result (self.new ≡ self.old) }
     {
-        let mut slot = Slot::new(self.alloc, self.settings.outbox_limit(), ip, home);
-        slot.make_room(&self.greeting_line)?;
-        let _ = slot.put(&self.greeting_line);
         let number = self.last_client + 1;
-        insert(&mut self.clients, number, slot)?;
+        self.clients.insert(number, ip, home, &self.greeting_line)?;
         self.last_client = number;
         Ok(number)
     }
 
-    /// Whether a client may give commands and get bytes.
-    pub fn hears(&self, client: u64) -> bool
-        ensures { result ≡ hears self.now client }
+    /// A client that may give commands and get bytes: the name under which it is logged in, if it is.
+    pub fn issuer(&self, client: u64) -> Option<Option<&NameBuf>>
+        ensures hears { is_some result ≡ hears self.now client }
+        ensures name { IfSome result (λ me. option_copied me ≡ name_of self.now client) }
     {
-        hears(&self.clients, client)
+        self.clients.heard(client)
+    }
+
+    /// Makes room for all that is told, changes the maps, and delivers. Where memory is refused,
+    /// nothing changes.
+    pub fn carry_out(
+        &mut self,
+        client: u64,
+        change: Change,
+        post: &Post,
+    ) -> Result<Wakes, AllocError>
+        requires { CanBe self.old.clients self.old.users client change }
+        ensures ok { OnOk result ((e : Event) → effect self.old e ≡ changed self.old client change → Matches self.old e post.now → self.new ≡ next self.old e) }
+        ensures wakes { IfOk result (λ wakes. (e : Event) → effect self.old e ≡ changed self.old client change → Matches self.old e post.now → IsWakes self.old e wakes) }
+        ensures err { OnErr result (self.new ≡ self.old) }
+    {
+        post.make_room(&mut self.clients)?;
+        let done = apply(
+            &mut self.clients,
+            &mut self.seats,
+            &mut self.channels,
+            client,
+            change,
+        );
+        match done {
+            Ok(()) => Ok(post.deliver(&mut self.clients)),
+            Err(refused) => {
+                post.forget(&mut self.clients);
+                Err(refused)
+            }
+        }
+    }
+
+    /// Tells all users.
+    pub fn tell_all(&self, line: LentReply, post: &mut Post) -> Result<(), AllocError>
+        ensures { OnOk result (Told self.now post.old post.new (tell everyone (reply_of line.entry ∷ []) ∷ [])) }
+    {
+        post.write(line)?;
+        self.seats.address_all(post)?;
+        Ok(())
+    }
+
+    /// Tells all users but the issuer.
+    pub fn tell_others(&self, line: LentReply, post: &mut Post) -> Result<(), AllocError>
+        ensures { OnOk result (Told self.now post.old post.new (tell others (reply_of line.entry ∷ []) ∷ [])) }
+    {
+        post.write_for_others(line)?;
+        self.seats.address_all(post)?;
+        Ok(())
+    }
+
+    /// Tells the users of these names.
+    pub fn tell_users(
+        &self,
+        names: &[NameBuf],
+        line: LentReply,
+        post: &mut Post,
+    ) -> Result<(), AllocError>
+        requires { IsDistinct same_name names.now }
+        ensures { OnOk result (Told self.now post.old post.new (tell (users names.now) (reply_of line.entry ∷ []) ∷ [])) }
+    {
+        post.write(line)?;
+        self.seats.address_names(names, post)?;
+        Ok(())
+    }
+
+    /// Tells the users of these names but the issuer.
+    pub fn tell_other_users(
+        &self,
+        names: &[NameBuf],
+        line: LentReply,
+        post: &mut Post,
+    ) -> Result<(), AllocError>
+        requires { IsDistinct same_name names.now }
+        ensures { OnOk result (Told self.now post.old post.new (tell (but_issuer (users names.now)) (reply_of line.entry ∷ []) ∷ [])) }
+    {
+        post.write_for_others(line)?;
+        self.seats.address_names(names, post)?;
+        Ok(())
+    }
+
+    /// Tells one user.
+    pub fn tell_user(
+        &self,
+        name: &NameBuf,
+        line: LentReply,
+        post: &mut Post,
+    ) -> Result<(), AllocError>
+        ensures { OnOk result (Told self.now post.old post.new (tell (user name.now) (reply_of line.entry ∷ []) ∷ [])) }
+    {
+        post.write(line)?;
+        self.seats.address_user(name, post)?;
+        Ok(())
     }
 
     /// Takes bytes that a client has not read.
@@ -129,7 +228,7 @@ impl Maps {
         ensures finished { result.finished ≡ is_finished self.new client }
         ensures next { self.new ≡ next self.old (event.Drain client (length into.old)) }
     {
-        drain(&mut self.clients, client, into)
+        self.clients.drain(client, into)
     }
 
     /// The last client number given, 0 at first.
@@ -143,7 +242,7 @@ impl Maps {
     pub fn has_client(&self, client: u64) -> bool
         ensures { result ≡ is_some (at_number self.now.clients client) }
     {
-        self.clients.contains_key(&client)
+        self.clients.contains(client)
     }
 
     /// How many bytes a client has not read.
@@ -151,10 +250,7 @@ impl Maps {
         ensures count { result ≡ length (unread_of self.now client) }
         ensures small { result < 2 ^ 63 }
     {
-        match self.clients.get(&client) {
-            Some(slot) => slot.unread(),
-            None => 0,
-        }
+        self.clients.unread(client)
     }
 
     /// Copies bytes that a client has not read into a slice, beginning `from` bytes behind the first.
@@ -162,9 +258,6 @@ impl Maps {
         ensures count { result ≡ min (length (unread_of self.now client) - from) (length into.old) }
         ensures given { into.new ≡ take result (drop from (unread_of self.now client)) ++ drop result into.old }
     {
-        match self.clients.get(&client) {
-            Some(slot) => slot.copy_unread(from, into),
-            None => 0,
-        }
+        self.clients.copy_unread(client, from, into)
     }
 }

@@ -1,14 +1,14 @@
 //! The users who are logged in.
 
-ghost use Rattle.std.specs.Prelude.{◌≡◌, ◌++◌, [], OnOk, OnErr, true, false};
+ghost use Rattle.std.specs.Prelude.{◌≡◌, [], OnOk, OnErr, true, false};
 ghost use Rattle.std.specs.Ordering.{nat_cmp};
 ghost use Rattle.std.specs.List.Sorted.{IsStrictlySortedBy};
-ghost use Rattle.lobby_model.specs.Table.{put_name, without_name};
-ghost use Rattle.lobby_machine.specs.Mail.{letters_of};
-ghost use Rattle.lobby_machine.specs.Seats.{IsSet, seat_status};
+ghost use Rattle.line_words.specs.Table.{at_name, change_name, put_name};
+ghost use Rattle.lobby_post.specs.Posted.{addressed};
+ghost use Rattle.lobby_machine.specs.Seats.{IsSet, client_in, clients_of, seat_with, where_some, without_one};
 
-use crate::post::Letter;
 use line_words::{NameBuf, WordBuf};
+use lobby_post::Post;
 use status_bits::UserStatus;
 use std::alloc::{AllocError, Global};
 use std::collections::{BTreeMap, BTreeSet};
@@ -31,7 +31,7 @@ pub struct Seat {
 #[derive(Drop)]
 pub struct Seats {
     pub users: BTreeMap<NameBuf, Seat>,
-    /// The numbers of the clients. What all users get is put in their order, in which the clients
+    /// The numbers of the clients. What all users get is told in their order, in which the clients
     /// themselves lie.
     pub clients: BTreeSet<u64>,
 }
@@ -48,35 +48,37 @@ impl Seats {
         }
     }
 
-    /// A letter with the front of a text, up to `own`, to the issuer of an event, and where there is
-    /// more, one with the rest to each other client at which a user is.
-    pub fn address(
-        &self,
-        issuer: u64,
-        own: usize,
-        end: usize,
-        letters: &mut Vec<Letter>,
-    ) -> Result<(), AllocError>
+    /// All who are logged in get the line that is told.
+    pub fn address_all(&self, post: &mut Post) -> Result<(), AllocError>
         ensures rising { IsStrictlySortedBy nat_cmp self.now.clients.keys }
-        ensures letters { OnOk result (letters.new.items ≡ letters.old.items ++ letters_of issuer own end self.now.clients.keys) }
+        ensures sent { OnOk result (post.new ≡ addressed post.old self.now.clients.keys) }
     {
         // Its contract says that the numbers rise, which callers want however this ends.
         let clients = self.clients.iter();
-        letters.push(Letter {
-            client: issuer,
-            from: 0,
-            to: own,
-        })?;
-        if own < end {
-            for client in clients {
-                if *client != issuer {
-                    letters.push(Letter {
-                        client: *client,
-                        from: own,
-                        to: end,
-                    })?;
-                }
+        for client in clients {
+            post.address(*client)?;
+        }
+        Ok(())
+    }
+
+    /// The users of these names get the line that is told.
+    pub fn address_names(&self, names: &[NameBuf], post: &mut Post) -> Result<(), AllocError>
+        ensures { OnOk result (post.new ≡ addressed post.old (clients_of self.now.users.entries names.now)) }
+    {
+        for name in names {
+            if let Some(seat) = self.users.get(name) {
+                post.address(seat.client)?;
             }
+        }
+        Ok(())
+    }
+
+    /// The user of this name, where there is one, gets the line that is told.
+    pub fn address_user(&self, name: &NameBuf, post: &mut Post) -> Result<(), AllocError>
+        ensures { OnOk result (post.new ≡ addressed post.old (client_in (at_name self.now.users.entries name.now))) }
+    {
+        if let Some(seat) = self.users.get(name) {
+            post.address(seat.client)?;
         }
         Ok(())
     }
@@ -99,20 +101,22 @@ impl Seats {
         }
     }
 
-    /// Removes a user and its client.
-    pub fn remove(&mut self, name: &NameBuf, client: u64)
-        ensures users { self.new.users.entries ≡ without_name self.old.users.entries name.now }
+    /// Removes a client, and its user, where there is one.
+    pub fn remove(&mut self, name: Option<NameBuf>, client: u64)
+        ensures users { self.new.users.entries ≡ where_some without_one name self.old.users.entries }
         ensures clients { IsSet client false self.old.clients.keys self.new.clients.keys }
     {
-        // Its contract says that the names rise, which the proof wants of the map as it was.
-        let _ = self.users.len();
-        let _ = self.users.remove(name);
         let _ = self.clients.remove(&client);
+        if let Some(name) = name {
+            // Its contract says that the names rise, which the proof wants of the map as it was.
+            let _ = self.users.len();
+            let _ = self.users.remove(&name);
+        }
     }
 
     /// Gives a user a status, and leaves it at its client.
     pub fn set_status(&mut self, name: &NameBuf, status: UserStatus)
-        ensures users { self.new.users.entries ≡ seat_status self.old.users.entries name.now status }
+        ensures users { self.new.users.entries ≡ change_name self.old.users.entries name.now (seat_with status) }
         ensures clients { self.new.clients.keys ≡ self.old.clients.keys }
     {
         if let Some(seat) = self.users.get_mut(name) {

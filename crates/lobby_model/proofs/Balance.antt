@@ -4,10 +4,10 @@ use Rattle.std.specs.Prelude.{Some, None, if◌then◌else◌, not, ◌&&◌}
 use Rattle.std.specs.Option.{option_map}
 use Rattle.lobby_model.specs.declared.event.Event.{Event}
 use Rattle.account_book.specs.Account.{Account}
-use Rattle.lobby_model.specs.Table.{at_number}
+use Rattle.line_words.specs.Table.{at_number}
 use Rattle.lobby_model.specs.Configuration.{Configuration}
 use Rattle.lobby_model.specs.State.{State, Client, is_live, is_ended, empty_lobby}
-use Rattle.lobby_model.specs.Effect.{effect}
+use Rattle.lobby_model.specs.Events.{effect}
 use Rattle.lobby_model.specs.Next.{next, batch, with_batch, has_room_for, put_to, put_by, taken_by}
 use Rattle.lobby_model.specs.History.{after, put_in, taken_in}
 use Rattle.lobby_model.proofs.Delivered.{delivered_at}

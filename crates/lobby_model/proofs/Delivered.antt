@@ -6,11 +6,11 @@ use Rattle.std.specs.FinMap.{nat_cmp-IsAntisymmetric}
 use Rattle.std.specs.Option.{option_map}
 use Rattle.std.specs.Cmp.{nat_cmp_total, tied_itself}
 use Rattle.std.specs.FinMap.Entries.{is_sorted, find-put, is_sorted-put, same_entries}
-use Rattle.lobby_model.proofs.Tables.{Equal_of, is_sorted-map_values, at-map_values_keyed}
-use Rattle.lobby_model.specs.Table.{ByNumber, at_number, put_number, map_values, same_number}
+use Rattle.line_words.proofs.Tables.{Equal_of, is_sorted-map_values, at-map_values_keyed}
+use Rattle.line_words.specs.Table.{ByNumber, at_number, put_number, map_values, same_number}
 use Rattle.lobby_model.specs.declared.event.Event.{Event}
 use Rattle.lobby_model.specs.State.{State, Client, is_live}
-use Rattle.lobby_model.specs.Effect.{effect}
+use Rattle.lobby_model.specs.Events.{effect}
 use Rattle.lobby_model.specs.Next.{next, batch, put_to, with_batch, has_room_for}
 
 -- no byte is put of an empty batch
@@ -62,4 +62,4 @@ map_values_none f (e ∷ m) same = λ i. (e.0, same e.0 e.1 i) ∷ map_values_no
 
 -- one event that sends nothing to anyone
 pub put_put : {X : Type 0} (k : ℕ) (v w : X) (m : ByNumber X) → T (is_sorted nat_cmp m) → put_number (put_number m k v) k w ≡ put_number m k w
-put_put k v w m h = Rattle.lobby_model.proofs.Tables.put-put nat_cmp nat_cmp_total nat_cmp-IsAntisymmetric k v w m h
+put_put k v w m h = Rattle.line_words.proofs.Tables.put-put nat_cmp nat_cmp_total nat_cmp-IsAntisymmetric k v w m h

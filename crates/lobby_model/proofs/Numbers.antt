@@ -7,13 +7,16 @@ use Rattle.std.specs.Cmp.{nat_cmp_total}
 use Rattle.std.proofs.lemmas.Option.{same_Some}
 use Rattle.lobby_model.specs.declared.event.Event.{Event}
 use Rattle.lobby_model.specs.declared.event.Event.TheVariants as event
-use Rattle.lobby_model.specs.Table.{at_number}
+use Rattle.line_words.specs.Table.{at_number}
 use Rattle.lobby_model.specs.State.{State}
-use Rattle.lobby_model.specs.Effect.{effect, has_place, greeted, opened}
+use Rattle.lobby_model.specs.Outcome.{state_after}
+use Rattle.lobby_model.specs.Sessions.{has_place, greeted, connects}
+use Rattle.lobby_model.specs.Events.{effect}
 use Rattle.lobby_model.specs.Next.{next, batch, with_batch}
 use Rattle.lobby_model.specs.History.{after}
 use Rattle.lobby_model.specs.Laws.{number_given}
-use Rattle.lobby_model.proofs.Tables.{at-put}
+use Rattle.line_words.proofs.Tables.{at-put}
+use Rattle.lobby_model.proofs.Decided.{opening}
 use Rattle.lobby_model.proofs.Delivered.{delivered_at, same_itself}
 use Rattle.lobby_model.proofs.Origins.{given_is, last_given, origin, rises, undelivered}
 
@@ -29,9 +32,9 @@ later_is_greater s first between second n m f g =
 -- an event that gives a number lets a client in under it
 enters : (s : State) (e : Event) (n : ℕ) → number_given s e ≡ Some n → IsSome (at_number (effect s e).clients n)
 enters s (event.Open ip home) n g =
-    elim (has_place s) as (λ p. (if p then Some (s.last_client + 1) else None) ≡ Some n → is_some (at_number (if p then opened s ip home else s).clients n) ≡ true) [
+    elim (has_place s) as (λ p. (if p then Some (s.last_client + 1) else None) ≡ Some n → is_some (at_number (state_after s (opening s ip home p)).clients n) ≡ true) [
       | true ↦ λ f.
-          ap (λ k. is_some (at_number (opened s ip home).clients k)) (sym (same_Some (s.last_client + 1) n f))
+          ap (λ k. is_some (at_number ((connects (s.last_client + 1) ip home s).after s).clients k)) (sym (same_Some (s.last_client + 1) n f))
           ∙ ap is_some (at-put nat_cmp nat_cmp_total s.clients (s.last_client + 1) (greeted ip home) (s.last_client + 1))
           ∙ ap (λ b. is_some (cond b (Some (greeted ip home)) (at_number s.clients (s.last_client + 1)))) (same_itself (s.last_client + 1))
       | false ↦ λ f. absurd (cc)
@@ -40,7 +43,7 @@ enters s (event.Say c request) n g = absurd (cc)
 enters s (event.Shut c) n g = absurd (cc)
 enters s (event.Drain c k) n g = absurd (cc)
 
-mapped_is_some : {A B : Type 0} (f : A → B) (o : Option A) → is_some (option_map f o) ≡ is_some o
+pub mapped_is_some : {A B : Type 0} (f : A → B) (o : Option A) → is_some (option_map f o) ≡ is_some o
 mapped_is_some f None = refl
 mapped_is_some f (Some x) = refl
 

@@ -1,6 +1,6 @@
 -- Events that send to nobody, or to one client that is new.
 use Rattle.std.proofs.Common.{◌≡◌, ℕ, ◌+◌, List, [], ◌∷◌, ◌++◌, refl, sym, ap, subst, ◌∙◌, Bool, true, false, cond, not, T, append-nil}
-use Rattle.std.specs.Prelude.{Option, Some, None, ◌&&◌, ◌||◌, if◌then◌else◌, is_some}
+use Rattle.std.specs.Prelude.{Some, None, ◌&&◌, ◌||◌, if◌then◌else◌}
 use Rattle.std.specs.Ordering.{nat_cmp}
 use Rattle.std.specs.Option.{option_map}
 use Rattle.std.specs.Cmp.{nat_cmp_total}
@@ -11,20 +11,23 @@ use Rattle.command_grammar.specs.declared.command.Request.{Request}
 use Rattle.reply_grammar.specs.declared.Reply.{Reply}
 use Rattle.lobby_model.specs.declared.event.Event.{Event}
 use Rattle.lobby_model.specs.declared.event.Event.TheVariants as event
-use Rattle.lobby_model.specs.Table.{ByNumber, at_number, put_number, without_number, same_number}
+use Rattle.line_words.specs.Table.{ByNumber, at_number, put_number, change_number, same_number}
 use Rattle.lobby_model.specs.State.{State, Client, is_live, hears, name_of}
-use Rattle.lobby_model.specs.Effect.{effect, has_place, greeted, opened, obeyed, users_left, drained_at}
-use Rattle.lobby_model.specs.Refusal.{refusal}
-use Rattle.lobby_model.specs.Sent.{greeting, said, departure, to_user, under}
+use Rattle.lobby_model.specs.Outcome.{Outcome, Refused, Done, state_after, refusal_of}
+use Rattle.lobby_model.specs.Sessions.{has_place, greeted, greeting, drained, departs, disconnects}
+use Rattle.lobby_model.specs.Unserved.{answered}
+use Rattle.lobby_model.specs.Events.{effect, refusal, lines_of, under}
 use Rattle.lobby_model.specs.Next.{next, batch, delivered, with_batch, has_room_for, is_empty}
 use Rattle.lobby_model.specs.Touched.{is_touched, touches}
 use Rattle.lobby_model.proofs.Delivered.{with_batch_nil, map_values_none, map_values_one, put_put, same_itself, delivered_at}
-use Rattle.lobby_model.proofs.Tables.{at-without}
+use Rattle.line_words.proofs.Tables.{at-without}
+use Rattle.lobby_model.proofs.Decided.{saying, given_place, unheard}
+use Rattle.lobby_model.proofs.Inside.{departed}
 
 pub quiet : (s : State) (e : Event) (t : State) → ((d : ℕ) → batch s e d ≡ []) → delivered s e t ≡ t
 quiet s e t none = ap (λ m. record t { clients = m }) (map_values_none _ t.clients (λ d x. ap (λ b. with_batch s.settings.outbox_limit b x) (none d) ∙ with_batch_nil s.settings.outbox_limit x))
 
-pub next_drain : (s : State) (c n : ℕ) → next s (event.Drain c n) ≡ record s { clients = drained_at s.clients c n (at_number s.clients c) }
+pub next_drain : (s : State) (c n : ℕ) → next s (event.Drain c n) ≡ record s { clients = change_number s.clients c (drained n) }
 next_drain s c n = quiet s (event.Drain c n) _ (λ d. refl)
 
 and_true : (b : Bool) → (b && true) ≡ b
@@ -33,18 +36,18 @@ and_true false = refl
 
 -- a new client gets its greeting, and nobody else anything
 module _ (s : State) (ip : List ℕ) (home : ℕ) (place : has_place s ≡ true) where
-  greeted_at : (d : ℕ) (b : Bool) → same_number d (s.last_client + 1) ≡ b → batch s (event.Open ip home) d ≡ (if b then print (None, greeting s.settings) else [])
+  pub greeted_at : (d : ℕ) (b : Bool) → same_number d (s.last_client + 1) ≡ b → batch s (event.Open ip home) d ≡ (if b then print (None, greeting s.settings) else [])
   greeted_at d b e =
-      ap (λ p. print_all (if p && same_number d (s.last_client + 1) then (None, greeting s.settings) ∷ [] else [])) place
-      ∙ ap (λ q. print_all (if q then (None, greeting s.settings) ∷ [] else [])) e
-      ∙ elim b as (λ b. print_all (if b then (None, greeting s.settings) ∷ [] else []) ≡ (if b then print (None, greeting s.settings) else [])) [ true ↦ append-nil (print (None, greeting s.settings)) | false ↦ refl ]
+      ap (λ o. print_all (lines_of s (event.Open ip home) o d)) (given_place s ip home place)
+      ∙ ap (λ q. print_all (under (if q then None else None) ((if q then greeting s.settings ∷ [] else []) ++ []))) e
+      ∙ elim b as (λ b. print_all (under (if b then None else None) ((if b then greeting s.settings ∷ [] else []) ++ [])) ≡ (if b then print (None, greeting s.settings) else [])) [ true ↦ append-nil (print (None, greeting s.settings)) | false ↦ refl ]
 
   pub next_open : T (is_sorted nat_cmp s.clients)
       → next s (event.Open ip home) ≡ record s { last_client = s.last_client + 1; clients = put_number s.clients (s.last_client + 1) (with_batch s.settings.outbox_limit (print (None, greeting s.settings)) (greeted ip home)) }
   next_open sorted =
       let limit = s.settings.outbox_limit in
       let m : ByNumber Client = put_number s.clients (s.last_client + 1) (greeted ip home) in
-      ap (λ b. delivered s (event.Open ip home) (if b then opened s ip home else s)) place
+      ap (λ o. delivered s (event.Open ip home) (state_after s o)) (given_place s ip home place)
       ∙ ap (λ (clients : ByNumber Client). record s { last_client = s.last_client + 1; clients = clients }) (
       map_values_one (λ d x. with_batch limit (batch s (event.Open ip home) d) x) m (s.last_client + 1) (greeted ip home)
       (is_sorted-put nat_cmp nat_cmp_total (s.last_client + 1) (greeted ip home) s.clients sorted)
@@ -92,42 +95,33 @@ quiet_touches s e home none = nobody (effect s e).clients
 
 -- a command of a client that does not hear sends nothing and changes nothing
 pub unheard_sends : (s : State) (c : ℕ) (request : Request) (d : ℕ) → hears s c ≡ false → batch s (event.Say c request) d ≡ []
-unheard_sends s c request d e = ap (λ b. print_all (if b then said s (name_of s c) (name_of s d) (same_number d c) request (refusal s c request.command) else [])) e
+unheard_sends s c request d e = ap (λ o. print_all (lines_of s (event.Say c request) o d)) (unheard s c request e)
 
 pub effect_unheard : (s : State) (c : ℕ) (request : Request) → hears s c ≡ false → effect s (event.Say c request) ≡ s
-effect_unheard s c request e = ap (λ b. if b && not (is_some (refusal s c request.command)) then obeyed s c (name_of s c) request.command else s) e
+effect_unheard s c request e = ap (state_after s) (unheard s c request e)
 
 pub next_unheard : (s : State) (c : ℕ) (request : Request) → hears s c ≡ false → next s (event.Say c request) ≡ s
 next_unheard s c request e = quiet s (event.Say c request) (effect s (event.Say c request)) (λ d. unheard_sends s c request d e) ∙ effect_unheard s c request e
 
--- a command that is refused changes no map, and one that is not does what it says
+-- a command that is refused changes no map
+refused_keeps : (s : State) (o : Outcome) (reply : Reply) → refusal_of o ≡ Some reply → state_after s o ≡ s
+refused_keeps s (Refused refusal) reply e = refl
+refused_keeps s (Done happenings) reply e = absurd (cc)
+
 pub effect_refused : (s : State) (c : ℕ) (request : Request) (reply : Reply) → refusal s c request.command ≡ Some reply → effect s (event.Say c request) ≡ s
 effect_refused s c request reply e =
-    ap (λ (o : Option Reply). if hears s c && not (is_some o) then obeyed s c (name_of s c) request.command else s) e
-    ∙ elim (hears s c) as (λ b. (if b && false then obeyed s c (name_of s c) request.command else s) ≡ s) [ true ↦ refl | false ↦ refl ]
+    elim (hears s c) as (λ b. state_after s (saying s c request.command b) ≡ s) [
+      | true ↦ refused_keeps s (answered s c (name_of s c) request.command) reply e
+      | false ↦ refl
+    ]
 
-pub effect_obeyed : (s : State) (c : ℕ) (request : Request) → hears s c ≡ true → refusal s c request.command ≡ None → effect s (event.Say c request) ≡ obeyed s c (name_of s c) request.command
-effect_obeyed s c request heard allowed =
-    ap (λ (o : Option Reply). if hears s c && not (is_some o) then obeyed s c (name_of s c) request.command else s) allowed
-    ∙ ap (λ b. if b && true then obeyed s c (name_of s c) request.command else s) heard
-
--- a client that is shut is gone; where it was not logged in, nothing else happens
+-- a client that is shut is gone
 pub shut_removes : (s : State) (c : ℕ) → at_number (next s (event.Shut c)).clients c ≡ None
 shut_removes s c =
     delivered_at s (event.Shut c) c
+    ∙ ap (λ (t : State). option_map (with_batch s.settings.outbox_limit (batch s (event.Shut c) c)) (at_number t.clients c)) (departed s (name_of s c) (disconnects c))
     ∙ ap (option_map (with_batch s.settings.outbox_limit (batch s (event.Shut c) c))) (at-without nat_cmp nat_cmp_total s.clients c c ∙ ap (λ b. cond (not b) (at_number s.clients c) None) (same_itself c))
 
-to_nobody : (to : Option (List ℕ)) → to_user to [] ≡ []
-to_nobody None = refl
-to_nobody (Some name) = refl
-
+-- where it was not logged in, nobody is told
 pub unnamed_shut_sends : (s : State) (c : ℕ) → name_of s c ≡ None → (d : ℕ) → batch s (event.Shut c) d ≡ []
-unnamed_shut_sends s c unnamed d =
-    ap (λ me. print_all (if same_number d c then [] else under None (to_user (name_of s d) (departure me)))) unnamed
-    ∙ ap (λ (replies : List Reply). print_all (if same_number d c then [] else under None replies)) (to_nobody (name_of s d))
-    ∙ elim (same_number d c) as (λ b. print_all (if b then [] else []) ≡ []) [ true ↦ refl | false ↦ refl ]
-
-pub next_shut_unnamed : (s : State) (c : ℕ) → name_of s c ≡ None → next s (event.Shut c) ≡ record s { clients = without_number s.clients c }
-next_shut_unnamed s c unnamed =
-    quiet s (event.Shut c) (effect s (event.Shut c)) (unnamed_shut_sends s c unnamed)
-    ∙ ap (λ me. record s { users = users_left s.users me; clients = without_number s.clients c }) unnamed
+unnamed_shut_sends s c unnamed d = ap (λ me. print_all (lines_of s (event.Shut c) (departs s me (disconnects c)) d)) unnamed

@@ -6,11 +6,10 @@ use Rattle.reply_grammar.specs.declared.Reply.{Reply}
 use Rattle.lobby_model.specs.declared.event.Event.TheVariants as event
 use Rattle.lobby_model.specs.declared.event.Event.{Event}
 use Rattle.lobby_model.specs.State.{State, Client, is_live}
-use Rattle.lobby_model.specs.Refusal.{refusal}
-use Rattle.lobby_model.specs.Effect.{effect}
+use Rattle.lobby_model.specs.Events.{effect, refusal}
 use Rattle.lobby_model.specs.Next.{next, batch, with_batch, has_room_for}
 use Rattle.lobby_model.specs.Laws.{without_bytes}
-use Rattle.lobby_model.proofs.Tables.{map_values-twice, map_values-same}
+use Rattle.line_words.proofs.Tables.{map_values-twice, map_values-same}
 use Rattle.lobby_model.proofs.Quiet.{effect_refused}
 
 unread_apart : (limit : ℕ) (bytes : List ℕ) (x : Client) → record (with_batch limit bytes x) { cut = false; unread = [] } ≡ record x { cut = false; unread = [] }
@@ -30,8 +29,19 @@ module _ (s : State) (c : ℕ) (request : Request) (reply : Reply) (refused : re
   same : effect s (event.Say c request) ≡ s
   same = effect_refused s c request reply refused
 
-  pub same_rest : ((next s (event.Say c request)).settings ≡ s.settings) × ((next s (event.Say c request)).accounts ≡ s.accounts) × ((next s (event.Say c request)).users ≡ s.users) × ((next s (event.Say c request)).last_client ≡ s.last_client)
-  same_rest = (ap (λ (t : State). t.settings) same, ap (λ (t : State). t.accounts) same, ap (λ (t : State). t.users) same, ap (λ (t : State). t.last_client) same)
+  pub same_rest : ((next s (event.Say c request)).settings ≡ s.settings) × ((next s (event.Say c request)).accounts ≡ s.accounts)
+      × ((next s (event.Say c request)).users ≡ s.users) × ((next s (event.Say c request)).channels ≡ s.channels)
+      × ((next s (event.Say c request)).battles ≡ s.battles) × ((next s (event.Say c request)).last_client ≡ s.last_client)
+      × ((next s (event.Say c request)).last_battle ≡ s.last_battle)
+  same_rest = (
+    ap (λ (t : State). t.settings) same,
+    ap (λ (t : State). t.accounts) same,
+    ap (λ (t : State). t.users) same,
+    ap (λ (t : State). t.channels) same,
+    ap (λ (t : State). t.battles) same,
+    ap (λ (t : State). t.last_client) same,
+    ap (λ (t : State). t.last_battle) same,
+  )
 
   pub same_clients : without_bytes (next s (event.Say c request)).clients ≡ without_bytes s.clients
   same_clients = only_bytes s (event.Say c request) ∙ ap (λ (t : State). without_bytes t.clients) same

@@ -4,10 +4,10 @@ use Rattle.std.specs.Prelude.{Option, Some, None, not, ◌&&◌, if◌then◌els
 use Rattle.std.proofs.lemmas.Option.{same_Some}
 use Rattle.account_book.specs.Account.{Account}
 use Rattle.lobby_model.specs.declared.event.Event.{Event}
-use Rattle.lobby_model.specs.Table.{at_number}
+use Rattle.line_words.specs.Table.{at_number}
 use Rattle.lobby_model.specs.Configuration.{Configuration}
 use Rattle.lobby_model.specs.State.{State, Client, empty_lobby, is_ended, is_live}
-use Rattle.lobby_model.specs.Effect.{effect}
+use Rattle.lobby_model.specs.Events.{effect}
 use Rattle.lobby_model.specs.Next.{next, batch, has_room_for, put_by, put_to}
 use Rattle.lobby_model.specs.History.{after, put_in}
 use Rattle.lobby_model.proofs.Delivered.{dead}

@@ -8,8 +8,8 @@ use Rattle.std.specs.List.{AllByRecursion, list_any}
 use Rattle.std.specs.List.Sorted.{IsStrictlySortedBy}
 use Rattle.std.specs.BTreeMap.{is_at}
 use Rattle.std.specs.Map.{lookup, set_value}
-use Rattle.lobby_model.specs.Table.{ByNumber, at_number, map_values, same_number}
-use Rattle.lobby_model.proofs.Tables.{lookup_is_find}
+use Rattle.line_words.specs.Table.{ByNumber, at_number, map_values, same_number}
+use Rattle.line_words.proofs.Tables.{lookup_is_find}
 use Rattle.lobby_model.proofs.Delivered.{same_number_is}
 
 pub same_either_way : (a b : ℕ) → same_number a b ≡ same_number b a

@@ -1,35 +1,39 @@
 -- A void event does nothing.
-use Rattle.std.proofs.Common.{◌≡◌, ℕ, ◌+◌, List, [], ◌∷◌, refl, ap, ◌∙◌, true, false}
-use Rattle.std.specs.Prelude.{None, ◌&&◌, if◌then◌else◌}
+use Rattle.std.proofs.Common.{◌≡◌, ℕ, List, [], refl, ap, ◌∙◌, true, false}
+use Rattle.std.specs.Prelude.{None, if◌then◌else◌}
 use Rattle.std.specs.Ordering.{nat_cmp}
 use Rattle.reply_grammar.specs.Replies.{print_all}
 use Rattle.lobby_model.specs.declared.event.Event.{Event}
 use Rattle.lobby_model.specs.declared.event.Event.TheVariants as event
-use Rattle.lobby_model.specs.Table.{at_number, same_number}
-use Rattle.lobby_model.specs.State.{State, is_live_client, hears, name_of, name_of_client}
-use Rattle.lobby_model.specs.Effect.{effect, opened, users_left, drained_at}
-use Rattle.lobby_model.specs.Sent.{greeting}
+use Rattle.line_words.specs.Table.{ByNumber, at_number, same_number}
+use Rattle.lobby_model.specs.State.{State, Client, is_live_client, hears, name_of, name_of_client}
+use Rattle.lobby_model.specs.Outcome.{state_after}
+use Rattle.lobby_model.specs.Sessions.{disconnects, departs, drained}
+use Rattle.lobby_model.specs.Events.{effect, lines_of}
 use Rattle.lobby_model.specs.Next.{next, batch, put_by, put_to, taken_by, taken_from}
 use Rattle.lobby_model.specs.Laws.{IsVoid}
-use Rattle.lobby_model.proofs.Tables.{without_absent}
+use Rattle.line_words.proofs.Tables.{without_absent, change_absent}
+use Rattle.lobby_model.proofs.Decided.{no_place}
 use Rattle.lobby_model.proofs.Delivered.{put_nothing}
 use Rattle.lobby_model.proofs.Quiet.{quiet, effect_unheard, unheard_sends, unnamed_shut_sends}
 
-unheard : (s : State) (c : ℕ) → at_number s.clients c ≡ None → hears s c ≡ false
-unheard s c none = ap is_live_client none
+deaf : (s : State) (c : ℕ) → at_number s.clients c ≡ None → hears s c ≡ false
+deaf s c none = ap is_live_client none
 
 unnamed : (s : State) (c : ℕ) → at_number s.clients c ≡ None → name_of s c ≡ None
 unnamed s c none = ap name_of_client none
 
 same_effect : (s : State) (e : Event) → IsVoid s e → effect s e ≡ s
-same_effect s (event.Open ip home) full = ap (λ b. if b then opened s ip home else s) full
-same_effect s (event.Say c request) none = effect_unheard s c request (unheard s c none)
-same_effect s (event.Shut c) none = λ i. record s { users = users_left s.users (unnamed s c none i); clients = without_absent nat_cmp s.clients c none i }
-same_effect s (event.Drain c n) none = ap (λ o. record s { clients = drained_at s.clients c n o }) none
+same_effect s (event.Open ip home) full = ap (state_after s) (no_place s ip home full)
+same_effect s (event.Say c request) none = effect_unheard s c request (deaf s c none)
+same_effect s (event.Shut c) none =
+    ap (λ me. state_after s (departs s me (disconnects c))) (unnamed s c none)
+    ∙ ap (λ (m : ByNumber Client). record s { clients = m }) (without_absent nat_cmp s.clients c none)
+same_effect s (event.Drain c n) none = ap (λ (m : ByNumber Client). record s { clients = m }) (change_absent nat_cmp (drained n) s.clients c none)
 
 sends_nothing : (s : State) (e : Event) → IsVoid s e → (d : ℕ) → batch s e d ≡ []
-sends_nothing s (event.Open ip home) full d = ap (λ b. print_all (if b && same_number d (s.last_client + 1) then (None, greeting s.settings) ∷ [] else [])) full
-sends_nothing s (event.Say c request) none d = unheard_sends s c request d (unheard s c none)
+sends_nothing s (event.Open ip home) full d = ap (λ o. print_all (lines_of s (event.Open ip home) o d)) (no_place s ip home full)
+sends_nothing s (event.Say c request) none d = unheard_sends s c request d (deaf s c none)
 sends_nothing s (event.Shut c) none d = unnamed_shut_sends s c (unnamed s c none) d
 sends_nothing s (event.Drain c n) none d = refl
 

@@ -2,9 +2,9 @@
 use Rattle.std.specs.Prelude.{ℕ, ◌+◌, List, [], Option, Some, None, if◌then◌else◌, ◌≡◌, false, IsSome}
 use Rattle.lobby_model.specs.declared.event.Event.{Event}
 use Rattle.lobby_model.specs.declared.event.Event.TheVariants as event
-use Rattle.lobby_model.specs.Table.{ByNumber, at_name, at_number, map_values}
+use Rattle.line_words.specs.Table.{ByNumber, at_name, at_number, map_values}
 use Rattle.lobby_model.specs.State.{State, Client, name_of}
-use Rattle.lobby_model.specs.Effect.{has_place}
+use Rattle.lobby_model.specs.Sessions.{has_place}
 
 -- clients as if nothing had ever been put to them
 abbrev pub without_bytes : ByNumber Client → ByNumber Client

@@ -3,10 +3,9 @@ use Rattle.std.specs.Prelude.{ℕ, ◌+◌, Bool, true, false, ◌&&◌, ◌||�
 use Rattle.reply_grammar.specs.Replies.{print_all}
 use Rattle.lobby_model.specs.declared.event.Event.{Event}
 use Rattle.lobby_model.specs.declared.event.Event.TheVariants as event
-use Rattle.lobby_model.specs.Table.{at_number, map_values, same_number}
+use Rattle.line_words.specs.Table.{at_number, map_values, same_number}
 use Rattle.lobby_model.specs.State.{State, Client, is_live}
-use Rattle.lobby_model.specs.Effect.{effect}
-use Rattle.lobby_model.specs.Sent.{sent}
+use Rattle.lobby_model.specs.Events.{effect, sent}
 
 -- the batch of an event for client c: all its lines of that event, printed
 abbrev pub batch : State → Event → ℕ → List ℕ

@@ -1,22 +1,25 @@
 //! Laws of the plain lobby. Each function takes nothing and does nothing: its contract is the law.
 
-ghost use Rattle.std.specs.Prelude.{◌≡◌, ◌≤◌, ◌<◌, ◌⊎◌, ℕ, List, [], ◌∷◌, ◌++◌, Some, None, IsSome, true, false};
+ghost use Rattle.std.specs.Prelude.{◌≡◌, ◌≤◌, ◌<◌, ◌⊎◌, ℕ, List, [], ◌∷◌, ◌++◌, Option, Some, None, IsSome, true, false};
 ghost use Rattle.std.specs.Option.{unwrap_or};
 ghost use Rattle.account_book.specs.Account.{Account};
+ghost use Rattle.command_grammar.specs.declared.command.Command.{Command};
 ghost use Rattle.command_grammar.specs.declared.command.Request.{Request};
 ghost use Rattle.reply_grammar.specs.declared.Reply.{Reply};
 ghost use Rattle.lobby_model.specs.declared.event.Event.{Event};
 ghost use Rattle.lobby_model.specs.declared.event.Event.TheVariants.{Say};
 ghost use Rattle.lobby_model.specs.declared.schedule.Step.{Step};
-ghost use Rattle.lobby_model.specs.Table.{at_number};
+ghost use Rattle.line_words.specs.Table.{at_number};
 ghost use Rattle.lobby_model.specs.Configuration.{Configuration};
-ghost use Rattle.lobby_model.specs.State.{State, Client, empty_lobby};
-ghost use Rattle.lobby_model.specs.Refusal.{refusal};
-ghost use Rattle.lobby_model.specs.Effect.{effect};
+ghost use Rattle.lobby_model.specs.State.{State, Client, empty_lobby, name_of};
+ghost use Rattle.lobby_model.specs.Outcome.{state_after};
+ghost use Rattle.lobby_model.specs.Commands.{answer};
+ghost use Rattle.lobby_model.specs.Events.{effect, refusal};
 ghost use Rattle.lobby_model.specs.Next.{next, put_by, taken_by};
 ghost use Rattle.lobby_model.specs.History.{after, put_in, taken_in};
 ghost use Rattle.lobby_model.specs.Schedule.{World, Gives};
 ghost use Rattle.lobby_model.specs.Laws.{IsVoid, OneForEach, number_given, without_bytes};
+ghost use Rattle.lobby_model.specs.Sound.{Sound};
 
 /// No byte is lost or made: for a client that is neither cut nor removed, what its drains took,
 /// followed by what it has not read, is all that was put to it.
@@ -41,10 +44,29 @@ pub fn refused_command_changes_no_map()
     ensures rest { (s : State) (c : ℕ) (request : Request) (reply : Reply)
         → refusal s c request.command ≡ Some reply
         → ((next s (Say c request)).settings ≡ s.settings) × ((next s (Say c request)).accounts ≡ s.accounts)
-        × ((next s (Say c request)).users ≡ s.users) × ((next s (Say c request)).last_client ≡ s.last_client) }
+        × ((next s (Say c request)).users ≡ s.users) × ((next s (Say c request)).channels ≡ s.channels)
+        × ((next s (Say c request)).battles ≡ s.battles) × ((next s (Say c request)).last_client ≡ s.last_client)
+        × ((next s (Say c request)).last_battle ≡ s.last_battle) }
     ensures clients { (s : State) (c : ℕ) (request : Request) (reply : Reply)
         → refusal s c request.command ≡ Some reply
         → without_bytes (next s (Say c request)).clients ≡ without_bytes s.clients }
+{}
+
+/// The lobby is sound after any history: its maps stand in the order of their keys, and no client
+/// and no battle has a number above the last that was given. Clients and users agree. Who is in a
+/// channel is a user, once, and a channel is there only while it has members. Who is in a battle is
+/// a user, once, and in no other battle; the founder is the first member. Names of bots and keys of
+/// tags stand once, and a bot's owner is a member.
+///
+/// Each event keeps a sound lobby sound, before its lines are put and after, and so does each
+/// command of a client that is there, whether the command is served yet or not.
+pub fn lobby_stays_sound()
+    ensures always { (settings : Configuration) (accounts : List Account) (history : List Event)
+        → Sound (after (empty_lobby settings accounts) history) }
+    ensures effect { (s : State) (e : Event) → Sound s → Sound (effect s e) }
+    ensures next { (s : State) (e : Event) → Sound s → Sound (next s e) }
+    ensures answer { (s : State) (c : ℕ) (me : Option (List ℕ)) (command : Command)
+        → Sound s → IsSome (at_number s.clients c) → name_of s c ≡ me → Sound (state_after s (answer s c me command)) }
 {}
 
 /// After any history no two clients bear one name, each client that is logged in has its user, and

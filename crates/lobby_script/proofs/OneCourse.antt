@@ -5,7 +5,7 @@ use Rattle.std.proofs.lemmas.Bool.{false≢true}
 use Rattle.lobby_model.specs.declared.event.Event.{Event}
 use Rattle.lobby_model.specs.declared.schedule.Step.{Step}
 use Rattle.lobby_model.specs.declared.schedule.Step.TheVariants as step
-use Rattle.lobby_model.specs.Table.{at_number}
+use Rattle.line_words.specs.Table.{at_number}
 use Rattle.lobby_model.specs.Schedule.{World, StepGives}
 use Rattle.lobby_model.proofs.Scheduled.{schedule_same}
 use Rattle.lobby_hall.specs.Standing.{is_ready}

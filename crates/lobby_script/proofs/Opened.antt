@@ -1,5 +1,6 @@
 -- The number that an open gives.
 use Rattle.std.proofs.Common.{◌≡◌, ℕ, ◌+◌, Bool, true, false, not, cond, nat_eq, List, [], ◌∷◌, Some, None, refl, ap, ◌∙◌, arith, eq-eqb}
+use Rattle.std.specs.Prelude.{if◌then◌else◌}
 use Rattle.std.specs.Bool.{then_some}
 use Rattle.std.proofs.lemmas.Bool.{eqb-true}
 use Rattle.account_book.specs.Account.{Account}
@@ -7,19 +8,16 @@ use Rattle.lobby_model.specs.declared.event.Event.{Event}
 use Rattle.lobby_model.specs.declared.event.Event.TheVariants as event
 use Rattle.lobby_model.specs.declared.schedule.Step.TheVariants as step
 use Rattle.lobby_model.specs.State.{State}
-use Rattle.lobby_model.specs.Effect.{has_place, opened}
-use Rattle.lobby_model.specs.Next.{next}
+use Rattle.lobby_model.specs.Sessions.{has_place}
 use Rattle.lobby_model.specs.History.{after}
 use Rattle.lobby_model.specs.Schedule.{World}
 use Rattle.lobby_model.specs.Configuration.{Configuration}
+use Rattle.lobby_model.proofs.Origins.{last_given}
 use Rattle.lobby_hall.specs.Standing.{Kept, Stands, StandsAfter}
 use Rattle.lobby_script.specs.Acts.{given}
 
-next_number : (s : State) (ip : List ℕ) (home : ℕ) → has_place s ≡ true → (next s (event.Open ip home)).last_client ≡ s.last_client + 1
-next_number s ip home e = ap (λ b. (cond b (opened s ip home) s).last_client) e
-
 number_after : (s : State) (ip : List ℕ) (b : Bool) → has_place s ≡ b → (after s (cond b (event.Open ip 0 ∷ []) [])).last_client ≡ cond b (s.last_client + 1) s.last_client
-number_after s ip true e = next_number s ip 0 e
+number_after s ip true e = last_given s (event.Open ip 0) (s.last_client + 1) (ap (λ b. if b then Some (s.last_client + 1) else None) e)
 number_after s ip false e = refl
 
 not_equal : (a b : ℕ) (p : Bool) → nat_eq a b ≡ p → a ≡ b + 1 → p ≡ false

@@ -10,9 +10,9 @@ use Rattle.std.specs.BTreeMap.{is_at, insert_entry}
 use Rattle.std.specs.Map.{lookup}
 use Rattle.lobby_model.specs.declared.event.Event.{Event}
 use Rattle.lobby_model.specs.declared.schedule.Step.TheVariants as step
-use Rattle.lobby_model.specs.Table.{ByNumber, at_number, put_number}
+use Rattle.line_words.specs.Table.{ByNumber, at_number, put_number}
 use Rattle.lobby_model.specs.Schedule.{World, StepGives, new_world}
-use Rattle.lobby_model.proofs.Tables.{lookup_is_find, insert_is_put}
+use Rattle.line_words.proofs.Tables.{lookup_is_find, insert_is_put}
 use Rattle.lobby_hall.specs.Standing.{Kept, Stands}
 use Rattle.lobby_hall.specs.Record.{log_at}
 use Rattle.lobby_script.specs.declared.action.Action.TheVariants as action

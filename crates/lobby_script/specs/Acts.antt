@@ -3,9 +3,9 @@ use Rattle.std.specs.Prelude.{◌≡◌, ℕ, ◌+◌, zero, suc, true, false, i
 use Rattle.line_framer.specs.Frames.{lines_in}
 use Rattle.lobby_model.specs.declared.event.Event.{Event}
 use Rattle.lobby_model.specs.declared.schedule.Step.TheVariants as step
-use Rattle.lobby_model.specs.Table.{at_number, put_number}
+use Rattle.line_words.specs.Table.{at_number, put_number}
 use Rattle.lobby_model.specs.State.{empty_lobby}
-use Rattle.lobby_model.specs.Effect.{has_place}
+use Rattle.lobby_model.specs.Sessions.{has_place}
 use Rattle.lobby_model.specs.History.{put_in}
 use Rattle.lobby_model.specs.Schedule.{World, StepGives}
 use Rattle.lobby_hall.specs.Standing.{is_ready}

@@ -1,7 +1,7 @@
 -- What a script has come to.
 use Rattle.std.specs.Prelude.{Bool, true, false, not, ◌&&◌, List, [], ◌∷◌, is_some}
 use Rattle.lobby_model.specs.declared.event.Event.{Event}
-use Rattle.lobby_model.specs.Table.{ByNumber, at_number}
+use Rattle.line_words.specs.Table.{ByNumber, at_number}
 use Rattle.lobby_model.specs.Schedule.{World, new_world}
 use Rattle.lobby_script.specs.declared.action.Action.{Action}
 use Rattle.lobby_script.specs.declared.action.Action.TheVariants as action

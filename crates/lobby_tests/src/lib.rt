@@ -10,3 +10,5 @@ mod machine;
 mod scripts;
 #[cfg(test)]
 mod settings;
+#[cfg(test)]
+mod talk;

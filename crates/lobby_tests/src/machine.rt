@@ -12,7 +12,7 @@ use std::alloc::{AllocError, Global};
 use std::process::Abort;
 use std::test::Fail;
 
-const WORD: &[u8] = b"X03MO1qnZdYdgyfeuILPmQ==";
+pub const WORD: &[u8] = b"X03MO1qnZdYdgyfeuILPmQ==";
 
 // Name, number, rank and country of each account; all have one password.
 const ACCOUNTS: [(&[u8], u32, u8, &[u8]); 3] = [
@@ -22,7 +22,7 @@ const ACCOUNTS: [(&[u8], u32, u8, &[u8]); 3] = [
 ];
 
 // Settings with a message of the day.
-fn new_settings(alloc: Global) -> Result<Settings, Fail> {
+pub fn new_settings(alloc: Global) -> Result<Settings, Fail> {
     let motd = [TextBuf::copy_of(alloc, b"Welcome")?];
     settings(alloc, &motd).map_err(Fail::from)
 }
@@ -44,7 +44,7 @@ fn new_lobby(alloc: Global) -> Result<Lobby, Fail> {
     }
 }
 
-fn say(lobby: &mut Lobby, alloc: Global, client: u64, line: &[u8]) -> Result<Wakes, Fail> {
+pub fn say(lobby: &mut Lobby, alloc: Global, client: u64, line: &[u8]) -> Result<Wakes, Fail> {
     match read_request(alloc, line) {
         Ok(request) => {
             let said = lobby.say(client, &request);
@@ -56,7 +56,13 @@ fn say(lobby: &mut Lobby, alloc: Global, client: u64, line: &[u8]) -> Result<Wak
 }
 
 // Whether a drain into a slice gives these bytes and no more, and says so of whether anything will come again.
-fn drains(lobby: &mut Lobby, client: u64, into: &mut [u8], want: &[u8], finished: bool) -> bool {
+pub fn drains(
+    lobby: &mut Lobby,
+    client: u64,
+    into: &mut [u8],
+    want: &[u8],
+    finished: bool,
+) -> bool {
     let count = want.len();
     lobby.drain(client, into) == Drained { count, finished } && into.starts_with(want)
 }
@@ -248,9 +254,9 @@ fn serve(lobby: &mut Lobby, alloc: Global, client: u64, line: &[u8]) -> Result<(
     }
 }
 
-fn serve_all(lobby: &mut Lobby, alloc: Global) -> Result<(), Fail> {
-    for (client, line) in EVENTS {
-        serve(lobby, alloc, client, line)?;
+fn serve_all(lobby: &mut Lobby, alloc: Global, events: &[(u64, &[u8])]) -> Result<(), Fail> {
+    for (client, line) in events {
+        serve(lobby, alloc, *client, *line)?;
     }
     Ok(())
 }
@@ -271,11 +277,47 @@ fn see_cleo(rt: &impl Abort, lobby: &mut Lobby) {
     );
 }
 
+// Two channels, of which Cleo is in one, and what is said there.
+const TALK: [(u64, &[u8]); 6] = [
+    (1, b"JOIN main"),
+    (1, b"JOIN big"),
+    (2, b"JOIN main"),
+    (2, b"JOIN big"),
+    (3, b"JOIN main"),
+    (2, b"#7 SAY main hello"),
+];
+
+fn hear_bert(rt: &impl Abort, lobby: &mut Lobby) {
+    let mut into = [0; 64];
+    assert!(rt; drains(lobby, 1, &mut into, b"SAID main Bert hello\n", false));
+    assert!(rt; drains(lobby, 2, &mut into, b"#7 SAID main Bert hello\n", false));
+    assert!(rt; drains(lobby, 3, &mut into, b"SAID main Bert hello\n", false));
+}
+
+fn see_anna_leave(rt: &impl Abort, lobby: &mut Lobby) {
+    let mut into = [0; 64];
+    let told = b"LEFT big Anna\nLEFT main Anna\nREMOVEUSER Anna\n";
+    assert!(rt; drains(lobby, 2, &mut into, told, false));
+    assert!(rt;
+        drains(
+            lobby,
+            3,
+            &mut into,
+            b"LEFT main Anna\nREMOVEUSER Anna\n",
+            false
+        )
+    );
+}
+
 #[test]
 fn an_event_that_memory_refused_leaves_no_trace(rt: HostRuntime) -> Result<(), Fail> {
     let mut lobby = lobby_of_three(rt.alloc())?;
-    serve_all(&mut lobby, rt.alloc())?;
+    serve_all(&mut lobby, rt.alloc(), &EVENTS)?;
     see_cleo(&rt, &mut lobby);
+    serve_all(&mut lobby, rt.alloc(), &TALK)?;
+    hear_bert(&rt, &mut lobby);
+    serve_all(&mut lobby, rt.alloc(), &[(1, b"EXIT")])?;
+    see_anna_leave(&rt, &mut lobby);
     Ok(())
 }
 

@@ -12,9 +12,7 @@ mod printing;
 pub use command_word::CommandWord;
 pub use laws::no_break_inside;
 use line_words::{NameBuf, NameList, PairList, SentenceBuf, TextBuf, WordBuf, WordList};
-pub use printing::{
-    print, print_accepted, print_add_user, print_client_status, print_motd, print_remove_user,
-};
+pub use printing::{LentReply, print, print_id, print_lent};
 
 /// A line to a client, its fields the arguments in their order.
 ///

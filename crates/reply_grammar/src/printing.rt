@@ -5,16 +5,15 @@ ghost use Rattle.reply_grammar.specs.Replies.{printed_line};
 
 mod battles;
 mod channels;
+mod lent;
 mod pieces;
 mod room;
 mod session;
 mod shapes;
 
 use crate::Reply;
+pub use lent::{LentReply, print_id, print_lent};
 use pieces::whole;
-pub use session::{
-    print_accepted, print_add_user, print_client_status, print_motd, print_remove_user,
-};
 use std::alloc::AllocError;
 
 /// Appends the line of a reply with its LF, behind `#id ` where there is an id. Where memory is

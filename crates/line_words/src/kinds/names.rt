@@ -50,45 +50,60 @@ impl<'a> Name<'a> {
     }
 }
 
+/// The most bytes that a name has.
+const LIMIT: usize = 20;
+
 /// Owned bytes that are a name: 1 to 20 ASCII letters, digits, `_`, `[` and `]`. Names are ordered
 /// by their bytes.
+///
+/// They lie in the value itself: a name takes no memory beside it.
 #[derive(Debug, Drop)]
 pub struct NameBuf {
-    bytes: Vec<u8>,
+    held: [u8; LIMIT],
+    count: u8,
 }
 
 impl Model for NameBuf {
-    ghost use Rattle.std.specs.Prelude.{List, ℕ, IsTrue};
+    ghost use Rattle.std.specs.Prelude.{List, ℕ, IsTrue, ◌≤◌, take};
     ghost use Rattle.line_words.specs.Bytes.{is_name};
 
     ghost Value = { List ℕ };
 
-    ghost view = { λ x. x.bytes.items };
+    ghost view = { λ x. take x.count x.held };
 
-    ghost invariant = { λ x. IsTrue (is_name x.bytes.items) };
+    ghost invariant = { λ x. (x.count ≤ 20) × IsTrue (is_name (take x.count x.held)) };
 }
 
 impl NameBuf {
     /// These bytes, or None where they break the rule.
-    pub fn of(bytes: Vec<u8>) -> Option<NameBuf>
-        ensures value { IfSome result (λ x. x ≡ bytes.items) }
-        ensures when { IsSome result ↔ IsTrue (is_name bytes.items) }
+    pub fn of(bytes: &[u8]) -> Option<NameBuf>
+        ensures value { IfSome result (λ x. x ≡ bytes.now) }
+        ensures when { IsSome result ↔ IsTrue (is_name bytes.now) }
     {
-        if is_name(&bytes) {
-            Some(NameBuf { bytes })
+        if is_name(bytes) {
+            Some(made_of(bytes))
         } else {
             None
         }
     }
 
-    /// A copy of bytes that keep the rule. Fails only where memory is refused.
-    pub fn copy_of(alloc: Global, bytes: &[u8]) -> Result<NameBuf, AllocError>
+    /// A copy of bytes that keep the rule. It takes no memory: the answer that there is none is for
+    /// the readers of lines, which copy each kind by a call of this form.
+    pub fn copy_of(_alloc: Global, bytes: &[u8]) -> Result<NameBuf, AllocError>
         requires { IsTrue (is_name bytes.now) }
         ensures { IfOk result (λ x. x ≡ bytes.now) }
     {
-        Ok(NameBuf {
-            bytes: Vec::from_slice(alloc, bytes)?,
-        })
+        Ok(made_of(bytes))
+    }
+
+    /// The same name once more.
+    pub fn copy(&self) -> NameBuf
+        ensures { result ≡ self.now }
+    {
+        NameBuf {
+            held: self.held,
+            count: self.count,
+        }
     }
 
     /// The bytes.
@@ -96,15 +111,21 @@ impl NameBuf {
         ensures value { result.now ≡ self.now }
         ensures kind { IsTrue (is_name self.now) }
     {
-        self.bytes.as_slice()
+        &self.held[..self.count as usize]
     }
+}
 
-    /// The bytes in the memory that they are in.
-    pub fn into_vec(self) -> Vec<u8>
-        ensures value { result.items ≡ self }
-        ensures kind { IsTrue (is_name self) }
-    {
-        self.bytes // moved, not copied
+/// A name of bytes that keep the rule.
+fn made_of(bytes: &[u8]) -> NameBuf
+    requires { IsTrue (is_name bytes.now) }
+    ensures { result ≡ bytes.now }
+{
+    let count = bytes.len();
+    let mut held = [0; LIMIT];
+    held[..count].copy_from_slice(bytes);
+    NameBuf {
+        held,
+        count: count as u8,
     }
 }
 
@@ -114,7 +135,7 @@ impl PartialEq for NameBuf {
     ghost laws = { partial_equiv_from_equiv nat_list_eq_equiv };
 
     fn eq(&self, other: &Self) -> bool {
-        self.bytes == other.bytes
+        self.as_slice() == other.as_slice()
     }
 }
 
@@ -142,6 +163,6 @@ impl Ord for NameBuf {
     ghost matches_eq = { texts_ties };
 
     fn cmp(&self, other: &Self) -> Ordering {
-        self.bytes.cmp(&other.bytes)
+        self.as_slice().cmp(other.as_slice())
     }
 }

@@ -27,7 +27,7 @@ pub(super) fn put_reply(out: &mut Vec<u8>, id: Option<u32>, reply: &Reply) -> Re
     match reply {
         Reply::OpenBattle { battle } => put_only_battle(out, id, CommandWord::OpenBattle, *battle),
         Reply::OpenBattleFailed { text } => {
-            put_only_text(out, id, CommandWord::OpenBattleFailed, text)
+            put_only_text(out, id, CommandWord::OpenBattleFailed, &text.as_text())
         }
         Reply::BattleOpened { .. } => put_battle_opened(out, id, reply),
         Reply::BattleClosed { battle } => {
@@ -35,7 +35,7 @@ pub(super) fn put_reply(out: &mut Vec<u8>, id: Option<u32>, reply: &Reply) -> Re
         }
         Reply::JoinBattle { battle, game_hash } => put_join_battle(out, id, *battle, game_hash),
         Reply::JoinBattleFailed { text } => {
-            put_only_text(out, id, CommandWord::JoinBattleFailed, text)
+            put_only_text(out, id, CommandWord::JoinBattleFailed, &text.as_text())
         }
         Reply::JoinedBattle {
             battle,

@@ -8,7 +8,7 @@ ghost use Rattle.reply_grammar.specs.Kinds.{words_text, pair_text, pairs_text, o
 ghost use Rattle.reply_grammar.specs.Replies.{id_text, word_of};
 
 use crate::command_word::CommandWord;
-use line_words::{NameBuf, Pair, SentenceBuf, TextBuf, WordBuf, write_number};
+use line_words::{NameBuf, Pair, SentenceBuf, Text, WordBuf, write_number};
 use std::alloc::AllocError;
 
 fn put_behind(out: &mut Vec<u8>, mark: u8, bytes: &[u8]) -> Result<(), AllocError>
@@ -104,7 +104,7 @@ pub(super) fn put_optional(out: &mut Vec<u8>, word: &Option<WordBuf>) -> Result<
     }
 }
 
-fn put_id(out: &mut Vec<u8>, id: Option<u32>) -> Result<(), AllocError>
+pub(super) fn put_id(out: &mut Vec<u8>, id: Option<u32>) -> Result<(), AllocError>
     ensures ok { IfOk result (λ _. out.new.items ≡ out.old.items ++ id_text id) }
     ensures kept { take (length out.old.items) out.new.items ≡ out.old.items }
 {
@@ -141,7 +141,7 @@ pub(super) fn put_name(out: &mut Vec<u8>, name: &NameBuf) -> Result<(), AllocErr
     put_behind(out, b' ', name.as_slice())
 }
 
-pub(super) fn put_text(out: &mut Vec<u8>, text: &TextBuf) -> Result<(), AllocError>
+pub(super) fn put_text(out: &mut Vec<u8>, text: &Text) -> Result<(), AllocError>
     ensures ok { IfOk result (λ _. out.new.items ≡ out.old.items ++ (32 ∷ text.now)) }
     ensures kept { take (length out.old.items) out.new.items ≡ out.old.items }
 {

@@ -29,10 +29,10 @@ pub(super) fn put_reply(out: &mut Vec<u8>, id: Option<u32>, reply: &Reply) -> Re
             team_color,
         } => put_client_battle_status(out, id, user, *battle_status, team_color),
         Reply::SaidBattle { user, text } => {
-            put_name_and_text(out, id, CommandWord::SaidBattle, user, text)
+            put_name_and_text(out, id, CommandWord::SaidBattle, user, &text.as_text())
         }
         Reply::SaidBattleEx { user, text } => {
-            put_name_and_text(out, id, CommandWord::SaidBattleEx, user, text)
+            put_name_and_text(out, id, CommandWord::SaidBattleEx, user, &text.as_text())
         }
         Reply::AddBot {
             battle,

@@ -1,78 +1,17 @@
 //! Printing the replies on the greeting, logins and users.
 #![tactic(auto, using(crate::proofs::Kept::kept_then, crate::proofs::Kept::kept_more))]
 
-ghost use Rattle.std.specs.Prelude.{◌≡◌, ◌++◌, IfOk, is_ok, if◌then◌else◌, length, take};
+ghost use Rattle.std.specs.Prelude.{◌≡◌, ◌++◌, IfOk, length, take};
 ghost use Rattle.reply_grammar.specs.declared.Reply.TheVariants as reply;
 ghost use Rattle.reply_grammar.specs.Groups.{Session, group_of};
 ghost use Rattle.reply_grammar.specs.Replies.{command_of, printed_line};
 
-use super::pieces::{put_command, put_end, put_name, put_number, put_wide, put_word, whole};
+use super::pieces::{put_command, put_end, put_name, put_number, put_wide, put_word};
 use super::shapes::{put_bare, put_name_and_number, put_only_name, put_only_text};
 use crate::Reply;
 use crate::command_word::CommandWord;
-use line_words::{NameBuf, TextBuf, WordBuf};
+use line_words::{NameBuf, WordBuf};
 use std::alloc::AllocError;
-
-/// Appends `ACCEPTED` as `print` does, its field lent: the caller needs no reply of its own.
-pub fn print_accepted(user: &NameBuf, id: Option<u32>, out: &mut Vec<u8>) -> Result<(), AllocError>
-    ensures { out.new.items ≡ (if is_ok result then out.old.items ++ printed_line id (reply.Accepted user.now) else out.old.items) }
-{
-    let start = out.len();
-    let done = put_only_name(out, id, CommandWord::Accepted, user);
-    whole(out, start, done)
-}
-
-/// Appends `MOTD` as `print` does, its field lent.
-pub fn print_motd(text: &TextBuf, id: Option<u32>, out: &mut Vec<u8>) -> Result<(), AllocError>
-    ensures { out.new.items ≡ (if is_ok result then out.old.items ++ printed_line id (reply.Motd text.now) else out.old.items) }
-{
-    let start = out.len();
-    let done = put_only_text(out, id, CommandWord::Motd, text);
-    whole(out, start, done)
-}
-
-/// Appends `ADDUSER` as `print` does, its fields lent. `cpu` is -2147483648 to 4294967295.
-pub fn print_add_user(
-    user: &NameBuf,
-    country: &WordBuf,
-    cpu: i64,
-    account: u32,
-    id: Option<u32>,
-    out: &mut Vec<u8>,
-) -> Result<(), AllocError>
-    ensures { out.new.items ≡ (if is_ok result then out.old.items ++ printed_line id (reply.AddUser user.now country.now cpu account) else out.old.items) }
-{
-    let start = out.len();
-    let done = put_add_user(out, id, user, country, &cpu, account);
-    whole(out, start, done)
-}
-
-/// Appends `REMOVEUSER` as `print` does, its field lent.
-pub fn print_remove_user(
-    user: &NameBuf,
-    id: Option<u32>,
-    out: &mut Vec<u8>,
-) -> Result<(), AllocError>
-    ensures { out.new.items ≡ (if is_ok result then out.old.items ++ printed_line id (reply.RemoveUser user.now) else out.old.items) }
-{
-    let start = out.len();
-    let done = put_only_name(out, id, CommandWord::RemoveUser, user);
-    whole(out, start, done)
-}
-
-/// Appends `CLIENTSTATUS` as `print` does, its fields lent.
-pub fn print_client_status(
-    user: &NameBuf,
-    status: u32,
-    id: Option<u32>,
-    out: &mut Vec<u8>,
-) -> Result<(), AllocError>
-    ensures { out.new.items ≡ (if is_ok result then out.old.items ++ printed_line id (reply.ClientStatus user.now status) else out.old.items) }
-{
-    let start = out.len();
-    let done = put_name_and_number(out, id, CommandWord::ClientStatus, user, status);
-    whole(out, start, done)
-}
 
 // The reply is one of the group.
 pub(super) fn put_reply(out: &mut Vec<u8>, id: Option<u32>, reply: &Reply) -> Result<(), AllocError>
@@ -97,9 +36,14 @@ pub(super) fn put_reply(out: &mut Vec<u8>, id: Option<u32>, reply: &Reply) -> Re
             )
         }
         Reply::Accepted { user } => put_only_name(out, id, CommandWord::Accepted, user),
-        Reply::Denied { text } => put_only_text(out, id, CommandWord::Denied, text),
-        Reply::Motd { text } => put_only_text(out, id, CommandWord::Motd, text),
-        Reply::ServerMsg { text } => put_only_text(out, id, CommandWord::ServerMsg, text),
+        Reply::Denied { text } => put_only_text(out, id, CommandWord::Denied, &text.as_text()),
+        Reply::Motd { text } => put_only_text(out, id, CommandWord::Motd, &text.as_text()),
+        Reply::ServerMsg { text } => put_only_text(
+            out,
+            id,
+            CommandWord::ServerMsg,
+            &text.as_text(),
+        ),
         Reply::AddUser {
             user,
             country,
@@ -136,7 +80,7 @@ fn put_tas_server(
     Ok(())
 }
 
-fn put_add_user(
+pub(super) fn put_add_user(
     out: &mut Vec<u8>,
     id: Option<u32>,
     user: &NameBuf,

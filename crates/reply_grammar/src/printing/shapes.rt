@@ -3,12 +3,12 @@
 #![tactic(auto, using(crate::proofs::Kept::kept_then, crate::proofs::Kept::kept_more))]
 
 ghost use Rattle.std.specs.Prelude.{◌≡◌, [], ◌∷◌, ◌++◌, IfOk, length, take};
-ghost use Rattle.reply_grammar.specs.Kinds.{Name, Text};
+ghost use Rattle.reply_grammar.specs.Kinds as kind;
 ghost use Rattle.reply_grammar.specs.Replies.{battle_number, line_with, status_word};
 
 use super::pieces::{put_command, put_end, put_name, put_number, put_text};
 use crate::command_word::CommandWord;
-use line_words::{NameBuf, TextBuf};
+use line_words::{NameBuf, Text};
 use std::alloc::AllocError;
 
 #[inline(always)]
@@ -46,7 +46,7 @@ pub(super) fn put_only_name(
     command: CommandWord,
     name: &NameBuf,
 ) -> Result<(), AllocError>
-    ensures ok { IfOk result (λ _. out.new.items ≡ out.old.items ++ line_with id command (Name ∷ []) (name.now, tt)) }
+    ensures ok { IfOk result (λ _. out.new.items ≡ out.old.items ++ line_with id command (kind.Name ∷ []) (name.now, tt)) }
     ensures kept { take (length out.old.items) out.new.items ≡ out.old.items }
 {
     put_command(out, id, command)?;
@@ -59,9 +59,9 @@ pub(super) fn put_only_text(
     out: &mut Vec<u8>,
     id: Option<u32>,
     command: CommandWord,
-    text: &TextBuf,
+    text: &Text,
 ) -> Result<(), AllocError>
-    ensures ok { IfOk result (λ _. out.new.items ≡ out.old.items ++ line_with id command (Text ∷ []) (text.now, tt)) }
+    ensures ok { IfOk result (λ _. out.new.items ≡ out.old.items ++ line_with id command (kind.Text ∷ []) (text.now, tt)) }
     ensures kept { take (length out.old.items) out.new.items ≡ out.old.items }
 {
     put_command(out, id, command)?;
@@ -77,7 +77,7 @@ pub(super) fn put_two_names(
     first: &NameBuf,
     second: &NameBuf,
 ) -> Result<(), AllocError>
-    ensures ok { IfOk result (λ _. out.new.items ≡ out.old.items ++ line_with id command (Name ∷ Name ∷ []) (first.now, (second.now, tt))) }
+    ensures ok { IfOk result (λ _. out.new.items ≡ out.old.items ++ line_with id command (kind.Name ∷ kind.Name ∷ []) (first.now, (second.now, tt))) }
     ensures kept { take (length out.old.items) out.new.items ≡ out.old.items }
 {
     put_command(out, id, command)?;
@@ -94,7 +94,7 @@ pub(super) fn put_name_and_number(
     name: &NameBuf,
     number: u32,
 ) -> Result<(), AllocError>
-    ensures ok { IfOk result (λ _. out.new.items ≡ out.old.items ++ line_with id command (Name ∷ status_word ∷ []) (name.now, (number, tt))) }
+    ensures ok { IfOk result (λ _. out.new.items ≡ out.old.items ++ line_with id command (kind.Name ∷ status_word ∷ []) (name.now, (number, tt))) }
     ensures kept { take (length out.old.items) out.new.items ≡ out.old.items }
 {
     put_command(out, id, command)?;
@@ -109,9 +109,9 @@ pub(super) fn put_name_and_text(
     id: Option<u32>,
     command: CommandWord,
     name: &NameBuf,
-    text: &TextBuf,
+    text: &Text,
 ) -> Result<(), AllocError>
-    ensures ok { IfOk result (λ _. out.new.items ≡ out.old.items ++ line_with id command (Name ∷ Text ∷ []) (name.now, (text.now, tt))) }
+    ensures ok { IfOk result (λ _. out.new.items ≡ out.old.items ++ line_with id command (kind.Name ∷ kind.Text ∷ []) (name.now, (text.now, tt))) }
     ensures kept { take (length out.old.items) out.new.items ≡ out.old.items }
 {
     put_command(out, id, command)?;
@@ -128,9 +128,9 @@ pub(super) fn put_two_names_and_text(
     command: CommandWord,
     first: &NameBuf,
     second: &NameBuf,
-    text: &TextBuf,
+    text: &Text,
 ) -> Result<(), AllocError>
-    ensures ok { IfOk result (λ _. out.new.items ≡ out.old.items ++ line_with id command (Name ∷ Name ∷ Text ∷ []) (first.now, (second.now, (text.now, tt)))) }
+    ensures ok { IfOk result (λ _. out.new.items ≡ out.old.items ++ line_with id command (kind.Name ∷ kind.Name ∷ kind.Text ∷ []) (first.now, (second.now, (text.now, tt)))) }
     ensures kept { take (length out.old.items) out.new.items ≡ out.old.items }
 {
     put_command(out, id, command)?;

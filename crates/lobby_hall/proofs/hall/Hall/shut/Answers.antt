@@ -1,6 +1,6 @@
 use Rattle.std.proofs.Common.{◌∙◌, ap, sym}
 use Rattle.std.specs.Prelude.{is_some}
-use Rattle.lobby_model.specs.Table.{at_number}
+use Rattle.line_words.specs.Table.{at_number}
 use Rattle.lobby_hall.specs.Standing.{Kept}
 use Rattle.lobby_hall.proofs.Answered.{shut_ok}
 use Rattle.lobby_hall.proofs.hall.Hall.shut.Goals as goal

@@ -1,23 +1,33 @@
-use Rattle.std.proofs.Common.{◌∙◌, ap, sym, subst, length}
-use Rattle.lobby_model.specs.Table.{ByNumber}
+use Rattle.std.proofs.Common.{◌∙◌, ap, sym, subst, length, []}
+use Rattle.line_words.specs.Table.{ByNumber}
 use Rattle.lobby_model.specs.State.{State, Client}
+use Rattle.lobby_model.specs.Sessions.{drained}
 use Rattle.lobby_model.proofs.Quiet.{next_drain}
-use Rattle.lobby_machine.specs.Mail.{plain}
+use Rattle.lobby_post.specs.Mail.{plain}
 use Rattle.lobby_machine.specs.Seats.{Agree, IsListed, Numbered, users_of}
-use Rattle.lobby_machine.proofs.Agreed.{agree_kept, listed_kept, name_drained, numbered_kept, there_drained}
+use Rattle.lobby_machine.specs.Shown.{lobby_of}
+use Rattle.lobby_machine.proofs.Agreed.{agree_kept, listed_kept, name_drained, numbered_changed}
 use Rattle.lobby_machine.proofs.maps.Maps.drain.Goals as goal
 
 pub invariant_of-self : goal.invariant_of-self
 invariant_of-self c =
-    let m : ByNumber Client = plain c.self.inside.clients.entries in (
+    let m : ByNumber Client = plain c.self.inside.clients.slots in (
       c.self.invariant.0,
-      c.drain.ensures.limits _ c.self.invariant.1,
-      subst (λ (n : ByNumber Client). Agree n c.self.inside.seats.users.entries) (sym c.drain.ensures.clients) (agree_kept m _ c.self.inside.seats.users.entries (name_drained m c.args.client (length c.args.into.now)) c.self.invariant.2),
-      subst (λ (n : ByNumber Client). Numbered c.self.inside.last_client n) (sym c.drain.ensures.clients) (numbered_kept c.self.inside.last_client m _ (λ q there. sym (there_drained m c.args.client (length c.args.into.now) q) ∙ there) c.self.invariant.3),
-      subst (λ (n : ByNumber Client). IsListed c.self.inside.seats.clients.keys n) (sym c.drain.ensures.clients) (listed_kept c.self.inside.seats.clients.keys m _ (name_drained m c.args.client (length c.args.into.now)) c.self.invariant.4),
+      record {
+        limited = c.drain.ensures.limit ∙ c.self.invariant.1.limited;
+        rest = c.drain.ensures.due [] c.self.invariant.1.rest;
+        agree = subst (λ (n : ByNumber Client). Agree n c.self.inside.seats.users.entries) (sym c.drain.ensures.clients)
+            (agree_kept m _ c.self.inside.seats.users.entries (name_drained m c.args.client (length c.args.into.now)) c.self.invariant.1.agree);
+        listed = subst (λ (n : ByNumber Client). IsListed c.self.inside.seats.clients.keys n) (sym c.drain.ensures.clients)
+            (listed_kept m _ c.self.inside.seats.clients.keys (name_drained m c.args.client (length c.args.into.now)) c.self.invariant.1.listed);
+        numbered = subst (λ (n : ByNumber Client). Numbered c.self.inside.last_client n) (sym c.drain.ensures.clients)
+            (numbered_changed c.self.inside.last_client m c.args.client (drained (length c.args.into.now)) c.self.invariant.1.numbered);
+      },
     )
 
 pub returns-clause-next : goal.returns-clause-next
 returns-clause-next c =
-    let before : State = record { settings = c.self.inside.settings; accounts = c.self.inside.accounts; clients = plain c.self.inside.clients.entries; users = users_of c.self.inside.seats.users.entries; last_client = c.self.inside.last_client } in
-    rw (← c.self.view_is) (ap (λ (m : ByNumber Client). record before { clients = m }) c.drain.ensures.clients ∙ sym (next_drain before c.args.client (length c.args.into.now)))
+    let before : State = lobby_of c.self.inside.settings c.self.inside.accounts (plain c.self.inside.clients.slots)
+    (users_of c.self.inside.seats.users.entries) c.self.inside.channels c.self.inside.last_client in
+    rw (← c.self.view_is) (ap (λ (m : ByNumber Client). record before { clients = m }) c.drain.ensures.clients
+    ∙ sym (next_drain before c.args.client (length c.args.into.now)))

@@ -1,14 +1,19 @@
-use Rattle.std.proofs.Common.{◌∙◌, ap, sym}
-use Rattle.lobby_model.specs.Table.{name_cmp}
-use Rattle.lobby_model.proofs.Tables.{name_cmp_total, lookup_is_find}
-use Rattle.lobby_model.proofs.Written.{set_is_put}
-use Rattle.lobby_machine.specs.declared.seats.Seat.{Seat}
-use Rattle.lobby_machine.specs.Seats.{seat_status_of}
+use Rattle.std.proofs.Common.{◌∙◌, sym}
+use Rattle.line_words.specs.Table.{name_cmp}
+use Rattle.line_words.proofs.Tables.{name_cmp_total}
+use Rattle.lobby_machine.specs.Seats.{seat_with}
+use Rattle.line_words.proofs.Ties.{none_of}
+use Rattle.line_words.proofs.Written.{set_is_change, none_is_change}
 use Rattle.lobby_machine.proofs.seats.Seats.set_status.Goals as goal
 
 pub returns-in-Some-clause-users : goal.returns-in-Some-clause-users
 returns-in-Some-clause-users c =
-    let seat : Seat = record c.in-Some.seat.now { status = c.args.status } in
-    let h = c.get_mut.follows.holds seat in
-    h.0 ∙ set_is_put name_cmp name_cmp_total c.args.name.now c.in-Some.seat.now seat c.args.self.now.users.entries c.get_mut.ensures.ordered (sym c.in-Some.ensures.value)
-    ∙ ap (seat_status_of c.args.self.now.users.entries c.args.name.now c.args.status) (c.in-Some.ensures.value ∙ lookup_is_find name_cmp c.args.name.now c.args.self.now.users.entries)
+    (c.get_mut.follows.holds (seat_with c.args.status c.in-Some.seat.now)).0
+    ∙ set_is_change name_cmp name_cmp_total (seat_with c.args.status) c.args.name.now c.in-Some.seat.now c.args.self.now.users.entries
+    c.get_mut.ensures.ordered (sym c.in-Some.ensures.value)
+
+pub returns-in_default-clause-users : goal.returns-in_default-clause-users
+returns-in_default-clause-users c =
+    (λ i. (c.get_mut.follows.holds-at-none i).entries)
+    ∙ none_is_change name_cmp name_cmp_total (seat_with c.args.status) c.args.name.now c.args.self.now.users.entries
+    (sym (none_of c.get_mut.result c.in_default.not-Some ∙ c.get_mut.ensures.value))

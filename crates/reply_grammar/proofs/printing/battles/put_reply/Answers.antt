@@ -4,7 +4,7 @@ pub returns-in-OpenBattle-clause-ok : goal.returns-in-OpenBattle-clause-ok
 returns-in-OpenBattle-clause-ok c = rw (c.in-OpenBattle.is) c.put_only_battle.ensures.ok
 
 pub returns-in-OpenBattleFailed-clause-ok : goal.returns-in-OpenBattleFailed-clause-ok
-returns-in-OpenBattleFailed-clause-ok c = rw (c.in-OpenBattleFailed.is) c.put_only_text.ensures.ok
+returns-in-OpenBattleFailed-clause-ok c = rw (c.in-OpenBattleFailed.is, ← c.as_text.ensures) c.put_only_text.ensures.ok
 
 pub returns-in-BattleOpened-clause-ok : goal.returns-in-BattleOpened-clause-ok
 returns-in-BattleOpened-clause-ok c = c.put_battle_opened.ensures.ok
@@ -16,7 +16,7 @@ pub returns-in-JoinBattle-clause-ok : goal.returns-in-JoinBattle-clause-ok
 returns-in-JoinBattle-clause-ok c = rw (c.in-JoinBattle.is) c.put_join_battle.ensures.ok
 
 pub returns-in-JoinBattleFailed-clause-ok : goal.returns-in-JoinBattleFailed-clause-ok
-returns-in-JoinBattleFailed-clause-ok c = rw (c.in-JoinBattleFailed.is) c.put_only_text-in-JoinBattleFailed.ensures.ok
+returns-in-JoinBattleFailed-clause-ok c = rw (c.in-JoinBattleFailed.is, ← c.as_text-in-JoinBattleFailed.ensures) c.put_only_text-in-JoinBattleFailed.ensures.ok
 
 pub returns-in-JoinedBattle-clause-ok : goal.returns-in-JoinedBattle-clause-ok
 returns-in-JoinedBattle-clause-ok c = rw (c.in-JoinedBattle.is) c.put_joined_battle.ensures.ok

@@ -4,10 +4,10 @@ pub returns-in-ClientBattleStatus-clause-ok : goal.returns-in-ClientBattleStatus
 returns-in-ClientBattleStatus-clause-ok c = rw (c.in-ClientBattleStatus.is) c.put_client_battle_status.ensures.ok
 
 pub returns-in-SaidBattle-clause-ok : goal.returns-in-SaidBattle-clause-ok
-returns-in-SaidBattle-clause-ok c = rw (c.in-SaidBattle.is) c.put_name_and_text.ensures.ok
+returns-in-SaidBattle-clause-ok c = rw (c.in-SaidBattle.is, ← c.as_text.ensures) c.put_name_and_text.ensures.ok
 
 pub returns-in-SaidBattleEx-clause-ok : goal.returns-in-SaidBattleEx-clause-ok
-returns-in-SaidBattleEx-clause-ok c = rw (c.in-SaidBattleEx.is) c.put_name_and_text-in-SaidBattleEx.ensures.ok
+returns-in-SaidBattleEx-clause-ok c = rw (c.in-SaidBattleEx.is, ← c.as_text-in-SaidBattleEx.ensures) c.put_name_and_text-in-SaidBattleEx.ensures.ok
 
 pub returns-in-AddBot-clause-ok : goal.returns-in-AddBot-clause-ok
 returns-in-AddBot-clause-ok c = rw (c.in-AddBot.is) c.put_add_bot.ensures.ok

@@ -7,13 +7,13 @@ pub returns-in-Accepted-clause-ok : goal.returns-in-Accepted-clause-ok
 returns-in-Accepted-clause-ok c = rw (c.in-Accepted.is) c.put_only_name.ensures.ok
 
 pub returns-in-Denied-clause-ok : goal.returns-in-Denied-clause-ok
-returns-in-Denied-clause-ok c = rw (c.in-Denied.is) c.put_only_text.ensures.ok
+returns-in-Denied-clause-ok c = rw (c.in-Denied.is, ← c.as_text.ensures) c.put_only_text.ensures.ok
 
 pub returns-in-Motd-clause-ok : goal.returns-in-Motd-clause-ok
-returns-in-Motd-clause-ok c = rw (c.in-Motd.is) c.put_only_text-in-Motd.ensures.ok
+returns-in-Motd-clause-ok c = rw (c.in-Motd.is, ← c.as_text-in-Motd.ensures) c.put_only_text-in-Motd.ensures.ok
 
 pub returns-in-ServerMsg-clause-ok : goal.returns-in-ServerMsg-clause-ok
-returns-in-ServerMsg-clause-ok c = rw (c.in-ServerMsg.is) c.put_only_text-in-ServerMsg.ensures.ok
+returns-in-ServerMsg-clause-ok c = rw (c.in-ServerMsg.is, ← c.as_text-in-ServerMsg.ensures) c.put_only_text-in-ServerMsg.ensures.ok
 
 pub returns-in-AddUser-clause-ok : goal.returns-in-AddUser-clause-ok
 returns-in-AddUser-clause-ok c = rw (c.in-AddUser.is) c.put_add_user.ensures.ok

@@ -1,0 +1,194 @@
+//! The channels by their names.
+
+ghost use Rattle.std.specs.Prelude.{◌≡◌, ◌≢◌, ◌↔◌, ◌<◌, ◌^◌, ℕ, List, [], length, slice_get, option_copied, IsTrue, OnOk, OnErr, IfErr, Err, false};
+ghost use Rattle.std.specs.List.{IsDistinct};
+ghost use Rattle.std.specs.List.Sorted.{IsStrictlySortedBy};
+ghost use Rattle.std.specs.Map.{keys_of};
+ghost use Rattle.std.specs.Map.Iter.{ShowsInOrder, deref_pair};
+ghost use Rattle.line_words.specs.Table.{name_cmp, same_name, is_among};
+ghost use Rattle.channel_book.specs.Channels.{names_in, joined, left, all_left};
+ghost use Rattle.channel_book.specs.Book.{AreLively};
+
+use crate::error::ChannelError;
+use crate::members::{Members, is_among};
+use line_words::NameBuf;
+use std::alloc::{AllocError, Global};
+use std::collections::BTreeMap;
+use std::collections::btree_map::Iter;
+use std::marker::Model;
+
+/// The channels of a lobby by their names, and in each the names of its members in order of
+/// joining. A channel is there while somebody is in it.
+#[derive(Drop)]
+pub struct ChannelBook {
+    alloc: Global,
+    channels: BTreeMap<NameBuf, Members>,
+}
+
+impl Model for ChannelBook {
+    ghost use Rattle.channel_book.specs.Channels.{Channels};
+    ghost use Rattle.channel_book.specs.Book.{AreLively};
+
+    ghost Value = { Channels };
+
+    ghost view = { λ b. b.channels.entries };
+
+    ghost invariant = { λ b. AreLively b.channels.entries };
+}
+
+impl ChannelBook {
+    /// A book without channels. It takes no memory yet.
+    pub fn new(alloc: Global) -> ChannelBook
+        ensures { result ≡ [] }
+    {
+        ChannelBook {
+            alloc,
+            channels: BTreeMap::new(alloc),
+        }
+    }
+
+    /// A user joins a channel, behind those who are in it. The first who joins makes the channel.
+    ///
+    /// `AlreadyIn` where the user is in it, else `Memory` where there is none for one name more.
+    /// The names of a refused call are let go, and the book stays as it was.
+    pub fn join(&mut self, channel: NameBuf, user: NameBuf) -> Result<(), ChannelError>
+        ensures ok { OnOk result (self.new ≡ joined channel user self.old) }
+        ensures already { (result ≡ Err ChannelError.AlreadyIn) ↔ IsTrue (is_among user (names_in self.old channel)) }
+        ensures errors { IfErr result (λ e. e ≢ ChannelError.Memory → e ≡ ChannelError.AlreadyIn) }
+        ensures err { OnErr result (self.new ≡ self.old) }
+    {
+        if self.has_member(&channel, &user) {
+            return Err(ChannelError::AlreadyIn);
+        }
+        match self.add(channel, user) {
+            Ok(()) => Ok(()),
+            Err(AllocError) => Err(ChannelError::Memory),
+        }
+    }
+
+    /// A user who is not in a channel joins it. Where memory is refused, nothing changes.
+    fn add(&mut self, channel: NameBuf, user: NameBuf) -> Result<(), AllocError>
+        requires { is_among user (names_in self.old channel) ≡ false }
+        ensures ok { OnOk result (self.new ≡ joined channel user self.old) }
+        ensures err { OnErr result (self.new ≡ self.old) }
+    {
+        if let Some(members) = self.channels.get_mut(&channel) {
+            members.add(user)?;
+            return Ok(());
+        }
+        let members = Members::one(self.alloc, user)?;
+        self.channels.insert(channel, members)?;
+        Ok(())
+    }
+
+    /// A user leaves a channel, which goes with the last of its members.
+    ///
+    /// `NotIn` where the user is not in it: the book stays as it was.
+    pub fn leave(&mut self, channel: &NameBuf, user: &NameBuf) -> Result<(), ChannelError>
+        ensures ok { OnOk result (self.new ≡ left channel.now user.now self.old) }
+        ensures not_in { (result ≡ Err ChannelError.NotIn) ↔ (is_among user.now (names_in self.old channel.now) ≡ false) }
+        ensures errors { IfErr result (λ e. e ≡ ChannelError.NotIn) }
+        ensures err { OnErr result (self.new ≡ self.old) }
+    {
+        if !self.has_member(channel, user) {
+            return Err(ChannelError::NotIn);
+        }
+        self.remove_member(channel, user);
+        Ok(())
+    }
+
+    /// A user who may be in a channel is in it no more.
+    pub fn remove_member(&mut self, channel: &NameBuf, user: &NameBuf)
+        ensures { self.new ≡ left channel.now user.now self.old }
+    {
+        if let Some(members) = self.channels.get_mut(channel) {
+            if !members.remove(user) {
+                let _ = self.channels.remove(channel);
+            }
+        }
+    }
+
+    /// A user leaves every channel. Channels go with the last of their members.
+    pub fn leave_all(&mut self, user: &NameBuf)
+        ensures { self.new ≡ all_left user.now self.old }
+    {
+        self.channels.retain(|_, members| members.remove(user));
+    }
+
+    /// The members of a channel in order of joining; nobody, where there is none of that name.
+    pub fn names_in(&self, channel: &NameBuf) -> &[NameBuf]
+        ensures names { result.now ≡ names_in self.now channel.now }
+        ensures distinct { IsDistinct same_name result.now }
+    {
+        match self.channels.get(channel) {
+            Some(members) => members.as_slice(),
+            None => &[],
+        }
+    }
+
+    /// Whether a user is in a channel.
+    pub fn has_member(&self, channel: &NameBuf, user: &NameBuf) -> bool
+        ensures { result ≡ is_among user.now (names_in self.now channel.now) }
+    {
+        is_among(user, self.names_in(channel))
+    }
+
+    /// How many are in a channel.
+    pub fn member_count(&self, channel: &NameBuf) -> usize
+        ensures { result ≡ length (names_in self.now channel.now) }
+    {
+        self.names_in(channel).len()
+    }
+
+    /// The member who joined a channel with `k` of its members before.
+    pub fn member_at(&self, channel: &NameBuf, k: usize) -> Option<&NameBuf>
+        ensures { option_copied result ≡ slice_get (names_in self.now channel.now) k }
+    {
+        self.names_in(channel).get(k)
+    }
+
+    /// How many channels there are. Each has a member, and their names rise.
+    pub fn channel_count(&self) -> usize
+        ensures count { result ≡ length self.now }
+        ensures lively { AreLively self.now }
+        ensures ordered { IsStrictlySortedBy name_cmp (keys_of self.now) }
+    {
+        self.channels.len()
+    }
+
+    /// The name of the channel with `k` channels before it, in the order of the bytes of names.
+    pub fn channel_at(&self, k: usize) -> Option<&NameBuf>
+        ensures { option_copied result ≡ slice_get (keys_of self.now) k }
+    {
+        self.channels.keys().nth(k)
+    }
+
+    /// The channels and their members, in the order of the bytes of the channels' names.
+    pub fn iter(&self) -> Iter<'_, NameBuf, Members>
+        ensures rest { result ≡ self.now }
+        ensures runs { ShowsInOrder (deref_pair {K = List ℕ} {X = List (List ℕ)}) }
+        ensures ordered { IsStrictlySortedBy name_cmp (keys_of self.now) }
+        ensures fits { length self.now < 2 ^ 63 }
+    {
+        self.channels.iter()
+    }
+}
+
+impl<'a> IntoIterator for &'a ChannelBook {
+    ghost use Rattle.std.specs.Prelude.{◌≡◌, ◌^◌, ◌<◌, ℕ, List, length};
+    ghost use Rattle.std.specs.List.Sorted.{IsStrictlySortedBy};
+    ghost use Rattle.std.specs.Map.{keys_of};
+    ghost use Rattle.std.specs.Map.Iter.{ShowsInOrder, deref_pair};
+    ghost use Rattle.line_words.specs.Table.{name_cmp};
+
+    type Item = (&'a NameBuf, &'a Members);
+
+    type IntoIter = Iter<'a, NameBuf, Members>;
+
+    ghost into_iter_gives = { λ book r. (r ≡ book.now) × (length book.now < 2 ^ 63)
+        × ShowsInOrder (deref_pair {K = List ℕ} {X = List (List ℕ)}) × IsStrictlySortedBy name_cmp (keys_of book.now) };
+
+    fn into_iter(self) -> Iter<'a, NameBuf, Members> {
+        self.iter()
+    }
+}

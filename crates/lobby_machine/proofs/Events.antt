@@ -1,0 +1,40 @@
+-- From what a command comes to, to the event.
+use Rattle.std.proofs.Common.{◌≡◌, ℕ, sym, ap, ◌∙◌, true}
+use Rattle.std.specs.Prelude.{Result, Ok, Err, OnOk, IfOk, None, if◌then◌else◌}
+use Rattle.reply_grammar.specs.Replies.{print_all}
+use Rattle.command_grammar.specs.declared.command.Request.{Request}
+use Rattle.line_words.specs.Table.{same_number}
+use Rattle.lobby_model.specs.declared.event.Event.{Event}
+use Rattle.lobby_model.specs.declared.event.Event.TheVariants as event
+use Rattle.lobby_model.specs.State.{State, hears, name_of}
+use Rattle.lobby_model.specs.Outcome.{nothing, letters_of, lines_for, state_after}
+use Rattle.lobby_model.specs.Unserved.{answered}
+use Rattle.lobby_model.specs.Events.{effect, reader_of, under}
+use Rattle.lobby_model.specs.Next.{next}
+use Rattle.lobby_machine.specs.declared.change.Change.{Change}
+use Rattle.lobby_post.specs.Posted.{Posted, begun}
+use Rattle.lobby_post.specs.Mail.{IsWakes}
+use Rattle.lobby_machine.specs.Changes.{changed}
+use Rattle.lobby_machine.specs.Answers.{Obeyed, Matches}
+
+module _ (s : State) (c : ℕ) (request : Request) where
+  module _ (live : hears s c ≡ true) (post : Posted) (change : Change)
+      (obeyed : Obeyed s c (begun c request.id) post change (answered s c (name_of s c) request.command)) where
+    pub said_effect : effect s (event.Say c request) ≡ changed s c change
+    said_effect = ap (λ b. state_after s (if b then answered s c (name_of s c) request.command else nothing)) live ∙ obeyed.effect
+
+    pub said_matches : Matches s (event.Say c request) post
+    said_matches d =
+        obeyed.told.bytes d
+        ∙ ap (λ b. print_all (under (if same_number d c then request.id else None)
+        (lines_for (reader_of s c d) (letters_of (if b then answered s c (name_of s c) request.command else nothing))))) (sym live)
+
+-- what a delivery says of every event is said of the event at hand
+module _ {X : Type 0} (r : Result ℕ X) (s t n : State) (e : Event) (post : Posted) (is : effect s e ≡ t) (matches : Matches s e post) where
+  pub on_ok : OnOk r ((e : Event) → effect s e ≡ t → Matches s e post → n ≡ next s e) → OnOk r (n ≡ next s e)
+  on_ok h = elim r as (λ r. OnOk r ((e : Event) → effect s e ≡ t → Matches s e post → n ≡ next s e)
+      → OnOk r (n ≡ next s e)) [ Ok w ↦ λ f. f e is matches | Err x ↦ λ f. tt ] h
+
+  pub on_wakes : IfOk r (λ wakes. (e : Event) → effect s e ≡ t → Matches s e post → IsWakes s e wakes) → IfOk r (λ wakes. IsWakes s e wakes)
+  on_wakes h = elim r as (λ r. IfOk r (λ wakes. (e : Event) → effect s e ≡ t → Matches s e post → IsWakes s e wakes)
+      → IfOk r (λ wakes. IsWakes s e wakes)) [ Ok w ↦ λ f. f e is matches | Err x ↦ λ f. tt ] h

@@ -1,0 +1,101 @@
+//! What a user gets that logs in: one batch of lines.
+
+ghost use Rattle.std.specs.Prelude.{◌≡◌, [], ◌∷◌, map, OnOk};
+ghost use Rattle.line_words.specs.Table.{put_name};
+ghost use Rattle.reply_grammar.specs.declared.Reply.TheVariants as reply;
+ghost use Rattle.lobby_model.specs.Outcome.{tell, issuer};
+ghost use Rattle.lobby_model.specs.Sessions.{burst};
+ghost use Rattle.lobby_post.specs.Posted.{Told, with_own};
+ghost use Rattle.lobby_machine.specs.Seats.{user_in, users_of};
+ghost use Rattle.lobby_machine.specs.Parts.{part_of, parts_of};
+
+use crate::maps::Maps;
+use crate::seats::Seat;
+use line_words::{NameBuf, TextBuf};
+use lobby_post::Post;
+use reply_grammar::LentReply;
+use std::alloc::AllocError;
+use std::cmp::Ordering;
+use std::collections::BTreeMap;
+
+impl Maps {
+    /// Tells the issuer, who logs in under a name, who is there, itself among them.
+    pub fn tell_burst(&self, name: &NameBuf, seat: &Seat, post: &mut Post) -> Result<(), AllocError>
+        ensures { OnOk result (Told self.now post.old post.new (tell issuer (burst self.now.settings.motd name.now (put_name self.now.users name.now (user_in seat.now)) self.now.battles) ∷ [])) }
+    {
+        post.begin_own();
+        post.write_own(LentReply::Accepted(name))?;
+        write_motd(self.settings.motd().as_slice(), post)?;
+        write_parts(&self.seats.users, name, seat, Part::Presence, post)?;
+        write_parts(&self.seats.users, name, seat, Part::Status, post)?;
+        post.write_own(LentReply::LoginInfoEnd)?;
+        post.address_issuer()?;
+        Ok(())
+    }
+}
+
+/// Writes the lines of the message of the day.
+fn write_motd(motd: &[TextBuf], post: &mut Post) -> Result<(), AllocError>
+    ensures { OnOk result (post.new ≡ with_own post.old (map (λ line. reply.Motd line) motd.now)) }
+{
+    for line in motd {
+        post.write_own(LentReply::Motd(line))?;
+    }
+    Ok(())
+}
+
+/// What is told of a user, one part of all users after the other.
+#[derive(Clone, Copy)]
+pub enum Part {
+    /// The user is there.
+    Presence,
+    /// Its status, where that is not 0.
+    Status,
+}
+
+/// Writes one part of what is told of each user, and of one more, in the order of names. That one
+/// takes the place of a user of its name.
+fn write_parts(
+    users: &BTreeMap<NameBuf, Seat>,
+    name: &NameBuf,
+    seat: &Seat,
+    part: Part,
+    post: &mut Post,
+) -> Result<(), AllocError>
+    ensures { OnOk result (post.new ≡ with_own post.old (parts_of part (put_name (users_of users.now.entries) name.now (user_in seat.now)))) }
+{
+    let mut is_told = false;
+    for (user, other) in users {
+        let order = if is_told {
+            Ordering::Greater
+        } else {
+            name.cmp(user)
+        };
+        if order.is_le() {
+            write_part(name, seat, part, post)?;
+            is_told = true;
+        }
+        if order.is_ne() {
+            write_part(user, other, part, post)?;
+        }
+    }
+    if !is_told {
+        write_part(name, seat, part, post)?;
+    }
+    Ok(())
+}
+
+/// Writes one part of what is told of a user.
+fn write_part(name: &NameBuf, seat: &Seat, part: Part, post: &mut Post) -> Result<(), AllocError>
+    ensures { OnOk result (post.new ≡ with_own post.old (part_of part name.now (user_in seat.now))) }
+{
+    match part {
+        Part::Presence => {
+            post.write_own(LentReply::AddUser(name, &seat.country, seat.cpu, seat.account))
+        }
+        Part::Status if seat.status.word() != 0 => {
+            post.write_own(LentReply::ClientStatus(name, seat.status.word()))
+        }
+        Part::Status => Ok(()),
+    }
+}

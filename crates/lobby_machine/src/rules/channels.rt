@@ -1,0 +1,163 @@
+//! Channels and private talk.
+
+ghost use Rattle.std.specs.Prelude.{◌≡◌, [], ◌∷◌, ◌++◌, OnOk};
+ghost use Rattle.lobby_model.specs.Outcome.{tell, user};
+ghost use Rattle.lobby_model.specs.Channels.{join, leave, name_lines, say, say_ex, say_private, list_channels};
+ghost use Rattle.lobby_post.specs.Posted.{Told, with_own};
+ghost use Rattle.lobby_machine.specs.Answers.{Answers};
+ghost use Rattle.lobby_machine.specs.Talk.{channel_lines, left_letters};
+
+use crate::change::Change;
+use crate::maps::Maps;
+use crate::refusal::Stop;
+use line_words::{NameBuf, TextBuf};
+use lobby_post::Post;
+use reply_grammar::LentReply;
+use std::alloc::AllocError;
+
+impl Maps {
+    /// `JOIN`: the user is not in the channel.
+    pub fn join(
+        &self,
+        client: u64,
+        me: &NameBuf,
+        channel: &NameBuf,
+        post: &mut Post,
+    ) -> Result<Change, Stop>
+        ensures { Answers self.now client post.old post.new (join self.now me.now channel.now) result }
+    {
+        let names = self.names_without(me, channel)?;
+        self.tell_user(me, LentReply::Join(channel), post)?;
+        self.tell_members(channel, names, me, post)?;
+        self.tell_users(names, LentReply::Joined(channel, me), post)?;
+        Ok(Change::Join {
+            channel: channel.copy(),
+            name: me.copy(),
+        })
+    }
+
+    /// `LEAVE`: the user is in the channel.
+    pub fn leave(
+        &self,
+        client: u64,
+        me: &NameBuf,
+        channel: &NameBuf,
+        post: &mut Post,
+    ) -> Result<Change, Stop>
+        ensures { Answers self.now client post.old post.new (leave self.now me.now channel.now) result }
+    {
+        let names = self.names_with(me, channel)?;
+        self.tell_users(names, LentReply::Left(channel, me), post)?;
+        Ok(Change::Leave {
+            channel: channel.copy(),
+            name: me.copy(),
+        })
+    }
+
+    /// `SAY`: the user is in the channel.
+    pub fn say(
+        &self,
+        client: u64,
+        me: &NameBuf,
+        channel: &NameBuf,
+        text: &TextBuf,
+        post: &mut Post,
+    ) -> Result<Change, Stop>
+        ensures { Answers self.now client post.old post.new (say self.now me.now channel.now text.now) result }
+    {
+        let names = self.names_with(me, channel)?;
+        self.tell_users(names, LentReply::Said(channel, me, text), post)?;
+        Ok(Change::Nothing)
+    }
+
+    /// `SAYEX`: the user is in the channel.
+    pub fn say_ex(
+        &self,
+        client: u64,
+        me: &NameBuf,
+        channel: &NameBuf,
+        text: &TextBuf,
+        post: &mut Post,
+    ) -> Result<Change, Stop>
+        ensures { Answers self.now client post.old post.new (say_ex self.now me.now channel.now text.now) result }
+    {
+        let names = self.names_with(me, channel)?;
+        self.tell_users(names, LentReply::SaidEx(channel, me, text), post)?;
+        Ok(Change::Nothing)
+    }
+
+    /// `SAYPRIVATE`: somebody of that name is logged in.
+    pub fn say_private(
+        &self,
+        client: u64,
+        me: &NameBuf,
+        target: &NameBuf,
+        text: &TextBuf,
+        post: &mut Post,
+    ) -> Result<Change, Stop>
+        ensures { Answers self.now client post.old post.new (say_private self.now me.now target.now text.now) result }
+    {
+        self.user_named(target)?;
+        post.tell_issuer(LentReply::SayPrivate(target, text))?;
+        self.tell_user(target, LentReply::SaidPrivate(me, text), post)?;
+        Ok(Change::Nothing)
+    }
+
+    /// `CHANNELS`.
+    pub fn list_channels(&self, client: u64, post: &mut Post) -> Result<Change, Stop>
+        ensures { Answers self.now client post.old post.new (list_channels self.now) result }
+    {
+        post.begin_own();
+        self.write_channels(post)?;
+        post.write_own(LentReply::EndOfChannels)?;
+        post.address_issuer()?;
+        Ok(Change::Nothing)
+    }
+
+    /// Writes a line for each channel, with how many are in it.
+    fn write_channels(&self, post: &mut Post) -> Result<(), AllocError>
+        ensures { OnOk result (post.new ≡ with_own post.old (channel_lines self.now.channels)) }
+    {
+        for (channel, members) in &self.channels {
+            let count = members.as_slice().len();
+            // There are never so many clients.
+            if count > u32::MAX as usize {
+                return Err(AllocError);
+            }
+            post.write_own(LentReply::Channel(channel, count as u32))?;
+        }
+        Ok(())
+    }
+
+    /// Tells the others of each channel that a user is in, channel by channel, that it leaves.
+    pub fn tell_left(&self, me: &NameBuf, post: &mut Post) -> Result<(), AllocError>
+        ensures { OnOk result (Told self.now post.old post.new (left_letters me.now self.now.channels)) }
+    {
+        for (channel, members) in &self.channels {
+            if members.has_member(me) {
+                let names = members.as_slice();
+                self.tell_other_users(names, LentReply::Left(channel, me), post)?;
+            }
+        }
+        Ok(())
+    }
+
+    /// Tells one who joins a channel who is in it, itself the last, 32 names a line.
+    fn tell_members(
+        &self,
+        channel: &NameBuf,
+        names: &[NameBuf],
+        me: &NameBuf,
+        post: &mut Post,
+    ) -> Result<(), AllocError>
+        ensures { OnOk result (Told self.now post.old post.new (tell (user me.now) (name_lines channel.now (names.now ++ me.now ∷ [])) ∷ [])) }
+    {
+        let mut rest = names;
+        while rest.len() >= 32 {
+            self.tell_user(me, LentReply::Clients(channel, &rest[..32]), post)?;
+            rest = &rest[32..];
+        }
+        self.tell_user(me, LentReply::LastClients(channel, rest, me), post)?;
+        Ok(())
+    }
+}

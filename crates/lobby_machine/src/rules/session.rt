@@ -1,0 +1,142 @@
+//! Coming and going, and the status of users.
+
+ghost use Rattle.std.specs.Prelude.{◌≡◌, ℕ, List, [], ◌∷◌, OnOk, IfOk, true, false, Some, None, option_copied};
+ghost use Rattle.command_grammar.specs.declared.command.Command.TheVariants as command;
+ghost use Rattle.reply_grammar.specs.declared.Reply.TheVariants as reply;
+ghost use Rattle.lobby_model.specs.State.{hears, name_of};
+ghost use Rattle.lobby_model.specs.Outcome.{done, only_told, tell, issuer, others};
+ghost use Rattle.lobby_model.specs.Sessions.{arrival, departs, set_user_status, user_of};
+ghost use Rattle.lobby_model.specs.Commands.{answer};
+ghost use Rattle.lobby_post.specs.Posted.{Told, begun};
+ghost use Rattle.lobby_machine.specs.Answers.{Answers, Obeyed};
+ghost use Rattle.lobby_machine.specs.Changes.{parts};
+ghost use Rattle.lobby_machine.specs.Seats.{user_in};
+
+use super::guards::not_logged_in;
+use crate::change::Change;
+use crate::maps::Maps;
+use crate::refusal::Stop;
+use crate::seats::Seat;
+use account_book::Account;
+use line_words::{NameBuf, WordBuf};
+use lobby_post::Post;
+use reply_grammar::LentReply;
+use status_bits::{UserStatus, merge_user};
+use std::alloc::{AllocError, Global};
+
+impl Maps {
+    /// `PING`.
+    pub fn ping(&self, client: u64, post: &mut Post) -> Result<Change, Stop>
+        ensures { Answers self.now client post.old post.new (done (only_told (tell issuer (reply.Pong ∷ []) ∷ []))) result }
+    {
+        post.tell_issuer(LentReply::Pong)?;
+        Ok(Change::Nothing)
+    }
+
+    /// `LOGIN`: nobody is logged in at the client, the account lets it in, and nobody has its name.
+    pub fn log_in(
+        &self,
+        client: u64,
+        me: Option<&NameBuf>,
+        user_name: &WordBuf,
+        password: &WordBuf,
+        cpu: i64,
+        post: &mut Post,
+    ) -> Result<Change, Stop>
+        requires hears { hears self.now client ≡ true }
+        requires me { option_copied me ≡ name_of self.now client }
+        ensures { (local_ip lobby : List ℕ) → Answers self.now client post.old post.new (answer self.now client (option_copied me.entry) (command.Login user_name.now password.now cpu local_ip lobby)) result }
+    {
+        not_logged_in(me)?;
+        let account = self.account_for(user_name, password)?;
+        let name = self.free_name(account)?;
+        let seat = seat_of(self.alloc, client, account, cpu)?;
+        self.tell_burst(&name, &seat, post)?;
+        self.tell_arrival(&name, &seat, post)?;
+        Ok(Change::LogIn { name, seat })
+    }
+
+    /// Tells the others that a user is there.
+    fn tell_arrival(&self, name: &NameBuf, seat: &Seat, post: &mut Post) -> Result<(), AllocError>
+        ensures { OnOk result (Told self.now post.old post.new (tell others (arrival name.now (user_in seat.now)) ∷ [])) }
+    {
+        post.write_for_others(LentReply::AddUser(name, &seat.country, seat.cpu, seat.account))?;
+        let status = seat.status.word();
+        if status != 0 {
+            post.write_more_for_others(LentReply::ClientStatus(name, status))?;
+        }
+        self.seats.address_all(post)?;
+        Ok(())
+    }
+
+    /// `MYSTATUS`: rank, moderator and bot stay those of the account.
+    pub fn my_status(
+        &self,
+        client: u64,
+        me: &NameBuf,
+        asked: u32,
+        post: &mut Post,
+    ) -> Result<Change, Stop>
+        requires { name_of self.now client ≡ Some me.now }
+        ensures { Answers self.now client post.old post.new (set_user_status self.now me.now asked) result }
+    {
+        let status = match self.seats.users.get(me) {
+            Some(seat) => merge_user(seat.status, asked),
+            None => unreachable!(),
+        };
+        self.tell_all(LentReply::ClientStatus(me, status.word()), post)?;
+        Ok(Change::Status {
+            name: me.copy(),
+            status,
+        })
+    }
+
+    /// `EXIT`, and the end of a connection: a client's user, where there is one, logs out, and the
+    /// client ends, or, where it does not stay, is there no more.
+    pub fn log_out(
+        &self,
+        client: u64,
+        me: Option<&NameBuf>,
+        stays: bool,
+        post: &mut Post,
+    ) -> Result<Change, AllocError>
+        requires { option_copied me ≡ name_of self.now client }
+        ensures { IfOk result (λ change. Obeyed self.now client post.old post.new change (departs self.now (option_copied me.entry) (parts client stays))) }
+    {
+        // Nobody is in a battle, which are not served yet: so says the plain lobby that the maps
+        // stand for.
+        let _ = &self.clients;
+        let Some(me) = me else {
+            return Ok(Change::LogOut { name: None, stays });
+        };
+        self.tell_left(me, post)?;
+        self.tell_others(LentReply::RemoveUser(me), post)?;
+        Ok(Change::LogOut {
+            name: Some(me.copy()),
+            stays,
+        })
+    }
+
+    /// What the end of a client's connection comes to.
+    pub fn close(&self, client: u64, post: &mut Post) -> Result<Change, AllocError>
+        ensures { IfOk result (λ change. Obeyed self.now client (begun client None) post.new change (departs self.now (name_of self.now client) (parts client false))) }
+    {
+        post.begin(client, None);
+        let me = self.clients.name_of(client);
+        self.log_out(client, me, false, post)
+    }
+}
+
+/// Where a user of an account sits.
+fn seat_of(alloc: Global, client: u64, account: &Account, cpu: i64) -> Result<Seat, AllocError>
+    ensures here { IfOk result (λ seat. seat.client ≡ client) }
+    ensures user { IfOk result (λ seat. user_in seat ≡ user_of account.now cpu) }
+{
+    Ok(Seat {
+        client,
+        country: WordBuf::copy_of(alloc, account.country())?,
+        cpu,
+        account: account.id(),
+        status: UserStatus::of_account(account.rank(), account.access(), account.bot()),
+    })
+}

@@ -1,0 +1,172 @@
+-- Each command keeps the lobby sound.
+use Rattle.std.proofs.Common.{◌≡◌, ℕ, List, [], ◌∷◌, refl, true}
+use Rattle.std.specs.Prelude.{Option, Some, None, IsSome, ◌==◌, ◌&&◌, is_some}
+use Rattle.account_book.specs.Book.{login}
+use Rattle.reply_grammar.specs.declared.Reply.{Reply}
+use Rattle.reply_grammar.specs.declared.Reply.TheVariants as reply
+use Rattle.command_grammar.specs.declared.command.Command.{Command}
+use Rattle.command_grammar.specs.declared.command.Command.TheVariants as command
+use Rattle.command_grammar.specs.declared.command.ReadFault.TheVariants.{UnknownCommand}
+use Rattle.status_bits.specs.Fields.{merge}
+use Rattle.status_bits.specs.BattleWord.{battle_table}
+use Rattle.status_bits.specs.UserWord.{user_table}
+use Rattle.line_words.specs.Table.{at_name, at_number, same_name, is_among}
+use Rattle.channel_book.specs.Channels.{names_in}
+use Rattle.battle_room.specs.Tags.{with_tags}
+use Rattle.battle_room.specs.Room.{Bot, has_member, bot_of, status_of, is_full_of_bots, has_too_many_tags}
+use Rattle.lobby_model.specs.State.{State, Client, Battle, battle_of, name_of, updated}
+use Rattle.lobby_model.specs.Texts.{fault_text, already_in_channel, already_in_battle, no_number_left, battle_is_locked, wrong_password, no_such_user, no_such_member, cannot_kick_yourself, bot_name_taken, too_many_bots, too_many_tags}
+use Rattle.lobby_model.specs.Outcome.{Happening, Outcome, Refused, Done, tell, users, only_told, message, state_after}
+use Rattle.lobby_model.specs.Channels.{joins, leaves}
+use Rattle.lobby_model.specs.Battles.{in_battle, as_founder, lets_in}
+use Rattle.lobby_model.specs.Rooms.{new_bot, with_own_bot, with_member_of}
+use Rattle.lobby_model.specs.Sessions.{status_in}
+use Rattle.lobby_model.specs.Commands.{answer}
+use Rattle.lobby_model.specs.Unserved.{is_unserved, answered}
+use Rattle.lobby_model.specs.Sound.{Sound}
+use Rattle.lobby_model.proofs.Checked as checked
+use Rattle.lobby_model.proofs.ChannelsKept as channels
+use Rattle.lobby_model.proofs.BattlesKept as battles
+use Rattle.lobby_model.proofs.SessionsKept as sessions
+
+module _ (s : State) (sound : Sound s) where
+  abbrev Keeps : Outcome → Type 0
+  Keeps o = Sound (state_after s o)
+
+  refused : (refusal : Reply) → Keeps (Refused refusal)
+  refused refusal = sound
+
+  -- of a user
+  module _ (me : List ℕ) (known : IsSome (at_name s.users me)) where
+    in_its_channel : (channel : List ℕ) (happening : List (List ℕ) → Happening) → ((names : List (List ℕ)) → Sound ((happening names).after s))
+        → Keeps (Rattle.lobby_model.specs.Channels.in_channel s me channel happening)
+    in_its_channel channel happening keeps =
+        checked.in_its_channel Keeps refused s me channel happening (λ in_it. keeps (names_in s.channels channel))
+
+    in_its_battle : (rest : ℕ → Battle → Outcome)
+        → ((id : ℕ) (battle : Battle) → at_number s.battles id ≡ Some battle → has_member me battle.room ≡ true → Keeps (rest id battle))
+        → Keeps (in_battle s me rest)
+    in_its_battle rest keeps =
+        checked.in_a_battle Keeps refused s me rest
+        (λ id battle own. let at = battles.own_battle s sound me id battle own in keeps id battle at.0 at.1)
+
+    as_its_founder : (rest : ℕ → Battle → Outcome) → ((id : ℕ) (battle : Battle) → at_number s.battles id ≡ Some battle → Keeps (rest id battle))
+        → Keeps (as_founder s me rest)
+    as_its_founder rest keeps =
+        checked.as_its_founder Keeps refused s me rest (λ id battle own founds. keeps id battle (battles.own_battle s sound me id battle own).0)
+
+    with_a_member : (name : List ℕ) (happenings : ℕ → Battle → List Happening)
+        → ((id : ℕ) (battle : Battle) → at_number s.battles id ≡ Some battle → Keeps (Done (happenings id battle)))
+        → Keeps (with_member_of s me name happenings)
+    with_a_member name happenings keeps =
+        checked.with_a_member Keeps refused s me name happenings
+        (λ id battle own founds in_it. keeps id battle (battles.own_battle s sound me id battle own).0)
+
+    with_a_bot : (name : List ℕ) (happening : ℕ → Battle → Bot → Happening)
+        → ((id : ℕ) (battle : Battle) (bot : Bot) → at_number s.battles id ≡ Some battle → Sound ((happening id battle bot).after s))
+        → Keeps (with_own_bot s me name happening)
+    with_a_bot name happening keeps =
+        checked.with_a_bot Keeps refused s me name happening
+        (λ id battle bot own found mine. keeps id battle bot (battles.own_battle s sound me id battle own).0)
+
+    -- all commands but EXIT and LOGIN
+    abbrev IsOfUser : Command → Type 0
+    IsOfUser command.Exit = ⊥
+    IsOfUser (command.Login name password cpu local_ip lobby) = ⊥
+    IsOfUser command = Unit {0}
+
+    pub user_keeps : (c : ℕ) (command : Command) → IsOfUser command → Keeps (answer s c (Some me) command)
+    user_keeps c command.Exit own = absurd own
+    user_keeps c (command.Login name password cpu local_ip lobby) own = absurd own
+    user_keeps c command.Blank own = sound
+    user_keeps c (command.Unread fault) own = sound
+    user_keeps c command.Ping own = sound
+    user_keeps c (command.MyStatus asked) own = sessions.user_has_keeps s sound me (merge user_table (status_in (at_name s.users me)) asked)
+    user_keeps c (command.Join channel key) own =
+        checked.refuse Keeps refused (is_among me (names_in s.channels channel)) (reply.JoinFailed channel already_in_channel) _
+        (λ out. channels.joins_keeps s sound me channel (names_in s.channels channel) out known)
+    user_keeps c (command.Leave channel) own = in_its_channel channel (leaves me channel) (channels.leaves_keeps s sound me channel)
+    user_keeps c (command.Say channel text) own =
+        in_its_channel channel (λ names. only_told (tell (users names) (reply.Said channel me text ∷ []) ∷ [])) (λ names. sound)
+    user_keeps c (command.SayEx channel text) own =
+        in_its_channel channel (λ names. only_told (tell (users names) (reply.SaidEx channel me text ∷ []) ∷ [])) (λ names. sound)
+    user_keeps c (command.SayPrivate target text) own =
+        checked.demand Keeps refused (is_some (at_name s.users target)) (message no_such_user) _ (λ there. sound)
+    user_keeps c command.Channels own = sound
+    user_keeps c (command.OpenBattle battle_type nat_type password port max_players game_hash rank map_hash engine_name engine_version map title game_name) own =
+        checked.demand_none Keeps refused (battle_of s me) (reply.OpenBattleFailed already_in_battle) _
+        (λ free. checked.refuse Keeps refused (s.last_battle == 2147483647) (reply.OpenBattleFailed no_number_left) _
+        (λ left. battles.opens_keeps s sound me _ refl refl free known))
+    user_keeps c (command.JoinBattle id password script_password) own =
+        checked.demand_none Keeps refused (battle_of s me) (reply.JoinBattleFailed already_in_battle) _
+        (λ free. checked.there Keeps refused (at_number s.battles id) _
+        (λ battle there. checked.refuse Keeps refused battle.info.locked (reply.JoinBattleFailed battle_is_locked) _
+        (λ unlocked. checked.demand Keeps refused (lets_in battle.password password) (reply.JoinBattleFailed wrong_password) _
+        (λ let_in. battles.joins_battle_keeps s sound id battle there me script_password free known))))
+    user_keeps c command.LeaveBattle own = in_its_battle _ (λ id battle there in_it. battles.leaves_battle_keeps s sound id battle there me)
+    user_keeps c (command.UpdateBattleInfo spectators locked map_hash map) own =
+        as_its_founder _ (λ id battle there. battles.info_keeps s sound id battle there (updated spectators locked map_hash map) refl)
+    user_keeps c (command.MyBattleStatus asked colour) own =
+        in_its_battle _ (λ id battle there in_it. battles.member_has_keeps s sound id battle there me
+        (merge battle_table (status_of me battle.room) asked) colour)
+    user_keeps c (command.SayBattle text) own = in_its_battle _ (λ id battle there in_it. battles.said_keeps s sound id battle there)
+    user_keeps c (command.SayBattleEx text) own = in_its_battle _ (λ id battle there in_it. battles.said_keeps s sound id battle there)
+    user_keeps c (command.AddBot bot asked colour ai) own =
+        in_its_battle _ (λ id battle there in_it. checked.refuse Keeps refused (is_some (bot_of bot battle.room)) (message bot_name_taken) _
+        (λ new. checked.refuse Keeps refused (is_full_of_bots battle.room) (message too_many_bots) _
+        (λ room. battles.bot_added_keeps s sound id battle there (new_bot bot me asked colour ai) in_it new)))
+    user_keeps c (command.UpdateBot name asked colour) own =
+        with_a_bot name _ (λ id battle bot there. battles.bot_has_keeps s sound id battle there name (merge battle_table bot.status asked) colour)
+    user_keeps c (command.RemoveBot name) own = with_a_bot name _ (λ id battle bot there. battles.bot_removed_keeps s sound id battle there name)
+    user_keeps c (command.AddStartRect number left top right bottom) own =
+        as_its_founder _ (λ id battle there. battles.rect_added_keeps s sound id battle there number
+        (record { left = left; top = top; right = right; bottom = bottom }))
+    user_keeps c (command.RemoveStartRect number) own =
+        as_its_founder _ (λ id battle there. battles.rect_removed_keeps s sound id battle there number)
+    user_keeps c (command.SetScriptTags pairs) own =
+        as_its_founder _ (λ id battle there. checked.refuse Keeps refused (has_too_many_tags (with_tags battle.room.tags pairs))
+        (message too_many_tags) _ (λ few. battles.tags_set_keeps s sound id battle there pairs))
+    user_keeps c (command.RemoveScriptTags keys) own = as_its_founder _ (λ id battle there. battles.tags_removed_keeps s sound id battle there keys)
+    user_keeps c (command.Handicap name value) own =
+        with_a_member name _ (λ id battle there. battles.member_has_keeps s sound id battle there name _ _)
+    user_keeps c (command.ForceTeamNo name number) own =
+        with_a_member name _ (λ id battle there. battles.member_has_keeps s sound id battle there name _ _)
+    user_keeps c (command.ForceAllyNo name number) own =
+        with_a_member name _ (λ id battle there. battles.member_has_keeps s sound id battle there name _ _)
+    user_keeps c (command.ForceTeamColor name colour) own =
+        with_a_member name _ (λ id battle there. battles.member_has_keeps s sound id battle there name _ _)
+    user_keeps c (command.ForceSpectatorMode name) own =
+        with_a_member name _ (λ id battle there. battles.member_has_keeps s sound id battle there name _ _)
+    user_keeps c (command.KickFromBattle name) own =
+        as_its_founder _ (λ id battle there. checked.refuse Keeps refused (same_name me name) (message cannot_kick_yourself) _
+        (λ other. checked.demand Keeps refused (has_member name battle.room) (message no_such_member) _
+        (λ in_it. battles.leaves_battle_keeps s sound id battle there name)))
+    user_keeps c (command.Ring name) own = with_a_member name _ (λ id battle there. sound)
+
+  -- of a client that is there
+  module _ (c : ℕ) (client : Client) (there : at_number s.clients c ≡ Some client) where
+    exit_keeps : (me : Option (List ℕ)) → name_of s c ≡ me → Keeps (answer s c me command.Exit)
+    exit_keeps me named = sessions.departs_keeps s sound c _ (sessions.ends_unnames c) me named
+
+    named_keeps : (me : List ℕ) → name_of s c ≡ Some me → (command : Command) → Keeps (answer s c (Some me) command)
+    named_keeps me named command.Exit = exit_keeps (Some me) named
+    named_keeps me named (command.Login name password cpu local_ip lobby) = sound
+    named_keeps me named command = user_keeps me (sound.clients.one_for_each.has_user c me named) c command tt
+
+    unnamed_keeps : name_of s c ≡ None → (command : Command) → Keeps (answer s c None command)
+    unnamed_keeps unnamed command.Blank = sound
+    unnamed_keeps unnamed (command.Unread fault) = sound
+    unnamed_keeps unnamed command.Ping = sound
+    unnamed_keeps unnamed command.Exit = exit_keeps None unnamed
+    unnamed_keeps unnamed (command.Login name password cpu local_ip lobby) =
+        sessions.log_in_keeps s sound c cpu (login s.accounts name password) client there unnamed
+    unnamed_keeps unnamed command = sound
+
+    pub answer_keeps : (me : Option (List ℕ)) → name_of s c ≡ me → (command : Command) → Keeps (answer s c me command)
+    answer_keeps None unnamed command = unnamed_keeps unnamed command
+    answer_keeps (Some me) named command = named_keeps me named command
+
+    pub answered_keeps : (command : Command) → Keeps (answered s c (name_of s c) command)
+    answered_keeps command =
+        checked.refuse Keeps refused (is_some (name_of s c) && is_unserved command) (message (fault_text UnknownCommand))
+        (answer s c (name_of s c) command) (λ served. answer_keeps (name_of s c) refl command)

@@ -1,0 +1,198 @@
+-- Piece by piece is all at once: one piece put, and the rest delivered, is the whole delivered.
+use Rattle.std.proofs.Common.{◌≡◌, ℕ, ◌+◌, List, [], ◌∷◌, ◌++◌, length, refl, sym, ap, ◌∙◌, Bool, true, false, not, map, arith, append_assoc, append-nil, length-append}
+use Rattle.std.specs.Prelude.{Some, None, ◌&&◌, ◌||◌, nat_le, if◌then◌else◌}
+use Rattle.std.specs.Ordering.{nat_cmp}
+use Rattle.std.specs.List.{list_any}
+use Rattle.std.specs.List.Sorted.{IsStrictlySortedBy}
+use Rattle.std.specs.BTreeMap.{is_at}
+use Rattle.std.specs.Map.{lookup, set_value}
+use Rattle.line_words.specs.Table.{ByNumber, same_number}
+use Rattle.lobby_model.specs.State.{Client, is_live}
+use Rattle.lobby_model.specs.Next.{with_batch, has_room_for, is_empty}
+use Rattle.lobby_model.proofs.Delivered.{with_batch_nil, map_values_none, same_itself}
+use Rattle.lobby_model.proofs.Splits.{apart_of_none, Split, split, any_apart, any-append, values_apart, values-append}
+use Rattle.lobby_post.specs.Mail.{bytes_for, deliver, wakes_one, wakes_home, put_first}
+
+pub other_piece : (c : ℕ) (bytes : List ℕ) (rest : ByNumber (List ℕ)) (d : ℕ) → same_number d c ≡ false → bytes_for rest d
+    ≡ bytes_for ((c, bytes) ∷ rest) d
+other_piece c bytes rest d e = sym (ap (λ b. if b then bytes ++ bytes_for rest d else bytes_for rest d) e)
+
+pub own_piece : (c : ℕ) (bytes : List ℕ) (rest : ByNumber (List ℕ)) → bytes_for ((c, bytes) ∷ rest) c ≡ bytes ++ bytes_for rest c
+own_piece c bytes rest = ap (λ b. if b then bytes ++ bytes_for rest c else bytes_for rest c) (same_itself c)
+
+and_false : (b : Bool) → (b && false) ≡ false
+and_false true = refl
+and_false false = refl
+
+and_or : (h w : Bool) → ((h && true) || (h && w)) ≡ (h && true)
+and_or true w = refl
+and_or false w = refl
+
+nothing_or : (h w : Bool) → ((h && false) || w) ≡ w
+nothing_or true w = refl
+nothing_or false w = refl
+
+turned : (a p b : Bool) → (a || (p || b)) ≡ (p || (a || b))
+turned true true b = refl
+turned true false b = refl
+turned false true b = refl
+turned false false b = refl
+
+grouped : (a b c : Bool) → (a || (b || c)) ≡ ((a || b) || c)
+grouped true b c = refl
+grouped false b c = refl
+
+abbrev cut_off : Client → Client
+cut_off client = record client { cut = true; unread = [] }
+
+abbrev longer : Client → List ℕ → Client
+longer client bytes = record client { unread = client.unread ++ bytes }
+
+-- A client that is live: the first piece, and the rest
+module _ (limit : ℕ) (client : Client) (live : is_live client ≡ true) (b : ℕ) (bytes rest : List ℕ) where
+  abbrev whole : List ℕ
+  whole = (b ∷ bytes) ++ rest
+
+  abbrev fits : Bool
+  fits = nat_le (length client.unread + length whole) limit
+
+  abbrev after_first : Bool → Client
+  after_first room = if room then longer client (b ∷ bytes) else cut_off client
+
+  rest_room : fits ≡ true → has_room_for limit (longer client (b ∷ bytes)) rest ≡ true
+  rest_room t =
+      let long : length (client.unread ++ (b ∷ bytes)) + length rest ≡ length client.unread + length whole =
+      ap (λ n. n + length rest) (length-append client.unread (b ∷ bytes))
+      ∙ (let e : length whole ≡ length (b ∷ bytes) + length rest = length-append (b ∷ bytes) rest in omega (arith, e)) in
+      elim (is_empty rest) as (λ e. (e || nat_le (length (client.unread ++ (b ∷ bytes)) + length rest) limit) ≡ true) [
+        | true ↦ refl
+        | false ↦ ap (λ n. nat_le n limit) long ∙ t
+      ]
+
+  first_rest_live : with_batch limit rest (after_first fits) ≡ (if fits then longer client whole else cut_off client)
+  first_rest_live =
+      elim fits as (λ f. fits ≡ f → with_batch limit rest (after_first f) ≡ (if f then longer client whole else cut_off client)) [
+        | true ↦ λ t.
+            ap (λ l. if l then (if has_room_for limit (longer client (b ∷ bytes)) rest then longer
+            (longer client (b ∷ bytes)) rest else cut_off client) else longer client (b ∷ bytes)) live
+            ∙ ap (λ r. if r then longer (longer client (b ∷ bytes)) rest else cut_off client) (rest_room t)
+            ∙ ap (λ u. record client { unread = u }) (append_assoc client.unread (b ∷ bytes) rest)
+        | false ↦ λ t. refl
+      ] refl
+
+pub first_rest : (limit : ℕ) (client : Client) (due : ℕ) (bytes rest : List ℕ) → due ≡ length (bytes ++ rest)
+    → with_batch limit rest (put_first limit due bytes client) ≡ with_batch limit (bytes ++ rest) client
+first_rest limit client due [] rest is =
+    ap (λ l. with_batch limit rest (if l then (if nat_le (length client.unread + due) limit then longer client [] else cut_off client) else client))
+    (and_false (is_live client))
+first_rest limit client due (b ∷ bytes) rest is =
+    elim (is_live client) as (λ l. is_live client ≡ l
+    → with_batch limit rest (if l && true then (if nat_le (length client.unread + due) limit then longer client
+    (b ∷ bytes) else cut_off client) else client)
+    ≡ (if l then (if nat_le (length client.unread + length ((b ∷ bytes) ++ rest)) limit then longer client
+    ((b ∷ bytes) ++ rest) else cut_off client) else client)) [
+      | true ↦ λ t. ap (λ n. with_batch limit rest
+          (if nat_le (length client.unread + n) limit then longer client (b ∷ bytes) else cut_off client)) is
+          ∙ first_rest_live limit client t b bytes rest
+      | false ↦ λ t. Rattle.lobby_model.proofs.Delivered.dead limit rest client t
+    ] refl
+
+-- the same of wakes
+pub wake_first : (home limit due : ℕ) (client : Client) (bytes rest : List ℕ)
+    → (wakes_one home bytes client || wakes_one home rest (put_first limit due bytes client)) ≡ wakes_one home (bytes ++ rest) client
+wake_first home limit due client [] rest =
+    ap (λ l. (same_number client.home home && (is_live client && false))
+    || wakes_one home rest (if l then (if nat_le (length client.unread + due) limit then longer client [] else cut_off client) else client))
+    (and_false (is_live client))
+    ∙ ap (λ l. (same_number client.home home && l) || wakes_one home rest client) (and_false (is_live client))
+    ∙ nothing_or (same_number client.home home) _
+wake_first home limit due client (b ∷ bytes) rest =
+    elim (is_live client) as (λ l. is_live client ≡ l
+    → ((same_number client.home home && (l && true))
+    || wakes_one home rest (if l && true then (if nat_le (length client.unread + due) limit then longer client
+    (b ∷ bytes) else cut_off client) else client))
+    ≡ (same_number client.home home && (l && true))) [
+      | true ↦ λ t. elim (nat_le (length client.unread + due) limit) as
+          (λ f. ((same_number client.home home && true) || wakes_one home rest (if f then longer client (b ∷ bytes) else cut_off client))
+          ≡ (same_number client.home home && true)) [
+            | true ↦ and_or (same_number client.home home) _
+            | false ↦ and_or (same_number client.home home) _
+          ]
+      | false ↦ λ t. nothing_or (same_number client.home home) _
+          ∙ ap (λ l. same_number client.home home && (l && not (is_empty rest))) t
+    ] refl
+
+nothing_touched : (home : ℕ) (client : Client) → wakes_one home [] client ≡ false
+nothing_touched home client = ap (λ l. same_number client.home home && l) (and_false (is_live client)) ∙ and_false _
+
+module _ (c : ℕ) (bytes : List ℕ) (rest : ByNumber (List ℕ)) where
+  module _ (m : ByNumber Client) (none : lookup (is_at (nat_cmp c)) m ≡ None) where
+    pub deliver_past : (limit : ℕ) → deliver limit rest m ≡ deliver limit ((c, bytes) ∷ rest) m
+    deliver_past limit = values_apart _ _ c (λ d x e. ap (λ b. with_batch limit b x) (other_piece c bytes rest d e)) m (apart_of_none c m none)
+
+    pub wakes_past : (home : ℕ) → wakes_home rest m home ≡ wakes_home ((c, bytes) ∷ rest) m home
+    wakes_past home = any_apart _ _ c (λ e apart. ap (λ b. wakes_one home b e.1) (other_piece c bytes rest e.0 apart)) m (apart_of_none c m none)
+
+  module _ (limit due : ℕ) (x : Client) (m : ByNumber Client) (ordered : IsStrictlySortedBy nat_cmp (map (λ e. e.0) m))
+      (found : lookup (is_at (nat_cmp c)) m ≡ Some x) (is : due ≡ length (bytes_for ((c, bytes) ∷ rest) c)) where
+    parts : Split c x m
+    parts = split c x m ordered found
+
+    is_due : due ≡ length (bytes ++ bytes_for rest c)
+    is_due = is ∙ ap length (own_piece c bytes rest)
+
+    pub deliver_step : deliver limit rest (set_value (is_at (nat_cmp c)) m (put_first limit due bytes x)) ≡ deliver limit ((c, bytes) ∷ rest) m
+    deliver_step =
+        let same : (d : ℕ) (y : Client) → same_number d c ≡ false → with_batch limit (bytes_for rest d) y
+        ≡ with_batch limit (bytes_for ((c, bytes) ∷ rest) d) y = λ d y e. ap (λ b. with_batch limit b y) (other_piece c bytes rest d e) in
+        let own : with_batch limit (bytes_for rest c) (put_first limit due bytes x) ≡ with_batch limit (bytes_for ((c, bytes) ∷ rest) c) x =
+        first_rest limit x due bytes (bytes_for rest c) is_due ∙ ap (λ b. with_batch limit b x) (sym (own_piece c bytes rest)) in
+        ap (deliver limit rest) (parts.written (put_first limit due bytes x))
+        ∙ values-append _ parts.before _
+        ∙ (λ i. values_apart _ _ c same parts.before parts.apart_before i ++ ((c, own i) ∷ values_apart _ _ c same parts.after parts.apart_after i))
+        ∙ sym (values-append _ parts.before _)
+        ∙ ap (deliver limit ((c, bytes) ∷ rest)) (sym parts.whole)
+
+    pub wakes_step : (home : ℕ) → (wakes_one home bytes x || wakes_home rest (set_value (is_at (nat_cmp c)) m (put_first limit due bytes x)) home)
+        ≡ wakes_home ((c, bytes) ∷ rest) m home
+    wakes_step home =
+        let same : (e : ℕ × Client) → same_number e.0 c ≡ false → wakes_one home (bytes_for rest e.0) e.1
+        ≡ wakes_one home (bytes_for ((c, bytes) ∷ rest) e.0) e.1 =
+        λ e apart. ap (λ b. wakes_one home b e.1) (other_piece c bytes rest e.0 apart) in
+        let own : (wakes_one home bytes x || wakes_one home (bytes_for rest c) (put_first limit due bytes x))
+        ≡ wakes_one home (bytes_for ((c, bytes) ∷ rest) c) x = wake_first home limit due x bytes (bytes_for rest c)
+        ∙ ap (λ b. wakes_one home b x) (sym (own_piece c bytes rest)) in
+        ap (λ es. wakes_one home bytes x || wakes_home rest es home) (parts.written (put_first limit due bytes x))
+        ∙ ap (λ b. wakes_one home bytes x || b) (any-append _ parts.before _)
+        ∙ (λ i. wakes_one home bytes x || (any_apart _ _ c same parts.before parts.apart_before i
+        || (wakes_one home (bytes_for rest c) (put_first limit due bytes x) || any_apart _ _ c same parts.after parts.apart_after i)))
+        ∙ turned (wakes_one home bytes x) _ _
+        ∙ ap (λ b. list_any (λ e. wakes_one home (bytes_for ((c, bytes) ∷ rest) e.0) e.1) parts.before || b) (grouped (wakes_one home bytes x) _ _)
+        ∙ ap (λ b. list_any (λ e. wakes_one home (bytes_for ((c, bytes) ∷ rest) e.0) e.1) parts.before
+        || (b || list_any (λ e. wakes_one home (bytes_for ((c, bytes) ∷ rest) e.0) e.1) parts.after)) own
+        ∙ sym (any-append _ parts.before _)
+        ∙ ap (λ es. wakes_home ((c, bytes) ∷ rest) es home) (sym parts.whole)
+
+pub deliver_nil : (limit : ℕ) (m : ByNumber Client) → deliver limit [] m ≡ m
+deliver_nil limit m = map_values_none _ m (λ d x. with_batch_nil limit x)
+
+pub wakes_nil : (home : ℕ) (m : ByNumber Client) → wakes_home [] m home ≡ false
+wakes_nil home [] = refl
+wakes_nil home (e ∷ m) = ap (λ b. b || wakes_home [] m home) (nothing_touched home e.1) ∙ wakes_nil home m
+
+-- what is due, where one more piece was told, and where the first is put
+pub more_due : (done : ByNumber (List ℕ)) (c : ℕ) (bytes : List ℕ) (q : ℕ) → bytes_for (done ++ (c, bytes) ∷ []) q
+    ≡ (if same_number q c then bytes_for done q ++ bytes else bytes_for done q)
+more_due [] c bytes q = elim (same_number q c) as (λ b. (if b then bytes ++ [] else []) ≡ (if b then bytes else [])) [
+  | true ↦ append-nil bytes
+  | false ↦ refl
+]
+more_due (p ∷ done) c bytes q =
+    elim (same_number q p.0) as (λ b. (if b then p.1 ++ bytes_for (done ++ (c, bytes) ∷ []) q else bytes_for (done ++ (c, bytes) ∷ []) q)
+    ≡ (if same_number q c then (if b then p.1 ++ bytes_for done q else bytes_for done q)
+    ++ bytes else (if b then p.1 ++ bytes_for done q else bytes_for done q))) [
+      | true ↦ ap (λ bs. p.1 ++ bs) (more_due done c bytes q)
+          ∙ elim (same_number q c) as (λ b. p.1 ++ (if b then bytes_for done q ++ bytes else bytes_for done q)
+          ≡ (if b then (p.1 ++ bytes_for done q) ++ bytes else p.1 ++ bytes_for done q)) [ true ↦ sym (append_assoc p.1 _ _) | false ↦ refl ]
+      | false ↦ more_due done c bytes q
+    ]

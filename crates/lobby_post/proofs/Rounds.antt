@@ -1,0 +1,185 @@
+-- One round of the loops over the pieces.
+use Rattle.std.proofs.Common.{◌≡◌, ℕ, ◌+◌, ◌-◌, ◌<◌, ◌≤◌, List, [], ◌∷◌, ◌++◌, length, take, drop, refl, sym, ap, subst, ◌∙◌, Bool, true, false, map, slice_index_or, drop-cons, add-one, arith, length-append}
+use Rattle.std.specs.Prelude.{Some, None, ◌||◌, if◌then◌else◌}
+use Rattle.std.specs.Ordering.{nat_cmp}
+use Rattle.std.specs.List.{AllByRecursion}
+use Rattle.std.specs.List.Sorted.{IsStrictlySortedBy}
+use Rattle.std.specs.BTreeMap.{is_at}
+use Rattle.std.specs.Map.{lookup, set_value}
+use Rattle.std.proofs.Math.Seq.{take-suc}
+use Rattle.std.proofs.lemmas.List.{map-append, drop_all, take_all, length-take-le, length-drop}
+use Rattle.std.proofs.lemmas.Map.Steps.{set_value_same}
+use Rattle.line_words.specs.Table.{ByNumber}
+use Rattle.lobby_model.specs.State.{Client}
+use Rattle.lobby_model.proofs.Delivered.{same_itself}
+use Rattle.lobby_model.proofs.Splits.{keys-values, lookup-values, lookup-values-none, set_value-values}
+use Rattle.lobby_post.specs.Mask.{has_home}
+use Rattle.lobby_post.specs.declared.delivery.Piece.{Piece}
+use Rattle.lobby_post.specs.Pieces.{LiesIn, bytes_of, pieces_of}
+use Rattle.lobby_post.specs.Mail.{Held, plain, bytes_for, deliver, wakes_one, wakes_home, put_first, HaveLimit, AreDue, IsReady, AreReady}
+use Rattle.lobby_post.proofs.Slots.{IsWritten, all_written, all_past}
+use Rattle.lobby_post.proofs.Parcels.{other_piece, own_piece, more_due, deliver_step, deliver_past, deliver_nil, wakes_step, wakes_past, wakes_nil}
+
+abbrev pub blank : Piece
+blank = record { client = 0; from = 0; to = 0 }
+
+or_first : (a p b w : Bool) → (p || b) ≡ w → ((a || p) || b) ≡ (a || w)
+or_first true p b w e = refl
+or_first false p b w e = e
+
+or_none : (a b : Bool) → b ≡ false → (a || b) ≡ a
+or_none true b e = refl
+or_none false b e = e
+
+-- a slot written with its client as it was
+pub plain_same : (c : ℕ) (x w : Held) (es fs : ByNumber Held) → fs ≡ set_value (is_at (nat_cmp c)) es w → Some x ≡ lookup (is_at (nat_cmp c)) es
+    → w.client ≡ x.client → plain fs ≡ plain es
+plain_same c x w es fs is found same =
+    ap plain is ∙ set_value-values (λ held. held.client) (is_at (nat_cmp c)) w es
+    ∙ ap (set_value (is_at (nat_cmp c)) (plain es)) same
+    ∙ set_value_same (is_at (nat_cmp c)) (plain es) x.client (lookup-values (λ held. held.client) (is_at (nat_cmp c)) x es (sym found))
+
+-- the limits of outboxes where one slot is written
+pub limits_next : (limit c : ℕ) (x w : Held) (es fs : ByNumber Held) → IsWritten c w es fs → Some x ≡ lookup (is_at (nat_cmp c)) es → w.limit
+    ≡ x.limit → HaveLimit limit es → HaveLimit limit fs
+limits_next limit c x w es fs written found same = all_written (λ q held. held.limit ≡ limit) (λ q held. held.limit ≡ limit) c
+    (λ q held e h. h) x w es fs written found (λ h. same ∙ h)
+
+pub ready_next : (c : ℕ) (x w : Held) (es fs : ByNumber Held) → IsWritten c w es fs → Some x ≡ lookup (is_at (nat_cmp c)) es → IsReady w
+    → AreReady es → AreReady fs
+ready_next c x w es fs written found ready = all_written (λ q held. IsReady held) (λ q held. IsReady held) c
+    (λ q held e h. h) x w es fs written found (λ h. ready)
+
+-- the piece begins a list of pieces: it is put or given up
+module _ (c : ℕ) (bytes : List ℕ) (rest : ByNumber (List ℕ)) where
+  long : length (bytes_for ((c, bytes) ∷ rest) c) ≡ length bytes + length (bytes_for rest c)
+  long = ap length (own_piece c bytes rest) ∙ length-append bytes (bytes_for rest c)
+
+  pub less_due : (x w : Held) (es fs : ByNumber Held) → IsWritten c w es fs → Some x ≡ lookup (is_at (nat_cmp c)) es → w.due ≡ x.due - length bytes
+      → AreDue ((c, bytes) ∷ rest) es → AreDue rest fs
+  less_due x w es fs written found less =
+      all_written (λ q held. held.due ≡ length (bytes_for ((c, bytes) ∷ rest) q)) (λ q held. held.due ≡ length (bytes_for rest q)) c
+      (λ q held e h. h ∙ ap length (sym (other_piece c bytes rest q e))) x w es fs written found (λ h. let l = long in omega (arith, less, h, l))
+
+  pub less_past : (es : ByNumber Held) → lookup (is_at (nat_cmp c)) es ≡ None → AreDue ((c, bytes) ∷ rest) es → AreDue rest es
+  less_past es none =
+      all_past (λ q held. held.due ≡ length (bytes_for ((c, bytes) ∷ rest) q)) (λ q held. held.due ≡ length (bytes_for rest q)) c
+      (λ q held e h. h ∙ ap length (sym (other_piece c bytes rest q e))) es none
+
+  pub due_here : (x : Held) (es : ByNumber Held) → Some x ≡ lookup (is_at (nat_cmp c)) es → AreDue ((c, bytes) ∷ rest) es → length bytes ≤ x.due
+  due_here x es found due = let l = long in let h = due c x (sym found) in omega (arith, l, h)
+
+-- one more piece
+module _ (c : ℕ) (bytes : List ℕ) (done : ByNumber (List ℕ)) where
+  pub grown_due : (x w : Held) (es fs : ByNumber Held) → IsWritten c w es fs → Some x ≡ lookup (is_at (nat_cmp c)) es → w.due ≡ x.due + length bytes
+      → AreDue done es → AreDue (done ++ (c, bytes) ∷ []) fs
+  grown_due x w es fs written found more =
+      all_written (λ q held. held.due ≡ length (bytes_for done q)) (λ q held. held.due ≡ length (bytes_for (done ++ (c, bytes) ∷ []) q)) c
+      (λ q held e h. h ∙ ap length (sym (more_due done c bytes q
+      ∙ ap (λ b. if b then bytes_for done q ++ bytes else bytes_for done q) e))) x w es fs written found
+      (λ h. let l : length (bytes_for (done ++ (c, bytes) ∷ []) c) ≡ length (bytes_for done c) + length bytes =
+      ap length (more_due done c bytes c ∙ ap (λ b. if b then bytes_for done c ++ bytes else bytes_for done c) (same_itself c))
+      ∙ length-append (bytes_for done c) bytes in omega (arith, more, h, l))
+
+  pub grown_past : (es : ByNumber Held) → lookup (is_at (nat_cmp c)) es ≡ None → AreDue done es → AreDue (done ++ (c, bytes) ∷ []) es
+  grown_past es none =
+      all_past (λ q held. held.due ≡ length (bytes_for done q)) (λ q held. held.due ≡ length (bytes_for (done ++ (c, bytes) ∷ []) q)) c
+      (λ q held e h. h ∙ ap length (sym (more_due done c bytes q ∙ ap (λ b. if b then bytes_for done q ++ bytes else bytes_for done q) e))) es none
+
+module _ (text : List ℕ) (pieces : List Piece) (i : ℕ) (within : i < length pieces) where
+  abbrev piece : Piece
+  piece = slice_index_or pieces i blank
+
+  abbrev bytes : List ℕ
+  bytes = bytes_of text piece
+
+  abbrev rest : ByNumber (List ℕ)
+  rest = pieces_of text (drop (i + 1) pieces)
+
+  drop_is : drop i pieces ≡ piece ∷ drop (i + 1) pieces
+  drop_is = rw add-one (drop-cons pieces i blank within)
+
+  pub pieces_is : pieces_of text (drop i pieces) ≡ (piece.client, bytes) ∷ rest
+  pieces_is = ap (pieces_of text) drop_is
+
+  pub pieces_done : pieces_of text (take (i + 1) pieces) ≡ pieces_of text (take i pieces) ++ (piece.client, bytes) ∷ []
+  pieces_done =
+      let taken : take (i + 1) pieces ≡ take i pieces ++ (piece ∷ []) = rw add-one (take-suc pieces i blank within) in
+      ap (pieces_of text) taken ∙ map-append _ (take i pieces) _
+
+  pub due_more : (x w : Held) (es fs : ByNumber Held) → IsWritten piece.client w es fs → Some x ≡ lookup (is_at (nat_cmp piece.client)) es → w.due
+      ≡ x.due + length bytes → AreDue (pieces_of text (take i pieces)) es → AreDue (pieces_of text (take (i + 1) pieces)) fs
+  due_more x w es fs written found more due = subst (λ ps. AreDue ps fs) (sym pieces_done)
+      (grown_due piece.client bytes (pieces_of text (take i pieces)) x w es fs written found more due)
+
+  pub inside_next : AllByRecursion (LiesIn text) (drop i pieces) → AllByRecursion (LiesIn text) (drop (i + 1) pieces)
+  inside_next h = (subst (AllByRecursion (LiesIn text)) drop_is h).1
+
+  pub inside_here : AllByRecursion (LiesIn text) (drop i pieces) → LiesIn text piece
+  inside_here h = (subst (AllByRecursion (LiesIn text)) drop_is h).0
+
+  pub bytes_long : LiesIn text piece → length bytes ≡ piece.to - piece.from
+  bytes_long h =
+      let d : length (drop piece.from text) ≡ length text - piece.from = length-drop piece.from text in
+      let a = h.0 in
+      let b = h.1 in
+      length-take-le (piece.to - piece.from) (drop piece.from text) (omega (arith, d, a, b))
+
+  module _ (x w : Held) (es fs : ByNumber Held) (is : fs ≡ set_value (is_at (nat_cmp piece.client)) es w)
+      (found : Some x ≡ lookup (is_at (nat_cmp piece.client)) es) (made : w.client ≡ put_first x.limit x.due bytes x.client)
+      (ordered : IsStrictlySortedBy nat_cmp (map (λ e. e.0) es)) (due : AreDue (pieces_of text (drop i pieces)) es) where
+    due_now : x.due ≡ length (bytes_for ((piece.client, bytes) ∷ rest) piece.client)
+    due_now = subst (λ ps. AreDue ps es) pieces_is due piece.client x (sym found)
+
+    ordered_plain : IsStrictlySortedBy nat_cmp (map (λ e. e.0) (plain es))
+    ordered_plain = subst (IsStrictlySortedBy nat_cmp) (sym (keys-values (λ held. held.client) es)) ordered
+
+    found_plain : lookup (is_at (nat_cmp piece.client)) (plain es) ≡ Some x.client
+    found_plain = lookup-values (λ held. held.client) (is_at (nat_cmp piece.client)) x es (sym found)
+
+    plain_is : plain fs ≡ set_value (is_at (nat_cmp piece.client)) (plain es) (put_first x.limit x.due bytes x.client)
+    plain_is = ap plain is ∙ set_value-values (λ held. held.client) (is_at (nat_cmp piece.client)) w es
+        ∙ ap (set_value (is_at (nat_cmp piece.client)) (plain es)) made
+
+    pub clients_next : (limit : ℕ) → HaveLimit limit es → deliver limit rest (plain fs) ≡ deliver limit (pieces_of text (drop i pieces)) (plain es)
+    clients_next limit all =
+        ap (deliver limit rest) (plain_is ∙ ap (λ n. set_value (is_at (nat_cmp piece.client)) (plain es) (put_first n x.due bytes x.client))
+        (all piece.client x (sym found)))
+        ∙ deliver_step piece.client bytes rest limit x.due x.client (plain es) ordered_plain found_plain due_now
+        ∙ ap (λ ps. deliver limit ps (plain es)) (sym pieces_is)
+
+    pub wakes_next : (wakes mark both home : ℕ) → has_home both home ≡ (has_home wakes home || has_home mark home) → has_home mark home
+        ≡ wakes_one home bytes x.client
+        → (has_home both home || wakes_home rest (plain fs) home) ≡ (has_home wakes home || wakes_home (pieces_of text (drop i pieces)) (plain es) home)
+    wakes_next wakes mark both home joined marked =
+        (λ j. (joined ∙ ap (λ b. has_home wakes home || b) marked) j || wakes_home rest (plain_is j) home)
+        ∙ or_first (has_home wakes home) _ _ _ (wakes_step piece.client bytes rest x.limit x.due x.client
+        (plain es) ordered_plain found_plain due_now home)
+        ∙ ap (λ ps. has_home wakes home || wakes_home ps (plain es) home) (sym pieces_is)
+
+  module _ (es : ByNumber Held) (none : lookup (is_at (nat_cmp piece.client)) es ≡ None) where
+    none_plain : lookup (is_at (nat_cmp piece.client)) (plain es) ≡ None
+    none_plain = lookup-values-none (λ held. held.client) (is_at (nat_cmp piece.client)) es none
+
+    pub clients_past : (limit : ℕ) → deliver limit rest (plain es) ≡ deliver limit (pieces_of text (drop i pieces)) (plain es)
+    clients_past limit = deliver_past piece.client bytes rest (plain es) none_plain limit ∙ ap (λ ps. deliver limit ps (plain es)) (sym pieces_is)
+
+    pub woken_past : (wakes home : ℕ) → (has_home wakes home || wakes_home rest (plain es) home)
+        ≡ (has_home wakes home || wakes_home (pieces_of text (drop i pieces)) (plain es) home)
+    woken_past wakes home = ap (λ b. has_home wakes home || b)
+        (wakes_past piece.client bytes rest (plain es) none_plain home ∙ ap (λ ps. wakes_home ps (plain es) home) (sym pieces_is))
+
+-- at the end
+module _ (text : List ℕ) (pieces : List Piece) (i : ℕ) (past : length pieces ≤ i) where
+  pub none_left : pieces_of text (drop i pieces) ≡ []
+  none_left = ap (pieces_of text) (drop_all i pieces past)
+
+  pub all_done : pieces_of text (take i pieces) ≡ pieces_of text pieces
+  all_done = ap (pieces_of text) (take_all i pieces past)
+
+  pub clients_end : (limit : ℕ) (m : ByNumber Client) → deliver limit (pieces_of text (drop i pieces)) m ≡ m
+  clients_end limit m = ap (λ ps. deliver limit ps m) none_left ∙ deliver_nil limit m
+
+  pub wakes_end : (wakes home : ℕ) (m : ByNumber Client) → (has_home wakes home || wakes_home (pieces_of text (drop i pieces)) m home)
+      ≡ has_home wakes home
+  wakes_end wakes home m = or_none _ _ (ap (λ ps. wakes_home ps m home) none_left ∙ wakes_nil home m)

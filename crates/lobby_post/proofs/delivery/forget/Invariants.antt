@@ -1,0 +1,13 @@
+use Rattle.std.proofs.Common.{◌≡◌, ℕ, drop}
+use Rattle.std.specs.List.{AllByRecursion}
+use Rattle.lobby_post.specs.Pieces.{LiesIn, pieces_of}
+use Rattle.lobby_post.specs.Mail.{AreDue, HaveLimit, plain}
+use Rattle.lobby_post.proofs.delivery.forget.Given as goal
+
+abbrev pub invariant-loop-piece : goal.invariant-loop-piece
+invariant-loop-piece l = record {
+  inside : AllByRecursion (LiesIn l.text) (drop l.piece-index l.pieces);
+  due : AreDue (pieces_of l.text (drop l.piece-index l.pieces)) l.clients.entries;
+  limits : (limit : ℕ) → HaveLimit limit l.initial.clients.entries → HaveLimit limit l.clients.entries;
+  clients : plain l.clients.entries ≡ plain l.initial.clients.entries;
+}

@@ -1,0 +1,5 @@
+pub mod Mask
+pub mod Mail
+pub mod Pieces
+pub mod Posted
+pub mod Unread

@@ -1,0 +1,86 @@
+-- What an event sends, piece by piece, and what its delivery makes of the clients.
+use Rattle.std.specs.Prelude.{◌≡◌, ℕ, ◌+◌, ◌≤◌, Bool, true, false, not, ◌&&◌, nat_le, if◌then◌else◌, List, [], ◌∷◌, ◌++◌, length, Some}
+use Rattle.std.specs.List.{list_any}
+use Rattle.std.specs.Map.{lookup}
+use Rattle.std.specs.Ordering.{nat_cmp}
+use Rattle.std.specs.BTreeMap.{is_at}
+use Rattle.line_words.specs.Table.{ByNumber, map_values, without_number, same_number}
+use Rattle.lobby_post.specs.Mask.{has_home}
+use Rattle.lobby_model.specs.declared.event.Event.{Event}
+use Rattle.lobby_model.specs.declared.event.Phase.TheVariants.{Ended}
+use Rattle.lobby_model.specs.State.{State, Client, is_live, set_phase}
+use Rattle.lobby_model.specs.Next.{with_batch, is_empty}
+use Rattle.lobby_model.specs.Touched.{touches}
+
+-- a client, the limit of its outbox, how many bytes may be put to it without memory, and how many are still due to it
+pub record Held : Type 0 where
+  pub client : Client
+  pub limit : ℕ
+  pub spare : ℕ
+  pub due : ℕ
+
+-- All clients by their numbers, and the limit that each outbox has
+pub record Crowd : Type 0 where
+  pub limit : ℕ
+  pub slots : ByNumber Held
+
+-- the clients alone
+abbrev pub plain : ByNumber Held → ByNumber Client
+plain m = map_values (λ c held. held.client) m
+
+-- a client that stays ends, and one that does not is there no more
+abbrev pub parted : ByNumber Client → ℕ → Bool → ByNumber Client
+parted clients c true = set_phase clients c Ended
+parted clients c false = without_number clients c
+
+-- Pieces for clients, in the order of telling. What client d gets is its pieces, one behind another
+abbrev pub bytes_for : ByNumber (List ℕ) → ℕ → List ℕ
+bytes_for [] d = []
+bytes_for (p ∷ pieces) d = if same_number d p.0 then p.1 ++ bytes_for pieces d else bytes_for pieces d
+
+-- the clients with all their pieces put, or cut
+abbrev pub deliver : ℕ → ByNumber (List ℕ) → ByNumber Client → ByNumber Client
+deliver limit pieces clients = map_values (λ d client. with_batch limit (bytes_for pieces d) client) clients
+
+-- a client gains bytes or is cut
+abbrev pub touched : List ℕ → Client → Bool
+touched bytes client = is_live client && not (is_empty bytes)
+
+-- a client of this home is touched
+abbrev pub wakes_one : ℕ → List ℕ → Client → Bool
+wakes_one home bytes client = same_number client.home home && touched bytes client
+
+-- one of the clients is of this home and is touched
+abbrev pub wakes_home : ByNumber (List ℕ) → ByNumber Client → ℕ → Bool
+wakes_home pieces clients home = list_any (λ e. wakes_one home (bytes_for pieces e.0) e.1) clients
+
+-- exactly the homes of clients that the event touched
+abbrev pub IsWakes : State → Event → ℕ → Type 0
+IsWakes s e wakes = (home : ℕ) → has_home wakes home ≡ touches s e home
+
+-- One piece put to a client to which so many bytes are due, that piece among them: cut where not all of them fit
+abbrev pub put_first : ℕ → ℕ → List ℕ → Client → Client
+put_first limit due bytes client =
+    if is_live client && not (is_empty bytes)
+    then (if nat_le (length client.unread + due) limit then record client { unread = client.unread ++ bytes } else record client { cut = true; unread = [] })
+    else client
+
+-- something holds of each slot
+abbrev pub AllSlots : (ℕ → Held → Type 0) → ByNumber Held → Type 0
+AllSlots P clients = (q : ℕ) (held : Held) → lookup (is_at (nat_cmp q)) clients ≡ Some held → P q held
+
+-- each outbox has this limit
+abbrev pub HaveLimit : ℕ → ByNumber Held → Type 0
+HaveLimit limit = AllSlots (λ q held. held.limit ≡ limit)
+
+-- these pieces, and no other bytes, are still due
+abbrev pub AreDue : ByNumber (List ℕ) → ByNumber Held → Type 0
+AreDue pieces = AllSlots (λ q held. held.due ≡ length (bytes_for pieces q))
+
+-- what is due can be put without memory
+abbrev pub IsReady : Held → Type 0
+IsReady held = is_live held.client ≡ true → length held.client.unread + held.due ≤ held.limit → held.due ≤ held.spare
+
+-- the same of all clients
+abbrev pub AreReady : ByNumber Held → Type 0
+AreReady = AllSlots (λ q held. IsReady held)

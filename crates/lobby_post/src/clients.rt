@@ -1,0 +1,231 @@
+//! All clients by their numbers.
+
+ghost use Rattle.std.specs.Prelude.{◌≡◌, ℕ, ◌+◌, ◌-◌, ◌^◌, ◌<◌, [], ◌++◌, List, length, take, drop, min, map, OnOk, OnErr, IfSome, true, is_some, option_copied};
+ghost use Rattle.std.specs.Ordering.{nat_cmp};
+ghost use Rattle.std.specs.List.Sorted.{IsStrictlySortedBy};
+ghost use Rattle.line_words.specs.Table.{ByNumber, at_number, put_number, without_number, change_number};
+ghost use Rattle.lobby_model.specs.declared.event.Phase.TheVariants.{Ended, In};
+ghost use Rattle.lobby_model.specs.State.{is_live_client, name_at, set_phase};
+ghost use Rattle.lobby_model.specs.Sessions.{greeted, drained};
+ghost use Rattle.lobby_model.specs.Next.{with_batch};
+ghost use Rattle.lobby_post.specs.Mail.{AreDue, AreReady, bytes_for, parted, plain};
+ghost use Rattle.lobby_post.specs.Unread.{is_over, unread_in};
+
+use crate::slot::Slot;
+use line_words::NameBuf;
+use std::alloc::{AllocError, Global};
+use std::collections::BTreeMap;
+use std::marker::Model;
+
+/// What a drain gave.
+#[derive(Clone, Copy, PartialEq, Eq, Debug)]
+pub struct Drained {
+    /// How many bytes were taken.
+    pub count: usize,
+    /// Whether nothing will ever come of the client again.
+    pub finished: bool,
+}
+
+/// The clients that are connected, by their numbers, each with an outbox.
+///
+/// A client hears until it is ended or cut: only then do its commands count, and bytes are put to it.
+#[derive(Drop)]
+pub struct Clients {
+    alloc: Global,
+    /// How many bytes may stand unread in an outbox.
+    limit: usize,
+    pub(crate) slots: BTreeMap<u64, Slot>,
+}
+
+impl Model for Clients {
+    ghost use Rattle.lobby_post.specs.Mail.{Crowd, HaveLimit};
+
+    ghost Value = { Crowd };
+
+    ghost view = { λ c. record { limit = c.limit; slots = c.slots.entries } };
+
+    ghost invariant = { λ c. HaveLimit c.limit c.slots.entries };
+}
+
+impl Clients {
+    /// No client. Each outbox will hold at most `limit` bytes.
+    pub fn new(alloc: Global, limit: usize) -> Clients
+        ensures limit { result.limit ≡ limit }
+        ensures nobody { result.slots ≡ [] }
+    {
+        Clients {
+            alloc,
+            limit,
+            slots: BTreeMap::new(alloc),
+        }
+    }
+
+    /// How many clients are there.
+    pub fn len(&self) -> usize
+        ensures { result ≡ length (plain self.now.slots) }
+    {
+        self.slots.len()
+    }
+
+    /// Whether a client is there: inserted and not yet removed.
+    pub fn contains(&self, client: u64) -> bool
+        ensures { result ≡ is_some (at_number (plain self.now.slots) client) }
+    {
+        self.slots.contains_key(&client)
+    }
+
+    /// Whether a client may give commands and get bytes.
+    pub fn hears(&self, client: u64) -> bool
+        ensures { result ≡ is_live_client (at_number (plain self.now.slots) client) }
+    {
+        match self.slots.get(&client) {
+            Some(slot) => slot.is_live(),
+            None => false,
+        }
+    }
+
+    /// The name under which a client is logged in, whether it hears or not.
+    pub fn name_of(&self, client: u64) -> Option<&NameBuf>
+        ensures { option_copied result ≡ name_at (plain self.now.slots) client }
+    {
+        match self.slots.get(&client) {
+            Some(slot) => slot.name(),
+            None => None,
+        }
+    }
+
+    /// Of a client that hears, the name under which it is logged in; `None` where it does not hear,
+    /// and `Some(None)` where nobody is logged in at it.
+    pub fn heard(&self, client: u64) -> Option<Option<&NameBuf>>
+        ensures hears { is_some result ≡ is_live_client (at_number (plain self.now.slots) client) }
+        ensures name { IfSome result (λ name. option_copied name ≡ name_at (plain self.now.slots) client) }
+    {
+        match self.slots.get(&client) {
+            Some(slot) => slot.heard(),
+            None => None,
+        }
+    }
+
+    /// Adds a client that has just connected from an IPv4 address, served by the worker `home`, 0 to
+    /// 63, in place of one that has this number. It is greeted, or cut where the greeting is longer than
+    /// the limit. Fails only where memory is refused, and then nothing changes.
+    pub fn insert(
+        &mut self,
+        client: u64,
+        ip: [u8; 4],
+        home: u8,
+        greeting: &[u8],
+    ) -> Result<(), AllocError>
+        requires { home < 64 }
+        ensures limit { self.new.limit ≡ self.old.limit }
+        ensures ok { OnOk result (plain self.new.slots ≡ put_number (plain self.old.slots) client (with_batch self.old.limit greeting.now (greeted ip home))) }
+        ensures due { OnOk result ((pieces : ByNumber (List ℕ)) → bytes_for pieces client ≡ [] → AreDue pieces self.old.slots → AreDue pieces self.new.slots) }
+        ensures was_ordered { OnOk result (IsStrictlySortedBy nat_cmp (map (λ e. e.0) self.old.slots)) }
+        ensures err { OnErr result (self.new ≡ self.old) }
+    {
+        let slot = Slot::with_greeting(self.alloc, self.limit, ip, home, greeting)?;
+        self.slots.insert(client, slot)?;
+        Ok(())
+    }
+
+    /// A client that hears is logged in under a name.
+    pub fn log_in(&mut self, client: u64, name: NameBuf)
+        requires { is_live_client (at_number (plain self.old.slots) client) ≡ true }
+        ensures limit { self.new.limit ≡ self.old.limit }
+        ensures clients { plain self.new.slots ≡ set_phase (plain self.old.slots) client (In name) }
+        ensures due { (pieces : ByNumber (List ℕ)) → AreDue pieces self.old.slots → AreDue pieces self.new.slots }
+        ensures ready { AreReady self.old.slots → AreReady self.new.slots }
+    {
+        if let Some(slot) = self.slots.get_mut(&client) {
+            slot.log_in(name);
+        }
+    }
+
+    /// Ends a client: nothing more is put to it, and its commands do nothing. What it has not read
+    /// stays.
+    pub fn end(&mut self, client: u64)
+        ensures limit { self.new.limit ≡ self.old.limit }
+        ensures clients { plain self.new.slots ≡ set_phase (plain self.old.slots) client Ended }
+        ensures due { (pieces : ByNumber (List ℕ)) → AreDue pieces self.old.slots → AreDue pieces self.new.slots }
+        ensures ready { AreReady self.old.slots → AreReady self.new.slots }
+    {
+        if let Some(slot) = self.slots.get_mut(&client) {
+            slot.end();
+        }
+    }
+
+    /// Removes a client, with what it has not read.
+    pub fn remove(&mut self, client: u64)
+        ensures limit { self.new.limit ≡ self.old.limit }
+        ensures clients { plain self.new.slots ≡ without_number (plain self.old.slots) client }
+        ensures due { (pieces : ByNumber (List ℕ)) → AreDue pieces self.old.slots → AreDue pieces self.new.slots }
+        ensures ready { AreReady self.old.slots → AreReady self.new.slots }
+    {
+        // Its contract says that the numbers rise, which the proof wants of the map as it was.
+        let _ = self.slots.len();
+        let _ = self.slots.remove(&client);
+    }
+
+    /// A client goes: it ends, or, where it does not stay, is removed.
+    pub fn part(&mut self, client: u64, stays: bool)
+        ensures limit { self.new.limit ≡ self.old.limit }
+        ensures clients { plain self.new.slots ≡ parted (plain self.old.slots) client stays }
+        ensures due { (pieces : ByNumber (List ℕ)) → AreDue pieces self.old.slots → AreDue pieces self.new.slots }
+        ensures ready { AreReady self.old.slots → AreReady self.new.slots }
+    {
+        if stays {
+            self.end(client);
+        } else {
+            self.remove(client);
+        }
+    }
+
+    /// Takes bytes that a client has not read into a slice, as many as fit, and tells whether nothing
+    /// will ever come of the client again. It takes no memory. A client that is not there has nothing,
+    /// and is finished.
+    pub fn drain(&mut self, client: u64, into: &mut [u8]) -> Drained
+        ensures count { result.count ≡ min (length (unread_in (at_number (plain self.old.slots) client))) (length into.old) }
+        ensures given { into.new ≡ take result.count (unread_in (at_number (plain self.old.slots) client)) ++ drop result.count into.old }
+        ensures finished { result.finished ≡ is_over (at_number (plain self.new.slots) client) }
+        ensures limit { self.new.limit ≡ self.old.limit }
+        ensures clients { plain self.new.slots ≡ change_number (plain self.old.slots) client (drained (length into.old)) }
+        ensures due { (pieces : ByNumber (List ℕ)) → AreDue pieces self.old.slots → AreDue pieces self.new.slots }
+    {
+        match self.slots.get_mut(&client) {
+            Some(slot) => {
+                let count = slot.drain(into);
+                Drained {
+                    count,
+                    finished: slot.is_over(),
+                }
+            }
+            None => Drained {
+                count: 0,
+                finished: true,
+            },
+        }
+    }
+
+    /// How many bytes a client has not read; 0 where it is not there.
+    pub fn unread(&self, client: u64) -> usize
+        ensures count { result ≡ length (unread_in (at_number (plain self.now.slots) client)) }
+        ensures small { result < 2 ^ 63 }
+    {
+        match self.slots.get(&client) {
+            Some(slot) => slot.unread(),
+            None => 0,
+        }
+    }
+
+    /// Copies bytes that a client has not read into a slice, beginning `from` bytes behind the first,
+    /// as many as there are and fit, and says how many; 0 where it is not there.
+    pub fn copy_unread(&self, client: u64, from: usize, into: &mut [u8]) -> usize
+        ensures count { result ≡ min (length (unread_in (at_number (plain self.now.slots) client)) - from) (length into.old) }
+        ensures given { into.new ≡ take result (drop from (unread_in (at_number (plain self.now.slots) client))) ++ drop result into.old }
+    {
+        match self.slots.get(&client) {
+            Some(slot) => slot.copy_unread(from, into),
+            None => 0,
+        }
+    }
+}

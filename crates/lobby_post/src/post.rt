@@ -1,0 +1,194 @@
+//! What an event sends: lines, each printed once, and who gets them, in the order of telling.
+
+ghost use Rattle.std.specs.Prelude.{◌≡◌, ℕ, ◌≤◌, [], ◌∷◌, ◌++◌, OnOk, OnErr};
+ghost use Rattle.reply_grammar.specs.Replies.{printed_line};
+ghost use Rattle.reply_grammar.specs.Lent.{reply_of};
+ghost use Rattle.lobby_post.specs.Mask.{has_home};
+ghost use Rattle.lobby_post.specs.Mail.{AreDue, AreReady, plain, deliver, wakes_home};
+ghost use Rattle.lobby_post.specs.Posted.{begun, blank, with_own, with_others, copy_to, addressed, Told};
+ghost use Rattle.lobby_model.specs.State.{State};
+ghost use Rattle.lobby_model.specs.Outcome.{tell, issuer};
+
+use crate::clients::Clients;
+use crate::delivery;
+use crate::delivery::Piece;
+use crate::wakes::Wakes;
+use reply_grammar::{LentReply, print_id, print_lent};
+use std::alloc::{AllocError, Global};
+use std::marker::Model;
+
+/// The lines of the event at hand, and which client gets which of them. Its buffers are kept from
+/// event to event, so that a recipient costs no print, and no memory once they have grown.
+///
+/// What tells fails only where memory is refused. What was told of the event is then given up: the
+/// next thing to do is to begin another one.
+#[derive(Drop)]
+pub struct Post {
+    issuer: u64,
+    id: Option<u32>,
+    text: Vec<u8>,
+    pieces: Vec<Piece>,
+    /// Where the lines begin that are being told, as the issuer gets them, and as others get them.
+    own: usize,
+    shared: usize,
+}
+
+impl Model for Post {
+    ghost use Rattle.std.specs.Prelude.{◌≤◌, drop, length};
+    ghost use Rattle.std.specs.List.{AllByRecursion};
+    ghost use Rattle.lobby_post.specs.Posted.{Posted};
+    ghost use Rattle.lobby_post.specs.Pieces.{LiesIn, pieces_of};
+
+    ghost Value = { Posted };
+
+    ghost view = { λ p. record { issuer = p.issuer; id = p.id; own = drop p.own p.text.items; shared = drop p.shared p.text.items; sent = pieces_of p.text.items p.pieces.items } };
+
+    ghost invariant = { λ p. AllByRecursion (LiesIn p.text.items) p.pieces.items × (p.own ≤ length p.text.items) × (p.shared ≤ length p.text.items) };
+}
+
+impl Post {
+    /// Nothing is told.
+    pub fn new(alloc: Global) -> Post
+        ensures { result ≡ begun 0 None }
+    {
+        Post {
+            issuer: 0,
+            id: None,
+            text: Vec::new(alloc),
+            pieces: Vec::new(alloc),
+            own: 0,
+            shared: 0,
+        }
+    }
+
+    /// An event of a client begins, under the id of its request.
+    pub fn begin(&mut self, issuer: u64, id: Option<u32>)
+        ensures { self.new ≡ begun issuer id }
+    {
+        self.issuer = issuer;
+        self.id = id;
+        self.pieces.clear();
+        self.text.clear();
+        self.own = 0;
+        self.shared = 0;
+    }
+
+    /// Prints the line that is told next, in place of those before it. Its issuer gets it behind the id
+    /// of its request.
+    pub fn write(&mut self, line: LentReply) -> Result<(), AllocError>
+        ensures { OnOk result (self.new ≡ record self.old { own = printed_line self.old.id (reply_of line.entry); shared = printed_line None (reply_of line.entry) }) }
+    {
+        let own = self.text.len();
+        print_id(self.id, &mut self.text)?;
+        let shared = self.text.len();
+        print_lent(line, None, &mut self.text)?;
+        self.own = own;
+        self.shared = shared;
+        Ok(())
+    }
+
+    /// Prints the line that is told next to others, in place of those before it: its issuer gets
+    /// nothing of it.
+    pub fn write_for_others(&mut self, line: LentReply) -> Result<(), AllocError>
+        ensures { OnOk result (self.new ≡ record self.old { own = []; shared = printed_line None (reply_of line.entry) }) }
+    {
+        let shared = self.text.len();
+        print_lent(line, None, &mut self.text)?;
+        self.own = self.text.len();
+        self.shared = shared;
+        Ok(())
+    }
+
+    /// Prints one more line that is told to others: its issuer gets nothing of them.
+    pub fn write_more_for_others(&mut self, line: LentReply) -> Result<(), AllocError>
+        ensures { OnOk result (self.new ≡ with_others self.old (reply_of line.entry ∷ [])) }
+    {
+        print_lent(line, None, &mut self.text)?;
+        self.own = self.text.len();
+        Ok(())
+    }
+
+    /// Lines for the issuer alone begin, in place of those before them. It gets them as one piece.
+    pub fn begin_own(&mut self)
+        ensures { self.new ≡ blank self.old }
+    {
+        self.own = self.text.len();
+        self.shared = self.own;
+    }
+
+    /// Prints one more line for the issuer alone, behind the id of its request.
+    pub fn write_own(&mut self, line: LentReply) -> Result<(), AllocError>
+        ensures { OnOk result (self.new ≡ with_own self.old (reply_of line.entry ∷ [])) }
+    {
+        let id = self.id;
+        print_lent(line, id, &mut self.text)?;
+        Ok(())
+    }
+
+    /// The issuer gets the lines that are told.
+    pub fn address_issuer(&mut self) -> Result<(), AllocError>
+        ensures { OnOk result (self.new ≡ addressed self.old (self.old.issuer ∷ [])) }
+    {
+        let issuer = self.issuer;
+        self.address(issuer)
+    }
+
+    /// A client gets the lines that are told.
+    pub fn address(&mut self, client: u64) -> Result<(), AllocError>
+        ensures { OnOk result (self.new ≡ record self.old { sent = self.old.sent ++ copy_to self.old client ∷ [] }) }
+    {
+        let from = if client == self.issuer {
+            self.own
+        } else {
+            self.shared
+        };
+        let to = self.text.len();
+        self.pieces.push(Piece { client, from, to })?;
+        Ok(())
+    }
+
+    /// Tells the issuer alone.
+    pub fn tell_issuer(&mut self, line: LentReply) -> Result<(), AllocError>
+        ensures { OnOk result ((s : State) → Told s self.old self.new (tell issuer (reply_of line.entry ∷ []) ∷ [])) }
+    {
+        self.write(line)?;
+        self.address_issuer()?;
+        Ok(())
+    }
+
+    /// Makes room for all that is told, in each outbox that takes it: all of that is due then. No client
+    /// sees a difference. Where memory is refused, nothing is due any more.
+    pub fn make_room(&self, clients: &mut Clients) -> Result<(), AllocError>
+        requires due { AreDue [] clients.old.slots }
+        ensures limit { clients.new.limit ≡ clients.old.limit }
+        ensures clients { plain clients.new.slots ≡ plain clients.old.slots }
+        ensures due { OnOk result (AreDue self.now.sent clients.new.slots) }
+        ensures ready { OnOk result (AreReady clients.new.slots) }
+        ensures err { OnErr result (AreDue [] clients.new.slots) }
+    {
+        delivery::make_room(&mut clients.slots, &self.text, &self.pieces)
+    }
+
+    /// Nothing is due any more: gives up what `make_room` promised.
+    pub fn forget(&self, clients: &mut Clients)
+        requires due { AreDue self.now.sent clients.old.slots }
+        ensures limit { clients.new.limit ≡ clients.old.limit }
+        ensures clients { plain clients.new.slots ≡ plain clients.old.slots }
+        ensures due { AreDue [] clients.new.slots }
+    {
+        delivery::forget(&mut clients.slots, &self.text, &self.pieces);
+    }
+
+    /// Puts all that is told, to each client whole or not at all. Gives the workers of those that it
+    /// touched.
+    pub fn deliver(&self, clients: &mut Clients) -> Wakes
+        requires due { AreDue self.now.sent clients.old.slots }
+        requires ready { AreReady clients.old.slots }
+        ensures limit { clients.new.limit ≡ clients.old.limit }
+        ensures clients { plain clients.new.slots ≡ deliver clients.old.limit self.now.sent (plain clients.old.slots) }
+        ensures due { AreDue [] clients.new.slots }
+        ensures wakes { (home : ℕ) → has_home result home ≡ wakes_home self.now.sent (plain clients.old.slots) home }
+    {
+        delivery::deliver(&mut clients.slots, &self.text, &self.pieces)
+    }
+}

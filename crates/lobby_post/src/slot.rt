@@ -1,0 +1,226 @@
+//! A client with its outbox.
+
+ghost use Rattle.std.specs.Prelude.{◌≡◌, ℕ, ◌+◌, ◌-◌, ◌^◌, ◌<◌, ◌≤◌, ◌++◌, length, take, drop, min, OnOk, OnErr, IfOk, IfSome, Some, true, is_some, option_copied};
+ghost use Rattle.lobby_model.specs.declared.event.Phase.TheVariants.{Ended, In};
+ghost use Rattle.lobby_model.specs.State.{is_live, in_phase, name_in};
+ghost use Rattle.lobby_model.specs.Sessions.{greeted, drained};
+ghost use Rattle.lobby_model.specs.Next.{with_batch};
+ghost use Rattle.lobby_post.specs.Mask.{has_home};
+ghost use Rattle.lobby_post.specs.Mail.{IsReady, put_first, wakes_one};
+ghost use Rattle.lobby_post.specs.Unread.{is_over};
+
+use crate::wakes::Wakes;
+use line_words::NameBuf;
+use lobby_model::Phase;
+use outbox::Outbox;
+use std::alloc::{AllocError, Global};
+use std::marker::Model;
+
+/// The room, in bytes, that an outbox may keep when all is read: many lines, but not those of a login
+/// among thousands of users.
+pub const KEPT_ROOM: usize = 4_096;
+
+/// A client, with what waits for it.
+#[derive(Drop)]
+pub struct Slot {
+    ip: [u8; 4],
+    home: u8,
+    phase: Phase,
+    outbox: Outbox,
+    /// How many bytes of the event at hand are still to be put.
+    due: usize,
+}
+
+impl Model for Slot {
+    ghost use Rattle.std.specs.Prelude.{◌<◌};
+    ghost use Rattle.lobby_post.specs.Mail.{Held};
+
+    ghost Value = { Held };
+
+    ghost view = { λ s. record { client = record { ip = s.ip; home = s.home; phase = s.phase; cut = s.outbox.cut; unread = s.outbox.unread }; limit = s.outbox.limit; spare = s.outbox.spare; due = s.due } };
+
+    ghost invariant = { λ s. s.home < 64 };
+}
+
+impl Slot {
+    /// A client that has just connected, whose outbox holds at most `limit` bytes.
+    pub fn new(alloc: Global, limit: usize, ip: [u8; 4], home: u8) -> Slot
+        requires { home < 64 }
+        ensures client { result.client ≡ greeted ip home }
+        ensures limit { result.limit ≡ limit }
+        ensures due { result.due ≡ 0 }
+    {
+        Slot {
+            ip,
+            home,
+            phase: Phase::Greeted,
+            outbox: Outbox::new(alloc, limit),
+            due: 0,
+        }
+    }
+
+    /// A client that has just connected and is greeted, or cut where the greeting does not fit.
+    pub fn with_greeting(
+        alloc: Global,
+        limit: usize,
+        ip: [u8; 4],
+        home: u8,
+        greeting: &[u8],
+    ) -> Result<Slot, AllocError>
+        requires { home < 64 }
+        ensures client { IfOk result (λ slot. slot.client ≡ with_batch limit greeting.now (greeted ip home)) }
+        ensures limit { IfOk result (λ slot. slot.limit ≡ limit) }
+        ensures due { IfOk result (λ slot. slot.due ≡ 0) }
+    {
+        let mut slot = Slot::new(alloc, limit, ip, home);
+        slot.make_room(greeting.len())?;
+        let _ = slot.put(greeting);
+        Ok(slot)
+    }
+
+    /// Whether bytes may still be put to it and its commands count.
+    pub fn is_live(&self) -> bool
+        ensures { result ≡ is_live self.now.client }
+    {
+        match self.phase {
+            Phase::Ended => false,
+            _ => !self.outbox.is_cut(),
+        }
+    }
+
+    /// So many more bytes are due, and there is room for all that is due, where it will be put.
+    pub fn make_room(&mut self, more: usize) -> Result<(), AllocError>
+        ensures client { self.new.client ≡ self.old.client }
+        ensures limit { self.new.limit ≡ self.old.limit }
+        ensures due { OnOk result (self.new.due ≡ self.old.due + more) }
+        ensures ready { OnOk result (IsReady self.new) }
+        ensures err { OnErr result (self.new.due ≡ self.old.due) }
+    {
+        let Some(due) = self.due.checked_add(more) else {
+            return Err(AllocError);
+        };
+        if self.is_live() && self.outbox.room_for(due) {
+            self.outbox.reserve(due)?;
+        }
+        self.due = due;
+        Ok(())
+    }
+
+    /// So many bytes are no longer due.
+    pub fn forget(&mut self, less: usize)
+        requires { less ≤ self.old.due }
+        ensures client { self.new.client ≡ self.old.client }
+        ensures limit { self.new.limit ≡ self.old.limit }
+        ensures due { self.new.due ≡ self.old.due - less }
+    {
+        self.due -= less;
+    }
+
+    /// Puts the next piece of what is due, or cuts the client where not all that is due fits. Gives
+    /// its worker where that touched it.
+    pub fn put(&mut self, piece: &[u8]) -> Wakes
+        requires due { length piece.now ≤ self.old.due }
+        requires ready { IsReady self.old }
+        ensures client { self.new.client ≡ put_first self.old.limit self.old.due piece.now self.old.client }
+        ensures limit { self.new.limit ≡ self.old.limit }
+        ensures due { self.new.due ≡ self.old.due - length piece.now }
+        ensures ready { IsReady self.new }
+        ensures home { (home : ℕ) → has_home result home ≡ wakes_one home piece.now self.old.client }
+    {
+        let due = self.due;
+        self.due = due - piece.len();
+        if !self.is_live() || piece.is_empty() {
+            return Wakes::none();
+        }
+        let home = Wakes::one(self.home);
+        if self.outbox.room_for(due) {
+            self.outbox.put(piece);
+        } else {
+            self.outbox.cut();
+            self.outbox.release(0);
+        }
+        home
+    }
+
+    /// The name under which it is logged in.
+    pub fn name(&self) -> Option<&NameBuf>
+        ensures { option_copied result ≡ name_in self.now.client.phase }
+    {
+        match &self.phase {
+            Phase::In { name } => Some(name),
+            _ => None,
+        }
+    }
+
+    /// The same where it hears, and None where it does not.
+    pub fn heard(&self) -> Option<Option<&NameBuf>>
+        ensures hears { is_some result ≡ is_live self.now.client }
+        ensures name { IfSome result (λ name. option_copied name ≡ name_in self.now.client.phase) }
+    {
+        if self.is_live() {
+            Some(self.name())
+        } else {
+            None
+        }
+    }
+
+    /// Ends the client: nothing more is put to it, and its commands do nothing.
+    pub fn end(&mut self)
+        ensures client { self.new.client ≡ in_phase Ended self.old.client }
+        ensures limit { self.new.limit ≡ self.old.limit }
+        ensures due { self.new.due ≡ self.old.due }
+        ensures ready { IsReady self.new }
+    {
+        self.phase = Phase::Ended;
+    }
+
+    /// The client, which hears, is logged in under a name.
+    pub fn log_in(&mut self, name: NameBuf)
+        requires { is_live self.old.client ≡ true }
+        ensures client { self.new.client ≡ in_phase (In name) self.old.client }
+        ensures limit { self.new.limit ≡ self.old.limit }
+        ensures due { self.new.due ≡ self.old.due }
+        ensures ready { IsReady self.old → IsReady self.new }
+    {
+        self.phase = Phase::In { name };
+    }
+
+    /// Takes unread bytes into a slice, as many as fit.
+    pub fn drain(&mut self, into: &mut [u8]) -> usize
+        ensures count { result ≡ min (length self.old.client.unread) (length into.old) }
+        ensures given { into.new ≡ take result self.old.client.unread ++ drop result into.old }
+        ensures client { self.new.client ≡ drained (length into.old) self.old.client }
+        ensures limit { self.new.limit ≡ self.old.limit }
+        ensures due { self.new.due ≡ self.old.due }
+    {
+        let count = self.outbox.take(into);
+        self.outbox.release(KEPT_ROOM);
+        count
+    }
+
+    /// Whether nothing will ever come of it again.
+    pub fn is_over(&self) -> bool
+        ensures { result ≡ is_over (Some self.now.client) }
+    {
+        match self.phase {
+            Phase::Ended => self.outbox.is_cut() || self.outbox.unread() == 0,
+            _ => self.outbox.is_cut(),
+        }
+    }
+
+    /// How many bytes it has not read.
+    pub fn unread(&self) -> usize
+        ensures count { result ≡ length self.now.client.unread }
+        ensures small { result < 2 ^ 63 }
+    {
+        self.outbox.unread()
+    }
+
+    /// Copies bytes that it has not read into a slice, beginning `from` bytes behind the first.
+    pub fn copy_unread(&self, from: usize, into: &mut [u8]) -> usize
+        ensures count { result ≡ min (length self.now.client.unread - from) (length into.old) }
+        ensures given { into.new ≡ take result (drop from self.now.client.unread) ++ drop result into.old }
+    {
+        self.outbox.copy_from(from, into)
+    }
+}
