@@ -12,11 +12,11 @@ rustc -C opt-level=3 -o "$out/fanout" bench/fanout.rs
 for _ in 1 2 3 4 5; do
     for users in 200 2000; do
         events=$((lines / users))
-        "$out/bench_lobby" 10000 "$users" "$events" 0 0 0 0 0 | sed "s/^/lobby $users /"
+        "$out/bench_lobby" clients=10000 users="$users" events="$events" | sed "s/^/lobby $users /"
         "$out/fanout" 10000 "$users" "$events" 0 0 | sed "s/^/baseline $users /"
     done
     for clients in 10 10000; do
-        "$out/bench_lobby" "$clients" 0 0 1000000 0 0 0 0 | sed "s/^/lobby $clients /"
+        "$out/bench_lobby" clients="$clients" pings=1000000 | sed "s/^/lobby $clients /"
     done
 done | awk -v lines="$lines" '
     $3 ~ /:$/ {

@@ -13,11 +13,11 @@ for _ in 1 2 3 4 5; do
     for sizes in "200 50" "2000 50" "2000 1000" "5000 50"; do
         read -r users members <<< "$sizes"
         words=$((lines / members))
-        "$out/bench_lobby" 10000 "$users" 0 0 0 "$members" "$words" 0 | sed "s/^/lobby $users-$members /"
+        "$out/bench_lobby" clients=10000 users="$users" members="$members" words="$words" | sed "s/^/lobby $users-$members /"
         "$out/fanout" 10000 "$users" 0 "$members" "$words" | sed "s/^/baseline $users-$members /"
     done
     for channels in 10 100; do
-        "$out/bench_lobby" 10000 2000 0 0 0 2 0 "$channels" | sed "s/^/lobby $channels-channels /"
+        "$out/bench_lobby" clients=10000 users=2000 members=2 channels="$channels" | sed "s/^/lobby $channels-channels /"
     done
 done | awk '
     { sub(/last joins:/, "joins:"); sub(/log outs:/, "leaves:") }

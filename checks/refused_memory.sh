@@ -1,8 +1,8 @@
 #!/usr/bin/env bash
-# Refuses each allocation in turn, one a run, to two tests: one whose lobby serves logins, a status, talk and log outs of
-# three users, one whose last of 33 users joins a channel. A test tries again what was refused, and fails where the refusal
-# left a trace; what comes before, in a test of its own that ends there, is not tried again. Says how many allocations that
-# takes, and how many were refused after them.
+# Refuses each allocation in turn, one a run, to three tests: one whose lobby serves logins, a status, talk and log outs of
+# three users, one in which they open, furnish, join and leave a battle, one whose last of 33 users joins a channel. A test
+# tries again what was refused, and fails where the refusal left a trace; what comes before, in a test of its own that ends
+# there, is not tried again. Says how many allocations that takes, and how many were refused after them.
 set -euo pipefail
 cd "$(dirname "$0")/.."
 (cd crates/lobby_tests && rt test > /dev/null)
@@ -22,5 +22,6 @@ refuse() {
     [ "$failed" -eq 0 ] && [ "$first" -lt "$last" ] || status=1
 }
 refuse machine::three_clients_are_numbered_in_order machine::an_event_that_memory_refused_leaves_no_trace
+refuse battles::three_users_are_in_no_battle battles::a_battle_event_that_memory_refused_leaves_no_trace
 refuse talk::all_but_one_are_in_a_channel talk::a_join_that_memory_refused_leaves_no_trace
 exit "$status"

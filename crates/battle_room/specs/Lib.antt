@@ -1,2 +1,4 @@
 pub mod Room
 pub mod Tags
+pub mod Places
+pub mod Refusals

@@ -1,8 +1,8 @@
 //! Talk in one channel, and a log out from many.
 
+use super::asked::Asked;
 use super::{Bench, report, requests, serve};
 use anyhow::Result;
-use command_grammar::Request;
 use std::alloc::{AllocError, Global};
 use std::rt::Clock;
 use std::time::Instant;
@@ -29,7 +29,7 @@ pub fn time_words<R: Clock + Print + AllocGlobal>(
 fn time_joins<R: Clock + Print + AllocGlobal>(
     rt: &R,
     bench: &mut Bench,
-    join: &[Request],
+    join: &[Asked],
     count: usize,
     is_timed: bool,
 ) -> Result<()> {
@@ -40,8 +40,8 @@ fn time_joins<R: Clock + Print + AllocGlobal>(
     let joins = earlier.len() as u64;
     let _ = serve(&mut bench.lobby, earlier, join, joins, &mut bench.reader)?;
     let start = Instant::now(rt)?;
-    for request in join {
-        let _ = bench.lobby.say(*last, request)?;
+    for asked in join {
+        let _ = bench.lobby.say(*last, asked.request())?;
     }
     let taken = start.elapsed(rt)?;
     let size = bench.reader.read_all(&mut bench.lobby, members);
@@ -51,7 +51,7 @@ fn time_joins<R: Clock + Print + AllocGlobal>(
 fn time_talk<R: Clock + Print + AllocGlobal>(
     rt: &R,
     bench: &mut Bench,
-    talk: &[Request],
+    talk: &[Asked],
     count: usize,
     words: u64,
     is_timed: bool,
@@ -91,12 +91,12 @@ fn join_both(alloc: Global, bench: &mut Bench, channel: u32) -> Result<(), Alloc
 fn time_exit<R: Clock + Print + AllocGlobal>(
     rt: &R,
     bench: &mut Bench,
-    exit: &[Request],
+    exit: &[Asked],
     is_timed: bool,
 ) -> Result<()> {
     let start = Instant::now(rt)?;
-    for (client, request) in bench.users.iter().zip(exit) {
-        let _ = bench.lobby.say(*client, request)?;
+    for (client, asked) in bench.users.iter().zip(exit) {
+        let _ = bench.lobby.say(*client, asked.request())?;
     }
     let taken = start.elapsed(rt)?;
     let size = bench.reader.read_all(&mut bench.lobby, &bench.users);

@@ -60,14 +60,14 @@ impl ChannelBook {
         if self.has_member(&channel, &user) {
             return Err(ChannelError::AlreadyIn);
         }
-        match self.add(channel, user) {
+        match self.add_member(channel, user) {
             Ok(()) => Ok(()),
             Err(AllocError) => Err(ChannelError::Memory),
         }
     }
 
     /// A user who is not in a channel joins it. Where memory is refused, nothing changes.
-    fn add(&mut self, channel: NameBuf, user: NameBuf) -> Result<(), AllocError>
+    pub fn add_member(&mut self, channel: NameBuf, user: NameBuf) -> Result<(), AllocError>
         requires { is_among user (names_in self.old channel) ≡ false }
         ensures ok { OnOk result (self.new ≡ joined channel user self.old) }
         ensures err { OnErr result (self.new ≡ self.old) }

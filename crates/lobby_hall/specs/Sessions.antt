@@ -3,6 +3,7 @@ use Rattle.std.specs.Prelude.{◌≡◌, ℕ, Bool, ◌||◌, List, Option, Some
 use Rattle.line_framer.specs.Frames.{frames, is_spoilt}
 use Rattle.line_framer.specs.Framed.{Framed, StandsFor}
 use Rattle.command_grammar.specs.declared.command.Request.{Request}
+use Rattle.command_grammar.specs.Kinds.{keeps_kinds}
 use Rattle.command_grammar.specs.Owning.{owns_bytes}
 use Rattle.command_grammar.specs.Reads.{Reads}
 use Rattle.lobby_model.specs.Schedule.{line_limit}
@@ -24,6 +25,12 @@ NextAt None bytes Spoilt = is_spoilt bytes line_limit ≡ true
 
 abbrev pub IsNext : List ℕ → ℕ → Next → Type 0
 IsNext bytes accepted next = NextAt (slice_get (frames bytes line_limit) accepted) bytes next
+
+-- if a request is next, each of its arguments is of its kind
+abbrev pub KeepsKinds : Next → Type 0
+KeepsKinds Nothing = Unit {0}
+KeepsKinds (Line request) = IsTrue (keeps_kinds request.command)
+KeepsKinds Spoilt = Unit {0}
 
 -- a line is next, and the command that it reads as owns bytes
 abbrev pub NeedsMemoryAt : Option (List ℕ) → Type 0

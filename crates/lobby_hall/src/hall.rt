@@ -1,8 +1,9 @@
 //! A hall: a lobby, the sessions of its clients, and the record of what was put for each.
 
-ghost use Rattle.std.specs.Prelude.{◌≡◌, ◌≢◌, ℕ, ◌≤◌, List, [], ◌∷◌, ◌++◌, IfOk, OnOk, OnErr, None, length};
+ghost use Rattle.std.specs.Prelude.{◌≡◌, ◌≢◌, ℕ, ◌≤◌, List, [], ◌∷◌, ◌++◌, IfOk, IsTrue, OnOk, OnErr, None, length};
 ghost use Rattle.std.specs.List.{AllByRecursion};
 ghost use Rattle.account_book.specs.Account.{Account};
+ghost use Rattle.command_grammar.specs.Kinds.{keeps_kinds};
 ghost use Rattle.lobby_model.specs.declared.event.Event.{Event};
 ghost use Rattle.lobby_model.specs.declared.event.Event.TheVariants as event;
 ghost use Rattle.lobby_model.specs.declared.schedule.Step.{Step};
@@ -141,6 +142,7 @@ impl Hall {
 
     /// The lobby is told the request, and the line that asked for it is accepted.
     fn say(&mut self, client: u64, request: &Request) -> Result<(), AllocError>
+        requires { IsTrue (keeps_kinds request.now.command) }
         ensures lobby { OnOk result (self.new.lobby ≡ next self.old.lobby (event.Say client request.now)) }
         ensures accepted { OnOk result (Accepted (session_at self.old.sessions client) (session_at self.new.sessions client)) }
         ensures others { (q : ℕ) → q ≢ client → session_at self.new.sessions q ≡ session_at self.old.sessions q }

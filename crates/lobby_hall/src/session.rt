@@ -3,7 +3,7 @@
 ghost use Rattle.std.specs.Prelude.{◌≡◌, ℕ, ◌+◌, ◌↔◌, List, [], ◌++◌, IfOk, OnErr, IsSome, IsTrue, true};
 ghost use Rattle.line_framer.specs.Feeding.{IsJudged};
 ghost use Rattle.line_framer.specs.Framed.{next_line};
-ghost use Rattle.lobby_hall.specs.Sessions.{Heard, IsNext, NeedsMemory, has_next};
+ghost use Rattle.lobby_hall.specs.Sessions.{Heard, IsNext, KeepsKinds, NeedsMemory, has_next};
 
 use command_grammar::{Request, read_request};
 use line_framer::{FeedError, Framer};
@@ -82,10 +82,13 @@ impl Session {
         self.framer.feed(piece)
     }
 
-    /// What the client asks next: the request of the first line that was not accepted. Memory is
-    /// taken for the bytes that its command owns alone; the error says that it was refused.
+    /// What the client asks next: the request of the first line that was not accepted, each of whose
+    /// arguments is of its kind. Memory is taken for the bytes that its command owns alone; the error
+    /// says that it was refused.
+    #[tactic(auto, using(command_grammar::proofs::KindTables::request_keeps))]
     pub fn next_request(&self) -> Result<Next, AllocError>
         ensures ok { IfOk result (λ next. (bytes : List ℕ) (accepted : ℕ) → Heard self.now.framed bytes accepted → IsNext bytes accepted next) }
+        ensures kinds { IfOk result KeepsKinds }
         ensures refused { OnErr result ((bytes : List ℕ) (accepted : ℕ) → Heard self.now.framed bytes accepted → NeedsMemory bytes accepted) }
     {
         match self.framer.peek() {

@@ -6,6 +6,7 @@ ghost use Rattle.std.specs.Option.{option_copied};
 ghost use Rattle.lobby_hall.specs.Copied.{changed_at};
 ghost use Rattle.lobby_hall.specs.Standing.{session_at};
 ghost use Rattle.lobby_hall.specs.OneSession.{Accepted, Fed, IsNextOf, IsReady};
+ghost use Rattle.lobby_hall.specs.Sessions.{KeepsKinds};
 
 use crate::place::place_of;
 use crate::session::{Next, Session};
@@ -84,7 +85,8 @@ pub(crate) fn close(sessions: &mut Vec<Option<Session>>, client: u64)
 
 /// What a client asks next: nothing, where it has no session.
 pub(crate) fn next_of(sessions: &[Option<Session>], client: u64) -> Result<Next, AllocError>
-    ensures { IfOk result (IsNextOf (session_at sessions.now client)) }
+    ensures next { IfOk result (IsNextOf (session_at sessions.now client)) }
+    ensures kinds { IfOk result KeepsKinds }
 {
     match session_of(sessions, client) {
         Some(session) => session.next_request(),

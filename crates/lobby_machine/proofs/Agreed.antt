@@ -22,7 +22,7 @@ use Rattle.lobby_model.proofs.Splits.{same_either_way}
 use Rattle.lobby_post.specs.Posted.{has_number}
 use Rattle.lobby_machine.specs.Changes.{clients_after}
 use Rattle.lobby_machine.specs.declared.change.Change.{Change}
-use Rattle.lobby_machine.specs.declared.change.Change.TheVariants.{Nothing, Status, LogIn, LogOut, Join, Leave}
+use Rattle.lobby_machine.specs.declared.change.Change.TheVariants.{Nothing, Status, LogIn, LogOut, Join, Leave, InBattles}
 
 -- names are where they were
 pub agree_kept : (m n : ByNumber Client) (seats : ByName Seat) → ((c : ℕ) → name_at n c ≡ name_at m c) → Agree m seats → Agree n seats
@@ -269,12 +269,13 @@ numbered_changed last m c f = numbered_kept last m _ (λ q there. sym (there_cha
 
 pub numbered_after : (last : ℕ) (m : ByNumber Client) (c : ℕ) (change : Change) → Numbered last m → Numbered last (clients_after m c change)
 numbered_after last m c (LogIn name seat) numbered = numbered_changed last m c (in_phase (In name)) numbered
-numbered_after last m c (LogOut name true) numbered = numbered_changed last m c (in_phase Ended) numbered
-numbered_after last m c (LogOut name false) numbered = numbered_kept last m _ (there_without m c) numbered
+numbered_after last m c (LogOut name battle true) numbered = numbered_changed last m c (in_phase Ended) numbered
+numbered_after last m c (LogOut name battle false) numbered = numbered_kept last m _ (there_without m c) numbered
 numbered_after last m c Nothing numbered = numbered
 numbered_after last m c (Join channel name) numbered = numbered
 numbered_after last m c (Leave channel name) numbered = numbered
 numbered_after last m c (Status name status) numbered = numbered
+numbered_after last m c (InBattles change) numbered = numbered
 
 pub numbered_delivered : (limit : ℕ) (pieces : ByNumber (List ℕ)) (last : ℕ) (m n : ByNumber Client) → n ≡ deliver limit pieces m → Numbered last m
     → Numbered last n

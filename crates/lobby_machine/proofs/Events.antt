@@ -8,7 +8,7 @@ use Rattle.lobby_model.specs.declared.event.Event.{Event}
 use Rattle.lobby_model.specs.declared.event.Event.TheVariants as event
 use Rattle.lobby_model.specs.State.{State, hears, name_of}
 use Rattle.lobby_model.specs.Outcome.{nothing, letters_of, lines_for, state_after}
-use Rattle.lobby_model.specs.Unserved.{answered}
+use Rattle.lobby_model.specs.Commands.{answer}
 use Rattle.lobby_model.specs.Events.{effect, reader_of, under}
 use Rattle.lobby_model.specs.Next.{next}
 use Rattle.lobby_machine.specs.declared.change.Change.{Change}
@@ -19,15 +19,15 @@ use Rattle.lobby_machine.specs.Answers.{Obeyed, Matches}
 
 module _ (s : State) (c : ℕ) (request : Request) where
   module _ (live : hears s c ≡ true) (post : Posted) (change : Change)
-      (obeyed : Obeyed s c (begun c request.id) post change (answered s c (name_of s c) request.command)) where
+      (obeyed : Obeyed s c (begun c request.id) post change (answer s c (name_of s c) request.command)) where
     pub said_effect : effect s (event.Say c request) ≡ changed s c change
-    said_effect = ap (λ b. state_after s (if b then answered s c (name_of s c) request.command else nothing)) live ∙ obeyed.effect
+    said_effect = ap (λ b. state_after s (if b then answer s c (name_of s c) request.command else nothing)) live ∙ obeyed.effect
 
     pub said_matches : Matches s (event.Say c request) post
     said_matches d =
         obeyed.told.bytes d
         ∙ ap (λ b. print_all (under (if same_number d c then request.id else None)
-        (lines_for (reader_of s c d) (letters_of (if b then answered s c (name_of s c) request.command else nothing))))) (sym live)
+        (lines_for (reader_of s c d) (letters_of (if b then answer s c (name_of s c) request.command else nothing))))) (sym live)
 
 -- what a delivery says of every event is said of the event at hand
 module _ {X : Type 0} (r : Result ℕ X) (s t n : State) (e : Event) (post : Posted) (is : effect s e ≡ t) (matches : Matches s e post) where

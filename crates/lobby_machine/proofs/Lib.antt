@@ -11,3 +11,8 @@ pub mod Bursts
 pub mod Leaves
 pub mod Members
 pub mod Talked
+pub mod Seated
+pub mod Base
+pub mod Rooms
+pub mod InBattles
+pub mod Founders

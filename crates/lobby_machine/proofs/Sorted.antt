@@ -14,7 +14,7 @@ below : {X : Type 0} (k : ℕ) (es : ByNumber X) → AllByRecursion (λ y. nat_c
 below k [] h = tt
 below k (e ∷ es) h = both _ _ (subst (λ r. T (is_lt r)) (sym h.0) tt) (below k es h.1)
 
-ordered_is_sorted : {X : Type 0} (es : ByNumber X) → IsStrictlySortedBy nat_cmp (map (λ e. e.0) es) → T (is_sorted nat_cmp es)
+pub ordered_is_sorted : {X : Type 0} (es : ByNumber X) → IsStrictlySortedBy nat_cmp (map (λ e. e.0) es) → T (is_sorted nat_cmp es)
 unfolding IsStrictlySortedBy
 ordered_is_sorted [] h = tt
 ordered_is_sorted (e ∷ es) h = both _ _ (below e.0 es h.0) (ordered_is_sorted es h.1)

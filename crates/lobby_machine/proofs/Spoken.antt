@@ -1,15 +1,11 @@
 -- What single commands come to.
 use Rattle.std.proofs.Common.{◌≡◌, ◌≢◌, ◌==◌, ℕ, ℤ, List, [], ◌∷◌, ◌++◌, refl, sym, ap, subst, ◌∙◌, true, false, append-nil, arith}
-use Rattle.std.specs.Prelude.{Option, Some, None, Bool, Result, Ok, Err, is_ok, is_some, ◌&&◌, if◌then◌else◌}
+use Rattle.std.specs.Prelude.{Option, Some, None, Bool, Result, Ok, Err, is_ok, is_some, if◌then◌else◌}
 use Rattle.std.specs.Option.{option_map}
 use Rattle.std.specs.BTreeMap.{is_at}
 use Rattle.std.specs.Map.{lookup}
 use Rattle.account_book.specs.Account.{Account}
 use Rattle.account_book.specs.declared.error.LoginFault.{LoginFault}
-use Rattle.command_grammar.specs.declared.command.Command.{Command}
-use Rattle.command_grammar.specs.declared.command.Command.TheVariants as command
-use Rattle.command_grammar.specs.declared.command.ReadFault.{ReadFault}
-use Rattle.command_grammar.specs.declared.command.ReadFault.TheVariants.{UnknownCommand}
 use Rattle.status_bits.specs.Fields.{merge}
 use Rattle.status_bits.specs.UserWord.{user_table}
 use Rattle.reply_grammar.specs.Replies.{print_all, printed_line}
@@ -17,23 +13,20 @@ use Rattle.reply_grammar.specs.declared.Reply.{Reply}
 use Rattle.reply_grammar.specs.declared.Reply.TheVariants as reply
 use Rattle.line_words.specs.Table.{ByName, at_name, put_name, change_name, name_cmp}
 use Rattle.lobby_model.specs.State.{State, User, user_with, hears, name_of}
-use Rattle.lobby_model.specs.Texts.{user_is_in, invalid_login, fault_text}
-use Rattle.lobby_model.specs.Outcome.{done, refuse_if, message, Outcome, Refused, tell, issuer, everyone, others}
+use Rattle.lobby_model.specs.Texts.{user_is_in, invalid_login}
+use Rattle.lobby_model.specs.Outcome.{done, refuse_if, Outcome, Refused, tell, issuer, everyone, others}
 use Rattle.lobby_model.specs.Sessions.{status_in, set_user_status, added, shown_status, burst, arrival, logs_in, log_in, user_of}
 use Rattle.lobby_model.specs.Events.{under}
-use Rattle.lobby_model.specs.Commands.{answer}
-use Rattle.lobby_model.specs.Unserved.{answered, is_unserved}
 use Rattle.line_words.proofs.Tables.{at-map_values, lookup_is_find}
 use Rattle.lobby_post.specs.Posted.{Posted, Sends, Told, with_others}
 use Rattle.lobby_post.proofs.Telling.{told_then, told_lines_to_others}
 use Rattle.lobby_machine.specs.declared.seats.Seat.{Seat}
 use Rattle.lobby_machine.specs.declared.change.Change.TheVariants.{Nothing, Status, LogIn}
 use Rattle.lobby_machine.specs.declared.refusal.Refusal.{Refusal}
-use Rattle.lobby_machine.specs.declared.refusal.Refusal.TheVariants.{LogInFirst}
 use Rattle.lobby_machine.specs.declared.refusal.Stop.{Stop}
 use Rattle.lobby_machine.specs.declared.refusal.Stop.TheVariants as stop
 use Rattle.lobby_machine.specs.Seats.{user_in, users_of}
-use Rattle.lobby_machine.specs.Answers.{Obeyed, Answers, Refuses, refusal_of_unserved, refusal_reply}
+use Rattle.lobby_machine.specs.Answers.{Obeyed, Answers, Refuses, refusal_reply}
 
 -- the user of a name, by the seat of that name
 pub user_at : (seats : ByName Seat) (users : ByName User) (name : List ℕ) (seat : Option Seat) → users_of seats ≡ users
@@ -80,51 +73,6 @@ stopped s c post outcome refusal (stop.Refused refused) because comes = record {
 }
 stopped s c post outcome refusal stop.Memory because comes = tt
 
--- a command that is served, and one that is not
-and_false : (b : Bool) → (b && false) ≡ false
-and_false true = refl
-and_false false = refl
-
-pub served : (s : State) (c : ℕ) (me : Option (List ℕ)) (x : Command) → is_unserved x ≡ false → answered s c me x ≡ answer s c me x
-served s c me x is = ap (λ b. refuse_if b (message (fault_text UnknownCommand)) (answer s c me x)) (ap (λ b. is_some me && b) is
-    ∙ and_false (is_some me))
-
-open_refused : (s : State) (c : ℕ) (x : Command) → is_unserved x ≡ true → answer s c None x ≡ Refused (refusal_reply LogInFirst)
-open_refused s c command.Blank h = absurd (cc)
-open_refused s c (command.Unread fault) h = absurd (cc)
-open_refused s c command.Ping h = absurd (cc)
-open_refused s c command.Exit h = absurd (cc)
-open_refused s c (command.Login name password cpu local_ip lobby) h = absurd (cc)
-open_refused s c x h = refl
-
-pub unserved_refused : (s : State) (c : ℕ) (me : Option (List ℕ)) (x : Command) (r : Refusal) → is_unserved x ≡ true → r ≡ refusal_of_unserved me
-    → answered s c me x ≡ Refused (refusal_reply r)
-unserved_refused s c (Some me) x r h is = ap (λ b. refuse_if b (message (fault_text UnknownCommand)) (answer s c (Some me) x)) h
-    ∙ ap (λ r. Refused (refusal_reply r)) (sym is)
-unserved_refused s c None x r h is = open_refused s c x h ∙ ap (λ r. Refused (refusal_reply r)) (sym is)
-
--- the table is whole: what it does not name is not served
-pub all_named : (x : Command) → is_unserved x ≡ false → x ≢ command.Blank → ((fault : ReadFault) → x ≢ command.Unread fault) → x ≢ command.Ping
-    → x ≢ command.Exit → ((user_name password : List ℕ) (cpu : ℤ) (local_ip lobby : List ℕ) → x ≢ command.Login user_name password cpu local_ip lobby)
-    → ((asked : ℕ) → x ≢ command.MyStatus asked)
-    → ((channel : List ℕ) (key : Option (List ℕ)) → x ≢ command.Join channel key) → ((channel : List ℕ) → x ≢ command.Leave channel)
-    → ((channel text : List ℕ) → x ≢ command.Say channel text) → ((channel text : List ℕ) → x ≢ command.SayEx channel text)
-    → ((target text : List ℕ) → x ≢ command.SayPrivate target text) → x ≢ command.Channels → ⊥
-all_named command.Blank h blank unread ping exit login status join leave say say_ex say_private channels = blank refl
-all_named (command.Unread fault) h blank unread ping exit login status join leave say say_ex say_private channels = unread fault refl
-all_named command.Ping h blank unread ping exit login status join leave say say_ex say_private channels = ping refl
-all_named command.Exit h blank unread ping exit login status join leave say say_ex say_private channels = exit refl
-all_named (command.Login user_name password cpu local_ip lobby) h blank unread ping exit login status join leave say say_ex say_private channels =
-    login user_name password cpu local_ip lobby refl
-all_named (command.MyStatus asked) h blank unread ping exit login status join leave say say_ex say_private channels = status asked refl
-all_named (command.Join channel key) h blank unread ping exit login status join leave say say_ex say_private channels = join channel key refl
-all_named (command.Leave channel) h blank unread ping exit login status join leave say say_ex say_private channels = leave channel refl
-all_named (command.Say channel text) h blank unread ping exit login status join leave say say_ex say_private channels = say channel text refl
-all_named (command.SayEx channel text) h blank unread ping exit login status join leave say say_ex say_private channels = say_ex channel text refl
-all_named (command.SayPrivate target text) h blank unread ping exit login status join leave say say_ex say_private channels = say_private target text refl
-all_named command.Channels h blank unread ping exit login status join leave say say_ex say_private channels = channels refl
-all_named x h blank unread ping exit login status join leave say say_ex say_private channels = absurd (cc)
-
 -- a login
 none_there : {X : Type 0} (o : Option X) → is_some o ≡ false → o ≡ None
 none_there None h = refl
@@ -141,18 +89,18 @@ module _ (s : State) (c : ℕ) (cpu : ℤ) (r : Result Account LoginFault) (acco
       (done (logs_in c account.name (user_of account cpu) s))) there
 
   pub logged_in_so : (old a new : Posted) (name : List ℕ) (seat : Seat) → hears s c ≡ true → name_of s c ≡ None
-      → is_some (at_name s.users account.name) ≡ false → name ≡ account.name → seat.client ≡ c → user_in seat ≡ user_of account cpu
+      → is_some (at_name s.users account.name) ≡ false → name ≡ account.name → seat.client ≡ c → seat.battle ≡ None → user_in seat ≡ user_of account cpu
       → Told s old a (tell issuer (burst s.settings.motd name (put_name s.users name (user_in seat)) s.battles) ∷ [])
       → Told s a new (tell others (arrival name (user_in seat)) ∷ [])
       → Obeyed s c old new (LogIn name seat) (log_in s c cpu r)
-  logged_in_so old a new name seat live nobody free named here same first second =
+  logged_in_so old a new name seat live nobody free named here outside same first second =
       let comes : log_in s c cpu r ≡ done (logs_in c name (user_in seat) s) =
       ap (log_in s c cpu) let_in ∙ ap (λ b. refuse_if b (reply.Denied user_is_in) (done (logs_in c account.name (user_of account cpu) s))) free
       ∙ (λ i. done (logs_in c (sym named i) (sym same i) s)) in
       subst (λ o. Obeyed s c old new (LogIn name seat) o) (sym comes) (record {
         told = told_then s old a new _ _ first second;
         effect = refl;
-        can_be = record { hears = live; nobody = nobody; free = ap (at_name s.users) named ∙ none_there _ free; here = here };
+        can_be = record { hears = live; nobody = nobody; free = ap (at_name s.users) named ∙ none_there _ free; here = here; outside = outside };
       })
 
 -- the others are told of one who logs in, its status where that is not 0

@@ -3,7 +3,7 @@ use Rattle.std.proofs.Common.{◌≡◌, ℕ, List, [], ◌∷◌, ◌++◌, ref
 use Rattle.reply_grammar.specs.declared.Reply.{Reply}
 use Rattle.reply_grammar.specs.declared.Reply.TheVariants as reply
 use Rattle.line_words.specs.Table.{is_among}
-use Rattle.channel_book.specs.Channels.{Channels, names_in, joined}
+use Rattle.channel_book.specs.Channels.{names_in, joined}
 use Rattle.lobby_model.specs.State.{State}
 use Rattle.lobby_model.specs.Outcome.{Happening, done, refuse_if, tell, user, users}
 use Rattle.lobby_model.specs.Channels.{name_lines, join, joins, list_channels}
@@ -17,7 +17,7 @@ use Rattle.lobby_machine.specs.Talk.{channel_lines}
 
 -- one who passes a check: what then happens was told, and is the change
 pub passes : (s : State) (c : ℕ) (old new : Posted) (failing : Bool) (r : Reply) (h : Happening) (change : Change) → failing ≡ false
-    → Told s old new (h.told ++ []) → h.after s ≡ changed s c change → CanBe s.clients s.users c change
+    → Told s old new (h.told ++ []) → h.after s ≡ changed s c change → CanBe s.clients s.users s.channels s.battles c change
     → Obeyed s c old new change (refuse_if failing r (done h))
 passes s c old new failing r h change fine told effect can_be =
     subst (λ b. Obeyed s c old new change (refuse_if b r (done h))) (sym fine) (record { told = told; effect = effect; can_be = can_be })
@@ -37,7 +37,8 @@ joins_so s c old a b new me channel names name_copy channel_copy are out same_ch
     (joins me channel (names_in s.channels channel)) (Join channel_copy name_copy) out
     (subst (λ ns. Told s old new (tell (user me) (reply.Join channel ∷ name_lines channel (ns ++ me ∷ []))
     ∷ tell (users ns) (reply.Joined channel me ∷ []) ∷ [])) are told)
-    (λ i. record s { channels = joined (sym same_channel i) (sym same_name i) s.channels }) tt
+    (λ i. record s { channels = joined (sym same_channel i) (sym same_name i) s.channels })
+    (ap (λ n. is_among n (names_in s.channels channel_copy)) same_name ∙ ap (λ ch. is_among me (names_in s.channels ch)) same_channel ∙ out)
 
 pub channels_listed : (s : State) (c : ℕ) (old p0 p1 p2 new : Posted) → p0 ≡ blank old → p1 ≡ with_own p0 (channel_lines s.channels)
     → p2 ≡ with_own p1 (reply.EndOfChannels ∷ []) → new ≡ addressed p2 (p2.issuer ∷ []) → Obeyed s c old new Nothing (list_channels s)

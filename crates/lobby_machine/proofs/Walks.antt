@@ -36,7 +36,7 @@ none_above : (d : ℕ) (cs : List ℕ) → AllByRecursion (λ k. nat_cmp d k ≡
 none_above d [] above = refl
 none_above d (c ∷ cs) above = (λ i. is_eq (above.0 i) || has_number cs d) ∙ none_above d cs above.1
 
-apart_rising : (cs : List ℕ) → IsStrictlySortedBy nat_cmp cs → AreApart cs
+pub apart_rising : (cs : List ℕ) → IsStrictlySortedBy nat_cmp cs → AreApart cs
 unfolding IsStrictlySortedBy
 apart_rising [] rising = tt
 apart_rising (c ∷ cs) rising = (none_above c cs rising.0, apart_rising cs rising.1)
@@ -80,9 +80,9 @@ any-append c (x ∷ xs) ys = elim (same_number c x) as (λ b. (b || has_number (
   | false ↦ any-append c xs ys
 ]
 
-out_of : (name : List ℕ) (names : List (List ℕ)) → AllByRecursion (λ n. same_name name n ≡ false) names → is_among name names ≡ false
-out_of name [] h = refl
-out_of name (n ∷ names) h = (λ i. h.0 i || is_among name names) ∙ out_of name names h.1
+out_of : (me : List ℕ) (names : List (List ℕ)) → AllByRecursion (λ n. same_name me n ≡ false) names → is_among me names ≡ false
+out_of me [] h = refl
+out_of me (n ∷ names) h = (λ i. h.0 i || is_among me names) ∙ out_of me names h.1
 
 module _ (clients : ByNumber Client) (seats : ByName Seat) (agree : Agree clients seats) where
   named_so : (name : List ℕ) (o : Option (List ℕ)) → is_named (same_name name) o ≡ true → o ≡ Some name

@@ -1,22 +1,22 @@
 -- What a command comes to in the machine: a refusal, or letters told and a change.
-use Rattle.std.specs.Prelude.{◌≡◌, ℕ, List, Option, Some, None, Result, Ok, Err}
-use Rattle.command_grammar.specs.declared.command.ReadFault.TheVariants.{UnknownCommand}
+use Rattle.std.specs.Prelude.{◌≡◌, ℕ, List, Result, Ok, Err}
 use Rattle.reply_grammar.specs.declared.Reply.{Reply}
 use Rattle.reply_grammar.specs.declared.Reply.TheVariants as reply
 use Rattle.lobby_model.specs.declared.event.Event.{Event}
 use Rattle.lobby_model.specs.State.{State}
-use Rattle.lobby_model.specs.Texts.{fault_text, log_in_first, already_in, invalid_login, user_is_in, already_in_channel, not_in_channel, no_such_user}
+use Rattle.lobby_model.specs.Texts.{fault_text, log_in_first, already_in, invalid_login, user_is_in, already_in_channel, not_in_channel, no_such_user, already_in_battle, no_number_left, no_such_battle, battle_is_locked, wrong_password, not_in_battle, not_the_founder, no_such_member, cannot_kick_yourself, no_such_bot, not_your_bot, bot_name_taken, too_many_bots, too_many_tags}
 use Rattle.lobby_model.specs.Outcome.{Outcome, Refused, letters_of, state_after}
 use Rattle.lobby_model.specs.Next.{batch}
 use Rattle.lobby_post.specs.Mail.{bytes_for}
 use Rattle.lobby_post.specs.Posted.{Posted, Told}
 use Rattle.lobby_machine.specs.declared.refusal.Refusal.{Refusal}
-use Rattle.lobby_machine.specs.declared.refusal.Refusal.TheVariants.{Fault, LogInFirst, AlreadyIn, InvalidLogin, UserIsIn, AlreadyInChannel, NotInChannel, NoSuchUser}
+use Rattle.lobby_machine.specs.declared.refusal.Refusal.TheVariants.{Fault, LogInFirst, AlreadyIn, InvalidLogin, UserIsIn, AlreadyInChannel, NotInChannel, NoSuchUser, OpensInBattle, NoNumberLeft, JoinsInBattle, NoSuchBattle, BattleIsLocked, WrongPassword, NotInBattle, NotTheFounder, NoSuchMember, CannotKickYourself, NoSuchBot, NotYourBot, BotNameTaken, TooManyBots, TooManyTags}
 use Rattle.lobby_machine.specs.declared.refusal.Stop.{Stop}
 use Rattle.lobby_machine.specs.declared.refusal.Stop.TheVariants as stop
 use Rattle.lobby_machine.specs.declared.change.Change.{Change}
 use Rattle.lobby_machine.specs.Changes.{CanBe, changed}
 
+-- why, in words
 abbrev pub refusal_text : Refusal → List ℕ
 refusal_text (Fault fault) = fault_text fault
 refusal_text LogInFirst = log_in_first
@@ -26,27 +26,56 @@ refusal_text UserIsIn = user_is_in
 refusal_text (AlreadyInChannel channel) = already_in_channel
 refusal_text NotInChannel = not_in_channel
 refusal_text NoSuchUser = no_such_user
+refusal_text OpensInBattle = already_in_battle
+refusal_text NoNumberLeft = no_number_left
+refusal_text JoinsInBattle = already_in_battle
+refusal_text NoSuchBattle = no_such_battle
+refusal_text BattleIsLocked = battle_is_locked
+refusal_text WrongPassword = wrong_password
+refusal_text NotInBattle = not_in_battle
+refusal_text NotTheFounder = not_the_founder
+refusal_text NoSuchMember = no_such_member
+refusal_text CannotKickYourself = cannot_kick_yourself
+refusal_text NoSuchBot = no_such_bot
+refusal_text NotYourBot = not_your_bot
+refusal_text BotNameTaken = bot_name_taken
+refusal_text TooManyBots = too_many_bots
+refusal_text TooManyTags = too_many_tags
+
+-- the line that says so, in these words
+abbrev pub reply_saying : Refusal → List ℕ → Reply
+reply_saying (Fault fault) text = reply.ServerMsg text
+reply_saying LogInFirst text = reply.ServerMsg text
+reply_saying AlreadyIn text = reply.Denied text
+reply_saying InvalidLogin text = reply.Denied text
+reply_saying UserIsIn text = reply.Denied text
+reply_saying (AlreadyInChannel channel) text = reply.JoinFailed channel text
+reply_saying NotInChannel text = reply.ServerMsg text
+reply_saying NoSuchUser text = reply.ServerMsg text
+reply_saying OpensInBattle text = reply.OpenBattleFailed text
+reply_saying NoNumberLeft text = reply.OpenBattleFailed text
+reply_saying JoinsInBattle text = reply.JoinBattleFailed text
+reply_saying NoSuchBattle text = reply.JoinBattleFailed text
+reply_saying BattleIsLocked text = reply.JoinBattleFailed text
+reply_saying WrongPassword text = reply.JoinBattleFailed text
+reply_saying NotInBattle text = reply.ServerMsg text
+reply_saying NotTheFounder text = reply.ServerMsg text
+reply_saying NoSuchMember text = reply.ServerMsg text
+reply_saying CannotKickYourself text = reply.ServerMsg text
+reply_saying NoSuchBot text = reply.ServerMsg text
+reply_saying NotYourBot text = reply.ServerMsg text
+reply_saying BotNameTaken text = reply.ServerMsg text
+reply_saying TooManyBots text = reply.ServerMsg text
+reply_saying TooManyTags text = reply.ServerMsg text
 
 abbrev pub refusal_reply : Refusal → Reply
-refusal_reply (Fault fault) = reply.ServerMsg (fault_text fault)
-refusal_reply LogInFirst = reply.ServerMsg log_in_first
-refusal_reply AlreadyIn = reply.Denied already_in
-refusal_reply InvalidLogin = reply.Denied invalid_login
-refusal_reply UserIsIn = reply.Denied user_is_in
-refusal_reply (AlreadyInChannel channel) = reply.JoinFailed channel already_in_channel
-refusal_reply NotInChannel = reply.ServerMsg not_in_channel
-refusal_reply NoSuchUser = reply.ServerMsg no_such_user
-
--- why a command is refused that is not served, to one who is logged in or not
-abbrev pub refusal_of_unserved : Option (List ℕ) → Refusal
-refusal_of_unserved None = LogInFirst
-refusal_of_unserved (Some me) = Fault UnknownCommand
+refusal_reply refusal = reply_saying refusal (refusal_text refusal)
 
 -- A command was told and comes to a change
 pub record Obeyed (s : State) (c : ℕ) (old new : Posted) (done : Change) (outcome : Outcome) : Type 0 where
   pub told : Told s old new (letters_of outcome)
   pub effect : state_after s outcome ≡ changed s c done
-  pub can_be : CanBe s.clients s.users c done
+  pub can_be : CanBe s.clients s.users s.channels s.battles c done
 
 -- A command was refused, before anything was told
 pub record Denied (old new : Posted) (refusal : Refusal) (outcome : Outcome) : Type 0 where

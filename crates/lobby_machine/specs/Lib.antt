@@ -1,6 +1,10 @@
+pub mod Info
+pub mod Battles
 pub mod Seats
 pub mod Parts
 pub mod Shown
+pub mod Tables
 pub mod Talk
 pub mod Changes
 pub mod Answers
+pub mod BattleTalk

@@ -1,9 +1,10 @@
 -- Where users are logged in, and how that agrees with the clients.
-use Rattle.std.specs.Prelude.{◌≡◌, ℕ, ◌≤◌, Bool, true, if◌then◌else◌, List, [], ◌∷◌, flat_map, Option, Some, None, is_some}
+use Rattle.std.specs.Prelude.{◌≡◌, ℕ, ◌≤◌, Bool, true, false, not, filter, if◌then◌else◌, List, [], ◌∷◌, flat_map, Option, Some, None, is_some}
 use Rattle.line_words.specs.Table.{ByName, ByNumber, at_number, at_name, without_name, map_values, same_number, same_name}
-use Rattle.lobby_model.specs.State.{User, Client, name_at}
+use Rattle.lobby_model.specs.State.{User, Client, Battle, name_at}
 use Rattle.lobby_model.specs.Outcome.{is_named}
 use Rattle.lobby_machine.specs.declared.seats.Seat.{Seat}
+use Rattle.lobby_machine.specs.Battles.{AreSeated}
 use Rattle.lobby_post.specs.Posted.{has_number}
 use Rattle.lobby_post.specs.Mail.{Crowd, AreDue, plain}
 
@@ -16,6 +17,10 @@ users_of seats = map_values (λ name seat. user_in seat) seats
 
 abbrev pub seat_with : ℕ → Seat → Seat
 seat_with status seat = record seat { status = status }
+
+-- in a battle
+abbrev pub seat_in : ℕ → Seat → Seat
+seat_in number seat = record seat { battle = Some number }
 
 -- changed by f, where there is somebody for it
 abbrev pub where_some : {A B : Type 0} → (A → B → B) → Option A → B → B
@@ -34,6 +39,14 @@ client_in (Some seat) = seat.client ∷ []
 abbrev pub clients_of : ByName Seat → List (List ℕ) → List ℕ
 clients_of seats names = flat_map (λ name. client_in (at_name seats name)) names
 
+abbrev pub is_some_number : Option ℕ → ℕ → Bool
+is_some_number None c = false
+is_some_number (Some d) c = same_number c d
+
+-- numbers that are none of these
+abbrev pub numbers_but : List ℕ → List ℕ → List ℕ
+numbers_but these numbers = filter (λ c. not (has_number these c)) numbers
+
 -- The client of a name's seat is the one that is logged in under the name
 abbrev pub Agree : ByNumber Client → ByName Seat → Type 0
 Agree clients seats = (name : List ℕ) (c : ℕ) → has_number (client_in (at_name seats name)) c ≡ is_named (same_name name) (name_at clients c)
@@ -50,10 +63,13 @@ IsSet c there was now = (d : ℕ) → has_number now d ≡ (if same_number c d t
 abbrev pub Numbered : ℕ → ByNumber Client → Type 0
 Numbered last clients = (c : ℕ) → is_some (at_number clients c) ≡ true → c ≤ last
 
--- How the maps fit together: outboxes have one limit and wait for nothing, users and clients agree, numbers are given once
-pub record Fit (limit : ℕ) (clients : Crowd) (seats : ByName Seat) (numbers : List ℕ) (last : ℕ) : Type 0 where
+-- How the maps fit together: outboxes have one limit and wait for nothing, users and clients agree, numbers are given once, and
+-- users sit in their battles
+pub record Fit (limit : ℕ) (clients : Crowd) (seats : ByName Seat) (numbers : List ℕ) (last : ℕ) (battles : ByNumber Battle) (last_battle : ℕ) : Type 0 where
   pub limited : clients.limit ≡ limit
   pub rest : AreDue [] clients.slots
   pub agree : Agree (plain clients.slots) seats
   pub listed : IsListed numbers (plain clients.slots)
   pub numbered : Numbered last (plain clients.slots)
+  pub seated : AreSeated battles seats
+  pub counted : last_battle ≤ 2147483647

@@ -1,23 +1,23 @@
 -- What contracts see of a lobby.
-use Rattle.std.specs.Prelude.{ℕ, Bool, List, []}
+use Rattle.std.specs.Prelude.{ℕ, Bool, List}
 use Rattle.account_book.specs.Account.{Account}
 use Rattle.line_words.specs.Table.{ByName, ByNumber, at_number}
 use Rattle.channel_book.specs.Channels.{Channels}
 use Rattle.lobby_model.specs.Configuration.{Configuration}
-use Rattle.lobby_model.specs.State.{State, User, Client}
+use Rattle.lobby_model.specs.State.{State, User, Client, Battle}
 pub use Rattle.lobby_post.specs.Unread.{unread_in, is_over}
 
--- the plain lobby of these maps; battles are not served yet
-abbrev pub lobby_of : Configuration → List Account → ByNumber Client → ByName User → Channels → ℕ → State
-lobby_of settings accounts clients users channels last_client = record {
+-- the plain lobby of these maps
+abbrev pub lobby_of : Configuration → List Account → ByNumber Client → ByName User → Channels → ByNumber Battle → ℕ → ℕ → State
+lobby_of settings accounts clients users channels battles last_client last_battle = record {
   settings = settings;
   accounts = accounts;
   clients = clients;
   users = users;
   channels = channels;
-  battles = [];
+  battles = battles;
   last_client = last_client;
-  last_battle = 0;
+  last_battle = last_battle;
 }
 
 -- the plain lobby that it stands for

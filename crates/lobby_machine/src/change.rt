@@ -4,9 +4,11 @@ ghost use Rattle.std.specs.Prelude.{◌≡◌, ℕ, List, OnOk, OnErr, option_co
 ghost use Rattle.line_words.specs.Table.{ByNumber};
 ghost use Rattle.channel_book.specs.Channels.{all_left};
 ghost use Rattle.lobby_post.specs.Mail.{AreDue, AreReady, plain};
+ghost use Rattle.lobby_machine.specs.Battles.{AreSeated};
 ghost use Rattle.lobby_machine.specs.Seats.{Agree, IsListed, users_of, where_some};
-ghost use Rattle.lobby_machine.specs.Changes.{CanBe, clients_after, users_after, channels_after};
+ghost use Rattle.lobby_machine.specs.Changes.{CanBe, clients_after, users_after, channels_after, battles_after, last_after, left_own};
 
+use crate::battles::{BattleChange, Battles};
 use crate::seats::{Seat, Seats};
 use channel_book::ChannelBook;
 use line_words::NameBuf;
@@ -20,16 +22,34 @@ pub enum Change {
     /// Nothing changes.
     Nothing,
     /// A user has this status from now on.
-    Status { name: NameBuf, status: UserStatus },
+    Status {
+        name: NameBuf,
+        status: UserStatus,
+    },
     /// The client is logged in under a name.
-    LogIn { name: NameBuf, seat: Seat },
+    LogIn {
+        name: NameBuf,
+        seat: Seat,
+    },
     /// A user joins a channel.
-    Join { channel: NameBuf, name: NameBuf },
+    Join {
+        channel: NameBuf,
+        name: NameBuf,
+    },
     /// A user leaves a channel.
-    Leave { channel: NameBuf, name: NameBuf },
-    /// The user of the client, where there is one, logs out, and the client ends, or, where it does not
-    /// stay, is there no more.
-    LogOut { name: Option<NameBuf>, stays: bool },
+    Leave {
+        channel: NameBuf,
+        name: NameBuf,
+    },
+    /// A user does something with a battle.
+    InBattles(BattleChange),
+    /// The user of the client, where there is one, logs out, and leaves the battle of this number, where it
+    /// is in one; the client ends, or, where it does not stay, is there no more.
+    LogOut {
+        name: Option<NameBuf>,
+        battle: Option<u32>,
+        stays: bool,
+    },
 }
 
 /// Changes the maps. Where memory is refused, nothing changes.
@@ -37,19 +57,26 @@ pub fn apply(
     clients: &mut Clients,
     seats: &mut Seats,
     channels: &mut ChannelBook,
+    battles: &mut Battles,
     client: u64,
     change: Change,
 ) -> Result<(), AllocError>
-    requires { CanBe (plain clients.old.slots) (users_of seats.old.users.entries) client change }
+    requires can { CanBe (plain clients.old.slots) (users_of seats.old.users.entries) channels.old battles.old.by_number.entries client change }
+    requires agree { Agree (plain clients.old.slots) seats.old.users.entries }
+    requires seated { AreSeated battles.old.by_number.entries seats.old.users.entries }
     ensures clients { OnOk result (plain clients.new.slots ≡ clients_after (plain clients.old.slots) client change) }
     ensures users { OnOk result (users_of seats.new.users.entries ≡ users_after (users_of seats.old.users.entries) change) }
     ensures channels { OnOk result (channels.new ≡ channels_after channels.old change) }
-    ensures agree { OnOk result (Agree (plain clients.old.slots) seats.old.users.entries → Agree (plain clients.new.slots) seats.new.users.entries) }
+    ensures battles { OnOk result (battles.new.by_number.entries ≡ battles_after battles.old.by_number.entries change) }
+    ensures last { OnOk result (battles.new.last ≡ last_after battles.old.last change) }
+    ensures agree { OnOk result (Agree (plain clients.new.slots) seats.new.users.entries) }
+    ensures seated { OnOk result (AreSeated battles.new.by_number.entries seats.new.users.entries) }
     ensures listed { IsListed seats.old.clients.keys (plain clients.old.slots) → IsListed seats.new.clients.keys (plain clients.new.slots) }
     ensures limit { clients.new.limit ≡ clients.old.limit }
     ensures due { (pieces : ByNumber (List ℕ)) → AreDue pieces clients.old.slots → AreDue pieces clients.new.slots }
     ensures ready { AreReady clients.old.slots → AreReady clients.new.slots }
-    ensures err { OnErr result ((clients.new ≡ clients.old) × (seats.new.users.entries ≡ seats.old.users.entries) × (channels.new ≡ channels.old)) }
+    ensures err { OnErr result ((clients.new ≡ clients.old) × (seats.new.users.entries ≡ seats.old.users.entries) × (channels.new ≡ channels.old)
+        × (battles.new.by_number.entries ≡ battles.old.by_number.entries) × (battles.new.last ≡ battles.old.last)) }
 {
     match change {
         Change::Nothing => {}
@@ -58,13 +85,15 @@ pub fn apply(
             seats.add(name.copy(), seat)?;
             clients.log_in(client, name);
         }
-        // Who joins is not in the channel: memory alone is refused.
-        Change::Join { channel, name } => {
-            channels.join(channel, name).map_err(|_| AllocError)?;
-        }
+        Change::Join { channel, name } => channels.add_member(channel, name)?,
         Change::Leave { channel, name } => channels.remove_member(&channel, &name),
-        Change::LogOut { name, stays } => {
-            leave_all(channels, name.as_ref());
+        Change::InBattles(change) => battles.apply(seats, client, change)?,
+        Change::LogOut {
+            name,
+            battle,
+            stays,
+        } => {
+            leave_all(channels, battles, name.as_ref(), battle);
             seats.remove(name, client);
             clients.part(client, stays);
         }
@@ -72,11 +101,22 @@ pub fn apply(
     Ok(())
 }
 
-/// A user, where there is one, leaves all channels.
-fn leave_all(channels: &mut ChannelBook, name: Option<&NameBuf>)
-    ensures { channels.new ≡ where_some all_left (option_copied name.entry) channels.old }
+/// A user, where there is one, leaves all channels, and the battle of this number.
+fn leave_all(
+    channels: &mut ChannelBook,
+    battles: &mut Battles,
+    name: Option<&NameBuf>,
+    battle: Option<u32>,
+)
+    ensures channels { channels.new ≡ where_some all_left (option_copied name.entry) channels.old }
+    ensures battles { battles.new.by_number.entries ≡ left_own (option_copied name.entry) battle battles.old.by_number.entries }
+    ensures last { battles.new.last ≡ battles.old.last }
 {
-    if let Some(name) = name {
-        channels.leave_all(name);
+    let Some(name) = name else {
+        return;
+    };
+    channels.leave_all(name);
+    if let Some(number) = battle {
+        battles.leave(number, name);
     }
 }

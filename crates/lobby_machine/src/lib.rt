@@ -6,6 +6,8 @@
 //! before the first change alone, so that want of it changes nothing.
 #![tactic(auto)]
 
+mod battle;
+mod battles;
 mod change;
 mod greeting;
 mod lobby;

@@ -1,6 +1,7 @@
 //! The lobby and its events.
 
-ghost use Rattle.std.specs.Prelude.{◌≡◌, ℕ, ◌+◌, ◌-◌, ◌^◌, ◌<◌, ◌≤◌, ◌↔◌, ◌++◌, length, take, drop, min, OnOk, OnErr, IfOk, true, false, is_some};
+ghost use Rattle.std.specs.Prelude.{◌≡◌, ℕ, ◌+◌, ◌-◌, ◌^◌, ◌<◌, ◌≤◌, ◌↔◌, ◌++◌, length, take, drop, min, OnOk, OnErr, IfOk, IsTrue, true, false, is_some};
+ghost use Rattle.command_grammar.specs.Kinds.{keeps_kinds};
 ghost use Rattle.lobby_model.specs.declared.event.Event.TheVariants as event;
 ghost use Rattle.line_words.specs.Table.{at_number};
 ghost use Rattle.lobby_model.specs.State.{empty_lobby};
@@ -81,10 +82,12 @@ impl Lobby {
         }
     }
 
-    /// A client's line was read as this request. Gives the workers whose clients it touched. The
-    /// request of a client that is not there, was cut or has said EXIT does nothing. Fails only
-    /// where memory is refused, and then nothing changes.
+    /// A client's line was read as this request, whose arguments are of the kinds that each line's
+    /// are. Gives the workers whose clients it touched. The request of a client that is not there,
+    /// was cut or has said EXIT does nothing. Fails only where memory is refused, and then nothing
+    /// changes.
     pub fn say(&mut self, client: u64, request: &Request) -> Result<Wakes, AllocError>
+        requires { IsTrue (keeps_kinds request.now.command) }
         ensures ok { OnOk result (self.new.plain ≡ next self.old.plain (event.Say client request.now)) }
         ensures wakes { IfOk result (λ wakes. IsWakes self.old.plain (event.Say client request.now) wakes) }
         ensures err { OnErr result (self.new ≡ self.old) }

@@ -1,26 +1,31 @@
 //! The lobby's maps: how each audience is told, and how an event is carried out.
 
-ghost use Rattle.std.specs.Prelude.{◌≡◌, ℕ, ◌+◌, ◌-◌, ◌^◌, ◌<◌, ◌≤◌, ◌↔◌, [], ◌∷◌, ◌++◌, length, take, drop, min, OnOk, OnErr, IfOk, IfSome, true, is_some, option_copied};
+ghost use Rattle.std.specs.Prelude.{◌≡◌, ℕ, ◌+◌, ◌-◌, ◌^◌, ◌<◌, ◌≤◌, ◌↔◌, [], ◌∷◌, ◌++◌, length, take, drop, min, OnOk, OnErr, IfOk, IfSome, true, is_some, Some, None, option_copied};
 ghost use Rattle.std.specs.List.{IsDistinct};
 ghost use Rattle.line_words.specs.Table.{at_number, same_name};
 ghost use Rattle.reply_grammar.specs.Lent.{reply_of};
+ghost use Rattle.battle_room.specs.Room.{member_names};
 ghost use Rattle.lobby_model.specs.declared.event.Event.{Event};
 ghost use Rattle.lobby_model.specs.declared.event.Event.TheVariants as event;
-ghost use Rattle.lobby_model.specs.State.{empty_lobby, hears, name_of};
-ghost use Rattle.lobby_model.specs.Outcome.{tell, everyone, others, user, users};
+ghost use Rattle.lobby_model.specs.State.{battle_of, empty_lobby, hears, name_of};
+ghost use Rattle.lobby_model.specs.Outcome.{tell, everyone, everyone_but, others, user, users};
 ghost use Rattle.lobby_model.specs.Sessions.{has_place};
 ghost use Rattle.lobby_model.specs.Events.{effect};
 ghost use Rattle.lobby_model.specs.Next.{next};
 ghost use Rattle.lobby_post.specs.Mail.{IsWakes};
 ghost use Rattle.lobby_post.specs.Posted.{Told, but_issuer};
 ghost use Rattle.lobby_machine.specs.Answers.{Matches};
+ghost use Rattle.lobby_machine.specs.Battles.{IsOnly};
 ghost use Rattle.lobby_machine.specs.Changes.{CanBe, changed};
 ghost use Rattle.lobby_machine.specs.Shown.{unread_of, is_finished};
 
+use crate::battle::Battle;
+use crate::battles::Battles;
 use crate::change::{Change, apply};
 use crate::greeting::greeting_of;
 use crate::seats::Seats;
 use account_book::AccountBook;
+use battle_room::Room;
 use channel_book::ChannelBook;
 use line_words::NameBuf;
 use lobby_model::Settings;
@@ -55,6 +60,7 @@ pub struct Maps {
     pub(crate) clients: Clients,
     pub(crate) seats: Seats,
     pub(crate) channels: ChannelBook,
+    pub(crate) battles: Battles,
     last_client: u64,
 }
 
@@ -69,9 +75,9 @@ impl Model for Maps {
 
     ghost Value = { State };
 
-    ghost view = { λ m. lobby_of m.settings m.accounts (plain m.clients.slots) (users_of m.seats.users.entries) m.channels m.last_client };
+    ghost view = { λ m. lobby_of m.settings m.accounts (plain m.clients.slots) (users_of m.seats.users.entries) m.channels m.battles.by_number.entries m.last_client m.battles.last };
 
-    ghost invariant = { λ m. (m.greeting_line.items ≡ printed_line None (greeting m.settings)) × Fit m.settings.outbox_limit m.clients m.seats.users.entries m.seats.clients.keys m.last_client };
+    ghost invariant = { λ m. (m.greeting_line.items ≡ printed_line None (greeting m.settings)) × Fit m.settings.outbox_limit m.clients m.seats.users.entries m.seats.clients.keys m.last_client m.battles.by_number.entries m.battles.last };
 }
 
 impl Maps {
@@ -88,6 +94,7 @@ impl Maps {
             greeting_line,
             seats: Seats::new(alloc),
             channels: ChannelBook::new(alloc),
+            battles: Battles::new(alloc),
             last_client: 0,
         })
     }
@@ -137,7 +144,7 @@ impl Maps {
         change: Change,
         post: &Post,
     ) -> Result<Wakes, AllocError>
-        requires { CanBe self.old.clients self.old.users client change }
+        requires { CanBe self.old.clients self.old.users self.old.channels self.old.battles client change }
         ensures ok { OnOk result ((e : Event) → effect self.old e ≡ changed self.old client change → Matches self.old e post.now → self.new ≡ next self.old e) }
         ensures wakes { IfOk result (λ wakes. (e : Event) → effect self.old e ≡ changed self.old client change → Matches self.old e post.now → IsWakes self.old e wakes) }
         ensures err { OnErr result (self.new ≡ self.old) }
@@ -147,6 +154,7 @@ impl Maps {
             &mut self.clients,
             &mut self.seats,
             &mut self.channels,
+            &mut self.battles,
             client,
             change,
         );
@@ -205,6 +213,58 @@ impl Maps {
         post.write_for_others(line)?;
         self.seats.address_names(names, post)?;
         Ok(())
+    }
+
+    /// Tells all users but those of two names.
+    pub fn tell_all_but(
+        &self,
+        first: &NameBuf,
+        second: &NameBuf,
+        line: LentReply,
+        post: &mut Post,
+    ) -> Result<(), AllocError>
+        ensures { OnOk result (Told self.now post.old post.new (tell (everyone_but (first.now ∷ second.now ∷ [])) (reply_of line.entry ∷ []) ∷ [])) }
+    {
+        post.write(line)?;
+        self.seats.address_all_but(first, second, post)?;
+        Ok(())
+    }
+
+    /// Tells the members of a battle.
+    pub fn tell_room(&self, room: &Room, line: LentReply, post: &mut Post) -> Result<(), AllocError>
+        ensures { OnOk result (Told self.now post.old post.new (tell (users (member_names room.now)) (reply_of line.entry ∷ []) ∷ [])) }
+    {
+        post.write(line)?;
+        self.seats.address_members(room.members(), post)?;
+        Ok(())
+    }
+
+    /// Tells the members of a battle but the issuer.
+    pub fn tell_others_in_room(
+        &self,
+        room: &Room,
+        line: LentReply,
+        post: &mut Post,
+    ) -> Result<(), AllocError>
+        ensures { OnOk result (Told self.now post.old post.new (tell (but_issuer (users (member_names room.now))) (reply_of line.entry ∷ []) ∷ [])) }
+    {
+        post.write_for_others(line)?;
+        self.seats.address_members(room.members(), post)?;
+        Ok(())
+    }
+
+    /// The battle that a user is in, with its number.
+    pub fn battle_of(&self, name: &NameBuf) -> Option<(u32, &Battle)>
+        ensures some { IfSome result (λ own. battle_of self.now name.now ≡ Some (own.0, own.1.now)) }
+        ensures only { IfSome result (λ own. IsOnly self.now.battles (Some own.0) name.now) }
+        ensures there { IfSome result (λ own. at_number self.now.battles own.0 ≡ Some own.1.now) }
+        ensures none { result ≡ None → battle_of self.now name.now ≡ None }
+    {
+        // Its contract says that the numbers rise, which the proof wants however this ends.
+        let _ = self.battles.by_number.len();
+        let number = self.seats.users.get(name)?.battle?;
+        let battle = self.battles.with_member(number, name)?;
+        Some((number, battle))
     }
 
     /// Tells one user.

@@ -3,7 +3,7 @@
 ghost use Rattle.std.specs.Prelude.{◌≡◌};
 ghost use Rattle.reply_grammar.specs.Lent.{reply_of};
 ghost use Rattle.lobby_model.specs.Texts.{fault_text};
-ghost use Rattle.lobby_machine.specs.Answers.{refusal_reply, refusal_text};
+ghost use Rattle.lobby_machine.specs.Answers.{refusal_text, reply_saying};
 
 use command_grammar::ReadFault;
 use line_words::{NameBuf, Text};
@@ -13,7 +13,7 @@ use std::alloc::AllocError;
 /// Why a command was refused.
 #[derive(Drop)]
 pub enum Refusal {
-    /// The line could not be read, or the command is not served.
+    /// The line could not be read.
     Fault(ReadFault),
     /// The command is for those who are logged in.
     LogInFirst,
@@ -29,6 +29,36 @@ pub enum Refusal {
     NotInChannel,
     /// Nobody of that name is logged in.
     NoSuchUser,
+    /// The user who opens a battle is in one.
+    OpensInBattle,
+    /// The last battle number, 2147483647, was given.
+    NoNumberLeft,
+    /// The user who joins a battle is in one.
+    JoinsInBattle,
+    /// There is no battle of that number.
+    NoSuchBattle,
+    /// Nobody may join the battle now.
+    BattleIsLocked,
+    /// The battle has a password, and it is another.
+    WrongPassword,
+    /// The user is in no battle.
+    NotInBattle,
+    /// The user is in a battle that another founded.
+    NotTheFounder,
+    /// Nobody of that name is in the battle.
+    NoSuchMember,
+    /// The founder is the one to be kicked.
+    CannotKickYourself,
+    /// There is no bot of that name in the battle.
+    NoSuchBot,
+    /// The user neither owns the bot nor founded the battle.
+    NotYourBot,
+    /// There is a bot of that name in the battle.
+    BotNameTaken,
+    /// There are 64 bots in the battle.
+    TooManyBots,
+    /// There would be more than 512 script tags in the battle.
+    TooManyTags,
 }
 
 impl Refusal {
@@ -45,21 +75,50 @@ impl Refusal {
             Refusal::AlreadyInChannel(_) => Text::lend(b"Already in the channel"),
             Refusal::NotInChannel => Text::lend(b"You are not in that channel"),
             Refusal::NoSuchUser => Text::lend(b"No such user"),
+            Refusal::OpensInBattle | Refusal::JoinsInBattle => Text::lend(b"Already in a battle"),
+            Refusal::NoNumberLeft => Text::lend(b"No battle number is left"),
+            Refusal::NoSuchBattle => Text::lend(b"No such battle"),
+            Refusal::BattleIsLocked => Text::lend(b"The battle is locked"),
+            Refusal::WrongPassword => Text::lend(b"Wrong password"),
+            Refusal::NotInBattle => Text::lend(b"You are not in a battle"),
+            Refusal::NotTheFounder => Text::lend(b"You are not the founder"),
+            Refusal::NoSuchMember => Text::lend(b"No such member"),
+            Refusal::CannotKickYourself => Text::lend(b"You cannot kick yourself"),
+            Refusal::NoSuchBot => Text::lend(b"No such bot"),
+            Refusal::NotYourBot => Text::lend(b"That bot is not yours"),
+            Refusal::BotNameTaken => Text::lend(b"That bot name is taken"),
+            Refusal::TooManyBots => Text::lend(b"Too many bots"),
+            Refusal::TooManyTags => Text::lend(b"Too many tags"),
         }
     }
 
-    /// The line that tells why, in these words.
+    /// The line that says these words.
     pub fn line<'a>(&'a self, text: &'a Text<'a>) -> LentReply<'a>
-        requires { text.now ≡ refusal_text self.now }
-        ensures { reply_of result ≡ refusal_reply self.now }
+        ensures { reply_of result ≡ reply_saying self.now text.now }
     {
         match self {
-            Refusal::AlreadyInChannel(channel) => LentReply::JoinFailed(channel, text),
-            Refusal::Fault(_) | Refusal::LogInFirst | Refusal::NotInChannel | Refusal::NoSuchUser =>
-                LentReply::ServerMsg(text),
             Refusal::AlreadyIn | Refusal::InvalidLogin | Refusal::UserIsIn => {
                 LentReply::Denied(text)
             }
+            Refusal::AlreadyInChannel(channel) => LentReply::JoinFailed(channel, text),
+            Refusal::OpensInBattle | Refusal::NoNumberLeft => LentReply::OpenBattleFailed(text),
+            Refusal::JoinsInBattle
+            | Refusal::NoSuchBattle
+            | Refusal::BattleIsLocked
+            | Refusal::WrongPassword => LentReply::JoinBattleFailed(text),
+            Refusal::Fault(_)
+            | Refusal::LogInFirst
+            | Refusal::NotInChannel
+            | Refusal::NoSuchUser
+            | Refusal::NotInBattle
+            | Refusal::NotTheFounder
+            | Refusal::NoSuchMember
+            | Refusal::CannotKickYourself
+            | Refusal::NoSuchBot
+            | Refusal::NotYourBot
+            | Refusal::BotNameTaken
+            | Refusal::TooManyBots
+            | Refusal::TooManyTags => LentReply::ServerMsg(text),
         }
     }
 }

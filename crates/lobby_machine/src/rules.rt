@@ -1,24 +1,32 @@
 //! What each command comes to: it is refused, or it is told and changes something.
 
-ghost use Rattle.std.specs.Prelude.{◌≡◌, [], ◌∷◌, OnOk, IfOk, true, option_copied};
+ghost use Rattle.std.specs.Prelude.{◌≡◌, [], ◌∷◌, OnOk, IfOk, IsTrue, Some, true, option_copied};
+ghost use Rattle.command_grammar.specs.Kinds.{keeps_kinds};
 ghost use Rattle.lobby_model.specs.State.{State, hears, name_of};
 ghost use Rattle.lobby_model.specs.Outcome.{tell, issuer};
-ghost use Rattle.lobby_model.specs.Unserved.{answered, is_unserved};
+ghost use Rattle.lobby_model.specs.Commands.{answer};
 ghost use Rattle.lobby_post.specs.Posted.{begun, Told};
-ghost use Rattle.lobby_machine.specs.Answers.{Answers, Obeyed, refusal_of_unserved, refusal_reply};
+ghost use Rattle.lobby_machine.specs.Answers.{Answers, Obeyed, refusal_reply};
+ghost use Rattle.lobby_machine.specs.Tables.{is_on_battles, is_on_rooms};
 
+mod battle_guards;
+mod battles;
 mod burst;
 mod channels;
 mod guards;
+mod rooms;
 mod session;
 
 use crate::change::Change;
 use crate::maps::Maps;
 use crate::refusal::{Refusal, Stop};
-use command_grammar::{Command, ReadFault};
+use battle_room::Rect;
+use command_grammar::Command;
 use guards::logged_in;
 use line_words::NameBuf;
 use lobby_post::Post;
+use reply_grammar::LentReply;
+use rooms::Force;
 use std::alloc::AllocError;
 
 impl Maps {
@@ -34,7 +42,8 @@ impl Maps {
     ) -> Result<Change, AllocError>
         requires hears { hears self.now client ≡ true }
         requires me { option_copied me ≡ name_of self.now client }
-        ensures { IfOk result (λ change. Obeyed self.now client (begun client id) post.new change (answered self.now client (name_of self.now client) command.now)) }
+        requires kinds { IsTrue (keeps_kinds command.now) }
+        ensures { IfOk result (λ change. Obeyed self.now client (begun client id) post.new change (answer self.now client (name_of self.now client) command.now)) }
     {
         post.begin(client, id);
         match self.answer(client, me, command, post) {
@@ -47,7 +56,7 @@ impl Maps {
         }
     }
 
-    /// What a command comes to: the table of commands. Those that are not served yet come last.
+    /// What a command comes to: the table of commands.
     fn answer(
         &self,
         client: u64,
@@ -57,7 +66,9 @@ impl Maps {
     ) -> Result<Change, Stop>
         requires hears { hears self.now client ≡ true }
         requires me { option_copied me ≡ name_of self.now client }
-        ensures { Answers self.now client post.old post.new (answered self.now client (name_of self.now client) command.now) result }
+        requires kinds { IsTrue (keeps_kinds command.now) }
+        requires issuer { post.old.issuer ≡ client }
+        ensures { Answers self.now client post.old post.new (answer self.now client (name_of self.now client) command.now) result }
     {
         match command {
             Command::Blank => Ok(Change::Nothing),
@@ -74,10 +85,14 @@ impl Maps {
             Command::Join { channel, .. } => self.join(client, logged_in(me)?, channel, post),
             Command::Leave { channel } => self.leave(client, logged_in(me)?, channel, post),
             Command::Say { channel, text } => {
-                self.say(client, logged_in(me)?, channel, text, post)
+                let me = logged_in(me)?;
+                let line = LentReply::Said(channel, me, text);
+                self.say_in_channel(client, me, channel, line, post)
             }
             Command::SayEx { channel, text } => {
-                self.say_ex(client, logged_in(me)?, channel, text, post)
+                let me = logged_in(me)?;
+                let line = LentReply::SaidEx(channel, me, text);
+                self.say_in_channel(client, me, channel, line, post)
             }
             Command::SayPrivate { user, text } => {
                 self.say_private(client, logged_in(me)?, user, text, post)
@@ -86,60 +101,143 @@ impl Maps {
                 logged_in(me)?;
                 self.list_channels(client, post)
             }
-            _ if is_unserved(command) => Err(Stop::Refused(unserved(me))),
+            Command::OpenBattle { .. }
+            | Command::JoinBattle { .. }
+            | Command::LeaveBattle
+            | Command::UpdateBattleInfo { .. }
+            | Command::MyBattleStatus { .. }
+            | Command::SayBattle { .. }
+            | Command::SayBattleEx { .. } => {
+                self.answer_in_battle(client, logged_in(me)?, command, post)
+            }
+            Command::AddBot { .. }
+            | Command::UpdateBot { .. }
+            | Command::RemoveBot { .. }
+            | Command::AddStartRect { .. }
+            | Command::RemoveStartRect { .. }
+            | Command::SetScriptTags { .. }
+            | Command::RemoveScriptTags { .. }
+            | Command::Handicap { .. }
+            | Command::ForceTeamNo { .. }
+            | Command::ForceAllyNo { .. }
+            | Command::ForceTeamColor { .. }
+            | Command::ForceSpectatorMode { .. }
+            | Command::KickFromBattle { .. }
+            | Command::Ring { .. } => self.answer_in_room(client, logged_in(me)?, command, post),
+        }
+    }
+
+    /// What a command on battles comes to, of one who is logged in: the table of these.
+    fn answer_in_battle(
+        &self,
+        client: u64,
+        me: &NameBuf,
+        command: &Command,
+        post: &mut Post,
+    ) -> Result<Change, Stop>
+        requires me { name_of self.now client ≡ Some me.now }
+        requires issuer { post.old.issuer ≡ client }
+        requires battles { is_on_battles command.now ≡ true }
+        ensures { Answers self.now client post.old post.new (answer self.now client (Some me.now) command.now) result }
+    {
+        match command {
+            Command::OpenBattle { .. } => self.open_battle(client, me, command, post),
+            Command::JoinBattle {
+                battle,
+                password,
+                script_password,
+            } => self.join_battle(
+                client,
+                me,
+                *battle,
+                password.as_ref(),
+                script_password.as_ref(),
+                post,
+            ),
+            Command::LeaveBattle => self.leave_battle(client, me, post),
+            Command::UpdateBattleInfo {
+                spectator_count,
+                locked,
+                map_hash,
+                map,
+            } => self.update_battle(client, me, *spectator_count, *locked, *map_hash, map, post),
+            Command::MyBattleStatus {
+                battle_status,
+                team_color,
+            } => self.my_battle_status(client, me, *battle_status, *team_color, post),
+            Command::SayBattle { text } => {
+                self.say_in_battle(client, me, LentReply::SaidBattle(me, text), post)
+            }
+            Command::SayBattleEx { text } => {
+                self.say_in_battle(client, me, LentReply::SaidBattleEx(me, text), post)
+            }
             _ => unreachable!(),
         }
     }
-}
 
-/// Whether a command is not served yet. Each command is named, so that none is forgotten.
-fn is_unserved(command: &Command) -> bool
-    ensures { result ≡ is_unserved command.now }
-{
-    match command {
-        Command::Blank => false,
-        Command::Unread(_) => false,
-        Command::Ping => false,
-        Command::Exit => false,
-        Command::Login { .. } => false,
-        Command::MyStatus { .. } => false,
-        Command::Channels => false,
-        Command::Join { .. } => false,
-        Command::Leave { .. } => false,
-        Command::Say { .. } => false,
-        Command::SayEx { .. } => false,
-        Command::SayPrivate { .. } => false,
-        Command::OpenBattle { .. } => true,
-        Command::JoinBattle { .. } => true,
-        Command::LeaveBattle => true,
-        Command::UpdateBattleInfo { .. } => true,
-        Command::MyBattleStatus { .. } => true,
-        Command::SayBattle { .. } => true,
-        Command::SayBattleEx { .. } => true,
-        Command::AddBot { .. } => true,
-        Command::UpdateBot { .. } => true,
-        Command::RemoveBot { .. } => true,
-        Command::AddStartRect { .. } => true,
-        Command::RemoveStartRect { .. } => true,
-        Command::SetScriptTags { .. } => true,
-        Command::RemoveScriptTags { .. } => true,
-        Command::Handicap { .. } => true,
-        Command::ForceTeamNo { .. } => true,
-        Command::ForceAllyNo { .. } => true,
-        Command::ForceTeamColor { .. } => true,
-        Command::ForceSpectatorMode { .. } => true,
-        Command::KickFromBattle { .. } => true,
-        Command::Ring { .. } => true,
-    }
-}
-
-/// Why a command is refused that is not served: one who is not logged in is told that first.
-fn unserved(me: Option<&NameBuf>) -> Refusal
-    ensures { result ≡ refusal_of_unserved (option_copied me.entry) }
-{
-    match me {
-        Some(_) => Refusal::Fault(ReadFault::UnknownCommand),
-        None => Refusal::LogInFirst,
+    /// What a command on a battle's room comes to, of one who is logged in: the table of these.
+    fn answer_in_room(
+        &self,
+        client: u64,
+        me: &NameBuf,
+        command: &Command,
+        post: &mut Post,
+    ) -> Result<Change, Stop>
+        requires me { name_of self.now client ≡ Some me.now }
+        requires kinds { IsTrue (keeps_kinds command.now) }
+        requires rooms { is_on_rooms command.now ≡ true }
+        ensures { Answers self.now client post.old post.new (answer self.now client (Some me.now) command.now) result }
+    {
+        match command {
+            Command::AddBot {
+                bot,
+                battle_status,
+                team_color,
+                ai,
+            } => self.add_bot(client, me, bot, *battle_status, *team_color, ai, post),
+            Command::UpdateBot {
+                bot,
+                battle_status,
+                team_color,
+            } => self.update_bot(client, me, bot, *battle_status, *team_color, post),
+            Command::RemoveBot { bot } => self.remove_bot(client, me, bot, post),
+            Command::AddStartRect {
+                ally_no,
+                left,
+                top,
+                right,
+                bottom,
+            } => {
+                let rect = Rect {
+                    left: *left,
+                    top: *top,
+                    right: *right,
+                    bottom: *bottom,
+                };
+                self.add_rect(client, me, *ally_no, rect, post)
+            }
+            Command::RemoveStartRect { ally_no } => self.remove_rect(client, me, *ally_no, post),
+            Command::SetScriptTags { pairs } => self.set_script_tags(client, me, pairs, post),
+            Command::RemoveScriptTags { keys } => self.remove_script_tags(client, me, keys, post),
+            Command::Handicap { user, value } => {
+                self.force(client, me, user, Force::Handicap(*value), post)
+            }
+            Command::ForceTeamNo { user, number } => {
+                self.force(client, me, user, Force::Team(*number), post)
+            }
+            Command::ForceAllyNo { user, number } => {
+                self.force(client, me, user, Force::Ally(*number), post)
+            }
+            Command::ForceTeamColor { user, team_color } => {
+                self.force(client, me, user, Force::Colour(*team_color), post)
+            }
+            Command::ForceSpectatorMode { user } => {
+                self.force(client, me, user, Force::Spectator, post)
+            }
+            Command::KickFromBattle { user } => self.kick(client, me, user, post),
+            Command::Ring { user } => self.ring(client, me, user, post),
+            _ => unreachable!(),
+        }
     }
 }
 

@@ -1,12 +1,13 @@
 //! The users who are logged in.
 
-ghost use Rattle.std.specs.Prelude.{◌≡◌, [], OnOk, OnErr, true, false};
+ghost use Rattle.std.specs.Prelude.{◌≡◌, ℕ, [], ◌++◌, map, OnOk, OnErr, true, false};
 ghost use Rattle.std.specs.Ordering.{nat_cmp};
 ghost use Rattle.std.specs.List.Sorted.{IsStrictlySortedBy};
 ghost use Rattle.line_words.specs.Table.{at_name, change_name, put_name};
-ghost use Rattle.lobby_post.specs.Posted.{addressed};
-ghost use Rattle.lobby_machine.specs.Seats.{IsSet, client_in, clients_of, seat_with, where_some, without_one};
+ghost use Rattle.lobby_post.specs.Posted.{addressed, has_number};
+ghost use Rattle.lobby_machine.specs.Seats.{IsSet, client_in, clients_of, is_some_number, numbers_but, seat_in, seat_with, where_some, without_one};
 
+use battle_room::Member;
 use line_words::{NameBuf, WordBuf};
 use lobby_post::Post;
 use status_bits::UserStatus;
@@ -25,6 +26,9 @@ pub struct Seat {
     /// The number of its account.
     pub account: u32,
     pub status: UserStatus,
+    /// The number of the battle that it entered last. It is in that battle while it is a member of it,
+    /// and in no other one.
+    pub battle: Option<u32>,
 }
 
 /// The users who are logged in, by their names, and the clients at which they are.
@@ -73,6 +77,47 @@ impl Seats {
         Ok(())
     }
 
+    /// The members of a battle get the line that is told.
+    pub fn address_members(&self, members: &[Member], post: &mut Post) -> Result<(), AllocError>
+        ensures { OnOk result (post.new ≡ addressed post.old (clients_of self.now.users.entries (map (λ m. m.name) members.now))) }
+    {
+        for member in members {
+            self.address_user(member.name(), post)?;
+        }
+        Ok(())
+    }
+
+    /// All who are logged in get the line that is told, but the users of two names.
+    pub fn address_all_but(
+        &self,
+        first: &NameBuf,
+        second: &NameBuf,
+        post: &mut Post,
+    ) -> Result<(), AllocError>
+        ensures rising { IsStrictlySortedBy nat_cmp self.now.clients.keys }
+        ensures sent { OnOk result (post.new ≡ addressed post.old (numbers_but (client_in (at_name self.now.users.entries first.now) ++ client_in (at_name self.now.users.entries second.now)) self.now.clients.keys)) }
+    {
+        let first = self.client_of(first);
+        let second = self.client_of(second);
+        let clients = self.clients.iter();
+        for client in clients {
+            if !is_number(first, *client) && !is_number(second, *client) {
+                post.address(*client)?;
+            }
+        }
+        Ok(())
+    }
+
+    /// The number of the client at which a user is, where somebody of this name is logged in.
+    fn client_of(&self, name: &NameBuf) -> Option<u64>
+        ensures { (c : ℕ) → is_some_number result c ≡ has_number (client_in (at_name self.now.users.entries name.now)) c }
+    {
+        match self.users.get(name) {
+            Some(seat) => Some(seat.client),
+            None => None,
+        }
+    }
+
     /// The user of this name, where there is one, gets the line that is told.
     pub fn address_user(&self, name: &NameBuf, post: &mut Post) -> Result<(), AllocError>
         ensures { OnOk result (post.new ≡ addressed post.old (client_in (at_name self.now.users.entries name.now))) }
@@ -114,6 +159,16 @@ impl Seats {
         }
     }
 
+    /// A user sits in a battle, and stays at its client.
+    pub fn enter_battle(&mut self, name: &NameBuf, number: u32)
+        ensures users { self.new.users.entries ≡ change_name self.old.users.entries name.now (seat_in number) }
+        ensures clients { self.new.clients.keys ≡ self.old.clients.keys }
+    {
+        if let Some(seat) = self.users.get_mut(name) {
+            seat.battle = Some(number);
+        }
+    }
+
     /// Gives a user a status, and leaves it at its client.
     pub fn set_status(&mut self, name: &NameBuf, status: UserStatus)
         ensures users { self.new.users.entries ≡ change_name self.old.users.entries name.now (seat_with status) }
@@ -122,5 +177,15 @@ impl Seats {
         if let Some(seat) = self.users.get_mut(name) {
             seat.status = status;
         }
+    }
+}
+
+/// Whether there is a number, and it is this one.
+fn is_number(number: Option<u64>, client: u64) -> bool
+    ensures { result ≡ is_some_number number client }
+{
+    match number {
+        Some(number) => number == client,
+        None => false,
     }
 }

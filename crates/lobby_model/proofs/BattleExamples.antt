@@ -8,7 +8,9 @@ use Rattle.lobby_model.specs.declared.event.Event.{Event}
 use Rattle.lobby_model.specs.declared.event.Event.TheVariants as event
 use Rattle.line_words.specs.Table.{ByName, map_values}
 use Rattle.lobby_model.specs.State.{State}
-use Rattle.lobby_model.proofs.Fixture.{anna, bert, cleo, main, right_word, connect, login, says, says_with, lines, three, puts, lobby_after, gets, each_gets, each, opens, opens_with, joins}
+use Rattle.lobby_model.specs.Events.{sent}
+use Rattle.lobby_model.specs.History.{after, put_in}
+use Rattle.lobby_model.proofs.Fixture.{start, anna, bert, cleo, main, right_word, connect, login, says, says_with, lines, three, gets, each_gets, each, opens, opens_with, joins}
 
 -- Anna's battle and Bert's second one, without a password, as all are told of them
 abbrev opened : String
@@ -128,17 +130,17 @@ unfolding digits
 not_opened = refl
 
 abbrev one_number_left : State
-one_number_left = record (lobby_after three) { last_battle = 2147483646 }
+one_number_left = record (after start three) { last_battle = 2147483646 }
 
 abbrev opened_last : String
 opened_last = "BATTLEOPENED 2147483647 0 0 Anna 10.0.0.1 8452 8 0 0 123 Spring\t104.0\tComet Catcher\tAnna's game\tBA 9.46"
 
-already_in_comes_first : puts one_number_left (says 1 opens ∷ says 1 opens ∷ says 2 opens ∷ []) 1
+already_in_comes_first : put_in one_number_left (says 1 opens ∷ says 1 opens ∷ says 2 opens ∷ []) 1
     ≡ lines (opened_last ∷ "OPENBATTLE 2147483647" ∷ "REQUESTBATTLESTATUS" ∷ "OPENBATTLEFAILED Already in a battle" ∷ [])
 unfolding digits
 already_in_comes_first = refl
 
-no_number_left : puts one_number_left (says 1 opens ∷ says 1 opens ∷ says_with (Some 8) 2 opens ∷ []) 2
+no_number_left : put_in one_number_left (says 1 opens ∷ says 1 opens ∷ says_with (Some 8) 2 opens ∷ []) 2
     ≡ lines (opened_last ∷ "#8 OPENBATTLEFAILED No battle number is left" ∷ [])
 unfolding digits
 no_number_left = refl
@@ -201,7 +203,7 @@ closed : each_gets two_in_battle founder_leaves ≡ each
 unfolding digits
 closed = refl
 
-gone_with_its_founder : (lobby_after (two_in_battle ++ (says 1 command.LeaveBattle ∷ []))).battles ≡ []
+gone_with_its_founder : (after start (two_in_battle ++ (says 1 command.LeaveBattle ∷ []))).battles ≡ []
 unfolding digits
 gone_with_its_founder = refl
 
@@ -226,18 +228,26 @@ founder_exits : each_gets with_guests (says_with (Some 1) 1 command.Exit ∷ say
 unfolding digits
 founder_exits = refl
 
-battles_then : (lobby_after (with_guests ++ (event.Shut 1 ∷ []))).battles ≡ []
+nothing_sent_to_who_exits : sent (after start with_guests) (says_with (Some 1) 1 command.Exit) 1 ≡ []
+unfolding digits
+nothing_sent_to_who_exits = refl
+
+nothing_sent_to_who_goes : sent (after start with_guests) (event.Shut 2) 2 ≡ []
+unfolding digits
+nothing_sent_to_who_goes = refl
+
+battles_then : (after start (with_guests ++ (event.Shut 1 ∷ []))).battles ≡ []
 unfolding digits
 battles_then = refl
 
-channels_then : (lobby_after (with_guests ++ (event.Shut 1 ∷ []))).channels ≡ (main, bert ∷ []) ∷ []
+channels_then : (after start (with_guests ++ (event.Shut 1 ∷ []))).channels ≡ (main, bert ∷ []) ∷ []
 unfolding digits
 channels_then = refl
 
 abbrev statuses : State → ByName ℕ
 statuses s = map_values (λ name user. user.status) s.users
 
-users_then : statuses (lobby_after (with_guests ++ (event.Shut 1 ∷ []))) ≡ (bert, 12) ∷ (cleo, 0) ∷ []
+users_then : statuses (after start (with_guests ++ (event.Shut 1 ∷ []))) ≡ (bert, 12) ∷ (cleo, 0) ∷ []
 unfolding digits
 users_then = refl
 

@@ -6,7 +6,8 @@ use Rattle.command_grammar.specs.declared.command.Command.{Command}
 use Rattle.command_grammar.specs.declared.command.Command.TheVariants as command
 use Rattle.lobby_model.specs.declared.event.Event.{Event}
 use Rattle.lobby_model.specs.declared.event.Event.TheVariants as event
-use Rattle.lobby_model.proofs.Fixture.{greeting, anna, bert, main, right_word, connect, says, says_with, login, lines, three, lobby_after, gets, each_gets, each}
+use Rattle.lobby_model.specs.History.{after}
+use Rattle.lobby_model.proofs.Fixture.{start, greeting, anna, bert, main, right_word, connect, says, says_with, login, lines, three, gets, each_gets, each}
 
 abbrev big : List ℕ
 big = codes "big"
@@ -66,7 +67,7 @@ listed : each_gets two_channels leaves_big ≡ each
 unfolding digits
 listed = refl
 
-gone_with_the_last : (lobby_after (two_channels ++ leaves_big)).channels ≡ (main, anna ∷ bert ∷ []) ∷ []
+gone_with_the_last : (after start (two_channels ++ leaves_big)).channels ≡ (main, anna ∷ bert ∷ []) ∷ []
 unfolding digits
 gone_with_the_last = refl
 
@@ -151,11 +152,11 @@ exit_leaves_all : each_gets both_in_both (says_with (Some 5) 1 command.Exit ∷ 
 unfolding digits
 exit_leaves_all = refl
 
-in_it_after_a_log_out : (lobby_after (both_in_both ++ (says 1 command.Exit ∷ []))).channels ≡ (big, bert ∷ []) ∷ (main, bert ∷ []) ∷ []
+in_it_after_a_log_out : (after start (both_in_both ++ (says 1 command.Exit ∷ []))).channels ≡ (big, bert ∷ []) ∷ (main, bert ∷ []) ∷ []
 unfolding digits
 in_it_after_a_log_out = refl
 
-gone_with_the_last_log_out : (lobby_after (both_in_both ++ (says 1 command.Exit ∷ event.Shut 2 ∷ []))).channels ≡ []
+gone_with_the_last_log_out : (after start (both_in_both ++ (says 1 command.Exit ∷ event.Shut 2 ∷ []))).channels ≡ []
 unfolding digits
 gone_with_the_last_log_out = refl
 

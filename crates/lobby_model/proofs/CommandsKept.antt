@@ -1,12 +1,11 @@
 -- Each command keeps the lobby sound.
 use Rattle.std.proofs.Common.{◌≡◌, ℕ, List, [], ◌∷◌, refl, true}
-use Rattle.std.specs.Prelude.{Option, Some, None, IsSome, ◌==◌, ◌&&◌, is_some}
+use Rattle.std.specs.Prelude.{Option, Some, None, IsSome, ◌==◌, is_some}
 use Rattle.account_book.specs.Book.{login}
 use Rattle.reply_grammar.specs.declared.Reply.{Reply}
 use Rattle.reply_grammar.specs.declared.Reply.TheVariants as reply
 use Rattle.command_grammar.specs.declared.command.Command.{Command}
 use Rattle.command_grammar.specs.declared.command.Command.TheVariants as command
-use Rattle.command_grammar.specs.declared.command.ReadFault.TheVariants.{UnknownCommand}
 use Rattle.status_bits.specs.Fields.{merge}
 use Rattle.status_bits.specs.BattleWord.{battle_table}
 use Rattle.status_bits.specs.UserWord.{user_table}
@@ -15,14 +14,13 @@ use Rattle.channel_book.specs.Channels.{names_in}
 use Rattle.battle_room.specs.Tags.{with_tags}
 use Rattle.battle_room.specs.Room.{Bot, has_member, bot_of, status_of, is_full_of_bots, has_too_many_tags}
 use Rattle.lobby_model.specs.State.{State, Client, Battle, battle_of, name_of, updated}
-use Rattle.lobby_model.specs.Texts.{fault_text, already_in_channel, already_in_battle, no_number_left, battle_is_locked, wrong_password, no_such_user, no_such_member, cannot_kick_yourself, bot_name_taken, too_many_bots, too_many_tags}
+use Rattle.lobby_model.specs.Texts.{already_in_channel, already_in_battle, no_number_left, battle_is_locked, wrong_password, no_such_user, no_such_member, cannot_kick_yourself, bot_name_taken, too_many_bots, too_many_tags}
 use Rattle.lobby_model.specs.Outcome.{Happening, Outcome, Refused, Done, tell, users, only_told, message, state_after}
-use Rattle.lobby_model.specs.Channels.{joins, leaves}
+use Rattle.lobby_model.specs.Channels.{leaves}
 use Rattle.lobby_model.specs.Battles.{in_battle, as_founder, lets_in}
 use Rattle.lobby_model.specs.Rooms.{new_bot, with_own_bot, with_member_of}
 use Rattle.lobby_model.specs.Sessions.{status_in}
 use Rattle.lobby_model.specs.Commands.{answer}
-use Rattle.lobby_model.specs.Unserved.{is_unserved, answered}
 use Rattle.lobby_model.specs.Sound.{Sound}
 use Rattle.lobby_model.proofs.Checked as checked
 use Rattle.lobby_model.proofs.ChannelsKept as channels
@@ -165,8 +163,3 @@ module _ (s : State) (sound : Sound s) where
     pub answer_keeps : (me : Option (List ℕ)) → name_of s c ≡ me → (command : Command) → Keeps (answer s c me command)
     answer_keeps None unnamed command = unnamed_keeps unnamed command
     answer_keeps (Some me) named command = named_keeps me named command
-
-    pub answered_keeps : (command : Command) → Keeps (answered s c (name_of s c) command)
-    answered_keeps command =
-        checked.refuse Keeps refused (is_some (name_of s c) && is_unserved command) (message (fault_text UnknownCommand))
-        (answer s c (name_of s c) command) (λ served. answer_keeps (name_of s c) refl command)

@@ -13,7 +13,8 @@ use Rattle.lobby_model.specs.State.{State, empty_lobby}
 use Rattle.lobby_model.specs.Sessions.{greeted}
 use Rattle.lobby_model.specs.Battles.{change_room}
 use Rattle.lobby_model.specs.Events.{effect}
-use Rattle.lobby_model.proofs.Fixture.{start, anna, right_word, connect, login, says, lines, leads_to, puts, lobby_after, gets, tag, greeting, opens, joins}
+use Rattle.lobby_model.specs.History.{after, put_in}
+use Rattle.lobby_model.proofs.Fixture.{start, anna, right_word, connect, login, says, lines, gets, tag, greeting, opens, joins}
 
 -- so many numbers from the first on; 1, 2 .. n
 abbrev numbers_from : ℕ → ℕ → List ℕ
@@ -46,7 +47,7 @@ n_are_in n = flat_map (λ k. comes k ++ (says k join_big ∷ [])) (upto n) ++ co
 
 -- it joins: what client c gets of that
 abbrev gets_of_next : ℕ → ℕ → List ℕ
-gets_of_next n c = puts (leads_to crowd_lobby (n_are_in n)) (says (n + 1) join_big ∷ []) c
+gets_of_next n c = put_in (after crowd_lobby (n_are_in n)) (says (n + 1) join_big ∷ []) c
 
 abbrev spaced : List (List ℕ) → List ℕ
 spaced names = flat_map (λ name. 32 ∷ name) names
@@ -69,7 +70,7 @@ abbrev others : ℕ → List (List ℕ)
 others n = map user_name (numbers_from 2 n)
 
 abbrev gets_of_first : ℕ → List ℕ
-gets_of_first n = puts (record (leads_to crowd_lobby (comes 1)) { channels = (codes "big", others n) ∷ [] }) (says 1 join_big ∷ []) 1
+gets_of_first n = put_in (record (after crowd_lobby (comes 1)) { channels = (codes "big", others n) ∷ [] }) (says 1 join_big ∷ []) 1
 
 names_in_one_line : gets_of_first 31 ≡ codes "JOIN big\nCLIENTS big" ++ (spaced (others 31) ++ codes " u01\n")
 unfolding digits
@@ -85,7 +86,7 @@ names_in_three_lines = refl
 abbrev battle_of_three : List Event
 battle_of_three = comes 1 ++ (comes 2 ++ (comes 3 ++ (says 2 opens ∷ says 3 (joins 1) ∷ says 1 (joins 1) ∷ [])))
 
-members_in_order_of_joining : puts (leads_to crowd_lobby battle_of_three) (comes 4) 4 ≡ lines (greeting ∷ "ACCEPTED u04" ∷ "ADDUSER u01 DE 0 1"
+members_in_order_of_joining : put_in (after crowd_lobby battle_of_three) (comes 4) 4 ≡ lines (greeting ∷ "ACCEPTED u04" ∷ "ADDUSER u01 DE 0 1"
     ∷ "ADDUSER u02 DE 0 2" ∷ "ADDUSER u03 DE 0 3" ∷ "ADDUSER u04 DE 0 4"
     ∷ "BATTLEOPENED 1 0 0 u02 10.0.0.2 8452 8 0 0 123 Spring\t104.0\tComet Catcher\tAnna's game\tBA 9.46"
     ∷ "UPDATEBATTLEINFO 1 0 0 123 Comet Catcher" ∷ "JOINEDBATTLE 1 u03" ∷ "JOINEDBATTLE 1 u01" ∷ "LOGININFOEND" ∷ [])
@@ -103,7 +104,7 @@ abbrev anna_opens : List Event
 anna_opens = connect 1 ∷ says 1 (login anna right_word (pos 0)) ∷ says 1 opens ∷ []
 
 abbrev full_room : State
-full_room = change_room (lobby_after anna_opens) 1 (λ room. record room { tags = many_tags 512 })
+full_room = change_room (after start anna_opens) 1 (λ room. record room { tags = many_tags 512 })
 
 -- one more is too many, and none of its line is set; a key that was there is no more, and keeps its place. Where some are gone there is room
 abbrev sets_one_too_many : Event
@@ -117,7 +118,7 @@ makes_room =
     says 1 (command.RemoveScriptTags (codes "k2" ∷ codes "k1" ∷ codes "zz" ∷ codes "k2" ∷ [])) ∷ says 1 (command.RemoveScriptTags (codes "zz" ∷ []))
     ∷ says 1 (command.SetScriptTags (tag "new" "1" ∷ [])) ∷ []
 
-too_many_tags : puts full_room (sets_one_too_many ∷ sets_old_one ∷ makes_room) 1
+too_many_tags : put_in full_room (sets_one_too_many ∷ sets_old_one ∷ makes_room) 1
     ≡ lines ("SERVERMSG Too many tags" ∷ "SETSCRIPTTAGS k1=2" ∷ "REMOVESCRIPTTAGS k2 k1" ∷ "SETSCRIPTTAGS new=1" ∷ [])
 unfolding digits
 too_many_tags = refl
@@ -125,11 +126,11 @@ too_many_tags = refl
 abbrev tags_in : State → List Pair
 tags_in s = flat_map (λ e. e.1.room.tags) s.battles
 
-first_tags_when_refused : take 2 (tags_in (leads_to full_room (sets_one_too_many ∷ []))) ≡ tag "k1" "1" ∷ tag "k2" "1" ∷ []
+first_tags_when_refused : take 2 (tags_in (after full_room (sets_one_too_many ∷ []))) ≡ tag "k1" "1" ∷ tag "k2" "1" ∷ []
 unfolding digits
 first_tags_when_refused = refl
 
-first_tags_when_set : take 2 (tags_in (leads_to full_room (sets_old_one ∷ []))) ≡ tag "k1" "2" ∷ tag "k2" "1" ∷ []
+first_tags_when_set : take 2 (tags_in (after full_room (sets_old_one ∷ []))) ≡ tag "k1" "2" ∷ tag "k2" "1" ∷ []
 unfolding digits
 first_tags_when_set = refl
 

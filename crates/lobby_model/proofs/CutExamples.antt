@@ -8,14 +8,15 @@ use Rattle.command_grammar.specs.declared.command.Command.{Command}
 use Rattle.command_grammar.specs.declared.command.Command.TheVariants as command
 use Rattle.lobby_model.specs.declared.event.Event.{Event}
 use Rattle.lobby_model.specs.declared.event.Event.TheVariants as event
-use Rattle.lobby_model.proofs.Fixture.{anna, bert, main, says, three, lobby, leads_to, puts, each, opens, joins}
+use Rattle.lobby_model.specs.History.{after, put_in}
+use Rattle.lobby_model.proofs.Fixture.{anna, bert, main, says, three, lobby, each, opens, joins}
 
 abbrev join_main : Command
 join_main = command.Join main None
 
 -- with little room, a client that read nothing: 145 bytes wait for each when all three are in
 abbrev each_gets_within : ℕ → List Event → List Event → List (List ℕ)
-each_gets_within limit before events = map (puts (leads_to (lobby limit) before) events) (1 ∷ 2 ∷ 3 ∷ [])
+each_gets_within limit before events = map (put_in (after (lobby limit) before) events) (1 ∷ 2 ∷ 3 ∷ [])
 
 -- Anna and Cleo read all. Bert has no room for the 33 bytes that his joining puts: he is in, is heard no more, and leaves when he is shut.
 -- What is said to him is not refused
@@ -34,7 +35,7 @@ cut_by_joining : each_gets_within 177 others_read bert_joins ≡ each
 unfolding digits
 cut_by_joining = refl
 
-still_in_the_channel : (leads_to (lobby 177) (others_read ++ (says 2 join_main ∷ []))).channels ≡ (main, anna ∷ bert ∷ []) ∷ []
+still_in_the_channel : (after (lobby 177) (others_read ++ (says 2 join_main ∷ []))).channels ≡ (main, anna ∷ bert ∷ []) ∷ []
 unfolding digits
 still_in_the_channel = refl
 

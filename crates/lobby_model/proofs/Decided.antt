@@ -7,14 +7,14 @@ use Rattle.lobby_model.specs.declared.event.Event.TheVariants as event
 use Rattle.lobby_model.specs.State.{State, hears, name_of}
 use Rattle.lobby_model.specs.Outcome.{Outcome, nothing, done}
 use Rattle.lobby_model.specs.Sessions.{has_place, connects}
-use Rattle.lobby_model.specs.Unserved.{answered}
+use Rattle.lobby_model.specs.Commands.{answer}
 use Rattle.lobby_model.specs.Events.{outcome}
 
 abbrev pub opening : State → List ℕ → ℕ → Bool → Outcome
 opening s ip home place = if place then done (connects (s.last_client + 1) ip home s) else nothing
 
 abbrev pub saying : State → ℕ → Command → Bool → Outcome
-saying s c command hearing = if hearing then answered s c (name_of s c) command else nothing
+saying s c command hearing = if hearing then answer s c (name_of s c) command else nothing
 
 pub given_place : (s : State) (ip : List ℕ) (home : ℕ)
     → has_place s ≡ true → outcome s (event.Open ip home) ≡ done (connects (s.last_client + 1) ip home s)

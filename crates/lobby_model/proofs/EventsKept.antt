@@ -40,7 +40,7 @@ effect_keeps s (event.Open ip home) sound =
     elim (has_place s) as (λ b. Sound (state_after s (opening s ip home b))) [ true ↦ sessions.connects_keeps s sound ip home s | false ↦ sound ]
 effect_keeps s (event.Say c request) sound =
     elim (hears s c) as (λ b. hears s c ≡ b → Sound (state_after s (saying s c request.command b))) [
-      | true ↦ λ h. let at_c = found s c (is_there s c h) in commands.answered_keeps s sound c at_c.0 at_c.1 request.command
+      | true ↦ λ h. let at_c = found s c (is_there s c h) in commands.answer_keeps s sound c at_c.0 at_c.1 (name_of s c) refl request.command
       | false ↦ λ h. sound
     ] refl
 effect_keeps s (event.Shut c) sound = sessions.departs_keeps s sound c _ (sessions.disconnects_unnames c) (name_of s c) refl

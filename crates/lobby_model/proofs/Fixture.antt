@@ -1,21 +1,16 @@
 -- The accounts, the settings and the events of the worked examples, and what the clients get of them.
 use Rattle.std.proofs.Common.{ℕ, List, [], ◌∷◌, ◌++◌}
-use Rattle.std.specs.Prelude.{ℤ, pos, negsuc, codes, if◌then◌else◌, map, flat_map, Option, None, false}
+use Rattle.std.specs.Prelude.{ℤ, pos, negsuc, codes, map, flat_map, Option, None, false}
 use Prim.Native.String.{String}
 use Rattle.command_grammar.specs.declared.command.Command.{Command}
 use Rattle.command_grammar.specs.declared.command.Command.TheVariants as command
-use Rattle.reply_grammar.specs.Replies.{print_all}
 use Rattle.account_book.specs.Account.{Account}
 use Rattle.line_words.specs.declared.lists.Pair.{Pair}
-use Rattle.line_words.specs.Table.{at_number, map_values}
 use Rattle.lobby_model.specs.declared.event.Event.{Event}
 use Rattle.lobby_model.specs.declared.event.Event.TheVariants as event
 use Rattle.lobby_model.specs.Configuration.{configuration}
-use Rattle.lobby_model.specs.State.{State, empty_lobby, hears, name_of}
-use Rattle.lobby_model.specs.Outcome.{Outcome, nothing, state_after}
-use Rattle.lobby_model.specs.Commands.{answer}
-use Rattle.lobby_model.specs.Events.{outcome, lines_of}
-use Rattle.lobby_model.specs.Next.{with_batch, put_to}
+use Rattle.lobby_model.specs.State.{State, empty_lobby}
+use Rattle.lobby_model.specs.History.{after, put_in}
 
 abbrev pub anna : List ℕ
 anna = codes "Anna"
@@ -89,35 +84,9 @@ three =
     connect 1 ∷ connect 2 ∷ connect 3 ∷ says 1 (login anna right_word (pos 0)) ∷ says 2 (login bert right_word (pos 0))
     ∷ says 3 (login cleo right_word (pos 0)) ∷ []
 
--- Commands that are not served yet stand in the table all the same. Their examples run over the table: `leads_to` and `puts` are `after` and
--- `put_in` over it, and go when all are served
-abbrev comes_to : State → Event → Outcome
-comes_to s (event.Say c request) = if hears s c then answer s c (name_of s c) request.command else nothing
-comes_to s e = outcome s e
-
-abbrev bytes_for : State → Event → ℕ → List ℕ
-bytes_for s e c = print_all (lines_of s e (comes_to s e) c)
-
-abbrev step : State → Event → State
-step s e = record (state_after s (comes_to s e)) {
-  clients = map_values (λ c client. with_batch s.settings.outbox_limit (bytes_for s e c) client) (state_after s (comes_to s e)).clients;
-}
-
-abbrev pub leads_to : State → List Event → State
-leads_to s [] = s
-leads_to s (e ∷ history) = leads_to (step s e) history
-
-abbrev pub puts : State → List Event → ℕ → List ℕ
-puts s [] c = []
-puts s (e ∷ history) c =
-    put_to s.settings.outbox_limit (bytes_for s e c) (at_number (state_after s (comes_to s e)).clients c) ++ puts (step s e) history c
-
--- the lobby after some events, and what client c gets of some events after others
-abbrev pub lobby_after : List Event → State
-lobby_after history = leads_to start history
-
+-- what client c gets of some events after others
 abbrev pub gets : List Event → List Event → ℕ → List ℕ
-gets before events c = puts (lobby_after before) events c
+gets before events c = put_in (after start before) events c
 
 -- what Anna, Bert and Cleo get of them
 abbrev pub each_gets : List Event → List Event → List (List ℕ)

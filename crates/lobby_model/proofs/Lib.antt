@@ -13,6 +13,7 @@ pub mod LoginExamples
 pub mod ChannelExamples
 pub mod BattleExamples
 pub mod RoomExamples
+pub mod TwoBattlesExamples
 pub mod CrowdExamples
 pub mod CutExamples
 pub mod Scheduled

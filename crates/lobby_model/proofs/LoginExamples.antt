@@ -138,20 +138,23 @@ stranger_goes : put_in start (connect 1 ∷ connect 2 ∷ says 2 (logs_in bert) 
 unfolding digits
 stranger_goes = refl
 
--- the commands of battles are not served: their issuer is told so, and nobody hears of them
+-- each command of a battle is known: Anna opens one, may join no other, closes it, and is in none then
 abbrev says_all : List Event
 says_all = connect 1 ∷ connect 2 ∷ says 1 (logs_in anna) ∷ says 2 (logs_in bert) ∷ map (says_with (Some 6) 1) commands_of_battles
 
-not_served : put_in start says_all 1
+each_is_known : put_in start says_all 1
     ≡ lines (greeting ∷ "ACCEPTED Anna" ∷ "MOTD Welcome" ∷ "ADDUSER Anna DE 0 1" ∷ "LOGININFOEND" ∷ "ADDUSER Bert ?? 0 2" ∷ "CLIENTSTATUS Bert 12"
-    ∷ replicate 21 "#6 SERVERMSG Unknown command")
+    ∷ "#6 BATTLEOPENED 1 0 0 Anna 10.0.0.1 8452 8 0 0 123 Spring\t104.0\tComet Catcher\tAnna's game\tBA 9.46" ∷ "#6 OPENBATTLE 1"
+    ∷ "#6 REQUESTBATTLESTATUS" ∷ "#6 JOINBATTLEFAILED Already in a battle" ∷ "#6 BATTLECLOSED 1"
+    ∷ replicate 18 "#6 SERVERMSG You are not in a battle")
 unfolding digits
-not_served = refl
+each_is_known = refl
 
-not_served_to_another : put_in start says_all 2
-    ≡ lines (greeting ∷ "ACCEPTED Bert" ∷ "MOTD Welcome" ∷ "ADDUSER Anna DE 0 1" ∷ "ADDUSER Bert ?? 0 2" ∷ "CLIENTSTATUS Bert 12" ∷ "LOGININFOEND" ∷ [])
+told_to_another : put_in start says_all 2
+    ≡ lines (greeting ∷ "ACCEPTED Bert" ∷ "MOTD Welcome" ∷ "ADDUSER Anna DE 0 1" ∷ "ADDUSER Bert ?? 0 2" ∷ "CLIENTSTATUS Bert 12" ∷ "LOGININFOEND"
+    ∷ "BATTLEOPENED 1 0 0 Anna 10.0.0.1 8452 8 0 0 123 Spring\t104.0\tComet Catcher\tAnna's game\tBA 9.46" ∷ "BATTLECLOSED 1" ∷ [])
 unfolding digits
-not_served_to_another = refl
+told_to_another = refl
 
 -- Bert has room for what he gets. Anna, who read nothing, has none for the lines of her own login, 125 bytes with the greeting: she is cut.
 -- The others get to know her, and she is there until she is shut. Cleo, who reads what she gets, has room

@@ -1,6 +1,6 @@
 -- Where a client that is there after an event comes from: it was there before, or the event let it in.
 use Rattle.std.proofs.Common.{◌≡◌, ◌≤◌, ℕ, ◌+◌, List, [], ◌++◌, drop, refl, sym, ap, subst, ◌∙◌, Bool, true, false, cond, not, inl, inr, arith}
-use Rattle.std.specs.Prelude.{Option, Some, None, ℤ, Result, Ok, Err, ◌⊎◌, is_some, if◌then◌else◌, ◌&&◌}
+use Rattle.std.specs.Prelude.{Option, Some, None, ℤ, Result, Ok, Err, ◌⊎◌, is_some, if◌then◌else◌}
 use Rattle.std.specs.Option.{option_map, unwrap_or}
 use Rattle.std.specs.Ordering.{nat_cmp}
 use Rattle.std.specs.Cmp.{nat_cmp_total}
@@ -23,7 +23,6 @@ use Rattle.lobby_model.specs.State.{State, Client, hears, name_of, in_phase, set
 use Rattle.lobby_model.specs.Outcome.{Outcome, refuse_if, state_after}
 use Rattle.lobby_model.specs.Sessions.{has_place, greeted, log_in, ends, disconnects, drained}
 use Rattle.lobby_model.specs.Commands.{answer}
-use Rattle.lobby_model.specs.Unserved.{is_unserved}
 use Rattle.lobby_model.specs.Events.{effect}
 use Rattle.lobby_model.specs.Next.{next, batch, with_batch, taken_from, taken_by}
 use Rattle.lobby_model.specs.Laws.{number_given}
@@ -66,7 +65,7 @@ obeys s d me command =
 pub says : (s : State) (d : ℕ) (request : Request) → Phased s d (effect s (event.Say d request))
 says s d request =
     elim (hears s d) as (λ t. Phased s d (state_after s (saying s d request.command t))) [
-      | true ↦ if_phased s d (is_some (name_of s d) && is_unserved request.command) _ _ (obeys s d (name_of s d) request.command)
+      | true ↦ obeys s d (name_of s d) request.command
       | false ↦ unphased s d
     ]
 

@@ -15,7 +15,7 @@ use Rattle.line_words.specs.Table.{ByNumber, at_number, put_number, change_numbe
 use Rattle.lobby_model.specs.State.{State, Client, is_live, hears, name_of}
 use Rattle.lobby_model.specs.Outcome.{Outcome, Refused, Done, state_after, refusal_of}
 use Rattle.lobby_model.specs.Sessions.{has_place, greeted, greeting, drained, departs, disconnects}
-use Rattle.lobby_model.specs.Unserved.{answered}
+use Rattle.lobby_model.specs.Commands.{answer}
 use Rattle.lobby_model.specs.Events.{effect, refusal, lines_of, under}
 use Rattle.lobby_model.specs.Next.{next, batch, delivered, with_batch, has_room_for, is_empty}
 use Rattle.lobby_model.specs.Touched.{is_touched, touches}
@@ -111,7 +111,7 @@ refused_keeps s (Done happenings) reply e = absurd (cc)
 pub effect_refused : (s : State) (c : ℕ) (request : Request) (reply : Reply) → refusal s c request.command ≡ Some reply → effect s (event.Say c request) ≡ s
 effect_refused s c request reply e =
     elim (hears s c) as (λ b. state_after s (saying s c request.command b) ≡ s) [
-      | true ↦ refused_keeps s (answered s c (name_of s c) request.command) reply e
+      | true ↦ refused_keeps s (answer s c (name_of s c) request.command) reply e
       | false ↦ refl
     ]
 

@@ -45,11 +45,9 @@ in_channel s me channel happening =
 abbrev pub leave : State → List ℕ → List ℕ → Outcome
 leave s me channel = in_channel s me channel (leaves me channel)
 
-abbrev pub say : State → List ℕ → List ℕ → List ℕ → Outcome
-say s me channel text = in_channel s me channel (λ names. only_told (tell (users names) (reply.Said channel me text ∷ []) ∷ []))
-
-abbrev pub say_ex : State → List ℕ → List ℕ → List ℕ → Outcome
-say_ex s me channel text = in_channel s me channel (λ names. only_told (tell (users names) (reply.SaidEx channel me text ∷ []) ∷ []))
+-- said in a channel
+abbrev pub say_in_channel : State → List ℕ → List ℕ → Reply → Outcome
+say_in_channel s me channel line = in_channel s me channel (λ names. only_told (tell (users names) (line ∷ []) ∷ []))
 
 abbrev pub say_private : State → List ℕ → List ℕ → List ℕ → Outcome
 say_private s me target text =

@@ -11,7 +11,7 @@ use Rattle.lobby_model.specs.State.{State, updated}
 use Rattle.lobby_model.specs.Texts.{fault_text, log_in_first, already_in}
 use Rattle.lobby_model.specs.Outcome.{Outcome, Refused, nothing, done, only_told, tell, issuer, message}
 use Rattle.lobby_model.specs.Sessions.{log_in, departs, ends, set_user_status}
-use Rattle.lobby_model.specs.Channels.{join, leave, say, say_ex, say_private, list_channels}
+use Rattle.lobby_model.specs.Channels.{join, leave, say_in_channel, say_private, list_channels}
 use Rattle.lobby_model.specs.Battles.{no_password, address, open_battle, join_battle, leave_battle, update_battle, set_own_status, say_in_battle}
 use Rattle.lobby_model.specs.Rooms.{new_bot, add_bot, update_bot, remove_bot, add_rect, remove_rect, set_script_tags, remove_script_tags, force_number, force_colour, kick, ring}
 
@@ -27,8 +27,8 @@ answer s c None command = Refused (message log_in_first)
 answer s c (Some me) (command.MyStatus asked) = set_user_status s me asked
 answer s c (Some me) (command.Join channel key) = join s me channel
 answer s c (Some me) (command.Leave channel) = leave s me channel
-answer s c (Some me) (command.Say channel text) = say s me channel text
-answer s c (Some me) (command.SayEx channel text) = say_ex s me channel text
+answer s c (Some me) (command.Say channel text) = say_in_channel s me channel (reply.Said channel me text)
+answer s c (Some me) (command.SayEx channel text) = say_in_channel s me channel (reply.SaidEx channel me text)
 answer s c (Some me) (command.SayPrivate target text) = say_private s me target text
 answer s c (Some me) command.Channels = list_channels s
 answer s c (Some me) (command.OpenBattle battle_type nat_type password port max_players game_hash rank map_hash engine_name engine_version map title game_name) =

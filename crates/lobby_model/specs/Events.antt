@@ -9,18 +9,18 @@ use Rattle.lobby_model.specs.declared.event.Event.TheVariants as event
 use Rattle.lobby_model.specs.State.{State, hears, name_of}
 use Rattle.lobby_model.specs.Outcome.{Reader, Outcome, nothing, done, lines_for, letters_of, state_after, refusal_of}
 use Rattle.lobby_model.specs.Sessions.{has_place, connects, departs, disconnects, drains}
-use Rattle.lobby_model.specs.Unserved.{answered}
+use Rattle.lobby_model.specs.Commands.{answer}
 
 -- An open for which there is no place, and a command of a client that does not hear, come to nothing
 abbrev pub outcome : State → Event → Outcome
 outcome s (event.Open ip home) = if has_place s then done (connects (s.last_client + 1) ip home s) else nothing
-outcome s (event.Say c request) = if hears s c then answered s c (name_of s c) request.command else nothing
+outcome s (event.Say c request) = if hears s c then answer s c (name_of s c) request.command else nothing
 outcome s (event.Shut c) = departs s (name_of s c) (disconnects c)
 outcome s (event.Drain c n) = done (drains c n)
 
 -- the first refusal that applies to a command of a client that is neither Ended nor cut
 abbrev pub refusal : State → ℕ → Command → Option Reply
-refusal s c command = refusal_of (answered s c (name_of s c) command)
+refusal s c command = refusal_of (answer s c (name_of s c) command)
 
 -- what the maps are after an event, before its lines are put
 abbrev pub effect : State → Event → State

@@ -7,7 +7,6 @@ pub mod Battles
 pub mod Rooms
 pub mod Sessions
 pub mod Commands
-pub mod Unserved
 pub mod Events
 pub mod Next
 pub mod Touched

@@ -59,7 +59,7 @@ pub fn refused_command_changes_no_map()
 /// tags stand once, and a bot's owner is a member.
 ///
 /// Each event keeps a sound lobby sound, before its lines are put and after, and so does each
-/// command of a client that is there, whether the command is served yet or not.
+/// command of a client that is there.
 pub fn lobby_stays_sound()
     ensures always { (settings : Configuration) (accounts : List Account) (history : List Event)
         → Sound (after (empty_lobby settings accounts) history) }

@@ -1,6 +1,7 @@
 //! All clients by their numbers.
 
 ghost use Rattle.std.specs.Prelude.{◌≡◌, ℕ, ◌+◌, ◌-◌, ◌^◌, ◌<◌, [], ◌++◌, List, length, take, drop, min, map, OnOk, OnErr, IfSome, true, is_some, option_copied};
+ghost use Rattle.std.specs.Option.{option_map};
 ghost use Rattle.std.specs.Ordering.{nat_cmp};
 ghost use Rattle.std.specs.List.Sorted.{IsStrictlySortedBy};
 ghost use Rattle.line_words.specs.Table.{ByNumber, at_number, put_number, without_number, change_number};
@@ -90,6 +91,16 @@ impl Clients {
     {
         match self.slots.get(&client) {
             Some(slot) => slot.name(),
+            None => None,
+        }
+    }
+
+    /// The IPv4 address from which a client connected.
+    pub fn ip_of(&self, client: u64) -> Option<[u8; 4]>
+        ensures { result ≡ option_map (λ c. c.ip) (at_number (plain self.now.slots) client) }
+    {
+        match self.slots.get(&client) {
+            Some(slot) => Some(slot.ip()),
             None => None,
         }
     }

@@ -142,6 +142,13 @@ impl Slot {
         home
     }
 
+    /// The IPv4 address from which it connected.
+    pub fn ip(&self) -> [u8; 4]
+        ensures { result ≡ self.now.client.ip }
+    {
+        self.ip
+    }
+
     /// The name under which it is logged in.
     pub fn name(&self) -> Option<&NameBuf>
         ensures { option_copied result ≡ name_in self.now.client.phase }

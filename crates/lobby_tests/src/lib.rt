@@ -3,6 +3,8 @@
 #![tactic(auto)]
 
 #[cfg(test)]
+mod battles;
+#[cfg(test)]
 mod hall;
 #[cfg(test)]
 mod machine;

@@ -1,6 +1,7 @@
 //! A lobby: whom it wakes, how a client ends and is cut, and what is left where memory was refused.
 
-ghost use Rattle.std.specs.Prelude.{◌<◌};
+ghost use Rattle.std.specs.Prelude.{◌<◌, IfOk, IsTrue};
+ghost use Rattle.command_grammar.specs.Kinds.{keeps_kinds};
 
 use crate::settings::settings;
 use account_book::{Account, AccountBook};
@@ -44,8 +45,16 @@ fn new_lobby(alloc: Global) -> Result<Lobby, Fail> {
     }
 }
 
+// What a line asks for, with arguments of their kinds.
+#[tactic(auto, using(command_grammar::proofs::KindTables::request_keeps))]
+pub fn read(alloc: Global, line: &[u8]) -> Result<Request, AllocError>
+    ensures { IfOk result (λ request. IsTrue (keeps_kinds request.command)) }
+{
+    read_request(alloc, line)
+}
+
 pub fn say(lobby: &mut Lobby, alloc: Global, client: u64, line: &[u8]) -> Result<Wakes, Fail> {
-    match read_request(alloc, line) {
+    match read(alloc, line) {
         Ok(request) => {
             let said = lobby.say(client, &request);
             request.discard();
@@ -197,7 +206,7 @@ fn open_three(lobby: &mut Lobby) -> Result<(), OpenError> {
     Ok(())
 }
 
-fn lobby_of_three(alloc: Global) -> Result<Lobby, Fail> {
+pub fn lobby_of_three(alloc: Global) -> Result<Lobby, Fail> {
     let mut lobby = new_lobby(alloc)?;
     match open_three(&mut lobby) {
         Ok(()) => Ok(lobby),
@@ -212,15 +221,19 @@ fn three_clients_are_numbered_in_order(rt: HostRuntime) -> Result<(), Fail> {
 }
 
 // Reads a line, once more where memory was refused.
-fn read_at_last(alloc: Global, line: &[u8]) -> Result<Request, AllocError> {
-    match read_request(alloc, line) {
+fn read_at_last(alloc: Global, line: &[u8]) -> Result<Request, AllocError>
+    ensures { IfOk result (λ request. IsTrue (keeps_kinds request.command)) }
+{
+    match read(alloc, line) {
         Ok(request) => Ok(request),
-        Err(AllocError) => read_request(alloc, line),
+        Err(AllocError) => read(alloc, line),
     }
 }
 
 // Says the request until memory suffices; after each refusal nobody has a byte to read.
-fn say_at_last(lobby: &mut Lobby, client: u64, request: &Request) -> Result<(), Fail> {
+fn say_at_last(lobby: &mut Lobby, client: u64, request: &Request) -> Result<(), Fail>
+    requires { IsTrue (keeps_kinds request.now.command) }
+{
     for _ in 0..64 {
         if lobby.say(client, request).is_ok() {
             return Ok(());
@@ -233,7 +246,7 @@ fn say_at_last(lobby: &mut Lobby, client: u64, request: &Request) -> Result<(), 
 }
 
 // Logs three users in, one after another, and sets the status of one; all read in between.
-const EVENTS: [(u64, &[u8]); 4] = [
+pub const EVENTS: [(u64, &[u8]); 4] = [
     (1, b"LOGIN Anna X03MO1qnZdYdgyfeuILPmQ== 0 * TestLobby 1.0"),
     (2, b"LOGIN Bert X03MO1qnZdYdgyfeuILPmQ== 0 * TestLobby 1.0"),
     (1, b"MYSTATUS 1"),
@@ -254,7 +267,7 @@ fn serve(lobby: &mut Lobby, alloc: Global, client: u64, line: &[u8]) -> Result<(
     }
 }
 
-fn serve_all(lobby: &mut Lobby, alloc: Global, events: &[(u64, &[u8])]) -> Result<(), Fail> {
+pub fn serve_all(lobby: &mut Lobby, alloc: Global, events: &[(u64, &[u8])]) -> Result<(), Fail> {
     for (client, line) in events {
         serve(lobby, alloc, *client, *line)?;
     }

@@ -1,8 +1,11 @@
 //! A channel of 33 users, whose last join is refused memory.
 
-use crate::machine::{WORD, drains, new_settings, say};
+ghost use Rattle.std.specs.Prelude.{IsTrue};
+ghost use Rattle.command_grammar.specs.Kinds.{keeps_kinds};
+
+use crate::machine::{WORD, drains, new_settings, read, say};
 use account_book::{Account, AccountBook};
-use command_grammar::{Request, read_request};
+use command_grammar::Request;
 use lobby_machine::Lobby;
 use std::alloc::{AllocError, Global};
 use std::process::Abort;
@@ -76,7 +79,9 @@ fn all_is_read(lobby: &Lobby) -> bool {
 }
 
 // Says the request until memory suffices; after each refusal nobody has a byte to read.
-fn join_at_last(lobby: &mut Lobby, request: &Request) -> Result<(), Fail> {
+fn join_at_last(lobby: &mut Lobby, request: &Request) -> Result<(), Fail>
+    requires { IsTrue (keeps_kinds request.now.command) }
+{
     for _ in 0..64 {
         if lobby.say(u64::from(USERS), request).is_ok() {
             return Ok(());
@@ -89,7 +94,7 @@ fn join_at_last(lobby: &mut Lobby, request: &Request) -> Result<(), Fail> {
 }
 
 fn join_last(lobby: &mut Lobby, alloc: Global) -> Result<(), Fail> {
-    match read_request(alloc, b"JOIN main") {
+    match read(alloc, b"JOIN main") {
         Ok(request) => {
             let joined = join_at_last(lobby, &request);
             request.discard();

@@ -7,11 +7,13 @@
 
 mod command_word;
 mod laws;
+mod opened_battle;
 mod printing;
 
 pub use command_word::CommandWord;
 pub use laws::no_break_inside;
 use line_words::{NameBuf, NameList, PairList, SentenceBuf, TextBuf, WordBuf, WordList};
+pub use opened_battle::OpenedBattle;
 pub use printing::{LentReply, print, print_id, print_lent};
 
 /// A line to a client, its fields the arguments in their order.

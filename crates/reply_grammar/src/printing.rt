@@ -7,11 +7,13 @@ mod battles;
 mod channels;
 mod lent;
 mod pieces;
+mod refusals;
 mod room;
 mod session;
 mod shapes;
 
 use crate::Reply;
+use lent::put_lent;
 pub use lent::{LentReply, print_id, print_lent};
 use pieces::whole;
 use std::alloc::AllocError;
@@ -34,36 +36,46 @@ fn put_reply(out: &mut Vec<u8>, id: Option<u32>, reply: &Reply) -> Result<(), Al
     match reply {
         Reply::TasServer { .. }
         | Reply::Accepted { .. }
-        | Reply::Denied { .. }
         | Reply::Motd { .. }
-        | Reply::ServerMsg { .. }
         | Reply::AddUser { .. }
         | Reply::RemoveUser { .. }
         | Reply::ClientStatus { .. }
         | Reply::LoginInfoEnd { .. }
-        | Reply::Pong { .. } => session::put_reply(out, id, reply),
+        | Reply::Pong { .. } => put_lent(out, id, session::lend(reply)),
         Reply::Join { .. }
         | Reply::Clients { .. }
         | Reply::Joined { .. }
         | Reply::Left { .. }
-        | Reply::JoinFailed { .. }
         | Reply::Said { .. }
         | Reply::SaidEx { .. }
         | Reply::SayPrivate { .. }
         | Reply::SaidPrivate { .. }
         | Reply::Channel { .. }
-        | Reply::EndOfChannels { .. } => channels::put_reply(out, id, reply),
+        | Reply::EndOfChannels { .. } => put_lent(out, id, channels::lend(reply)),
         Reply::OpenBattle { .. }
-        | Reply::OpenBattleFailed { .. }
-        | Reply::BattleOpened { .. }
         | Reply::BattleClosed { .. }
         | Reply::JoinBattle { .. }
-        | Reply::JoinBattleFailed { .. }
         | Reply::JoinedBattle { .. }
         | Reply::LeftBattle { .. }
         | Reply::UpdateBattleInfo { .. }
         | Reply::RequestBattleStatus { .. }
-        | Reply::ForceQuitBattle { .. } => battles::put_reply(out, id, reply),
-        _ => room::put_reply(out, id, reply),
+        | Reply::ForceQuitBattle { .. } => put_lent(out, id, battles::lend(reply)),
+        Reply::ClientBattleStatus { .. }
+        | Reply::SaidBattle { .. }
+        | Reply::SaidBattleEx { .. }
+        | Reply::AddBot { .. }
+        | Reply::UpdateBot { .. }
+        | Reply::RemoveBot { .. }
+        | Reply::AddStartRect { .. }
+        | Reply::RemoveStartRect { .. }
+        | Reply::SetScriptTags { .. }
+        | Reply::RemoveScriptTags { .. }
+        | Reply::Ring { .. } => put_lent(out, id, room::lend(reply)),
+        Reply::Denied { .. }
+        | Reply::ServerMsg { .. }
+        | Reply::JoinFailed { .. }
+        | Reply::OpenBattleFailed { .. }
+        | Reply::JoinBattleFailed { .. } => refusals::put_reply(out, id, reply),
+        Reply::BattleOpened { .. } => battles::put_battle_opened(out, id, reply),
     }
 }

@@ -1,14 +1,16 @@
 //! What a user gets that logs in: one batch of lines.
 
-ghost use Rattle.std.specs.Prelude.{◌≡◌, [], ◌∷◌, map, OnOk};
+ghost use Rattle.std.specs.Prelude.{◌≡◌, [], ◌∷◌, map, flat_map, OnOk};
 ghost use Rattle.line_words.specs.Table.{put_name};
 ghost use Rattle.reply_grammar.specs.declared.Reply.TheVariants as reply;
 ghost use Rattle.lobby_model.specs.Outcome.{tell, issuer};
+ghost use Rattle.lobby_model.specs.Battles.{battle_lines};
 ghost use Rattle.lobby_model.specs.Sessions.{burst};
 ghost use Rattle.lobby_post.specs.Posted.{Told, with_own};
 ghost use Rattle.lobby_machine.specs.Seats.{user_in, users_of};
-ghost use Rattle.lobby_machine.specs.Parts.{part_of, parts_of};
+ghost use Rattle.lobby_machine.specs.Parts.{guest_lines, part_of, parts_of};
 
+use crate::battle::Battle;
 use crate::maps::Maps;
 use crate::seats::Seat;
 use line_words::{NameBuf, TextBuf};
@@ -28,10 +30,49 @@ impl Maps {
         write_motd(self.settings.motd().as_slice(), post)?;
         write_parts(&self.seats.users, name, seat, Part::Presence, post)?;
         write_parts(&self.seats.users, name, seat, Part::Status, post)?;
+        self.write_battles(post)?;
         post.write_own(LentReply::LoginInfoEnd)?;
         post.address_issuer()?;
         Ok(())
     }
+
+    /// Writes the battles, in the order of their numbers.
+    fn write_battles(&self, post: &mut Post) -> Result<(), AllocError>
+        ensures { OnOk result (post.new ≡ with_own post.old (flat_map (λ e. battle_lines e.0 e.1) self.now.battles)) }
+    {
+        for (number, battle) in &self.battles.by_number {
+            write_battle(*number, battle, post)?;
+        }
+        Ok(())
+    }
+}
+
+/// Writes what all know of a battle, and who is in it besides its founder.
+fn write_battle(number: u32, battle: &Battle, post: &mut Post) -> Result<(), AllocError>
+    ensures { OnOk result (post.new ≡ with_own post.old (battle_lines number battle.now)) }
+{
+    post.write_own(LentReply::BattleOpened(number, &battle.opened))?;
+    post.write_own(LentReply::UpdateBattleInfo(
+        number,
+        battle.spectators,
+        battle.locked,
+        battle.opened.map_hash,
+        &battle.opened.map,
+    ))?;
+    write_guests(number, battle, post)?;
+    Ok(())
+}
+
+/// Writes who is in a battle besides its founder.
+fn write_guests(number: u32, battle: &Battle, post: &mut Post) -> Result<(), AllocError>
+    ensures { OnOk result (post.new ≡ with_own post.old (guest_lines number battle.now)) }
+{
+    for member in battle.room.members() {
+        if !battle.is_founder(member.name()) {
+            post.write_own(LentReply::JoinedBattle(number, member.name(), None))?;
+        }
+    }
+    Ok(())
 }
 
 /// Writes the lines of the message of the day.

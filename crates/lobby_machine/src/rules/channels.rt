@@ -1,8 +1,9 @@
 //! Channels and private talk.
 
 ghost use Rattle.std.specs.Prelude.{◌≡◌, [], ◌∷◌, ◌++◌, OnOk};
+ghost use Rattle.reply_grammar.specs.Lent.{reply_of};
 ghost use Rattle.lobby_model.specs.Outcome.{tell, user};
-ghost use Rattle.lobby_model.specs.Channels.{join, leave, name_lines, say, say_ex, say_private, list_channels};
+ghost use Rattle.lobby_model.specs.Channels.{join, leave, name_lines, say_in_channel, say_private, list_channels};
 ghost use Rattle.lobby_post.specs.Posted.{Told, with_own};
 ghost use Rattle.lobby_machine.specs.Answers.{Answers};
 ghost use Rattle.lobby_machine.specs.Talk.{channel_lines, left_letters};
@@ -54,35 +55,19 @@ impl Maps {
         })
     }
 
-    /// `SAY`: the user is in the channel.
-    pub fn say(
+    /// `SAY` and `SAYEX`: the user is in the channel.
+    pub fn say_in_channel(
         &self,
         client: u64,
         me: &NameBuf,
         channel: &NameBuf,
-        text: &TextBuf,
+        line: LentReply,
         post: &mut Post,
     ) -> Result<Change, Stop>
-        ensures { Answers self.now client post.old post.new (say self.now me.now channel.now text.now) result }
+        ensures { Answers self.now client post.old post.new (say_in_channel self.now me.now channel.now (reply_of line.entry)) result }
     {
         let names = self.names_with(me, channel)?;
-        self.tell_users(names, LentReply::Said(channel, me, text), post)?;
-        Ok(Change::Nothing)
-    }
-
-    /// `SAYEX`: the user is in the channel.
-    pub fn say_ex(
-        &self,
-        client: u64,
-        me: &NameBuf,
-        channel: &NameBuf,
-        text: &TextBuf,
-        post: &mut Post,
-    ) -> Result<Change, Stop>
-        ensures { Answers self.now client post.old post.new (say_ex self.now me.now channel.now text.now) result }
-    {
-        let names = self.names_with(me, channel)?;
-        self.tell_users(names, LentReply::SaidEx(channel, me, text), post)?;
+        self.tell_users(names, line, post)?;
         Ok(Change::Nothing)
     }
 
@@ -119,12 +104,7 @@ impl Maps {
         ensures { OnOk result (post.new ≡ with_own post.old (channel_lines self.now.channels)) }
     {
         for (channel, members) in &self.channels {
-            let count = members.as_slice().len();
-            // There are never so many clients.
-            if count > u32::MAX as usize {
-                return Err(AllocError);
-            }
-            post.write_own(LentReply::Channel(channel, count as u32))?;
+            post.write_own(LentReply::Channel(channel, members.as_slice().len()))?;
         }
         Ok(())
     }

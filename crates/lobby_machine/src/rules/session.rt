@@ -1,17 +1,21 @@
 //! Coming and going, and the status of users.
 
 ghost use Rattle.std.specs.Prelude.{◌≡◌, ℕ, List, [], ◌∷◌, OnOk, IfOk, true, false, Some, None, option_copied};
+ghost use Rattle.line_words.specs.Table.{at_number};
 ghost use Rattle.command_grammar.specs.declared.command.Command.TheVariants as command;
 ghost use Rattle.reply_grammar.specs.declared.Reply.TheVariants as reply;
-ghost use Rattle.lobby_model.specs.State.{hears, name_of};
+ghost use Rattle.lobby_model.specs.State.{Battle, battle_of, hears, name_of};
 ghost use Rattle.lobby_model.specs.Outcome.{done, only_told, tell, issuer, others};
 ghost use Rattle.lobby_model.specs.Sessions.{arrival, departs, set_user_status, user_of};
 ghost use Rattle.lobby_model.specs.Commands.{answer};
 ghost use Rattle.lobby_post.specs.Posted.{Told, begun};
 ghost use Rattle.lobby_machine.specs.Answers.{Answers, Obeyed};
-ghost use Rattle.lobby_machine.specs.Changes.{parts};
+ghost use Rattle.lobby_machine.specs.Battles.{IsOnly};
+ghost use Rattle.lobby_machine.specs.Changes.{number_of, parts};
+ghost use Rattle.lobby_machine.specs.BattleTalk.{left_battle_letters};
 ghost use Rattle.lobby_machine.specs.Seats.{user_in};
 
+use super::battles::Leaving;
 use super::guards::not_logged_in;
 use crate::change::Change;
 use crate::maps::Maps;
@@ -103,18 +107,36 @@ impl Maps {
         requires { option_copied me ≡ name_of self.now client }
         ensures { IfOk result (λ change. Obeyed self.now client post.old post.new change (departs self.now (option_copied me.entry) (parts client stays))) }
     {
-        // Nobody is in a battle, which are not served yet: so says the plain lobby that the maps
-        // stand for.
-        let _ = &self.clients;
         let Some(me) = me else {
-            return Ok(Change::LogOut { name: None, stays });
+            return Ok(Change::LogOut {
+                name: None,
+                battle: None,
+                stays,
+            });
         };
         self.tell_left(me, post)?;
+        let battle = self.tell_battle_left(me, post)?;
         self.tell_others(LentReply::RemoveUser(me), post)?;
         Ok(Change::LogOut {
             name: Some(me.copy()),
+            battle,
             stays,
         })
+    }
+
+    /// Tells that one who logs out leaves its battle, where it is in one, and gives that battle's
+    /// number.
+    fn tell_battle_left(&self, me: &NameBuf, post: &mut Post) -> Result<Option<u32>, AllocError>
+        ensures told { OnOk result (Told self.now post.old post.new (left_battle_letters me.now (battle_of self.now me.now))) }
+        ensures number { IfOk result (λ number. number ≡ number_of (Some me.now) self.now.battles) }
+        ensures only { IfOk result (λ number. IsOnly self.now.battles number me.now) }
+        ensures there { (own : ℕ × Battle) → battle_of self.now me.now ≡ Some own → at_number self.now.battles own.0 ≡ Some own.1 }
+    {
+        let Some((number, battle)) = self.battle_of(me) else {
+            return Ok(None);
+        };
+        self.tell_leaving(me, number, battle, Leaving::Unseen, post)?;
+        Ok(Some(number))
     }
 
     /// What the end of a client's connection comes to.
@@ -130,6 +152,7 @@ impl Maps {
 /// Where a user of an account sits.
 fn seat_of(alloc: Global, client: u64, account: &Account, cpu: i64) -> Result<Seat, AllocError>
     ensures here { IfOk result (λ seat. seat.client ≡ client) }
+    ensures outside { IfOk result (λ seat. seat.battle ≡ None) }
     ensures user { IfOk result (λ seat. user_in seat ≡ user_of account.now cpu) }
 {
     Ok(Seat {
@@ -138,5 +161,6 @@ fn seat_of(alloc: Global, client: u64, account: &Account, cpu: i64) -> Result<Se
         cpu,
         account: account.id(),
         status: UserStatus::of_account(account.rank(), account.access(), account.bot()),
+        battle: None,
     })
 }

@@ -1,13 +1,15 @@
 //! Printing the replies on battles as all see them.
 #![tactic(auto, using(crate::proofs::Kept::kept_then, crate::proofs::Kept::kept_more))]
 
-ghost use Rattle.std.specs.Prelude.{◌≡◌, [], ◌∷◌, ◌++◌, IfOk, decimal, if◌then◌else◌, length, take};
+ghost use Rattle.std.specs.Prelude.{◌≡◌, [], ◌∷◌, ◌++◌, IfOk, decimal, if◌then◌else◌, length, option_copied, take};
 ghost use Rattle.std.specs.Fmt.{signed_decimal};
 ghost use Rattle.reply_grammar.specs.declared.Reply.TheVariants as reply;
 ghost use Rattle.reply_grammar.specs.declared.command_word.CommandWord.TheVariants as command;
 ghost use Rattle.reply_grammar.specs.Groups.{Battles, group_of};
+ghost use Rattle.reply_grammar.specs.Lent.{battle_opened, reply_of};
 ghost use Rattle.reply_grammar.specs.Replies.{command_of, printed_line};
 
+use super::lent::LentReply;
 use super::pieces::{
     put_command, put_end, put_flag, put_name, put_next_sentence, put_number, put_optional,
     put_sentence, put_wide, put_word,
@@ -15,49 +17,71 @@ use super::pieces::{
 use super::shapes::{put_bare, put_only_battle, put_only_text};
 use crate::Reply;
 use crate::command_word::CommandWord;
+use crate::opened_battle::OpenedBattle;
 use line_words::{NameBuf, SentenceBuf, WordBuf};
 use std::alloc::AllocError;
 
 // The reply is one of the group.
-pub(super) fn put_reply(out: &mut Vec<u8>, id: Option<u32>, reply: &Reply) -> Result<(), AllocError>
+pub(super) fn lend(reply: &Reply) -> LentReply
     requires { group_of (command_of reply.now) ≡ Battles }
-    ensures ok { IfOk result (λ _. out.new.items ≡ out.old.items ++ printed_line id reply.now) }
-    ensures kept { take (length out.old.items) out.new.items ≡ out.old.items }
+    ensures { reply_of result ≡ reply.now }
 {
     match reply {
-        Reply::OpenBattle { battle } => put_only_battle(out, id, CommandWord::OpenBattle, *battle),
-        Reply::OpenBattleFailed { text } => {
-            put_only_text(out, id, CommandWord::OpenBattleFailed, &text.as_text())
-        }
-        Reply::BattleOpened { .. } => put_battle_opened(out, id, reply),
-        Reply::BattleClosed { battle } => {
-            put_only_battle(out, id, CommandWord::BattleClosed, *battle)
-        }
-        Reply::JoinBattle { battle, game_hash } => put_join_battle(out, id, *battle, game_hash),
-        Reply::JoinBattleFailed { text } => {
-            put_only_text(out, id, CommandWord::JoinBattleFailed, &text.as_text())
-        }
+        Reply::OpenBattle { battle } => LentReply::OpenBattle(*battle),
+        Reply::BattleClosed { battle } => LentReply::BattleClosed(*battle),
+        Reply::JoinBattle { battle, game_hash } => LentReply::JoinBattle(*battle, *game_hash),
         Reply::JoinedBattle {
             battle,
             user,
             script_password,
-        } => put_joined_battle(out, id, *battle, user, script_password),
-        Reply::LeftBattle { battle, user } => put_left_battle(out, id, *battle, user),
+        } => LentReply::JoinedBattle(*battle, user, script_password.as_ref()),
+        Reply::LeftBattle { battle, user } => LentReply::LeftBattle(*battle, user),
         Reply::UpdateBattleInfo {
             battle,
             spectator_count,
             locked,
             map_hash,
             map,
-        } => put_update_battle_info(out, id, *battle, *spectator_count, *locked, map_hash, map),
-        Reply::RequestBattleStatus => put_bare(out, id, CommandWord::RequestBattleStatus),
-        Reply::ForceQuitBattle => put_bare(out, id, CommandWord::ForceQuitBattle),
+        } => LentReply::UpdateBattleInfo(*battle, *spectator_count, *locked, *map_hash, map),
+        Reply::RequestBattleStatus => LentReply::RequestBattleStatus,
+        Reply::ForceQuitBattle => LentReply::ForceQuitBattle,
+        _ => unreachable!(),
+    }
+}
+
+// The reply is one of the group.
+pub(super) fn put(out: &mut Vec<u8>, id: Option<u32>, reply: LentReply) -> Result<(), AllocError>
+    requires { group_of (command_of (reply_of reply)) ≡ Battles }
+    ensures ok { IfOk result (λ _. out.new.items ≡ out.old.items ++ printed_line id (reply_of reply.entry)) }
+    ensures kept { take (length out.old.items) out.new.items ≡ out.old.items }
+{
+    match reply {
+        LentReply::OpenBattle(battle) => {
+            put_only_battle(out, id, CommandWord::OpenBattle, battle)
+        }
+        LentReply::BattleClosed(battle) => {
+            put_only_battle(out, id, CommandWord::BattleClosed, battle)
+        }
+        LentReply::JoinBattle(battle, game_hash) => put_join_battle(out, id, battle, &game_hash),
+        LentReply::JoinedBattle(battle, user, script_password) => {
+            put_joined_battle(out, id, battle, user, script_password)
+        }
+        LentReply::LeftBattle(battle, user) => put_left_battle(out, id, battle, user),
+        LentReply::UpdateBattleInfo(battle, spectator_count, locked, map_hash, map) => {
+            put_update_battle_info(out, id, battle, spectator_count, locked, &map_hash, map)
+        }
+        LentReply::RequestBattleStatus => put_bare(out, id, CommandWord::RequestBattleStatus),
+        LentReply::ForceQuitBattle => put_bare(out, id, CommandWord::ForceQuitBattle),
         _ => unreachable!(),
     }
 }
 
 // The reply is BATTLEOPENED.
-fn put_battle_opened(out: &mut Vec<u8>, id: Option<u32>, reply: &Reply) -> Result<(), AllocError>
+pub(super) fn put_battle_opened(
+    out: &mut Vec<u8>,
+    id: Option<u32>,
+    reply: &Reply,
+) -> Result<(), AllocError>
     requires { command_of reply.now ≡ command.BattleOpened }
     ensures ok { IfOk result (λ _. out.new.items ≡ out.old.items ++ printed_line id reply.now) }
     ensures kept { take (length out.old.items) out.new.items ≡ out.old.items }
@@ -86,6 +110,44 @@ fn put_battle_opened(out: &mut Vec<u8>, id: Option<u32>, reply: &Reply) -> Resul
     put_host(out, *battle, *battle_type, *nat_type, founder, ip, *port)?;
     put_entry(out, *max_players, *passworded, rank, map_hash)?;
     put_titles(out, engine_name, engine_version, map, title, game_name)?;
+    put_end(out)?;
+    Ok(())
+}
+
+pub(super) fn put_opened_battle(
+    out: &mut Vec<u8>,
+    id: Option<u32>,
+    battle: u32,
+    opened: &OpenedBattle,
+) -> Result<(), AllocError>
+    ensures ok { IfOk result (λ _. out.new.items ≡ out.old.items ++ printed_line id (battle_opened battle opened.now)) }
+    ensures kept { take (length out.old.items) out.new.items ≡ out.old.items }
+{
+    put_command(out, id, CommandWord::BattleOpened)?;
+    put_host(
+        out,
+        battle,
+        opened.battle_type,
+        opened.nat_type,
+        &opened.founder,
+        &opened.ip,
+        opened.port,
+    )?;
+    put_entry(
+        out,
+        opened.max_players,
+        opened.passworded,
+        &opened.rank,
+        &opened.map_hash,
+    )?;
+    put_titles(
+        out,
+        &opened.engine_name,
+        &opened.engine_version,
+        &opened.map,
+        &opened.title,
+        &opened.game_name,
+    )?;
     put_end(out)?;
     Ok(())
 }
@@ -169,9 +231,9 @@ fn put_joined_battle(
     id: Option<u32>,
     battle: u32,
     user: &NameBuf,
-    script_password: &Option<WordBuf>,
+    script_password: Option<&WordBuf>,
 ) -> Result<(), AllocError>
-    ensures ok { IfOk result (λ _. out.new.items ≡ out.old.items ++ printed_line id (reply.JoinedBattle battle user.now script_password.now)) }
+    ensures ok { IfOk result (λ _. out.new.items ≡ out.old.items ++ printed_line id (reply.JoinedBattle battle user.now (option_copied script_password.entry))) }
     ensures kept { take (length out.old.items) out.new.items ≡ out.old.items }
 {
     put_command(out, id, CommandWord::JoinedBattle)?;

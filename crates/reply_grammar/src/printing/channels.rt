@@ -4,12 +4,13 @@
 ghost use Rattle.std.specs.Prelude.{◌≡◌, [], ◌∷◌, ◌++◌, IfOk, length, take};
 ghost use Rattle.reply_grammar.specs.declared.Reply.TheVariants as reply;
 ghost use Rattle.reply_grammar.specs.Groups.{Channels, group_of};
+ghost use Rattle.reply_grammar.specs.Lent.{reply_of};
 ghost use Rattle.reply_grammar.specs.Replies.{command_of, printed_line};
 
-use super::pieces::{put_command, put_end, put_name, put_names};
+use super::lent::LentReply;
+use super::pieces::{put_command, put_count, put_end, put_name, put_names};
 use super::shapes::{
-    put_bare, put_name_and_number, put_name_and_text, put_only_name, put_two_names,
-    put_two_names_and_text,
+    put_bare, put_name_and_text, put_only_name, put_two_names, put_two_names_and_text,
 };
 use crate::Reply;
 use crate::command_word::CommandWord;
@@ -17,47 +18,88 @@ use line_words::NameBuf;
 use std::alloc::AllocError;
 
 // The reply is one of the group.
-pub(super) fn put_reply(out: &mut Vec<u8>, id: Option<u32>, reply: &Reply) -> Result<(), AllocError>
+pub(super) fn lend(reply: &Reply) -> LentReply
     requires { group_of (command_of reply.now) ≡ Channels }
-    ensures ok { IfOk result (λ _. out.new.items ≡ out.old.items ++ printed_line id reply.now) }
-    ensures kept { take (length out.old.items) out.new.items ≡ out.old.items }
+    ensures { reply_of result ≡ reply.now }
 {
     match reply {
-        Reply::Join { channel } => put_only_name(out, id, CommandWord::Join, channel),
-        Reply::Clients { channel, names } => put_clients(out, id, channel, names.as_slice()),
-        Reply::Joined { channel, user } => {
-            put_two_names(out, id, CommandWord::Joined, channel, user)
-        }
-        Reply::Left { channel, user } => put_two_names(out, id, CommandWord::Left, channel, user),
-        Reply::JoinFailed { channel, reason } => {
-            put_name_and_text(out, id, CommandWord::JoinFailed, channel, &reason.as_text())
-        }
+        Reply::Join { channel } => LentReply::Join(channel),
+        Reply::Clients { channel, names } => LentReply::Clients(channel, names.as_slice()),
+        Reply::Joined { channel, user } => LentReply::Joined(channel, user),
+        Reply::Left { channel, user } => LentReply::Left(channel, user),
         Reply::Said {
             channel,
             user,
             text,
-        } => put_two_names_and_text(out, id, CommandWord::Said, channel, user, &text.as_text()),
+        } => LentReply::Said(channel, user, text),
         Reply::SaidEx {
             channel,
             user,
             text,
-        } => put_two_names_and_text(out, id, CommandWord::SaidEx, channel, user, &text.as_text()),
-        Reply::SayPrivate { user, text } => {
-            put_name_and_text(out, id, CommandWord::SayPrivate, user, &text.as_text())
-        }
-        Reply::SaidPrivate { user, text } => {
-            put_name_and_text(out, id, CommandWord::SaidPrivate, user, &text.as_text())
-        }
+        } => LentReply::SaidEx(channel, user, text),
+        Reply::SayPrivate { user, text } => LentReply::SayPrivate(user, text),
+        Reply::SaidPrivate { user, text } => LentReply::SaidPrivate(user, text),
         Reply::Channel {
             channel,
             user_count,
-        } => put_name_and_number(out, id, CommandWord::Channel, channel, *user_count),
-        Reply::EndOfChannels => put_bare(out, id, CommandWord::EndOfChannels),
+        } => LentReply::Channel(channel, *user_count as usize),
+        Reply::EndOfChannels => LentReply::EndOfChannels,
         _ => unreachable!(),
     }
 }
 
-pub(super) fn put_clients(
+// The reply is one of the group.
+pub(super) fn put(out: &mut Vec<u8>, id: Option<u32>, reply: LentReply) -> Result<(), AllocError>
+    requires { group_of (command_of (reply_of reply)) ≡ Channels }
+    ensures ok { IfOk result (λ _. out.new.items ≡ out.old.items ++ printed_line id (reply_of reply.entry)) }
+    ensures kept { take (length out.old.items) out.new.items ≡ out.old.items }
+{
+    match reply {
+        LentReply::Join(channel) => put_only_name(out, id, CommandWord::Join, channel),
+        LentReply::Clients(channel, names) => put_clients(out, id, channel, names),
+        LentReply::LastClients(channel, names, last) => {
+            put_last_clients(out, id, channel, names, last)
+        }
+        LentReply::Joined(channel, user) => {
+            put_two_names(out, id, CommandWord::Joined, channel, user)
+        }
+        LentReply::Left(channel, user) => {
+            put_two_names(out, id, CommandWord::Left, channel, user)
+        }
+        LentReply::Said(channel, user, text) => {
+            put_two_names_and_text(out, id, CommandWord::Said, channel, user, &text.as_text())
+        }
+        LentReply::SaidEx(channel, user, text) => {
+            put_two_names_and_text(out, id, CommandWord::SaidEx, channel, user, &text.as_text())
+        }
+        LentReply::SayPrivate(user, text) => {
+            put_name_and_text(out, id, CommandWord::SayPrivate, user, &text.as_text())
+        }
+        LentReply::SaidPrivate(user, text) => {
+            put_name_and_text(out, id, CommandWord::SaidPrivate, user, &text.as_text())
+        }
+        LentReply::Channel(channel, user_count) => { put_channel(out, id, channel, user_count) }
+        LentReply::EndOfChannels => put_bare(out, id, CommandWord::EndOfChannels),
+        _ => unreachable!(),
+    }
+}
+
+fn put_channel(
+    out: &mut Vec<u8>,
+    id: Option<u32>,
+    channel: &NameBuf,
+    user_count: usize,
+) -> Result<(), AllocError>
+    ensures ok { IfOk result (λ _. out.new.items ≡ out.old.items ++ printed_line id (reply.Channel channel.now user_count)) }
+    ensures kept { take (length out.old.items) out.new.items ≡ out.old.items }
+{
+    put_command(out, id, CommandWord::Channel)?;
+    put_name(out, channel)?;
+    put_count(out, user_count)?;
+    put_end(out)
+}
+
+fn put_clients(
     out: &mut Vec<u8>,
     id: Option<u32>,
     channel: &NameBuf,
@@ -73,7 +115,7 @@ pub(super) fn put_clients(
 }
 
 // The names and one more.
-pub(super) fn put_last_clients(
+fn put_last_clients(
     out: &mut Vec<u8>,
     id: Option<u32>,
     channel: &NameBuf,

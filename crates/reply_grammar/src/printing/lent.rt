@@ -2,29 +2,26 @@
 #![tactic(auto, using(crate::proofs::Kept::kept_then, crate::proofs::Kept::kept_more))]
 
 ghost use Rattle.std.specs.Prelude.{◌≡◌, ◌++◌, IfOk, is_ok, if◌then◌else◌, length, take};
-ghost use Rattle.reply_grammar.specs.Groups.{Channels, Session, group_of};
 ghost use Rattle.reply_grammar.specs.Lent.{reply_of};
-ghost use Rattle.reply_grammar.specs.Replies.{command_of, id_text, printed_line};
+ghost use Rattle.reply_grammar.specs.Replies.{id_text, printed_line};
 
-use super::channels::{put_clients, put_last_clients};
 use super::pieces::{put_id, whole};
-use super::session::put_add_user;
-use super::shapes::{
-    put_bare, put_name_and_number, put_name_and_text, put_only_name, put_only_text, put_two_names,
-    put_two_names_and_text,
-};
-use crate::command_word::CommandWord;
-use line_words::{NameBuf, Text, TextBuf, WordBuf};
+use super::{battles, channels, refusals, room, session};
+use crate::opened_battle::OpenedBattle;
+use line_words::{NameBuf, Pair, SentenceBuf, Text, TextBuf, WordBuf};
 use std::alloc::AllocError;
 
 /// A reply with its fields lent, the arguments in their order: it says and prints what the `Reply` of
 /// its name does, and nothing is copied for it.
 ///
 /// Texts of refusals are fixed, and lent as `Text`s, which take no memory: `Text::lend(b"Log in first")`.
-/// What users write and the message of the day are lent as they are owned. `cpu` is -2147483648 to
-/// 4294967295.
+/// What users write and the message of the day are lent as they are owned. Numbers have the ranges
+/// of the fields of `Reply`.
 #[derive(Clone, Copy)]
 pub enum LentReply<'a> {
+    /// `TASSERVER`: the protocol and engine versions spoken, the UDP port for address translation and
+    /// the server's mode.
+    TasServer(&'a WordBuf, &'a WordBuf, u16, u8),
     /// `ACCEPTED`: the user.
     Accepted(&'a NameBuf),
     /// `DENIED`: the text.
@@ -64,9 +61,54 @@ pub enum LentReply<'a> {
     /// `SAIDPRIVATE`: the user that spoke and the text.
     SaidPrivate(&'a NameBuf, &'a TextBuf),
     /// `CHANNEL`: the channel and how many users are in it.
-    Channel(&'a NameBuf, u32),
+    Channel(&'a NameBuf, usize),
     /// `ENDOFCHANNELS`.
     EndOfChannels,
+    /// `OPENBATTLE`: the battle.
+    OpenBattle(u32),
+    /// `OPENBATTLEFAILED`: the text.
+    OpenBattleFailed(&'a Text<'a>),
+    /// `BATTLEOPENED`: the battle and what all are told of it.
+    BattleOpened(u32, &'a OpenedBattle),
+    /// `BATTLECLOSED`: the battle.
+    BattleClosed(u32),
+    /// `JOINBATTLE`: the battle and the hash of its game.
+    JoinBattle(u32, i64),
+    /// `JOINBATTLEFAILED`: the text.
+    JoinBattleFailed(&'a Text<'a>),
+    /// `JOINEDBATTLE`: the battle, the user and the script password, if its founder is to be told one.
+    JoinedBattle(u32, &'a NameBuf, Option<&'a WordBuf>),
+    /// `LEFTBATTLE`: the battle and the user.
+    LeftBattle(u32, &'a NameBuf),
+    /// `UPDATEBATTLEINFO`: the battle, how many spectators it has, whether it is locked, and its map as
+    /// hash and name.
+    UpdateBattleInfo(u32, u16, bool, i64, &'a SentenceBuf),
+    /// `REQUESTBATTLESTATUS`.
+    RequestBattleStatus,
+    /// `FORCEQUITBATTLE`.
+    ForceQuitBattle,
+    /// `CLIENTBATTLESTATUS`: the user, its battle status and its team colour.
+    ClientBattleStatus(&'a NameBuf, u32, i64),
+    /// `SAIDBATTLE`: the user and the text.
+    SaidBattle(&'a NameBuf, &'a TextBuf),
+    /// `SAIDBATTLEEX`: the user and the text.
+    SaidBattleEx(&'a NameBuf, &'a TextBuf),
+    /// `ADDBOT`: the battle, the bot, its owner, battle status, team colour and AI.
+    AddBot(u32, &'a WordBuf, &'a NameBuf, u32, i64, &'a SentenceBuf),
+    /// `UPDATEBOT`: the battle, the bot, its battle status and team colour.
+    UpdateBot(u32, &'a WordBuf, u32, i64),
+    /// `REMOVEBOT`: the battle and the bot.
+    RemoveBot(u32, &'a WordBuf),
+    /// `ADDSTARTRECT`: the ally team, and the left, top, right and bottom side.
+    AddStartRect(u8, u8, u8, u8, u8),
+    /// `REMOVESTARTRECT`: the ally team.
+    RemoveStartRect(u8),
+    /// `SETSCRIPTTAGS`: script tags, at least one.
+    SetScriptTags(&'a [Pair]),
+    /// `REMOVESCRIPTTAGS`: keys of script tags, at least one.
+    RemoveScriptTags(&'a [WordBuf]),
+    /// `RING`: the user that rings.
+    Ring(&'a NameBuf),
 }
 
 /// Appends what a line begins with under the id of a request: `#id `, or nothing where there is none. A
@@ -90,85 +132,60 @@ pub fn print_lent(reply: LentReply, id: Option<u32>, out: &mut Vec<u8>) -> Resul
     whole(out, start, done)
 }
 
-fn put_lent(out: &mut Vec<u8>, id: Option<u32>, reply: LentReply) -> Result<(), AllocError>
+pub(super) fn put_lent(
+    out: &mut Vec<u8>,
+    id: Option<u32>,
+    reply: LentReply,
+) -> Result<(), AllocError>
     ensures ok { IfOk result (λ _. out.new.items ≡ out.old.items ++ printed_line id (reply_of reply.entry)) }
     ensures kept { take (length out.old.items) out.new.items ≡ out.old.items }
 {
     match reply {
-        LentReply::Accepted(_)
-        | LentReply::Denied(_)
+        LentReply::TasServer(_, _, _, _)
+        | LentReply::Accepted(_)
         | LentReply::Motd(_)
-        | LentReply::ServerMsg(_)
         | LentReply::AddUser(_, _, _, _)
         | LentReply::RemoveUser(_)
         | LentReply::ClientStatus(_, _)
         | LentReply::LoginInfoEnd
-        | LentReply::Pong => put_of_session(out, id, reply),
-        _ => put_of_channels(out, id, reply),
-    }
-}
-
-// The reply is one of the group.
-fn put_of_session(out: &mut Vec<u8>, id: Option<u32>, reply: LentReply) -> Result<(), AllocError>
-    requires { group_of (command_of (reply_of reply)) ≡ Session }
-    ensures ok { IfOk result (λ _. out.new.items ≡ out.old.items ++ printed_line id (reply_of reply.entry)) }
-    ensures kept { take (length out.old.items) out.new.items ≡ out.old.items }
-{
-    match reply {
-        LentReply::Accepted(user) => put_only_name(out, id, CommandWord::Accepted, user),
-        LentReply::Denied(text) => put_only_text(out, id, CommandWord::Denied, text),
-        LentReply::Motd(text) => put_only_text(out, id, CommandWord::Motd, &text.as_text()),
-        LentReply::ServerMsg(text) => put_only_text(out, id, CommandWord::ServerMsg, text),
-        LentReply::AddUser(user, country, cpu, account) => {
-            put_add_user(out, id, user, country, &cpu, account)
-        }
-        LentReply::RemoveUser(user) => put_only_name(out, id, CommandWord::RemoveUser, user),
-        LentReply::ClientStatus(user, status) => {
-            put_name_and_number(out, id, CommandWord::ClientStatus, user, status)
-        }
-        LentReply::LoginInfoEnd => put_bare(out, id, CommandWord::LoginInfoEnd),
-        LentReply::Pong => put_bare(out, id, CommandWord::Pong),
-        _ => unreachable!(),
-    }
-}
-
-// The reply is one of the group.
-fn put_of_channels(out: &mut Vec<u8>, id: Option<u32>, reply: LentReply) -> Result<(), AllocError>
-    requires { group_of (command_of (reply_of reply)) ≡ Channels }
-    ensures ok { IfOk result (λ _. out.new.items ≡ out.old.items ++ printed_line id (reply_of reply.entry)) }
-    ensures kept { take (length out.old.items) out.new.items ≡ out.old.items }
-{
-    match reply {
-        LentReply::Join(channel) => put_only_name(out, id, CommandWord::Join, channel),
-        LentReply::Clients(channel, names) => put_clients(out, id, channel, names),
-        LentReply::LastClients(channel, names, last) => {
-            put_last_clients(out, id, channel, names, last)
-        }
-        LentReply::Joined(channel, user) => {
-            put_two_names(out, id, CommandWord::Joined, channel, user)
-        }
-        LentReply::Left(channel, user) => {
-            put_two_names(out, id, CommandWord::Left, channel, user)
-        }
-        LentReply::JoinFailed(channel, reason) => {
-            put_name_and_text(out, id, CommandWord::JoinFailed, channel, reason)
-        }
-        LentReply::Said(channel, user, text) => {
-            put_two_names_and_text(out, id, CommandWord::Said, channel, user, &text.as_text())
-        }
-        LentReply::SaidEx(channel, user, text) => {
-            put_two_names_and_text(out, id, CommandWord::SaidEx, channel, user, &text.as_text())
-        }
-        LentReply::SayPrivate(user, text) => {
-            put_name_and_text(out, id, CommandWord::SayPrivate, user, &text.as_text())
-        }
-        LentReply::SaidPrivate(user, text) => {
-            put_name_and_text(out, id, CommandWord::SaidPrivate, user, &text.as_text())
-        }
-        LentReply::Channel(channel, user_count) => {
-            put_name_and_number(out, id, CommandWord::Channel, channel, user_count)
-        }
-        LentReply::EndOfChannels => put_bare(out, id, CommandWord::EndOfChannels),
-        _ => unreachable!(),
+        | LentReply::Pong => session::put(out, id, reply),
+        LentReply::Join(_)
+        | LentReply::Clients(_, _)
+        | LentReply::LastClients(_, _, _)
+        | LentReply::Joined(_, _)
+        | LentReply::Left(_, _)
+        | LentReply::Said(_, _, _)
+        | LentReply::SaidEx(_, _, _)
+        | LentReply::SayPrivate(_, _)
+        | LentReply::SaidPrivate(_, _)
+        | LentReply::Channel(_, _)
+        | LentReply::EndOfChannels => channels::put(out, id, reply),
+        LentReply::OpenBattle(_)
+        | LentReply::BattleClosed(_)
+        | LentReply::JoinBattle(_, _)
+        | LentReply::JoinedBattle(_, _, _)
+        | LentReply::LeftBattle(_, _)
+        | LentReply::UpdateBattleInfo(_, _, _, _, _)
+        | LentReply::RequestBattleStatus
+        | LentReply::ForceQuitBattle => battles::put(out, id, reply),
+        LentReply::ClientBattleStatus(_, _, _)
+        | LentReply::SaidBattle(_, _)
+        | LentReply::SaidBattleEx(_, _)
+        | LentReply::AddBot(_, _, _, _, _, _)
+        | LentReply::UpdateBot(_, _, _, _)
+        | LentReply::RemoveBot(_, _)
+        | LentReply::AddStartRect(_, _, _, _, _)
+        | LentReply::RemoveStartRect(_)
+        | LentReply::SetScriptTags(_)
+        | LentReply::RemoveScriptTags(_)
+        | LentReply::Ring(_) => room::put(out, id, reply),
+        LentReply::Denied(_)
+        | LentReply::ServerMsg(_)
+        | LentReply::JoinFailed(_, _)
+        | LentReply::OpenBattleFailed(_)
+        | LentReply::JoinBattleFailed(_) => refusals::put(out, id, reply),
+        LentReply::BattleOpened(battle, opened) => battles::put_opened_battle(
+            out, id, battle, opened,
+        ),
     }
 }

@@ -2,12 +2,13 @@
 //! be there in part; what stood before it stays.
 #![tactic(auto, using(crate::proofs::Kept::kept_then, crate::proofs::Kept::kept_more))]
 
-ghost use Rattle.std.specs.Prelude.{◌≡◌, [], ◌∷◌, ◌++◌, IfOk, is_ok, take, length, if◌then◌else◌, decimal};
+ghost use Rattle.std.specs.Prelude.{◌≡◌, [], ◌∷◌, ◌++◌, IfOk, is_ok, take, length, if◌then◌else◌, decimal, option_copied};
 ghost use Rattle.std.specs.Fmt.{signed_decimal};
 ghost use Rattle.reply_grammar.specs.Kinds.{words_text, pair_text, pairs_text, optional_text};
 ghost use Rattle.reply_grammar.specs.Replies.{id_text, word_of};
 
 use crate::command_word::CommandWord;
+use itoa::Buffer;
 use line_words::{NameBuf, Pair, SentenceBuf, Text, WordBuf, write_number};
 use std::alloc::AllocError;
 
@@ -34,6 +35,14 @@ pub(super) fn put_number(out: &mut Vec<u8>, n: u32) -> Result<(), AllocError>
     ensures kept { take (length out.old.items) out.new.items ≡ out.old.items }
 {
     put_decimal(out, b' ', i64::from(n))
+}
+
+pub(super) fn put_count(out: &mut Vec<u8>, n: usize) -> Result<(), AllocError>
+    ensures ok { IfOk result (λ _. out.new.items ≡ out.old.items ++ (32 ∷ decimal n)) }
+    ensures kept { take (length out.old.items) out.new.items ≡ out.old.items }
+{
+    let mut buffer = Buffer::new();
+    put_behind(out, b' ', buffer.format(n).as_bytes())
 }
 
 pub(super) fn put_wide(out: &mut Vec<u8>, n: &i64) -> Result<(), AllocError>
@@ -94,8 +103,8 @@ pub(super) fn put_flag(out: &mut Vec<u8>, b: bool) -> Result<(), AllocError>
     }
 }
 
-pub(super) fn put_optional(out: &mut Vec<u8>, word: &Option<WordBuf>) -> Result<(), AllocError>
-    ensures ok { IfOk result (λ _. out.new.items ≡ out.old.items ++ optional_text word.now) }
+pub(super) fn put_optional(out: &mut Vec<u8>, word: Option<&WordBuf>) -> Result<(), AllocError>
+    ensures ok { IfOk result (λ _. out.new.items ≡ out.old.items ++ optional_text (option_copied word.entry)) }
     ensures kept { take (length out.old.items) out.new.items ≡ out.old.items }
 {
     match word {

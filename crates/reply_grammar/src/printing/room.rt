@@ -4,8 +4,10 @@
 ghost use Rattle.std.specs.Prelude.{◌≡◌, ◌++◌, IfOk, length, take};
 ghost use Rattle.reply_grammar.specs.declared.Reply.TheVariants as reply;
 ghost use Rattle.reply_grammar.specs.Groups.{Room, group_of};
+ghost use Rattle.reply_grammar.specs.Lent.{reply_of};
 ghost use Rattle.reply_grammar.specs.Replies.{command_of, printed_line};
 
+use super::lent::LentReply;
 use super::pieces::{
     put_command, put_end, put_name, put_number, put_pairs, put_sentence, put_wide, put_word,
     put_words,
@@ -13,27 +15,22 @@ use super::pieces::{
 use super::shapes::{put_name_and_text, put_only_name};
 use crate::Reply;
 use crate::command_word::CommandWord;
-use line_words::{NameBuf, PairList, SentenceBuf, WordBuf, WordList};
+use line_words::{NameBuf, Pair, SentenceBuf, WordBuf};
 use std::alloc::AllocError;
 
 // The reply is one of the group.
-pub(super) fn put_reply(out: &mut Vec<u8>, id: Option<u32>, reply: &Reply) -> Result<(), AllocError>
+pub(super) fn lend(reply: &Reply) -> LentReply
     requires { group_of (command_of reply.now) ≡ Room }
-    ensures ok { IfOk result (λ _. out.new.items ≡ out.old.items ++ printed_line id reply.now) }
-    ensures kept { take (length out.old.items) out.new.items ≡ out.old.items }
+    ensures { reply_of result ≡ reply.now }
 {
     match reply {
         Reply::ClientBattleStatus {
             user,
             battle_status,
             team_color,
-        } => put_client_battle_status(out, id, user, *battle_status, team_color),
-        Reply::SaidBattle { user, text } => {
-            put_name_and_text(out, id, CommandWord::SaidBattle, user, &text.as_text())
-        }
-        Reply::SaidBattleEx { user, text } => {
-            put_name_and_text(out, id, CommandWord::SaidBattleEx, user, &text.as_text())
-        }
+        } => LentReply::ClientBattleStatus(user, *battle_status, *team_color),
+        Reply::SaidBattle { user, text } => LentReply::SaidBattle(user, text),
+        Reply::SaidBattleEx { user, text } => LentReply::SaidBattleEx(user, text),
         Reply::AddBot {
             battle,
             bot,
@@ -41,25 +38,59 @@ pub(super) fn put_reply(out: &mut Vec<u8>, id: Option<u32>, reply: &Reply) -> Re
             battle_status,
             team_color,
             ai,
-        } => put_add_bot(out, id, *battle, bot, owner, *battle_status, team_color, ai),
+        } => LentReply::AddBot(*battle, bot, owner, *battle_status, *team_color, ai),
         Reply::UpdateBot {
             battle,
             bot,
             battle_status,
             team_color,
-        } => put_update_bot(out, id, *battle, bot, *battle_status, team_color),
-        Reply::RemoveBot { battle, bot } => put_remove_bot(out, id, *battle, bot),
+        } => LentReply::UpdateBot(*battle, bot, *battle_status, *team_color),
+        Reply::RemoveBot { battle, bot } => LentReply::RemoveBot(*battle, bot),
         Reply::AddStartRect {
             ally_no,
             left,
             top,
             right,
             bottom,
-        } => put_add_start_rect(out, id, *ally_no, *left, *top, *right, *bottom),
-        Reply::RemoveStartRect { ally_no } => put_remove_start_rect(out, id, *ally_no),
-        Reply::SetScriptTags { pairs } => put_set_script_tags(out, id, pairs),
-        Reply::RemoveScriptTags { keys } => put_remove_script_tags(out, id, keys),
-        Reply::Ring { user } => put_only_name(out, id, CommandWord::Ring, user),
+        } => LentReply::AddStartRect(*ally_no, *left, *top, *right, *bottom),
+        Reply::RemoveStartRect { ally_no } => LentReply::RemoveStartRect(*ally_no),
+        Reply::SetScriptTags { pairs } => LentReply::SetScriptTags(pairs.as_slice()),
+        Reply::RemoveScriptTags { keys } => LentReply::RemoveScriptTags(keys.as_slice()),
+        Reply::Ring { user } => LentReply::Ring(user),
+        _ => unreachable!(),
+    }
+}
+
+// The reply is one of the group.
+pub(super) fn put(out: &mut Vec<u8>, id: Option<u32>, reply: LentReply) -> Result<(), AllocError>
+    requires { group_of (command_of (reply_of reply)) ≡ Room }
+    ensures ok { IfOk result (λ _. out.new.items ≡ out.old.items ++ printed_line id (reply_of reply.entry)) }
+    ensures kept { take (length out.old.items) out.new.items ≡ out.old.items }
+{
+    match reply {
+        LentReply::ClientBattleStatus(user, battle_status, team_color) => {
+            put_client_battle_status(out, id, user, battle_status, &team_color)
+        }
+        LentReply::SaidBattle(user, text) => {
+            put_name_and_text(out, id, CommandWord::SaidBattle, user, &text.as_text())
+        }
+        LentReply::SaidBattleEx(user, text) => {
+            put_name_and_text(out, id, CommandWord::SaidBattleEx, user, &text.as_text())
+        }
+        LentReply::AddBot(battle, bot, owner, battle_status, team_color, ai) => {
+            put_add_bot(out, id, battle, bot, owner, battle_status, &team_color, ai)
+        }
+        LentReply::UpdateBot(battle, bot, battle_status, team_color) => {
+            put_update_bot(out, id, battle, bot, battle_status, &team_color)
+        }
+        LentReply::RemoveBot(battle, bot) => put_remove_bot(out, id, battle, bot),
+        LentReply::AddStartRect(ally_no, left, top, right, bottom) => {
+            put_add_start_rect(out, id, ally_no, left, top, right, bottom)
+        }
+        LentReply::RemoveStartRect(ally_no) => put_remove_start_rect(out, id, ally_no),
+        LentReply::SetScriptTags(pairs) => put_set_script_tags(out, id, pairs),
+        LentReply::RemoveScriptTags(keys) => put_remove_script_tags(out, id, keys),
+        LentReply::Ring(user) => put_only_name(out, id, CommandWord::Ring, user),
         _ => unreachable!(),
     }
 }
@@ -172,28 +203,24 @@ fn put_remove_start_rect(out: &mut Vec<u8>, id: Option<u32>, ally_no: u8) -> Res
     put_end(out)
 }
 
-fn put_set_script_tags(
-    out: &mut Vec<u8>,
-    id: Option<u32>,
-    pairs: &PairList,
-) -> Result<(), AllocError>
+fn put_set_script_tags(out: &mut Vec<u8>, id: Option<u32>, pairs: &[Pair]) -> Result<(), AllocError>
     ensures ok { IfOk result (λ _. out.new.items ≡ out.old.items ++ printed_line id (reply.SetScriptTags pairs.now)) }
     ensures kept { take (length out.old.items) out.new.items ≡ out.old.items }
 {
     put_command(out, id, CommandWord::SetScriptTags)?;
-    put_pairs(out, pairs.as_slice())?;
+    put_pairs(out, pairs)?;
     put_end(out)
 }
 
 fn put_remove_script_tags(
     out: &mut Vec<u8>,
     id: Option<u32>,
-    keys: &WordList,
+    keys: &[WordBuf],
 ) -> Result<(), AllocError>
     ensures ok { IfOk result (λ _. out.new.items ≡ out.old.items ++ printed_line id (reply.RemoveScriptTags keys.now)) }
     ensures kept { take (length out.old.items) out.new.items ≡ out.old.items }
 {
     put_command(out, id, CommandWord::RemoveScriptTags)?;
-    put_words(out, keys.as_slice())?;
+    put_words(out, keys)?;
     put_end(out)
 }

@@ -4,20 +4,21 @@
 ghost use Rattle.std.specs.Prelude.{◌≡◌, ◌++◌, IfOk, length, take};
 ghost use Rattle.reply_grammar.specs.declared.Reply.TheVariants as reply;
 ghost use Rattle.reply_grammar.specs.Groups.{Session, group_of};
+ghost use Rattle.reply_grammar.specs.Lent.{reply_of};
 ghost use Rattle.reply_grammar.specs.Replies.{command_of, printed_line};
 
+use super::lent::LentReply;
 use super::pieces::{put_command, put_end, put_name, put_number, put_wide, put_word};
-use super::shapes::{put_bare, put_name_and_number, put_only_name, put_only_text};
+use super::shapes::{put_bare, put_only_name, put_only_text};
 use crate::Reply;
 use crate::command_word::CommandWord;
 use line_words::{NameBuf, WordBuf};
 use std::alloc::AllocError;
 
 // The reply is one of the group.
-pub(super) fn put_reply(out: &mut Vec<u8>, id: Option<u32>, reply: &Reply) -> Result<(), AllocError>
+pub(super) fn lend(reply: &Reply) -> LentReply
     requires { group_of (command_of reply.now) ≡ Session }
-    ensures ok { IfOk result (λ _. out.new.items ≡ out.old.items ++ printed_line id reply.now) }
-    ensures kept { take (length out.old.items) out.new.items ≡ out.old.items }
+    ensures { reply_of result ≡ reply.now }
 {
     match reply {
         Reply::TasServer {
@@ -25,37 +26,49 @@ pub(super) fn put_reply(out: &mut Vec<u8>, id: Option<u32>, reply: &Reply) -> Re
             spring_version,
             udp_port,
             server_mode,
-        } => {
-            put_tas_server(
-                out,
-                id,
-                protocol_version,
-                spring_version,
-                *udp_port,
-                *server_mode,
-            )
-        }
-        Reply::Accepted { user } => put_only_name(out, id, CommandWord::Accepted, user),
-        Reply::Denied { text } => put_only_text(out, id, CommandWord::Denied, &text.as_text()),
-        Reply::Motd { text } => put_only_text(out, id, CommandWord::Motd, &text.as_text()),
-        Reply::ServerMsg { text } => put_only_text(
-            out,
-            id,
-            CommandWord::ServerMsg,
-            &text.as_text(),
-        ),
+        } => LentReply::TasServer(protocol_version, spring_version, *udp_port, *server_mode),
+        Reply::Accepted { user } => LentReply::Accepted(user),
+        Reply::Motd { text } => LentReply::Motd(text),
         Reply::AddUser {
             user,
             country,
             cpu,
             account,
-        } => put_add_user(out, id, user, country, cpu, *account),
-        Reply::RemoveUser { user } => put_only_name(out, id, CommandWord::RemoveUser, user),
-        Reply::ClientStatus { user, status } => {
-            put_name_and_number(out, id, CommandWord::ClientStatus, user, *status)
+        } => LentReply::AddUser(user, country, *cpu, *account),
+        Reply::RemoveUser { user } => LentReply::RemoveUser(user),
+        Reply::ClientStatus { user, status } => LentReply::ClientStatus(user, *status),
+        Reply::LoginInfoEnd => LentReply::LoginInfoEnd,
+        Reply::Pong => LentReply::Pong,
+        _ => unreachable!(),
+    }
+}
+
+// The reply is one of the group.
+pub(super) fn put(out: &mut Vec<u8>, id: Option<u32>, reply: LentReply) -> Result<(), AllocError>
+    requires { group_of (command_of (reply_of reply)) ≡ Session }
+    ensures ok { IfOk result (λ _. out.new.items ≡ out.old.items ++ printed_line id (reply_of reply.entry)) }
+    ensures kept { take (length out.old.items) out.new.items ≡ out.old.items }
+{
+    match reply {
+        LentReply::TasServer(protocol_version, spring_version, udp_port, server_mode) => {
+            put_tas_server(
+                out,
+                id,
+                protocol_version,
+                spring_version,
+                udp_port,
+                server_mode,
+            )
         }
-        Reply::LoginInfoEnd => put_bare(out, id, CommandWord::LoginInfoEnd),
-        Reply::Pong => put_bare(out, id, CommandWord::Pong),
+        LentReply::Accepted(user) => put_only_name(out, id, CommandWord::Accepted, user),
+        LentReply::Motd(text) => put_only_text(out, id, CommandWord::Motd, &text.as_text()),
+        LentReply::AddUser(user, country, cpu, account) => {
+            put_add_user(out, id, user, country, &cpu, account)
+        }
+        LentReply::RemoveUser(user) => put_only_name(out, id, CommandWord::RemoveUser, user),
+        LentReply::ClientStatus(user, status) => put_client_status(out, id, user, status),
+        LentReply::LoginInfoEnd => put_bare(out, id, CommandWord::LoginInfoEnd),
+        LentReply::Pong => put_bare(out, id, CommandWord::Pong),
         _ => unreachable!(),
     }
 }
@@ -80,7 +93,7 @@ fn put_tas_server(
     Ok(())
 }
 
-pub(super) fn put_add_user(
+fn put_add_user(
     out: &mut Vec<u8>,
     id: Option<u32>,
     user: &NameBuf,
@@ -98,4 +111,19 @@ pub(super) fn put_add_user(
     put_number(out, account)?;
     put_end(out)?;
     Ok(())
+}
+
+fn put_client_status(
+    out: &mut Vec<u8>,
+    id: Option<u32>,
+    user: &NameBuf,
+    status: u32,
+) -> Result<(), AllocError>
+    ensures ok { IfOk result (λ _. out.new.items ≡ out.old.items ++ printed_line id (reply.ClientStatus user.now status)) }
+    ensures kept { take (length out.old.items) out.new.items ≡ out.old.items }
+{
+    put_command(out, id, CommandWord::ClientStatus)?;
+    put_name(out, user)?;
+    put_number(out, status)?;
+    put_end(out)
 }

@@ -4,7 +4,7 @@
 
 ghost use Rattle.std.specs.Prelude.{◌≡◌, [], ◌∷◌, ◌++◌, IfOk, length, take};
 ghost use Rattle.reply_grammar.specs.Kinds as kind;
-ghost use Rattle.reply_grammar.specs.Replies.{battle_number, line_with, status_word};
+ghost use Rattle.reply_grammar.specs.Replies.{battle_number, line_with};
 
 use super::pieces::{put_command, put_end, put_name, put_number, put_text};
 use crate::command_word::CommandWord;
@@ -83,23 +83,6 @@ pub(super) fn put_two_names(
     put_command(out, id, command)?;
     put_name(out, first)?;
     put_name(out, second)?;
-    put_end(out)
-}
-
-#[inline(always)]
-pub(super) fn put_name_and_number(
-    out: &mut Vec<u8>,
-    id: Option<u32>,
-    command: CommandWord,
-    name: &NameBuf,
-    number: u32,
-) -> Result<(), AllocError>
-    ensures ok { IfOk result (λ _. out.new.items ≡ out.old.items ++ line_with id command (kind.Name ∷ status_word ∷ []) (name.now, (number, tt))) }
-    ensures kept { take (length out.old.items) out.new.items ≡ out.old.items }
-{
-    put_command(out, id, command)?;
-    put_name(out, name)?;
-    put_number(out, number)?;
     put_end(out)
 }
 

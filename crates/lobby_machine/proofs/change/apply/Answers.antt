@@ -1,11 +1,16 @@
-use Rattle.std.proofs.Common.{◌≡◌, ◌∙◌, ap, sym, subst, refl, true, false}
+use Rattle.std.proofs.Common.{◌≡◌, ◌∙◌, ℕ, List, Bool, ap, sym, subst, refl, true, false}
+use Rattle.std.specs.Prelude.{Option}
+use Rattle.channel_book.specs.Channels.{Channels}
 use Rattle.line_words.specs.Table.{ByName, ByNumber, put_name}
-use Rattle.lobby_model.specs.State.{Client, name_at, set_phase}
+use Rattle.lobby_model.specs.State.{Client, User, Battle, name_at, set_phase}
 use Rattle.lobby_model.specs.declared.event.Phase.TheVariants.{In}
 use Rattle.lobby_machine.specs.declared.change.Change.{Change}
+use Rattle.lobby_machine.specs.declared.change.Change.TheVariants.{LogOut}
 use Rattle.lobby_machine.specs.declared.seats.Seat.{Seat}
+use Rattle.lobby_machine.specs.Battles.{AreSeated}
+use Rattle.lobby_machine.proofs.Seated.{seated_changed, seated_added, seated_gone}
 use Rattle.lobby_post.specs.Mail.{plain, parted}
-use Rattle.lobby_machine.specs.Changes.{CanBe, IsFresh}
+use Rattle.lobby_machine.specs.Changes.{CanBe, IsFresh, left_own}
 use Rattle.lobby_machine.specs.Seats.{Agree, IsListed, IsSet, seat_with, user_in, users_of, where_some, without_one}
 use Rattle.lobby_machine.proofs.Agreed.{agree_changed, agree_log_in, users_changed, users_added, no_seat, agree_parted, listed_log_in, listed_undone, listed_parted, users_left}
 use Rattle.lobby_machine.proofs.change.apply.Goals as goal
@@ -15,22 +20,41 @@ returns-in-Status-clause-users c = rw c.in-Status.is (ap users_of c.set_status.e
     ∙ users_changed c.args.seats.now.users.entries c.in-Status.name c.in-Status.status)
 
 pub returns-in-Status-clause-agree : goal.returns-in-Status-clause-agree
-returns-in-Status-clause-agree c = λ agree.
+returns-in-Status-clause-agree c =
     subst (λ (seats : ByName Seat). Agree (plain c.args.clients.now.slots) seats) (sym c.set_status.ensures.users)
-    (agree_changed (plain c.args.clients.now.slots) c.args.seats.now.users.entries c.in-Status.name (seat_with c.in-Status.status) (λ x. refl) agree)
+    (agree_changed (plain c.args.clients.now.slots) c.args.seats.now.users.entries c.in-Status.name (seat_with c.in-Status.status) (λ x. refl) c.requires.agree)
 
 pub returns-in-LogOut-clause-users : goal.returns-in-LogOut-clause-users
 returns-in-LogOut-clause-users c = rw c.in-LogOut.is (ap users_of c.remove.ensures.users ∙ users_left c.args.seats.now.users.entries c.in-LogOut.name)
 
+pub returns-in-Status-clause-seated : goal.returns-in-Status-clause-seated
+returns-in-Status-clause-seated c =
+    subst (λ (seats : ByName Seat). AreSeated c.args.battles.now.by_number.entries seats) (sym c.set_status.ensures.users)
+    (seated_changed c.args.battles.now.by_number.entries c.args.seats.now.users.entries c.requires.seated c.in-Status.name (seat_with c.in-Status.status) (λ x. refl))
+
+-- it is its user who logs out of a client, and leaves its battle
+abbrev out : (m : ByNumber Client) (users : ByName User) (channels : Channels) (battles : ByNumber Battle) (c : ℕ) (change : Change)
+    (name : Option (List ℕ)) (battle : Option ℕ) (stays : Bool) → change ≡ LogOut name battle stays → CanBe m users channels battles c change
+    → CanBe m users channels battles c (LogOut name battle stays)
+out m users channels battles c change name battle stays is can = subst (λ (x : Change). CanBe m users channels battles c x) is can
+
 pub returns-in-LogOut-clause-agree : goal.returns-in-LogOut-clause-agree
-returns-in-LogOut-clause-agree c = λ agree.
+returns-in-LogOut-clause-agree c =
     let m : ByNumber Client = plain c.args.clients.now.slots in
-    let mine : c.in-LogOut.name ≡ name_at m c.args.client = subst
-    (λ (x : Change). CanBe m (users_of c.args.seats.now.users.entries) c.args.client x) c.in-LogOut.is c.requires in
+    let mine : c.in-LogOut.name ≡ name_at m c.args.client = (out m _ _ _ c.args.client c.args.change _ _ _ c.in-LogOut.is c.requires.can).0 in
     subst (λ (n : ByNumber Client). Agree n c.remove.new.self.users.entries) (sym c.part.ensures.clients)
     (subst (λ (seats : ByName Seat). Agree (parted m c.args.client c.in-LogOut.stays) seats)
     (sym (c.remove.ensures.users ∙ ap (λ me. where_some without_one me c.args.seats.now.users.entries) mine))
-    (agree_parted m c.args.client c.in-LogOut.stays c.args.seats.now.users.entries agree))
+    (agree_parted m c.args.client c.in-LogOut.stays c.args.seats.now.users.entries c.requires.agree))
+
+pub returns-in-LogOut-clause-seated : goal.returns-in-LogOut-clause-seated
+returns-in-LogOut-clause-seated c =
+    let m : ByNumber Client = plain c.args.clients.now.slots in
+    subst (λ (seats : ByName Seat). AreSeated c.leave_all.new.battles.by_number.entries seats) (sym c.remove.ensures.users)
+    (subst (λ (bs : ByNumber Battle). AreSeated bs (where_some without_one c.in-LogOut.name c.args.seats.now.users.entries)) (sym (c.leave_all.ensures.battles
+    ∙ ap (λ me. left_own me c.in-LogOut.battle c.args.battles.now.by_number.entries) c.as_ref.ensures.value))
+    (seated_gone c.args.battles.now.by_number.entries c.args.seats.now.users.entries c.requires.seated c.in-LogOut.name c.in-LogOut.battle
+    (out m _ _ _ c.args.client c.args.change _ _ _ c.in-LogOut.is c.requires.can).1))
 
 pub returns-in-LogOut-clause-listed : goal.returns-in-LogOut-clause-listed
 returns-in-LogOut-clause-listed c = λ listed.
@@ -45,31 +69,49 @@ returns-in_ok-add-in-LogIn-clause-users c =
     ∙ ap (λ k. put_name (users_of c.args.seats.now.users.entries) k (user_in c.in-LogIn.seat)) c.copy.ensures)
 
 pub returns-in_ok-add-in-LogIn-clause-agree : goal.returns-in_ok-add-in-LogIn-clause-agree
-returns-in_ok-add-in-LogIn-clause-agree c = λ agree.
+returns-in_ok-add-in-LogIn-clause-agree c =
     let m : ByNumber Client = plain c.args.clients.now.slots in
     let fresh : IsFresh m (users_of c.args.seats.now.users.entries) c.args.client c.in-LogIn.name c.in-LogIn.seat =
-    subst (λ (x : Change). CanBe m (users_of c.args.seats.now.users.entries) c.args.client x) c.in-LogIn.is c.requires in
+    subst (λ (x : Change). CanBe m (users_of c.args.seats.now.users.entries) c.args.channels.now c.args.battles.now.by_number.entries c.args.client x) c.in-LogIn.is c.requires.can in
     subst (λ (n : ByNumber Client). Agree n c.add.new.self.users.entries) (sym c.log_in.ensures.clients)
     (subst (λ (seats : ByName Seat). Agree (set_phase m c.args.client (In c.in-LogIn.name)) seats)
     (sym (c.in_ok-add-in-LogIn.ensures.users ∙ ap (λ k. put_name c.args.seats.now.users.entries k c.in-LogIn.seat) c.copy.ensures))
     (agree_log_in m c.args.client c.in-LogIn.name c.args.seats.now.users.entries c.in-LogIn.seat fresh.hears fresh.nobody
-    (no_seat c.args.seats.now.users.entries c.in-LogIn.name fresh.free) fresh.here agree))
+    (no_seat c.args.seats.now.users.entries c.in-LogIn.name fresh.free) fresh.here c.requires.agree))
 
 pub returns-in_ok-add-in-LogIn-clause-listed : goal.returns-in_ok-add-in-LogIn-clause-listed
 returns-in_ok-add-in-LogIn-clause-listed c = λ listed.
     let m : ByNumber Client = plain c.args.clients.now.slots in
     let fresh : IsFresh m (users_of c.args.seats.now.users.entries) c.args.client c.in-LogIn.name c.in-LogIn.seat =
-    subst (λ (x : Change). CanBe m (users_of c.args.seats.now.users.entries) c.args.client x) c.in-LogIn.is c.requires in
+    subst (λ (x : Change). CanBe m (users_of c.args.seats.now.users.entries) c.args.channels.now c.args.battles.now.by_number.entries c.args.client x) c.in-LogIn.is c.requires.can in
     let set : IsSet c.args.client true c.args.seats.now.clients.keys c.add.new.self.clients.keys = subst
     (λ k. IsSet k true c.args.seats.now.clients.keys c.add.new.self.clients.keys) fresh.here c.in_ok-add-in-LogIn.ensures.clients in
     subst (λ (n : ByNumber Client). IsListed c.add.new.self.clients.keys n) (sym c.log_in.ensures.clients)
     (listed_log_in m c.args.client c.in-LogIn.name c.args.seats.now.clients.keys c.add.new.self.clients.keys fresh.hears set listed)
 
+pub returns-in_ok-add-in-LogIn-clause-seated : goal.returns-in_ok-add-in-LogIn-clause-seated
+returns-in_ok-add-in-LogIn-clause-seated c =
+    let m : ByNumber Client = plain c.args.clients.now.slots in
+    let fresh : IsFresh m (users_of c.args.seats.now.users.entries) c.args.client c.in-LogIn.name c.in-LogIn.seat =
+    subst
+    (λ (x : Change). CanBe m (users_of c.args.seats.now.users.entries) c.args.channels.now c.args.battles.now.by_number.entries c.args.client x) c.in-LogIn.is c.requires.can in
+    subst (λ (seats : ByName Seat). AreSeated c.args.battles.now.by_number.entries seats)
+    (sym (c.in_ok-add-in-LogIn.ensures.users ∙ ap (λ k. put_name c.args.seats.now.users.entries k c.in-LogIn.seat) c.copy.ensures))
+    (seated_added c.args.battles.now.by_number.entries c.args.seats.now.users.entries c.requires.seated c.in-LogIn.name c.in-LogIn.seat
+    (no_seat c.args.seats.now.users.entries c.in-LogIn.name fresh.free))
+
 pub returns-in_err-add-in-LogIn-clause-listed : goal.returns-in_err-add-in-LogIn-clause-listed
 returns-in_err-add-in-LogIn-clause-listed c = λ listed.
     let m : ByNumber Client = plain c.args.clients.now.slots in
     let fresh : IsFresh m (users_of c.args.seats.now.users.entries) c.args.client c.in-LogIn.name c.in-LogIn.seat =
-    subst (λ (x : Change). CanBe m (users_of c.args.seats.now.users.entries) c.args.client x) c.in-LogIn.is c.requires in
+    subst (λ (x : Change). CanBe m (users_of c.args.seats.now.users.entries) c.args.channels.now c.args.battles.now.by_number.entries c.args.client x) c.in-LogIn.is c.requires.can in
     let set : IsSet c.args.client false c.args.seats.now.clients.keys c.add.new.self.clients.keys = subst
     (λ k. IsSet k false c.args.seats.now.clients.keys c.add.new.self.clients.keys) fresh.here c.in_err-add-in-LogIn.ensures.err_clients in
     listed_undone m c.args.seats.now.clients.keys c.add.new.self.clients.keys c.args.client fresh.nobody set listed
+
+pub apply-requires : goal.apply-requires
+apply-requires c = (
+  plain c.args.clients.now.slots,
+  c.requires.agree,
+  subst (λ (x : Change). CanBe (plain c.args.clients.now.slots) (users_of c.args.seats.now.users.entries) c.args.channels.now c.args.battles.now.by_number.entries c.args.client x) c.in-InBattles.is c.requires.can,
+)

@@ -1,20 +1,21 @@
-use Rattle.std.proofs.Common.{◌≡◌, ◌∙◌, ap, sym, subst}
+use Rattle.std.proofs.Common.{◌≡◌, ◌≤◌, ◌∙◌, ap, sym, subst}
 use Rattle.line_words.specs.Table.{ByName, ByNumber}
-use Rattle.lobby_model.specs.State.{State, Client}
+use Rattle.lobby_model.specs.State.{State, Client, Battle}
 use Rattle.lobby_machine.specs.declared.seats.Seat.{Seat}
 use Rattle.lobby_post.specs.Mail.{Crowd, plain, deliver, wakes_home}
-use Rattle.lobby_machine.specs.Changes.{changed, clients_after, users_after}
+use Rattle.lobby_machine.specs.Changes.{CanBe, changed, clients_after, users_after}
 use Rattle.lobby_machine.specs.Seats.{Agree, IsListed, Numbered, users_of}
+use Rattle.lobby_machine.specs.Battles.{AreSeated}
 use Rattle.lobby_machine.specs.Shown.{lobby_of}
 use Rattle.lobby_machine.proofs.Agreed.{numbered_after}
 use Rattle.lobby_machine.proofs.Applied.{sent_so, woken_so}
-use Rattle.lobby_machine.proofs.Fitting.{fit_same, fit_delivered}
+use Rattle.lobby_machine.proofs.Fitting.{fit_same, fit_delivered, counted_after}
 use Rattle.lobby_machine.proofs.maps.Maps.carry_out.Goals as goal
 
 pub invariant_of-self : goal.invariant_of-self
 invariant_of-self c = (
   c.self.invariant.0,
-  fit_same _ _ c.make_room.new.clients _ _ _ c.make_room.ensures.clients c.make_room.ensures.limit
+  fit_same _ _ c.make_room.new.clients _ _ _ _ _ c.make_room.ensures.clients c.make_room.ensures.limit
       c.in_err-make_room.ensures.err c.self.invariant.1,
 )
 
@@ -24,15 +25,18 @@ invariant_of-self-in-Ok c =
     let room : plain c.make_room.new.clients.slots ≡ was = c.make_room.ensures.clients in (
       c.self.invariant.0,
       fit_delivered _ c.args.post.now.sent c.apply-done.new.clients c.deliver.new.clients c.apply-done.new.seats.users.entries
-          c.apply-done.new.seats.clients.keys c.self.inside.last_client
+          c.apply-done.new.seats.clients.keys c.self.inside.last_client c.apply-done.new.battles.by_number.entries c.apply-done.new.battles.last
           (c.deliver.ensures.limit ∙ c.apply-done.ensures.limit ∙ c.make_room.ensures.limit
           ∙ c.self.invariant.1.limited) c.deliver.ensures.clients c.deliver.ensures.due
-          (c.in-Ok.ensures.agree (subst (λ (n : ByNumber Client). Agree n c.self.inside.seats.users.entries) (sym room) c.self.invariant.1.agree))
+          c.in-Ok.ensures.agree
           (c.apply-done.ensures.listed (subst (λ (n : ByNumber Client). IsListed c.self.inside.seats.clients.keys n)
           (sym room) c.self.invariant.1.listed))
           (subst (λ (n : ByNumber Client). Numbered c.self.inside.last_client n) (sym c.in-Ok.ensures.clients)
           (numbered_after c.self.inside.last_client (plain c.make_room.new.clients.slots) c.args.client c.args.change
-          (subst (λ (n : ByNumber Client). Numbered c.self.inside.last_client n) (sym room) c.self.invariant.1.numbered))),
+          (subst (λ (n : ByNumber Client). Numbered c.self.inside.last_client n) (sym room) c.self.invariant.1.numbered)))
+          c.in-Ok.ensures.seated
+          (subst (λ n. n ≤ 2147483647) (sym c.in-Ok.ensures.last)
+          (counted_after _ _ _ _ c.args.client c.self.inside.battles.last c.args.change (c.requires) c.self.invariant.1.counted)),
     )
 
 pub invariant_of-self-in-Err : goal.invariant_of-self-in-Err
@@ -51,19 +55,22 @@ invariant_of-self-in-Err c =
             (c.apply-done.ensures.listed (subst (λ (n : ByNumber Client). IsListed c.self.inside.seats.clients.keys n)
             (sym room) c.self.invariant.1.listed));
         numbered = subst (λ (n : ByNumber Client). Numbered c.self.inside.last_client n) (sym same) c.self.invariant.1.numbered;
+        seated = subst (λ (us : ByName Seat). AreSeated c.apply-done.new.battles.by_number.entries us) (sym c.in-Err.ensures.err.1)
+            (subst (λ (m : ByNumber Battle). AreSeated m c.self.inside.seats.users.entries) (sym c.in-Err.ensures.err.3) c.self.invariant.1.seated);
+        counted = subst (λ n. n ≤ 2147483647) (sym c.in-Err.ensures.err.4) c.self.invariant.1.counted;
       },
     )
 
 pub returns-in-Ok-clause-ok : goal.returns-in-Ok-clause-ok
 returns-in-Ok-clause-ok c =
     let before : State = lobby_of c.self.inside.settings c.self.inside.accounts (plain c.self.inside.clients.slots)
-    (users_of c.self.inside.seats.users.entries) c.self.inside.channels c.self.inside.last_client in
+    (users_of c.self.inside.seats.users.entries) c.self.inside.channels c.self.inside.battles.by_number.entries c.self.inside.last_client c.self.inside.battles.last in
     let room : plain c.make_room.new.clients.slots ≡ before.clients = c.make_room.ensures.clients in
     let limited : c.apply-done.new.clients.limit ≡ c.self.inside.settings.outbox_limit = c.apply-done.ensures.limit ∙ c.make_room.ensures.limit
     ∙ c.self.invariant.1.limited in
     let users : users_of c.apply-done.new.seats.users.entries ≡ users_after before.users c.args.change = c.in-Ok.ensures.users in
     rw (← c.self.view_is) (λ e is matches.
-    (λ i. record before { users = users i; channels = c.in-Ok.ensures.channels i; clients = plain c.deliver.new.clients.slots })
+    (λ i. record before { users = users i; channels = c.in-Ok.ensures.channels i; battles = c.in-Ok.ensures.battles i; last_battle = c.in-Ok.ensures.last i; clients = plain c.deliver.new.clients.slots })
     ∙ sent_so before (changed before c.args.client c.args.change) e c.args.post.now is matches (plain c.deliver.new.clients.slots)
     (c.deliver.ensures.clients
     ∙ (λ i. deliver (limited i) c.args.post.now.sent ((c.in-Ok.ensures.clients
@@ -72,8 +79,14 @@ returns-in-Ok-clause-ok c =
 pub returns-in-Ok-clause-wakes : goal.returns-in-Ok-clause-wakes
 returns-in-Ok-clause-wakes c =
     let before : State = lobby_of c.self.inside.settings c.self.inside.accounts (plain c.self.inside.clients.slots)
-    (users_of c.self.inside.seats.users.entries) c.self.inside.channels c.self.inside.last_client in
+    (users_of c.self.inside.seats.users.entries) c.self.inside.channels c.self.inside.battles.by_number.entries c.self.inside.last_client c.self.inside.battles.last in
     rw (← c.self.view_is) (λ e is matches.
     woken_so before (changed before c.args.client c.args.change) e c.args.post.now is matches c.deliver.result
     (λ home. c.deliver.ensures.wakes home ∙ ap (λ (m : ByNumber Client). wakes_home c.args.post.now.sent m home)
     (c.in-Ok.ensures.clients ∙ ap (λ (m : ByNumber Client). clients_after m c.args.client c.args.change) c.make_room.ensures.clients)))
+
+pub apply-done-requires-clause-can : goal.apply-done-requires-clause-can
+apply-done-requires-clause-can c =
+    subst (λ (m : ByNumber Client). CanBe m (users_of c.self.inside.seats.users.entries) c.self.inside.channels c.self.inside.battles.by_number.entries
+    c.args.client c.args.change) (sym c.make_room.ensures.clients)
+    (subst (λ (t : State). CanBe t.clients t.users t.channels t.battles c.args.client c.args.change) (sym c.self.view_is) c.requires)

@@ -22,12 +22,14 @@ invariant_of-self c =
             (listed_kept m _ c.self.inside.seats.clients.keys (name_drained m c.args.client (length c.args.into.now)) c.self.invariant.1.listed);
         numbered = subst (λ (n : ByNumber Client). Numbered c.self.inside.last_client n) (sym c.drain.ensures.clients)
             (numbered_changed c.self.inside.last_client m c.args.client (drained (length c.args.into.now)) c.self.invariant.1.numbered);
+        seated = c.self.invariant.1.seated;
+        counted = c.self.invariant.1.counted;
       },
     )
 
 pub returns-clause-next : goal.returns-clause-next
 returns-clause-next c =
     let before : State = lobby_of c.self.inside.settings c.self.inside.accounts (plain c.self.inside.clients.slots)
-    (users_of c.self.inside.seats.users.entries) c.self.inside.channels c.self.inside.last_client in
+    (users_of c.self.inside.seats.users.entries) c.self.inside.channels c.self.inside.battles.by_number.entries c.self.inside.last_client c.self.inside.battles.last in
     rw (← c.self.view_is) (ap (λ (m : ByNumber Client). record before { clients = m }) c.drain.ensures.clients
     ∙ sym (next_drain before c.args.client (length c.args.into.now)))

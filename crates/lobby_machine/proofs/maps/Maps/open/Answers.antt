@@ -29,13 +29,15 @@ invariant_of-self-2 c =
             (listed_kept m _ c.self.inside.seats.clients.keys names c.self.invariant.1.listed);
         numbered = subst (λ (n : ByNumber Client). Numbered (c.self.inside.last_client + 1) n) (sym c.in_ok-insert.ensures.ok)
             (numbered_opened c.self.inside.last_client m w c.self.invariant.1.numbered);
+        seated = c.self.invariant.1.seated;
+        counted = c.self.invariant.1.counted;
       },
     )
 
 pub returns-clause-ok : goal.returns-clause-ok
 returns-clause-ok c =
     let s : State = lobby_of c.self.inside.settings c.self.inside.accounts (plain c.self.inside.clients.slots)
-    (users_of c.self.inside.seats.users.entries) c.self.inside.channels c.self.inside.last_client in
+    (users_of c.self.inside.seats.users.entries) c.self.inside.channels c.self.inside.battles.by_number.entries c.self.inside.last_client c.self.inside.battles.last in
     let place : has_place s ≡ true = subst (λ (t : State). has_place t ≡ true) (sym c.self.view_is) c.requires.place in
     let made : with_batch c.self.inside.clients.limit c.deref.result.now (greeted c.args.ip c.args.home)
     ≡ with_batch s.settings.outbox_limit (print (None, greeting s.settings)) (greeted c.args.ip c.args.home) =

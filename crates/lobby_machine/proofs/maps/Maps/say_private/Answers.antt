@@ -1,4 +1,4 @@
-use Rattle.std.proofs.Common.{◌≡◌, ap, refl}
+use Rattle.std.proofs.Common.{ap, refl}
 use Rattle.std.specs.Prelude.{not}
 use Rattle.lobby_post.proofs.Telling.{told_then}
 use Rattle.lobby_machine.proofs.Talked.{passes}

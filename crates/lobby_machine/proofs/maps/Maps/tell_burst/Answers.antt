@@ -1,7 +1,9 @@
-use Rattle.std.proofs.Common.{◌∙◌, ap, subst, map, [], ◌∷◌}
+use Rattle.std.proofs.Common.{ℕ, ◌∙◌, ap, sym, subst, map, [], ◌∷◌}
 use Rattle.reply_grammar.specs.declared.Reply.TheVariants as reply
 use Rattle.line_words.specs.Table.{put_name}
-use Rattle.lobby_model.specs.State.{State}
+use Rattle.std.specs.Prelude.{flat_map}
+use Rattle.lobby_model.specs.State.{State, Battle}
+use Rattle.lobby_model.specs.Battles.{battle_lines}
 use Rattle.lobby_model.specs.Outcome.{tell, issuer}
 use Rattle.lobby_model.specs.Sessions.{burst}
 use Rattle.lobby_post.specs.Posted.{Told, with_own}
@@ -15,8 +17,9 @@ returns c =
     (tell issuer (burst s.settings.motd c.args.name.now (put_name s.users c.args.name.now (user_in c.args.seat.now)) s.battles) ∷ []))
     c.self.view_is
     (burst_told _ c.args.post.now c.begin_own.new.self c.write_own.new.self c.write_motd.new.post c.write_parts.new.post c.write_parts-2.new.post
-    c.write_own-2.new.self c.address_issuer.new.self _ _ _
+    c.write_battles.new.post c.write_own-2.new.self c.address_issuer.new.self _ _ _ _
     c.begin_own.ensures c.in_ok-write_own.ensures
     (c.in_ok-write_motd.ensures ∙ ap (λ motd. with_own c.write_own.new.self (map (λ line. reply.Motd line) motd)) (c.as_slice.ensures
     ∙ c.motd.ensures))
-    c.in_ok-write_parts.ensures c.in_ok-write_parts-2.ensures c.in_ok-write_own-2.ensures c.in_ok-address_issuer.ensures)
+    c.in_ok-write_parts.ensures c.in_ok-write_parts-2.ensures
+    (c.in_ok-write_battles.ensures ∙ ap (λ (s : State). with_own c.write_parts-2.new.post (flat_map (λ (e : ℕ × Battle). battle_lines e.0 e.1) s.battles)) (sym c.self.view_is)) c.in_ok-write_own-2.ensures c.in_ok-address_issuer.ensures)

@@ -1,4 +1,4 @@
-use Rattle.std.proofs.Common.{length, ◌++◌, [], ◌∷◌}
+use Rattle.std.proofs.Common.{length}
 use Rattle.lobby_machine.proofs.Members.{Continues}
 use Rattle.lobby_machine.proofs.maps.Maps.tell_members.Given as goal
 

@@ -1,4 +1,4 @@
-use Rattle.std.proofs.Common.{◌≡◌, ap, subst, [], ◌∷◌}
+use Rattle.std.proofs.Common.{subst, [], ◌∷◌}
 use Rattle.reply_grammar.specs.Lent.{reply_of}
 use Rattle.lobby_model.specs.State.{State}
 use Rattle.lobby_model.specs.Outcome.{tell, users}

@@ -1,8 +1,8 @@
-use Rattle.std.proofs.Common.{◌≡◌, ap, subst, [], ◌∷◌}
+use Rattle.std.proofs.Common.{subst, [], ◌∷◌}
 use Rattle.reply_grammar.specs.Lent.{reply_of}
 use Rattle.lobby_model.specs.State.{State}
 use Rattle.lobby_model.specs.Outcome.{tell, user}
-use Rattle.lobby_post.specs.Posted.{Told, but_issuer}
+use Rattle.lobby_post.specs.Posted.{Told}
 use Rattle.lobby_post.proofs.Telling.{told_all}
 use Rattle.lobby_machine.proofs.Walks.{reaches_user}
 use Rattle.lobby_machine.proofs.maps.Maps.tell_user.Goals as goal

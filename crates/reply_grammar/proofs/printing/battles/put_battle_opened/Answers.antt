@@ -1,13 +1,8 @@
-use Rattle.std.proofs.Common.{◌≡◌, ℕ, List, [], ◌∷◌, ◌++◌, append_assoc, if◌then◌else◌, codes, decimal}
+use Rattle.std.proofs.Common.{[], ◌∷◌, if◌then◌else◌, codes, decimal}
 use Rattle.std.specs.Fmt.{signed_decimal}
 use Rattle.reply_grammar.specs.Replies.{id_text}
+use Rattle.reply_grammar.proofs.Opened.{regroup}
 use Rattle.reply_grammar.proofs.printing.battles.put_battle_opened.Goals as goal
-
--- the parts of the line, and all of it
-regroup : (out id word battle kind nat founder ip port players flag rank hash engine version map title game end : List ℕ)
-    → ((((out ++ (id ++ word)) ++ (battle ++ (kind ++ (nat ++ (founder ++ (ip ++ port)))))) ++ (players ++ (flag ++ (rank ++ hash)))) ++ (engine ++ (version ++ (map ++ (title ++ game))))) ++ end
-    ≡ out ++ ((id ++ (word ++ (battle ++ (kind ++ (nat ++ (founder ++ (ip ++ (port ++ (players ++ (flag ++ (rank ++ (hash ++ (engine ++ (version ++ (map ++ (title ++ (game ++ []))))))))))))))))) ++ end)
-regroup out id word battle kind nat founder ip port players flag rank hash engine version map title game end = simp append_assoc
 
 pub returns-clause-ok : goal.returns-clause-ok
 returns-clause-ok c =

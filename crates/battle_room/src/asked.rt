@@ -1,0 +1,243 @@
+//! What members ask of a room, refused where they may not have it.
+
+ghost use Rattle.std.specs.Prelude.{◌≡◌, ◌<◌, OnOk, OnErr, IfOk, IfSome, IfNone, IfErr, Err};
+ghost use Rattle.std.specs.Result.{result_err};
+ghost use Rattle.battle_room.specs.Room as room;
+ghost use Rattle.battle_room.specs.Tags as tags;
+ghost use Rattle.battle_room.specs.Refusals.{status_refusal, founder_refusal, removal_refusal, new_bot_refusal, bot_refusal, tags_refusal};
+
+use crate::bots::Bot;
+use crate::error::RoomError;
+use crate::rects::Rect;
+use crate::room::Room;
+use line_words::{NameBuf, PairList, SentenceBuf, WordBuf, WordList};
+use status_bits::BattleStatus;
+
+impl Room {
+    /// Refuses one who is no member.
+    fn check_member(&self, name: &NameBuf) -> Result<(), RoomError>
+        ensures { result_err result ≡ status_refusal name.now self.now }
+    {
+        if self.has_member(name) {
+            Ok(())
+        } else {
+            Err(RoomError::NotMember)
+        }
+    }
+
+    /// Refuses one who is not the founder.
+    fn check_founder(&self, by: &NameBuf) -> Result<(), RoomError>
+        ensures { result_err result ≡ founder_refusal by.now self.now }
+    {
+        if !self.has_member(by) {
+            Err(RoomError::NotMember)
+        } else if self.is_founder(by) {
+            Ok(())
+        } else {
+            Err(RoomError::NotAllowed)
+        }
+    }
+
+    /// Refuses the removal of one who is no member, or of the founder.
+    fn check_removal(&self, name: &NameBuf) -> Result<(), RoomError>
+        ensures { result_err result ≡ removal_refusal name.now self.now }
+    {
+        if !self.has_member(name) {
+            Err(RoomError::NotMember)
+        } else if self.is_founder(name) {
+            Err(RoomError::NotAllowed)
+        } else {
+            Ok(())
+        }
+    }
+
+    /// Refuses a new bot whose owner is no member, whose name is taken, or that is one too many.
+    fn check_new_bot(&self, owner: &NameBuf, name: &WordBuf) -> Result<(), RoomError>
+        ensures { result_err result ≡ new_bot_refusal owner.now name.now self.now }
+    {
+        if !self.has_member(owner) {
+            Err(RoomError::NotMember)
+        } else if self.bot(name).is_some() {
+            Err(RoomError::DuplicateBot)
+        } else if self.is_full_of_bots() {
+            Err(RoomError::TooManyBots)
+        } else {
+            Ok(())
+        }
+    }
+
+    /// Refuses who is neither a bot's owner nor the founder.
+    fn check_bot(&self, by: &NameBuf, name: &WordBuf) -> Result<(), RoomError>
+        ensures { result_err result ≡ bot_refusal by.now name.now self.now }
+    {
+        if !self.has_member(by) {
+            return Err(RoomError::NotMember);
+        }
+        match self.bot(name) {
+            None => Err(RoomError::NoBot),
+            Some(bot) => {
+                if by.cmp(bot.owner()).is_eq() || self.is_founder(by) {
+                    Ok(())
+                } else {
+                    Err(RoomError::NotAllowed)
+                }
+            }
+        }
+    }
+
+    /// Refuses tags of one who is not the founder, and those that would be too many.
+    fn check_tags(&self, by: &NameBuf, pairs: &PairList) -> Result<(), RoomError>
+        ensures { result_err result ≡ tags_refusal by.now pairs.now self.now }
+    {
+        if !self.has_member(by) {
+            Err(RoomError::NotMember)
+        } else if !self.is_founder(by) {
+            Err(RoomError::NotAllowed)
+        } else if self.has_room_for(pairs.as_slice()) {
+            Ok(())
+        } else {
+            Err(RoomError::TooManyTags)
+        }
+    }
+
+    /// A member goes, with all its bots.
+    ///
+    /// `NotMember` where it is none, `NotAllowed` where it is the founder.
+    pub fn remove_member(&mut self, name: &NameBuf) -> Result<(), RoomError>
+        ensures refused { result_err result ≡ removal_refusal name.now self.old }
+        ensures ok { OnOk result (self.new ≡ room.without_member name.now self.old) }
+        ensures err { OnErr result (self.new ≡ self.old) }
+    {
+        self.check_removal(name)?;
+        self.drop_member(name);
+        Ok(())
+    }
+
+    /// A member shows a status and a colour. `NotMember` where it is none.
+    pub fn set_status(
+        &mut self,
+        name: &NameBuf,
+        status: BattleStatus,
+        colour: i64,
+    ) -> Result<(), RoomError>
+        ensures refused { result_err result ≡ status_refusal name.now self.old }
+        ensures ok { OnOk result (self.new ≡ room.with_status name.now status colour self.old) }
+        ensures err { OnErr result (self.new ≡ self.old) }
+    {
+        self.check_member(name)?;
+        self.put_status(name, status, colour);
+        Ok(())
+    }
+
+    /// A member adds a bot.
+    ///
+    /// `NotMember` where the owner is none, `DuplicateBot` where the name is taken, `TooManyBots`
+    /// where there are 64, and then `Memory`.
+    pub fn add_bot(
+        &mut self,
+        owner: NameBuf,
+        name: WordBuf,
+        status: BattleStatus,
+        colour: i64,
+        ai: SentenceBuf,
+    ) -> Result<(), RoomError>
+        ensures refused { IfSome (new_bot_refusal owner name self.old) (λ e. result ≡ Err e) }
+        ensures allowed { IfNone (new_bot_refusal owner name self.old) (IfErr result (λ e. e ≡ RoomError.Memory)) }
+        ensures ok { OnOk result (self.new ≡ room.with_bot (record { name = name; owner = owner; status = status; colour = colour; ai = ai }) self.old) }
+        ensures err { OnErr result (self.new ≡ self.old) }
+    {
+        self.check_new_bot(&owner, &name)?;
+        self.put_bot(Bot::new(owner, name, status, colour, ai))?;
+        Ok(())
+    }
+
+    /// A bot shows a status and a colour.
+    ///
+    /// `NotMember` where who asks is none, `NoBot` where there is no bot of the name, `NotAllowed`
+    /// where who asks is neither its owner nor the founder.
+    pub fn update_bot(
+        &mut self,
+        by: &NameBuf,
+        name: &WordBuf,
+        status: BattleStatus,
+        colour: i64,
+    ) -> Result<(), RoomError>
+        ensures refused { result_err result ≡ bot_refusal by.now name.now self.old }
+        ensures ok { OnOk result (self.new ≡ room.with_bot_status name.now status colour self.old) }
+        ensures err { OnErr result (self.new ≡ self.old) }
+    {
+        self.check_bot(by, name)?;
+        self.put_bot_status(name, status, colour);
+        Ok(())
+    }
+
+    /// A bot goes. It is refused as `update_bot` is.
+    pub fn remove_bot(&mut self, by: &NameBuf, name: &WordBuf) -> Result<(), RoomError>
+        ensures refused { result_err result ≡ bot_refusal by.now name.now self.old }
+        ensures ok { OnOk result (self.new ≡ room.without_bot name.now self.old) }
+        ensures err { OnErr result (self.new ≡ self.old) }
+    {
+        self.check_bot(by, name)?;
+        self.drop_bot(name);
+        Ok(())
+    }
+
+    /// The founder sets the start rectangle of an ally number, 0 to 15.
+    ///
+    /// `NotMember` where who asks is none, `NotAllowed` where it is not the founder.
+    pub fn set_rect(&mut self, by: &NameBuf, ally: u8, rect: Rect) -> Result<(), RoomError>
+        requires { ally < 16 }
+        ensures refused { result_err result ≡ founder_refusal by.now self.old }
+        ensures ok { OnOk result (self.new ≡ room.with_rect ally rect self.old) }
+        ensures err { OnErr result (self.new ≡ self.old) }
+    {
+        self.check_founder(by)?;
+        self.put_rect(ally, rect);
+        Ok(())
+    }
+
+    /// The founder removes the start rectangle of an ally number, 0 to 15, if it has one. It is
+    /// refused as `set_rect` is.
+    pub fn remove_rect(&mut self, by: &NameBuf, ally: u8) -> Result<(), RoomError>
+        requires { ally < 16 }
+        ensures refused { result_err result ≡ founder_refusal by.now self.old }
+        ensures ok { OnOk result (self.new ≡ room.without_rect ally self.old) }
+        ensures err { OnErr result (self.new ≡ self.old) }
+    {
+        self.check_founder(by)?;
+        self.drop_rect(ally);
+        Ok(())
+    }
+
+    /// The founder sets tags: a key that is set keeps its place.
+    ///
+    /// `NotMember` where who asks is none, `NotAllowed` where it is not the founder, `TooManyTags`
+    /// where there would be more than 512, and then `Memory`.
+    pub fn set_tags(&mut self, by: &NameBuf, pairs: PairList) -> Result<(), RoomError>
+        ensures refused { IfSome (tags_refusal by.now pairs self.old) (λ e. result ≡ Err e) }
+        ensures allowed { IfNone (tags_refusal by.now pairs self.old) (IfErr result (λ e. e ≡ RoomError.Memory)) }
+        ensures ok { OnOk result (self.new ≡ room.set_tags pairs self.old) }
+        ensures err { OnErr result (self.new ≡ self.old) }
+    {
+        self.check_tags(by, &pairs)?;
+        self.put_tags(pairs)?;
+        Ok(())
+    }
+
+    /// The founder removes tags. Gives the keys that were set, each once, in the order of the list.
+    ///
+    /// `NotMember` where who asks is none, `NotAllowed` where it is not the founder, and then
+    /// `Memory`.
+    pub fn remove_tags(&mut self, by: &NameBuf, keys: &[WordBuf]) -> Result<WordList, RoomError>
+        ensures refused { IfSome (founder_refusal by.now self.old) (λ e. result ≡ Err e) }
+        ensures allowed { IfNone (founder_refusal by.now self.old) (IfErr result (λ e. e ≡ RoomError.Memory)) }
+        ensures there { IfOk result (λ there. there ≡ tags.keys_there self.old.tags keys.now) }
+        ensures ok { OnOk result (self.new ≡ room.remove_tags keys.now self.old) }
+        ensures err { OnErr result (self.new ≡ self.old) }
+    {
+        self.check_founder(by)?;
+        let there = self.keys_there(self.alloc, keys)?;
+        self.drop_tags(keys);
+        Ok(there)
+    }
+}

@@ -1,0 +1,231 @@
+//! A room: what the members of a battle share.
+
+ghost use Rattle.std.specs.Prelude.{◌≡◌, ◌<◌, ℕ, ℤ, List, map, not, OnOk, OnErr, IfOk, IfSome, IfNone, IfErr, Err, option_copied, false};
+ghost use Rattle.std.specs.Result.{result_err};
+ghost use Rattle.std.specs.List.{IsDistinct};
+ghost use Rattle.line_words.specs.Table.{same_name, at_number};
+ghost use Rattle.battle_room.specs.Room as room;
+ghost use Rattle.battle_room.specs.Tags as tags;
+ghost use Rattle.battle_room.specs.Places.{numbered};
+ghost use Rattle.battle_room.specs.Refusals.{first_name, is_founder, has_bot, status_refusal, founder_refusal, removal_refusal, new_bot_refusal, bot_refusal, tags_refusal};
+
+use crate::bots::{Bot, Bots};
+use crate::members::{Member, Members};
+use crate::rects::{ALLY_COUNT, Rect, Rects};
+use crate::tags::Tags;
+use line_words::{NameBuf, Pair, PairList, WordBuf, WordList};
+use status_bits::BattleStatus;
+use std::alloc::{AllocError, Global};
+use std::marker::Model;
+
+/// What the members of a battle share: who they are in order of joining, the founder first, bots,
+/// start rectangles and script tags.
+#[derive(Drop)]
+pub struct Room {
+    pub(crate) alloc: Global,
+    members: Members,
+    bots: Bots,
+    rects: Rects,
+    tags: Tags,
+}
+
+impl Model for Room {
+    ghost use Rattle.battle_room.specs.Room as room;
+
+    ghost Value = { room.Room };
+
+    ghost view = { λ r. record { members = r.members; bots = r.bots; rects = r.rects; tags = r.tags } };
+}
+
+impl Room {
+    /// A room with its founder alone, without bots, rectangles and tags.
+    pub fn new(alloc: Global, founder: NameBuf) -> Result<Room, AllocError>
+        ensures { IfOk result (λ r. r ≡ room.new_room founder) }
+    {
+        Ok(Room {
+            alloc,
+            members: Members::one(alloc, founder)?,
+            bots: Bots::new(alloc),
+            rects: Rects::new(),
+            tags: Tags::new(alloc),
+        })
+    }
+
+    /// The members in order of joining, none of them twice.
+    pub fn members(&self) -> &[Member]
+        ensures members { result.now ≡ self.now.members }
+        ensures distinct { IsDistinct same_name (room.member_names self.now) }
+    {
+        self.members.as_slice()
+    }
+
+    /// The bots in order of adding.
+    pub fn bots(&self) -> &[Bot]
+        ensures { result.now ≡ self.now.bots }
+    {
+        self.bots.as_slice()
+    }
+
+    /// The start rectangle of an ally number, 0 to 15, if it has one.
+    pub fn rect_at(&self, ally: u8) -> Option<Rect>
+        requires { ally < 16 }
+        ensures { result ≡ at_number self.now.rects ally }
+    {
+        self.rects.at(ally)
+    }
+
+    /// The start rectangles of all ally numbers, in their order.
+    pub fn rects(&self) -> &[Option<Rect>; ALLY_COUNT]
+        ensures { self.now.rects ≡ numbered 0 result.now }
+    {
+        self.rects.places()
+    }
+
+    /// The script tags in order of first setting.
+    pub fn tags(&self) -> &[Pair]
+        ensures { result.now ≡ self.now.tags }
+    {
+        self.tags.as_slice()
+    }
+
+    /// Whether one of this name is a member.
+    pub fn has_member(&self, name: &NameBuf) -> bool
+        ensures { result ≡ room.has_member name.now self.now }
+    {
+        self.members.has(name)
+    }
+
+    /// The member of a name.
+    pub fn member(&self, name: &NameBuf) -> Option<&Member>
+        ensures { option_copied result ≡ room.member_of name.now self.now }
+    {
+        self.members.member(name)
+    }
+
+    /// The bot of a name.
+    pub fn bot(&self, name: &WordBuf) -> Option<&Bot>
+        ensures { option_copied result ≡ room.bot_of name.now self.now }
+    {
+        self.bots.bot(name)
+    }
+
+    /// The name of the first member.
+    pub fn founder(&self) -> Option<&NameBuf>
+        ensures { option_copied result ≡ first_name self.now.members }
+    {
+        self.members.first()
+    }
+
+    /// Whether the first member has this name.
+    pub fn is_founder(&self, name: &NameBuf) -> bool
+        ensures { result ≡ is_founder name.now self.now }
+    {
+        self.members.is_first(name)
+    }
+
+    /// Whether there are as many bots as there may be.
+    pub fn is_full_of_bots(&self) -> bool
+        ensures { result ≡ room.is_full_of_bots self.now }
+    {
+        self.bots.is_full()
+    }
+
+    /// Whether there would be no more tags than there may be, if these were set.
+    pub fn has_room_for(&self, pairs: &[Pair]) -> bool
+        ensures { result ≡ not (room.has_too_many_tags (tags.with_tags self.now.tags pairs.now)) }
+    {
+        self.tags.has_room_for(pairs)
+    }
+
+    /// Whether a tag of this key is set.
+    pub fn has_tag(&self, key: &WordBuf) -> bool
+        ensures { result ≡ tags.has_tag key.now self.now.tags }
+    {
+        self.tags.has(key)
+    }
+
+    /// Those of the keys that are set, each once, in the order of the list of keys.
+    pub fn keys_there(&self, alloc: Global, keys: &[WordBuf]) -> Result<WordList, AllocError>
+        ensures { IfOk result (λ there. there ≡ tags.keys_there self.now.tags keys.now) }
+    {
+        self.tags.keys_there(alloc, keys)
+    }
+
+    /// One who is no member joins, behind the others. Where memory is refused, nothing changes.
+    pub fn add_member(&mut self, name: NameBuf) -> Result<(), AllocError>
+        requires { room.has_member name self.old ≡ false }
+        ensures ok { OnOk result (self.new ≡ room.with_member name self.old) }
+        ensures err { OnErr result (self.new ≡ self.old) }
+    {
+        self.members.add(name)
+    }
+
+    /// One who may be a member goes, with all its bots.
+    pub fn drop_member(&mut self, name: &NameBuf)
+        ensures { self.new ≡ room.without_member name.now self.old }
+    {
+        self.members.remove(name);
+        self.bots.remove_owned(name);
+    }
+
+    /// A status and a colour for a member. Where there is none of the name, nothing changes.
+    pub fn put_status(&mut self, name: &NameBuf, status: BattleStatus, colour: i64)
+        ensures { self.new ≡ room.with_status name.now status colour self.old }
+    {
+        self.members.put_status(name, status, colour);
+    }
+
+    /// One bot more. Where memory is refused, nothing changes.
+    pub fn put_bot(&mut self, bot: Bot) -> Result<(), AllocError>
+        ensures ok { OnOk result (self.new ≡ room.with_bot bot self.old) }
+        ensures err { OnErr result (self.new ≡ self.old) }
+    {
+        self.bots.add(bot)
+    }
+
+    /// A status and a colour for a bot. Where there is none of the name, nothing changes.
+    pub fn put_bot_status(&mut self, name: &WordBuf, status: BattleStatus, colour: i64)
+        ensures { self.new ≡ room.with_bot_status name.now status colour self.old }
+    {
+        self.bots.put_status(name, status, colour);
+    }
+
+    /// A bot goes. Where there is none of the name, nothing changes.
+    pub fn drop_bot(&mut self, name: &WordBuf)
+        ensures { self.new ≡ room.without_bot name.now self.old }
+    {
+        self.bots.remove(name);
+    }
+
+    /// A start rectangle for an ally number, 0 to 15, in place of the one that it may have.
+    pub fn put_rect(&mut self, ally: u8, rect: Rect)
+        requires { ally < 16 }
+        ensures { self.new ≡ room.with_rect ally rect self.old }
+    {
+        self.rects.put(ally, rect);
+    }
+
+    /// No start rectangle for an ally number, 0 to 15.
+    pub fn drop_rect(&mut self, ally: u8)
+        requires { ally < 16 }
+        ensures { self.new ≡ room.without_rect ally self.old }
+    {
+        self.rects.remove(ally);
+    }
+
+    /// Sets tags: a key that is set keeps its place, and of two pairs of one key the later wins.
+    /// Where memory is refused, nothing changes.
+    pub fn put_tags(&mut self, pairs: PairList) -> Result<(), AllocError>
+        ensures ok { OnOk result (self.new ≡ room.set_tags pairs self.old) }
+        ensures err { OnErr result (self.new ≡ self.old) }
+    {
+        self.tags.put(pairs)
+    }
+
+    /// Tags of these keys go. Keys that are not set change nothing.
+    pub fn drop_tags(&mut self, keys: &[WordBuf])
+        ensures { self.new ≡ room.remove_tags keys.now self.old }
+    {
+        self.tags.remove(keys);
+    }
+}

@@ -1,0 +1,292 @@
+-- What is told and done as users open, join and leave battles.
+use Rattle.std.proofs.Common.{◌≡◌, ◌==◌, ℕ, ℤ, ◌+◌, ◌^◌, ◌<◌, ◌≤◌, suc, List, [], ◌∷◌, ◌++◌, length, take, map, filter, refl, sym, ap, subst, ◌∙◌, Bool, true, false, slice_index_or, add-one, append-nil, arith}
+use Rattle.std.specs.Prelude.{Option, Some, None, is_some, find, not, ◌||◌, ◌&&◌, if◌then◌else◌, Result, Ok, Err, OnOk, decimal, nat_le}
+use Rattle.std.specs.Ordering.{nat_cmp, eq_by_cmp}
+use Rattle.std.proofs.lemmas.List.{map-append}
+use Rattle.std.proofs.lemmas.List.Elements.{filter-append}
+use Rattle.std.proofs.lemmas.Option.{same_Some}
+use Rattle.std.proofs.Math.Seq.{take-suc}
+use Rattle.reply_grammar.specs.declared.Reply.{Reply}
+use Rattle.reply_grammar.specs.declared.Reply.TheVariants as reply
+use Rattle.reply_grammar.specs.Replies.{print_all}
+use Rattle.std.specs.List.{list_all}
+use Rattle.std.proofs.lemmas.Bool.{and_from}
+use Rattle.std.proofs.lemmas.Fmt.{digits_decimal}
+use Rattle.line_words.specs.Bytes.{is_word, is_word_byte}
+use Rattle.reply_grammar.proofs.Bytes.{all_append}
+use Rattle.reply_grammar.proofs.Decimals.{own, digits_words}
+use Rattle.line_words.specs.Table.{ByName, ByNumber, at_name, at_number, change_number, without_number, same_name, same_number}
+use Rattle.line_words.proofs.Tables.{same_name_itself}
+use Rattle.battle_room.specs.Room.{Room, Bot, bots_of, has_member, member_names, status_of, with_member, without_member}
+use Rattle.status_bits.specs.Fields.{merge}
+use Rattle.status_bits.specs.BattleWord.{battle_table}
+use Rattle.lobby_model.specs.State.{State, Battle, battle_of, name_of}
+use Rattle.lobby_model.specs.Texts.{already_in_battle, no_number_left, battle_is_locked, wrong_password}
+use Rattle.lobby_model.specs.Outcome.{Letter, Outcome, Reader, done, everyone, everyone_but, is_named, lines_for, refuse_if, tell, user, users}
+use Rattle.lobby_model.specs.Events.{reader_of, under}
+use Rattle.lobby_model.specs.Battles.{bot_line, change_room, closes, member_leaves, joins_battle, join_battle, if_there, lets_in, in_battle, in_own, in_room, ip_text, is_founder, leaves_battle, leave_battle, member_has, open_battle, opened_line, opens, rect_line, room_lines, say_in_battle, set_own_status, status_line}
+use Rattle.lobby_model.proofs.Delivered.{same_number_is}
+use Rattle.lobby_post.specs.Mail.{bytes_for}
+use Rattle.lobby_post.specs.Posted.{Posted, Reaches, Told, addressed, blank, has_number, with_own}
+use Rattle.lobby_post.proofs.Telling.{told_own, told_then, with_own_more}
+use Rattle.lobby_machine.specs.declared.seats.Seat.{Seat}
+use Rattle.lobby_machine.specs.declared.rules.battles.Leaving.{Leaving}
+use Rattle.lobby_machine.specs.declared.rules.battles.Leaving.TheVariants.{Seen, Unseen}
+use Rattle.lobby_machine.specs.declared.battles.BattleChange.TheVariants.{Open, Join, Leave}
+use Rattle.lobby_machine.specs.declared.change.Change.{Change}
+use Rattle.lobby_machine.specs.declared.change.Change.TheVariants.{Nothing, InBattles}
+use Rattle.lobby_machine.specs.Seats.{Agree, client_in}
+use Rattle.lobby_machine.specs.Answers.{Obeyed}
+use Rattle.lobby_machine.specs.Battles.{left_at, room_changed}
+use Rattle.lobby_machine.specs.BattleTalk.{bots_gone, shown, shown_to, status_change}
+use Rattle.lobby_machine.proofs.Walks.{reaches_user}
+
+-- one whose event it is, and who is logged in, is the one who gets its own lines
+own_client : (seats : ByName Seat) (s : State) (c : ℕ) (me : List ℕ) → Agree s.clients seats → name_of s c ≡ Some me
+    → client_in (at_name seats me) ≡ c ∷ []
+own_client seats s c me agree mine =
+    elim (at_name seats me) as (λ o. has_number (client_in o) c ≡ true → client_in o ≡ c ∷ []) [
+      | None ↦ λ h. absurd (cc)
+      | Some seat ↦ λ h. ap (λ d. d ∷ []) (sym (same_number_is c seat.client (elim (same_number c seat.client) as (λ b. b
+          ≡ (b || false)) [ true ↦ refl | false ↦ refl ] ∙ h)))
+    ] (agree me c ∙ ap (is_named (same_name me)) mine ∙ same_name_itself me)
+
+pub told_own_user : (s : State) (seats : ByName Seat) (old mid new : Posted) (me : List ℕ) (lines : List Reply) → Agree s.clients seats
+    → name_of s old.issuer ≡ Some me → mid ≡ with_own (blank old) lines → new ≡ addressed mid (client_in (at_name seats me))
+    → Told s old new (tell (user me) lines ∷ [])
+told_own_user s seats old mid new me lines agree mine written is =
+    let here : client_in (at_name seats me) ≡ old.issuer ∷ [] = own_client seats s old.issuer me agree mine in
+    told_own s old mid new _ _ written lines (user me)
+    (subst (λ cs. Reaches s old.issuer cs (user me)) here (reaches_user s old.issuer seats me agree))
+    (is ∙ ap (addressed mid) (here ∙ ap (λ (p : Posted). p.issuer ∷ []) (sym written))) refl
+
+-- lines written one behind another
+pub own_then : (a b c : Posted) (xs ys : List Reply) → b ≡ with_own a xs → c ≡ with_own b ys → c ≡ with_own a (xs ++ ys)
+own_then a b c xs ys first second = second ∙ ap (λ p. with_own p ys) first ∙ with_own_more a xs ys
+
+pub room_written : (number : ℕ) (room : Room) (a b c d e : Posted) → b ≡ with_own a (map status_line room.members)
+    → c ≡ with_own b (map (bot_line number) room.bots) → d ≡ with_own c (map (λ r. rect_line r.0 r.1) room.rects)
+    → e ≡ with_own d (map (λ t. reply.SetScriptTags (t ∷ [])) room.tags) → e ≡ with_own a (room_lines number room)
+room_written number room a b c d e statuses bots rects tags =
+    own_then a b e _ _ statuses (own_then b c e _ _ bots (own_then c d e _ _ rects tags))
+
+-- letters that give each reader the same lines
+pub told_alike : (s : State) (a b : Posted) (xs ys : List Letter) → ((reader : Reader) → lines_for reader xs ≡ lines_for reader ys)
+    → Told s a b xs → Told s a b ys
+told_alike s a b xs ys same told = record {
+  issuer = told.issuer;
+  id = told.id;
+  bytes = λ d. told.bytes d ∙ ap (λ ls. bytes_for a.sent d ++ print_all (under (if same_number d a.issuer then a.id else None) ls))
+      (same (reader_of s a.issuer d));
+}
+
+-- the bots of one who leaves, bot by bot
+abbrev pub gone : Leaving → ℕ → List (List ℕ) → List Bot → List Letter
+gone leaving number names bots = map (λ b. shown_to leaving (tell (users names) (reply.RemoveBot number b.name ∷ []))) bots
+
+gone_one : (leaving : Leaving) (number : ℕ) (names : List (List ℕ)) (reader : Reader) (bots : List Bot) (after : List Letter)
+    → lines_for reader (gone leaving number names bots ++ after)
+    ≡ (if (shown_to leaving (tell (users names) [])).to reader then map (λ b. reply.RemoveBot number b.name) bots else []) ++ lines_for reader after
+gone_one Seen number names reader [] after = elim (users names reader) as (λ b. lines_for reader after
+    ≡ (if b then [] else []) ++ lines_for reader after) [ true ↦ refl | false ↦ refl ]
+gone_one Unseen number names reader [] after = elim (not reader.mine && users names reader) as (λ b. lines_for reader after
+    ≡ (if b then [] else []) ++ lines_for reader after) [ true ↦ refl | false ↦ refl ]
+gone_one Seen number names reader (bot ∷ bots) after =
+    ap (λ ls. (if users names reader then reply.RemoveBot number bot.name ∷ [] else []) ++ ls) (gone_one Seen number names reader bots after)
+    ∙ elim (users names reader) as (λ b. (if b then reply.RemoveBot number bot.name ∷ [] else [])
+    ++ ((if b then map (λ x. reply.RemoveBot number x.name) bots else []) ++ lines_for reader after)
+    ≡ (if b then map (λ x. reply.RemoveBot number x.name) (bot ∷ bots) else []) ++ lines_for reader after) [ true ↦ refl | false ↦ refl ]
+gone_one Unseen number names reader (bot ∷ bots) after =
+    ap (λ ls. (if not reader.mine && users names reader then reply.RemoveBot number bot.name ∷ [] else []) ++ ls)
+    (gone_one Unseen number names reader bots after)
+    ∙ elim (not reader.mine && users names reader) as (λ b. (if b then reply.RemoveBot number bot.name ∷ [] else [])
+    ++ ((if b then map (λ x. reply.RemoveBot number x.name) bots else []) ++ lines_for reader after)
+    ≡ (if b then map (λ x. reply.RemoveBot number x.name) (bot ∷ bots) else []) ++ lines_for reader after) [ true ↦ refl | false ↦ refl ]
+
+-- one who leaves a battle: it closes, or its bots go and it leaves
+module _ (s : State) (old new : Posted) (number : ℕ) (name : List ℕ) (battle : Battle) where
+  abbrev leaving_told : Leaving → Bool → List Letter
+  leaving_told leaving founder = (shown leaving (if founder then closes number else member_leaves name number battle)).told
+
+  pub closes_told : (leaving : Leaving) → is_founder name battle ≡ true
+      → Told s old new (shown_to leaving (tell everyone (reply.BattleClosed number ∷ [])) ∷ [])
+      → Told s old new (shown leaving (leaves_battle name number battle)).told
+  closes_told Seen founder told = subst (λ b. Told s old new (leaving_told Seen b)) (sym founder) told
+  closes_told Unseen founder told = subst (λ b. Told s old new (leaving_told Unseen b)) (sym founder) told
+
+  pub leaves_told : (mid : Posted) (leaving : Leaving) → is_founder name battle ≡ false → Told s old mid (bots_gone leaving number name battle.room)
+      → Told s mid new (shown_to leaving (tell everyone (reply.LeftBattle number name ∷ [])) ∷ [])
+      → Told s old new (shown leaving (leaves_battle name number battle)).told
+  leaves_told mid Seen other bots left =
+      subst (λ b. Told s old new (leaving_told Seen b)) (sym other)
+      (told_alike s old new _ (leaving_told Seen false)
+      (λ reader. gone_one Seen number (member_names battle.room) reader (bots_of name battle.room) _)
+      (told_then s old mid new _ _ bots left))
+  leaves_told mid Unseen other bots left =
+      subst (λ b. Told s old new (leaving_told Unseen b)) (sym other)
+      (told_alike s old new _ (leaving_told Unseen false)
+      (λ reader. gone_one Unseen number (member_names battle.room) reader (bots_of name battle.room) _)
+      (told_then s old mid new _ _ bots left))
+
+-- a bot more: where its owner is the one who leaves, it is told that it goes
+picked : (s : State) (mid new : Posted) (leaving : Leaving) (number : ℕ) (names : List (List ℕ)) (bot : Bot) (own : Bool)
+    → Told s mid new (if own then gone leaving number names (bot ∷ []) else []) → Told s mid new (gone leaving number names (if own then bot ∷ [] else []))
+picked s mid new leaving number names bot true told = told
+picked s mid new leaving number names bot false told = told
+
+pub bot_told : (s : State) (old mid new : Posted) (leaving : Leaving) (number : ℕ) (names : List (List ℕ)) (owner : List ℕ) (bots : List Bot) (i : ℕ)
+    (default bot : Bot) → i < length bots → bot ≡ slice_index_or bots i default
+    → Told s old mid (gone leaving number names (filter (λ b. same_name owner b.owner) (take i bots)))
+    → Told s mid new (if same_name owner bot.owner then gone leaving number names (bot ∷ []) else [])
+    → Told s old new (gone leaving number names (filter (λ b. same_name owner b.owner) (take (i + 1) bots)))
+bot_told s old mid new leaving number names owner bots i default bot within is before told =
+    let taken : take (i + 1) bots ≡ take i bots ++ bot ∷ [] = rw (add-one, is) (take-suc bots i default within) in
+    subst (λ ls. Told s old new ls)
+    (sym (map-append _ (filter (λ b. same_name owner b.owner) (take i bots)) (filter (λ b. same_name owner b.owner) (bot ∷ [])))
+    ∙ ap (λ bs. gone leaving number names bs) (sym (filter-append (λ b. same_name owner b.owner) (take i bots) (bot ∷ []))
+    ∙ ap (filter (λ b. same_name owner b.owner)) (sym taken)))
+    (told_then s old mid new _ _ before (picked s mid new leaving number names bot (same_name owner bot.owner) told))
+
+-- a battle that one is in
+found_passes : {X : Type 0} (p : X → Bool) (xs : List X) (x : X) → find p xs ≡ Some x → p x ≡ true
+found_passes p [] x is = absurd (cc)
+found_passes p (y ∷ xs) x is =
+    elim (p y) as (λ b. p y ≡ b → (if b then Some y else find p xs) ≡ Some x → p x ≡ true) [
+      | true ↦ λ t e. ap p (sym (same_Some y x e)) ∙ t
+      | false ↦ λ t e. found_passes p xs x e
+    ] refl is
+
+pub is_member : (s : State) (me : List ℕ) (number : ℕ) (battle : Battle) → battle_of s me ≡ Some (number, battle) → has_member me battle.room ≡ true
+is_member s me number battle own = found_passes (λ e. has_member me e.1.room) s.battles (number, battle) own
+
+module _ (s : State) (c : ℕ) (old new : Posted) (me : List ℕ) (number : ℕ) (battle : Battle) (own : battle_of s me ≡ Some (number, battle)) where
+  pub in_battle_so : (change : Change) (rest : ℕ → Battle → Outcome) → Obeyed s c old new change (rest number battle)
+      → Obeyed s c old new change (in_battle s me rest)
+  in_battle_so change rest obeyed = subst (λ o. Obeyed s c old new change (in_own o rest)) (sym own) obeyed
+
+-- a change that changes nothing
+pub change_same : {X : Type 0} (f : X → X) → ((x : X) → f x ≡ x) → (m : ByNumber X) (k : ℕ) → change_number m k f ≡ m
+change_same f same [] k = refl
+change_same f same (e ∷ m) k =
+    (λ i. (e.0, elim (eq_by_cmp nat_cmp k e.0) as (λ b. (if b then f e.1 else e.1) ≡ e.1) [ true ↦ same e.1 | false ↦ refl ] i)
+    ∷ change_same f same m k i)
+
+-- what is told once all tests were passed
+pub on_ok : {A E : Type 0} (r : Result A E) (P Q : Type 0) → (P → Q) → OnOk r P → OnOk r Q
+on_ok (Ok x) P Q f h = f h
+on_ok (Err e) P Q f h = tt
+
+-- one who opens a battle
+pub opened_so : (s : State) (c : ℕ) (old a new : Posted) (me : List ℕ) (number : ℕ) (name : List ℕ) (battle : Battle) (outcome : Outcome)
+    → outcome ≡ open_battle s me battle → battle_of s me ≡ None → (s.last_battle == 2147483647) ≡ false → number ≡ s.last_battle + 1
+    → number ≤ 2147483647 → name ≡ me → name_of s c ≡ Some me → member_names battle.room ≡ me ∷ []
+    → Told s old a (tell everyone (opened_line number battle.info ∷ []) ∷ [])
+    → Told s a new (tell (user me) (reply.OpenBattle number ∷ reply.RequestBattleStatus ∷ []) ∷ [])
+    → Obeyed s c old new (InBattles (Open number name battle)) outcome
+opened_so s c old a new me number name battle outcome is free left numbered small named mine members first second =
+    let comes : outcome ≡ done (opens name number battle) =
+    is
+    ∙ (λ i. refuse_if (is_some (free i)) (reply.OpenBattleFailed already_in_battle)
+    (refuse_if (left i) (reply.OpenBattleFailed no_number_left) (done (opens me (s.last_battle + 1) battle))))
+    ∙ (λ i. done (opens (sym named i) (sym numbered i) battle)) in
+    subst (λ o. Obeyed s c old new (InBattles (Open number name battle)) o) (sym comes) (record {
+      told = subst (λ n. Told s old new (opens n number battle).told) (sym named) (told_then s old a new _ _ first second);
+      effect = refl;
+      can_be = (
+        record { user = mine ∙ ap (λ n. Some n) (sym named); free = ap (battle_of s) named ∙ free },
+        members ∙ ap (λ n. n ∷ []) (sym named),
+        small,
+      );
+    })
+
+-- one who joins a battle
+pub joined_so : (s : State) (c : ℕ) (old a b new : Posted) (me : List ℕ) (number : ℕ) (name : List ℕ) (battle : Battle)
+    (password script_password : Option (List ℕ))
+    → battle_of s me ≡ None → at_number s.battles number ≡ Some battle → battle.info.locked ≡ false → lets_in battle.password password ≡ true
+    → name ≡ me → name_of s c ≡ Some me
+    → Told s old a (tell (user me) (reply.JoinBattle number battle.game_hash ∷ reply.JoinedBattle number me None
+    ∷ (room_lines number battle.room ++ reply.RequestBattleStatus ∷ [])) ∷ [])
+    → Told s a b (tell (user battle.info.founder) (reply.JoinedBattle number me script_password ∷ []) ∷ [])
+    → Told s b new (tell (everyone_but (me ∷ battle.info.founder ∷ [])) (reply.JoinedBattle number me None ∷ []) ∷ [])
+    → Obeyed s c old new (InBattles (Join number name)) (join_battle s me number password script_password)
+joined_so s c old a b new me number name battle password script_password free there unlocked fits named mine first second third =
+    let joined : Outcome = done (joins_battle me number battle script_password) in
+    let comes : join_battle s me number password script_password ≡ joined =
+    (λ i. refuse_if (is_some (free i)) (reply.JoinBattleFailed already_in_battle)
+    (if_there (there i) (λ battle.
+    refuse_if battle.info.locked (reply.JoinBattleFailed battle_is_locked) (
+    refuse_if (not (lets_in battle.password password)) (reply.JoinBattleFailed wrong_password)
+    (done (joins_battle me number battle script_password))))))
+    ∙ (λ i. refuse_if (unlocked i) (reply.JoinBattleFailed battle_is_locked) (
+    refuse_if (not (fits i)) (reply.JoinBattleFailed wrong_password) joined)) in
+    subst (λ o. Obeyed s c old new (InBattles (Join number name)) o) (sym comes) (record {
+      told = told_then s old b new _ _ (told_then s old a b _ _ first second) third;
+      effect = λ i. change_room s number (with_member (sym named i));
+      can_be = record { user = mine ∙ ap (λ n. Some n) (sym named); free = ap (battle_of s) named ∙ free };
+    })
+
+-- what a battle's closing, or a member's leaving, makes of the battles
+pub leaves_effect : (t : State) (me : List ℕ) (number : ℕ) (battle : Battle)
+    → (leaves_battle me number battle).after t ≡ record t { battles = left_at t.battles number me (Some battle) }
+leaves_effect t me number battle =
+    elim (is_founder me battle) as (λ b. (if b then closes number else member_leaves me number battle).after t
+    ≡ record t { battles = if b then without_number t.battles number else change_number t.battles number (room_changed (without_member me)) }) [
+      | true ↦ refl
+      | false ↦ refl
+    ]
+
+-- one who leaves its battle
+pub left_so : (s : State) (c : ℕ) (old new : Posted) (me : List ℕ) (number : ℕ) (name : List ℕ) (battle : Battle)
+    → battle_of s me ≡ Some (number, battle) → at_number s.battles number ≡ Some battle → name ≡ me
+    → Told s old new (leaves_battle me number battle).told
+    → Obeyed s c old new (InBattles (Leave number name)) (leave_battle s me)
+left_so s c old new me number name battle own there named told =
+    in_battle_so s c old new me number battle own (InBattles (Leave number name)) (λ id battle. done (leaves_battle me id battle)) (record {
+      told = subst (λ ls. Told s old new ls) (sym (append-nil (leaves_battle me number battle).told)) told;
+      effect = leaves_effect s me number battle
+          ∙ (λ i. record s { battles = left_at s.battles number (sym named i) (sym there i) });
+      can_be = tt;
+    })
+
+-- one who says something in its battle
+pub said_so : (s : State) (c : ℕ) (old new : Posted) (me : List ℕ) (number : ℕ) (battle : Battle) (line : Reply)
+    → battle_of s me ≡ Some (number, battle) → Told s old new (tell (users (member_names battle.room)) (line ∷ []) ∷ [])
+    → Obeyed s c old new Nothing (say_in_battle s me line)
+said_so s c old new me number battle line own told =
+    in_battle_so s c old new me number battle own Nothing (λ id battle. done (in_room id battle (λ room. room) line)) (record {
+      told = told;
+      effect = λ i. record s { battles = change_same (λ battle. record battle { room = battle.room }) (λ battle. refl) s.battles number i };
+      can_be = tt;
+    })
+
+-- one who has a status of its own in its battle
+pub has_so : (s : State) (c : ℕ) (old new : Posted) (me : List ℕ) (number : ℕ) (battle : Battle) (asked status : ℕ) (colour : ℤ) (change : Change)
+    → battle_of s me ≡ Some (number, battle) → status ≡ merge battle_table (status_of me battle.room) asked
+    → change ≡ status_change number me status colour → Told s old new (member_has me status colour number battle).told
+    → Obeyed s c old new change (set_own_status s me asked colour)
+has_so s c old new me number battle asked status colour change own merged is told =
+    in_battle_so s c old new me number battle own change
+    (λ id battle. done (member_has me (merge battle_table (status_of me battle.room) asked) colour id battle))
+    (subst (λ w. Obeyed s c old new change (done (member_has me w colour number battle))) merged
+    (subst (λ x. Obeyed s c old new x (done (member_has me status colour number battle))) (sym is) (record {
+      told = told;
+      effect = refl;
+      can_be = tt;
+    })))
+
+-- four numbers with dots are a word
+dot_then : (n : ℕ) (rest : List ℕ) → n < 2 ^ 8 → list_all is_word_byte rest ≡ true → list_all is_word_byte (decimal n ++ 46 ∷ rest) ≡ true
+dot_then n rest small word = all_append is_word_byte (decimal n) (46 ∷ rest) (digits_words (decimal n) (digits_decimal own n (omega arith))) word
+
+one_more : (n : ℕ) → nat_le 1 (suc n) ≡ true
+one_more n = grind (arith)
+
+long : (xs ys : List ℕ) → nat_le 1 (length (xs ++ 46 ∷ ys)) ≡ true
+long [] ys = one_more (length ys)
+long (x ∷ xs) ys = one_more (length (xs ++ 46 ∷ ys))
+
+pub dotted_is_word : (a b c d : ℕ) → a < 2 ^ 8 → b < 2 ^ 8 → c < 2 ^ 8 → d < 2 ^ 8 → is_word (ip_text (a ∷ b ∷ c ∷ d ∷ [])) ≡ true
+dotted_is_word a b c d small_a small_b small_c small_d =
+    and_from _ _ (long (decimal a) (ip_text (b ∷ c ∷ d ∷ [])))
+    (dot_then a (ip_text (b ∷ c ∷ d ∷ [])) small_a (dot_then b (ip_text (c ∷ d ∷ [])) small_b (dot_then c (decimal d) small_c
+    (digits_words (decimal d) (digits_decimal own d (omega arith))))))

@@ -1,0 +1,429 @@
+//! Battles: opening, joining and leaving one, and what is said and shown in it.
+
+ghost use Rattle.std.specs.Prelude.{◌≡◌, [], ◌∷◌, ◌++◌, map, OnOk, IfOk, true, None, Some, is_some, option_copied};
+ghost use Rattle.reply_grammar.specs.declared.Reply.TheVariants as reply;
+ghost use Rattle.line_words.specs.Table.{at_number};
+ghost use Rattle.reply_grammar.specs.Lent.{reply_of};
+ghost use Rattle.battle_room.specs.Room.{member_names};
+ghost use Rattle.lobby_model.specs.State.{name_of, updated};
+ghost use Rattle.lobby_model.specs.Outcome.{everyone, tell, user};
+ghost use Rattle.lobby_model.specs.Battles.{address, bot_line, ip_text, join_battle, leave_battle, leaves_battle, member_has, open_battle, rect_line, room_lines, say_in_battle, set_own_status, status_line, update_battle};
+ghost use Rattle.lobby_model.specs.Commands.{answer};
+ghost use Rattle.lobby_post.specs.Posted.{Told, with_own};
+ghost use Rattle.lobby_machine.specs.Answers.{Answers};
+ghost use Rattle.lobby_machine.specs.declared.change.Change.TheVariants.{InBattles};
+ghost use Rattle.lobby_machine.specs.declared.battles.BattleChange.TheVariants.{InRoom};
+ghost use Rattle.lobby_machine.specs.BattleTalk.{bots_gone, shown, shown_to, status_change};
+ghost use Rattle.lobby_machine.specs.Tables.{opens_one};
+
+use super::battle_guards::{founded_by, not_locked, right_password};
+use crate::battle::{Battle, NO_PASSWORD};
+use crate::battles::{BattleChange, RoomChange};
+use crate::change::Change;
+use crate::maps::Maps;
+use crate::refusal::Stop;
+use battle_room::{ALLY_COUNT, Room};
+use command_grammar::Command;
+use line_words::{NameBuf, SentenceBuf, WordBuf};
+use lobby_post::Post;
+use reply_grammar::{LentReply, OpenedBattle};
+use status_bits::{BattleStatus, merge_battle};
+use std::alloc::{AllocError, Global};
+use std::slice;
+
+/// Who gets the lines of one who leaves.
+#[derive(Clone, Copy)]
+pub enum Leaving {
+    /// The one whose event it is too.
+    Seen,
+    /// Others alone: it logs out.
+    Unseen,
+}
+
+impl Maps {
+    /// `OPENBATTLE`: the user is in no battle, and a number is left.
+    pub fn open_battle(
+        &self,
+        client: u64,
+        me: &NameBuf,
+        command: &Command,
+        post: &mut Post,
+    ) -> Result<Change, Stop>
+        requires me { name_of self.now client ≡ Some me.now }
+        requires issuer { post.old.issuer ≡ client }
+        requires opens { opens_one command.now ≡ true }
+        ensures { Answers self.now client post.old post.new (answer self.now client (Some me.now) command.now) result }
+    {
+        self.may_open(me)?;
+        let number = self.next_number()?;
+        let battle = self.new_battle(client, me, command)?;
+        self.tell_all(LentReply::BattleOpened(number, &battle.opened), post)?;
+        self.tell_opener(me, number, post)?;
+        Ok(Change::InBattles(BattleChange::Open {
+            number,
+            name: me.copy(),
+            battle,
+        }))
+    }
+
+    /// The battle that a user opens by a command.
+    fn new_battle(&self, client: u64, me: &NameBuf, command: &Command) -> Result<Battle, AllocError>
+        requires me { name_of self.now client ≡ Some me.now }
+        requires opens { opens_one command.now ≡ true }
+        ensures asked { IfOk result (λ battle. answer self.now client (Some me.now) command.now ≡ open_battle self.now me.now battle) }
+        ensures members { IfOk result (λ battle. member_names battle.room ≡ me.now ∷ []) }
+    {
+        let Command::OpenBattle {
+            battle_type,
+            nat_type,
+            password,
+            port,
+            max_players,
+            game_hash,
+            rank,
+            map_hash,
+            engine_name,
+            engine_version,
+            map,
+            title,
+            game_name,
+        } = command
+        else {
+            unreachable!()
+        };
+        let alloc = self.alloc;
+        let ip = self.address_of(client)?;
+        Ok(Battle {
+            opened: OpenedBattle {
+                battle_type: *battle_type,
+                nat_type: *nat_type,
+                founder: me.copy(),
+                ip,
+                port: *port,
+                max_players: *max_players,
+                passworded: password.as_slice() != NO_PASSWORD,
+                rank: *rank,
+                map_hash: *map_hash,
+                engine_name: SentenceBuf::copy_of(alloc, engine_name.as_slice())?,
+                engine_version: SentenceBuf::copy_of(alloc, engine_version.as_slice())?,
+                map: SentenceBuf::copy_of(alloc, map.as_slice())?,
+                title: SentenceBuf::copy_of(alloc, title.as_slice())?,
+                game_name: SentenceBuf::copy_of(alloc, game_name.as_slice())?,
+            },
+            spectators: 0,
+            locked: false,
+            password: WordBuf::copy_of(alloc, password.as_slice())?,
+            game_hash: *game_hash,
+            room: Room::new(alloc, me.copy())?,
+        })
+    }
+
+    /// The address of a client that is there, as it is printed.
+    fn address_of(&self, client: u64) -> Result<WordBuf, AllocError>
+        requires { is_some (at_number self.now.clients client) ≡ true }
+        ensures { IfOk result (λ word. word ≡ address (at_number self.now.clients client)) }
+    {
+        match self.clients.ip_of(client) {
+            Some(ip) => ip_word(self.alloc, ip),
+            None => unreachable!(),
+        }
+    }
+
+    /// Tells one who opens a battle its number, and asks for its status.
+    fn tell_opener(&self, me: &NameBuf, number: u32, post: &mut Post) -> Result<(), AllocError>
+        requires { name_of self.now post.old.issuer ≡ Some me.now }
+        ensures { OnOk result (Told self.now post.old post.new (tell (user me.now) (reply.OpenBattle number ∷ reply.RequestBattleStatus ∷ []) ∷ [])) }
+    {
+        post.begin_own();
+        post.write_own(LentReply::OpenBattle(number))?;
+        post.write_own(LentReply::RequestBattleStatus)?;
+        self.seats.address_user(me, post)?;
+        Ok(())
+    }
+
+    /// `JOINBATTLE`: the user is in no battle; there is a battle of that number, which is not locked and
+    /// lets it in.
+    pub fn join_battle<'a>(
+        &self,
+        client: u64,
+        me: &'a NameBuf,
+        number: u32,
+        password: Option<&WordBuf>,
+        script_password: Option<&'a WordBuf>,
+        post: &mut Post,
+    ) -> Result<Change, Stop>
+        requires me { name_of self.now client ≡ Some me.now }
+        requires issuer { post.old.issuer ≡ client }
+        ensures { Answers self.now client post.old post.new (join_battle self.now me.now number (option_copied password.entry) (option_copied script_password.entry)) result }
+    {
+        self.may_join(me)?;
+        let battle = self.battle_numbered(number)?;
+        not_locked(battle)?;
+        right_password(battle, password)?;
+        self.tell_joiner(me, number, battle, post)?;
+        let founder = &battle.opened.founder;
+        self.tell_user(
+            founder,
+            LentReply::JoinedBattle(number, me, script_password),
+            post,
+        )?;
+        self.tell_all_but(me, founder, LentReply::JoinedBattle(number, me, None), post)?;
+        Ok(Change::InBattles(BattleChange::Join {
+            number,
+            name: me.copy(),
+        }))
+    }
+
+    /// Tells one who joins a battle what its members share, and asks for its status.
+    fn tell_joiner(
+        &self,
+        me: &NameBuf,
+        number: u32,
+        battle: &Battle,
+        post: &mut Post,
+    ) -> Result<(), AllocError>
+        requires { name_of self.now post.old.issuer ≡ Some me.now }
+        ensures { OnOk result (Told self.now post.old post.new (tell (user me.now) (reply.JoinBattle number battle.now.game_hash ∷ reply.JoinedBattle number me.now None ∷ (room_lines number battle.now.room ++ reply.RequestBattleStatus ∷ [])) ∷ [])) }
+    {
+        post.begin_own();
+        post.write_own(LentReply::JoinBattle(number, battle.game_hash))?;
+        post.write_own(LentReply::JoinedBattle(number, me, None))?;
+        write_statuses(&battle.room, post)?;
+        write_bots(number, &battle.room, post)?;
+        write_rects(&battle.room, post)?;
+        write_tags(&battle.room, post)?;
+        post.write_own(LentReply::RequestBattleStatus)?;
+        self.seats.address_user(me, post)?;
+        Ok(())
+    }
+
+    /// `LEAVEBATTLE`: the user is in a battle.
+    pub fn leave_battle(&self, client: u64, me: &NameBuf, post: &mut Post) -> Result<Change, Stop>
+        ensures { Answers self.now client post.old post.new (leave_battle self.now me.now) result }
+    {
+        let (number, battle) = self.own_battle(me)?;
+        self.tell_leaving(me, number, battle, Leaving::Seen, post)?;
+        Ok(Change::InBattles(BattleChange::Leave {
+            number,
+            name: me.copy(),
+        }))
+    }
+
+    /// Tells that a member leaves a battle: that the battle closes, where it is the founder, and else
+    /// that its bots go and that it leaves.
+    pub fn tell_leaving(
+        &self,
+        name: &NameBuf,
+        number: u32,
+        battle: &Battle,
+        leaving: Leaving,
+        post: &mut Post,
+    ) -> Result<(), AllocError>
+        ensures { OnOk result (Told self.now post.old post.new (shown leaving (leaves_battle name.now number battle.now)).told) }
+    {
+        if battle.is_founder(name) {
+            return self.tell_leaving_all(LentReply::BattleClosed(number), leaving, post);
+        }
+        self.tell_bots_gone(name, number, &battle.room, leaving, post)?;
+        self.tell_leaving_all(LentReply::LeftBattle(number, name), leaving, post)
+    }
+
+    /// Tells the members of a battle that the bots of one of them go.
+    fn tell_bots_gone(
+        &self,
+        owner: &NameBuf,
+        number: u32,
+        room: &Room,
+        leaving: Leaving,
+        post: &mut Post,
+    ) -> Result<(), AllocError>
+        ensures { OnOk result (Told self.now post.old post.new (bots_gone leaving number owner.now room.now)) }
+    {
+        for bot in room.bots() {
+            if owner.cmp(bot.owner()).is_eq() {
+                let line = LentReply::RemoveBot(number, bot.name());
+                match leaving {
+                    Leaving::Seen => self.tell_room(room, line, post)?,
+                    Leaving::Unseen => self.tell_others_in_room(room, line, post)?,
+                }
+            }
+        }
+        Ok(())
+    }
+
+    /// Tells all users that one leaves, itself among them or not.
+    fn tell_leaving_all(
+        &self,
+        line: LentReply,
+        leaving: Leaving,
+        post: &mut Post,
+    ) -> Result<(), AllocError>
+        ensures { OnOk result (Told self.now post.old post.new (shown_to leaving (tell everyone (reply_of line.entry ∷ [])) ∷ [])) }
+    {
+        match leaving {
+            Leaving::Seen => self.tell_all(line, post),
+            Leaving::Unseen => self.tell_others(line, post),
+        }
+    }
+
+    /// `UPDATEBATTLEINFO`: the user is in a battle, which it founded.
+    pub fn update_battle(
+        &self,
+        client: u64,
+        me: &NameBuf,
+        spectators: u16,
+        locked: bool,
+        map_hash: i64,
+        map: &SentenceBuf,
+        post: &mut Post,
+    ) -> Result<Change, Stop>
+        ensures { Answers self.now client post.old post.new (update_battle self.now me.now (updated spectators locked map_hash map.now)) result }
+    {
+        let (number, battle) = self.own_battle(me)?;
+        founded_by(battle, me)?;
+        let line = LentReply::UpdateBattleInfo(number, spectators, locked, map_hash, map);
+        self.tell_all(line, post)?;
+        Ok(Change::InBattles(BattleChange::Update {
+            number,
+            spectators,
+            locked,
+            map_hash,
+            map: SentenceBuf::copy_of(self.alloc, map.as_slice())?,
+        }))
+    }
+
+    /// `MYBATTLESTATUS`: the user is in a battle. Its handicap stays.
+    pub fn my_battle_status(
+        &self,
+        client: u64,
+        me: &NameBuf,
+        asked: u32,
+        colour: i64,
+        post: &mut Post,
+    ) -> Result<Change, Stop>
+        ensures { Answers self.now client post.old post.new (set_own_status self.now me.now asked colour) result }
+    {
+        let (number, battle) = self.own_battle(me)?;
+        let status = match battle.room.member(me) {
+            Some(member) => merge_battle(member.status(), asked),
+            None => unreachable!(),
+        };
+        Ok(self.give_status(number, battle, me, status, colour, post)?)
+    }
+
+    /// A member of a battle has this status and colour from now on.
+    pub fn give_status(
+        &self,
+        number: u32,
+        battle: &Battle,
+        name: &NameBuf,
+        status: BattleStatus,
+        colour: i64,
+        post: &mut Post,
+    ) -> Result<Change, AllocError>
+        ensures told { IfOk result (λ _. Told self.now post.old post.new (member_has name.now status colour number battle.now).told) }
+        ensures change { IfOk result (λ change. change ≡ status_change number name.now status colour) }
+    {
+        let line = LentReply::ClientBattleStatus(name, status.word(), colour);
+        self.tell_room(&battle.room, line, post)?;
+        Ok(in_room(
+            number,
+            RoomChange::Status {
+                name: name.copy(),
+                status,
+                colour,
+            },
+        ))
+    }
+
+    /// `SAYBATTLE` and `SAYBATTLEEX`: the user is in a battle.
+    pub fn say_in_battle(
+        &self,
+        client: u64,
+        me: &NameBuf,
+        line: LentReply,
+        post: &mut Post,
+    ) -> Result<Change, Stop>
+        ensures { Answers self.now client post.old post.new (say_in_battle self.now me.now (reply_of line.entry)) result }
+    {
+        let (_, battle) = self.own_battle(me)?;
+        self.tell_room(&battle.room, line, post)?;
+        Ok(Change::Nothing)
+    }
+}
+
+/// A change of what the members of a battle share.
+pub fn in_room(number: u32, change: RoomChange) -> Change
+    ensures { result ≡ InBattles (InRoom number change) }
+{
+    Change::InBattles(BattleChange::InRoom { number, change })
+}
+
+/// Writes the status of each member of a battle.
+fn write_statuses(room: &Room, post: &mut Post) -> Result<(), AllocError>
+    ensures { OnOk result (post.new ≡ with_own post.old (map status_line room.now.members)) }
+{
+    for member in room.members() {
+        let status = member.status().word();
+        post.write_own(LentReply::ClientBattleStatus(member.name(), status, member.colour()))?;
+    }
+    Ok(())
+}
+
+/// Writes the bots of a battle.
+fn write_bots(number: u32, room: &Room, post: &mut Post) -> Result<(), AllocError>
+    ensures { OnOk result (post.new ≡ with_own post.old (map (bot_line number) room.now.bots)) }
+{
+    for bot in room.bots() {
+        let status = bot.status().word();
+        let line = LentReply::AddBot(
+            number,
+            bot.name(),
+            bot.owner(),
+            status,
+            bot.colour(),
+            bot.ai(),
+        );
+        post.write_own(line)?;
+    }
+    Ok(())
+}
+
+/// Writes the start rectangles of a battle.
+fn write_rects(room: &Room, post: &mut Post) -> Result<(), AllocError>
+    ensures { OnOk result (post.new ≡ with_own post.old (map (λ e. rect_line e.0 e.1) room.now.rects)) }
+{
+    let places = room.rects();
+    for ally in 0..ALLY_COUNT as u8 {
+        if let Some(rect) = places[usize::from(ally)] {
+            let line = LentReply::AddStartRect(ally, rect.left, rect.top, rect.right, rect.bottom);
+            post.write_own(line)?;
+        }
+    }
+    Ok(())
+}
+
+/// Writes the script tags of a battle, each in a line.
+fn write_tags(room: &Room, post: &mut Post) -> Result<(), AllocError>
+    ensures { OnOk result (post.new ≡ with_own post.old (map (λ t. reply.SetScriptTags (t ∷ [])) room.now.tags)) }
+{
+    for pair in room.tags() {
+        post.write_own(LentReply::SetScriptTags(slice::from_ref(pair)))?;
+    }
+    Ok(())
+}
+
+/// An IPv4 address as it is printed: four numbers with dots.
+fn ip_word(alloc: Global, ip: [u8; 4]) -> Result<WordBuf, AllocError>
+    ensures { IfOk result (λ word. word ≡ ip_text ip) }
+{
+    dotted(alloc, ip[0], ip[1], ip[2], ip[3])
+}
+
+/// Four numbers with dots.
+fn dotted(alloc: Global, a: u8, b: u8, c: u8, d: u8) -> Result<WordBuf, AllocError>
+    ensures { IfOk result (λ word. word ≡ ip_text (a ∷ b ∷ c ∷ d ∷ [])) }
+{
+    let text = format!(in alloc; "{a}.{b}.{c}.{d}")?;
+    WordBuf::copy_of(alloc, text.as_bytes())
+}

@@ -1,0 +1,322 @@
+//! What members do in a battle's room: bots, start rectangles, script tags, and what the founder forces
+//! on members.
+
+ghost use Rattle.std.specs.Prelude.{◌≡◌, ◌<◌, [], ◌∷◌, IfOk, OnOk};
+ghost use Rattle.battle_room.specs.Room.{member_names};
+ghost use Rattle.battle_room.specs.Tags.{keys_there};
+ghost use Rattle.lobby_model.specs.Outcome.{tell, users};
+ghost use Rattle.lobby_model.specs.Rooms.{add_bot, add_rect, kick, new_bot, remove_bot, remove_rect, remove_script_tags, removed_line, ring, set_script_tags, update_bot};
+ghost use Rattle.lobby_post.specs.Posted.{Told};
+ghost use Rattle.lobby_machine.specs.Answers.{Answers};
+ghost use Rattle.lobby_machine.specs.BattleTalk.{FitsForce, forced, forced_colour, forced_status};
+
+use super::battle_guards::{
+    bot_named, founded_by, free_bot_name, may_change, member_named, not_oneself, room_for_bot,
+    room_for_tags,
+};
+use super::battles::{Leaving, in_room};
+use crate::battles::{BattleChange, RoomChange};
+use crate::change::Change;
+use crate::maps::Maps;
+use crate::refusal::Stop;
+use battle_room::{Bot, Member, Rect, Room};
+use line_words::{KeyBuf, NameBuf, Pair, PairList, SentenceBuf, WordBuf, WordList};
+use lobby_post::Post;
+use reply_grammar::LentReply;
+use status_bits::{BattleStatus, merge_battle};
+use std::alloc::{AllocError, Global};
+
+/// What the founder of a battle forces on a member.
+#[derive(Clone, Copy)]
+pub enum Force {
+    /// A handicap, 0 to 100 percent.
+    Handicap(u8),
+    /// A team, 0 to 15.
+    Team(u8),
+    /// An ally team, 0 to 15.
+    Ally(u8),
+    /// A colour, -2147483648 to 4294967295.
+    Colour(i64),
+    /// To watch, and not to play.
+    Spectator,
+}
+
+impl Force {
+    /// The status of a member on whom it is forced.
+    fn status(self, member: &Member) -> BattleStatus
+        requires { FitsForce self }
+        ensures { result ≡ forced_status self member.now.status }
+    {
+        let status = member.status();
+        match self {
+            Force::Handicap(percent) => status.with_handicap(percent),
+            Force::Team(number) => status.with_team(number),
+            Force::Ally(number) => status.with_ally(number),
+            Force::Colour(_) => status,
+            Force::Spectator => status.as_spectator(),
+        }
+    }
+
+    /// Its colour.
+    fn colour(self, member: &Member) -> i64
+        ensures { result ≡ forced_colour self member.now.colour }
+    {
+        match self {
+            Force::Colour(colour) => colour,
+            Force::Handicap(_) | Force::Team(_) | Force::Ally(_) | Force::Spectator => {
+                member.colour()
+            }
+        }
+    }
+}
+
+impl Maps {
+    /// `ADDBOT`: the user is in a battle; no bot has that name, and there is room for one more.
+    pub fn add_bot(
+        &self,
+        client: u64,
+        me: &NameBuf,
+        name: &WordBuf,
+        asked: u32,
+        colour: i64,
+        ai: &SentenceBuf,
+        post: &mut Post,
+    ) -> Result<Change, Stop>
+        ensures { Answers self.now client post.old post.new (add_bot self.now me.now (new_bot name.now me.now asked colour ai.now)) result }
+    {
+        let (number, battle) = self.own_battle(me)?;
+        free_bot_name(battle, name)?;
+        room_for_bot(battle)?;
+        let status = merge_battle(BattleStatus::zero(), asked);
+        let line = LentReply::AddBot(number, name, me, status.word(), colour, ai);
+        self.tell_room(&battle.room, line, post)?;
+        let name = WordBuf::copy_of(self.alloc, name.as_slice())?;
+        let ai = SentenceBuf::copy_of(self.alloc, ai.as_slice())?;
+        let bot = Bot::new(me.copy(), name, status, colour, ai);
+        Ok(in_room(number, RoomChange::AddBot { bot }))
+    }
+
+    /// `UPDATEBOT`: the user is in a battle; a bot has that name, and the user owns it or founded the
+    /// battle.
+    pub fn update_bot(
+        &self,
+        client: u64,
+        me: &NameBuf,
+        name: &WordBuf,
+        asked: u32,
+        colour: i64,
+        post: &mut Post,
+    ) -> Result<Change, Stop>
+        ensures { Answers self.now client post.old post.new (update_bot self.now me.now name.now asked colour) result }
+    {
+        let (number, battle) = self.own_battle(me)?;
+        let bot = bot_named(battle, name)?;
+        may_change(me, battle, bot)?;
+        let status = merge_battle(bot.status(), asked);
+        let line = LentReply::UpdateBot(number, name, status.word(), colour);
+        self.tell_room(&battle.room, line, post)?;
+        let name = WordBuf::copy_of(self.alloc, name.as_slice())?;
+        let change = RoomChange::BotStatus {
+            name,
+            status,
+            colour,
+        };
+        Ok(in_room(number, change))
+    }
+
+    /// `REMOVEBOT`: as `UPDATEBOT`.
+    pub fn remove_bot(
+        &self,
+        client: u64,
+        me: &NameBuf,
+        name: &WordBuf,
+        post: &mut Post,
+    ) -> Result<Change, Stop>
+        ensures { Answers self.now client post.old post.new (remove_bot self.now me.now name.now) result }
+    {
+        let (number, battle) = self.own_battle(me)?;
+        let bot = bot_named(battle, name)?;
+        may_change(me, battle, bot)?;
+        self.tell_room(&battle.room, LentReply::RemoveBot(number, name), post)?;
+        let name = WordBuf::copy_of(self.alloc, name.as_slice())?;
+        Ok(in_room(number, RoomChange::RemoveBot { name }))
+    }
+
+    /// `ADDSTARTRECT`: the user is in a battle, which it founded.
+    pub fn add_rect(
+        &self,
+        client: u64,
+        me: &NameBuf,
+        ally: u8,
+        rect: Rect,
+        post: &mut Post,
+    ) -> Result<Change, Stop>
+        requires { ally < 16 }
+        ensures { Answers self.now client post.old post.new (add_rect self.now me.now ally rect) result }
+    {
+        let (number, battle) = self.own_battle(me)?;
+        founded_by(battle, me)?;
+        let line = LentReply::AddStartRect(ally, rect.left, rect.top, rect.right, rect.bottom);
+        self.tell_room(&battle.room, line, post)?;
+        Ok(in_room(number, RoomChange::SetRect { ally, rect }))
+    }
+
+    /// `REMOVESTARTRECT`: the user is in a battle, which it founded.
+    pub fn remove_rect(
+        &self,
+        client: u64,
+        me: &NameBuf,
+        ally: u8,
+        post: &mut Post,
+    ) -> Result<Change, Stop>
+        requires { ally < 16 }
+        ensures { Answers self.now client post.old post.new (remove_rect self.now me.now ally) result }
+    {
+        let (number, battle) = self.own_battle(me)?;
+        founded_by(battle, me)?;
+        self.tell_room(&battle.room, LentReply::RemoveStartRect(ally), post)?;
+        Ok(in_room(number, RoomChange::RemoveRect { ally }))
+    }
+
+    /// `SETSCRIPTTAGS`: the user is in a battle, which it founded, and there is room for the tags.
+    pub fn set_script_tags(
+        &self,
+        client: u64,
+        me: &NameBuf,
+        pairs: &PairList,
+        post: &mut Post,
+    ) -> Result<Change, Stop>
+        ensures { Answers self.now client post.old post.new (set_script_tags self.now me.now pairs.now) result }
+    {
+        let (number, battle) = self.own_battle(me)?;
+        founded_by(battle, me)?;
+        room_for_tags(battle, pairs.as_slice())?;
+        self.tell_room(
+            &battle.room,
+            LentReply::SetScriptTags(pairs.as_slice()),
+            post,
+        )?;
+        let pairs = copy_pairs(self.alloc, pairs.as_slice())?;
+        Ok(in_room(number, RoomChange::SetTags { pairs }))
+    }
+
+    /// `REMOVESCRIPTTAGS`: the user is in a battle, which it founded. Keys that are not there are left
+    /// out.
+    pub fn remove_script_tags(
+        &self,
+        client: u64,
+        me: &NameBuf,
+        keys: &WordList,
+        post: &mut Post,
+    ) -> Result<Change, Stop>
+        ensures { Answers self.now client post.old post.new (remove_script_tags self.now me.now keys.now) result }
+    {
+        let (number, battle) = self.own_battle(me)?;
+        founded_by(battle, me)?;
+        self.tell_tags_gone(&battle.room, keys.as_slice(), post)?;
+        let keys = copy_words(self.alloc, keys.as_slice())?;
+        Ok(in_room(number, RoomChange::RemoveTags { keys }))
+    }
+
+    /// Tells the members of a battle which of these script tags go. They are told nothing where none
+    /// is there.
+    fn tell_tags_gone(
+        &self,
+        room: &Room,
+        keys: &[WordBuf],
+        post: &mut Post,
+    ) -> Result<(), AllocError>
+        ensures { OnOk result (Told self.now post.old post.new (tell (users (member_names room.now)) (removed_line (keys_there room.now.tags keys.now)) ∷ [])) }
+    {
+        let there = room.keys_there(self.alloc, keys)?;
+        let there = there.as_slice();
+        if !there.is_empty() {
+            self.tell_room(room, LentReply::RemoveScriptTags(there), post)?;
+        }
+        Ok(())
+    }
+
+    /// `HANDICAP` and the four `FORCE` commands: the user is in a battle, which it founded, and so is the
+    /// one on whom it is forced.
+    pub fn force(
+        &self,
+        client: u64,
+        me: &NameBuf,
+        name: &NameBuf,
+        force: Force,
+        post: &mut Post,
+    ) -> Result<Change, Stop>
+        requires { FitsForce force }
+        ensures { Answers self.now client post.old post.new (forced self.now me.now name.now force) result }
+    {
+        let (number, battle) = self.own_battle(me)?;
+        founded_by(battle, me)?;
+        let member = member_named(battle, name)?;
+        let status = force.status(member);
+        let colour = force.colour(member);
+        Ok(self.give_status(number, battle, name, status, colour, post)?)
+    }
+
+    /// `KICKFROMBATTLE`: the user is in a battle, which it founded, and so is the other one who leaves.
+    pub fn kick(
+        &self,
+        client: u64,
+        me: &NameBuf,
+        name: &NameBuf,
+        post: &mut Post,
+    ) -> Result<Change, Stop>
+        ensures { Answers self.now client post.old post.new (kick self.now me.now name.now) result }
+    {
+        let (number, battle) = self.own_battle(me)?;
+        founded_by(battle, me)?;
+        not_oneself(me, name)?;
+        member_named(battle, name)?;
+        self.tell_user(name, LentReply::ForceQuitBattle, post)?;
+        self.tell_leaving(name, number, battle, Leaving::Seen, post)?;
+        Ok(Change::InBattles(BattleChange::Leave {
+            number,
+            name: name.copy(),
+        }))
+    }
+
+    /// `RING`: the user is in a battle, which it founded, and so is the one who hears it.
+    pub fn ring(
+        &self,
+        client: u64,
+        me: &NameBuf,
+        name: &NameBuf,
+        post: &mut Post,
+    ) -> Result<Change, Stop>
+        ensures { Answers self.now client post.old post.new (ring self.now me.now name.now) result }
+    {
+        let (_, battle) = self.own_battle(me)?;
+        founded_by(battle, me)?;
+        member_named(battle, name)?;
+        self.tell_user(name, LentReply::Ring(me), post)?;
+        Ok(Change::Nothing)
+    }
+}
+
+/// Pairs as a list of their own.
+fn copy_pairs(alloc: Global, pairs: &[Pair]) -> Result<PairList, AllocError>
+    ensures { IfOk result (λ copies. copies ≡ pairs.now) }
+{
+    let mut copies = Vec::new(alloc);
+    for pair in pairs {
+        let key = KeyBuf::copy_of(alloc, pair.key.as_slice())?;
+        let value = SentenceBuf::copy_of(alloc, pair.value.as_slice())?;
+        copies.push(Pair { key, value })?;
+    }
+    Ok(PairList::new(copies))
+}
+
+/// Words as a list of their own.
+fn copy_words(alloc: Global, words: &[WordBuf]) -> Result<WordList, AllocError>
+    ensures { IfOk result (λ copies. copies ≡ words.now) }
+{
+    let mut copies = Vec::new(alloc);
+    for word in words {
+        copies.push(WordBuf::copy_of(alloc, word.as_slice())?)?;
+    }
+    Ok(WordList::new(copies))
+}
