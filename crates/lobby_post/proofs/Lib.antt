@@ -1,6 +1,5 @@
 pub mod Masks
-pub mod Crowds
-pub mod Places
+pub mod Slots
 pub mod Parcels
 pub mod Rounds
 pub mod Lines

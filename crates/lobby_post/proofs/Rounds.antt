@@ -1,12 +1,12 @@
 -- One round of the loops over the pieces.
-use Rattle.std.proofs.Common.{◌≡◌, ℕ, zero, suc, set, append-nil, ◌+◌, ◌-◌, ◌<◌, ◌≤◌, List, [], ◌∷◌, ◌++◌, length, take, drop, refl, sym, ap, subst, ◌∙◌, Bool, true, false, map, slice_index_or, drop-cons, add-one, arith, length-append}
+use Rattle.std.proofs.Common.{◌≡◌, ℕ, ◌+◌, ◌-◌, ◌<◌, ◌≤◌, List, [], ◌∷◌, ◌++◌, length, take, drop, refl, sym, ap, subst, ◌∙◌, Bool, true, false, map, slice_index_or, drop-cons, add-one, arith, length-append}
 use Rattle.std.specs.Prelude.{Some, None, ◌||◌, if◌then◌else◌}
 use Rattle.std.specs.Ordering.{nat_cmp}
 use Rattle.std.specs.List.{AllByRecursion}
 use Rattle.std.specs.List.Sorted.{IsStrictlySortedBy}
 use Rattle.std.specs.BTreeMap.{is_at}
 use Rattle.std.specs.Map.{lookup, set_value}
-use Rattle.std.proofs.Math.Seq.{take-suc, map-set_same}
+use Rattle.std.proofs.Math.Seq.{take-suc}
 use Rattle.std.proofs.lemmas.List.{map-append, drop_all, take_all, length-take-le, length-drop}
 use Rattle.std.proofs.lemmas.Map.Steps.{set_value_same}
 use Rattle.line_words.specs.Table.{ByNumber}
@@ -17,11 +17,11 @@ use Rattle.lobby_post.specs.Mask.{has_home}
 use Rattle.lobby_post.specs.declared.delivery.Piece.{Piece}
 use Rattle.lobby_post.specs.Pieces.{LiesIn, bytes_of, pieces_of}
 use Rattle.lobby_post.specs.Mail.{Held, plain, bytes_for, deliver, wakes_one, wakes_home, put_first, HaveLimit, AreDue, IsReady, AreReady}
-use Rattle.lobby_post.proofs.Crowds.{IsWritten, all_written, all_past}
+use Rattle.lobby_post.proofs.Slots.{IsWritten, all_written, all_past}
 use Rattle.lobby_post.proofs.Parcels.{other_piece, own_piece, more_due, deliver_step, deliver_past, deliver_nil, wakes_step, wakes_past, wakes_nil}
 
 abbrev pub blank : Piece
-blank = record { client = 0; place = 0; from = 0; to = 0 }
+blank = record { client = 0; from = 0; to = 0 }
 
 or_first : (a p b w : Bool) → (p || b) ≡ w → ((a || p) || b) ≡ (a || w)
 or_first true p b w e = refl
@@ -183,21 +183,3 @@ module _ (text : List ℕ) (pieces : List Piece) (i : ℕ) (past : length pieces
   pub wakes_end : (wakes home : ℕ) (m : ByNumber Client) → (has_home wakes home || wakes_home (pieces_of text (drop i pieces)) m home)
       ≡ has_home wakes home
   wakes_end wakes home m = or_none _ _ (ap (λ ps. wakes_home ps m home) none_left ∙ wakes_nil home m)
-
--- a piece with another place
-module _ (text : List ℕ) where
-  pub placed : (ps : List Piece) (i place : ℕ)
-      → pieces_of text (set ps i (record (slice_index_or ps i blank) { place = place })) ≡ pieces_of text ps
-  placed ps i place = map-set_same (λ p. (p.client, bytes_of text p)) ps i _ blank refl
-
-  pub placed_inside : (ps : List Piece) (i place : ℕ) → AllByRecursion (LiesIn text) ps
-      → AllByRecursion (LiesIn text) (set ps i (record (slice_index_or ps i blank) { place = place }))
-  placed_inside [] i place h = h
-  placed_inside (p ∷ ps) zero place h = h
-  placed_inside (p ∷ ps) (suc i) place h = (h.0, placed_inside ps i place h.1)
-
--- a vector written through a slice of all of it
-pub whole_written : (n : ℕ) (old new : List Piece) → length new ≡ length old → n ≡ length old → take n (new ++ drop (length new) old) ≡ new
-whole_written n old new same all =
-    ap (λ rest. take n (new ++ rest)) (drop_all (length new) old (omega (arith, same))) ∙ ap (take n) (append-nil new)
-    ∙ take_all n new (omega (arith, same, all))

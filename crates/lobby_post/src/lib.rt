@@ -11,7 +11,6 @@ mod clients;
 mod delivery;
 mod post;
 mod slot;
-mod slots;
 mod wakes;
 
 pub use clients::{Clients, Drained};

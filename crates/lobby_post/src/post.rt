@@ -12,7 +12,6 @@ ghost use Rattle.lobby_model.specs.Outcome.{tell, issuer};
 use crate::clients::Clients;
 use crate::delivery;
 use crate::delivery::Piece;
-use crate::slots::NOWHERE;
 use crate::wakes::Wakes;
 use reply_grammar::{LentReply, print_id, print_lent};
 use std::alloc::{AllocError, Global};
@@ -138,26 +137,13 @@ impl Post {
     pub fn address(&mut self, client: u64) -> Result<(), AllocError>
         ensures { OnOk result (self.new ≡ record self.old { sent = self.old.sent ++ copy_to self.old client ∷ [] }) }
     {
-        self.address_at(client, NOWHERE)
-    }
-
-    /// A client gets the lines that are told. It is looked for first at a place that `Clients::place_of`
-    /// gave: a wrong one costs a search, and no more.
-    pub fn address_at(&mut self, client: u64, place: usize) -> Result<(), AllocError>
-        ensures { OnOk result (self.new ≡ record self.old { sent = self.old.sent ++ copy_to self.old client ∷ [] }) }
-    {
         let from = if client == self.issuer {
             self.own
         } else {
             self.shared
         };
         let to = self.text.len();
-        self.pieces.push(Piece {
-            client,
-            place,
-            from,
-            to,
-        })?;
+        self.pieces.push(Piece { client, from, to })?;
         Ok(())
     }
 
@@ -168,14 +154,6 @@ impl Post {
         self.write(line)?;
         self.address_issuer()?;
         Ok(())
-    }
-
-    /// Notes the places of the clients that were told of without one, so that each is searched for once.
-    /// It serves where `make_room` and `deliver` follow.
-    pub fn locate(&mut self, clients: &Clients)
-        ensures { self.new ≡ self.old }
-    {
-        delivery::locate(&clients.slots, &mut self.pieces);
     }
 
     /// Makes room for all that is told, in each outbox that takes it: all of that is due then. No client

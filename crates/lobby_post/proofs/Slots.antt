@@ -1,19 +1,17 @@
 -- The slots of all clients, before and after one of them is written, inserted or removed.
 use Rattle.std.proofs.Common.{◌≡◌, ℕ, List, [], ◌∷◌, length, refl, sym, ap, subst, ◌∙◌, true, false, cond, map}
-use Rattle.std.specs.Prelude.{Some, None, is_some, IsSome}
+use Rattle.std.specs.Prelude.{Some, None, is_some}
 use Rattle.std.specs.declared.cmp.Ordering.TheVariants.{Less, Equal, Greater}
-use Rattle.std.specs.Cmp.{nat_cmp_total, eq_by_cmp_equiv}
-use Rattle.std.proofs.lemmas.Map.{lookup-set_value, lookup-remove_entry}
-use Rattle.std.proofs.lemmas.Map.Keys.{IsDistinct-from_sorted}
+use Rattle.std.specs.Cmp.{nat_cmp_total}
 use Rattle.std.specs.List.Sorted.{IsStrictlySortedBy}
 use Rattle.std.specs.Option.{option_map}
 use Rattle.std.specs.Ordering.{nat_cmp, match_ordering}
-use Rattle.std.specs.FinMap.Entries.{by_order, find-put}
+use Rattle.std.specs.FinMap.Entries.{by_order}
 use Rattle.std.specs.BTreeMap.{is_at, insert_entry}
 use Rattle.std.specs.Map.{lookup, set_value, remove_entry}
 use Rattle.line_words.specs.Table.{ByNumber, at_number, put_number, change_number, without_number, same_number}
 use Rattle.lobby_model.specs.State.{Client}
-use Rattle.line_words.proofs.Tables.{lookup_is_find, insert_is_put, map_values-without}
+use Rattle.line_words.proofs.Tables.{lookup_is_find, map_values-without}
 use Rattle.line_words.proofs.Written.{remove_is_without}
 use Rattle.lobby_model.proofs.Delivered.{same_number_is, same_itself, find-values}
 use Rattle.lobby_model.proofs.Splits.{same_either_way, at_of_lookup, at_of_none, keys-values, lookup-values, lookup-values-none, set_value-values}
@@ -23,24 +21,6 @@ use Rattle.line_words.proofs.Written.{set_is_change, none_is_change}
 -- What look-ups say of a map in which w was written at c
 abbrev pub IsWritten : (c : ℕ) (w : Held) → ByNumber Held → ByNumber Held → Type 0
 IsWritten c w es fs = (q : ℕ) → lookup (is_at (nat_cmp q)) fs ≡ cond (is_at (nat_cmp c) q) (Some w) (lookup (is_at (nat_cmp q)) es)
-
--- what a write, an insert and a removal make of look-ups
-pub written_through : (c : ℕ) (x w : Held) (es : ByNumber Held) → Some x ≡ lookup (is_at (nat_cmp c)) es → IsWritten c w es (set_value (is_at (nat_cmp c)) es w)
-written_through c x w es found = λ q.
-    lookup-set_value (eq_by_cmp_equiv nat_cmp_total) (is_at (nat_cmp c)) (λ a b t. ap (λ k. same_number k b) (same_number_is c a t)) q w es
-    (subst (λ o. IsSome o) found refl)
-
-pub written_in : (c : ℕ) (w : Held) (es fs : ByNumber Held) → fs ≡ insert_entry nat_cmp es c w → IsWritten c w es fs
-written_in c w es fs is = λ q.
-    ap (lookup (is_at (nat_cmp q))) (is ∙ insert_is_put nat_cmp es c w) ∙ lookup_is_find nat_cmp q _ ∙ find-put nat_cmp nat_cmp_total q c w es
-    ∙ (λ i. cond (same_either_way q c i) (Some w) (sym (lookup_is_find nat_cmp q es) i))
-
-pub removed_from : (c : ℕ) (es fs : ByNumber Held) → IsStrictlySortedBy nat_cmp (map (λ e. e.0) es) → fs ≡ remove_entry (is_at (nat_cmp c)) es
-    → (q : ℕ) → lookup (is_at (nat_cmp q)) fs ≡ cond (is_at (nat_cmp c) q) None (lookup (is_at (nat_cmp q)) es)
-removed_from c es fs rising is = λ q.
-    ap (lookup (is_at (nat_cmp q))) is
-    ∙ lookup-remove_entry (eq_by_cmp_equiv nat_cmp_total) (is_at (nat_cmp c)) (λ a b t. ap (λ k. same_number k b) (same_number_is c a t)) q es
-    (IsDistinct-from_sorted nat_cmp _ rising)
 
 module _ (P Q : ℕ → Held → Type 0) (c : ℕ) (others : (q : ℕ) (held : Held) → same_number q c ≡ false → P q held → Q q held) where
   pub all_written : (x w : Held) (es fs : ByNumber Held) → IsWritten c w es fs → Some x ≡ lookup (is_at (nat_cmp c)) es → (P c x → Q c w)
