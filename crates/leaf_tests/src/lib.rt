@@ -16,8 +16,6 @@ mod replies;
 #[cfg(test)]
 mod requests;
 #[cfg(test)]
-mod rooms;
-#[cfg(test)]
 mod settings;
 #[cfg(test)]
 mod status_words;
