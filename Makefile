@@ -1,7 +1,7 @@
 # The recipes of this repository, one line each.
 SCRIPT ?= examples/ping.play
 
-.PHONY: play hash build test check bench memory
+.PHONY: play hash view build test check bench memory
 
 play:
 	@tools/run.sh lobby_play < $(SCRIPT)
@@ -9,11 +9,14 @@ play:
 hash:
 	@tools/run.sh lobby_main hash
 
+view:
+	@tools/run.sh view_show
+
 build:
 	@tools/build.sh
 
 test:
-	rt ci && checks/rows.sh && checks/programs.sh && checks/links.py
+	rt ci && checks/rows.sh && checks/programs.sh && checks/links.py && checks/views.sh
 
 check:
 	@cd crates/$(or $(CRATE),$(error give a crate, as make check CRATE=line_words)) && rt check

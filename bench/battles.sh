@@ -1,6 +1,6 @@
 #!/usr/bin/env bash
 # What a status costs that is shown to the eight members of a battle, with 50 and with 500 battles among 5,000 users: medians
-# of 5 runs, in turn with a hand-written Rust program; and the login of one more user among 2,000, with 500 battles and with none.
+# of 5 runs, in turn with a hand-written Rust program; and the login of one more user among 2,000, with 250 battles and with none.
 # The first argument is the number of lines that the members of battles get in a run, 4,000,000.
 set -euo pipefail
 cd "$(dirname "$0")/.."
@@ -14,7 +14,7 @@ for _ in 1 2 3 4 5; do
         "$out/bench_lobby" clients=10000 users=5000 battles="$battles" statuses="$statuses" | sed "s/^/lobby $battles /"
         "$out/rooms" 10000 5000 "$battles" "$statuses" | sed "s/^/baseline $battles /"
     done
-    for battles in 0 500; do
+    for battles in 0 250; do
         "$out/bench_lobby" clients=10000 users=2000 battles="$battles" | sed "s/^/login $battles /"
     done
 done | awk '
@@ -43,11 +43,11 @@ done | awk '
         printf "%d | %d | %d | %.1f | %.1f\n", battles, lines["login", what], bytes["login", what], each * lines["login", what] / 1000, each
     }
     END {
-        if (failed || !(("lobby", "shown: 500") in count) || !(("login", "burst: 500") in count)) exit 1
+        if (failed || !(("lobby", "shown: 500") in count) || !(("login", "burst: 250") in count)) exit 1
         print "battles of 8 among 5,000 users | ns a line | baseline ns a line | lobby / baseline"
         row(50); row(500)
         printf "a line with 500 battles / with 50: lobby %.2f, baseline %.2f\n",
             median("lobby", "shown: 500") / median("lobby", "shown: 50"), median("baseline", "shown: 500") / median("baseline", "shown: 50")
         print "a login among 2,000 users, battles of 8 | lines | bytes | us | ns a line"
-        burst(0); burst(500)
+        burst(0); burst(250)
     }'

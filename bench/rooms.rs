@@ -3,15 +3,15 @@
 //!
 //! Each client has a buffer of its own in a map by number, each user its battle in a map by name, and each battle the
 //! clients and statuses of its members. An event looks its user up, its battle and its status there, formats one line, and
-//! appends it to the buffer of each member. Every 100 events the members of all battles read all.
+//! appends it to the buffer of each member. After the members of twelve battles have spoken in turn, these read all.
 
 use std::collections::BTreeMap;
 use std::io::Write;
 use std::time::Instant;
 
-const EVENTS_A_ROUND: u64 = 100;
 const STRIDE: u64 = 7_919;
 const MEMBERS: usize = 8;
+const MEMBERS_A_ROUND: usize = 12 * MEMBERS;
 
 #[derive(Default)]
 struct Client {
@@ -102,11 +102,18 @@ fn main() {
     let mut size = 0;
 
     let start = Instant::now();
-    for event in 0..statuses {
-        let status = if event / members.len() as u64 % 2 == 0 { 1026 } else { 1024 };
-        lobby.set_status(members[(event % members.len() as u64) as usize], status, 255);
-        if event % EVENTS_A_ROUND == EVENTS_A_ROUND - 1 || event == statuses - 1 {
-            size += members.iter().map(|client| lobby.read(*client, &mut piece)).sum::<usize>();
+    let mut left = statuses as usize;
+    for status in [1026, 1024].iter().cycle() {
+        for spoken in members.chunks(MEMBERS_A_ROUND) {
+            let count = left.min(spoken.len());
+            for client in &spoken[..count] {
+                lobby.set_status(*client, *status, 255);
+            }
+            size += spoken.iter().map(|client| lobby.read(*client, &mut piece)).sum::<usize>();
+            left -= count;
+        }
+        if left == 0 {
+            break;
         }
     }
     let picoseconds = start.elapsed().as_nanos() * 1000;

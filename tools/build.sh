@@ -1,9 +1,9 @@
 #!/usr/bin/env bash
-# Proves each crate that the programs stand on, lowest first, then proves and builds both programs, optimised, into bin/.
+# Proves each crate that the programs stand on, lowest first, then proves and builds the programs, optimised, into bin/.
 # What an earlier run proved is not proved again. What a crate's check says goes to bin/CRATE.log.
 set -euo pipefail
 cd "$(dirname "$0")/.."
-programs=(lobby_play lobby_main)
+programs=(lobby_play lobby_main view_show)
 mkdir -p bin
 # The programs get the time at which this began, so that a source edited meanwhile is newer than they.
 touch bin/begun
@@ -42,8 +42,9 @@ for crate in "${libraries[@]}"; do prove "$crate" rt lib; done
 # `rt run` builds the program, and then runs it on nothing.
 prove lobby_play rt run
 prove lobby_main rt run -- hash
+prove view_show rt run
 for program in "${programs[@]}"; do
     cp "crates/$program/out/$program" bin/
     touch -r bin/begun "bin/$program"
 done
-echo "bin/lobby_play and bin/lobby_main are built"
+echo "bin/lobby_play, bin/lobby_main and bin/view_show are built"

@@ -7,8 +7,8 @@ use Rattle.std.specs.Map.{lookup}
 use Rattle.indexmap.specs.IndexMap.{insert_entry}
 use Rattle.std.proofs.lemmas.Map.Keys.{IsDistinct-push}
 use Rattle.std.specs.Cmp.Lexicographic.{nat_list_eq_equiv}
-use Rattle.account_book.specs.Account.{Account}
-use Rattle.account_book.specs.Book.{account_of, HasDistinctNames}
+use Rattle.account_book.specs.Account.{Account, IsHeld}
+use Rattle.account_book.specs.Book.{account_of, HasDistinctNames, IsEntry}
 
 abbrev pub Entry : Type 0
 Entry = Vec ℕ Global × Account
@@ -17,9 +17,13 @@ Entry = Vec ℕ Global × Account
 abbrev pub accounts_in : List Entry → List Account
 accounts_in entries = map (λ (entry : Entry). entry.1) entries
 
--- each key is the name of its account
-abbrev pub NamesAreKeys : List Entry → Type 0
-NamesAreKeys entries = AllByRecursion (λ (entry : Entry). entry.0.items ≡ entry.1.name) entries
+-- each is an entry of a book
+abbrev pub AreEntries : List Entry → Type 0
+AreEntries entries = AllByRecursion (λ (entry : Entry). IsEntry entry.0.items entry.1) entries
+
+pub all_held : (entries : List Entry) → AreEntries entries → AllByRecursion IsHeld (accounts_in entries)
+all_held [] each = tt
+all_held (e ∷ es) each = (each.0.held, all_held es each.1)
 
 -- a test for one name
 abbrev pub TestsFor : (Vec ℕ Global → Bool) → List ℕ → Type 0
@@ -27,18 +31,18 @@ TestsFor test name = (key : Vec ℕ Global) → test key ≡ bytes_eq name key.i
 
 -- the index finds the account of a name
 pub lookup-account_of : (test : Vec ℕ Global → Bool) (name : List ℕ) → TestsFor test name
-    → (entries : List Entry) → NamesAreKeys entries
+    → (entries : List Entry) → AreEntries entries
     → lookup test entries ≡ account_of name (accounts_in entries)
 lookup-account_of test name same [] keys = refl
 lookup-account_of test name same (e ∷ es) keys =
-    let here : test e.0 ≡ bytes_eq name e.1.name = same e.0 ∙ ap (bytes_eq name) keys.0 in
+    let here : test e.0 ≡ bytes_eq name e.1.name = same e.0 ∙ ap (bytes_eq name) keys.0.named in
     let rest = lookup-account_of test name same es keys.1 in
     grind (arith, here, rest)
 
-pub NamesAreKeys-push : (entries : List Entry) (e : Entry) → NamesAreKeys entries
-    → e.0.items ≡ e.1.name → NamesAreKeys (entries ++ e ∷ [])
-NamesAreKeys-push [] e keys is = (is, tt)
-NamesAreKeys-push (x ∷ xs) e keys is = (keys.0, NamesAreKeys-push xs e keys.1 is)
+pub AreEntries-push : (entries : List Entry) (e : Entry) → AreEntries entries
+    → IsEntry e.0.items e.1 → AreEntries (entries ++ e ∷ [])
+AreEntries-push [] e keys is = (is, tt)
+AreEntries-push (x ∷ xs) e keys is = (keys.0, AreEntries-push xs e keys.1 is)
 
 -- a name that finds no account is none of their names
 no_name : (name : List ℕ) (accounts : List Account) → account_of name accounts ≡ None
@@ -62,7 +66,7 @@ HasDistinctNames-push accounts account distinct none =
 
 -- what the invariant of a book says
 abbrev pub IsIndex : List Entry → Type 0
-IsIndex entries = NamesAreKeys entries × HasDistinctNames (accounts_in entries)
+IsIndex entries = AreEntries entries × HasDistinctNames (accounts_in entries)
 
 -- what is not there is nothing
 pub none_from_is_some : {X : Type 0} (found : Option X) → is_some found ≡ false → found ≡ None
@@ -72,21 +76,21 @@ none_from_is_some (Some x) nowhere = cc
 -- a new name goes last
 pub insert_entry-push : (eq : Vec ℕ Global → Vec ℕ Global
     → Bool) (key : Vec ℕ Global) (name : List ℕ) → TestsFor (eq key) name
-    → (account : Account) (entries : List Entry) → NamesAreKeys entries
+    → (account : Account) (entries : List Entry) → AreEntries entries
     → account_of name (accounts_in entries) ≡ None
     → insert_entry eq entries key account ≡ entries ++ (key, account) ∷ []
 insert_entry-push eq key name same account [] keys none = refl
 insert_entry-push eq key name same account (e ∷ es) keys none =
-    let here : eq key e.0 ≡ bytes_eq name e.1.name = same e.0 ∙ ap (bytes_eq name) keys.0 in
+    let here : eq key e.0 ≡ bytes_eq name e.1.name = same e.0 ∙ ap (bytes_eq name) keys.0.named in
     let rest = insert_entry-push eq key name same account es keys.1 in
     grind (arith, here, rest, none)
 
 -- the index with one more entry
 pub IsIndex-push : (old new : List Entry) (e : Entry) → new ≡ old ++ e ∷ [] → IsIndex old
-    → e.0.items ≡ e.1.name → account_of e.1.name (accounts_in old) ≡ None → IsIndex new
-IsIndex-push old new e grown index key none =
+    → IsEntry e.0.items e.1 → account_of e.1.name (accounts_in old) ≡ None → IsIndex new
+IsIndex-push old new e grown index its none =
     subst IsIndex (sym grown) (
-      NamesAreKeys-push old e index.0 key,
+      AreEntries-push old e index.0 its,
       subst HasDistinctNames (sym (map-append (λ
           (entry : Entry). entry.1) old (e ∷ []))) (HasDistinctNames-push
           (accounts_in old) e.1 index.1 none),

@@ -1,5 +1,5 @@
 -- What contracts see of an account, and which accounts there can be.
-use Rattle.std.specs.Prelude.{ℕ, Bool, false, ◌&&◌, ◌||◌, ◌==◌, nat_le, codes, List, length, Result, Ok, Err}
+use Rattle.std.specs.Prelude.{ℕ, ◌≤◌, Bool, false, IsTrue, ◌&&◌, ◌||◌, ◌==◌, nat_le, codes, List, length, Result, Ok, Err}
 use Rattle.std.specs.Char.{is_ascii_uppercase}
 use Rattle.std.specs.List.{list_all}
 use Rattle.std.specs.Str.{bytes_eq}
@@ -38,6 +38,10 @@ abbrev pub is_sound : Account → Bool
 is_sound account =
     is_name account.name && is_password_word account.password && nat_le account.rank 7
     && is_country account.country
+
+-- What every account keeps: each field its rule, and a number of 32 bits
+abbrev pub IsHeld : Account → Type 0
+IsHeld account = IsTrue (is_sound account) × (account.id ≤ 4294967295)
 
 -- The account of these fields
 abbrev pub stated : List ℕ → List ℕ → ℕ → ℕ → Bool → Bool → List ℕ → Account

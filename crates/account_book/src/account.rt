@@ -2,7 +2,7 @@
 
 ghost use Rattle.std.specs.Prelude.{◌≡◌, ◌≢◌, ◌↔◌, ◌<◌, true, false, IfOk, IfErr};
 ghost use Rattle.line_words.specs.Bytes.{is_name};
-ghost use Rattle.account_book.specs.Account.{is_password_word, is_country, is_sound, stated};
+ghost use Rattle.account_book.specs.Account.{IsHeld, is_password_word, is_country, is_sound, stated};
 
 use crate::error::AccountsError;
 use base64::engine::general_purpose::STANDARD;
@@ -84,6 +84,14 @@ impl Account {
             bot,
             country: letters,
         })
+    }
+
+    /// What every account keeps: each field its rule, and a number of 32 bits. Does nothing.
+    pub fn keeps_its_rules(&self)
+        ensures { IsHeld self.now }
+    {
+        let _ = &self.name;
+        let _number = self.id;
     }
 
     /// The name under which its owner logs in.

@@ -1,6 +1,8 @@
 //! The accounts of a lobby by their names.
 
 ghost use Rattle.std.specs.Prelude.{◌≡◌, ◌≢◌, ◌↔◌, ◌++◌, [], ◌∷◌, length, IsTrue, IsSome, option_copied, OnOk, OnErr, IfErr, Result, Ok, Err};
+ghost use Rattle.std.specs.List.{AllByRecursion};
+ghost use Rattle.account_book.specs.Account.{IsHeld};
 ghost use Rattle.account_book.specs.Book.{account_of, login, seen, HasDistinctNames};
 
 use crate::account::Account;
@@ -19,17 +21,17 @@ pub struct AccountBook {
 }
 
 impl Model for AccountBook {
-    ghost use Rattle.std.specs.Prelude.{List, map, ◌≡◌};
+    ghost use Rattle.std.specs.Prelude.{List, map};
     ghost use Rattle.std.specs.List.{AllByRecursion};
     ghost use Rattle.account_book.specs.Account.{Account as Seen};
-    ghost use Rattle.account_book.specs.Book.{HasDistinctNames};
+    ghost use Rattle.account_book.specs.Book.{HasDistinctNames, IsEntry};
 
     ghost Value = { List Seen };
 
     ghost view = { λ b. map (λ entry. entry.1) b.accounts.entries };
 
     ghost invariant = { λ b.
-        AllByRecursion (λ entry. entry.0.items ≡ entry.1.name) b.accounts.entries
+        AllByRecursion (λ entry. IsEntry entry.0.items entry.1) b.accounts.entries
         × HasDistinctNames (map (λ entry. entry.1) b.accounts.entries) };
 }
 
@@ -42,6 +44,15 @@ impl AccountBook {
             alloc,
             accounts: IndexMap::new(alloc),
         }
+    }
+
+    /// What every book keeps: each of its accounts keeps the rules of its fields and has a number of
+    /// 32 bits, and no two have one name. Does nothing.
+    pub fn keeps_its_rules(&self)
+        ensures accounts { AllByRecursion IsHeld self.now }
+        ensures names { HasDistinctNames self.now }
+    {
+        let _ = &self.accounts;
     }
 
     /// How many accounts there are. No two of them have one name.
@@ -81,6 +92,7 @@ impl AccountBook {
         if self.get(account.name()).is_some() {
             return Err(AccountsError::DuplicateName);
         }
+        account.keeps_its_rules();
         let Ok(name) = Vec::from_slice(self.alloc, account.name()) else {
             return Err(AccountsError::Memory);
         };

@@ -12,9 +12,13 @@ use std::alloc::{AllocError, Global};
 use std::marker::Model;
 
 /// A member of a room, with the status and the colour that it shows.
+///
+/// It keeps the mark with which it joined: a number that is the caller's own, which the room does not
+/// read, and of which no contract speaks. It is for what a caller may look up, and checks.
 #[derive(Drop)]
 pub struct Member {
     name: NameBuf,
+    mark: usize,
     status: BattleStatus,
     colour: i64,
 }
@@ -29,11 +33,12 @@ impl Model for Member {
 
 impl Member {
     /// One who has just joined.
-    fn new(name: NameBuf) -> Member
+    fn new(name: NameBuf, mark: usize) -> Member
         ensures { result ≡ room.new_member name }
     {
         Member {
             name,
+            mark,
             status: BattleStatus::zero(),
             colour: 0,
         }
@@ -44,6 +49,11 @@ impl Member {
         ensures { result.now ≡ self.now.name }
     {
         &self.name
+    }
+
+    /// The mark with which the member joined.
+    pub fn mark(&self) -> usize {
+        self.mark
     }
 
     /// The status that the member shows.
@@ -92,11 +102,11 @@ impl Model for Members {
 
 impl Members {
     /// The founder alone.
-    pub(crate) fn one(alloc: Global, founder: NameBuf) -> Result<Members, AllocError>
+    pub(crate) fn one(alloc: Global, founder: NameBuf, mark: usize) -> Result<Members, AllocError>
         ensures { IfOk result (λ members. members ≡ room.new_member founder ∷ []) }
     {
         let mut members = Vec::new(alloc);
-        members.push(Member::new(founder))?;
+        members.push(Member::new(founder, mark))?;
         Ok(Members { members })
     }
 
@@ -143,12 +153,12 @@ impl Members {
     }
 
     /// One more, who is not among them. Where memory is refused, nothing changes.
-    pub(crate) fn add(&mut self, name: NameBuf) -> Result<(), AllocError>
+    pub(crate) fn add(&mut self, name: NameBuf, mark: usize) -> Result<(), AllocError>
         requires { is_among name (map (λ m. m.name) self.old) ≡ false }
         ensures ok { OnOk result (self.new ≡ self.old ++ room.new_member name ∷ []) }
         ensures err { OnErr result (self.new ≡ self.old) }
     {
-        self.members.push(Member::new(name))?;
+        self.members.push(Member::new(name, mark))?;
         Ok(())
     }
 

@@ -38,13 +38,13 @@ impl Model for Room {
 }
 
 impl Room {
-    /// A room with its founder alone, without bots, rectangles and tags.
-    pub fn new(alloc: Global, founder: NameBuf) -> Result<Room, AllocError>
+    /// A room with its founder alone, who has this mark, without bots, rectangles and tags.
+    pub fn new(alloc: Global, founder: NameBuf, mark: usize) -> Result<Room, AllocError>
         ensures { IfOk result (λ r. r ≡ room.new_room founder) }
     {
         Ok(Room {
             alloc,
-            members: Members::one(alloc, founder)?,
+            members: Members::one(alloc, founder, mark)?,
             bots: Bots::new(alloc),
             rects: Rects::new(),
             tags: Tags::new(alloc),
@@ -151,13 +151,14 @@ impl Room {
         self.tags.keys_there(alloc, keys)
     }
 
-    /// One who is no member joins, behind the others. Where memory is refused, nothing changes.
-    pub fn add_member(&mut self, name: NameBuf) -> Result<(), AllocError>
+    /// One who is no member joins under a mark, behind the others. Where memory is refused, nothing
+    /// changes.
+    pub fn add_member(&mut self, name: NameBuf, mark: usize) -> Result<(), AllocError>
         requires { room.has_member name self.old ≡ false }
         ensures ok { OnOk result (self.new ≡ room.with_member name self.old) }
         ensures err { OnErr result (self.new ≡ self.old) }
     {
-        self.members.add(name)
+        self.members.add(name, mark)
     }
 
     /// One who may be a member goes, with all its bots.

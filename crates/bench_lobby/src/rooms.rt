@@ -1,15 +1,19 @@
 //! Battles of eight members: what is shown in each, and a login into all of them.
 
-use super::{Bench, login, report, requests, serve};
+use super::{Bench, Reader, login, report, requests, serve};
 use crate::asked::Asked;
 use anyhow::Result;
 use lobby_machine::Lobby;
 use std::alloc::{AllocError, Global};
 use std::rt::Clock;
+use std::slice;
 use std::time::Instant;
 
 /// How many users are in a battle.
 const MEMBERS: usize = 8;
+
+/// How many users in battles speak before they read: those of twelve battles.
+const MEMBERS_A_ROUND: usize = 96;
 
 /// The first users open and join so many battles, eight in each, and set their statuses in them so often
 /// in turn, which the members read.
@@ -77,7 +81,7 @@ fn time_turns<R: Clock + Print + AllocGlobal>(
     let count = (battles as usize).min(bench.users.len() / MEMBERS) * MEMBERS;
     let members = &bench.users[..count];
     let start = Instant::now(rt)?;
-    let size = serve(
+    let size = speak(
         &mut bench.lobby,
         members,
         asked,
@@ -91,6 +95,30 @@ fn time_turns<R: Clock + Print + AllocGlobal>(
         statuses.saturating_mul(MEMBERS as u64)
     };
     report(rt, "shown", lines, size, is_timed.then_some(taken))
+}
+
+/// Members of battles send requests in turn, each the first and then each the next. Those of twelve battles
+/// read what comes of theirs before the next speak. Gives the size of that.
+fn speak(
+    lobby: &mut Lobby,
+    members: &[u64],
+    asked: &[Asked],
+    events: u64,
+    reader: &mut Reader,
+) -> Result<u64, AllocError> {
+    let (mut size, mut left) = (0u64, events);
+    for turn in 0..events as usize {
+        if left == 0 || asked.is_empty() {
+            break;
+        }
+        let request = slice::from_ref(&asked[turn % asked.len()]);
+        for spoken in members.chunks(MEMBERS_A_ROUND) {
+            let count = left.min(spoken.len() as u64);
+            size = size.wrapping_add(serve(lobby, spoken, request, count, reader)?);
+            left = left.wrapping_sub(count);
+        }
+    }
+    Ok(size)
 }
 
 /// One more user logs in, where there is a client for it, and reads who and what is there.

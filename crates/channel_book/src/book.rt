@@ -19,6 +19,9 @@ use std::marker::Model;
 
 /// The channels of a lobby by their names, and in each the names of its members in order of
 /// joining. A channel is there while somebody is in it.
+///
+/// Beside each name the book keeps a mark, a number that the caller gave with it. The book does not
+/// read it, and its contracts say nothing of it: it is for what a caller may look up, and checks.
 #[derive(Drop)]
 pub struct ChannelBook {
     alloc: Global,
@@ -50,7 +53,7 @@ impl ChannelBook {
     /// A user joins a channel, behind those who are in it. The first who joins makes the channel.
     ///
     /// `AlreadyIn` where the user is in it, else `Memory` where there is none for one name more.
-    /// The names of a refused call are let go, and the book stays as it was.
+    /// The names of a refused call are let go, and the book stays as it was. The user's mark is 0.
     pub fn join(&mut self, channel: NameBuf, user: NameBuf) -> Result<(), ChannelError>
         ensures ok { OnOk result (self.new ≡ joined channel user self.old) }
         ensures already { (result ≡ Err ChannelError.AlreadyIn) ↔ IsTrue (is_among user (names_in self.old channel)) }
@@ -60,23 +63,28 @@ impl ChannelBook {
         if self.has_member(&channel, &user) {
             return Err(ChannelError::AlreadyIn);
         }
-        match self.add_member(channel, user) {
+        match self.add_member(channel, user, 0) {
             Ok(()) => Ok(()),
             Err(AllocError) => Err(ChannelError::Memory),
         }
     }
 
-    /// A user who is not in a channel joins it. Where memory is refused, nothing changes.
-    pub fn add_member(&mut self, channel: NameBuf, user: NameBuf) -> Result<(), AllocError>
+    /// A user who is not in a channel joins it under a mark. Where memory is refused, nothing changes.
+    pub fn add_member(
+        &mut self,
+        channel: NameBuf,
+        user: NameBuf,
+        mark: usize,
+    ) -> Result<(), AllocError>
         requires { is_among user (names_in self.old channel) ≡ false }
         ensures ok { OnOk result (self.new ≡ joined channel user self.old) }
         ensures err { OnErr result (self.new ≡ self.old) }
     {
         if let Some(members) = self.channels.get_mut(&channel) {
-            members.add(user)?;
+            members.add(user, mark)?;
             return Ok(());
         }
-        let members = Members::one(self.alloc, user)?;
+        let members = Members::one(self.alloc, user, mark)?;
         self.channels.insert(channel, members)?;
         Ok(())
     }
@@ -122,6 +130,14 @@ impl ChannelBook {
     {
         match self.channels.get(channel) {
             Some(members) => members.as_slice(),
+            None => &[],
+        }
+    }
+
+    /// The marks of the members of a channel, in the same order.
+    pub fn marks_in(&self, channel: &NameBuf) -> &[usize] {
+        match self.channels.get(channel) {
+            Some(members) => members.marks(),
             None => &[],
         }
     }

@@ -9,10 +9,12 @@ use line_words::NameBuf;
 use std::alloc::{AllocError, Global};
 use std::marker::Model;
 
-/// The names of those who are in a channel, in order of joining, none of them twice.
+/// The names of those who are in a channel, in order of joining, none of them twice; beside each the
+/// mark with which it joined, a number that is the caller's own.
 #[derive(Drop)]
 pub struct Members {
     names: Vec<NameBuf>,
+    marks: Vec<usize>,
 }
 
 impl Model for Members {
@@ -43,6 +45,11 @@ impl Members {
         self.names.as_slice()
     }
 
+    /// The marks of the members, in the same order.
+    pub fn marks(&self) -> &[usize] {
+        self.marks.as_slice()
+    }
+
     /// Whether a user is one of them.
     pub fn has_member(&self, user: &NameBuf) -> bool
         ensures { result ≡ is_among user.now self.now }
@@ -51,21 +58,25 @@ impl Members {
     }
 
     /// One alone.
-    pub(crate) fn one(alloc: Global, name: NameBuf) -> Result<Members, AllocError>
+    pub(crate) fn one(alloc: Global, name: NameBuf, mark: usize) -> Result<Members, AllocError>
         ensures { IfOk result (λ members. members ≡ name ∷ []) }
     {
         let mut names = Vec::new(alloc);
         names.push(name)?;
-        Ok(Members { names })
+        let mut marks = Vec::new(alloc);
+        marks.push(mark)?;
+        Ok(Members { names, marks })
     }
 
     /// One more, who is not among them. Where memory is refused, nothing changes.
-    pub(crate) fn add(&mut self, name: NameBuf) -> Result<(), AllocError>
+    pub(crate) fn add(&mut self, name: NameBuf, mark: usize) -> Result<(), AllocError>
         requires { is_among name self.old ≡ false }
         ensures ok { OnOk result (self.new ≡ self.old ++ name ∷ []) }
         ensures err { OnErr result (self.new ≡ self.old) }
     {
+        self.marks.reserve(1)?;
         self.names.push(name)?;
+        self.marks.push_reserved(mark);
         Ok(())
     }
 
@@ -74,7 +85,17 @@ impl Members {
         ensures names { self.new ≡ all_but name.now self.old }
         ensures rest { result ≡ has_names (all_but name.now self.old) }
     {
+        remove_mark(&self.names, &mut self.marks, name);
         self.names.retain(|other| !name.cmp(other).is_eq());
         !self.names.is_empty()
+    }
+}
+
+/// Removes the mark that stands where a name does.
+fn remove_mark(names: &[NameBuf], marks: &mut Vec<usize>, name: &NameBuf) {
+    if let Some(at) = names.iter().position(|other| name.cmp(other).is_eq())
+        && at < marks.len()
+    {
+        let _ = marks.remove(at);
     }
 }

@@ -16,6 +16,8 @@ mod replies;
 #[cfg(test)]
 mod requests;
 #[cfg(test)]
+mod rooms;
+#[cfg(test)]
 mod settings;
 #[cfg(test)]
 mod status_words;

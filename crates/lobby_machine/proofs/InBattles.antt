@@ -1,5 +1,5 @@
 -- What is told and done as users open, join and leave battles.
-use Rattle.std.proofs.Common.{◌≡◌, ◌==◌, ℕ, ℤ, ◌+◌, ◌^◌, ◌<◌, ◌≤◌, suc, List, [], ◌∷◌, ◌++◌, length, take, map, filter, refl, sym, ap, subst, ◌∙◌, Bool, true, false, slice_index_or, add-one, append-nil, arith}
+use Rattle.std.proofs.Common.{◌≡◌, ◌==◌, ℕ, ℤ, ◌+◌, ◌^◌, ◌<◌, ◌≤◌, suc, List, [], ◌∷◌, ◌++◌, length, take, map, filter, refl, sym, ap, subst, ◌∙◌, Bool, true, false, slice_index_or, add-one, append-nil, arith, append_assoc}
 use Rattle.std.specs.Prelude.{Option, Some, None, is_some, find, not, ◌||◌, ◌&&◌, if◌then◌else◌, Result, Ok, Err, OnOk, decimal, nat_le}
 use Rattle.std.specs.Ordering.{nat_cmp, eq_by_cmp}
 use Rattle.std.proofs.lemmas.List.{map-append}
@@ -284,6 +284,15 @@ one_more n = grind (arith)
 long : (xs ys : List ℕ) → nat_le 1 (length (xs ++ 46 ∷ ys)) ≡ true
 long [] ys = one_more (length ys)
 long (x ∷ xs) ys = one_more (length (xs ++ 46 ∷ ys))
+
+-- and they are put one behind another
+pub dots_put : (a b c d : ℕ) (none one two three four : List ℕ) → none ≡ [] → one ≡ none ++ decimal a → two ≡ one ++ 46 ∷ decimal b
+    → three ≡ two ++ 46 ∷ decimal c → four ≡ three ++ 46 ∷ decimal d → four ≡ ip_text (a ∷ b ∷ c ∷ d ∷ [])
+dots_put a b c d none one two three four begun first second third fourth =
+    fourth
+    ∙ ap (λ t. t ++ 46 ∷ decimal d) (third ∙ ap (λ t. t ++ 46 ∷ decimal c) (second ∙ ap (λ t. t ++ 46 ∷ decimal b) (first ∙ ap (λ t. t ++ decimal a) begun)))
+    ∙ append_assoc (decimal a ++ 46 ∷ decimal b) (46 ∷ decimal c) (46 ∷ decimal d)
+    ∙ append_assoc (decimal a) (46 ∷ decimal b) (46 ∷ decimal c ++ 46 ∷ decimal d)
 
 pub dotted_is_word : (a b c d : ℕ) → a < 2 ^ 8 → b < 2 ^ 8 → c < 2 ^ 8 → d < 2 ^ 8 → is_word (ip_text (a ∷ b ∷ c ∷ d ∷ [])) ≡ true
 dotted_is_word a b c d small_a small_b small_c small_d =

@@ -5,17 +5,15 @@ use Rattle.std.specs.List.{AllByRecursion, IsDistinct}
 use Rattle.std.specs.List.Sorted.{IsStrictlySortedBy}
 use Rattle.std.specs.Ordering.{nat_cmp, is_eq}
 use Rattle.std.specs.declared.cmp.Ordering.TheVariants.{Less}
-use Rattle.std.specs.BTreeMap.{is_at}
-use Rattle.std.specs.Map.{lookup}
 use Rattle.std.proofs.lemmas.List.{map-append}
 use Rattle.std.proofs.lemmas.Grind.{flat_map-append}
 use Rattle.std.proofs.Math.Seq.{take-suc}
-use Rattle.line_words.specs.Table.{ByName, ByNumber, at_name, name_cmp, same_name, same_number, is_among}
-use Rattle.line_words.proofs.Tables.{lookup_is_find, same_name_is}
+use Rattle.line_words.specs.Table.{ByName, ByNumber, at_name, same_name, same_number, is_among}
+use Rattle.line_words.proofs.Tables.{same_name_is}
 use Rattle.line_words.proofs.Once.{same_name_equiv}
 use Rattle.lobby_model.specs.State.{State, Client, name_at}
 use Rattle.lobby_model.specs.Outcome.{is_named, everyone, user, users}
-use Rattle.lobby_model.proofs.Delivered.{same_itself}
+use Rattle.lobby_model.proofs.Delivered.{same_itself, same_number_is}
 use Rattle.lobby_post.specs.Posted.{Posted, copy_to, addressed, has_number, AreApart, Reaches}
 use Rattle.lobby_machine.specs.declared.seats.Seat.{Seat}
 use Rattle.lobby_machine.specs.Seats.{client_in, clients_of, Agree, IsListed}
@@ -60,18 +58,11 @@ module _ (seats : ByName Seat) where
         let t : take (i + 1) names ≡ take i names ++ (name ∷ []) = rw add-one (take-suc names i default within) in
         ap (clients_of seats) t ∙ clients-next (take i names) name
 
-    pub name_addressed : (new : Posted) (seat : Seat)
-        → Some seat ≡ lookup (is_at (name_cmp name)) seats → new ≡ record mid { sent = mid.sent ++ copy_to mid seat.client ∷ [] }
+    pub name_addressed : (new : Posted) → new ≡ addressed mid (client_in (at_name seats name))
         → new ≡ addressed post (clients_of seats (take (i + 1) names))
-    name_addressed new seat found is =
-        addressed_next post mid new _ seat.client before is
-        ∙ ap (addressed post)
-        (ap (λ o. clients_of seats (take i names) ++ client_in o) (found ∙ lookup_is_find name_cmp name seats) ∙ sym taken)
-
-    pub name_past : None ≡ lookup (is_at (name_cmp name)) seats → mid ≡ addressed post (clients_of seats (take (i + 1) names))
-    name_past none =
-        before ∙ ap (addressed post) (sym (append-nil _)
-        ∙ ap (λ o. clients_of seats (take i names) ++ client_in o) (none ∙ lookup_is_find name_cmp name seats) ∙ sym taken)
+    name_addressed new is =
+        is ∙ ap (λ p. addressed p (client_in (at_name seats name))) before ∙ addressed_more post (clients_of seats (take i names)) (client_in (at_name seats name))
+        ∙ ap (addressed post) (sym taken)
 
 any-append : (c : ℕ) (xs ys : List ℕ) → has_number (xs ++ ys) c ≡ (has_number xs c || has_number ys c)
 any-append c [] ys = refl
@@ -92,6 +83,17 @@ module _ (clients : ByNumber Client) (seats : ByName Seat) (agree : Agree client
   seated : (name : List ℕ) (seat : Seat) → at_name seats name ≡ Some seat → name_at clients seat.client ≡ Some name
   seated name seat e = named_so name _ (sym (agree name seat.client)
       ∙ ap (λ o. has_number (client_in o) seat.client) e ∙ ap (λ b. b || false) (same_itself seat.client))
+
+  -- the client that is logged in under a name is the one of its seat
+  pub sole_client : (name : List ℕ) (c : ℕ) → name_at clients c ≡ Some name → client_in (at_name seats name) ≡ c ∷ []
+  sole_client name c named =
+      elim (at_name seats name) as (λ o. has_number (client_in o) c ≡ true → client_in o ≡ c ∷ []) [
+        | None ↦ λ none. absurd (cc)
+        | Some seat ↦ λ has. ap (λ d. d ∷ []) (sym (same_number_is c seat.client (elim (same_number c seat.client) as (λ b. (b || false) ≡ true → b ≡ true) [
+          | true ↦ λ t. refl
+          | false ↦ λ t. t
+        ] has)))
+      ] (agree name c ∙ ap (is_named (same_name name)) named ∙ same_name_equiv.refl name)
 
   named_exact : (names : List (List ℕ)) (d : ℕ) → has_number (clients_of seats names) d ≡ is_named (λ n. is_among n names) (name_at clients d)
   named_exact [] d = elim (name_at clients d) as (λ o. false ≡ is_named (λ n. is_among n []) o) [ None ↦ refl | Some n ↦ refl ]

@@ -3,7 +3,7 @@ pub mod Battles
 pub mod Seats
 pub mod Parts
 pub mod Shown
-pub mod Tables
+pub mod Subjects
 pub mod Talk
 pub mod Changes
 pub mod Answers

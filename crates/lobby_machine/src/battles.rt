@@ -153,7 +153,7 @@ impl Battles {
             }
             BattleChange::Join { number, name } => {
                 if let Some(battle) = self.by_number.get_mut(&number) {
-                    battle.add_member(name.copy())?;
+                    battle.add_member(name.copy(), seats.place_of(&name))?;
                     seats.enter_battle(&name, number);
                 }
             }
@@ -194,13 +194,14 @@ impl Battles {
 }
 
 impl Battle {
-    /// One who is no member enters, behind the others. Where memory is refused, nothing changes.
-    fn add_member(&mut self, name: NameBuf) -> Result<(), AllocError>
+    /// One who is no member enters, behind the others, under a mark. Where memory is refused, nothing
+    /// changes.
+    fn add_member(&mut self, name: NameBuf, mark: usize) -> Result<(), AllocError>
         requires { has_member name self.old.room ≡ false }
         ensures ok { OnOk result (self.new ≡ room_changed (with_member name) self.old) }
         ensures err { OnErr result (self.new ≡ self.old) }
     {
-        self.room.add_member(name)
+        self.room.add_member(name, mark)
     }
 
     /// What its members share changes. Where memory is refused, nothing does.

@@ -85,7 +85,10 @@ pub fn apply(
             seats.add(name.copy(), seat)?;
             clients.log_in(client, name);
         }
-        Change::Join { channel, name } => channels.add_member(channel, name)?,
+        Change::Join { channel, name } => {
+            let place = seats.place_of(&name);
+            channels.add_member(channel, name, place)?;
+        }
         Change::Leave { channel, name } => channels.remove_member(&channel, &name),
         Change::InBattles(change) => battles.apply(seats, client, change)?,
         Change::LogOut {

@@ -172,7 +172,7 @@ impl Maps {
         ensures { OnOk result (Told self.now post.old post.new (tell everyone (reply_of line.entry ∷ []) ∷ [])) }
     {
         post.write(line)?;
-        self.seats.address_all(post)?;
+        self.seats.address_all(&self.clients, post)?;
         Ok(())
     }
 
@@ -181,14 +181,15 @@ impl Maps {
         ensures { OnOk result (Told self.now post.old post.new (tell others (reply_of line.entry ∷ []) ∷ [])) }
     {
         post.write_for_others(line)?;
-        self.seats.address_all(post)?;
+        self.seats.address_all(&self.clients, post)?;
         Ok(())
     }
 
-    /// Tells the users of these names.
+    /// Tells the users of these names, whose places these may be.
     pub fn tell_users(
         &self,
         names: &[NameBuf],
+        places: &[usize],
         line: LentReply,
         post: &mut Post,
     ) -> Result<(), AllocError>
@@ -196,14 +197,16 @@ impl Maps {
         ensures { OnOk result (Told self.now post.old post.new (tell (users names.now) (reply_of line.entry ∷ []) ∷ [])) }
     {
         post.write(line)?;
-        self.seats.address_names(names, post)?;
+        self.seats
+            .address_names(&self.clients, names, places, post)?;
         Ok(())
     }
 
-    /// Tells the users of these names but the issuer.
+    /// Tells the users of these names, whose places these may be, but the issuer.
     pub fn tell_other_users(
         &self,
         names: &[NameBuf],
+        places: &[usize],
         line: LentReply,
         post: &mut Post,
     ) -> Result<(), AllocError>
@@ -211,7 +214,8 @@ impl Maps {
         ensures { OnOk result (Told self.now post.old post.new (tell (but_issuer (users names.now)) (reply_of line.entry ∷ []) ∷ [])) }
     {
         post.write_for_others(line)?;
-        self.seats.address_names(names, post)?;
+        self.seats
+            .address_names(&self.clients, names, places, post)?;
         Ok(())
     }
 
@@ -226,7 +230,8 @@ impl Maps {
         ensures { OnOk result (Told self.now post.old post.new (tell (everyone_but (first.now ∷ second.now ∷ [])) (reply_of line.entry ∷ []) ∷ [])) }
     {
         post.write(line)?;
-        self.seats.address_all_but(first, second, post)?;
+        self.seats
+            .address_all_but(&self.clients, first, second, post)?;
         Ok(())
     }
 
@@ -235,7 +240,8 @@ impl Maps {
         ensures { OnOk result (Told self.now post.old post.new (tell (users (member_names room.now)) (reply_of line.entry ∷ []) ∷ [])) }
     {
         post.write(line)?;
-        self.seats.address_members(room.members(), post)?;
+        self.seats
+            .address_members(&self.clients, room.members(), post)?;
         Ok(())
     }
 
@@ -249,7 +255,8 @@ impl Maps {
         ensures { OnOk result (Told self.now post.old post.new (tell (but_issuer (users (member_names room.now))) (reply_of line.entry ∷ []) ∷ [])) }
     {
         post.write_for_others(line)?;
-        self.seats.address_members(room.members(), post)?;
+        self.seats
+            .address_members(&self.clients, room.members(), post)?;
         Ok(())
     }
 

@@ -7,7 +7,7 @@ ghost use Rattle.lobby_model.specs.Outcome.{tell, issuer};
 ghost use Rattle.lobby_model.specs.Commands.{answer};
 ghost use Rattle.lobby_post.specs.Posted.{begun, Told};
 ghost use Rattle.lobby_machine.specs.Answers.{Answers, Obeyed, refusal_reply};
-ghost use Rattle.lobby_machine.specs.Tables.{is_on_battles, is_on_rooms};
+ghost use Rattle.lobby_machine.specs.Subjects.{subject_of, Session, Channels, Battles, Rooms, Members};
 
 mod battle_guards;
 mod battles;
@@ -56,7 +56,7 @@ impl Maps {
         }
     }
 
-    /// What a command comes to: the table of commands.
+    /// What a command comes to: by its subject, in the table of that.
     fn answer(
         &self,
         client: u64,
@@ -71,36 +71,18 @@ impl Maps {
         ensures { Answers self.now client post.old post.new (answer self.now client (name_of self.now client) command.now) result }
     {
         match command {
-            Command::Blank => Ok(Change::Nothing),
-            Command::Unread(fault) => Err(Stop::Refused(Refusal::Fault(*fault))),
-            Command::Ping => self.ping(client, post),
-            Command::Exit => Ok(self.log_out(client, me, true, post)?),
-            Command::Login {
-                user_name,
-                password,
-                cpu,
-                ..
-            } => self.log_in(client, me, user_name, password, *cpu, post),
-            Command::MyStatus { status } => self.my_status(client, logged_in(me)?, *status, post),
-            Command::Join { channel, .. } => self.join(client, logged_in(me)?, channel, post),
-            Command::Leave { channel } => self.leave(client, logged_in(me)?, channel, post),
-            Command::Say { channel, text } => {
-                let me = logged_in(me)?;
-                let line = LentReply::Said(channel, me, text);
-                self.say_in_channel(client, me, channel, line, post)
-            }
-            Command::SayEx { channel, text } => {
-                let me = logged_in(me)?;
-                let line = LentReply::SaidEx(channel, me, text);
-                self.say_in_channel(client, me, channel, line, post)
-            }
-            Command::SayPrivate { user, text } => {
-                self.say_private(client, logged_in(me)?, user, text, post)
-            }
-            Command::Channels => {
-                logged_in(me)?;
-                self.list_channels(client, post)
-            }
+            Command::Blank
+            | Command::Unread(_)
+            | Command::Ping
+            | Command::Exit
+            | Command::Login { .. }
+            | Command::MyStatus { .. } => self.answer_in_session(client, me, command, post),
+            Command::Join { .. }
+            | Command::Leave { .. }
+            | Command::Say { .. }
+            | Command::SayEx { .. }
+            | Command::SayPrivate { .. }
+            | Command::Channels => self.answer_in_channel(client, logged_in(me)?, command, post),
             Command::OpenBattle { .. }
             | Command::JoinBattle { .. }
             | Command::LeaveBattle
@@ -116,18 +98,77 @@ impl Maps {
             | Command::AddStartRect { .. }
             | Command::RemoveStartRect { .. }
             | Command::SetScriptTags { .. }
-            | Command::RemoveScriptTags { .. }
-            | Command::Handicap { .. }
+            | Command::RemoveScriptTags { .. } => {
+                self.answer_in_room(client, logged_in(me)?, command, post)
+            }
+            Command::Handicap { .. }
             | Command::ForceTeamNo { .. }
             | Command::ForceAllyNo { .. }
             | Command::ForceTeamColor { .. }
             | Command::ForceSpectatorMode { .. }
             | Command::KickFromBattle { .. }
-            | Command::Ring { .. } => self.answer_in_room(client, logged_in(me)?, command, post),
+            | Command::Ring { .. } => self.answer_on_member(client, logged_in(me)?, command, post),
         }
     }
 
-    /// What a command on battles comes to, of one who is logged in: the table of these.
+    /// What a line without a command comes to, a command on the session, or one of the user on itself.
+    fn answer_in_session(
+        &self,
+        client: u64,
+        me: Option<&NameBuf>,
+        command: &Command,
+        post: &mut Post,
+    ) -> Result<Change, Stop>
+        requires hears { hears self.now client ≡ true }
+        requires me { option_copied me ≡ name_of self.now client }
+        requires subject { subject_of command.now ≡ Session }
+        ensures { Answers self.now client post.old post.new (answer self.now client (name_of self.now client) command.now) result }
+    {
+        match command {
+            Command::Blank => Ok(Change::Nothing),
+            Command::Unread(fault) => Err(Stop::Refused(Refusal::Fault(*fault))),
+            Command::Ping => self.ping(client, post),
+            Command::Exit => Ok(self.log_out(client, me, true, post)?),
+            Command::Login {
+                user_name,
+                password,
+                cpu,
+                ..
+            } => self.log_in(client, me, user_name, password, *cpu, post),
+            Command::MyStatus { status } => self.my_status(client, logged_in(me)?, *status, post),
+            _ => unreachable!(),
+        }
+    }
+
+    /// What a command on channels comes to, or one of private talk, of one who is logged in.
+    fn answer_in_channel(
+        &self,
+        client: u64,
+        me: &NameBuf,
+        command: &Command,
+        post: &mut Post,
+    ) -> Result<Change, Stop>
+        requires subject { subject_of command.now ≡ Channels }
+        ensures { Answers self.now client post.old post.new (answer self.now client (Some me.now) command.now) result }
+    {
+        match command {
+            Command::Join { channel, .. } => self.join(client, me, channel, post),
+            Command::Leave { channel } => self.leave(client, me, channel, post),
+            Command::Say { channel, text } => {
+                let line = LentReply::Said(channel, me, text);
+                self.say_in_channel(client, me, channel, line, post)
+            }
+            Command::SayEx { channel, text } => {
+                let line = LentReply::SaidEx(channel, me, text);
+                self.say_in_channel(client, me, channel, line, post)
+            }
+            Command::SayPrivate { user, text } => self.say_private(client, me, user, text, post),
+            Command::Channels => self.list_channels(client, post),
+            _ => unreachable!(),
+        }
+    }
+
+    /// What a command on battles comes to, of one who is logged in.
     fn answer_in_battle(
         &self,
         client: u64,
@@ -137,7 +178,7 @@ impl Maps {
     ) -> Result<Change, Stop>
         requires me { name_of self.now client ≡ Some me.now }
         requires issuer { post.old.issuer ≡ client }
-        requires battles { is_on_battles command.now ≡ true }
+        requires subject { subject_of command.now ≡ Battles }
         ensures { Answers self.now client post.old post.new (answer self.now client (Some me.now) command.now) result }
     {
         match command {
@@ -175,7 +216,7 @@ impl Maps {
         }
     }
 
-    /// What a command on a battle's room comes to, of one who is logged in: the table of these.
+    /// What a command on what the members of a battle share comes to, of one who is logged in.
     fn answer_in_room(
         &self,
         client: u64,
@@ -183,9 +224,8 @@ impl Maps {
         command: &Command,
         post: &mut Post,
     ) -> Result<Change, Stop>
-        requires me { name_of self.now client ≡ Some me.now }
         requires kinds { IsTrue (keeps_kinds command.now) }
-        requires rooms { is_on_rooms command.now ≡ true }
+        requires subject { subject_of command.now ≡ Rooms }
         ensures { Answers self.now client post.old post.new (answer self.now client (Some me.now) command.now) result }
     {
         match command {
@@ -219,6 +259,23 @@ impl Maps {
             Command::RemoveStartRect { ally_no } => self.remove_rect(client, me, *ally_no, post),
             Command::SetScriptTags { pairs } => self.set_script_tags(client, me, pairs, post),
             Command::RemoveScriptTags { keys } => self.remove_script_tags(client, me, keys, post),
+            _ => unreachable!(),
+        }
+    }
+
+    /// What a command on a member of a battle comes to, of one who is logged in.
+    fn answer_on_member(
+        &self,
+        client: u64,
+        me: &NameBuf,
+        command: &Command,
+        post: &mut Post,
+    ) -> Result<Change, Stop>
+        requires kinds { IsTrue (keeps_kinds command.now) }
+        requires subject { subject_of command.now ≡ Members }
+        ensures { Answers self.now client post.old post.new (answer self.now client (Some me.now) command.now) result }
+    {
+        match command {
             Command::Handicap { user, value } => {
                 self.force(client, me, user, Force::Handicap(*value), post)
             }

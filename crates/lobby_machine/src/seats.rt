@@ -4,12 +4,13 @@ ghost use Rattle.std.specs.Prelude.{◌≡◌, ℕ, [], ◌++◌, map, OnOk, OnE
 ghost use Rattle.std.specs.Ordering.{nat_cmp};
 ghost use Rattle.std.specs.List.Sorted.{IsStrictlySortedBy};
 ghost use Rattle.line_words.specs.Table.{at_name, change_name, put_name};
+ghost use Rattle.lobby_post.specs.Mail.{plain};
 ghost use Rattle.lobby_post.specs.Posted.{addressed, has_number};
-ghost use Rattle.lobby_machine.specs.Seats.{IsSet, client_in, clients_of, is_some_number, numbers_but, seat_in, seat_with, where_some, without_one};
+ghost use Rattle.lobby_machine.specs.Seats.{Agree, IsSet, client_in, clients_of, is_some_number, numbers_but, seat_in, seat_with, where_some, without_one};
 
 use battle_room::Member;
 use line_words::{NameBuf, WordBuf};
-use lobby_post::Post;
+use lobby_post::{Clients, Post};
 use status_bits::UserStatus;
 use std::alloc::{AllocError, Global};
 use std::collections::{BTreeMap, BTreeSet};
@@ -19,6 +20,8 @@ use std::collections::{BTreeMap, BTreeSet};
 pub struct Seat {
     /// The number of the client.
     pub client: u64,
+    /// The place at which the client is looked for first.
+    pub place: usize,
     /// Its account's country.
     pub country: WordBuf,
     /// What its login said of its processor, -2147483648 to 4294967295.
@@ -53,43 +56,85 @@ impl Seats {
     }
 
     /// All who are logged in get the line that is told.
-    pub fn address_all(&self, post: &mut Post) -> Result<(), AllocError>
+    pub fn address_all(&self, clients: &Clients, post: &mut Post) -> Result<(), AllocError>
         ensures rising { IsStrictlySortedBy nat_cmp self.now.clients.keys }
         ensures sent { OnOk result (post.new ≡ addressed post.old self.now.clients.keys) }
     {
         // Its contract says that the numbers rise, which callers want however this ends.
-        let clients = self.clients.iter();
-        for client in clients {
-            post.address(*client)?;
+        let numbers = self.clients.iter();
+        for client in numbers {
+            post.address_at(*client, clients.place_of(*client))?;
         }
         Ok(())
     }
 
-    /// The users of these names get the line that is told.
-    pub fn address_names(&self, names: &[NameBuf], post: &mut Post) -> Result<(), AllocError>
+    /// The users of these names get the line that is told, each looked for first at the place that
+    /// stands for its name.
+    pub fn address_names(
+        &self,
+        clients: &Clients,
+        names: &[NameBuf],
+        places: &[usize],
+        post: &mut Post,
+    ) -> Result<(), AllocError>
+        requires { Agree (plain clients.now.slots) self.now.users.entries }
         ensures { OnOk result (post.new ≡ addressed post.old (clients_of self.now.users.entries names.now)) }
     {
-        for name in names {
-            if let Some(seat) = self.users.get(name) {
-                post.address(seat.client)?;
-            }
+        for i in 0..names.len() {
+            let place = places.get(i).copied().unwrap_or(0);
+            self.address_near(clients, &names[i], place, post)?;
         }
         Ok(())
     }
 
-    /// The members of a battle get the line that is told.
-    pub fn address_members(&self, members: &[Member], post: &mut Post) -> Result<(), AllocError>
+    /// The members of a battle get the line that is told, each looked for first at the place that is
+    /// its mark.
+    pub fn address_members(
+        &self,
+        clients: &Clients,
+        members: &[Member],
+        post: &mut Post,
+    ) -> Result<(), AllocError>
+        requires { Agree (plain clients.now.slots) self.now.users.entries }
         ensures { OnOk result (post.new ≡ addressed post.old (clients_of self.now.users.entries (map (λ m. m.name) members.now))) }
     {
         for member in members {
-            self.address_user(member.name(), post)?;
+            self.address_near(clients, member.name(), member.mark(), post)?;
         }
         Ok(())
+    }
+
+    /// The user of this name, where there is one, gets the line that is told. It is looked for first
+    /// at a place: a wrong one costs searches, and no more.
+    fn address_near(
+        &self,
+        clients: &Clients,
+        name: &NameBuf,
+        place: usize,
+        post: &mut Post,
+    ) -> Result<(), AllocError>
+        requires { Agree (plain clients.now.slots) self.now.users.entries }
+        ensures { OnOk result (post.new ≡ addressed post.old (client_in (at_name self.now.users.entries name.now))) }
+    {
+        match clients.named_at(place, name) {
+            Some(client) => post.address_at(client, place)?,
+            None => self.address_user(name, post)?,
+        }
+        Ok(())
+    }
+
+    /// The place at which a user's client is looked for first; of one who is not there it says nothing.
+    pub fn place_of(&self, name: &NameBuf) -> usize {
+        match self.users.get(name) {
+            Some(seat) => seat.place,
+            None => 0,
+        }
     }
 
     /// All who are logged in get the line that is told, but the users of two names.
     pub fn address_all_but(
         &self,
+        clients: &Clients,
         first: &NameBuf,
         second: &NameBuf,
         post: &mut Post,
@@ -99,10 +144,10 @@ impl Seats {
     {
         let first = self.client_of(first);
         let second = self.client_of(second);
-        let clients = self.clients.iter();
-        for client in clients {
+        let numbers = self.clients.iter();
+        for client in numbers {
             if !is_number(first, *client) && !is_number(second, *client) {
-                post.address(*client)?;
+                post.address_at(*client, clients.place_of(*client))?;
             }
         }
         Ok(())
@@ -123,7 +168,7 @@ impl Seats {
         ensures { OnOk result (post.new ≡ addressed post.old (client_in (at_name self.now.users.entries name.now))) }
     {
         if let Some(seat) = self.users.get(name) {
-            post.address(seat.client)?;
+            post.address_at(seat.client, seat.place)?;
         }
         Ok(())
     }

@@ -1,5 +1,6 @@
 pub mod Masks
-pub mod Slots
+pub mod Crowds
+pub mod Places
 pub mod Parcels
 pub mod Rounds
 pub mod Lines

@@ -17,11 +17,11 @@ use Rattle.lobby_post.specs.Mask.{has_home}
 use Rattle.lobby_post.specs.declared.delivery.Piece.{Piece}
 use Rattle.lobby_post.specs.Pieces.{LiesIn, bytes_of, pieces_of}
 use Rattle.lobby_post.specs.Mail.{Held, plain, bytes_for, deliver, wakes_one, wakes_home, put_first, HaveLimit, AreDue, IsReady, AreReady}
-use Rattle.lobby_post.proofs.Slots.{IsWritten, all_written, all_past}
+use Rattle.lobby_post.proofs.Crowds.{IsWritten, all_written, all_past}
 use Rattle.lobby_post.proofs.Parcels.{other_piece, own_piece, more_due, deliver_step, deliver_past, deliver_nil, wakes_step, wakes_past, wakes_nil}
 
 abbrev pub blank : Piece
-blank = record { client = 0; from = 0; to = 0 }
+blank = record { client = 0; place = 0; from = 0; to = 0 }
 
 or_first : (a p b w : Bool) → (p || b) ≡ w → ((a || p) || b) ≡ (a || w)
 or_first true p b w e = refl

@@ -3,3 +3,5 @@ pub mod Mail
 pub mod Pieces
 pub mod Posted
 pub mod Unread
+pub mod Places
+pub mod Lending

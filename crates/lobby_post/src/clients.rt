@@ -1,6 +1,6 @@
 //! All clients by their numbers.
 
-ghost use Rattle.std.specs.Prelude.{◌≡◌, ℕ, ◌+◌, ◌-◌, ◌^◌, ◌<◌, [], ◌++◌, List, length, take, drop, min, map, OnOk, OnErr, IfSome, true, is_some, option_copied};
+ghost use Rattle.std.specs.Prelude.{◌≡◌, ℕ, ◌+◌, ◌-◌, ◌^◌, ◌<◌, [], ◌++◌, List, length, take, drop, min, map, OnOk, OnErr, IfSome, Some, true, is_some, option_copied};
 ghost use Rattle.std.specs.Option.{option_map};
 ghost use Rattle.std.specs.Ordering.{nat_cmp};
 ghost use Rattle.std.specs.List.Sorted.{IsStrictlySortedBy};
@@ -13,9 +13,9 @@ ghost use Rattle.lobby_post.specs.Mail.{AreDue, AreReady, bytes_for, parted, pla
 ghost use Rattle.lobby_post.specs.Unread.{is_over, unread_in};
 
 use crate::slot::Slot;
+use crate::slots::Slots;
 use line_words::NameBuf;
 use std::alloc::{AllocError, Global};
-use std::collections::BTreeMap;
 use std::marker::Model;
 
 /// What a drain gave.
@@ -35,7 +35,7 @@ pub struct Clients {
     alloc: Global,
     /// How many bytes may stand unread in an outbox.
     limit: usize,
-    pub(crate) slots: BTreeMap<u64, Slot>,
+    pub(crate) slots: Slots,
 }
 
 impl Model for Clients {
@@ -43,9 +43,9 @@ impl Model for Clients {
 
     ghost Value = { Crowd };
 
-    ghost view = { λ c. record { limit = c.limit; slots = c.slots.entries } };
+    ghost view = { λ c. record { limit = c.limit; slots = c.slots } };
 
-    ghost invariant = { λ c. HaveLimit c.limit c.slots.entries };
+    ghost invariant = { λ c. HaveLimit c.limit c.slots };
 }
 
 impl Clients {
@@ -57,7 +57,7 @@ impl Clients {
         Clients {
             alloc,
             limit,
-            slots: BTreeMap::new(alloc),
+            slots: Slots::new(alloc),
         }
     }
 
@@ -72,14 +72,14 @@ impl Clients {
     pub fn contains(&self, client: u64) -> bool
         ensures { result ≡ is_some (at_number (plain self.now.slots) client) }
     {
-        self.slots.contains_key(&client)
+        self.slots.contains(client)
     }
 
     /// Whether a client may give commands and get bytes.
     pub fn hears(&self, client: u64) -> bool
         ensures { result ≡ is_live_client (at_number (plain self.now.slots) client) }
     {
-        match self.slots.get(&client) {
+        match self.slots.get(client) {
             Some(slot) => slot.is_live(),
             None => false,
         }
@@ -89,9 +89,26 @@ impl Clients {
     pub fn name_of(&self, client: u64) -> Option<&NameBuf>
         ensures { option_copied result ≡ name_at (plain self.now.slots) client }
     {
-        match self.slots.get(&client) {
+        match self.slots.get(client) {
             Some(slot) => slot.name(),
             None => None,
+        }
+    }
+
+    /// The place at which a client is looked for first, where it is told of with `Post::address_at`.
+    /// It holds as long as the client is there; of one that is not there it says nothing.
+    pub fn place_of(&self, client: u64) -> usize {
+        self.slots.place_of(client)
+    }
+
+    /// The client at a place, if it is logged in under this name.
+    pub fn named_at(&self, place: usize, name: &NameBuf) -> Option<u64>
+        ensures { IfSome result (λ client. name_at (plain self.now.slots) client ≡ Some name.now) }
+    {
+        let (client, slot) = self.slots.at(place)?;
+        match slot.name() {
+            Some(held) if held == name => Some(client),
+            _ => None,
         }
     }
 
@@ -99,7 +116,7 @@ impl Clients {
     pub fn ip_of(&self, client: u64) -> Option<[u8; 4]>
         ensures { result ≡ option_map (λ c. c.ip) (at_number (plain self.now.slots) client) }
     {
-        match self.slots.get(&client) {
+        match self.slots.get(client) {
             Some(slot) => Some(slot.ip()),
             None => None,
         }
@@ -111,7 +128,7 @@ impl Clients {
         ensures hears { is_some result ≡ is_live_client (at_number (plain self.now.slots) client) }
         ensures name { IfSome result (λ name. option_copied name ≡ name_at (plain self.now.slots) client) }
     {
-        match self.slots.get(&client) {
+        match self.slots.get(client) {
             Some(slot) => slot.heard(),
             None => None,
         }
@@ -147,7 +164,7 @@ impl Clients {
         ensures due { (pieces : ByNumber (List ℕ)) → AreDue pieces self.old.slots → AreDue pieces self.new.slots }
         ensures ready { AreReady self.old.slots → AreReady self.new.slots }
     {
-        if let Some(slot) = self.slots.get_mut(&client) {
+        if let Some(slot) = self.slots.get_mut(client) {
             slot.log_in(name);
         }
     }
@@ -160,7 +177,7 @@ impl Clients {
         ensures due { (pieces : ByNumber (List ℕ)) → AreDue pieces self.old.slots → AreDue pieces self.new.slots }
         ensures ready { AreReady self.old.slots → AreReady self.new.slots }
     {
-        if let Some(slot) = self.slots.get_mut(&client) {
+        if let Some(slot) = self.slots.get_mut(client) {
             slot.end();
         }
     }
@@ -172,9 +189,7 @@ impl Clients {
         ensures due { (pieces : ByNumber (List ℕ)) → AreDue pieces self.old.slots → AreDue pieces self.new.slots }
         ensures ready { AreReady self.old.slots → AreReady self.new.slots }
     {
-        // Its contract says that the numbers rise, which the proof wants of the map as it was.
-        let _ = self.slots.len();
-        let _ = self.slots.remove(&client);
+        self.slots.remove(client);
     }
 
     /// A client goes: it ends, or, where it does not stay, is removed.
@@ -202,7 +217,7 @@ impl Clients {
         ensures clients { plain self.new.slots ≡ change_number (plain self.old.slots) client (drained (length into.old)) }
         ensures due { (pieces : ByNumber (List ℕ)) → AreDue pieces self.old.slots → AreDue pieces self.new.slots }
     {
-        match self.slots.get_mut(&client) {
+        match self.slots.get_mut(client) {
             Some(slot) => {
                 let count = slot.drain(into);
                 Drained {
@@ -222,7 +237,7 @@ impl Clients {
         ensures count { result ≡ length (unread_in (at_number (plain self.now.slots) client)) }
         ensures small { result < 2 ^ 63 }
     {
-        match self.slots.get(&client) {
+        match self.slots.get(client) {
             Some(slot) => slot.unread(),
             None => 0,
         }
@@ -234,7 +249,7 @@ impl Clients {
         ensures count { result ≡ min (length (unread_in (at_number (plain self.now.slots) client)) - from) (length into.old) }
         ensures given { into.new ≡ take result (drop from (unread_in (at_number (plain self.now.slots) client))) ++ drop result into.old }
     {
-        match self.slots.get(&client) {
+        match self.slots.get(client) {
             Some(slot) => slot.copy_unread(from, into),
             None => 0,
         }

@@ -11,6 +11,7 @@ mod clients;
 mod delivery;
 mod post;
 mod slot;
+mod slots;
 mod wakes;
 
 pub use clients::{Clients, Drained};

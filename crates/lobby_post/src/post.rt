@@ -12,6 +12,7 @@ ghost use Rattle.lobby_model.specs.Outcome.{tell, issuer};
 use crate::clients::Clients;
 use crate::delivery;
 use crate::delivery::Piece;
+use crate::slots::NOWHERE;
 use crate::wakes::Wakes;
 use reply_grammar::{LentReply, print_id, print_lent};
 use std::alloc::{AllocError, Global};
@@ -137,13 +138,26 @@ impl Post {
     pub fn address(&mut self, client: u64) -> Result<(), AllocError>
         ensures { OnOk result (self.new ≡ record self.old { sent = self.old.sent ++ copy_to self.old client ∷ [] }) }
     {
+        self.address_at(client, NOWHERE)
+    }
+
+    /// A client gets the lines that are told. It is looked for first at a place that `Clients::place_of`
+    /// gave: a wrong one costs a search, and no more.
+    pub fn address_at(&mut self, client: u64, place: usize) -> Result<(), AllocError>
+        ensures { OnOk result (self.new ≡ record self.old { sent = self.old.sent ++ copy_to self.old client ∷ [] }) }
+    {
         let from = if client == self.issuer {
             self.own
         } else {
             self.shared
         };
         let to = self.text.len();
-        self.pieces.push(Piece { client, from, to })?;
+        self.pieces.push(Piece {
+            client,
+            place,
+            from,
+            to,
+        })?;
         Ok(())
     }
 

@@ -117,7 +117,9 @@ impl Slot {
     }
 
     /// Puts the next piece of what is due, or cuts the client where not all that is due fits. Gives
-    /// its worker where that touched it.
+    /// its worker where that touched it. It stands in the loop that delivers, since the pushes of a call
+    /// would wait behind the bytes of the calls before it.
+    #[inline(always)]
     pub fn put(&mut self, piece: &[u8]) -> Wakes
         requires due { length piece.now ≤ self.old.due }
         requires ready { IsReady self.old }

@@ -1,6 +1,6 @@
 //! Battles: opening, joining and leaving one, and what is said and shown in it.
 
-ghost use Rattle.std.specs.Prelude.{◌≡◌, [], ◌∷◌, ◌++◌, map, OnOk, IfOk, true, None, Some, is_some, option_copied};
+ghost use Rattle.std.specs.Prelude.{◌≡◌, [], ◌∷◌, ◌++◌, decimal, map, OnOk, IfOk, true, None, Some, is_some, option_copied};
 ghost use Rattle.reply_grammar.specs.declared.Reply.TheVariants as reply;
 ghost use Rattle.line_words.specs.Table.{at_number};
 ghost use Rattle.reply_grammar.specs.Lent.{reply_of};
@@ -14,7 +14,7 @@ ghost use Rattle.lobby_machine.specs.Answers.{Answers};
 ghost use Rattle.lobby_machine.specs.declared.change.Change.TheVariants.{InBattles};
 ghost use Rattle.lobby_machine.specs.declared.battles.BattleChange.TheVariants.{InRoom};
 ghost use Rattle.lobby_machine.specs.BattleTalk.{bots_gone, shown, shown_to, status_change};
-ghost use Rattle.lobby_machine.specs.Tables.{opens_one};
+ghost use Rattle.lobby_machine.specs.Subjects.{opens_one};
 
 use super::battle_guards::{founded_by, not_locked, right_password};
 use crate::battle::{Battle, NO_PASSWORD};
@@ -24,7 +24,7 @@ use crate::maps::Maps;
 use crate::refusal::Stop;
 use battle_room::{ALLY_COUNT, Room};
 use command_grammar::Command;
-use line_words::{NameBuf, SentenceBuf, WordBuf};
+use line_words::{NameBuf, SentenceBuf, WordBuf, write_number};
 use lobby_post::Post;
 use reply_grammar::{LentReply, OpenedBattle};
 use status_bits::{BattleStatus, merge_battle};
@@ -114,7 +114,7 @@ impl Maps {
             locked: false,
             password: WordBuf::copy_of(alloc, password.as_slice())?,
             game_hash: *game_hash,
-            room: Room::new(alloc, me.copy())?,
+            room: Room::new(alloc, me.copy(), self.seats.place_of(me))?,
         })
     }
 
@@ -424,6 +424,28 @@ fn ip_word(alloc: Global, ip: [u8; 4]) -> Result<WordBuf, AllocError>
 fn dotted(alloc: Global, a: u8, b: u8, c: u8, d: u8) -> Result<WordBuf, AllocError>
     ensures { IfOk result (λ word. word ≡ ip_text (a ∷ b ∷ c ∷ d ∷ [])) }
 {
-    let text = format!(in alloc; "{a}.{b}.{c}.{d}")?;
-    WordBuf::copy_of(alloc, text.as_bytes())
+    let mut text = Vec::new(alloc);
+    put_number(&mut text, a)?;
+    put_dotted(&mut text, b)?;
+    put_dotted(&mut text, c)?;
+    put_dotted(&mut text, d)?;
+    Ok(WordBuf::copy_of(alloc, text.as_slice())?)
+}
+
+/// Puts a dot and a number behind a text.
+fn put_dotted(text: &mut Vec<u8>, n: u8) -> Result<(), AllocError>
+    ensures { OnOk result (text.new.items ≡ text.old.items ++ (46 ∷ decimal n)) }
+{
+    text.push(b'.')?;
+    put_number(text, n)
+}
+
+/// Puts a number behind a text.
+fn put_number(text: &mut Vec<u8>, n: u8) -> Result<(), AllocError>
+    ensures { OnOk result (text.new.items ≡ text.old.items ++ decimal n) }
+{
+    let mut digits = [0u8; 20];
+    let length = write_number(i64::from(n), &mut digits);
+    text.extend_from_slice(&digits[..length])?;
+    Ok(())
 }

@@ -28,9 +28,10 @@ impl Maps {
         ensures { Answers self.now client post.old post.new (join self.now me.now channel.now) result }
     {
         let names = self.names_without(me, channel)?;
+        let places = self.channels.marks_in(channel);
         self.tell_user(me, LentReply::Join(channel), post)?;
         self.tell_members(channel, names, me, post)?;
-        self.tell_users(names, LentReply::Joined(channel, me), post)?;
+        self.tell_users(names, places, LentReply::Joined(channel, me), post)?;
         Ok(Change::Join {
             channel: channel.copy(),
             name: me.copy(),
@@ -48,7 +49,8 @@ impl Maps {
         ensures { Answers self.now client post.old post.new (leave self.now me.now channel.now) result }
     {
         let names = self.names_with(me, channel)?;
-        self.tell_users(names, LentReply::Left(channel, me), post)?;
+        let places = self.channels.marks_in(channel);
+        self.tell_users(names, places, LentReply::Left(channel, me), post)?;
         Ok(Change::Leave {
             channel: channel.copy(),
             name: me.copy(),
@@ -67,7 +69,8 @@ impl Maps {
         ensures { Answers self.now client post.old post.new (say_in_channel self.now me.now channel.now (reply_of line.entry)) result }
     {
         let names = self.names_with(me, channel)?;
-        self.tell_users(names, line, post)?;
+        let places = self.channels.marks_in(channel);
+        self.tell_users(names, places, line, post)?;
         Ok(Change::Nothing)
     }
 
@@ -115,8 +118,8 @@ impl Maps {
     {
         for (channel, members) in &self.channels {
             if members.has_member(me) {
-                let names = members.as_slice();
-                self.tell_other_users(names, LentReply::Left(channel, me), post)?;
+                let (names, places) = (members.as_slice(), members.marks());
+                self.tell_other_users(names, places, LentReply::Left(channel, me), post)?;
             }
         }
         Ok(())

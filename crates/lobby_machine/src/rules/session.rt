@@ -54,7 +54,8 @@ impl Maps {
         not_logged_in(me)?;
         let account = self.account_for(user_name, password)?;
         let name = self.free_name(account)?;
-        let seat = seat_of(self.alloc, client, account, cpu)?;
+        let place = self.clients.place_of(client);
+        let seat = seat_of(self.alloc, client, place, account, cpu)?;
         self.tell_burst(&name, &seat, post)?;
         self.tell_arrival(&name, &seat, post)?;
         Ok(Change::LogIn { name, seat })
@@ -69,7 +70,7 @@ impl Maps {
         if status != 0 {
             post.write_more_for_others(LentReply::ClientStatus(name, status))?;
         }
-        self.seats.address_all(post)?;
+        self.seats.address_all(&self.clients, post)?;
         Ok(())
     }
 
@@ -149,14 +150,21 @@ impl Maps {
     }
 }
 
-/// Where a user of an account sits.
-fn seat_of(alloc: Global, client: u64, account: &Account, cpu: i64) -> Result<Seat, AllocError>
+/// Where a user of an account sits, whose client stands at a place.
+fn seat_of(
+    alloc: Global,
+    client: u64,
+    place: usize,
+    account: &Account,
+    cpu: i64,
+) -> Result<Seat, AllocError>
     ensures here { IfOk result (λ seat. seat.client ≡ client) }
     ensures outside { IfOk result (λ seat. seat.battle ≡ None) }
     ensures user { IfOk result (λ seat. user_in seat ≡ user_of account.now cpu) }
 {
     Ok(Seat {
         client,
+        place,
         country: WordBuf::copy_of(alloc, account.country())?,
         cpu,
         account: account.id(),

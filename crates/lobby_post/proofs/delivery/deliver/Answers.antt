@@ -1,14 +1,15 @@
-use Rattle.std.proofs.Common.{◌∙◌, sym, refl, subst, IsSome}
+use Rattle.std.proofs.Common.{◌∙◌, sym, refl, subst}
 use Rattle.lobby_post.specs.Mail.{AreDue}
 use Rattle.line_words.proofs.Ties.{none_of}
+use Rattle.lobby_post.proofs.Crowds.{written_through}
 use Rattle.lobby_post.proofs.Rounds.{inside_next, pieces_is, less_due, less_past, due_here, limits_next, ready_next, clients_next, clients_past, clients_end, wakes_next, woken_past, wakes_end, none_left}
 use Rattle.lobby_post.proofs.delivery.deliver.Goals as goal
 use Rattle.lobby_post.proofs.delivery.deliver.Goals.{in-Some, in_default}
 
 pub put-requires-clause-due : goal.put-requires-clause-due
 put-requires-clause-due c =
-    due_here _ _ _ c.in-Some.slot.now c.loop-piece.clients.entries c.in-Some.ensures.value
-    (subst (λ ps. AreDue ps c.loop-piece.clients.entries)
+    due_here _ _ _ c.in-Some.slot.now c.loop-piece.clients c.in-Some.ensures.value
+    (subst (λ ps. AreDue ps c.loop-piece.clients)
     (pieces_is c.args.text.now c.args.pieces.now c.loop-piece.piece-index c.loop-piece-test.true) c.loop-piece.invariant.due)
 
 pub put-requires-clause-ready : goal.put-requires-clause-ready
@@ -17,30 +18,29 @@ put-requires-clause-ready c = c.loop-piece.invariant.ready _ c.in-Some.slot.now 
 pub loop-piece-preserved : goal.loop-piece-preserved
 loop-piece-preserved c =
     let inv = c.loop-piece.invariant in
-    let first = subst (λ ps. AreDue ps c.loop-piece.clients.entries)
+    let first = subst (λ ps. AreDue ps c.loop-piece.clients)
     (pieces_is c.args.text.now c.args.pieces.now c.loop-piece.piece-index c.loop-piece-test.true) inv.due in
-    elim c.match-get_mut.branch [
+    elim c.match-get_mut_at.branch [
       | in-Some w ↦
-          let h = c.get_mut.follows.holds w.put.new.self in
-          let written = (h.3 (subst (λ o. IsSome o) w.in-Some.ensures.value refl)).0 in
+          let written = written_through _ w.in-Some.slot.now w.put.new.self c.loop-piece.clients w.in-Some.ensures.value in
           rw (w.clients-is, w.wakes-is) (record {
             inside = inside_next c.args.text.now c.args.pieces.now c.loop-piece.piece-index c.loop-piece-test.true inv.inside;
-            due = less_due _ _ _ w.in-Some.slot.now w.put.new.self c.loop-piece.clients.entries _ written w.in-Some.ensures.value w.put.ensures.due first;
-            ready = ready_next _ w.in-Some.slot.now w.put.new.self c.loop-piece.clients.entries _ written w.in-Some.ensures.value w.put.ensures.ready inv.ready;
-            limits = λ limit all. limits_next limit _ w.in-Some.slot.now w.put.new.self c.loop-piece.clients.entries _ written w.in-Some.ensures.value w.put.ensures.limit (inv.limits limit all);
-            clients = λ limit all. clients_next c.args.text.now c.args.pieces.now c.loop-piece.piece-index c.loop-piece-test.true w.in-Some.slot.now w.put.new.self c.loop-piece.clients.entries _ h.0 w.in-Some.ensures.value w.put.ensures.client c.get_mut.ensures.ordered inv.due limit (inv.limits limit all) ∙ inv.clients limit all;
-            wakes = λ home. wakes_next c.args.text.now c.args.pieces.now c.loop-piece.piece-index c.loop-piece-test.true w.in-Some.slot.now w.put.new.self c.loop-piece.clients.entries _ h.0 w.in-Some.ensures.value w.put.ensures.client c.get_mut.ensures.ordered inv.due
+            due = less_due _ _ _ w.in-Some.slot.now w.put.new.self c.loop-piece.clients _ written w.in-Some.ensures.value w.put.ensures.due first;
+            ready = ready_next _ w.in-Some.slot.now w.put.new.self c.loop-piece.clients _ written w.in-Some.ensures.value w.put.ensures.ready inv.ready;
+            limits = λ limit all. limits_next limit _ w.in-Some.slot.now w.put.new.self c.loop-piece.clients _ written w.in-Some.ensures.value w.put.ensures.limit (inv.limits limit all);
+            clients = λ limit all. clients_next c.args.text.now c.args.pieces.now c.loop-piece.piece-index c.loop-piece-test.true w.in-Some.slot.now w.put.new.self c.loop-piece.clients _ refl w.in-Some.ensures.value w.put.ensures.client c.get_mut_at.ensures.ordered inv.due limit (inv.limits limit all) ∙ inv.clients limit all;
+            wakes = λ home. wakes_next c.args.text.now c.args.pieces.now c.loop-piece.piece-index c.loop-piece-test.true w.in-Some.slot.now w.put.new.self c.loop-piece.clients _ refl w.in-Some.ensures.value w.put.ensures.client c.get_mut_at.ensures.ordered inv.due
                 c.loop-piece.wakes w.put.result _ home (w.union-wakes.ensures home) (w.put.ensures.home home) ∙ inv.wakes home;
           })
       | in_default w ↦
-          let none = sym (none_of c.get_mut.result w.in_default.not-Some ∙ c.get_mut.ensures.value) in
-          rw (w.clients-is, w.wakes-is, c.get_mut.follows.holds-at-none) (record {
+          let none = sym (none_of c.get_mut_at.result w.in_default.not-Some ∙ c.get_mut_at.ensures.value) in
+          rw (w.clients-is, w.wakes-is) (record {
             inside = inside_next c.args.text.now c.args.pieces.now c.loop-piece.piece-index c.loop-piece-test.true inv.inside;
-            due = less_past _ _ _ c.loop-piece.clients.entries none first;
+            due = less_past _ _ _ c.loop-piece.clients none first;
             ready = inv.ready;
             limits = inv.limits;
-            clients = λ limit all. clients_past c.args.text.now c.args.pieces.now c.loop-piece.piece-index c.loop-piece-test.true c.loop-piece.clients.entries none limit ∙ inv.clients limit all;
-            wakes = λ home. woken_past c.args.text.now c.args.pieces.now c.loop-piece.piece-index c.loop-piece-test.true c.loop-piece.clients.entries none c.loop-piece.wakes home ∙ inv.wakes home;
+            clients = λ limit all. clients_past c.args.text.now c.args.pieces.now c.loop-piece.piece-index c.loop-piece-test.true c.loop-piece.clients none limit ∙ inv.clients limit all;
+            wakes = λ home. woken_past c.args.text.now c.args.pieces.now c.loop-piece.piece-index c.loop-piece-test.true c.loop-piece.clients none c.loop-piece.wakes home ∙ inv.wakes home;
           })
     ]
 
@@ -49,7 +49,7 @@ returns-clause-clients c = λ limit all. sym (clients_end c.args.text.now c.args
     ∙ c.loop-piece.invariant.clients limit all
 
 pub returns-clause-due : goal.returns-clause-due
-returns-clause-due c = subst (λ ps. AreDue ps c.loop-piece.clients.entries)
+returns-clause-due c = subst (λ ps. AreDue ps c.loop-piece.clients)
     (none_left c.args.text.now c.args.pieces.now c.loop-piece.piece-index c.loop-piece-test.false) c.loop-piece.invariant.due
 
 pub returns-clause-wakes : goal.returns-clause-wakes

@@ -9,12 +9,12 @@ use Rattle.lobby_post.proofs.delivery.deliver.Given as goal
 abbrev pub invariant-loop-piece : goal.invariant-loop-piece
 invariant-loop-piece l = record {
   inside : AllByRecursion (LiesIn l.text) (drop l.piece-index l.pieces);
-  due : AreDue (pieces_of l.text (drop l.piece-index l.pieces)) l.clients.entries;
-  ready : AreReady l.clients.entries;
-  limits : (limit : ℕ) → HaveLimit limit l.initial.clients.entries → HaveLimit limit l.clients.entries;
-  clients : (limit : ℕ) → HaveLimit limit l.initial.clients.entries
-      → deliver limit (pieces_of l.text (drop l.piece-index l.pieces)) (plain l.clients.entries)
-      ≡ deliver limit (pieces_of l.text l.pieces) (plain l.initial.clients.entries);
-  wakes : (home : ℕ) → (has_home l.wakes home || wakes_home (pieces_of l.text (drop l.piece-index l.pieces)) (plain l.clients.entries) home)
-      ≡ wakes_home (pieces_of l.text l.pieces) (plain l.initial.clients.entries) home;
+  due : AreDue (pieces_of l.text (drop l.piece-index l.pieces)) l.clients;
+  ready : AreReady l.clients;
+  limits : (limit : ℕ) → HaveLimit limit l.initial.clients → HaveLimit limit l.clients;
+  clients : (limit : ℕ) → HaveLimit limit l.initial.clients
+      → deliver limit (pieces_of l.text (drop l.piece-index l.pieces)) (plain l.clients)
+      ≡ deliver limit (pieces_of l.text l.pieces) (plain l.initial.clients);
+  wakes : (home : ℕ) → (has_home l.wakes home || wakes_home (pieces_of l.text (drop l.piece-index l.pieces)) (plain l.clients) home)
+      ≡ wakes_home (pieces_of l.text l.pieces) (plain l.initial.clients) home;
 }

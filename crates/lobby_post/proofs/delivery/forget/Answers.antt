@@ -1,46 +1,46 @@
-use Rattle.std.proofs.Common.{◌∙◌, ◌-◌, ap, sym, refl, subst, IsSome, ◌≤◌}
+use Rattle.std.proofs.Common.{◌∙◌, ◌-◌, ap, sym, refl, subst, ◌≤◌}
 use Rattle.lobby_post.specs.Mail.{AreDue}
 use Rattle.line_words.proofs.Ties.{none_of}
+use Rattle.lobby_post.proofs.Crowds.{written_through}
 use Rattle.lobby_post.proofs.Rounds.{inside_next, inside_here, bytes_long, pieces_is, less_due, less_past, due_here, limits_next, plain_same, none_left}
 use Rattle.lobby_post.proofs.delivery.forget.Goals as goal
 use Rattle.lobby_post.proofs.delivery.forget.Goals.{in-Some, in_default}
 
 pub forget-requires : goal.forget-requires
 forget-requires c =
-    let first = subst (λ ps. AreDue ps c.loop-piece.clients.entries)
+    let first = subst (λ ps. AreDue ps c.loop-piece.clients)
     (pieces_is c.args.text.now c.args.pieces.now c.loop-piece.piece-index c.loop-piece-test.true) c.loop-piece.invariant.due in
     subst (λ n. n ≤ c.in-Some.slot.now.due) (bytes_long c.args.text.now c.args.pieces.now c.loop-piece.piece-index c.loop-piece-test.true
     (inside_here c.args.text.now c.args.pieces.now c.loop-piece.piece-index c.loop-piece-test.true c.loop-piece.invariant.inside))
-    (due_here _ _ _ c.in-Some.slot.now c.loop-piece.clients.entries c.in-Some.ensures.value first)
+    (due_here _ _ _ c.in-Some.slot.now c.loop-piece.clients c.in-Some.ensures.value first)
 
 pub loop-piece-preserved : goal.loop-piece-preserved
 loop-piece-preserved c =
     let inv = c.loop-piece.invariant in
-    let first = subst (λ ps. AreDue ps c.loop-piece.clients.entries)
+    let first = subst (λ ps. AreDue ps c.loop-piece.clients)
     (pieces_is c.args.text.now c.args.pieces.now c.loop-piece.piece-index c.loop-piece-test.true) inv.due in
     let long = bytes_long c.args.text.now c.args.pieces.now c.loop-piece.piece-index c.loop-piece-test.true
     (inside_here c.args.text.now c.args.pieces.now c.loop-piece.piece-index c.loop-piece-test.true inv.inside) in
-    elim c.match-get_mut.branch [
+    elim c.match-get_mut_at.branch [
       | in-Some w ↦
-          let h = c.get_mut.follows.holds w.forget.new.self in
-          let written = (h.3 (subst (λ o. IsSome o) w.in-Some.ensures.value refl)).0 in
+          let written = written_through _ w.in-Some.slot.now w.forget.new.self c.loop-piece.clients w.in-Some.ensures.value in
           rw w.clients-is (record {
             inside = inside_next c.args.text.now c.args.pieces.now c.loop-piece.piece-index c.loop-piece-test.true inv.inside;
-            due = less_due _ _ _ w.in-Some.slot.now w.forget.new.self c.loop-piece.clients.entries _ written w.in-Some.ensures.value
+            due = less_due _ _ _ w.in-Some.slot.now w.forget.new.self c.loop-piece.clients _ written w.in-Some.ensures.value
                 (w.forget.ensures.due ∙ ap (λ n. w.in-Some.slot.now.due - n) (sym long)) first;
-            limits = λ limit all. limits_next limit _ w.in-Some.slot.now w.forget.new.self c.loop-piece.clients.entries _ written w.in-Some.ensures.value w.forget.ensures.limit (inv.limits limit all);
-            clients = plain_same _ w.in-Some.slot.now w.forget.new.self c.loop-piece.clients.entries _ h.0 w.in-Some.ensures.value w.forget.ensures.client ∙ inv.clients;
+            limits = λ limit all. limits_next limit _ w.in-Some.slot.now w.forget.new.self c.loop-piece.clients _ written w.in-Some.ensures.value w.forget.ensures.limit (inv.limits limit all);
+            clients = plain_same _ w.in-Some.slot.now w.forget.new.self c.loop-piece.clients _ refl w.in-Some.ensures.value w.forget.ensures.client ∙ inv.clients;
           })
       | in_default w ↦
-          let none = sym (none_of c.get_mut.result w.in_default.not-Some ∙ c.get_mut.ensures.value) in
-          rw (w.clients-is, c.get_mut.follows.holds-at-none) (record {
+          let none = sym (none_of c.get_mut_at.result w.in_default.not-Some ∙ c.get_mut_at.ensures.value) in
+          rw w.clients-is (record {
             inside = inside_next c.args.text.now c.args.pieces.now c.loop-piece.piece-index c.loop-piece-test.true inv.inside;
-            due = less_past _ _ _ c.loop-piece.clients.entries none first;
+            due = less_past _ _ _ c.loop-piece.clients none first;
             limits = inv.limits;
             clients = inv.clients;
           })
     ]
 
 pub returns-clause-due : goal.returns-clause-due
-returns-clause-due c = subst (λ ps. AreDue ps c.loop-piece.clients.entries)
+returns-clause-due c = subst (λ ps. AreDue ps c.loop-piece.clients)
     (none_left c.args.text.now c.args.pieces.now c.loop-piece.piece-index c.loop-piece-test.false) c.loop-piece.invariant.due

@@ -7,7 +7,7 @@ use Rattle.lobby_post.proofs.delivery.forget.Given as goal
 abbrev pub invariant-loop-piece : goal.invariant-loop-piece
 invariant-loop-piece l = record {
   inside : AllByRecursion (LiesIn l.text) (drop l.piece-index l.pieces);
-  due : AreDue (pieces_of l.text (drop l.piece-index l.pieces)) l.clients.entries;
-  limits : (limit : ℕ) → HaveLimit limit l.initial.clients.entries → HaveLimit limit l.clients.entries;
-  clients : plain l.clients.entries ≡ plain l.initial.clients.entries;
+  due : AreDue (pieces_of l.text (drop l.piece-index l.pieces)) l.clients;
+  limits : (limit : ℕ) → HaveLimit limit l.initial.clients → HaveLimit limit l.clients;
+  clients : plain l.clients ≡ plain l.initial.clients;
 }

@@ -1,22 +1,29 @@
-use Rattle.std.proofs.Common.{◌∙◌, ◌+◌, ap, sym, refl, subst, IsSome}
+use Rattle.std.proofs.Common.{◌∙◌, ◌+◌, ap, sym, refl, subst, take}
 use Rattle.lobby_post.specs.Mail.{AreDue}
+use Rattle.lobby_post.specs.Pieces.{pieces_of}
 use Rattle.line_words.proofs.Ties.{none_of}
+use Rattle.lobby_post.proofs.Crowds.{written_through, due_kept}
 use Rattle.lobby_post.proofs.Rounds.{inside_next, inside_here, bytes_long, pieces_done, due_more, grown_past, ready_next, limits_next, plain_same}
 use Rattle.lobby_post.proofs.delivery.make_room.Goals as goal
 use Rattle.lobby_post.proofs.delivery.make_room.Goals.{in-Some+in-Ok, in_default}
 
 pub returns-in-Err-clause-clients : goal.returns-in-Err-clause-clients
 returns-in-Err-clause-clients c =
-    c.forget.ensures.clients ∙ plain_same _ c.in-Some.slot.now c.make_room.new.self c.loop-i.clients.entries _
-    (c.get_mut.follows.holds c.make_room.new.self).0 c.in-Some.ensures.value c.make_room.ensures.client ∙ c.loop-i.invariant.clients
+    c.forget.ensures.clients ∙ plain_same _ c.in-Some.slot.now c.make_room.new.self c.loop-i.clients _
+    refl c.in-Some.ensures.value c.make_room.ensures.client ∙ c.loop-i.invariant.clients
 
 pub returns-in-Err-clause-limits : goal.returns-in-Err-clause-limits
 returns-in-Err-clause-limits c = λ limit all.
     c.forget.ensures.limits limit
-    (limits_next limit _ c.in-Some.slot.now c.make_room.new.self c.loop-i.clients.entries _
-    ((c.get_mut.follows.holds c.make_room.new.self).3
-    (subst (λ o. IsSome o) c.in-Some.ensures.value refl)).0 c.in-Some.ensures.value c.make_room.ensures.limit
-    (c.loop-i.invariant.limits limit all))
+    (limits_next limit _ c.in-Some.slot.now c.make_room.new.self c.loop-i.clients _
+    (written_through _ c.in-Some.slot.now c.make_room.new.self c.loop-i.clients c.in-Some.ensures.value)
+    c.in-Some.ensures.value c.make_room.ensures.limit (c.loop-i.invariant.limits limit all))
+
+pub forget-requires-clause-due : goal.forget-requires-clause-due
+forget-requires-clause-due c =
+    due_kept (pieces_of c.args.text.now (take c.loop-i.i c.args.pieces.now)) _ c.in-Some.slot.now c.make_room.new.self c.loop-i.clients _
+    (written_through _ c.in-Some.slot.now c.make_room.new.self c.loop-i.clients c.in-Some.ensures.value)
+    c.in-Some.ensures.value c.in-Err.ensures.err c.loop-i.invariant.due
 
 pub loop-i-preserved : goal.loop-i-preserved
 loop-i-preserved c =
@@ -24,22 +31,21 @@ loop-i-preserved c =
     let long = bytes_long c.args.text.now c.args.pieces.now c.loop-i.i c.loop-i-test.true
     (inside_here c.args.text.now c.args.pieces.now c.loop-i.i c.loop-i-test.true inv.inside) in
     let done = pieces_done c.args.text.now c.args.pieces.now c.loop-i.i c.loop-i-test.true in
-    elim c.match-get_mut.branch [
+    elim c.match-get_mut_at.branch [
       | in-Some+in-Ok w ↦
-          let h = c.get_mut.follows.holds w.make_room.new.self in
-          let written = (h.3 (subst (λ o. IsSome o) w.in-Some.ensures.value refl)).0 in
+          let written = written_through _ w.in-Some.slot.now w.make_room.new.self c.loop-i.clients w.in-Some.ensures.value in
           rw w.clients-is (record {
             inside = inside_next c.args.text.now c.args.pieces.now c.loop-i.i c.loop-i-test.true inv.inside;
-            due = due_more c.args.text.now c.args.pieces.now c.loop-i.i c.loop-i-test.true w.in-Some.slot.now w.make_room.new.self c.loop-i.clients.entries _ written w.in-Some.ensures.value (w.in-Ok.ensures.due ∙ ap (λ n. w.in-Some.slot.now.due + n) (sym long)) inv.due;
-            ready = ready_next _ w.in-Some.slot.now w.make_room.new.self c.loop-i.clients.entries _ written w.in-Some.ensures.value w.in-Ok.ensures.ready inv.ready;
-            limits = λ limit all. limits_next limit _ w.in-Some.slot.now w.make_room.new.self c.loop-i.clients.entries _ written w.in-Some.ensures.value w.make_room.ensures.limit (inv.limits limit all);
-            clients = plain_same _ w.in-Some.slot.now w.make_room.new.self c.loop-i.clients.entries _ h.0 w.in-Some.ensures.value w.make_room.ensures.client ∙ inv.clients;
+            due = due_more c.args.text.now c.args.pieces.now c.loop-i.i c.loop-i-test.true w.in-Some.slot.now w.make_room.new.self c.loop-i.clients _ written w.in-Some.ensures.value (w.in-Ok.ensures.due ∙ ap (λ n. w.in-Some.slot.now.due + n) (sym long)) inv.due;
+            ready = ready_next _ w.in-Some.slot.now w.make_room.new.self c.loop-i.clients _ written w.in-Some.ensures.value w.in-Ok.ensures.ready inv.ready;
+            limits = λ limit all. limits_next limit _ w.in-Some.slot.now w.make_room.new.self c.loop-i.clients _ written w.in-Some.ensures.value w.make_room.ensures.limit (inv.limits limit all);
+            clients = plain_same _ w.in-Some.slot.now w.make_room.new.self c.loop-i.clients _ refl w.in-Some.ensures.value w.make_room.ensures.client ∙ inv.clients;
           })
       | in_default w ↦
-          let none = sym (none_of c.get_mut.result w.in_default.not-Some ∙ c.get_mut.ensures.value) in
-          rw (w.clients-is, c.get_mut.follows.holds-at-none) (record {
+          let none = sym (none_of c.get_mut_at.result w.in_default.not-Some ∙ c.get_mut_at.ensures.value) in
+          rw w.clients-is (record {
             inside = inside_next c.args.text.now c.args.pieces.now c.loop-i.i c.loop-i-test.true inv.inside;
-            due = subst (λ ps. AreDue ps c.loop-i.clients.entries) (sym done) (grown_past _ _ _ c.loop-i.clients.entries none inv.due);
+            due = subst (λ ps. AreDue ps c.loop-i.clients) (sym done) (grown_past _ _ _ c.loop-i.clients none inv.due);
             ready = inv.ready;
             limits = inv.limits;
             clients = inv.clients;

@@ -7,8 +7,8 @@ use Rattle.lobby_post.proofs.delivery.make_room.Given as goal
 abbrev pub invariant-loop-i : goal.invariant-loop-i
 invariant-loop-i l = record {
   inside : AllByRecursion (LiesIn l.text) (drop l.i l.pieces);
-  due : AreDue (pieces_of l.text (take l.i l.pieces)) l.clients.entries;
-  ready : AreReady l.clients.entries;
-  limits : (limit : ℕ) → HaveLimit limit l.initial.clients.entries → HaveLimit limit l.clients.entries;
-  clients : plain l.clients.entries ≡ plain l.initial.clients.entries;
+  due : AreDue (pieces_of l.text (take l.i l.pieces)) l.clients;
+  ready : AreReady l.clients;
+  limits : (limit : ℕ) → HaveLimit limit l.initial.clients → HaveLimit limit l.clients;
+  clients : plain l.clients ≡ plain l.initial.clients;
 }

@@ -27,7 +27,7 @@ grown c =
 pub invariant_of-self-2 : goal.invariant_of-self-2
 invariant_of-self-2 c =
     IsIndex-push _ _ (c.in-Ok.name, c.args.account) (grown c) c.self.invariant
-    (c.in-Ok.ensures.items ∙ c.name-2.ensures.value) (unknown c)
+    (record { named = c.in-Ok.ensures.items ∙ c.name-2.ensures.value; held = c.keeps_its_rules.ensures }) (unknown c)
 
 pub returns-clause-ok : goal.returns-clause-ok
 returns-clause-ok c =

@@ -1,16 +1,21 @@
 use Rattle.lobby_post.specs.Mail.{IsReady, bytes_for}
 use Rattle.std.proofs.Common.{◌≡◌, length}
-use Rattle.lobby_post.proofs.Slots.{plain_removed, all_removed}
+use Rattle.lobby_post.proofs.Crowds.{plain_removed, all_removed, removed_from}
 use Rattle.lobby_post.proofs.clients.Clients.remove.Goals as goal
 
 pub returns-clause-clients : goal.returns-clause-clients
-returns-clause-clients c = rw (← c.self.view_is) (plain_removed c.args.client c.self.inside.slots.entries c.remove.new.self.entries c.len.ensures.ordered c.remove.ensures.entries)
+returns-clause-clients c = rw (← c.self.view_is) (plain_removed c.args.client c.self.inside.slots c.remove.new.self c.remove.ensures.was_ordered c.remove.ensures.entries)
 
 pub returns-clause-due : goal.returns-clause-due
 returns-clause-due c =
     rw (← c.self.view_is) (λ pieces all. all_removed
-    (λ q held. held.due ≡ length (bytes_for pieces q)) c.args.client c.self.inside.slots.entries c.remove.new.self.entries c.remove.ensures.updates.0 all)
+    (λ q held. held.due ≡ length (bytes_for pieces q)) c.args.client c.self.inside.slots c.remove.new.self (removed_from c.args.client c.self.inside.slots c.remove.new.self c.remove.ensures.was_ordered c.remove.ensures.entries) all)
 
 pub returns-clause-ready : goal.returns-clause-ready
 returns-clause-ready c =
-    rw (← c.self.view_is) (λ all. all_removed (λ q held. IsReady held) c.args.client c.self.inside.slots.entries c.remove.new.self.entries c.remove.ensures.updates.0 all)
+    rw (← c.self.view_is) (λ all. all_removed (λ q held. IsReady held) c.args.client c.self.inside.slots c.remove.new.self (removed_from c.args.client c.self.inside.slots c.remove.new.self c.remove.ensures.was_ordered c.remove.ensures.entries) all)
+
+pub invariant_of-self : goal.invariant_of-self
+invariant_of-self c =
+    all_removed (λ q held. held.limit ≡ c.self.inside.limit) c.args.client c.self.inside.slots c.remove.new.self
+    (removed_from c.args.client c.self.inside.slots c.remove.new.self c.remove.ensures.was_ordered c.remove.ensures.entries) c.self.invariant

@@ -6,7 +6,7 @@ use Rattle.lobby_post.proofs.post.Post.forget.Goals as goal
 
 pub forget-requires-clause-due : goal.forget-requires-clause-due
 forget-requires-clause-due c =
-    subst (λ ps. AreDue ps c.clients.inside.slots.entries)
+    subst (λ ps. AreDue ps c.clients.inside.slots)
     (sym ((λ i. pieces_of (c.deref.ensures.value i) (c.deref-2.ensures.value i)) ∙ ap (λ (p : Posted). p.sent) c.self.view_is))
     (subst (λ (m : Crowd). AreDue c.args.self.now.sent m.slots) (sym c.clients.view_is) c.requires.due)
 

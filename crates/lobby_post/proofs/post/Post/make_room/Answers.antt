@@ -9,7 +9,7 @@ make_room-requires-clause-due c = subst (λ (m : Crowd). AreDue [] m.slots) (sym
 
 pub returns-clause-due : goal.returns-clause-due
 returns-clause-due c =
-    subst (λ ps. OnOk c.make_room.result (AreDue ps c.make_room.new.clients.entries))
+    subst (λ ps. OnOk c.make_room.result (AreDue ps c.make_room.new.clients))
     ((λ i. pieces_of (c.deref.ensures.value i) (c.deref-2.ensures.value i)) ∙ ap (λ (p : Posted). p.sent) c.self.view_is) c.make_room.ensures.due
 
 pub invariant_of-clients : goal.invariant_of-clients

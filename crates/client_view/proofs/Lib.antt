@@ -1,0 +1,4 @@
+pub mod Ended
+pub mod Follows
+pub mod Feeding
+pub mod Read

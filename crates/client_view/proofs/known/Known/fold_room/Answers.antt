@@ -1,0 +1,21 @@
+use Rattle.std.proofs.Common.{◌≡◌, ◌∙◌, ap, sym, subst, w64, ℤ, rules}
+use Rattle.std.specs.Prelude.{OnOk}
+use Rattle.std.proofs.lemmas.Int.{to_z-of_z}
+use Rattle.reply_grammar.specs.declared.Reply.{Reply}
+use Rattle.reply_grammar.specs.declared.Reply.TheVariants as reply
+use Rattle.lobby_view.specs.View.{shown}
+use Rattle.client_view.proofs.known.Known.fold_room.Goals as goal
+
+pub returns-in-AddBot-clause-ok : goal.returns-in-AddBot-clause-ok
+returns-in-AddBot-clause-ok c =
+    subst (λ (r : Reply). OnOk c.add_bot.result (c.add_bot.new.self ≡ shown c.args.self.now r))
+    (ap (λ (z : ℤ). reply.AddBot c.in-AddBot.battle c.in-AddBot.bot c.in-AddBot.owner c.in-AddBot.battle_status z c.in-AddBot.ai)
+    (to_z-of_z w64 c.in-AddBot.team_color (search rules)) ∙ sym c.in-AddBot.is)
+    c.add_bot.ensures.ok
+
+pub returns-in-UpdateBot-clause-ok : goal.returns-in-UpdateBot-clause-ok
+returns-in-UpdateBot-clause-ok c =
+    c.update_bot.ensures
+    ∙ ap (λ (z : ℤ). shown c.args.self.now (reply.UpdateBot c.in-UpdateBot.battle c.in-UpdateBot.bot c.in-UpdateBot.battle_status z))
+    (to_z-of_z w64 c.in-UpdateBot.team_color (search rules))
+    ∙ ap (shown c.args.self.now) (sym c.in-UpdateBot.is)

@@ -1,0 +1,221 @@
+//! The battles, as all see them.
+
+ghost use Rattle.std.specs.Prelude.{◌≡◌, ◌<◌, ◌^◌, ℕ, [], ◌∷◌, OnOk, OnErr, length, option_copied};
+ghost use Rattle.std.specs.Ordering.{nat_cmp};
+ghost use Rattle.std.specs.List.Sorted.{IsStrictlySortedBy};
+ghost use Rattle.std.specs.Map.{keys_of};
+ghost use Rattle.std.specs.Map.Iter.{ShowsInOrder, deref_pair};
+ghost use Rattle.line_words.specs.Table.{at_number, put_number, without_number, change_number, all_but};
+ghost use Rattle.lobby_model.specs.State.{updated};
+ghost use Rattle.lobby_view.specs.View.{Listed, change_members, change_listed_info, at_end};
+
+use crate::names::Names;
+use line_words::{NameBuf, SentenceBuf, WordBuf};
+use std::alloc::{AllocError, Global};
+use std::collections::BTreeMap;
+use std::collections::btree_map::Iter;
+use std::marker::Model;
+
+/// A battle as it is listed. The hashes and the rank are -2147483648 to 4294967295.
+#[derive(Drop)]
+pub struct Battle {
+    /// 0 for a game, 1 for a replay.
+    pub battle_type: u8,
+    /// How clients pass address translation, 0 to 2.
+    pub nat_type: u8,
+    /// The user that opened the battle and hosts it.
+    pub founder: NameBuf,
+    /// The address that the battle is hosted at.
+    pub ip: WordBuf,
+    /// The UDP port that the battle is hosted at.
+    pub port: u16,
+    /// The most players that the battle takes.
+    pub max_players: u16,
+    /// Whether who joins must give a password.
+    pub passworded: bool,
+    /// The lowest rank that is wanted.
+    pub rank: i64,
+    /// The hash of the map.
+    pub map_hash: i64,
+    /// The engine that the battle is played with.
+    pub engine_name: SentenceBuf,
+    /// The version of the engine.
+    pub engine_version: SentenceBuf,
+    /// The name of the map.
+    pub map: SentenceBuf,
+    /// What the founder calls the battle.
+    pub title: SentenceBuf,
+    /// The name of the game.
+    pub game_name: SentenceBuf,
+    /// How many watch, as the founder says.
+    pub spectators: u16,
+    /// Whether nobody may join it now.
+    pub locked: bool,
+    pub(crate) members: Names,
+}
+
+impl Model for Battle {
+    ghost use Rattle.lobby_view.specs.View.{Listed};
+
+    ghost Value = { Listed };
+
+    ghost view = { λ b. record {
+      info = record {
+        battle_type = b.battle_type;
+        nat_type = b.nat_type;
+        founder = b.founder;
+        ip = b.ip;
+        port = b.port;
+        max_players = b.max_players;
+        passworded = b.passworded;
+        rank = b.rank;
+        map_hash = b.map_hash;
+        engine_name = b.engine_name;
+        engine_version = b.engine_version;
+        map = b.map;
+        title = b.title;
+        game_name = b.game_name;
+        spectators = b.spectators;
+        locked = b.locked;
+      };
+      members = b.members;
+    } };
+}
+
+impl Battle {
+    /// The names of its members in order of joining, the founder first.
+    pub fn members(&self) -> &[NameBuf]
+        ensures { result.now ≡ self.now.members }
+    {
+        self.members.as_slice()
+    }
+
+    /// What all know of it changes.
+    fn update(&mut self, spectators: u16, locked: bool, map_hash: i64, map: SentenceBuf)
+        ensures { self.new ≡ change_listed_info (updated spectators locked map_hash map) self.old }
+    {
+        self.spectators = spectators;
+        self.locked = locked;
+        self.map_hash = map_hash;
+        self.map = map;
+    }
+
+    /// One joins it. Where memory is refused, nothing changes.
+    fn add_member(&mut self, name: NameBuf) -> Result<(), AllocError>
+        ensures ok { OnOk result (self.new ≡ change_members (at_end (name ∷ [])) self.old) }
+        ensures err { OnErr result (self.new ≡ self.old) }
+    {
+        self.members.push(name)
+    }
+
+    /// One leaves it.
+    fn remove_member(&mut self, name: &NameBuf)
+        ensures { self.new ≡ change_members (all_but name.now) self.old }
+    {
+        self.members.remove(name);
+    }
+}
+
+/// The battles by their numbers.
+#[derive(Drop)]
+pub struct Battles {
+    by_number: BTreeMap<u32, Battle>,
+}
+
+impl Model for Battles {
+    ghost use Rattle.line_words.specs.Table.{ByNumber};
+    ghost use Rattle.lobby_view.specs.View.{Listed};
+
+    ghost Value = { ByNumber Listed };
+
+    ghost view = { λ b. b.by_number.entries };
+}
+
+impl Battles {
+    /// No battle. It takes no memory yet.
+    pub(crate) fn new(alloc: Global) -> Battles
+        ensures { result ≡ [] }
+    {
+        Battles {
+            by_number: BTreeMap::new(alloc),
+        }
+    }
+
+    /// The battle of a number, if there is one.
+    pub fn get(&self, number: u32) -> Option<&Battle>
+        ensures { option_copied result ≡ at_number self.now number }
+    {
+        self.by_number.get(&number)
+    }
+
+    /// How many battles there are.
+    pub fn len(&self) -> usize
+        ensures { result ≡ length self.now }
+    {
+        self.by_number.len()
+    }
+
+    /// The battles and their numbers, in the order of these.
+    pub fn iter(&self) -> Iter<'_, u32, Battle>
+        ensures rest { result ≡ self.now }
+        ensures runs { ShowsInOrder (deref_pair {K = ℕ} {X = Listed}) }
+        ensures ordered { IsStrictlySortedBy nat_cmp (keys_of self.now) }
+        ensures fits { length self.now < 2 ^ 63 }
+    {
+        self.by_number.iter()
+    }
+
+    /// A battle opens, in place of one of the number. Where memory is refused, nothing changes.
+    pub(crate) fn put(&mut self, number: u32, battle: Battle) -> Result<(), AllocError>
+        ensures ok { OnOk result (self.new ≡ put_number self.old number battle) }
+        ensures err { OnErr result (self.new ≡ self.old) }
+    {
+        self.by_number.insert(number, battle)?;
+        Ok(())
+    }
+
+    /// What all know of a battle changes.
+    pub(crate) fn update(
+        &mut self,
+        number: u32,
+        spectators: u16,
+        locked: bool,
+        map_hash: i64,
+        map: SentenceBuf,
+    )
+        ensures { self.new ≡ change_number self.old number (change_listed_info (updated spectators locked map_hash map)) }
+    {
+        if let Some(battle) = self.by_number.get_mut(&number) {
+            battle.update(spectators, locked, map_hash, map);
+        }
+    }
+
+    /// One joins a battle. Where memory is refused, nothing changes.
+    pub(crate) fn add_member(&mut self, number: u32, name: NameBuf) -> Result<(), AllocError>
+        ensures ok { OnOk result (self.new ≡ change_number self.old number (change_members (at_end (name ∷ [])))) }
+        ensures err { OnErr result (self.new ≡ self.old) }
+    {
+        if let Some(battle) = self.by_number.get_mut(&number) {
+            battle.add_member(name)?;
+        }
+        Ok(())
+    }
+
+    /// One leaves a battle.
+    pub(crate) fn remove_member(&mut self, number: u32, name: &NameBuf)
+        ensures { self.new ≡ change_number self.old number (change_members (all_but name.now)) }
+    {
+        if let Some(battle) = self.by_number.get_mut(&number) {
+            battle.remove_member(name);
+        }
+    }
+
+    /// A battle closes.
+    pub(crate) fn remove(&mut self, number: u32)
+        ensures { self.new ≡ without_number self.old number }
+    {
+        // Its contract says that the numbers rise, which the proof wants of the map as it was.
+        let _ = self.by_number.len();
+        let _ = self.by_number.remove(&number);
+    }
+}

@@ -1,0 +1,7 @@
+//! How what a client knows changes, one function a kind of line.
+
+mod battles;
+mod channels;
+mod own;
+mod room;
+mod session;

@@ -1,0 +1,170 @@
+//! The lines of battles, as all see them.
+
+ghost use Rattle.std.specs.Prelude.{◌≡◌, ℕ, List, Option, OnOk, OnErr};
+ghost use Rattle.line_words.specs.Table.{put_number};
+ghost use Rattle.reply_grammar.specs.declared.Reply.TheVariants as reply;
+ghost use Rattle.reply_grammar.specs.Groups.{Battles, Opening, group_of};
+ghost use Rattle.reply_grammar.specs.Replies.{command_of};
+ghost use Rattle.lobby_view.specs.View.{shown, in_room_of, entered};
+ghost use Rattle.battle_room.specs.Room as room;
+
+use crate::battles::Battle;
+use crate::folding::own;
+use crate::known::Known;
+use crate::names::Names;
+use crate::own_room::OwnRoom;
+use line_words::{NameBuf, SentenceBuf, WordBuf};
+use reply_grammar::Reply;
+use std::alloc::AllocError;
+
+impl Known {
+    // The reply is one of the group.
+    pub(crate) fn fold_battles(&mut self, reply: Reply) -> Result<(), AllocError>
+        requires { group_of (command_of reply) ≡ Battles }
+        ensures ok { OnOk result (self.new ≡ shown self.old reply) }
+        ensures err { OnErr result (self.new ≡ self.old) }
+    {
+        match reply {
+            Reply::OpenBattle { battle } => self.open_battle(battle),
+            Reply::JoinBattle { battle, .. } => self.open_battle(battle),
+            Reply::JoinedBattle {
+                battle,
+                user,
+                script_password,
+            } => self.joined_battle(battle, user, script_password),
+            Reply::LeftBattle { battle, user } => {
+                self.left_battle(battle, &user);
+                Ok(())
+            }
+            Reply::BattleClosed { battle } => {
+                self.battle_closed(battle);
+                Ok(())
+            }
+            Reply::UpdateBattleInfo {
+                battle,
+                spectator_count,
+                locked,
+                map_hash,
+                map,
+            } => {
+                self.update_battle_info(battle, spectator_count, locked, map_hash, map);
+                Ok(())
+            }
+            Reply::RequestBattleStatus | Reply::ForceQuitBattle => Ok(()),
+            _ => unreachable!(),
+        }
+    }
+
+    // The reply tells all of a battle that opens.
+    pub(crate) fn battle_opened(&mut self, reply: Reply) -> Result<(), AllocError>
+        requires { group_of (command_of reply) ≡ Opening }
+        ensures ok { OnOk result (self.new ≡ shown self.old reply) }
+        ensures err { OnErr result (self.new ≡ self.old) }
+    {
+        match reply {
+            Reply::BattleOpened {
+                battle,
+                battle_type,
+                nat_type,
+                founder,
+                ip,
+                port,
+                max_players,
+                passworded,
+                rank,
+                map_hash,
+                engine_name,
+                engine_version,
+                map,
+                title,
+                game_name,
+            } => {
+                let members = Names::one(self.alloc, founder.copy())?;
+                let listed = Battle {
+                    battle_type,
+                    nat_type,
+                    founder,
+                    ip,
+                    port,
+                    max_players,
+                    passworded,
+                    rank,
+                    map_hash,
+                    engine_name,
+                    engine_version,
+                    map,
+                    title,
+                    game_name,
+                    spectators: 0,
+                    locked: false,
+                    members,
+                };
+                self.battles.put(battle, listed)
+            }
+            _ => unreachable!(),
+        }
+    }
+
+    // The client enters a battle, as its founder or as one who joins.
+    fn open_battle(&mut self, number: u32) -> Result<(), AllocError>
+        ensures ok { OnOk result (self.new ≡ shown self.old (reply.OpenBattle number)) }
+        ensures err { OnErr result (self.new ≡ self.old) }
+    {
+        let room = OwnRoom::entered(self.alloc, number, self.battles.get(number))?;
+        self.own = Some(room);
+        Ok(())
+    }
+
+    // Only a founder's client is told a script password, and no client keeps it.
+    fn joined_battle(
+        &mut self,
+        number: u32,
+        name: NameBuf,
+        _script_password: Option<WordBuf>,
+    ) -> Result<(), AllocError>
+        ensures ok { OnOk result (self.new ≡ shown self.old (reply.JoinedBattle number name _script_password)) }
+        ensures err { OnErr result (self.new ≡ self.old) }
+    {
+        own::add_member(&mut self.own, number, name.copy())?;
+        match self.battles.add_member(number, name) {
+            Ok(()) => Ok(()),
+            Err(refused) => {
+                own::drop_last(&mut self.own, number);
+                Err(refused)
+            }
+        }
+    }
+
+    fn update_battle_info(
+        &mut self,
+        number: u32,
+        spectators: u16,
+        locked: bool,
+        map_hash: i64,
+        map: SentenceBuf,
+    )
+        ensures { self.new ≡ shown self.old (reply.UpdateBattleInfo number spectators locked map_hash map) }
+    {
+        self.battles
+            .update(number, spectators, locked, map_hash, map);
+    }
+
+    // The room is left with the client itself.
+    fn left_battle(&mut self, number: u32, name: &NameBuf)
+        ensures { self.new ≡ shown self.old (reply.LeftBattle number name.now) }
+    {
+        if self.is_me(name) {
+            own::leave(&mut self.own, number);
+        } else {
+            own::remove_member(&mut self.own, number, name);
+        }
+        self.battles.remove_member(number, name);
+    }
+
+    fn battle_closed(&mut self, number: u32)
+        ensures { self.new ≡ shown self.old (reply.BattleClosed number) }
+    {
+        self.battles.remove(number);
+        own::leave(&mut self.own, number);
+    }
+}

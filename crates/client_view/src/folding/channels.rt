@@ -1,0 +1,73 @@
+//! The lines of channels.
+
+ghost use Rattle.std.specs.Prelude.{◌≡◌, OnOk, OnErr};
+ghost use Rattle.reply_grammar.specs.declared.Reply.TheVariants as reply;
+ghost use Rattle.reply_grammar.specs.Groups.{Channels, group_of};
+ghost use Rattle.reply_grammar.specs.Replies.{command_of};
+ghost use Rattle.lobby_view.specs.View.{shown};
+
+use crate::known::Known;
+use line_words::{NameBuf, NameList};
+use reply_grammar::Reply;
+use std::alloc::AllocError;
+
+impl Known {
+    // The reply is one of the group.
+    pub(crate) fn fold_channels(&mut self, reply: Reply) -> Result<(), AllocError>
+        requires { group_of (command_of reply) ≡ Channels }
+        ensures ok { OnOk result (self.new ≡ shown self.old reply) }
+        ensures err { OnErr result (self.new ≡ self.old) }
+    {
+        match reply {
+            Reply::Join { channel } => self.join(channel),
+            Reply::Clients { channel, names } => self.clients(&channel, names),
+            Reply::Joined { channel, user } => self.joined(&channel, user),
+            Reply::Left { channel, user } => {
+                self.left(&channel, &user);
+                Ok(())
+            }
+            Reply::Said { .. }
+            | Reply::SaidEx { .. }
+            | Reply::SayPrivate { .. }
+            | Reply::SaidPrivate { .. }
+            | Reply::Channel { .. }
+            | Reply::EndOfChannels => {
+                reply.discard();
+                Ok(())
+            }
+            _ => unreachable!(),
+        }
+    }
+
+    fn join(&mut self, channel: NameBuf) -> Result<(), AllocError>
+        ensures ok { OnOk result (self.new ≡ shown self.old (reply.Join channel)) }
+        ensures err { OnErr result (self.new ≡ self.old) }
+    {
+        self.channels.open(self.alloc, channel)
+    }
+
+    fn clients(&mut self, channel: &NameBuf, names: NameList) -> Result<(), AllocError>
+        ensures ok { OnOk result (self.new ≡ shown self.old (reply.Clients channel.now names)) }
+        ensures err { OnErr result (self.new ≡ self.old) }
+    {
+        self.channels.add_all(channel, names)
+    }
+
+    fn joined(&mut self, channel: &NameBuf, name: NameBuf) -> Result<(), AllocError>
+        ensures ok { OnOk result (self.new ≡ shown self.old (reply.Joined channel.now name)) }
+        ensures err { OnErr result (self.new ≡ self.old) }
+    {
+        self.channels.add(channel, name)
+    }
+
+    // The channel goes with the client itself.
+    fn left(&mut self, channel: &NameBuf, name: &NameBuf)
+        ensures { self.new ≡ shown self.old (reply.Left channel.now name.now) }
+    {
+        if self.is_me(name) {
+            self.channels.close(channel);
+        } else {
+            self.channels.remove(channel, name);
+        }
+    }
+}

@@ -1,0 +1,142 @@
+//! Changes of the client's own room, where it is in one. Where a battle is named, only its room
+//! changes.
+
+ghost use Rattle.std.specs.Prelude.{◌≡◌, ℕ, List, Option, None, OnOk, OnErr};
+ghost use Rattle.battle_room.specs.Room as room;
+ghost use Rattle.lobby_view.specs.View.{OwnRoom, if_of, in_own_room, in_room_of};
+
+use crate::bots::Bot;
+use crate::own_room::OwnRoom;
+use battle_room::Rect;
+use line_words::{NameBuf, PairList, WordBuf, WordList};
+use std::alloc::AllocError;
+
+pub(super) fn add_member(
+    own: &mut Option<OwnRoom>,
+    number: u32,
+    name: NameBuf,
+) -> Result<(), AllocError>
+    ensures ok { OnOk result (own.new ≡ in_room_of number (room.with_member name) own.old) }
+    ensures err { OnErr result (own.new ≡ own.old) }
+{
+    if let Some(room) = own {
+        if room.is_of(number) {
+            room.add_member(name)?;
+        }
+    }
+    Ok(())
+}
+
+// Takes back what `add_member` has just done.
+pub(super) fn drop_last(own: &mut Option<OwnRoom>, number: u32)
+    ensures { (before : Option OwnRoom) (name : List ℕ) → own.old ≡ in_room_of number (room.with_member name) before → own.new ≡ before }
+{
+    if let Some(room) = own {
+        if room.is_of(number) {
+            room.drop_last();
+        }
+    }
+}
+
+pub(super) fn remove_member(own: &mut Option<OwnRoom>, number: u32, name: &NameBuf)
+    ensures { own.new ≡ in_room_of number (room.all_members_but name.now) own.old }
+{
+    if let Some(room) = own {
+        if room.is_of(number) {
+            room.remove_member(name);
+        }
+    }
+}
+
+// The client is in this battle no more.
+pub(super) fn leave(own: &mut Option<OwnRoom>, number: u32)
+    ensures { own.new ≡ if_of number (λ o. None) own.old }
+{
+    if let Some(room) = own {
+        if room.is_of(number) {
+            *own = None;
+        }
+    }
+}
+
+pub(super) fn put_status(own: &mut Option<OwnRoom>, name: &NameBuf, status: u32, colour: i64)
+    ensures { own.new ≡ in_own_room (room.with_status name.now status colour) own.old }
+{
+    if let Some(room) = own {
+        room.put_status(name, status, colour);
+    }
+}
+
+pub(super) fn add_bot(own: &mut Option<OwnRoom>, number: u32, bot: Bot) -> Result<(), AllocError>
+    ensures ok { OnOk result (own.new ≡ in_room_of number (room.with_bot bot) own.old) }
+    ensures err { OnErr result (own.new ≡ own.old) }
+{
+    if let Some(room) = own {
+        if room.is_of(number) {
+            room.add_bot(bot)?;
+        }
+    }
+    Ok(())
+}
+
+pub(super) fn put_bot_status(
+    own: &mut Option<OwnRoom>,
+    number: u32,
+    name: &WordBuf,
+    status: u32,
+    colour: i64,
+)
+    ensures { own.new ≡ in_room_of number (room.with_bot_status name.now status colour) own.old }
+{
+    if let Some(room) = own {
+        if room.is_of(number) {
+            room.put_bot_status(name, status, colour);
+        }
+    }
+}
+
+pub(super) fn remove_bot(own: &mut Option<OwnRoom>, number: u32, name: &WordBuf)
+    ensures { own.new ≡ in_room_of number (room.without_bot name.now) own.old }
+{
+    if let Some(room) = own {
+        if room.is_of(number) {
+            room.remove_bot(name);
+        }
+    }
+}
+
+pub(super) fn put_rect(own: &mut Option<OwnRoom>, ally: u8, rect: Rect) -> Result<(), AllocError>
+    ensures ok { OnOk result (own.new ≡ in_own_room (room.with_rect ally rect) own.old) }
+    ensures err { OnErr result (own.new ≡ own.old) }
+{
+    if let Some(room) = own {
+        room.put_rect(ally, rect)?;
+    }
+    Ok(())
+}
+
+pub(super) fn remove_rect(own: &mut Option<OwnRoom>, ally: u8)
+    ensures { own.new ≡ in_own_room (room.without_rect ally) own.old }
+{
+    if let Some(room) = own {
+        room.remove_rect(ally);
+    }
+}
+
+pub(super) fn put_tags(own: &mut Option<OwnRoom>, pairs: PairList) -> Result<(), AllocError>
+    ensures ok { OnOk result (own.new ≡ in_own_room (room.set_tags pairs) own.old) }
+    ensures err { OnErr result (own.new ≡ own.old) }
+{
+    if let Some(room) = own {
+        room.put_tags(pairs)?;
+    }
+    Ok(())
+}
+
+pub(super) fn remove_tags(own: &mut Option<OwnRoom>, keys: &WordList)
+    ensures { own.new ≡ in_own_room (room.remove_tags keys.now) own.old }
+{
+    if let Some(room) = own {
+        room.remove_tags(keys);
+    }
+}

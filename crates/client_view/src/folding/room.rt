@@ -1,0 +1,161 @@
+//! The lines of the client's own room.
+
+ghost use Rattle.std.specs.Prelude.{◌≡◌, OnOk, OnErr, IsTrue};
+ghost use Rattle.reply_grammar.specs.declared.Reply.TheVariants as reply;
+ghost use Rattle.reply_grammar.specs.Groups.{Room, group_of};
+ghost use Rattle.reply_grammar.specs.Replies.{command_of};
+ghost use Rattle.lobby_view.specs.View.{shown};
+ghost use Rattle.client_view.specs.Rooms.{is_of_game};
+
+use crate::bots::Bot;
+use crate::folding::own;
+use crate::known::Known;
+use battle_room::Rect;
+use line_words::{NameBuf, PairList, WordBuf, WordList};
+use reply_grammar::Reply;
+use std::alloc::AllocError;
+
+impl Known {
+    // The reply is one of the group.
+    pub(crate) fn fold_room(&mut self, reply: Reply) -> Result<(), AllocError>
+        requires { group_of (command_of reply) ≡ Room }
+        ensures ok { OnOk result (self.new ≡ shown self.old reply) }
+        ensures err { OnErr result (self.new ≡ self.old) }
+    {
+        match reply {
+            Reply::ClientBattleStatus {
+                user,
+                battle_status,
+                team_color,
+            } => {
+                self.client_battle_status(&user, battle_status, team_color);
+                Ok(())
+            }
+            Reply::AddBot {
+                battle,
+                bot,
+                owner,
+                battle_status,
+                team_color,
+                ai,
+            } => {
+                let bot = Bot {
+                    name: bot,
+                    owner,
+                    status: battle_status,
+                    colour: team_color,
+                    ai,
+                };
+                self.add_bot(battle, bot)
+            }
+            Reply::UpdateBot {
+                battle,
+                bot,
+                battle_status,
+                team_color,
+            } => {
+                self.update_bot(battle, &bot, battle_status, team_color);
+                Ok(())
+            }
+            Reply::RemoveBot { battle, bot } => {
+                self.remove_bot(battle, &bot);
+                Ok(())
+            }
+            Reply::AddStartRect { .. }
+            | Reply::RemoveStartRect { .. }
+            | Reply::SetScriptTags { .. }
+            | Reply::RemoveScriptTags { .. } => self.fold_game(reply),
+            Reply::SaidBattle { .. } | Reply::SaidBattleEx { .. } | Reply::Ring { .. } => {
+                reply.discard();
+                Ok(())
+            }
+            _ => unreachable!(),
+        }
+    }
+
+    // The reply is one of start rectangles and script tags.
+    fn fold_game(&mut self, reply: Reply) -> Result<(), AllocError>
+        requires { IsTrue (is_of_game reply) }
+        ensures ok { OnOk result (self.new ≡ shown self.old reply) }
+        ensures err { OnErr result (self.new ≡ self.old) }
+    {
+        match reply {
+            Reply::AddStartRect {
+                ally_no,
+                left,
+                top,
+                right,
+                bottom,
+            } => {
+                let rect = Rect {
+                    left,
+                    top,
+                    right,
+                    bottom,
+                };
+                self.add_start_rect(ally_no, rect)
+            }
+            Reply::RemoveStartRect { ally_no } => {
+                self.remove_start_rect(ally_no);
+                Ok(())
+            }
+            Reply::SetScriptTags { pairs } => self.set_script_tags(pairs),
+            Reply::RemoveScriptTags { keys } => {
+                self.remove_script_tags(&keys);
+                Ok(())
+            }
+            _ => unreachable!(),
+        }
+    }
+
+    fn client_battle_status(&mut self, name: &NameBuf, status: u32, colour: i64)
+        ensures { self.new ≡ shown self.old (reply.ClientBattleStatus name.now status colour) }
+    {
+        own::put_status(&mut self.own, name, status, colour);
+    }
+
+    fn add_bot(&mut self, number: u32, bot: Bot) -> Result<(), AllocError>
+        ensures ok { OnOk result (self.new ≡ shown self.old (reply.AddBot number bot.name bot.owner bot.status bot.colour bot.ai)) }
+        ensures err { OnErr result (self.new ≡ self.old) }
+    {
+        own::add_bot(&mut self.own, number, bot)
+    }
+
+    fn update_bot(&mut self, number: u32, name: &WordBuf, status: u32, colour: i64)
+        ensures { self.new ≡ shown self.old (reply.UpdateBot number name.now status colour) }
+    {
+        own::put_bot_status(&mut self.own, number, name, status, colour);
+    }
+
+    fn remove_bot(&mut self, number: u32, name: &WordBuf)
+        ensures { self.new ≡ shown self.old (reply.RemoveBot number name.now) }
+    {
+        own::remove_bot(&mut self.own, number, name);
+    }
+
+    fn add_start_rect(&mut self, ally: u8, rect: Rect) -> Result<(), AllocError>
+        ensures ok { OnOk result (self.new ≡ shown self.old (reply.AddStartRect ally rect.left rect.top rect.right rect.bottom)) }
+        ensures err { OnErr result (self.new ≡ self.old) }
+    {
+        own::put_rect(&mut self.own, ally, rect)
+    }
+
+    fn remove_start_rect(&mut self, ally: u8)
+        ensures { self.new ≡ shown self.old (reply.RemoveStartRect ally) }
+    {
+        own::remove_rect(&mut self.own, ally);
+    }
+
+    fn set_script_tags(&mut self, pairs: PairList) -> Result<(), AllocError>
+        ensures ok { OnOk result (self.new ≡ shown self.old (reply.SetScriptTags pairs)) }
+        ensures err { OnErr result (self.new ≡ self.old) }
+    {
+        own::put_tags(&mut self.own, pairs)
+    }
+
+    fn remove_script_tags(&mut self, keys: &WordList)
+        ensures { self.new ≡ shown self.old (reply.RemoveScriptTags keys.now) }
+    {
+        own::remove_tags(&mut self.own, keys);
+    }
+}

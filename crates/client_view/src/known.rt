@@ -1,0 +1,122 @@
+//! What a client knows, and how it changes line by line.
+
+ghost use Rattle.std.specs.Prelude.{◌≡◌, [], OnOk, OnErr};
+ghost use Rattle.line_words.specs.Table.{same_name};
+ghost use Rattle.lobby_view.specs.View.{new_view, shown};
+
+use crate::battles::Battles;
+use crate::channels::Channels;
+use crate::own_room::OwnRoom;
+use crate::users::Users;
+use line_words::NameBuf;
+use reply_grammar::Reply;
+use std::alloc::{AllocError, Global};
+use std::marker::Model;
+
+/// What a client knows.
+#[derive(Drop)]
+pub(crate) struct Known {
+    pub(crate) alloc: Global,
+    pub(crate) me: Option<NameBuf>,
+    pub(crate) users: Users,
+    pub(crate) battles: Battles,
+    pub(crate) channels: Channels,
+    pub(crate) own: Option<OwnRoom>,
+}
+
+impl Model for Known {
+    ghost use Rattle.lobby_view.specs.View.{View};
+    ghost use Rattle.client_view.specs.Kept.{own_name};
+
+    ghost Value = { View };
+
+    ghost view = { λ k. record { me = own_name k.me; users = k.users; battles = k.battles; channels = k.channels; own = k.own } };
+}
+
+impl Known {
+    /// Nothing is known. It takes no memory.
+    pub(crate) fn new(alloc: Global) -> Known
+        ensures { result ≡ new_view [] }
+    {
+        Known {
+            alloc,
+            me: None,
+            users: Users::new(alloc),
+            battles: Battles::new(alloc),
+            channels: Channels::new(alloc),
+            own: None,
+        }
+    }
+
+    /// The own name, no bytes before a login.
+    pub(crate) fn me(&self) -> &[u8]
+        ensures { result.now ≡ self.now.me }
+    {
+        match &self.me {
+            Some(name) => name.as_slice(),
+            None => &[],
+        }
+    }
+
+    /// Whether this is the own name.
+    pub(crate) fn is_me(&self, name: &NameBuf) -> bool
+        ensures { result ≡ same_name self.now.me name.now }
+    {
+        self.me().cmp(name.as_slice()).is_eq()
+    }
+
+    /// Folds a reply. Where memory is refused, nothing changes.
+    pub(crate) fn fold(&mut self, reply: Reply) -> Result<(), AllocError>
+        ensures ok { OnOk result (self.new ≡ shown self.old reply) }
+        ensures err { OnErr result (self.new ≡ self.old) }
+    {
+        match reply {
+            Reply::TasServer { .. }
+            | Reply::Accepted { .. }
+            | Reply::Motd { .. }
+            | Reply::AddUser { .. }
+            | Reply::RemoveUser { .. }
+            | Reply::ClientStatus { .. }
+            | Reply::LoginInfoEnd
+            | Reply::Pong => self.fold_session(reply),
+            Reply::Join { .. }
+            | Reply::Clients { .. }
+            | Reply::Joined { .. }
+            | Reply::Left { .. }
+            | Reply::Said { .. }
+            | Reply::SaidEx { .. }
+            | Reply::SayPrivate { .. }
+            | Reply::SaidPrivate { .. }
+            | Reply::Channel { .. }
+            | Reply::EndOfChannels => self.fold_channels(reply),
+            Reply::OpenBattle { .. }
+            | Reply::BattleClosed { .. }
+            | Reply::JoinBattle { .. }
+            | Reply::JoinedBattle { .. }
+            | Reply::LeftBattle { .. }
+            | Reply::UpdateBattleInfo { .. }
+            | Reply::RequestBattleStatus
+            | Reply::ForceQuitBattle => self.fold_battles(reply),
+            Reply::BattleOpened { .. } => self.battle_opened(reply),
+            Reply::ClientBattleStatus { .. }
+            | Reply::SaidBattle { .. }
+            | Reply::SaidBattleEx { .. }
+            | Reply::AddBot { .. }
+            | Reply::UpdateBot { .. }
+            | Reply::RemoveBot { .. }
+            | Reply::AddStartRect { .. }
+            | Reply::RemoveStartRect { .. }
+            | Reply::SetScriptTags { .. }
+            | Reply::RemoveScriptTags { .. }
+            | Reply::Ring { .. } => self.fold_room(reply),
+            Reply::Denied { .. }
+            | Reply::ServerMsg { .. }
+            | Reply::JoinFailed { .. }
+            | Reply::OpenBattleFailed { .. }
+            | Reply::JoinBattleFailed { .. } => {
+                reply.discard();
+                Ok(())
+            }
+        }
+    }
+}

@@ -1,0 +1,51 @@
+//! What a client of the lobby knows, folded from the bytes that it was sent: who is logged in, the
+//! battles and who is in them, the client's channels, and the room of the battle that it is in. For
+//! authors of clients, and of bots that host battles.
+//!
+//! A client makes a [`View`] when it connects and feeds it each piece that it reads, whatever the
+//! piece cuts in two. Behind a login the view has exactly what the server's lobby shows this user,
+//! and an author reads it there in place of following thirty kinds of line by hand.
+//!
+//! ```rust
+//! use client_view::{View, ViewError};
+//! use std::alloc::Global;
+//!
+//! /// How many bots the client's room has after a piece, where it is in a battle.
+//! fn bots_after(view: &mut View, piece: &[u8]) -> Result<Option<usize>, ViewError> {
+//!     let _folded = view.feed(piece)?;
+//!     Ok(view.room().map(|room| room.bots().len()))
+//! }
+//!
+//! fn connected(alloc: Global) -> View {
+//!     View::new(alloc)
+//! }
+//! ```
+//!
+//! A line that no reply prints is skipped, so a later server may send kinds of line that this crate
+//! does not know. Where memory is refused, `feed` says how many bytes it took in: the rest of the
+//! piece may be fed again. A view takes no byte from the network and sends none.
+#![tactic(auto)]
+
+mod battles;
+mod bots;
+mod channels;
+mod error;
+mod folding;
+mod known;
+mod members;
+mod names;
+mod own_room;
+mod reading;
+mod tags;
+mod users;
+mod view;
+
+pub use battles::{Battle, Battles};
+pub use bots::Bot;
+pub use channels::Channels;
+pub use error::ViewError;
+pub use lobby_view::{line_kinds_law, line_length_law, pieces_law, private_law, view_law};
+pub use members::Member;
+pub use own_room::OwnRoom;
+pub use users::{User, Users};
+pub use view::View;

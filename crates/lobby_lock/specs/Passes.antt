@@ -1,0 +1,69 @@
+-- What contracts see of a pass and of a hold.
+use Rattle.std.specs.Prelude.{◌≡◌, ℕ, ◌+◌, ◌≤◌, true, false, List, [], ◌++◌}
+use Rattle.atomic_table.specs.Seated.{TableId}
+use Rattle.crossbeam_queue.specs.Passes.{Pass, view}
+use Rattle.lobby_model.specs.declared.event.Event.{Event}
+use Rattle.lobby_model.specs.State.{State}
+use Rattle.lobby_machine.specs.Shown.{Shown}
+use Rattle.lobby_lock.specs.declared.view.View.{View}
+use Rattle.lobby_lock.specs.declared.view.Worker.{Worker}
+use Rattle.lobby_lock.specs.History.{after_history, under}
+use Rattle.lobby_lock.specs.Rule.{new_worker, with_events}
+
+-- The desk that the pass belongs to; the plain lobby with which that was opened; what the pass's worker has seen and made; how many
+-- numbers were handed out, which worker 0 alone counts; and whose passes it took back, the last first
+pub record ShownPass : Type 0 where
+  pub desk : TableId
+  pub start : State
+  pub worker : Worker
+  pub handed : ℕ
+  pub taken_back : List Worker
+
+-- a hold: its pass, the lobby, and its events so far
+pub record ShownHold : Type 0 where
+  pub pass : ShownPass
+  pub lobby : Shown
+  pub events : List Event
+
+abbrev pub shown_view : TableId → View → ShownPass
+shown_view desk v = record { desk = desk; start = v.start.plain; worker = v.worker; handed = v.handed; taken_back = v.taken_back }
+
+abbrev pub shown_pass : Pass Shown View → ShownPass
+shown_pass inner = shown_view inner.table_id (view inner)
+
+abbrev pub shown_hold : Pass Shown View → Shown → List Event → ShownHold
+shown_hold inner lobby events = record { pass = shown_pass inner; lobby = lobby; events = events }
+
+-- worker 0's pass of a desk that was opened with this plain lobby
+abbrev pub first_pass : TableId → State → ShownPass
+first_pass desk start = record { desk = desk; start = start; worker = new_worker 0 []; handed = 0; taken_back = [] }
+
+-- the pass of a worker more: it has seen what the giver has, and made nothing
+abbrev pub new_pass : ShownPass → ShownPass
+new_pass pass = record { desk = pass.desk; start = pass.start; worker = new_worker (pass.handed + 1) pass.worker.seen; handed = 0; taken_back = [] }
+
+-- a pass after a hold of these events
+abbrev pub pass_after : ShownHold → ShownPass
+pass_after held = record held.pass { worker = with_events held.pass.worker held.events }
+
+-- The plain lobby after all that the pass has seen, and then these events of its own
+abbrev pub lobby_after : ShownPass → List Event → State
+lobby_after pass events = after_history pass.start (pass.worker.seen ++ under pass.worker.number events)
+
+-- inside a pass: it does not hold, counts what its view counts, and has room for the events of a hold
+pub record IsReady (inner : Pass Shown View) (handed : ℕ) (room : List Event) (capacity : ℕ) : Type 0 where
+  pub slots : inner.me.1 ≡ []
+  pub alive : (view inner).alive ≡ true
+  pub holds : (view inner).holds ≡ false
+  pub counts : handed ≡ (view inner).handed
+  pub empty : room ≡ []
+  pub space : 32 ≤ capacity
+
+-- inside a hold: its lobby stands for the history seen and then the hold's own events
+pub record IsHolding (inner : Pass Shown View) (handed : ℕ) (lobby : Shown) (events : List Event) (capacity : ℕ) : Type 0 where
+  pub slots : inner.me.1 ≡ []
+  pub alive : (view inner).alive ≡ true
+  pub holds : (view inner).holds ≡ true
+  pub counts : handed ≡ (view inner).handed
+  pub stands : lobby.plain ≡ lobby_after (shown_pass inner) events
+  pub space : 32 ≤ capacity

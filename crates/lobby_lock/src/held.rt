@@ -1,0 +1,152 @@
+//! A hold of the lobby.
+
+ghost use Rattle.std.specs.Prelude.{◌≡◌, ℕ, ◌+◌, ◌<◌, ◌≤◌, ◌↔◌, [], ◌∷◌, ◌++◌, length, take, drop, min, OnOk, OnErr, IfOk, IsTrue, true, false};
+ghost use Rattle.command_grammar.specs.Kinds.{keeps_kinds};
+ghost use Rattle.lobby_model.specs.declared.event.Event.TheVariants as event;
+ghost use Rattle.lobby_model.specs.Sessions.{has_place};
+ghost use Rattle.lobby_model.specs.Next.{next};
+ghost use Rattle.lobby_post.specs.Mail.{IsWakes};
+ghost use Rattle.lobby_machine.specs.Shown.{unread_of, is_finished};
+ghost use Rattle.lobby_lock.specs.Passes.{lobby_after, pass_after};
+
+use crate::desk::{Desk, MOST_EVENTS};
+use crate::pass::Pass;
+use crate::place::put_back;
+use crate::rule::PlacePass;
+use command_grammar::Request;
+use lobby_machine::{Drained, Lobby, OpenError, Wakes};
+use lobby_model::Event;
+use std::alloc::AllocError;
+use std::marker::{Brand, Model};
+use std::sync::Wait;
+
+/// A hold of the lobby: nobody else has it. Contracts see its pass, the lobby, and its events so far.
+/// It has no `Drop`, so it must be given back.
+pub struct Held {
+    pub(crate) inner: PlacePass,
+    pub(crate) handed: u64,
+    pub(crate) lobby: Lobby,
+    pub(crate) events: Vec<Event>,
+}
+
+impl Model for Held {
+    ghost use Rattle.std.specs.Prelude.{vec_capacity};
+    ghost use Rattle.lobby_lock.specs.Passes.{ShownHold, shown_hold, IsHolding};
+
+    ghost Value = { ShownHold };
+
+    ghost view = { λ h. shown_hold h.inner h.lobby h.events.items };
+
+    ghost invariant = { λ h. IsHolding h.inner h.handed h.lobby h.events.items (vec_capacity h.events) };
+}
+
+impl Held {
+    /// How many events this hold has. Its lobby is always the plain lobby after all that its worker
+    /// has seen, and then these events.
+    pub fn count(&self) -> usize
+        ensures count { result ≡ length self.now.events }
+        ensures stands { self.now.lobby.plain ≡ lobby_after self.now.pass self.now.events }
+    {
+        self.events.len()
+    }
+
+    /// A client connects, as `Lobby::open` says: one event, unless it is refused.
+    pub fn open(&mut self, ip: [u8; 4], home: u8) -> Result<u64, OpenError>
+        requires few { length self.old.events < MOST_EVENTS }
+        requires home { home ≤ 63 }
+        ensures number { IfOk result (λ number. number ≡ self.old.lobby.plain.last_client + 1) }
+        ensures ok { OnOk result ((has_place self.old.lobby.plain ≡ true) × (self.new.lobby.plain ≡ next self.old.lobby.plain (event.Open ip home))) }
+        ensures event { OnOk result (self.new ≡ record self.old { lobby = self.new.lobby; events = self.old.events ++ event.Open ip home ∷ [] }) }
+        ensures full { (result ≡ Err OpenError.Full) ↔ (10000 ≤ length self.old.lobby.plain.clients) }
+        ensures no_number { result ≡ Err OpenError.NoNumber → self.old.lobby.plain.last_client ≡ 18446744073709551615 }
+        ensures no_place { has_place self.old.lobby.plain ≡ false → result ≡ Err OpenError.Memory → ⊥ }
+        ensures err { OnErr result (self.new ≡ self.old) }
+    {
+        match self.lobby.open(ip, home) {
+            Ok(number) => {
+                self.events.push_reserved(Event::Open { ip, home });
+                Ok(number)
+            }
+            Err(error) => Err(error),
+        }
+    }
+
+    /// A client's line was read as this request, as `Lobby::say` says: one event, also where it
+    /// changes nothing. The hold keeps the request. Fails only where memory is refused, and then
+    /// nothing changes.
+    pub fn say(&mut self, client: u64, request: Request) -> Result<Wakes, AllocError>
+        requires few { length self.old.events < MOST_EVENTS }
+        requires kinds { IsTrue (keeps_kinds request.command) }
+        ensures ok { OnOk result (self.new.lobby.plain ≡ next self.old.lobby.plain (event.Say client request)) }
+        ensures wakes { IfOk result (λ wakes. IsWakes self.old.lobby.plain (event.Say client request) wakes) }
+        ensures event { OnOk result (self.new ≡ record self.old { lobby = self.new.lobby; events = self.old.events ++ event.Say client request ∷ [] }) }
+        ensures err { OnErr result (self.new ≡ self.old) }
+    {
+        match self.lobby.say(client, &request) {
+            Ok(wakes) => {
+                self.events.push_reserved(Event::Say { client, request });
+                Ok(wakes)
+            }
+            Err(error) => {
+                request.discard();
+                Err(error)
+            }
+        }
+    }
+
+    /// A client's connection is closed, as `Lobby::shut` says: one event, also where it changes
+    /// nothing. Fails only where memory is refused, and then nothing changes.
+    pub fn shut(&mut self, client: u64) -> Result<Wakes, AllocError>
+        requires few { length self.old.events < MOST_EVENTS }
+        ensures ok { OnOk result (self.new.lobby.plain ≡ next self.old.lobby.plain (event.Shut client)) }
+        ensures wakes { IfOk result (λ wakes. IsWakes self.old.lobby.plain (event.Shut client) wakes) }
+        ensures event { OnOk result (self.new ≡ record self.old { lobby = self.new.lobby; events = self.old.events ++ event.Shut client ∷ [] }) }
+        ensures err { OnErr result (self.new ≡ self.old) }
+    {
+        match self.lobby.shut(client) {
+            Ok(wakes) => {
+                self.events.push_reserved(Event::Shut { client });
+                Ok(wakes)
+            }
+            Err(error) => Err(error),
+        }
+    }
+
+    /// Takes bytes that a client has not read into a slice, as `Lobby::drain` says: one event, also
+    /// where there are none. It takes no memory.
+    pub fn drain(&mut self, client: u64, into: &mut [u8]) -> Drained
+        requires few { length self.old.events < MOST_EVENTS }
+        ensures count { result.count ≡ min (length (unread_of self.old.lobby.plain client)) (length into.old) }
+        ensures given { into.new ≡ take result.count (unread_of self.old.lobby.plain client) ++ drop result.count into.old }
+        ensures finished { result.finished ≡ is_finished self.new.lobby.plain client }
+        ensures next { self.new.lobby.plain ≡ next self.old.lobby.plain (event.Drain client (length into.old)) }
+        ensures event { self.new ≡ record self.old { lobby = self.new.lobby; events = self.old.events ++ event.Drain client (length into.old) ∷ [] } }
+    {
+        let count = into.len();
+        let drained = self.lobby.drain(client, into);
+        self.events.push_reserved(Event::Drain { client, count });
+        drained
+    }
+
+    /// Gives the lobby back and ends the hold: its events join the history under its worker's number,
+    /// behind all that the worker has seen. Another worker may then take the lobby.
+    pub fn give<R: Wait>(self, rt: &R, desk: &Desk) -> Pass
+        requires { self.pass.desk ≡ desk.now }
+        ensures { result ≡ pass_after self }
+    {
+        let Held {
+            mut inner,
+            handed,
+            lobby,
+            mut events,
+        } = self;
+        put_back::<Brand, R>(rt, &desk.place, &mut inner, lobby, events.as_slice());
+        desk.bell.ring();
+        events.clear();
+        Pass {
+            inner,
+            handed,
+            room: events,
+        }
+    }
+}

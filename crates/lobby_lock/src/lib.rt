@@ -1,0 +1,29 @@
+//! One lobby for all workers. It lies on a desk, and a worker with a pass takes it, makes events, and
+//! gives it back; another worker waits until then.
+//!
+//! There is one history of all events, each with the number of the worker that made it, and the
+//! lobby is always the plain lobby after it. A pass tells its worker a beginning of that history: all
+//! of it up to the worker's last hold, with exactly the worker's own events under its number.
+//!
+//! The rule (`specs/Rule.antt`) is kept by each of the steps that touch the place of the lobby:
+//!
+//! - the place is made, and the lobby is put in (`Desk::open`);
+//! - a pass is handed out (`Desk::hand_out`), or taken back (`Desk::take_back`);
+//! - a worker looks for the lobby, and finds it or not (`Desk::take`);
+//! - a hold ends, after events or after none (`Held::give`).
+#![tactic(auto)]
+
+mod bell;
+mod desk;
+mod held;
+mod pass;
+mod place;
+mod rule;
+mod view;
+
+pub use desk::{Desk, DeskError, MOST_EVENTS, MOST_HANDED_OUT};
+pub use held::Held;
+pub use pass::Pass;
+
+#[cfg(test)]
+mod tests;

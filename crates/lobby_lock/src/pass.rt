@@ -1,0 +1,28 @@
+//! A worker's pass.
+
+use crate::rule::PlacePass;
+use lobby_model::Event;
+use std::marker::Model;
+
+/// A worker's pass to a desk. Contracts see the desk, the plain lobby with which it was opened, and
+/// what the pass knows: its worker's number, the beginning of the history that the worker has seen,
+/// and the events that it made.
+#[derive(Drop)]
+pub struct Pass {
+    pub(crate) inner: PlacePass,
+    // how many numbers were handed out; worker 0's pass alone counts them
+    pub(crate) handed: u64,
+    // empty, with room for the events of a hold
+    pub(crate) room: Vec<Event>,
+}
+
+impl Model for Pass {
+    ghost use Rattle.std.specs.Prelude.{vec_capacity};
+    ghost use Rattle.lobby_lock.specs.Passes.{ShownPass, shown_pass, IsReady};
+
+    ghost Value = { ShownPass };
+
+    ghost view = { λ p. shown_pass p.inner };
+
+    ghost invariant = { λ p. IsReady p.inner p.handed p.room.items (vec_capacity p.room) };
+}

@@ -1,0 +1,65 @@
+//! The steps of the place in which the lobby lies.
+
+ghost use Rattle.std.specs.Prelude.{◌≡◌, ℕ, true, false, []};
+ghost use Rattle.crossbeam_queue.specs.Passes.{view, IsSamePass, IsPassOf, ruled_capacity};
+ghost use Rattle.lobby_lock.specs.Rule.{new_worker, opened, gave, Took};
+ghost use Rattle.lobby_lock.specs.Passes.{shown_pass, lobby_after};
+
+use crate::bell::Bell;
+use crate::rule::{Giving, Happened, Opening, Place, PlacePass, Taking};
+use lobby_machine::Lobby;
+use lobby_model::Event;
+use std::sync::Wait;
+
+/// The lobby is first put in, by the one pass that there is.
+pub fn begin<R: Wait>(rt: &R, place: &Place, pass: &mut PlacePass, lobby: Lobby)
+    requires queue { IsPassOf place.now pass.old × (ruled_capacity place.now ≡ 1) }
+    requires alone { ((view pass.old).alive ≡ true) × ((view pass.old).holds ≡ true) × ((view pass.old).worker ≡ new_worker 0 []) × ((view pass.old).handed ≡ 0) }
+    ensures queue { IsSamePass pass.old pass.new }
+    ensures opened { view pass.new ≡ opened (view pass.old) lobby }
+{
+    match place.push_as::<Opening, R>(rt, pass, lobby) {
+        Ok(()) => {}
+        Err(_) => unreachable!(),
+    }
+}
+
+/// The lobby is put back, after these events. It finds the place empty, since this pass holds.
+pub fn put_back<E: Happened, R: Wait>(
+    rt: &R,
+    place: &Place,
+    pass: &mut PlacePass,
+    lobby: Lobby,
+    events: &[Event],
+)
+    requires queue { IsPassOf place.now pass.old × (ruled_capacity place.now ≡ 1) }
+    requires named { E.events ≡ events.now }
+    requires holds { ((view pass.old).alive ≡ true) × ((view pass.old).holds ≡ true) }
+    requires stands { lobby.plain ≡ lobby_after (shown_pass pass.old) events.now }
+    ensures queue { IsSamePass pass.old pass.new }
+    ensures gave { view pass.new ≡ gave (view pass.old) events.now }
+{
+    match place.push_as::<Giving<E>, R>(rt, pass, lobby) {
+        Ok(()) => {}
+        Err(_) => unreachable!(),
+    }
+}
+
+/// Waits for the lobby.
+pub fn fetch<R: Wait>(rt: &R, place: &Place, bell: &Bell, pass: &mut PlacePass) -> Lobby
+    requires queue { IsPassOf place.now pass.old }
+    requires alive { (view pass.old).alive ≡ true }
+    ensures queue { IsSamePass pass.old pass.new }
+    ensures took { Took (view pass.old) result (view pass.new) }
+{
+    let mut rounds = 0u64;
+    for _ in rt.forever() {
+        let rings = bell.rings();
+        if let Some(lobby) = place.try_pop_as::<Taking>(pass) {
+            return lobby;
+        }
+        bell.wait(rt, rounds, rings);
+        rounds = rounds.saturating_add(1);
+    }
+    unreachable!()
+}

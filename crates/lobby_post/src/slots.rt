@@ -1,0 +1,174 @@
+//! The slots of all clients, by the clients' numbers.
+
+ghost use Rattle.std.specs.Prelude.{◌≡◌, ℕ, [], length, map, Some, None, is_some, OnOk, OnErr, IfSome, option_copied};
+ghost use Rattle.std.specs.Option.{option_copied_mut};
+ghost use Rattle.std.specs.Ordering.{nat_cmp};
+ghost use Rattle.std.specs.List.Sorted.{IsStrictlySortedBy};
+ghost use Rattle.std.specs.Borrow.{sem};
+ghost use Rattle.std.specs.BTreeMap.{is_at, insert_entry};
+ghost use Rattle.std.specs.Map.{lookup, remove_entry};
+ghost use Rattle.line_words.specs.Table.{ByNumber};
+ghost use Rattle.lobby_post.specs.Mail.{Held};
+
+use crate::slot::Slot;
+use slab::Slab;
+use std::alloc::{AllocError, Global};
+use std::collections::BTreeMap;
+use std::marker::Model;
+
+/// No client's place, for one who knows none.
+pub const NOWHERE: usize = usize::MAX;
+
+/// A slot, and the number of the client whose it is.
+#[derive(Drop)]
+struct Cell {
+    client: u64,
+    slot: Slot,
+}
+
+/// The slots of the clients that are there, by their clients' numbers.
+///
+/// A slot stays at its place as long as its client is there, so that one who remembers the place
+/// reaches it without a search. A wrong place costs a search, and no more.
+#[derive(Drop)]
+pub struct Slots {
+    cells: Slab<Cell>,
+    places: BTreeMap<u64, usize>,
+}
+
+impl Model for Slots {
+    ghost use Rattle.line_words.specs.Table.{ByNumber};
+    ghost use Rattle.lobby_post.specs.Mail.{Held};
+
+    ghost Value = { ByNumber Held };
+
+    ghost use Rattle.lobby_post.specs.Places.{held_by, AreTied};
+
+    ghost view = { λ s. held_by s.cells s.places.entries };
+
+    ghost invariant = { λ s. AreTied s.cells s.places.entries };
+}
+
+impl Slots {
+    ghost use Rattle.lobby_post.specs.Lending.{lends_slot};
+    ghost use Rattle.lobby_post.specs.Places.{AreTied};
+
+    /// The place of a client's cell, looked for at a likely place before the index is searched.
+    fn place_near(
+        cells: &Slab<Cell>,
+        places: &BTreeMap<u64, usize>,
+        client: u64,
+        likely: usize,
+    ) -> Option<usize>
+        requires { AreTied cells.now places.now.entries }
+        ensures { result ≡ lookup (is_at (nat_cmp client)) places.now.entries }
+    {
+        match cells.get(likely) {
+            Some(cell) if cell.client == client => Some(likely),
+            _ => places.get(&client).copied(),
+        }
+    }
+
+    /// No client.
+    pub fn new(alloc: Global) -> Slots
+        ensures { result ≡ [] }
+    {
+        Slots {
+            cells: Slab::new(alloc),
+            places: BTreeMap::new(alloc),
+        }
+    }
+
+    /// How many clients are there.
+    pub fn len(&self) -> usize
+        ensures { result ≡ length self.now }
+    {
+        self.places.len()
+    }
+
+    /// Whether a client is there.
+    pub fn contains(&self, client: u64) -> bool
+        ensures { result ≡ is_some (lookup (is_at (nat_cmp client)) self.now) }
+    {
+        self.places.contains_key(&client)
+    }
+
+    /// A client's slot.
+    pub fn get(&self, client: u64) -> Option<&Slot>
+        ensures value { option_copied result ≡ lookup (is_at (nat_cmp client)) self.now }
+    {
+        let place = *self.places.get(&client)?;
+        Some(&self.cells[place].slot)
+    }
+
+    /// A client's slot for writing, looked for at a likely place first.
+    pub fn get_mut_at(&mut self, client: u64, likely: usize) -> Option<&mut Slot>
+        ensures* writes_back { sem 𝓛 (lends_slot self.entry client result) }
+        ensures value { option_copied_mut result ≡ lookup (is_at (nat_cmp client)) self.old }
+        ensures ordered { IsStrictlySortedBy nat_cmp (map (λ e. e.0) self.old) }
+    {
+        let place = Slots::place_near(&self.cells, &self.places, client, likely)?;
+        Some(&mut self.cells[place].slot)
+    }
+
+    /// A client's slot for writing.
+    pub fn get_mut(&mut self, client: u64) -> Option<&mut Slot>
+        ensures* writes_back { sem 𝓛 (lends_slot self.entry client result) }
+        ensures value { option_copied_mut result ≡ lookup (is_at (nat_cmp client)) self.old }
+        ensures ordered { IsStrictlySortedBy nat_cmp (map (λ e. e.0) self.old) }
+    {
+        self.get_mut_at(client, NOWHERE)
+    }
+
+    /// A slot for a client, in place of one that it has. Fails only where memory is refused, and then
+    /// nothing changes.
+    pub fn insert(&mut self, client: u64, slot: Slot) -> Result<(), AllocError>
+        ensures entries { OnOk result (self.new ≡ insert_entry nat_cmp self.old client slot) }
+        ensures was_ordered { IsStrictlySortedBy nat_cmp (map (λ e. e.0) self.old) }
+        ensures err { OnErr result (self.new ≡ self.old) }
+    {
+        if let Some(held) = self.get_mut(client) {
+            *held = slot;
+            return Ok(());
+        }
+        self.add(client, slot)
+    }
+
+    /// A slot for a client that has none.
+    fn add(&mut self, client: u64, slot: Slot) -> Result<(), AllocError>
+        requires { lookup (is_at (nat_cmp client)) self.old ≡ None }
+        ensures entries { OnOk result (self.new ≡ insert_entry nat_cmp self.old client slot) }
+        ensures err { OnErr result (self.new ≡ self.old) }
+    {
+        self.cells.reserve(1)?;
+        self.places.insert(client, self.cells.vacant_key())?;
+        let _ = self.cells.insert_reserved(Cell { client, slot });
+        Ok(())
+    }
+
+    /// Removes a client's slot.
+    pub fn remove(&mut self, client: u64)
+        ensures entries { self.new ≡ remove_entry (is_at (nat_cmp client)) self.old }
+        ensures was_ordered { IsStrictlySortedBy nat_cmp (map (λ e. e.0) self.old) }
+    {
+        if let Some(place) = self.places.remove(&client) {
+            let _ = self.cells.remove(place);
+        }
+    }
+
+    /// The place of a client that is there; else one that says nothing.
+    pub fn place_of(&self, client: u64) -> usize {
+        match self.places.get(&client) {
+            Some(place) => *place,
+            None => NOWHERE,
+        }
+    }
+
+    /// The client at a place, and its slot.
+    pub fn at(&self, place: usize) -> Option<(u64, &Slot)>
+        ensures { IfSome result (λ found. lookup (is_at (nat_cmp found.0)) self.now ≡ Some found.1.now) }
+    {
+        let cell = self.cells.get(place)?;
+        Some((cell.client, &cell.slot))
+    }
+}

@@ -1,0 +1,156 @@
+-- What a command comes to tells clean lines, where its refusals do and what happens once all checks are passed does: one lemma for each
+-- way of checking.
+use Rattle.std.proofs.Common.{◌≡◌, ℕ, ◌≤◌, ℤ, List, [], ◌∷◌, refl, Bool, true, false, not, length, arith}
+use Rattle.std.specs.Prelude.{Option, Some, None, find, if◌then◌else◌, ◌&&◌, ◌||◌, sum_by}
+use Rattle.std.proofs.lemmas.Bool.{and_parts, le-leb}
+use Rattle.std.proofs.lemmas.List.{length-append}
+use Rattle.std.proofs.lemmas.List.Sums.{sum_by-cons}
+use Rattle.std.specs.List.{list_all}
+use Rattle.reply_grammar.specs.declared.Reply.{Reply}
+use Rattle.reply_grammar.specs.declared.Reply.TheVariants as reply
+use Rattle.reply_grammar.specs.Kinds.{fits, pairs_text, words_text, optional_text, pair_text}
+use Rattle.reply_grammar.specs.Replies.{status_word}
+use Rattle.command_grammar.specs.Sizes.{size, pair_size, optional_size}
+use Rattle.status_bits.specs.Fields.{Field, with_number}
+use Rattle.status_bits.specs.BattleWord.{battle_table}
+use Rattle.line_words.specs.Bytes.{is_word, is_text}
+use Rattle.line_words.specs.Kinds.{is_wide, is_pair}
+use Rattle.line_words.specs.declared.lists.Pair.{Pair}
+use Rattle.line_words.specs.Table.{same_name, is_among}
+use Rattle.channel_book.specs.Channels.{names_in}
+use Rattle.battle_room.specs.Tags.{keys_there, has_tag, without_tag}
+use Rattle.battle_room.specs.Room as battle_room
+use Rattle.battle_room.specs.Room.{Member, Bot, has_member, bot_of, with_status, status_of, colour_of, colour_in}
+use Rattle.lobby_model.specs.State.{State, Battle, battle_of}
+use Rattle.lobby_model.specs.Outcome.{Happening, Outcome, Refused, Done, done, refuse_if, message}
+use Rattle.lobby_model.specs.Channels.{in_channel}
+use Rattle.lobby_model.specs.Battles.{in_own, in_battle, as_founder, is_founder, member_has, say_in_battle}
+use Rattle.lobby_model.specs.Rooms.{removed_line, if_mine, with_own_bot, with_member_of, force_number}
+use Rattle.lobby_model.specs.Texts.{not_in_channel, not_in_battle, not_the_founder, no_such_member, no_such_bot, not_your_bot}
+use Rattle.lobby_view.proofs.Everywhere.{Each, each_found}
+use Rattle.lobby_view.proofs.Clean.{Clean}
+use Rattle.lobby_view.proofs.StatusWords.{forced_fits}
+use Rattle.lobby_view.proofs.KindsOfUsers.{IsName}
+use Rattle.lobby_view.proofs.KindsOfBattles.{BattleKinds, MemberKinds, TagKinds, member_status_kinds}
+use Rattle.lobby_view.proofs.KindsOfHappenings.{Kinds, CleanAll, message_clean, room_clean}
+
+abbrev pub CleanOutcome : State → Outcome → Type 0
+CleanOutcome s (Refused refusal) = Clean refusal
+CleanOutcome s (Done happenings) = CleanAll s happenings
+
+-- sizes of arguments, as they are printed
+pub optional_room : (o : Option (List ℕ)) → length (optional_text o) ≤ optional_size o
+optional_room None = omega arith
+optional_room (Some w) = omega arith
+
+pub pairs_room : (mark : ℕ) (ps : List Pair) → length (pairs_text mark ps) ≤ sum_by pair_size ps
+pairs_room mark [] = omega arith
+pairs_room mark (p ∷ ps) =
+    let rest = pairs_room 9 ps in
+    omega (arith, sum_by-cons pair_size p ps, length-append (pair_text p) (pairs_text 9 ps), length-append p.key (61 ∷ p.value))
+
+pub pairs_kinds : (ps : List Pair) → list_all is_pair ps ≡ true → sum_by pair_size ps ≤ 8192 → Each TagKinds ps
+pairs_kinds [] e short = tt
+pairs_kinds (p ∷ ps) e short =
+    let parts = and_parts (is_pair p) (list_all is_pair ps) e in
+    let whole = sum_by-cons pair_size p ps in (
+      record { pair = parts.0; short = omega (arith, whole, length-append (pair_text p) (pairs_text 9 []), length-append p.key (61 ∷ p.value)) },
+      pairs_kinds ps parts.1 (omega (arith, whole)),
+    )
+
+-- the keys that are there are some of those asked for
+pub there_words : (keys : List (List ℕ)) (tags : List Pair) → list_all is_word keys ≡ true
+    → (list_all is_word (keys_there tags keys) ≡ true) × (length (words_text (keys_there tags keys)) ≤ sum_by size keys)
+there_words [] tags e = (refl, omega arith)
+there_words (key ∷ keys) tags e =
+    let parts = and_parts (is_word key) (list_all is_word keys) e in
+    elim (has_tag key tags) as (λ b. (list_all is_word (if b then key ∷ keys_there (without_tag key tags) keys else keys_there tags keys) ≡ true)
+    × (length (words_text (if b then key ∷ keys_there (without_tag key tags) keys else keys_there tags keys)) ≤ sum_by size (key ∷ keys))) [
+      | true ↦
+          let rest = there_words keys (without_tag key tags) parts.1 in
+          let r = rest.1 in (
+            (λ i. parts.0 i && rest.0 i),
+            omega (arith, sum_by-cons size key keys, length-append key (words_text (keys_there (without_tag key tags) keys))),
+          )
+      | false ↦ let rest = there_words keys tags parts.1 in let r = rest.1 in (rest.0, omega (arith, sum_by-cons size key keys))
+    ]
+
+pub removed_clean : (keys : List (List ℕ)) → list_all is_word keys ≡ true → length (words_text keys) ≤ 8192 → Each Clean (removed_line keys)
+removed_clean [] e short = tt
+removed_clean (key ∷ keys) e short =
+    (record { fits = λ i. (e i && le-leb 1 (length (key ∷ keys)) (omega arith) i) && true; short = omega arith }, tt)
+
+-- members
+status_in_kinds : (o : Option Member) → ((m : Member) → o ≡ Some m → MemberKinds m) → fits status_word (battle_room.status_in o) ≡ true
+status_in_kinds None each = refl
+status_in_kinds (Some m) each = (each m refl).status
+
+colour_in_kinds : (o : Option Member) → ((m : Member) → o ≡ Some m → MemberKinds m) → is_wide (colour_in o) ≡ true
+colour_in_kinds None each = refl
+colour_in_kinds (Some m) each = (each m refl).colour
+
+pub status_of_kinds : (name : List ℕ) (ms : List Member) → Each MemberKinds ms
+    → fits status_word (battle_room.status_in (find (λ m. same_name name m.name) ms)) ≡ true
+status_of_kinds name ms h = status_in_kinds (find (λ m. same_name name m.name) ms) (λ m is. each_found MemberKinds (λ m. same_name name m.name) ms m h is)
+
+colour_of_kinds : (name : List ℕ) (ms : List Member) → Each MemberKinds ms → is_wide (colour_in (find (λ m. same_name name m.name) ms)) ≡ true
+colour_of_kinds name ms h = colour_in_kinds (find (λ m. same_name name m.name) ms) (λ m is. each_found MemberKinds (λ m. same_name name m.name) ms m h is)
+
+module _ (s : State) (k : Kinds s) (me : List ℕ) (n : IsName me) where
+  abbrev IsClean : Outcome → Type 0
+  IsClean o = CleanOutcome s o
+
+  pub refuse : (failing : Bool) (refusal : Reply) (rest : Outcome) → Clean refusal → (failing ≡ false → IsClean rest) → IsClean (refuse_if failing refusal rest)
+  refuse true refusal rest clean holds = clean
+  refuse false refusal rest clean holds = holds refl
+
+  pub demand : (failing : Bool) (text : List ℕ) (rest : Outcome) → is_text text ≡ true → length text ≤ 8192 → IsClean rest
+      → IsClean (refuse_if failing (message text) rest)
+  demand failing text rest t short clean = refuse failing (message text) rest (message_clean text t short) (λ e. clean)
+
+  pub in_its_channel : (channel : List ℕ) (happening : List (List ℕ) → Happening)
+      → CleanAll s (happening (names_in s.channels channel) ∷ []) → IsClean (in_channel s me channel happening)
+  in_its_channel channel happening clean =
+      demand (not (is_among me (names_in s.channels channel))) not_in_channel (done (happening (names_in s.channels channel))) refl (omega arith) clean
+
+  pub in_a_battle : (rest : ℕ → Battle → Outcome) → ((id : ℕ) (b : Battle) → BattleKinds (id, b) → IsClean (rest id b)) → IsClean (in_battle s me rest)
+  in_a_battle rest each =
+      elim (battle_of s me) as (λ o. battle_of s me ≡ o → IsClean (in_own o rest)) [
+        | None ↦ λ e. message_clean not_in_battle refl (omega arith)
+        | Some own ↦ λ e. each own.0 own.1 (each_found BattleKinds (λ e. has_member me e.1.room) s.battles own k.battles e)
+      ] refl
+
+  pub as_its_founder : (rest : ℕ → Battle → Outcome) → ((id : ℕ) (b : Battle) → BattleKinds (id, b) → IsClean (rest id b)) → IsClean (as_founder s me rest)
+  as_its_founder rest each =
+      in_a_battle (λ id b. refuse_if (not (is_founder me b)) (message not_the_founder) (rest id b))
+      (λ id b was. demand (not (is_founder me b)) not_the_founder (rest id b) refl (omega arith) (each id b was))
+
+  pub with_a_member : (name : List ℕ) (happenings : ℕ → Battle → List Happening) → ((id : ℕ) (b : Battle) → BattleKinds (id, b) → CleanAll s (happenings id b))
+      → IsClean (with_member_of s me name happenings)
+  with_a_member name happenings each =
+      as_its_founder (λ id b. refuse_if (not (has_member name b.room)) (message no_such_member) (Done (happenings id b)))
+      (λ id b was. demand (not (has_member name b.room)) no_such_member (Done (happenings id b)) refl (omega arith) (each id b was))
+
+  pub with_a_bot : (name : List ℕ) (happening : ℕ → Battle → Bot → Happening)
+      → ((id : ℕ) (b : Battle) (bot : Bot) → BattleKinds (id, b) → CleanAll s (happening id b bot ∷ [])) → IsClean (with_own_bot s me name happening)
+  with_a_bot name happening each =
+      in_a_battle (λ id b. if_mine me b (bot_of name b.room) (λ bot. done (happening id b bot)))
+      (λ id b was. elim (bot_of name b.room) as (λ o. IsClean (if_mine me b o (λ bot. done (happening id b bot)))) [
+        | None ↦ message_clean no_such_bot refl (omega arith)
+        | Some bot ↦
+            demand (not (same_name me bot.owner || is_founder me b)) not_your_bot (done (happening id b bot)) refl (omega arith) (each id b bot was)
+      ])
+
+  pub said : (line : Reply) → Clean line → IsClean (say_in_battle s me line)
+  said line clean = in_a_battle _ (λ id b was. room_clean s k id b (λ room. room) (line ∷ []) (λ room h. h) (clean, tt))
+
+  pub status_set : (id : ℕ) (b : Battle) (name : List ℕ) (status : ℕ) (colour : ℤ) → IsName name → fits status_word status ≡ true → is_wide colour ≡ true
+      → CleanAll s (member_has name status colour id b ∷ [])
+  status_set id b name status colour m f w =
+      room_clean s k id b (with_status name status colour) (reply.ClientBattleStatus name status colour ∷ [])
+      (λ room h. member_status_kinds room h name status colour f w) (record { fits = λ i. m i && (f i && (w i && true)); short = omega arith }, tt)
+
+  pub forces : (name : List ℕ) (field : Field) (number : ℕ) → IsName name → number ≤ 127 → IsClean (force_number s me name field number)
+  forces name field number m small =
+      with_a_member name _ (λ id b was. status_set id b name (with_number battle_table field number (status_of name b.room)) (colour_of name b.room) m
+      (forced_fits field number (status_of name b.room) small) (colour_of_kinds name b.room.members was.room.members))

@@ -1,0 +1,5 @@
+pub mod View
+pub mod Bytes
+pub mod Observe
+pub mod Legal
+pub mod Private

@@ -1,0 +1,137 @@
+//! What a client knows from its bytes, whole and byte by byte, and beyond the longest line.
+
+use client_view::{Battle, Channels, OwnRoom, User, View, ViewError};
+use line_words::NameBuf;
+use std::rt::HostRuntime;
+use std::test::Fail;
+
+/// What Anna is sent from her login on, until she has opened a battle and Bert and his bot are in it.
+const SENT: &[u8] = b"TASSERVER 0.38 * 8201 0\n\
+#4 ACCEPTED Anna\n\
+MOTD Welcome\n\
+ADDUSER Bert ?? 2400 2\n\
+ADDUSER Anna SE 1 1\r\n\
+CLIENTSTATUS Bert 12\n\
+LOGININFOEND\n\
+WELCOME to a later server\n\
+JOIN main\n\
+CLIENTS main Bert Anna\n\
+JOINED main Cleo\n\
+LEFT main Bert\n\
+BATTLEOPENED 1 0 0 Anna 10.0.0.1 8452 8 0 0 123 Spring\t104.0\tComet Catcher\tAnna's game\tBA 9.46\n\
+OPENBATTLE 1\n\
+UPDATEBATTLEINFO 1 2 1 5 Other Map\n\
+JOINEDBATTLE 1 Bert pw9\n\
+CLIENTBATTLESTATUS Bert 4195330 255\n\
+ADDBOT 1 Robo Bert 1024 -1 KAIK\n\
+ADDBOT 1 Rex Bert 0 0 E323\n\
+REMOVEBOT 1 Rex\n\
+UPDATEBOT 2 Robo 7 7\n\
+ADDSTARTRECT 1 0 0 200 60\n\
+SETSCRIPTTAGS a=1\tb=2\n\
+REMOVESCRIPTTAGS a\n\
+SAIDBATTLE Bert go\n";
+
+fn name(bytes: &[u8]) -> Result<NameBuf, Fail> {
+    Ok(NameBuf::of(bytes).ok_or("no name")?)
+}
+
+#[test]
+fn a_view_has_what_the_lines_told(rt: HostRuntime) -> Result<(), Fail> {
+    let mut view = View::new(rt.alloc());
+    assert_eq!(rt; view.feed(SENT), Ok(24));
+    assert!(rt; view.me() == b"Anna".as_slice());
+    assert_eq!(rt; view.users().len(), 2);
+    let bert: &User = view.users().get(&name(b"Bert")?).ok_or("no Bert")?;
+    assert!(rt; bert.country.as_slice() == b"??".as_slice());
+    assert_eq!(rt; (bert.cpu, bert.account, bert.status), (2400, 2, 12));
+    Ok(())
+}
+
+#[test]
+fn a_channel_has_those_who_are_in_it(rt: HostRuntime) -> Result<(), Fail> {
+    let mut view = View::new(rt.alloc());
+    assert_eq!(rt; view.feed(SENT), Ok(24));
+    let channels: &Channels = view.channels();
+    assert_eq!(rt; channels.len(), 1);
+    let names = channels.get(&name(b"main")?).ok_or("no main")?;
+    assert_eq!(rt; names.len(), 2);
+    assert!(rt;
+        names
+            .first()
+            .is_some_and(|first| first.as_slice() == b"Anna".as_slice())
+    );
+    assert_eq!(rt; view.feed(b"LEFT main Anna\n"), Ok(1));
+    assert_eq!(rt; view.channels().len(), 0);
+    Ok(())
+}
+
+#[test]
+fn a_battle_has_its_members(rt: HostRuntime) -> Result<(), Fail> {
+    let mut view = View::new(rt.alloc());
+    assert_eq!(rt; view.feed(SENT), Ok(24));
+    assert_eq!(rt; view.battles().len(), 1);
+    let battle: &Battle = view.battles().get(1).ok_or("no battle")?;
+    assert!(rt; battle.map.as_slice() == b"Other Map".as_slice() && battle.locked);
+    assert_eq!(rt; (battle.spectators, battle.map_hash), (2, 5));
+    assert_eq!(rt; battle.members().len(), 2);
+    Ok(())
+}
+
+#[test]
+fn the_room_has_what_its_members_share(rt: HostRuntime) -> Result<(), Fail> {
+    let mut view = View::new(rt.alloc());
+    assert_eq!(rt; view.feed(SENT), Ok(24));
+    let room: &OwnRoom = view.room().ok_or("no room")?;
+    assert_eq!(rt;
+        (room.battle(), room.members().len(), room.bots().len()),
+        (1, 2, 1)
+    );
+    let bot = room.bots().first().ok_or("no bot")?;
+    assert_eq!(rt; (bot.status, bot.colour), (1024, -1));
+    assert!(rt;
+        room.rect_at(1)
+            .is_some_and(|rect| rect.right == 200 && rect.bottom == 60)
+    );
+    assert_eq!(rt; (room.rect_count(), room.tags().len()), (1, 1));
+    assert_eq!(rt; view.feed(b"BATTLECLOSED 1\n"), Ok(1));
+    assert!(rt; view.room().is_none());
+    Ok(())
+}
+
+#[test]
+fn a_view_is_the_same_however_its_bytes_are_cut(rt: HostRuntime) -> Result<(), Fail> {
+    let mut view = View::new(rt.alloc());
+    let mut folded: usize = 0;
+    for k in 0..SENT.len() {
+        folded = folded.saturating_add(view.feed(&SENT[k..k + 1])?);
+    }
+    assert_eq!(rt; folded, 24);
+    assert_eq!(rt;
+        (
+            view.users().len(),
+            view.channels().len(),
+            view.battles().len()
+        ),
+        (2, 1, 1)
+    );
+    let room = view.room().ok_or("no room")?;
+    assert_eq!(rt;
+        (room.members().len(), room.bots().len(), room.tags().len()),
+        (2, 1, 1)
+    );
+    Ok(())
+}
+
+#[test]
+fn a_line_of_20479_bytes_is_a_line_and_a_longer_one_ends_all(rt: HostRuntime) {
+    let mut view = View::new(rt.alloc());
+    assert_eq!(rt; view.feed(&[b'A'; 20_479]), Ok(0));
+    assert_eq!(rt; view.feed(b"\nACCEPTED Bert\n"), Ok(1));
+    assert_eq!(rt; view.feed(&[b'A'; 20_480]), Err(ViewError::LineTooLong));
+    assert_eq!(rt;
+        view.feed(b"\nACCEPTED Anna\n"),
+        Err(ViewError::LineTooLong)
+    );
+    assert!(rt; view.me() == b"Bert".as_slice());
+}
