@@ -51,7 +51,7 @@ impl Member {
         &self.name
     }
 
-    /// The mark with which the member joined.
+    /// The mark that was given with the member: a hint, of which no contract speaks.
     pub fn mark(&self) -> usize {
         self.mark
     }

@@ -134,7 +134,7 @@ impl ChannelBook {
         }
     }
 
-    /// The marks of the members of a channel, in the same order.
+    /// The marks of the members of a channel: hints, of which no contract speaks, their order neither.
     pub fn marks_in(&self, channel: &NameBuf) -> &[usize] {
         match self.channels.get(channel) {
             Some(members) => members.marks(),

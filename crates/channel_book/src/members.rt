@@ -45,7 +45,7 @@ impl Members {
         self.names.as_slice()
     }
 
-    /// The marks of the members, in the same order.
+    /// The marks of the members: hints, of which no contract speaks, their order neither.
     pub fn marks(&self) -> &[usize] {
         self.marks.as_slice()
     }

@@ -96,7 +96,7 @@ impl Clients {
     }
 
     /// The place at which a client is looked for first, where it is told of with `Post::address_at`.
-    /// It holds as long as the client is there; of one that is not there it says nothing.
+    /// A hint, of which no contract speaks: who is found there is asked for its number.
     pub fn place_of(&self, client: u64) -> usize {
         self.slots.place_of(client)
     }
