@@ -1,7 +1,7 @@
 # The recipes of this repository, one line each.
 SCRIPT ?= examples/ping.play
 
-.PHONY: play hash view build test check bench memory
+.PHONY: play hash view build test check bench memory soak
 
 play:
 	@tools/run.sh lobby_play < $(SCRIPT)
@@ -16,7 +16,7 @@ build:
 	@tools/build.sh
 
 test:
-	rt ci && checks/rows.sh && checks/programs.sh && checks/links.py && checks/views.sh
+	RT_JOBS=$$(tools/lanes.sh) rt ci && checks/rows.sh && checks/programs.sh && checks/links.py && checks/views.sh
 
 check:
 	@cd crates/$(or $(CRATE),$(error give a crate, as make check CRATE=line_words)) && rt check
@@ -26,3 +26,6 @@ bench:
 
 memory:
 	@checks/refused_memory.sh
+
+soak:
+	@checks/soak.sh

@@ -5,10 +5,10 @@
 # there, is not tried again. Says how many allocations that takes, and how many were refused after them.
 set -euo pipefail
 cd "$(dirname "$0")/.."
-(cd crates/lobby_tests && rt test > /dev/null)
-out=crates/lobby_tests/out
+(cd crates/machine_tests && rt test > /dev/null)
+out=crates/machine_tests/out
 gcc -O2 -shared -fPIC -o "$out/refuse_allocation.so" checks/refuse_allocation.c
-run() { REFUSED=$1 LD_PRELOAD="$PWD/$out/refuse_allocation.so" "$out/lobby_tests_tests" "$2" 2>&1; }
+run() { REFUSED=$1 LD_PRELOAD="$PWD/$out/refuse_allocation.so" "$out/machine_tests_tests" "$2" 2>&1; }
 taken() { run 0 "$1" | sed -n 's/^allocations: //p'; }
 status=0
 refuse() {

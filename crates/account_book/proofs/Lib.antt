@@ -1,3 +1,2 @@
-pub mod Documents
 pub mod Entries
 pub mod Listed

@@ -4,18 +4,21 @@
 //! and keys that are not known are passed over. Each table has the keys `name`, `password` and
 //! `id`, and may have `rank` (else 0), `access` and `bot` (else false) and `country` (else `??`).
 
-ghost use Rattle.std.specs.Prelude.{◌≡◌, ◌≢◌, ◌+◌, ◌<◌, [], true, false, IfOk, IfErr, OnOk, option_map, option_copied, codes, Some, None, Result, Ok, Err};
-ghost use Rattle.std.specs.Option.{option_map_or};
-ghost use Rattle.toml.specs.Data.{get_member, as_str, as_bool};
+ghost use Rattle.std.specs.Prelude.{◌≡◌, ◌≢◌, ◌+◌, [], IfOk, IfErr, OnOk, Some, None, Result, Ok, Err};
 ghost use Rattle.toml.specs.View.{view, table_view, items_view};
-ghost use Rattle.account_book.specs.File.{as_number, required, optional, fields_of, described, with_entries, is_format, document, table_accounts, table_entries, Lists, file_accounts, file_entries};
-ghost use Rattle.account_book.specs.Fields.{stated_by};
+ghost use Rattle.toml_fields.specs.Document.{document};
+ghost use Rattle.account_book.specs.File.{fields_of, described, with_entries, table_accounts, table_entries, Lists, file_accounts, file_entries};
+ghost use Rattle.account_book.specs.Fields.{stated_of};
 
 use crate::account::Account;
 use crate::book::AccountBook;
 use crate::error::AccountsError;
 use std::alloc::{AllocError, Global};
 use toml::{Table, Value};
+use toml_fields::{
+    DocumentError, FieldFault, flag_or, list_or_empty, number_at, number_or, read_document,
+    text_at, text_or,
+};
 
 impl AccountBook {
     /// The accounts of a file, in its order.
@@ -41,10 +44,10 @@ fn read_table(alloc: Global, bytes: &[u8]) -> Result<Table, AccountsError>
     ensures err { IfErr result (λ e. e ≢ AccountsError.Memory →
         (e ≡ AccountsError.NotToml) × (document bytes.now ≡ None)) }
 {
-    match toml::table_from_slice(alloc, bytes) {
+    match read_document(alloc, bytes) {
         Ok(table) => Ok(table),
-        Err(e) if e.is_memory() => Err(AccountsError::Memory),
-        Err(_) => Err(AccountsError::NotToml),
+        Err(DocumentError::NotToml { .. }) => Err(AccountsError::NotToml),
+        Err(DocumentError::Memory) => Err(AccountsError::Memory),
     }
 }
 
@@ -56,26 +59,13 @@ fn entries_of(table: &Table) -> Result<&[Value], AccountsError>
         table_entries (table_view table.now) ≡ items_view entries.now) }
     ensures err { IfErr result (λ e. table_accounts (table_view table.now) ≡ Err e) }
 {
-    if !has_known_format(table) {
+    // There is one format, which a file need not say.
+    if number_or(table, "format", 1, 1, 1).is_err() {
         return Err(AccountsError::BadField(0));
     }
-    let Some(value) = value_at(table, "account") else {
-        return Ok(&[]);
-    };
-    match value.as_array() {
-        Some(entries) => Ok(entries),
-        None => Err(AccountsError::BadField(0)),
-    }
-}
-
-/// Whether a file is in the one format that there is, which it need not say.
-fn has_known_format(table: &Table) -> bool
-    ensures { result
-        ≡ option_map_or is_format (get_member (codes "format") (table_view table.now)) true }
-{
-    match value_at(table, "format") {
-        Some(value) => value.as_integer() == Some(1),
-        None => true,
+    match list_or_empty(table, "account") {
+        Ok(entries) => Ok(entries),
+        Err(_) => Err(AccountsError::BadField(0)),
     }
 }
 
@@ -91,79 +81,17 @@ struct Fields<'a> {
     country: &'a str,
 }
 
-/// What stands at a key of a table.
-fn value_at<'a>(table: &'a Table, key: &str) -> Option<&'a Value>
-    ensures { option_map (λ value. view value.now) result
-        ≡ get_member key.now (table_view table.now) }
-{
-    table.get(key)
-}
-
-/// A whole number from 0 to `top`.
-fn as_number(value: &Value, top: u32) -> Option<u32>
-    ensures { result ≡ as_number top (view value.now) }
-{
-    match u32::try_from(value.as_integer()?) {
-        Ok(number) if number <= top => Some(number),
-        _ => None,
-    }
-}
-
-/// The number at a key that must be there.
-fn number_at(table: &Table, key: &str, top: u32) -> Option<u32>
-    ensures { result ≡ required (as_number top) key.now (table_view table.now) }
-{
-    as_number(value_at(table, key)?, top)
-}
-
-/// The number at a key, or 0 where it is missing.
-fn number_or_zero(table: &Table, key: &str, top: u32) -> Option<u32>
-    ensures { result ≡ optional (as_number top) 0 key.now (table_view table.now) }
-{
-    match value_at(table, key) {
-        Some(value) => as_number(value, top),
-        None => Some(0),
-    }
-}
-
-/// The text at a key that must be there.
-fn text_at<'a>(table: &'a Table, key: &str) -> Option<&'a str>
-    ensures { option_copied result ≡ required as_str key.now (table_view table.now) }
-{
-    value_at(table, key)?.as_str()
-}
-
-/// The text at a key, or another where it is missing.
-fn text_or<'a>(table: &'a Table, key: &str, default: &'a str) -> Option<&'a str>
-    ensures { option_copied result ≡ optional as_str default.now key.now (table_view table.now) }
-{
-    match value_at(table, key) {
-        Some(value) => value.as_str(),
-        None => Some(default),
-    }
-}
-
-/// Whether the flag at a key is set. It is clear where it is missing.
-fn flag_at(table: &Table, key: &str) -> Option<bool>
-    ensures { result ≡ optional as_bool false key.now (table_view table.now) }
-{
-    match value_at(table, key) {
-        Some(value) => value.as_bool(),
-        None => Some(false),
-    }
-}
-
 /// What an entry of the list states, where it is a table whose keys have values of their kinds.
-fn fields_of(table: &Table) -> Option<Fields<'_>>
-    ensures { option_map stated_by result ≡ fields_of (table_view table.now) }
+fn fields_of(table: &Table) -> Result<Fields<'_>, FieldFault>
+    ensures { stated_of result ≡ fields_of (table_view table.now) }
 {
-    Some(Fields {
+    Ok(Fields {
         name: text_at(table, "name")?,
         password: text_at(table, "password")?,
-        id: number_at(table, "id", u32::MAX)?,
-        rank: number_or_zero(table, "rank", 7)? as u8,
-        access: flag_at(table, "access")?,
-        bot: flag_at(table, "bot")?,
+        id: number_at(table, "id", 0, u32::MAX)?,
+        rank: number_or(table, "rank", 0, 7, 0)? as u8,
+        access: flag_or(table, "access", false)?,
+        bot: flag_or(table, "bot", false)?,
         country: text_or(table, "country", "??")?,
     })
 }
@@ -175,7 +103,7 @@ fn described(alloc: Global, entry: &Value) -> Result<Option<Account>, AllocError
     let Some(table) = entry.as_table() else {
         return Ok(None);
     };
-    let Some(fields) = fields_of(table) else {
+    let Ok(fields) = fields_of(table) else {
         return Ok(None);
     };
     match Account::new(

@@ -71,24 +71,36 @@ impl Known {
         ensures err { OnErr result (self.new ≡ self.old) }
     {
         match reply {
+            // The kinds of line that come most stand here, so that their replies are moved no further.
+            Reply::ClientStatus { user, status } => {
+                self.client_status(&user, status);
+                Ok(())
+            }
             Reply::TasServer { .. }
-            | Reply::Accepted { .. }
             | Reply::Motd { .. }
-            | Reply::AddUser { .. }
-            | Reply::RemoveUser { .. }
-            | Reply::ClientStatus { .. }
             | Reply::LoginInfoEnd
-            | Reply::Pong => self.fold_session(reply),
-            Reply::Join { .. }
-            | Reply::Clients { .. }
-            | Reply::Joined { .. }
-            | Reply::Left { .. }
+            | Reply::Pong
             | Reply::Said { .. }
             | Reply::SaidEx { .. }
             | Reply::SayPrivate { .. }
             | Reply::SaidPrivate { .. }
             | Reply::Channel { .. }
-            | Reply::EndOfChannels => self.fold_channels(reply),
+            | Reply::EndOfChannels
+            | Reply::Denied { .. }
+            | Reply::ServerMsg { .. }
+            | Reply::JoinFailed { .. }
+            | Reply::OpenBattleFailed { .. }
+            | Reply::JoinBattleFailed { .. } => {
+                reply.discard();
+                Ok(())
+            }
+            Reply::Accepted { .. } | Reply::AddUser { .. } | Reply::RemoveUser { .. } => {
+                self.fold_session(reply)
+            }
+            Reply::Join { .. }
+            | Reply::Clients { .. }
+            | Reply::Joined { .. }
+            | Reply::Left { .. } => self.fold_channels(reply),
             Reply::OpenBattle { .. }
             | Reply::BattleClosed { .. }
             | Reply::JoinBattle { .. }
@@ -109,14 +121,6 @@ impl Known {
             | Reply::SetScriptTags { .. }
             | Reply::RemoveScriptTags { .. }
             | Reply::Ring { .. } => self.fold_room(reply),
-            Reply::Denied { .. }
-            | Reply::ServerMsg { .. }
-            | Reply::JoinFailed { .. }
-            | Reply::OpenBattleFailed { .. }
-            | Reply::JoinBattleFailed { .. } => {
-                reply.discard();
-                Ok(())
-            }
         }
     }
 }

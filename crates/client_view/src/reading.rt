@@ -28,12 +28,13 @@ impl Known {
         ensures count { IfOk result (λ count. count ≡ length (one_read (read_line (frames.without_cr line.now)))) }
         ensures err { OnErr result (self.new ≡ self.old) }
     {
-        match read_reply(self.alloc, without_cr(line))? {
-            Some((_, reply)) => {
+        match read_reply(self.alloc, without_cr(line)) {
+            Ok(Some((_, reply))) => {
                 self.fold(reply)?;
                 Ok(1)
             }
-            None => Ok(0),
+            Ok(None) => Ok(0),
+            Err(refused) => Err(refused),
         }
     }
 }

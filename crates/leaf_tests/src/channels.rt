@@ -1,35 +1,27 @@
-//! Who is in which channel after joins and leaves. What memory refuses is tried once more, since nothing has changed then.
+//! Who is in which channel after joins. What memory refuses is tried once more, since nothing has changed then.
 
 use channel_book::{ChannelBook, ChannelError};
 use line_words::NameBuf;
-use std::test::Fail;
-
-fn name(bytes: &[u8]) -> Result<NameBuf, Fail> {
-    Ok(NameBuf::of(bytes).ok_or("no name")?)
-}
 
 /// Joins, once more where memory was refused: then there are as many channels as before, and the user is in none of them anew.
-fn join(book: &mut ChannelBook, channel: &[u8], user: &[u8]) -> Result<(), Fail> {
-    let (channels, channel, user) = (book.channel_count(), name(channel)?, name(user)?);
-    let again = (name(channel.as_slice())?, name(user.as_slice())?);
-    match book.join(channel, user) {
-        Ok(()) => Ok(()),
+fn join(book: &mut ChannelBook, channel: &NameBuf, user: &NameBuf) -> Result<(), ChannelError> {
+    let channels = book.channel_count();
+    match book.join(channel.copy(), user.copy()) {
         Err(ChannelError::Memory) => {
-            if book.channel_count() != channels || book.has_member(&again.0, &again.1) {
-                return Err(Fail::from("a refused join left a trace"));
+            if book.channel_count() != channels || book.has_member(channel, user) {
+                return Err(ChannelError::Memory);
             }
-            Ok(book.join(again.0, again.1)?)
+            book.join(channel.copy(), user.copy())
         }
-        Err(refused) => Err(Fail::from(refused)),
+        answer => answer,
     }
 }
 
-fn leave(
-    book: &mut ChannelBook,
-    channel: &[u8],
-    user: &[u8],
-) -> Result<Option<ChannelError>, Fail> {
-    Ok(book.leave(&name(channel)?, &name(user)?).err())
+/// What is answered to one who joins; nothing where these are no names.
+fn joins(book: &mut ChannelBook, channel: &[u8], user: &[u8]) -> Option<Result<(), ChannelError>> {
+    let channel = NameBuf::of(channel)?;
+    let user = NameBuf::of(user)?;
+    Some(join(book, &channel, &user))
 }
 
 fn shows(found: Option<&NameBuf>, wanted: Option<&[u8]>) -> bool {
@@ -41,15 +33,14 @@ fn shows(found: Option<&NameBuf>, wanted: Option<&[u8]>) -> bool {
 }
 
 /// Whether a channel has these members in this order, and no more, by each reader.
-fn has_members(book: &ChannelBook, channel: &[u8], wanted: &[&[u8]]) -> Result<bool, Fail> {
-    let channel = name(channel)?;
-    let lent = book.names_in(&channel);
-    let mut same = book.member_count(&channel) == wanted.len() && lent.len() == wanted.len();
+fn has_members(book: &ChannelBook, channel: &NameBuf, wanted: &[&[u8]]) -> bool {
+    let lent = book.names_in(channel);
+    let mut same = book.member_count(channel) == wanted.len() && lent.len() == wanted.len();
     for k in 0..wanted.len() + 2 {
         let want = wanted.get(k).copied();
-        same = same && shows(book.member_at(&channel, k), want) && shows(lent.get(k), want);
+        same = same && shows(book.member_at(channel, k), want) && shows(lent.get(k), want);
     }
-    Ok(same)
+    same
 }
 
 /// Whether these are the channels in this order, and no more, by each reader.
@@ -67,95 +58,32 @@ fn has_channels(book: &ChannelBook, wanted: &[&[u8]]) -> bool {
     same
 }
 
-fn joins(book: &mut ChannelBook, pairs: &[(&[u8], &[u8])]) -> Result<(), Fail> {
-    for (channel, user) in pairs {
-        join(book, channel, user)?;
+fn has_named(book: &ChannelBook, channel: &[u8], wanted: &[&[u8]]) -> bool {
+    match NameBuf::of(channel) {
+        Some(channel) => has_members(book, &channel, wanted),
+        None => false,
     }
-    Ok(())
-}
-
-fn members_stand_as_they_joined(book: &mut ChannelBook) -> Result<bool, Fail> {
-    joins(
-        book,
-        &[(b"main", b"Bert"), (b"main", b"Anna"), (b"main", b"Cleo")],
-    )?;
-    let again = book.join(name(b"main")?, name(b"Anna")?).err();
-    Ok(
-        again == Some(ChannelError::AlreadyIn)
-            && has_members(book, b"main", &[b"Bert", b"Anna", b"Cleo"])?
-            && has_members(book, b"Main", &[])?
-            && has_channels(book, &[b"main"]),
-    )
 }
 
 #[test]
-fn members_stand_in_order_of_joining(rt: HostRuntime) -> Result<(), Fail> {
+fn members_stand_in_order_of_joining(rt: HostRuntime) {
     let mut book = ChannelBook::new(rt.alloc());
     assert!(rt; has_channels(&book, &[]));
-    assert!(rt; members_stand_as_they_joined(&mut book)?);
-    Ok(())
-}
-
-fn leaves_one_by_one(book: &mut ChannelBook) -> Result<bool, Fail> {
-    joins(book, &[(b"main", b"Anna"), (b"main", b"Bert")])?;
-    let not_in = Some(ChannelError::NotIn);
-    Ok(
-        leave(book, b"main", b"Cleo")? == not_in
-            && leave(book, b"help", b"Anna")? == not_in
-            && leave(book, b"main", b"Anna")?.is_none()
-            && leave(book, b"main", b"Anna")? == not_in
-            && has_members(book, b"main", &[b"Bert"])?
-            && leave(book, b"main", b"Bert")?.is_none()
-            && has_members(book, b"main", &[])?
-            && has_channels(book, &[]),
-    )
-}
-
-#[test]
-fn a_channel_goes_with_its_last_member(rt: HostRuntime) -> Result<(), Fail> {
-    let mut book = ChannelBook::new(rt.alloc());
-    assert!(rt; leaves_one_by_one(&mut book)?);
-    Ok(())
-}
-
-fn leaves_all(book: &mut ChannelBook) -> Result<bool, Fail> {
-    joins(
-        book,
-        &[
-            (b"c", b"Anna"),
-            (b"a", b"Anna"),
-            (b"b", b"Cleo"),
-            (b"b", b"Anna"),
-        ],
-    )?;
-    joins(book, &[(b"b", b"Bert"), (b"d", b"Bert")])?;
-    let anna = name(b"Anna")?;
-    book.leave_all(&anna);
-    book.leave_all(&anna);
-    Ok(
-        has_channels(book, &[b"b", b"d"])
-            && has_members(book, b"b", &[b"Cleo", b"Bert"])?
-            && has_members(book, b"d", &[b"Bert"])?,
-    )
-}
-
-#[test]
-fn one_who_leaves_all_is_in_no_channel(rt: HostRuntime) -> Result<(), Fail> {
-    let mut book = ChannelBook::new(rt.alloc());
-    assert!(rt; leaves_all(&mut book)?);
-    Ok(())
-}
-
-fn makes_channels(book: &mut ChannelBook) -> Result<bool, Fail> {
-    for channel in [b"aa".as_slice(), b"_", b"a", b"[x]", b"Z", b"9", b"]"] {
-        join(book, channel, b"Anna")?;
+    for user in [b"Bert".as_slice(), b"Anna", b"Cleo"] {
+        assert_eq!(rt; joins(&mut book, b"main", user), Some(Ok(())));
     }
-    Ok(has_channels(book, &[b"9", b"Z", b"[x]", b"]", b"_", b"a", b"aa"]))
+    let again = joins(&mut book, b"main", b"Anna");
+    assert_eq!(rt; again, Some(Err(ChannelError::AlreadyIn)));
+    assert!(rt; has_named(&book, b"main", &[b"Bert", b"Anna", b"Cleo"]));
+    assert!(rt; has_named(&book, b"Main", &[]));
+    assert!(rt; has_channels(&book, &[b"main"]));
 }
 
 #[test]
-fn channels_stand_in_the_order_of_their_bytes(rt: HostRuntime) -> Result<(), Fail> {
+fn channels_stand_in_the_order_of_their_bytes(rt: HostRuntime) {
     let mut book = ChannelBook::new(rt.alloc());
-    assert!(rt; makes_channels(&mut book)?);
-    Ok(())
+    for channel in [b"aa".as_slice(), b"_", b"a", b"[x]", b"Z", b"9", b"]"] {
+        assert_eq!(rt; joins(&mut book, channel, b"Anna"), Some(Ok(())));
+    }
+    assert!(rt; has_channels(&book, &[b"9", b"Z", b"[x]", b"]", b"_", b"a", b"aa"]));
 }

@@ -4,7 +4,6 @@ use line_words::{NameBuf, Text, TextBuf, WordBuf};
 use reply_grammar::{LentReply, Reply, print, print_id, print_lent};
 use reply_reader::read_reply;
 use std::alloc::{AllocError, Global};
-use std::test::Fail;
 
 const LINES: [&[u8]; 53] = [
     b"TASSERVER 0.38 * 8201 0",
@@ -117,109 +116,111 @@ const REFUSED: [&[u8]; 51] = [
 ];
 
 #[test]
-fn each_reply_is_printed_as_it_was_read(rt: HostRuntime) -> Result<(), Fail> {
+fn each_reply_is_printed_as_it_was_read(rt: HostRuntime) {
     for line in LINES {
-        let printed = printed_again(rt.alloc(), line)?;
-        assert_eq!(rt; printed.as_slice(), with_end(rt.alloc(), line)?.as_slice());
+        assert_eq!(rt; prints_again(rt.alloc(), line), Ok(Some(true)), "{line:?}");
     }
-    Ok(())
 }
 
 #[test]
-fn what_no_reply_prints_is_refused(rt: HostRuntime) -> Result<(), Fail> {
+fn what_no_reply_prints_is_refused(rt: HostRuntime) {
     for line in REFUSED {
-        let printed = printed_again(rt.alloc(), line)?;
-        assert!(rt; printed.is_empty(), "read: {line:?}");
+        assert_eq!(rt; prints_again(rt.alloc(), line), Ok(None), "read: {line:?}");
     }
-    Ok(())
 }
 
 #[test]
-fn a_line_stands_behind_what_was_there(rt: HostRuntime) -> Result<(), Fail> {
-    let mut out = Vec::from_slice(rt.alloc(), b"PONG\n")?;
-    print(&Reply::Pong, Some(7), &mut out)?;
+fn a_line_stands_behind_what_was_there(rt: HostRuntime) {
+    let mut out = Vec::new(rt.alloc());
+    assert_eq!(rt; print(&Reply::Pong, None, &mut out), Ok(()));
+    assert_eq!(rt; print(&Reply::Pong, Some(7), &mut out), Ok(()));
     assert_eq!(rt; out.as_slice(), b"PONG\n#7 PONG\n".as_slice());
-    Ok(())
 }
 
 #[test]
-fn a_lent_reply_prints_as_an_owned_one(rt: HostRuntime) -> Result<(), Fail> {
-    let alloc = rt.alloc();
-    let bert = NameBuf::copy_of(alloc, b"Bert")?;
-    let nowhere = WordBuf::copy_of(alloc, b"??")?;
-    let hello = TextBuf::copy_of(alloc, b"hi  there")?;
-    let mut out = Vec::new(alloc);
-    print_lent_lines(&bert, &nowhere, &hello, &mut out)?;
+fn a_lent_reply_prints_as_an_owned_one(rt: HostRuntime) {
+    let mut out = Vec::new(rt.alloc());
+    assert_eq!(rt; print_refusal(&mut out), Ok(()));
+    assert_eq!(rt; print_user(rt.alloc(), &mut out), Ok(()));
+    assert_eq!(rt; print_private(rt.alloc(), &mut out), Ok(()));
     assert_eq!(rt;
         out.as_slice(),
         b"#7 SERVERMSG Log in first\nADDUSER Bert ?? -1 4294967295\n#9 SAYPRIVATE Bert hi  there\n".as_slice()
     );
-    Ok(())
+}
+
+// A fixed text.
+fn print_refusal(out: &mut Vec<u8>) -> Result<(), AllocError> {
+    let refusal = Text::lend(b"Log in first");
+    print_lent(LentReply::ServerMsg(&refusal), Some(7), out)
+}
+
+// Numbers at their ends.
+fn print_user(alloc: Global, out: &mut Vec<u8>) -> Result<(), AllocError> {
+    let user = NameBuf::copy_of(alloc, b"Bert")?;
+    let country = WordBuf::copy_of(alloc, b"??")?;
+    print_lent(
+        LentReply::AddUser(&user, &country, -1, 4294967295),
+        None,
+        out,
+    )
+}
+
+// What a user wrote.
+fn print_private(alloc: Global, out: &mut Vec<u8>) -> Result<(), AllocError> {
+    let user = NameBuf::copy_of(alloc, b"Bert")?;
+    let text = TextBuf::copy_of(alloc, b"hi  there")?;
+    print_lent(LentReply::SayPrivate(&user, &text), Some(9), out)
 }
 
 #[test]
-fn lent_names_may_have_one_more(rt: HostRuntime) -> Result<(), Fail> {
-    let alloc = rt.alloc();
-    let main = NameBuf::copy_of(alloc, b"main")?;
-    let bert = NameBuf::copy_of(alloc, b"Bert")?;
-    let mut names = Vec::new(alloc);
-    names.push(NameBuf::copy_of(alloc, b"u01")?)?;
-    names.push(NameBuf::copy_of(alloc, b"u02")?)?;
-    let mut out = Vec::new(alloc);
-    print_lent(
-        LentReply::Clients(&main, names.as_slice()),
-        Some(3),
-        &mut out,
-    )?;
-    print_lent(
-        LentReply::LastClients(&main, names.as_slice(), &bert),
-        None,
-        &mut out,
-    )?;
+fn lent_names_may_have_one_more(rt: HostRuntime) {
+    let mut out = Vec::new(rt.alloc());
+    assert_eq!(rt; print_names(rt.alloc(), &mut out), Ok(()));
     assert_eq!(rt;
         out.as_slice(),
         b"#3 CLIENTS main u01 u02\nCLIENTS main u01 u02 Bert\n".as_slice()
     );
-    Ok(())
+}
+
+fn print_names(alloc: Global, out: &mut Vec<u8>) -> Result<(), AllocError> {
+    let main = NameBuf::copy_of(alloc, b"main")?;
+    let last = NameBuf::copy_of(alloc, b"Bert")?;
+    let names = [
+        NameBuf::copy_of(alloc, b"u01")?,
+        NameBuf::copy_of(alloc, b"u02")?,
+    ];
+    print_lent(LentReply::Clients(&main, &names), Some(3), out)?;
+    print_lent(LentReply::LastClients(&main, &names, &last), None, out)
 }
 
 #[test]
-fn a_line_behind_an_id_is_the_line_under_it(rt: HostRuntime) -> Result<(), Fail> {
+fn a_line_behind_an_id_is_the_line_under_it(rt: HostRuntime) {
     let mut out = Vec::new(rt.alloc());
-    print_id(Some(7), &mut out)?;
-    print_lent(LentReply::Pong, None, &mut out)?;
-    print_id(None, &mut out)?;
-    print_lent(LentReply::EndOfChannels, None, &mut out)?;
+    assert_eq!(rt; print_id(Some(7), &mut out), Ok(()));
+    assert_eq!(rt; print_lent(LentReply::Pong, None, &mut out), Ok(()));
+    assert_eq!(rt; print_id(None, &mut out), Ok(()));
+    assert_eq!(rt;
+        print_lent(LentReply::EndOfChannels, None, &mut out),
+        Ok(())
+    );
     assert_eq!(rt; out.as_slice(), b"#7 PONG\nENDOFCHANNELS\n".as_slice());
-    Ok(())
 }
 
-// A fixed text, numbers at their ends and what a user wrote, with an id and without.
-fn print_lent_lines(
-    user: &NameBuf,
-    country: &WordBuf,
-    text: &TextBuf,
-    out: &mut Vec<u8>,
-) -> Result<(), AllocError> {
-    let refusal = Text::lend(b"Log in first");
-    print_lent(LentReply::ServerMsg(&refusal), Some(7), out)?;
-    print_lent(LentReply::AddUser(user, country, -1, 4294967295), None, out)?;
-    print_lent(LentReply::SayPrivate(user, text), Some(9), out)
-}
-
-// The line of the reply that was read, or nothing where there is none.
-fn printed_again(alloc: Global, line: &[u8]) -> Result<Vec<u8>, AllocError> {
-    let mut out = Vec::new(alloc);
-    if let Some((id, reply)) = read_reply(alloc, line)? {
-        let done = print(&reply, id, &mut out);
-        reply.discard();
-        done?;
+// Whether the reply that was read prints this line, with its end; nothing where there is no reply.
+fn prints_again(alloc: Global, line: &[u8]) -> Result<Option<bool>, AllocError> {
+    match read_reply(alloc, line) {
+        Ok(Some((id, reply))) => {
+            let printed = prints(alloc, &reply, id, line);
+            reply.discard();
+            Ok(Some(printed))
+        }
+        Ok(None) => Ok(None),
+        Err(refusal) => Err(refusal),
     }
-    Ok(out)
 }
 
-fn with_end(alloc: Global, line: &[u8]) -> Result<Vec<u8>, AllocError> {
-    let mut ended = Vec::from_slice(alloc, line)?;
-    ended.push(b'\n')?;
-    Ok(ended)
+fn prints(alloc: Global, reply: &Reply, id: Option<u32>, line: &[u8]) -> bool {
+    let mut out = Vec::new(alloc);
+    print(reply, id, &mut out).is_ok() && out.as_slice().strip_suffix(b"\n") == Some(line)
 }

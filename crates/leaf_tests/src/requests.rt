@@ -3,7 +3,6 @@
 use command_grammar::{Command, ReadFault, read_request};
 use line_words::{Pair, WordBuf};
 use std::alloc::{AllocError, Global};
-use std::test::Fail;
 
 // The fault of a line that is no command.
 fn fault_of(alloc: Global, line: &[u8]) -> Result<Option<ReadFault>, AllocError> {
@@ -67,50 +66,49 @@ const GOOD_LINES: [&[u8]; 31] = [
 ];
 
 #[test]
-fn each_command_is_read(rt: HostRuntime) -> Result<(), Fail> {
+fn each_command_is_read(rt: HostRuntime) {
     for line in GOOD_LINES {
-        assert_eq!(rt; fault_of(rt.alloc(), line)?, None, "{line:?}");
+        assert_eq!(rt; fault_of(rt.alloc(), line), Ok(None), "{line:?}");
     }
-    Ok(())
 }
 
-#[test]
-fn faults_are_told(rt: HostRuntime) -> Result<(), Fail> {
-    let faults: [(&[u8], ReadFault); 13] = [
-        (b"ping", ReadFault::UnknownCommand),
-        (b"#9", ReadFault::UnknownCommand),
-        (b"#2147483648 PING", ReadFault::UnknownCommand),
-        (b"SAY main", ReadFault::MissingArgument),
-        (b"REMOVESCRIPTTAGS", ReadFault::MissingArgument),
-        (b"MYSTATUS 1x", ReadFault::BadNumber),
-        (b"MYSTATUS 4294967296", ReadFault::BadNumber),
-        (b"MYSTATUS 00000000001", ReadFault::BadNumber),
-        (b"REMOVESTARTRECT 16", ReadFault::BadNumber),
-        (b"JOIN a-b", ReadFault::BadName),
-        (b"JOIN a\tb", ReadFault::BadByte),
-        (b"SAY main a\rb", ReadFault::BadByte),
-        (b"SETSCRIPTTAGS =1", ReadFault::BadPair),
-    ];
-    for (line, fault) in faults {
-        assert_eq!(rt; fault_of(rt.alloc(), line)?, Some(fault), "{line:?}");
-    }
-    Ok(())
-}
+const FAULTS: [(&[u8], ReadFault); 13] = [
+    (b"ping", ReadFault::UnknownCommand),
+    (b"#9", ReadFault::UnknownCommand),
+    (b"#2147483648 PING", ReadFault::UnknownCommand),
+    (b"SAY main", ReadFault::MissingArgument),
+    (b"REMOVESCRIPTTAGS", ReadFault::MissingArgument),
+    (b"MYSTATUS 1x", ReadFault::BadNumber),
+    (b"MYSTATUS 4294967296", ReadFault::BadNumber),
+    (b"MYSTATUS 00000000001", ReadFault::BadNumber),
+    (b"REMOVESTARTRECT 16", ReadFault::BadNumber),
+    (b"JOIN a-b", ReadFault::BadName),
+    (b"JOIN a\tb", ReadFault::BadByte),
+    (b"SAY main a\rb", ReadFault::BadByte),
+    (b"SETSCRIPTTAGS =1", ReadFault::BadPair),
+];
 
 #[test]
-fn ids_are_read(rt: HostRuntime) -> Result<(), Fail> {
-    let ids: [(&[u8], Option<u32>); 6] = [
-        (b"PING", None),
-        (b"  #007  PING", Some(7)),
-        (b"#2147483647 PING", Some(2147483647)),
-        (b"#2147483648 PING", None),
-        (b"#-0 PING", None),
-        (b"#9 ", Some(9)),
-    ];
-    for (line, id) in ids {
-        assert_eq!(rt; id_of(rt.alloc(), line)?, id, "{line:?}");
+fn faults_are_told(rt: HostRuntime) {
+    for (line, fault) in FAULTS {
+        assert_eq!(rt; fault_of(rt.alloc(), line), Ok(Some(fault)), "{line:?}");
     }
-    Ok(())
+}
+
+const IDS: [(&[u8], Option<u32>); 6] = [
+    (b"PING", None),
+    (b"  #007  PING", Some(7)),
+    (b"#2147483647 PING", Some(2147483647)),
+    (b"#2147483648 PING", None),
+    (b"#-0 PING", None),
+    (b"#9 ", Some(9)),
+];
+
+#[test]
+fn ids_are_read(rt: HostRuntime) {
+    for (line, id) in IDS {
+        assert_eq!(rt; id_of(rt.alloc(), line), Ok(id), "{line:?}");
+    }
 }
 
 // What the arguments of a line must be.
@@ -129,6 +127,42 @@ enum Expected<'a> {
     },
 }
 
+const READ_LINES: [(&[u8], Expected<'static>); 6] = [
+    (
+        b"JOIN  main  ",
+        Expected::Join {
+            channel: b"main",
+            key: None,
+        },
+    ),
+    (
+        b"JOIN main k",
+        Expected::Join {
+            channel: b"main",
+            key: Some(b"k"),
+        },
+    ),
+    (
+        b"JOIN main  k more",
+        Expected::Join {
+            channel: b"main",
+            key: Some(b"k"),
+        },
+    ),
+    (
+        b"SAYPRIVATE Bert  hi",
+        Expected::SayPrivate {
+            user: b"Bert",
+            text: b" hi",
+        },
+    ),
+    (b"MYSTATUS -0", Expected::MyStatus { status: 0 }),
+    (
+        b"MYSTATUS 4294967295",
+        Expected::MyStatus { status: 4294967295 },
+    ),
+];
+
 fn is_word(word: &Option<WordBuf>, expected: Option<&[u8]>) -> bool {
     match (word, expected) {
         (Some(word), Some(expected)) => word.as_slice() == expected,
@@ -137,76 +171,56 @@ fn is_word(word: &Option<WordBuf>, expected: Option<&[u8]>) -> bool {
     }
 }
 
+fn is_join(command: &Command, channel: &[u8], key: Option<&[u8]>) -> bool {
+    match command {
+        Command::Join {
+            channel: name,
+            key: word,
+        } => name.as_slice() == channel && is_word(word, key),
+        _ => false,
+    }
+}
+
+fn is_private(command: &Command, user: &[u8], text: &[u8]) -> bool {
+    match command {
+        Command::SayPrivate {
+            user: name,
+            text: said,
+        } => name.as_slice() == user && said.as_slice() == text,
+        _ => false,
+    }
+}
+
+fn is_status(command: &Command, status: u32) -> bool {
+    match command {
+        Command::MyStatus { status: asked } => *asked == status,
+        _ => false,
+    }
+}
+
 fn has_arguments(command: &Command, expected: Expected<'_>) -> bool {
     match expected {
-        Expected::Join { channel, key } => match command {
-            Command::Join {
-                channel: name,
-                key: word,
-            } => name.as_slice() == channel && is_word(word, key),
-            _ => false,
-        },
-        Expected::SayPrivate { user, text } => match command {
-            Command::SayPrivate {
-                user: name,
-                text: said,
-            } => name.as_slice() == user && said.as_slice() == text,
-            _ => false,
-        },
-        Expected::MyStatus { status } => match command {
-            Command::MyStatus { status: asked } => *asked == status,
-            _ => false,
-        },
+        Expected::Join { channel, key } => is_join(command, channel, key),
+        Expected::SayPrivate { user, text } => is_private(command, user, text),
+        Expected::MyStatus { status } => is_status(command, status),
+    }
+}
+
+fn is_read_as(alloc: Global, line: &[u8], expected: Expected<'_>) -> bool {
+    match read_request(alloc, line) {
+        Ok(request) => {
+            let is_read = has_arguments(&request.command, expected);
+            request.discard();
+            is_read
+        }
+        Err(_) => false,
     }
 }
 
 #[test]
 fn arguments_are_read(rt: HostRuntime) {
-    let lines: [(&[u8], Expected<'_>); 6] = [
-        (
-            b"JOIN  main  ",
-            Expected::Join {
-                channel: b"main",
-                key: None,
-            },
-        ),
-        (
-            b"JOIN main k",
-            Expected::Join {
-                channel: b"main",
-                key: Some(b"k"),
-            },
-        ),
-        (
-            b"JOIN main  k more",
-            Expected::Join {
-                channel: b"main",
-                key: Some(b"k"),
-            },
-        ),
-        (
-            b"SAYPRIVATE Bert  hi",
-            Expected::SayPrivate {
-                user: b"Bert",
-                text: b" hi",
-            },
-        ),
-        (b"MYSTATUS -0", Expected::MyStatus { status: 0 }),
-        (
-            b"MYSTATUS 4294967295",
-            Expected::MyStatus { status: 4294967295 },
-        ),
-    ];
-    for (line, expected) in lines {
-        let is_read = match read_request(rt.alloc(), line) {
-            Ok(request) => {
-                let is_read = has_arguments(&request.command, expected);
-                request.discard();
-                is_read
-            }
-            Err(_) => false,
-        };
-        assert!(rt; is_read, "{line:?}");
+    for (line, expected) in READ_LINES {
+        assert!(rt; is_read_as(rt.alloc(), line, expected), "{line:?}");
     }
 }
 

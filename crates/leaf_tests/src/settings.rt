@@ -3,63 +3,92 @@
 use line_words::TextBuf;
 use lobby_model::settings::{DEFAULT_OUTBOX_LIMIT, GREATEST_OUTBOX_LIMIT, LEAST_OUTBOX_LIMIT};
 use lobby_model::{Settings, SettingsError};
-use std::test::Fail;
+use std::alloc::Global;
+use std::process::Abort;
 
-#[test]
-fn the_default_is_kept(rt: HostRuntime) -> Result<(), Fail> {
-    let motd = [TextBuf::copy_of(rt.alloc(), b"Welcome")?];
-    let limit = DEFAULT_OUTBOX_LIMIT;
-    let settings = Settings::new(rt.alloc(), b"0.38", b"*", 8201, 0, &motd, limit)?;
+/// A message of the day of so many equal lines.
+fn message(alloc: Global, count: u32, line: &[u8]) -> Option<Vec<TextBuf>> {
+    let mut motd = Vec::new(alloc);
+    for _ in 0..count {
+        motd.push(TextBuf::of(Vec::from_slice(alloc, line).ok()?)?)
+            .ok()?;
+    }
+    Some(motd)
+}
+
+/// The default settings with a message of the day of so many equal lines.
+fn settings(alloc: Global, count: u32, line: &[u8]) -> Result<Settings, SettingsError> {
+    match message(alloc, count, line) {
+        Some(motd) => Settings::new(alloc, b"0.38", b"*", 8201, 0, &motd, DEFAULT_OUTBOX_LIMIT),
+        None => Err(SettingsError::Memory),
+    }
+}
+
+fn shows_default(rt: &impl Abort, settings: &Settings) {
     assert_eq!(rt; settings.protocol_version().as_slice(), b"0.38".as_slice());
     assert_eq!(rt; settings.spring_version().as_slice(), b"*".as_slice());
     assert_eq!(rt; (settings.udp_port(), settings.server_mode()), (8201, 0));
     assert_eq!(rt; settings.motd().as_slice().len(), 1);
     assert_eq!(rt; settings.outbox_limit(), 4_194_304);
-    Ok(())
 }
 
 #[test]
-fn a_value_out_of_its_bounds_is_refused(rt: HostRuntime) -> Result<(), Fail> {
-    let rows: [(&[u8], u8, usize, bool); 9] = [
-        (b"0.38", 1, LEAST_OUTBOX_LIMIT, true),
-        (&[b'~'; 32], 0, GREATEST_OUTBOX_LIMIT, true),
-        (b"", 0, LEAST_OUTBOX_LIMIT, false),
-        (b"0 38", 0, LEAST_OUTBOX_LIMIT, false),
-        (b"\x7f", 0, LEAST_OUTBOX_LIMIT, false),
-        (&[b'~'; 33], 0, LEAST_OUTBOX_LIMIT, false),
-        (b"0.38", 2, LEAST_OUTBOX_LIMIT, false),
-        (b"0.38", 0, 65_535, false),
-        (b"0.38", 0, 67_108_865, false),
-    ];
-    for (version, mode, limit, is_good) in rows {
+fn the_default_is_kept(rt: HostRuntime) {
+    match settings(rt.alloc(), 1, b"Welcome") {
+        Ok(settings) => shows_default(&rt, &settings),
+        Err(refusal) => assert!(rt; false, "{refusal}"),
+    }
+}
+
+/// A version, the mode, the limit of an outbox, and whether they are in their bounds.
+const VALUES: [(&[u8], u8, usize, bool); 9] = [
+    (b"0.38", 1, LEAST_OUTBOX_LIMIT, true),
+    (&[b'~'; 32], 0, GREATEST_OUTBOX_LIMIT, true),
+    (b"", 0, LEAST_OUTBOX_LIMIT, false),
+    (b"0 38", 0, LEAST_OUTBOX_LIMIT, false),
+    (b"\x7f", 0, LEAST_OUTBOX_LIMIT, false),
+    (&[b'~'; 33], 0, LEAST_OUTBOX_LIMIT, false),
+    (b"0.38", 2, LEAST_OUTBOX_LIMIT, false),
+    (b"0.38", 0, 65_535, false),
+    (b"0.38", 0, 67_108_865, false),
+];
+
+fn refusal(
+    alloc: Global,
+    protocol: &[u8],
+    spring: &[u8],
+    mode: u8,
+    limit: usize,
+) -> Option<SettingsError> {
+    Settings::new(alloc, protocol, spring, 0, mode, &[], limit).err()
+}
+
+#[test]
+fn a_value_out_of_its_bounds_is_refused(rt: HostRuntime) {
+    for (version, mode, limit, is_good) in VALUES {
         let want = if is_good {
             None
         } else {
             Some(SettingsError::OutOfBounds)
         };
-        let first = Settings::new(rt.alloc(), version, b"*", 0, mode, &[], limit);
-        assert_eq!(rt; first.err(), want, "{version:?} {mode} {limit}");
-        let second = Settings::new(rt.alloc(), b"0.38", version, 0, mode, &[], limit);
-        assert_eq!(rt; second.err(), want, "{version:?} {mode} {limit}");
+        let first = refusal(rt.alloc(), version, b"*", mode, limit);
+        assert_eq!(rt; first, want, "{version:?} {mode} {limit}");
+        let second = refusal(rt.alloc(), b"0.38", version, mode, limit);
+        assert_eq!(rt; second, want, "{version:?} {mode} {limit}");
     }
-    Ok(())
 }
 
+/// How many lines, each of them, and why they are refused.
+const MESSAGES: [(u32, &[u8], Option<SettingsError>); 3] = [
+    (100, &[b'x'; 1_000], None),
+    (101, b"", Some(SettingsError::OutOfBounds)),
+    (1, &[b'x'; 1_001], Some(SettingsError::OutOfBounds)),
+];
+
 #[test]
-fn a_message_of_the_day_has_100_lines_of_1000_bytes(rt: HostRuntime) -> Result<(), Fail> {
-    let rows: [(u32, &[u8], Option<SettingsError>); 3] = [
-        (100, &[b'x'; 1_000], None),
-        (101, b"", Some(SettingsError::OutOfBounds)),
-        (1, &[b'x'; 1_001], Some(SettingsError::OutOfBounds)),
-    ];
-    for (count, line, want) in rows {
-        let mut motd = Vec::new(rt.alloc());
-        for _ in 0..count {
-            motd.push(TextBuf::copy_of(rt.alloc(), line)?)?;
-        }
-        let limit = DEFAULT_OUTBOX_LIMIT;
-        let settings = Settings::new(rt.alloc(), b"0.38", b"*", 8201, 0, &motd, limit);
-        assert_eq!(rt; settings.err(), want, "{count} lines");
+fn a_message_of_the_day_has_100_lines_of_1000_bytes(rt: HostRuntime) {
+    for (count, line, told) in MESSAGES {
+        let refusal = settings(rt.alloc(), count, line).err();
+        assert_eq!(rt; refusal, told, "{count} lines");
     }
-    Ok(())
 }

@@ -4,7 +4,7 @@ use line_words::{
     KeyBuf, Name, NameBuf, Pair, PairList, Sentence, SentenceBuf, Text, Word, Words, is_key,
     read_number, split_at_byte, split_sentences, write_number,
 };
-use std::test::Fail;
+use std::alloc::Global;
 
 #[test]
 fn words_end_at_spaces(rt: HostRuntime) {
@@ -70,51 +70,82 @@ fn numbers_are_written(rt: HostRuntime) {
     assert_eq!(rt; buffer, *b"-9223372036854775808");
 }
 
+fn is_name(bytes: &[u8]) -> bool {
+    match Name::of(bytes) {
+        Some(name) => name.as_slice() == bytes,
+        None => false,
+    }
+}
+
+fn is_word(bytes: &[u8]) -> bool {
+    match Word::of(bytes) {
+        Some(word) => word.as_slice() == bytes,
+        None => false,
+    }
+}
+
+fn is_sentence(bytes: &[u8]) -> bool {
+    match Sentence::of(bytes) {
+        Some(sentence) => sentence.as_slice() == bytes,
+        None => false,
+    }
+}
+
+fn is_text(bytes: &[u8]) -> bool {
+    match Text::of(bytes) {
+        Some(text) => text.as_slice() == bytes,
+        None => false,
+    }
+}
+
 #[test]
-fn kinds_keep_their_rules(rt: HostRuntime) -> Result<(), Fail> {
-    let bytes = b"[Az]_09";
-    assert_eq!(rt; Name::of(bytes).ok_or("name")?.as_slice(), bytes.as_slice());
-    assert_eq!(rt; Word::of(b"*").ok_or("word")?.as_slice(), b"*".as_slice());
-    assert_eq!(rt;
-        Sentence::of(b" a ").ok_or("sentence")?.as_slice(),
-        b" a ".as_slice()
-    );
-    assert_eq!(rt;
-        Text::of(b"a\tb").ok_or("text")?.as_slice(),
-        b"a\tb".as_slice()
-    );
-    assert!(rt; Name::of(b"").is_none() && Name::of(b"a-b").is_none());
-    assert!(rt; Name::of(b"u2345678901234567890").is_some());
-    assert!(rt; Name::of(b"u23456789012345678901").is_none());
-    assert!(rt; Word::of(b"").is_none() && Word::of(b"a b").is_none());
-    assert!(rt; Sentence::of(b"").is_some() && Sentence::of(b"a\tb").is_none());
-    assert!(rt; Text::of(b"").is_some() && Text::of(b"a\rb").is_none());
+fn kinds_keep_their_rules(rt: HostRuntime) {
+    assert!(rt; is_name(b"[Az]_09") && is_name(b"u2345678901234567890"));
+    assert!(rt; !is_name(b"") && !is_name(b"a-b") && !is_name(b"u23456789012345678901"));
+    assert!(rt; is_word(b"*") && !is_word(b"") && !is_word(b"a b"));
+    assert!(rt; is_sentence(b" a ") && is_sentence(b"") && !is_sentence(b"a\tb"));
+    assert!(rt; is_text(b"a\tb") && is_text(b"") && !is_text(b"a\rb"));
     assert!(rt; is_key(b"game/a") && !is_key(b"a=b") && !is_key(b""));
-    Ok(())
 }
 
-#[test]
-fn owned_kinds_are_made_and_given_back(rt: HostRuntime) -> Result<(), Fail> {
-    let alloc = rt.alloc();
-    let name = NameBuf::of(b"Anna").ok_or("name")?;
-    assert_eq!(rt; name.as_slice(), b"Anna".as_slice());
-    assert_eq!(rt; name.copy().as_slice(), b"Anna".as_slice());
-    assert!(rt; NameBuf::of(b"a b").is_none());
-    let key = KeyBuf::of(Vec::from_slice(alloc, b"a")?).ok_or("key")?;
-    let value = SentenceBuf::of(Vec::from_slice(alloc, b"1 2")?).ok_or("value")?;
+// The tag a=1 2.
+fn new_pairs(alloc: Global) -> Option<PairList> {
+    let key = KeyBuf::of(Vec::from_slice(alloc, b"a").ok()?)?;
+    let value = SentenceBuf::of(Vec::from_slice(alloc, b"1 2").ok()?)?;
     let mut pairs = Vec::new(alloc);
-    pairs.push(Pair { key, value })?;
-    let pairs = PairList::new(pairs);
-    assert_eq!(rt; pairs.as_slice().len(), 1);
-    assert_eq!(rt; pairs.into_vec().len(), 1);
-    Ok(())
+    pairs.push(Pair { key, value }).ok()?;
+    Some(PairList::new(pairs))
+}
+
+fn gives_back_one(pairs: PairList) -> bool {
+    pairs.as_slice().len() == 1 && pairs.into_vec().len() == 1
 }
 
 #[test]
-fn names_are_ordered_by_their_bytes(rt: HostRuntime) -> Result<(), Fail> {
-    let anna = NameBuf::of(b"Anna").ok_or("name")?;
-    let ann = NameBuf::of(b"Ann").ok_or("name")?;
-    let lower = NameBuf::of(b"anna").ok_or("name")?;
-    assert!(rt; ann < anna && anna < lower && anna != lower);
-    Ok(())
+fn lists_are_made_and_given_back(rt: HostRuntime) {
+    match new_pairs(rt.alloc()) {
+        Some(pairs) => assert!(rt; gives_back_one(pairs)),
+        None => assert!(rt; false, "a list of one pair"),
+    }
+}
+
+fn keeps(bytes: &[u8]) -> bool {
+    match NameBuf::of(bytes) {
+        Some(name) => name.as_slice() == bytes && name.copy().as_slice() == bytes,
+        None => false,
+    }
+}
+
+// Whether two names stand in this order.
+fn rises(first: &[u8], second: &[u8]) -> bool {
+    match (NameBuf::of(first), NameBuf::of(second)) {
+        (Some(first), Some(second)) => first < second && first != second,
+        _ => false,
+    }
+}
+
+#[test]
+fn names_are_kept_and_ordered_by_their_bytes(rt: HostRuntime) {
+    assert!(rt; keeps(b"Anna") && !keeps(b"a b"));
+    assert!(rt; rises(b"Ann", b"Anna") && rises(b"Anna", b"anna"));
 }

@@ -162,7 +162,7 @@ takes k v live x items views h at =
         numbers = h.numbers;
         place = inl (nothing, (k, w, (set_there views k v w at, live), refl));
       },
-      record { same = refl; later = f.told.begins; own = f.told.whole; stands = stands ∙ ap (λ (s : State). after_history s h.history) (sym f.starts) },
+      record { same = refl; later = f.told.begins; own = f.told.whole; known = f.told.known; stands = stands ∙ ap (λ (s : State). after_history s h.history) (sym f.starts) },
     )
 
 -- ---- the lobby is given back

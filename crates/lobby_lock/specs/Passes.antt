@@ -50,20 +50,22 @@ pass_after held = record held.pass { worker = with_events held.pass.worker held.
 abbrev pub lobby_after : ShownPass → List Event → State
 lobby_after pass events = after_history pass.start (pass.worker.seen ++ under pass.worker.number events)
 
--- inside a pass: it does not hold, counts what its view counts, and has room for the events of a hold
-pub record IsReady (inner : Pass Shown View) (handed : ℕ) (room : List Event) (capacity : ℕ) : Type 0 where
+-- inside a pass: it does not hold, knows its number, counts what its view counts, and has room for the events of a hold
+pub record IsReady (inner : Pass Shown View) (number handed : ℕ) (room : List Event) (capacity : ℕ) : Type 0 where
   pub slots : inner.me.1 ≡ []
   pub alive : (view inner).alive ≡ true
   pub holds : (view inner).holds ≡ false
+  pub numbered : number ≡ (view inner).worker.number
   pub counts : handed ≡ (view inner).handed
   pub empty : room ≡ []
   pub space : 32 ≤ capacity
 
 -- inside a hold: its lobby stands for the history seen and then the hold's own events
-pub record IsHolding (inner : Pass Shown View) (handed : ℕ) (lobby : Shown) (events : List Event) (capacity : ℕ) : Type 0 where
+pub record IsHolding (inner : Pass Shown View) (number handed : ℕ) (lobby : Shown) (events : List Event) (capacity : ℕ) : Type 0 where
   pub slots : inner.me.1 ≡ []
   pub alive : (view inner).alive ≡ true
   pub holds : (view inner).holds ≡ true
+  pub numbered : number ≡ (view inner).worker.number
   pub counts : handed ≡ (view inner).handed
   pub stands : lobby.plain ≡ lobby_after (shown_pass inner) events
   pub space : 32 ≤ capacity

@@ -101,11 +101,12 @@ with_taken_back v w = record v { taken_back = w.worker ∷ v.taken_back }
 abbrev pub seen_by : Worker → List Entry → Worker
 seen_by worker seen = record worker { seen = seen }
 
--- a take: the whole history was seen, the worker's events in it are its own, and the lobby found is the one after it
+-- a take: the whole history was seen, the worker's events in it are its own, as they were in what it had seen, and the lobby found is the one after it
 pub record Took (v : View) (x : Shown) (w : View) : Type 0 where
   pub same : w ≡ record v { worker = seen_by v.worker w.worker.seen; holds = true }
   pub later : Begins v.worker.seen w.worker.seen
   pub own : made_by v.worker.number w.worker.seen ≡ v.worker.mine
+  pub known : made_by v.worker.number v.worker.seen ≡ v.worker.mine
   pub stands : x.plain ≡ after_history v.start.plain w.worker.seen
 
 -- one worker has seen all that the other has, and in it each worker's events are just those that it made

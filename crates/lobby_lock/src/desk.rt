@@ -71,6 +71,7 @@ impl Desk {
         let bell = Bell::new();
         let pass = Pass {
             inner,
+            number: 0,
             handed: 0,
             room,
         };
@@ -96,17 +97,20 @@ impl Desk {
         };
         let Pass {
             mut inner,
+            number,
             handed,
             room: old_room,
         } = pass;
         let other = self.place.another::<HandingOut>(&mut inner);
         let giver = Pass {
             inner,
+            number,
             handed: handed + 1,
             room: old_room,
         };
         let newcomer = Pass {
             inner: other,
+            number: handed + 1,
             handed: 0,
             room,
         };
@@ -125,11 +129,13 @@ impl Desk {
     {
         let Pass {
             mut inner,
+            number,
             handed,
             room,
         } = pass;
         let Pass {
             inner: other,
+            number: _,
             handed: _,
             room: _,
         } = ended;
@@ -137,6 +143,7 @@ impl Desk {
         self.place.learn_as::<LastBack>(&mut inner);
         Pass {
             inner,
+            number,
             handed,
             room,
         }
@@ -149,17 +156,20 @@ impl Desk {
         ensures pass { result.pass ≡ record pass { worker = seen_by pass.worker result.pass.worker.seen } }
         ensures later { Begins pass.worker.seen result.pass.worker.seen }
         ensures own { made_by pass.worker.number result.pass.worker.seen ≡ pass.worker.mine }
+        ensures known { made_by pass.worker.number pass.worker.seen ≡ pass.worker.mine }
         ensures stands { result.lobby.plain ≡ after_history pass.start result.pass.worker.seen }
         ensures fresh { result.events ≡ [] }
     {
         let Pass {
             mut inner,
+            number,
             handed,
             room,
         } = pass;
         let lobby = fetch(rt, &self.place, &self.bell, &mut inner);
         Held {
             inner,
+            number,
             handed,
             lobby,
             events: room,

@@ -24,6 +24,7 @@ use std::sync::Wait;
 /// It has no `Drop`, so it must be given back.
 pub struct Held {
     pub(crate) inner: PlacePass,
+    pub(crate) number: u64,
     pub(crate) handed: u64,
     pub(crate) lobby: Lobby,
     pub(crate) events: Vec<Event>,
@@ -37,7 +38,7 @@ impl Model for Held {
 
     ghost view = { λ h. shown_hold h.inner h.lobby h.events.items };
 
-    ghost invariant = { λ h. IsHolding h.inner h.handed h.lobby h.events.items (vec_capacity h.events) };
+    ghost invariant = { λ h. IsHolding h.inner h.number h.handed h.lobby h.events.items (vec_capacity h.events) };
 }
 
 impl Held {
@@ -136,6 +137,7 @@ impl Held {
     {
         let Held {
             mut inner,
+            number,
             handed,
             lobby,
             mut events,
@@ -145,6 +147,7 @@ impl Held {
         events.clear();
         Pass {
             inner,
+            number,
             handed,
             room: events,
         }

@@ -1,5 +1,7 @@
 //! A worker's pass.
 
+ghost use Rattle.std.specs.Prelude.{◌≡◌};
+
 use crate::rule::PlacePass;
 use lobby_model::Event;
 use std::marker::Model;
@@ -10,6 +12,7 @@ use std::marker::Model;
 #[derive(Drop)]
 pub struct Pass {
     pub(crate) inner: PlacePass,
+    pub(crate) number: u64,
     // how many numbers were handed out; worker 0's pass alone counts them
     pub(crate) handed: u64,
     // empty, with room for the events of a hold
@@ -24,5 +27,14 @@ impl Model for Pass {
 
     ghost view = { λ p. shown_pass p.inner };
 
-    ghost invariant = { λ p. IsReady p.inner p.handed p.room.items (vec_capacity p.room) };
+    ghost invariant = { λ p. IsReady p.inner p.number p.handed p.room.items (vec_capacity p.room) };
+}
+
+impl Pass {
+    /// The number of its worker.
+    pub fn number(&self) -> u64
+        ensures { result ≡ self.now.worker.number }
+    {
+        self.number
+    }
 }

@@ -9,6 +9,7 @@
 mod battle;
 mod battles;
 mod change;
+mod entered;
 mod greeting;
 mod lobby;
 mod maps;

@@ -267,6 +267,22 @@ impl Maps {
         ensures there { IfSome result (λ own. at_number self.now.battles own.0 ≡ Some own.1.now) }
         ensures none { result ≡ None → battle_of self.now name.now ≡ None }
     {
+        // Its contract says that the numbers rise, which the proof wants.
+        let _ = self.battles.by_number.len();
+        let likely = self.seats.entered.likely(name);
+        match self.battles.with_member(likely, name) {
+            Some(battle) => Some((likely, battle)),
+            None => self.battle_by_seat(name),
+        }
+    }
+
+    /// The same, by the number that the user's seat has.
+    fn battle_by_seat(&self, name: &NameBuf) -> Option<(u32, &Battle)>
+        ensures some { IfSome result (λ own. battle_of self.now name.now ≡ Some (own.0, own.1.now)) }
+        ensures only { IfSome result (λ own. IsOnly self.now.battles (Some own.0) name.now) }
+        ensures there { IfSome result (λ own. at_number self.now.battles own.0 ≡ Some own.1.now) }
+        ensures none { result ≡ None → battle_of self.now name.now ≡ None }
+    {
         // Its contract says that the numbers rise, which the proof wants however this ends.
         let _ = self.battles.by_number.len();
         let number = self.seats.users.get(name)?.battle?;

@@ -8,6 +8,7 @@ ghost use Rattle.lobby_post.specs.Mail.{plain};
 ghost use Rattle.lobby_post.specs.Posted.{addressed, has_number};
 ghost use Rattle.lobby_machine.specs.Seats.{Agree, IsSet, client_in, clients_of, is_some_number, numbers_but, seat_in, seat_with, where_some, without_one};
 
+use crate::entered::Entered;
 use battle_room::Member;
 use line_words::{NameBuf, WordBuf};
 use lobby_post::{Clients, Post};
@@ -41,6 +42,8 @@ pub struct Seats {
     /// The numbers of the clients. What all users get is told in their order, in which the clients
     /// themselves lie.
     pub clients: BTreeSet<u64>,
+    /// The numbers of the battles that they entered.
+    pub entered: Entered,
 }
 
 impl Seats {
@@ -52,6 +55,7 @@ impl Seats {
         Seats {
             users: BTreeMap::new(alloc),
             clients: BTreeSet::new(alloc),
+            entered: Entered::new(alloc),
         }
     }
 
@@ -209,6 +213,7 @@ impl Seats {
         ensures users { self.new.users.entries ≡ change_name self.old.users.entries name.now (seat_in number) }
         ensures clients { self.new.clients.keys ≡ self.old.clients.keys }
     {
+        self.entered.remember(name, number);
         if let Some(seat) = self.users.get_mut(name) {
             seat.battle = Some(number);
         }

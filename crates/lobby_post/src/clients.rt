@@ -14,6 +14,7 @@ ghost use Rattle.lobby_post.specs.Unread.{is_over, unread_in};
 
 use crate::slot::Slot;
 use crate::slots::Slots;
+use crate::spares::Spares;
 use line_words::NameBuf;
 use std::alloc::{AllocError, Global};
 use std::marker::Model;
@@ -36,6 +37,7 @@ pub struct Clients {
     /// How many bytes may stand unread in an outbox.
     limit: usize,
     pub(crate) slots: Slots,
+    pub(crate) spares: Spares,
 }
 
 impl Model for Clients {
@@ -58,6 +60,7 @@ impl Clients {
             alloc,
             limit,
             slots: Slots::new(alloc),
+            spares: Spares::new(alloc),
         }
     }
 
@@ -151,7 +154,15 @@ impl Clients {
         ensures was_ordered { OnOk result (IsStrictlySortedBy nat_cmp (map (λ e. e.0) self.old.slots)) }
         ensures err { OnErr result (self.new ≡ self.old) }
     {
-        let slot = Slot::with_greeting(self.alloc, self.limit, ip, home, greeting)?;
+        self.spares.make_places(self.slots.len().saturating_add(1))?;
+        let slot = Slot::with_greeting(
+            self.alloc,
+            self.limit,
+            ip,
+            home,
+            greeting,
+            &mut self.spares,
+        )?;
         self.slots.insert(client, slot)?;
         Ok(())
     }
@@ -219,7 +230,7 @@ impl Clients {
     {
         match self.slots.get_mut(client) {
             Some(slot) => {
-                let count = slot.drain(into);
+                let count = slot.drain(into, &mut self.spares);
                 Drained {
                     count,
                     finished: slot.is_over(),

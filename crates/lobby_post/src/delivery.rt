@@ -7,6 +7,7 @@ ghost use Rattle.lobby_post.specs.Mail.{AreDue, AreReady, HaveLimit, plain, deli
 ghost use Rattle.lobby_post.specs.Pieces.{LiesIn, pieces_of};
 
 use crate::slots::Slots;
+use crate::spares::Spares;
 use crate::wakes::Wakes;
 use std::alloc::AllocError;
 
@@ -24,7 +25,12 @@ pub struct Piece {
 
 /// Makes room for all pieces, and changes nothing that anyone sees. Where memory is refused, nothing
 /// is due any more.
-pub fn make_room(clients: &mut Slots, text: &[u8], pieces: &[Piece]) -> Result<(), AllocError>
+pub fn make_room(
+    clients: &mut Slots,
+    spares: &mut Spares,
+    text: &[u8],
+    pieces: &[Piece],
+) -> Result<(), AllocError>
     requires inside { AllByRecursion (LiesIn text.now) pieces.now }
     requires due { AreDue [] clients.old }
     ensures clients { plain clients.new ≡ plain clients.old }
@@ -36,7 +42,7 @@ pub fn make_room(clients: &mut Slots, text: &[u8], pieces: &[Piece]) -> Result<(
     for i in 0..pieces.len() {
         let piece = pieces[i];
         if let Some(slot) = clients.get_mut_at(piece.client, piece.place) {
-            match slot.make_room(piece.to - piece.from) {
+            match slot.make_room(piece.to - piece.from, spares) {
                 Ok(()) => {}
                 Err(refused) => {
                     forget(clients, text, &pieces[..i]);

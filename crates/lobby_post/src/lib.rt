@@ -9,12 +9,14 @@
 
 mod clients;
 mod delivery;
+mod near;
 mod post;
 mod slot;
 mod slots;
+mod spares;
 mod wakes;
 
 pub use clients::{Clients, Drained};
 pub use post::Post;
-pub use slot::KEPT_ROOM;
+pub use spares::KEPT_ROOM;
 pub use wakes::Wakes;

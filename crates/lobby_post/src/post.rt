@@ -12,7 +12,7 @@ ghost use Rattle.lobby_model.specs.Outcome.{tell, issuer};
 use crate::clients::Clients;
 use crate::delivery;
 use crate::delivery::Piece;
-use crate::slots::NOWHERE;
+use crate::near::NOWHERE;
 use crate::wakes::Wakes;
 use reply_grammar::{LentReply, print_id, print_lent};
 use std::alloc::{AllocError, Global};
@@ -180,7 +180,12 @@ impl Post {
         ensures ready { OnOk result (AreReady clients.new.slots) }
         ensures err { OnErr result (AreDue [] clients.new.slots) }
     {
-        delivery::make_room(&mut clients.slots, &self.text, &self.pieces)
+        delivery::make_room(
+            &mut clients.slots,
+            &mut clients.spares,
+            &self.text,
+            &self.pieces,
+        )
     }
 
     /// Nothing is due any more: gives up what `make_room` promised.

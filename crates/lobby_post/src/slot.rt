@@ -9,16 +9,13 @@ ghost use Rattle.lobby_post.specs.Mask.{has_home};
 ghost use Rattle.lobby_post.specs.Mail.{IsReady, put_first, wakes_one};
 ghost use Rattle.lobby_post.specs.Unread.{is_over};
 
+use crate::spares::Spares;
 use crate::wakes::Wakes;
 use line_words::NameBuf;
 use lobby_model::Phase;
 use outbox::Outbox;
 use std::alloc::{AllocError, Global};
 use std::marker::Model;
-
-/// The room, in bytes, that an outbox may keep when all is read: many lines, but not those of a login
-/// among thousands of users.
-pub const KEPT_ROOM: usize = 4_096;
 
 /// A client, with what waits for it.
 #[derive(Drop)]
@@ -66,6 +63,7 @@ impl Slot {
         ip: [u8; 4],
         home: u8,
         greeting: &[u8],
+        spares: &mut Spares,
     ) -> Result<Slot, AllocError>
         requires { home < 64 }
         ensures client { IfOk result (λ slot. slot.client ≡ with_batch limit greeting.now (greeted ip home)) }
@@ -73,7 +71,7 @@ impl Slot {
         ensures due { IfOk result (λ slot. slot.due ≡ 0) }
     {
         let mut slot = Slot::new(alloc, limit, ip, home);
-        slot.make_room(greeting.len())?;
+        slot.make_room(greeting.len(), spares)?;
         let _ = slot.put(greeting);
         Ok(slot)
     }
@@ -88,8 +86,9 @@ impl Slot {
         }
     }
 
-    /// So many more bytes are due, and there is room for all that is due, where it will be put.
-    pub fn make_room(&mut self, more: usize) -> Result<(), AllocError>
+    /// So many more bytes are due, and there is room for all that is due, where it will be put: in a
+    /// spare buffer, where the outbox has none of its own.
+    pub fn make_room(&mut self, more: usize, spares: &mut Spares) -> Result<(), AllocError>
         ensures client { self.new.client ≡ self.old.client }
         ensures limit { self.new.limit ≡ self.old.limit }
         ensures due { OnOk result (self.new.due ≡ self.old.due + more) }
@@ -100,6 +99,7 @@ impl Slot {
             return Err(AllocError);
         };
         if self.is_live() && self.outbox.room_for(due) {
+            spares.lend(&mut self.outbox);
             self.outbox.reserve(due)?;
         }
         self.due = due;
@@ -194,8 +194,8 @@ impl Slot {
         self.phase = Phase::In { name };
     }
 
-    /// Takes unread bytes into a slice, as many as fit.
-    pub fn drain(&mut self, into: &mut [u8]) -> usize
+    /// Takes unread bytes into a slice, as many as fit. Once all are taken, the buffer is spare.
+    pub fn drain(&mut self, into: &mut [u8], spares: &mut Spares) -> usize
         ensures count { result ≡ min (length self.old.client.unread) (length into.old) }
         ensures given { into.new ≡ take result self.old.client.unread ++ drop result into.old }
         ensures client { self.new.client ≡ drained (length into.old) self.old.client }
@@ -203,7 +203,7 @@ impl Slot {
         ensures due { self.new.due ≡ self.old.due }
     {
         let count = self.outbox.take(into);
-        self.outbox.release(KEPT_ROOM);
+        spares.take_back(&mut self.outbox);
         count
     }
 

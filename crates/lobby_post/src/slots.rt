@@ -10,14 +10,12 @@ ghost use Rattle.std.specs.Map.{lookup, remove_entry};
 ghost use Rattle.line_words.specs.Table.{ByNumber};
 ghost use Rattle.lobby_post.specs.Mail.{Held};
 
+use crate::near::{NOWHERE, Near};
 use crate::slot::Slot;
 use slab::Slab;
 use std::alloc::{AllocError, Global};
 use std::collections::BTreeMap;
 use std::marker::Model;
-
-/// No client's place, for one who knows none.
-pub const NOWHERE: usize = usize::MAX;
 
 /// A slot, and the number of the client whose it is.
 #[derive(Drop)]
@@ -34,6 +32,7 @@ struct Cell {
 pub struct Slots {
     cells: Slab<Cell>,
     places: BTreeMap<u64, usize>,
+    near: Near,
 }
 
 impl Model for Slots {
@@ -76,6 +75,7 @@ impl Slots {
         Slots {
             cells: Slab::new(alloc),
             places: BTreeMap::new(alloc),
+            near: Near::new(alloc),
         }
     }
 
@@ -97,7 +97,8 @@ impl Slots {
     pub fn get(&self, client: u64) -> Option<&Slot>
         ensures value { option_copied result ≡ lookup (is_at (nat_cmp client)) self.now }
     {
-        let place = *self.places.get(&client)?;
+        let likely = self.near.likely(client, NOWHERE);
+        let place = Slots::place_near(&self.cells, &self.places, client, likely)?;
         Some(&self.cells[place].slot)
     }
 
@@ -107,6 +108,7 @@ impl Slots {
         ensures value { option_copied_mut result ≡ lookup (is_at (nat_cmp client)) self.old }
         ensures ordered { IsStrictlySortedBy nat_cmp (map (λ e. e.0) self.old) }
     {
+        let likely = self.near.likely(client, likely);
         let place = Slots::place_near(&self.cells, &self.places, client, likely)?;
         Some(&mut self.cells[place].slot)
     }
@@ -140,9 +142,11 @@ impl Slots {
         ensures entries { OnOk result (self.new ≡ insert_entry nat_cmp self.old client slot) }
         ensures err { OnErr result (self.new ≡ self.old) }
     {
+        self.near.make_ready()?;
         self.cells.reserve(1)?;
         self.places.insert(client, self.cells.vacant_key())?;
-        let _ = self.cells.insert_reserved(Cell { client, slot });
+        let place = self.cells.insert_reserved(Cell { client, slot });
+        self.near.remember(client, place);
         Ok(())
     }
 
@@ -158,9 +162,10 @@ impl Slots {
 
     /// The place of a client that is there; else one that says nothing.
     pub fn place_of(&self, client: u64) -> usize {
-        match self.places.get(&client) {
-            Some(place) => *place,
-            None => NOWHERE,
+        let likely = self.near.likely(client, NOWHERE);
+        match self.cells.get(likely) {
+            Some(cell) if cell.client == client => likely,
+            _ => self.places.get(&client).copied().unwrap_or(NOWHERE),
         }
     }
 

@@ -1,5 +1,3 @@
-mod Parts
-mod Numbers
 mod EscapeLemmas
 mod AccountLemmas
 mod ActionLemmas

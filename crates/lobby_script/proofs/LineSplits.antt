@@ -4,9 +4,9 @@ use Rattle.std.specs.Prelude.{Option, Some}
 use Rattle.std.specs.List.{onto_first}
 use Rattle.std.specs.Borrow.{Bor}
 use Rattle.line_words.specs.Bytes.{has_byte}
-use Rattle.lobby_script.specs.Words.{PartedAt}
+use Rattle.address_words.specs.Words.{PartedAt}
 use Rattle.lobby_script.specs.Lines.{lines_of, lines_left}
-use Rattle.lobby_script.proofs.Parts.{first_of_or, second_of_or}
+use Rattle.address_words.proofs.Parts.{first_of_or, second_of_or}
 
 of_front : (line behind : List ℕ) → has_byte 10 line ≡ false → lines_of (line ++ 10 ∷ behind) ≡ line ∷ lines_of behind
 of_front [] behind h = refl

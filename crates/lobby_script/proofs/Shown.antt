@@ -5,8 +5,8 @@ use Rattle.std.specs.Io.KnownBytes.{Appends}
 use Rattle.std.proofs.KnownBytes.{Appends-trans}
 use Rattle.line_framer.specs.Frames.{Parts, parts, with_byte, lines_in}
 use Rattle.line_words.specs.Bytes.{has_byte}
-use Rattle.lobby_script.specs.Words.{PartedAt}
-use Rattle.lobby_script.proofs.Parts.{first_of_or, second_of_or}
+use Rattle.address_words.specs.Words.{PartedAt}
+use Rattle.address_words.proofs.Parts.{first_of_or, second_of_or}
 use Rattle.lobby_script.specs.Acts.{labelled}
 
 byte_before : (b : ℕ) (p : Parts) (line : List ℕ) (lines : List (List ℕ)) → p.0 ≡ line ∷ lines → (with_byte b p).0 ≡ (b ∷ line) ∷ lines

@@ -1,13 +1,13 @@
 //! What the lines of a script ask for.
 
 ghost use Rattle.std.specs.Prelude.{◌≡◌, ℕ, List, IfOk};
-ghost use Rattle.lobby_script.specs.Words.{Finds};
+ghost use Rattle.address_words.specs.Words.{Finds};
 ghost use Rattle.lobby_script.specs.Actions.{Arguments, IsAccount, IsLimit, IsMotd, IsOpen, IsPlain, IsRead, IsSend, Says, verb_of};
 
 use crate::accounts::read_account;
 use crate::escapes::unescape;
-use crate::words::{address, number, number_before, part_at};
 use account_book::Account;
+use address_words::{address, number, number_before, part_at};
 use line_words::{TextBuf, is_text};
 use lobby_model::schedule::Piece;
 use std::alloc::{AllocError, Global};

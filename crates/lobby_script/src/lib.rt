@@ -17,7 +17,6 @@ mod player;
 mod script;
 mod setup;
 mod show;
-mod words;
 
 pub use fault::PlayFault;
 pub use input::{MOST_READS, SCRIPT_LIMIT};

@@ -13,7 +13,7 @@ ghost use Rattle.lobby_script.specs.Acts.{labelled};
 ghost use Rattle.lobby_script.specs.declared.fault.LineFault.TheVariants as fault;
 
 use crate::fault::LineFault;
-use crate::words::part_at;
+use address_words::part_at;
 use itoa::Buffer;
 use lobby_hall::Hall;
 use std::io;

@@ -1,16 +1,10 @@
-//! Tests of the lobby machine, of halls and of scripts, by public calls alone. They stand in a crate
-//! of their own, since a crate with tests is proved twice.
+//! Tests of halls and of scripts, by public calls alone. They stand in a crate of their own, since a crate
+//! with tests is proved twice.
 #![tactic(auto)]
 
 #[cfg(test)]
-mod battles;
-#[cfg(test)]
 mod hall;
-#[cfg(test)]
-mod machine;
 #[cfg(test)]
 mod scripts;
 #[cfg(test)]
 mod settings;
-#[cfg(test)]
-mod talk;

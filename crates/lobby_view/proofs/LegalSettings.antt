@@ -1,11 +1,11 @@
 -- What settings and accounts bring: a greeting and a message of the day that can be read again, users of the right kinds.
-use Rattle.std.proofs.Common.{◌≡◌, ℕ, ◌≤◌, ◌^◌, List, [], ◌∷◌, refl, sym, subst, Bool, true, false, not, length, arith}
+use Rattle.std.proofs.Common.{◌≡◌, ℕ, ◌≤◌, ◌^◌, List, [], ◌∷◌, refl, sym, subst, Bool, true, false, length, arith}
 use Rattle.std.specs.Prelude.{◌&&◌, ◌||◌, ◌==◌, nat_le, codes, if◌then◌else◌}
 use Rattle.std.specs.Char.{is_ascii_uppercase}
 use Rattle.std.specs.Str.{bytes_eq}
 use Rattle.std.specs.List.{AllByRecursion, list_all}
 use Rattle.std.proofs.lemmas.Bool.{and_parts, and_from, leb-true, le-leb, eqb-true}
-use Rattle.line_words.specs.Bytes.{is_name, is_word, is_word_byte, is_text_byte}
+use Rattle.line_words.specs.Bytes.{is_name, is_word, is_word_byte, is_text}
 use Rattle.account_book.specs.Account.{Account, IsHeld, is_country, is_password_word}
 use Rattle.reply_grammar.specs.declared.Reply.TheVariants as reply
 use Rattle.reply_grammar.proofs.Bytes.{all_more}
@@ -25,18 +25,13 @@ version_short w e =
     let p = and_parts (nat_le 1 (length w) && nat_le (length w) 32) (list_all is_version_byte w) e in
     leb-true (length w) 32 (and_parts (nat_le 1 (length w)) (nat_le (length w) 32) p.0).1
 
-motd_byte : (b : ℕ) → not (b == 10 || b == 13) ≡ true → is_text_byte b ≡ true
-motd_byte b e =
-    elim (b == 10) as (λ t. not (t || b == 13) ≡ true → (not t && not (b == 13)) ≡ true) [ true ↦ λ f. absurd (cc) | false ↦ λ f. f ] e
-
 motd_clean : (lines : List (List ℕ)) → list_all is_motd_line lines ≡ true → Each (λ t. Clean (reply.Motd t)) lines
 motd_clean [] e = tt
 motd_clean (w ∷ lines) e =
     let p = and_parts (is_motd_line w) (list_all is_motd_line lines) e in
-    let q = and_parts (nat_le (length w) 1000) (list_all (λ b. not (b == 10 || b == 13)) w) p.0 in
+    let q = and_parts (nat_le (length w) 1000) (is_text w) p.0 in
     let short = leb-true (length w) 1000 q.0 in
-    let text = all_more (λ b. not (b == 10 || b == 13)) is_text_byte motd_byte w q.1 in
-    (record { fits = λ i. text i && true; short = omega arith }, motd_clean lines p.1)
+    (record { fits = λ i. q.1 i && true; short = omega arith }, motd_clean lines p.1)
 
 record Greets (settings : Configuration) : Type 0 where
   motd : Each (λ t. Clean (reply.Motd t)) settings.motd

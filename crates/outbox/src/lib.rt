@@ -6,11 +6,12 @@
 //! client sees, and [`Outbox::put`] cannot fail.
 #![tactic(auto)]
 
-ghost use Rattle.std.specs.Prelude.{◌≡◌, ◌+◌, ◌-◌, ◌^◌, ◌<◌, ◌≤◌, ◌↔◌, [], ◌++◌, length, take, drop, min, IsTrue, OnOk, OnErr, true, false};
+ghost use Rattle.std.specs.Prelude.{◌≡◌, ◌≢◌, ◌+◌, ◌-◌, ◌^◌, ◌<◌, ◌≤◌, ◌↔◌, [], ◌++◌, length, take, drop, min, IsTrue, IfSome, IfNone, OnOk, OnErr, true, false};
 ghost use Rattle.outbox.specs.Queue.{room};
 
 use std::alloc::{AllocError, Global};
 use std::marker::Model;
+use std::mem;
 
 /// The bytes that wait for a client to read them, at most as many as its limit.
 ///
@@ -171,6 +172,40 @@ impl Outbox {
         let count = wanted.len().min(into.len());
         into[..count].copy_from_slice(&wanted[..count]);
         count
+    }
+
+    /// Whether it holds a buffer. Where it does not, `adopt` may save it from asking for memory.
+    pub fn has_buffer(&self) -> bool
+        ensures { result ≡ false → self.now.spare ≡ 0 }
+    {
+        self.bytes.capacity() > 0
+    }
+
+    /// Takes an empty buffer for its own, where it has none. Otherwise the buffer goes.
+    pub fn adopt(&mut self, mut buffer: Vec<u8>)
+        ensures unchanged { self.new ≡ record self.old { spare = self.new.spare } }
+        ensures spare_kept { self.old.spare ≤ self.new.spare }
+    {
+        if self.bytes.capacity() == 0 {
+            buffer.clear();
+            self.taken = 0;
+            self.bytes = buffer;
+        }
+    }
+
+    /// Hands its buffer over where nothing is unread, so that another outbox may adopt it.
+    pub fn hand_over(&mut self) -> Option<Vec<u8>>
+        ensures unchanged { self.new ≡ record self.old { spare = self.new.spare } }
+        ensures handed { IfSome result (λ _. (self.old.unread ≡ []) × (self.new.spare ≡ 0)) }
+        ensures none { IfNone result ((self.new ≡ self.old) × (self.old.unread ≢ [])) }
+    {
+        if self.unread() == 0 {
+            self.taken = 0;
+            let none = Vec::new(*self.bytes.allocator());
+            Some(mem::replace(&mut self.bytes, none))
+        } else {
+            None
+        }
     }
 
     /// Gives the buffer back where nothing is unread and it has room for more than `most` bytes, so

@@ -19,6 +19,7 @@ use std::alloc::AllocError;
 
 impl Known {
     // The reply is one of the group.
+    #[inline(never)]
     pub(crate) fn fold_battles(&mut self, reply: Reply) -> Result<(), AllocError>
         requires { group_of (command_of reply) ≡ Battles }
         ensures ok { OnOk result (self.new ≡ shown self.old reply) }
@@ -56,6 +57,7 @@ impl Known {
     }
 
     // The reply tells all of a battle that opens.
+    #[inline(never)]
     pub(crate) fn battle_opened(&mut self, reply: Reply) -> Result<(), AllocError>
         requires { group_of (command_of reply) ≡ Opening }
         ensures ok { OnOk result (self.new ≡ shown self.old reply) }

@@ -1,10 +1,9 @@
 //! The lines of channels.
 
-ghost use Rattle.std.specs.Prelude.{◌≡◌, OnOk, OnErr};
+ghost use Rattle.std.specs.Prelude.{◌≡◌, OnOk, OnErr, IsTrue};
 ghost use Rattle.reply_grammar.specs.declared.Reply.TheVariants as reply;
-ghost use Rattle.reply_grammar.specs.Groups.{Channels, group_of};
-ghost use Rattle.reply_grammar.specs.Replies.{command_of};
 ghost use Rattle.lobby_view.specs.View.{shown};
+ghost use Rattle.client_view.specs.Kinds.{is_of_channels};
 
 use crate::known::Known;
 use line_words::{NameBuf, NameList};
@@ -12,9 +11,10 @@ use reply_grammar::Reply;
 use std::alloc::AllocError;
 
 impl Known {
-    // The reply is one of the group.
+    // The reply tells who is in which channel.
+    #[inline(never)]
     pub(crate) fn fold_channels(&mut self, reply: Reply) -> Result<(), AllocError>
-        requires { group_of (command_of reply) ≡ Channels }
+        requires { IsTrue (is_of_channels reply) }
         ensures ok { OnOk result (self.new ≡ shown self.old reply) }
         ensures err { OnErr result (self.new ≡ self.old) }
     {
@@ -24,15 +24,6 @@ impl Known {
             Reply::Joined { channel, user } => self.joined(&channel, user),
             Reply::Left { channel, user } => {
                 self.left(&channel, &user);
-                Ok(())
-            }
-            Reply::Said { .. }
-            | Reply::SaidEx { .. }
-            | Reply::SayPrivate { .. }
-            | Reply::SaidPrivate { .. }
-            | Reply::Channel { .. }
-            | Reply::EndOfChannels => {
-                reply.discard();
                 Ok(())
             }
             _ => unreachable!(),

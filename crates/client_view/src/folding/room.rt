@@ -5,7 +5,7 @@ ghost use Rattle.reply_grammar.specs.declared.Reply.TheVariants as reply;
 ghost use Rattle.reply_grammar.specs.Groups.{Room, group_of};
 ghost use Rattle.reply_grammar.specs.Replies.{command_of};
 ghost use Rattle.lobby_view.specs.View.{shown};
-ghost use Rattle.client_view.specs.Rooms.{is_of_game};
+ghost use Rattle.client_view.specs.Kinds.{is_of_game};
 
 use crate::bots::Bot;
 use crate::folding::own;
@@ -17,6 +17,7 @@ use std::alloc::AllocError;
 
 impl Known {
     // The reply is one of the group.
+    #[inline(never)]
     pub(crate) fn fold_room(&mut self, reply: Reply) -> Result<(), AllocError>
         requires { group_of (command_of reply) ≡ Room }
         ensures ok { OnOk result (self.new ≡ shown self.old reply) }

@@ -1,10 +1,9 @@
 //! The lines of the session and its users.
 
-ghost use Rattle.std.specs.Prelude.{◌≡◌, OnOk, OnErr};
+ghost use Rattle.std.specs.Prelude.{◌≡◌, OnOk, OnErr, IsTrue};
 ghost use Rattle.reply_grammar.specs.declared.Reply.TheVariants as reply;
-ghost use Rattle.reply_grammar.specs.Groups.{Session, group_of};
-ghost use Rattle.reply_grammar.specs.Replies.{command_of};
 ghost use Rattle.lobby_view.specs.View.{shown};
+ghost use Rattle.client_view.specs.Kinds.{is_of_session};
 
 use crate::known::Known;
 use crate::users::User;
@@ -13,9 +12,10 @@ use reply_grammar::Reply;
 use std::alloc::AllocError;
 
 impl Known {
-    // The reply is one of the group.
+    // A login, or who comes and goes. Not inlined, as the others: what comes most is folded without their moves.
+    #[inline(never)]
     pub(crate) fn fold_session(&mut self, reply: Reply) -> Result<(), AllocError>
-        requires { group_of (command_of reply) ≡ Session }
+        requires { IsTrue (is_of_session reply) }
         ensures ok { OnOk result (self.new ≡ shown self.old reply) }
         ensures err { OnErr result (self.new ≡ self.old) }
     {
@@ -32,14 +32,6 @@ impl Known {
             } => self.add_user(user, country, cpu, account),
             Reply::RemoveUser { user } => {
                 self.remove_user(&user);
-                Ok(())
-            }
-            Reply::ClientStatus { user, status } => {
-                self.client_status(&user, status);
-                Ok(())
-            }
-            Reply::TasServer { .. } | Reply::Motd { .. } | Reply::LoginInfoEnd | Reply::Pong => {
-                reply.discard();
                 Ok(())
             }
             _ => unreachable!(),
@@ -79,7 +71,7 @@ impl Known {
         self.users.remove(name);
     }
 
-    fn client_status(&mut self, name: &NameBuf, status: u32)
+    pub(crate) fn client_status(&mut self, name: &NameBuf, status: u32)
         ensures { self.new ≡ shown self.old (reply.ClientStatus name.now status) }
     {
         self.users.set_status(name, status);

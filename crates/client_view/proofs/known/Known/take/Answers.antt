@@ -8,30 +8,30 @@ use Rattle.lobby_view.specs.Bytes.{one_read}
 use Rattle.client_view.proofs.Read.{read_some, read_none}
 use Rattle.client_view.proofs.known.Known.take.Goals as goal
 
-pub returns-in_ok-fold-in-Some-clause-ok : goal.returns-in_ok-fold-in-Some-clause-ok
-returns-in_ok-fold-in-Some-clause-ok c =
-    let reads : ReadsAs c.without_cr.result.now (c.in-Some.field-0-0, c.in-Some.reply) =
-    subst (λ (o : Option Line). IfSome o (ReadsAs c.without_cr.result.now)) c.in-Some.is c.in_ok-reply.ensures.some in
-    let read : one_read (read_line (without_cr c.args.line.now)) ≡ c.in-Some.reply ∷ [] =
-    ap (λ (l : List ℕ). one_read (read_line l)) (sym c.without_cr.ensures) ∙ read_some c.without_cr.result.now (c.in-Some.field-0-0, c.in-Some.reply) reads in
-    c.in_ok-fold-in-Some.ensures.ok ∙ ap (shown_all c.args.self.now) (sym read)
+pub returns-in_ok-fold-in-Ok-Some-clause-ok : goal.returns-in_ok-fold-in-Ok-Some-clause-ok
+returns-in_ok-fold-in-Ok-Some-clause-ok c =
+    let reads : ReadsAs c.without_cr.result.now (c.in-Ok-Some.field-0-0-0, c.in-Ok-Some.reply) =
+    subst (λ (o : Option Line). IfSome o (ReadsAs c.without_cr.result.now)) c.in-Ok-Some.field-0-is c.in-Ok-Some.ensures.some in
+    let read : one_read (read_line (without_cr c.args.line.now)) ≡ c.in-Ok-Some.reply ∷ [] =
+    ap (λ (l : List ℕ). one_read (read_line l)) (sym c.without_cr.ensures) ∙ read_some c.without_cr.result.now (c.in-Ok-Some.field-0-0-0, c.in-Ok-Some.reply) reads in
+    c.in_ok-fold-in-Ok-Some.ensures.ok ∙ ap (shown_all c.args.self.now) (sym read)
 
-pub returns-in_ok-fold-in-Some-clause-count : goal.returns-in_ok-fold-in-Some-clause-count
-returns-in_ok-fold-in-Some-clause-count c =
-    let reads : ReadsAs c.without_cr.result.now (c.in-Some.field-0-0, c.in-Some.reply) =
-    subst (λ (o : Option Line). IfSome o (ReadsAs c.without_cr.result.now)) c.in-Some.is c.in_ok-reply.ensures.some in
-    let read : one_read (read_line (without_cr c.args.line.now)) ≡ c.in-Some.reply ∷ [] =
-    ap (λ (l : List ℕ). one_read (read_line l)) (sym c.without_cr.ensures) ∙ read_some c.without_cr.result.now (c.in-Some.field-0-0, c.in-Some.reply) reads in
+pub returns-in_ok-fold-in-Ok-Some-clause-count : goal.returns-in_ok-fold-in-Ok-Some-clause-count
+returns-in_ok-fold-in-Ok-Some-clause-count c =
+    let reads : ReadsAs c.without_cr.result.now (c.in-Ok-Some.field-0-0-0, c.in-Ok-Some.reply) =
+    subst (λ (o : Option Line). IfSome o (ReadsAs c.without_cr.result.now)) c.in-Ok-Some.field-0-is c.in-Ok-Some.ensures.some in
+    let read : one_read (read_line (without_cr c.args.line.now)) ≡ c.in-Ok-Some.reply ∷ [] =
+    ap (λ (l : List ℕ). one_read (read_line l)) (sym c.without_cr.ensures) ∙ read_some c.without_cr.result.now (c.in-Ok-Some.field-0-0-0, c.in-Ok-Some.reply) reads in
     sym (ap length read)
 
-pub returns-in-None-clause-ok : goal.returns-in-None-clause-ok
-returns-in-None-clause-ok c =
+pub returns-in-Ok-None-clause-ok : goal.returns-in-Ok-None-clause-ok
+returns-in-Ok-None-clause-ok c =
     let none : (line : Line) → ReadsAs c.without_cr.result.now line → ⊥ =
-    subst (λ (o : Option Line). IfNone o ((line : Line) → ReadsAs c.without_cr.result.now line → ⊥)) c.in-None.is c.in_ok-reply.ensures.none in
+    subst (λ (o : Option Line). IfNone o ((line : Line) → ReadsAs c.without_cr.result.now line → ⊥)) c.in-Ok-None.field-0-is c.in-Ok-None.ensures.none in
     sym (ap (shown_all c.args.self.now) (ap (λ (l : List ℕ). one_read (read_line l)) (sym c.without_cr.ensures) ∙ read_none c.without_cr.result.now none))
 
-pub returns-in-None-clause-count : goal.returns-in-None-clause-count
-returns-in-None-clause-count c =
+pub returns-in-Ok-None-clause-count : goal.returns-in-Ok-None-clause-count
+returns-in-Ok-None-clause-count c =
     let none : (line : Line) → ReadsAs c.without_cr.result.now line → ⊥ =
-    subst (λ (o : Option Line). IfNone o ((line : Line) → ReadsAs c.without_cr.result.now line → ⊥)) c.in-None.is c.in_ok-reply.ensures.none in
+    subst (λ (o : Option Line). IfNone o ((line : Line) → ReadsAs c.without_cr.result.now line → ⊥)) c.in-Ok-None.field-0-is c.in-Ok-None.ensures.none in
     sym (ap length (ap (λ (l : List ℕ). one_read (read_line l)) (sym c.without_cr.ensures) ∙ read_none c.without_cr.result.now none))

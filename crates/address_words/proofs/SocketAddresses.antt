@@ -1,0 +1,48 @@
+-- An address has no colon, so the first one of a socket address parts it from its port.
+use Rattle.std.proofs.Common.{◌≡◌, ℕ, ◌<◌, ◌^◌, false, List, [], ◌∷◌, Option, Some, None, ap, sym, ◌∙◌, subst, arith, decimal}
+use Rattle.line_words.specs.Bytes.{has_byte}
+use Rattle.address_words.specs.Words.{Finds, IsAddress, IsPort, IsSocketAddress, PartedAt}
+use Rattle.address_words.proofs.Readings.{finds_none}
+use Rattle.address_words.proofs.Parts.{lacks-append, lacks_colon, parted_once}
+
+colonless : (n : ℕ) → n < 2 ^ 8 → has_byte 58 (decimal n) ≡ false
+colonless n small = lacks_colon n (omega (arith, small))
+
+no_colon : (text ip : List ℕ) → IsAddress text ip → has_byte 58 text ≡ false
+no_colon text (a ∷ b ∷ c ∷ d ∷ []) is =
+    subst (λ t. has_byte 58 t ≡ false) (sym is.0)
+    (lacks-append 58 (decimal a) _ (colonless a is.1)
+    (lacks-append 58 (decimal b) _ (colonless b is.2)
+    (lacks-append 58 (decimal c) _ (colonless c is.3) (colonless d is.4))))
+no_colon text _ is = absurd is
+
+module _ (text host rest : List ℕ) (parts : PartedAt 58 text host rest) where
+  -- the parts of a socket address are these
+  parts_once : (x : List ℕ × ℕ) (is : IsSocketAddress text x) → (host ≡ is.0) × (rest ≡ is.1)
+  parts_once x is = parted_once 58 host is.0 parts.first (no_colon is.0 x.0 is.3) (sym parts.whole ∙ is.2)
+
+  address_of : (x : List ℕ × ℕ) → IsSocketAddress text x → IsAddress host x.0
+  address_of x is = subst (λ h. IsAddress h x.0) (sym (parts_once x is).0) is.3
+
+  port_of : (x : List ℕ × ℕ) → IsSocketAddress text x → IsPort rest x.1
+  port_of x is = subst (λ r. IsPort r x.1) (sym (parts_once x is).1) is.4
+
+  pub no_address : (ip : Option (List ℕ)) → Finds (IsAddress host) ip → ip ≡ None → Finds (IsSocketAddress text) None
+  no_address ip finds none = finds_none (IsSocketAddress text) (λ x is.
+      let found = finds.complete x.0 (address_of x is) in absurd (cc))
+
+  pub no_port : (port : Option ℕ) → Finds (IsPort rest) port → port ≡ None → Finds (IsSocketAddress text) None
+  no_port port finds none = finds_none (IsSocketAddress text) (λ x is.
+      let found = finds.complete x.1 (port_of x is) in absurd (cc))
+
+  pub both : (ip : List ℕ) (port : ℕ) → Finds (IsAddress host) (Some ip) → Finds (IsPort rest) (Some port)
+      → Finds (IsSocketAddress text) (Some (ip, port))
+  both ip port address number = record {
+    sound = (host, rest, parts.whole, address.sound, number.sound);
+    complete = λ x is.
+        let same_ip = address.complete x.0 (address_of x is) in
+        let same_port = number.complete x.1 (port_of x is) in
+        let at : ip ≡ x.0 = cc in
+        let on : port ≡ x.1 = cc in
+        ap (λ i. Some (i, port)) at ∙ ap (λ n. Some (x.0, n)) on;
+  }

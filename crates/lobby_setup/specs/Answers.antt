@@ -1,0 +1,27 @@
+-- What the reading of a file of settings answers.
+use Rattle.std.specs.Prelude.{◌≡◌, ℕ, List, Result, Ok, Err, MatchOption, ⊤}
+use Rattle.std.specs.Net.Addr.{ipv4_octets}
+use Rattle.std.specs.Net.Socket.{v4_ip, v4_port}
+use Rattle.toml_fields.specs.Document.{document, IsLine}
+use Rattle.lobby_setup.specs.Choices.{Choices, chosen, Says}
+use Rattle.lobby_setup.specs.declared.error.Refusal.{Refusal}
+use Rattle.lobby_setup.specs.declared.error.Refusal.TheVariants.{NotToml}
+use Rattle.lobby_setup.specs.declared.error.SetupError.{SetupError}
+use Rattle.lobby_setup.specs.declared.error.SetupError.TheVariants.{Unusable, Memory}
+use Rattle.lobby_setup.specs.declared.setup.Setup.{Setup}
+
+-- what a setup holds
+abbrev pub held : Setup → Choices
+held setup =
+    chosen setup.settings (ipv4_octets (v4_ip setup.address), v4_port setup.address) setup.workers setup.stop_at_input_end
+
+-- What a file says: what its table says, or that it is no TOML, which one of its lines shows
+abbrev pub Tells : List ℕ → Result Choices Refusal → Type 0
+Tells bytes answer =
+    MatchOption (document bytes) ((line : ℕ) × IsLine bytes line × (answer ≡ Err (NotToml line))) (λ table. Says table answer)
+
+-- What the reading of a file answers: what the file says, or that memory was refused
+abbrev pub IsAnswer : List ℕ → Result Setup SetupError → Type 0
+IsAnswer bytes (Ok setup) = Tells bytes (Ok (held setup))
+IsAnswer bytes (Err (Unusable refusal)) = Tells bytes (Err refusal)
+IsAnswer bytes (Err Memory) = ⊤

@@ -1,0 +1,67 @@
+//! Why a file of settings cannot be used.
+
+use crate::key::Key;
+use std::alloc::AllocError;
+use thiserror::Error;
+use toml_fields::{DocumentError, FieldFault};
+
+/// What is wrong in a file of settings, and where.
+#[derive(Clone, Copy, PartialEq, Eq, Debug, Error)]
+pub enum Refusal {
+    /// The file is not TOML, or not UTF-8. The line, counted from 1, is the one where the reading stopped.
+    #[error("line {line} is not TOML")]
+    NotToml { line: usize },
+    /// A key is missing, or its value is not what it has to be.
+    #[error("`{}` {fault}: expected {}", .key.name(), .key.expected())]
+    Field { key: Key, fault: FieldFault },
+    /// A line of the message of the day, counted from 1, is not what it has to be.
+    #[error("line {place} of `motd` {fault}: expected {}", Key::Motd.expected())]
+    MotdLine { place: usize, fault: FieldFault },
+}
+
+/// Why there are no settings.
+#[derive(Clone, Copy, PartialEq, Eq, Debug, Error)]
+pub enum SetupError {
+    /// The file cannot be used.
+    #[error("{0}")]
+    Unusable(Refusal),
+    /// Memory was refused. The file may be good.
+    #[error("no memory")]
+    Memory,
+}
+
+impl From<Refusal> for SetupError {
+    ghost use Rattle.std.specs.Prelude.{◌≡◌};
+    ghost use Rattle.lobby_setup.specs.declared.error.SetupError.TheVariants.{Unusable};
+
+    ghost from_gives = { λ refusal e. e ≡ Unusable refusal };
+
+    fn from(refusal: Refusal) -> SetupError {
+        SetupError::Unusable(refusal)
+    }
+}
+
+impl From<AllocError> for SetupError {
+    ghost use Rattle.std.specs.Prelude.{◌≡◌};
+    ghost use Rattle.lobby_setup.specs.declared.error.SetupError.TheVariants.{Memory};
+
+    ghost from_gives = { λ _ e. e ≡ Memory };
+
+    fn from(_: AllocError) -> SetupError {
+        SetupError::Memory
+    }
+}
+
+impl From<DocumentError> for SetupError {
+    ghost use Rattle.std.specs.Prelude.{◌≡◌};
+    ghost use Rattle.lobby_setup.specs.Errors.{error_of};
+
+    ghost from_gives = { λ error e. e ≡ error_of error };
+
+    fn from(error: DocumentError) -> SetupError {
+        match error {
+            DocumentError::NotToml { line } => SetupError::Unusable(Refusal::NotToml { line }),
+            DocumentError::Memory => SetupError::Memory,
+        }
+    }
+}

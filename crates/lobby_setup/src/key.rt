@@ -1,0 +1,60 @@
+//! The keys of a file of settings.
+
+ghost use Rattle.std.specs.Prelude.{◌≡◌};
+ghost use Rattle.lobby_setup.specs.Keys.{name_of};
+
+/// A key of a file of settings.
+#[derive(Clone, Copy, PartialEq, Eq, Debug)]
+pub enum Key {
+    /// `address`: where the server listens.
+    Address,
+    /// `workers`: how many threads serve clients.
+    Workers,
+    /// `outbox_limit`: the most bytes that may wait unread for a client.
+    OutboxLimit,
+    /// `protocol_version`: the version of the protocol that a client is greeted with.
+    ProtocolVersion,
+    /// `spring_version`: the version of the engine that a client is greeted with.
+    SpringVersion,
+    /// `udp_port`: the port that a client is greeted with.
+    UdpPort,
+    /// `server_mode`: the mode that a client is greeted with.
+    ServerMode,
+    /// `motd`: the lines that a client is sent when it logs in.
+    Motd,
+    /// `stop_at_input_end`: whether the server stops where its standard input ends.
+    StopAtInputEnd,
+}
+
+impl Key {
+    /// How it is written in the file.
+    pub fn name(self) -> &'static str
+        ensures { result.now ≡ name_of self }
+    {
+        match self {
+            Key::Address => "address",
+            Key::Workers => "workers",
+            Key::OutboxLimit => "outbox_limit",
+            Key::ProtocolVersion => "protocol_version",
+            Key::SpringVersion => "spring_version",
+            Key::UdpPort => "udp_port",
+            Key::ServerMode => "server_mode",
+            Key::Motd => "motd",
+            Key::StopAtInputEnd => "stop_at_input_end",
+        }
+    }
+
+    /// What its value has to be, for people.
+    pub(crate) fn expected(self) -> &'static str {
+        match self {
+            Key::Address => "an IPv4 address and a port, as \"127.0.0.1:8200\"",
+            Key::Workers => "a whole number from 1 to 64",
+            Key::OutboxLimit => "a whole number from 65536 to 67108864",
+            Key::ProtocolVersion | Key::SpringVersion => "a text of 1 to 32 bytes from `!` to `~`",
+            Key::UdpPort => "a whole number from 0 to 65535",
+            Key::ServerMode => "0 or 1",
+            Key::Motd => "a list of at most 100 texts of at most 1000 bytes without CR and LF",
+            Key::StopAtInputEnd => "true or false",
+        }
+    }
+}

@@ -1,0 +1,14 @@
+//! The file of settings of the server: what its keys are, and what the server is set up to by them.
+//!
+//! It is TOML. Only `address` has to be there; keys that are not known are passed over.
+#![tactic(auto)]
+
+mod error;
+mod fields;
+mod key;
+mod motd;
+mod setup;
+
+pub use error::{Refusal, SetupError};
+pub use key::Key;
+pub use setup::{Setup, read_setup};

@@ -1,0 +1,81 @@
+//! What the server is set up to.
+
+ghost use Rattle.std.specs.Prelude.{◌≡◌, ◌≤◌, IfOk, IsTrue, None};
+ghost use Rattle.toml.specs.View.{items_view};
+ghost use Rattle.lobby_model.specs.Configuration.{is_configuration};
+ghost use Rattle.lobby_setup.specs.Answers.{held, IsAnswer};
+ghost use Rattle.lobby_setup.specs.Gathered.{gathered};
+ghost use Rattle.lobby_setup.specs.Motd.{motd_fault};
+
+use crate::error::SetupError;
+use crate::fields::{Fields, fields_of, listening_address};
+use crate::motd::copy_motd;
+use lobby_model::{Settings, SettingsError};
+use std::alloc::{AllocError, Global};
+use std::net::{Ipv4Addr, SocketAddrV4};
+use toml_fields::read_document;
+
+/// What the server is set up to.
+#[derive(Drop)]
+pub struct Setup {
+    /// What the lobby is told: its greeting, its message of the day, and how much may wait unread for a client.
+    pub settings: Settings,
+    /// Where the server listens. With port 0 the system chooses one.
+    pub address: SocketAddrV4,
+    /// How many threads serve clients, 1 to 64.
+    pub workers: u32,
+    /// Whether the server stops where its standard input ends.
+    pub stop_at_input_end: bool,
+}
+
+/// What a file of settings sets the server up to.
+///
+/// `Unusable` where the file is not TOML or not UTF-8, else with the first key that is refused, in the order of [`crate::Key`]: it is
+/// missing though it has to be there, or its value is of another kind or not allowed. In a message of the day it is the first line
+/// that is refused. `Memory` where there was none for the file, or, once no key is refused, for the settings.
+pub fn read_setup(alloc: Global, bytes: &[u8]) -> Result<Setup, SetupError>
+    ensures answer { IsAnswer bytes.now result }
+    ensures workers { IfOk result (λ setup. (1 ≤ setup.workers) × (setup.workers ≤ 64)) }
+{
+    let table = match read_document(alloc, bytes) {
+        Ok(table) => table,
+        Err(error) => return Err(SetupError::from(error)),
+    };
+    let fields = match fields_of(listening_address(&table), &table) {
+        Ok(fields) => fields,
+        Err(refusal) => return Err(SetupError::Unusable(refusal)),
+    };
+    match setup_of(alloc, &fields) {
+        Ok(setup) => Ok(setup),
+        Err(_) => Err(SetupError::Memory),
+    }
+}
+
+/// The setup of what the keys of a file say.
+fn setup_of(alloc: Global, fields: &Fields<'_>) -> Result<Setup, AllocError>
+    requires lines { motd_fault 1 (items_view fields.now.motd.now) ≡ None }
+    requires settings { IsTrue (is_configuration (gathered fields.now).settings) }
+    ensures { IfOk result (λ setup. held setup ≡ gathered fields.now) }
+{
+    let motd = copy_motd(alloc, fields.motd)?;
+    let settings = match Settings::new(
+        alloc,
+        fields.protocol_version.as_bytes(),
+        fields.spring_version.as_bytes(),
+        fields.udp_port,
+        fields.server_mode,
+        &motd,
+        fields.outbox_limit as usize,
+    ) {
+        Ok(settings) => settings,
+        Err(SettingsError::Memory) => return Err(AllocError),
+        // Each key was held to these bounds.
+        Err(SettingsError::OutOfBounds) => unreachable!(),
+    };
+    Ok(Setup {
+        settings,
+        address: SocketAddrV4::new(Ipv4Addr::from(fields.ip), fields.port),
+        workers: fields.workers,
+        stop_at_input_end: fields.stop_at_input_end,
+    })
+}

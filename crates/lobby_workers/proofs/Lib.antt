@@ -1,0 +1,5 @@
+pub mod Moments
+pub mod Joins
+pub mod Lines
+pub mod Parts
+pub mod Drains

@@ -1,0 +1,418 @@
+//! A lobby: whom it wakes, how a client ends and is cut, and what is left where memory was refused.
+
+ghost use Rattle.std.specs.Prelude.{◌<◌, IfOk, IsTrue};
+ghost use Rattle.command_grammar.specs.Kinds.{keeps_kinds};
+
+use account_book::{Account, AccountBook};
+use command_grammar::{Request, read_request};
+use line_words::TextBuf;
+use lobby_machine::{Drained, Lobby, OpenError, Wakes};
+use lobby_model::Settings;
+use lobby_model::settings::LEAST_OUTBOX_LIMIT;
+use std::alloc::{AllocError, Global};
+use std::process::Abort;
+
+const WORD: &[u8] = b"X03MO1qnZdYdgyfeuILPmQ==";
+
+// Name, number, rank and country of each account; all have one password.
+const ACCOUNTS: [(&[u8], u32, u8, &[u8]); 3] = [
+    (b"Anna", 1, 0, b"DE"),
+    (b"Bert", 2, 3, b"??"),
+    (b"Cleo", 3, 0, b"FR"),
+];
+
+pub fn add_account(
+    accounts: &mut AccountBook,
+    alloc: Global,
+    name: &[u8],
+    id: u32,
+    rank: u8,
+    country: &[u8],
+) -> bool {
+    match Account::new(alloc, name, WORD, id, rank, false, false, country) {
+        Ok(account) => accounts.add(account).is_ok(),
+        Err(_) => false,
+    }
+}
+
+fn new_accounts(alloc: Global) -> Option<AccountBook> {
+    let mut accounts = AccountBook::new(alloc);
+    for (name, id, rank, country) in ACCOUNTS {
+        if !add_account(&mut accounts, alloc, name, id, rank, country) {
+            return None;
+        }
+    }
+    Some(accounts)
+}
+
+// The default settings, but for the least limit of an outbox and a message of the day.
+fn new_settings(alloc: Global) -> Option<Settings> {
+    let motd = [TextBuf::copy_of(alloc, b"Welcome").ok()?];
+    Settings::new(alloc, b"0.38", b"*", 8201, 0, &motd, LEAST_OUTBOX_LIMIT).ok()
+}
+
+// A lobby of these accounts.
+pub fn lobby_of(alloc: Global, accounts: AccountBook) -> Option<Lobby> {
+    match new_settings(alloc) {
+        Some(settings) => Lobby::new(alloc, settings, accounts).ok(),
+        None => None,
+    }
+}
+
+fn new_lobby(alloc: Global) -> Option<Lobby> {
+    match new_accounts(alloc) {
+        Some(accounts) => lobby_of(alloc, accounts),
+        None => None,
+    }
+}
+
+// What a line asks for, with arguments of their kinds.
+#[tactic(auto, using(command_grammar::proofs::KindTables::request_keeps))]
+pub fn read(alloc: Global, line: &[u8]) -> Result<Request, AllocError>
+    ensures { IfOk result (λ request. IsTrue (keeps_kinds request.command)) }
+{
+    read_request(alloc, line)
+}
+
+// Whom a line of a client wakes; nothing where memory is refused.
+pub fn say(lobby: &mut Lobby, alloc: Global, client: u64, line: &[u8]) -> Option<Wakes> {
+    match read(alloc, line) {
+        Ok(request) => {
+            let said = lobby.say(client, &request);
+            request.discard();
+            said.ok()
+        }
+        Err(_) => None,
+    }
+}
+
+// Whether a drain into a slice gives these bytes and no more, and says so of whether anything will come again.
+pub fn drains(
+    lobby: &mut Lobby,
+    client: u64,
+    into: &mut [u8],
+    want: &[u8],
+    finished: bool,
+) -> bool {
+    let count = want.len();
+    lobby.drain(client, into) == Drained { count, finished } && into.starts_with(want)
+}
+
+// Whether a client reads this and no more.
+fn reads(lobby: &mut Lobby, client: u64, want: &[u8]) -> bool {
+    drains(lobby, client, &mut [0; 512], want, false)
+}
+
+// Each of these clients reads this and no more.
+pub fn see(rt: &impl Abort, lobby: &mut Lobby, seen: &[(u64, &[u8])]) {
+    for (client, want) in seen {
+        assert!(rt; reads(lobby, *client, *want), "{client}");
+    }
+}
+
+// Whether a line of a client wakes this worker alone.
+fn wakes_alone(lobby: &mut Lobby, alloc: Global, client: u64, line: &[u8], worker: u8) -> bool
+    requires { worker < 64 }
+{
+    match say(lobby, alloc, client, line) {
+        Some(wakes) => wakes.has(worker) && wakes == Wakes::one(worker),
+        None => false,
+    }
+}
+
+// Whether a line of a client wakes nobody.
+fn wakes_nobody(lobby: &mut Lobby, alloc: Global, client: u64, line: &[u8]) -> bool {
+    say(lobby, alloc, client, line) == Some(Wakes::none())
+}
+
+fn open_two(rt: &impl Abort, lobby: &mut Lobby) {
+    assert!(rt; lobby.has_place());
+    assert_eq!(rt; lobby.open([10, 0, 0, 1], 5), Ok(1));
+    assert_eq!(rt; lobby.open([10, 0, 0, 2], 63), Ok(2));
+    assert_eq!(rt; lobby.last_client(), 2);
+}
+
+// Lines that are answered, most of them by a refusal.
+const ANSWERED: [&[u8]; 9] = [
+    b"PING",
+    b"ping",
+    b"SAY main",
+    b"MYSTATUS 1x",
+    b"JOIN a-b",
+    b"JOIN a\tb",
+    b"SETSCRIPTTAGS =1",
+    b"JOIN main",
+    b"LOGIN Anna 1B2M2Y8AsgTpgAmY7PhCfg== 0 * TestLobby 1.0",
+];
+
+fn wake(rt: &impl Abort, alloc: Global, lobby: &mut Lobby) {
+    for line in ANSWERED {
+        assert!(rt; wakes_alone(lobby, alloc, 1, line, 5), "{line:?}");
+        assert!(rt; wakes_alone(lobby, alloc, 2, line, 63), "{line:?}");
+    }
+    for line in [b"   ".as_slice(), b"#9 "] {
+        assert!(rt; wakes_nobody(lobby, alloc, 1, line), "{line:?}");
+    }
+}
+
+#[test]
+fn an_answer_wakes_the_worker_of_its_client(rt: HostRuntime) {
+    let Some(mut lobby) = new_lobby(rt.alloc()) else {
+        assert!(rt; false, "no lobby");
+        return;
+    };
+    open_two(&rt, &mut lobby);
+    wake(&rt, rt.alloc(), &mut lobby);
+}
+
+fn exit(rt: &impl Abort, alloc: Global, lobby: &mut Lobby) {
+    assert_eq!(rt; lobby.open([10, 0, 0, 1], 0), Ok(1));
+    assert!(rt; wakes_nobody(lobby, alloc, 1, b"EXIT bye"));
+    assert!(rt; wakes_nobody(lobby, alloc, 1, b"PING"));
+}
+
+fn read_on(rt: &impl Abort, lobby: &mut Lobby) {
+    let mut piece = [b'.'; 16];
+    assert_eq!(rt; lobby.copy_unread(1, 19, &mut piece), 5);
+    assert!(rt; piece.starts_with(b"01 0\n..........."));
+    assert!(rt; drains(lobby, 1, &mut piece, b"TASSERVER 0.38 *", false));
+    assert!(rt; drains(lobby, 1, &mut piece, b" 8201 0\n", true));
+    assert!(rt; piece.starts_with(b" 8201 0\nR 0.38 *"));
+}
+
+fn leave(rt: &impl Abort, lobby: &mut Lobby) {
+    assert!(rt; lobby.has_client(1));
+    assert_eq!(rt; lobby.shut(1), Ok(Wakes::none()));
+    assert!(rt; !lobby.has_client(1));
+}
+
+#[test]
+fn a_client_that_exits_may_read_on(rt: HostRuntime) {
+    let Some(mut lobby) = new_lobby(rt.alloc()) else {
+        assert!(rt; false, "no lobby");
+        return;
+    };
+    exit(&rt, rt.alloc(), &mut lobby);
+    read_on(&rt, &mut lobby);
+    leave(&rt, &mut lobby);
+}
+
+fn ping_often(lobby: &mut Lobby, alloc: Global, client: u64, times: u32) -> bool {
+    for _ in 0..times {
+        if say(lobby, alloc, client, b"#2147483647 PING").is_none() {
+            return false;
+        }
+    }
+    true
+}
+
+// A greeting takes 24 bytes, and each answer 17.
+fn fill(rt: &impl Abort, alloc: Global, lobby: &mut Lobby) {
+    assert_eq!(rt; lobby.open([10, 0, 0, 1], 0), Ok(1));
+    assert!(rt; ping_often(lobby, alloc, 1, 3853));
+    assert_eq!(rt; lobby.unread(1), 65_525);
+}
+
+fn cut(rt: &impl Abort, alloc: Global, lobby: &mut Lobby) {
+    assert!(rt; wakes_alone(lobby, alloc, 1, b"#2147483647 PING", 0));
+    assert_eq!(rt; lobby.unread(1), 0);
+    assert!(rt; drains(lobby, 1, &mut [0; 8], b"", true));
+}
+
+#[test]
+fn a_client_that_reads_nothing_is_cut_at_the_limit(rt: HostRuntime) {
+    let Some(mut lobby) = new_lobby(rt.alloc()) else {
+        assert!(rt; false, "no lobby");
+        return;
+    };
+    fill(&rt, rt.alloc(), &mut lobby);
+    cut(&rt, rt.alloc(), &mut lobby);
+}
+
+fn read_all(lobby: &mut Lobby, client: u64) {
+    let _ = lobby.drain(client, &mut [0; 512]);
+}
+
+// The clients 1, 2 and 3, which the workers of the same numbers serve, read their greetings.
+fn open_three(lobby: &mut Lobby) -> Result<(), OpenError> {
+    for home in 1..4 {
+        let client = lobby.open([10, 0, 0, 1], home)?;
+        read_all(lobby, client);
+    }
+    Ok(())
+}
+
+pub fn lobby_of_three(alloc: Global) -> Option<Lobby> {
+    match new_lobby(alloc) {
+        Some(mut lobby) => match open_three(&mut lobby) {
+            Ok(()) => Some(lobby),
+            Err(_) => None,
+        },
+        None => None,
+    }
+}
+
+#[test]
+fn three_clients_are_numbered_in_order(rt: HostRuntime) {
+    match lobby_of_three(rt.alloc()) {
+        Some(lobby) => assert_eq!(rt; lobby.last_client(), 3),
+        None => assert!(rt; false, "no lobby"),
+    }
+}
+
+// Reads a line, once more where memory was refused.
+fn read_at_last(alloc: Global, line: &[u8]) -> Result<Request, AllocError>
+    ensures { IfOk result (λ request. IsTrue (keeps_kinds request.command)) }
+{
+    match read(alloc, line) {
+        Ok(request) => Ok(request),
+        Err(AllocError) => read(alloc, line),
+    }
+}
+
+// Says the request until memory suffices; after each refusal nobody has a byte to read.
+fn say_at_last(lobby: &mut Lobby, client: u64, request: &Request) -> bool
+    requires { IsTrue (keeps_kinds request.now.command) }
+{
+    for _ in 0..64 {
+        if lobby.say(client, request).is_ok() {
+            return true;
+        }
+        // a refused event leaves no trace
+        if lobby.unread(1) != 0 || lobby.unread(2) != 0 || lobby.unread(3) != 0 {
+            return false;
+        }
+    }
+    false
+}
+
+fn serve(lobby: &mut Lobby, alloc: Global, client: u64, line: &[u8]) -> bool {
+    for reader in 1..4 {
+        read_all(lobby, reader);
+    }
+    match read_at_last(alloc, line) {
+        Ok(request) => {
+            let is_said = say_at_last(lobby, client, &request);
+            request.discard();
+            is_said
+        }
+        Err(_) => false,
+    }
+}
+
+pub fn serve_all(lobby: &mut Lobby, alloc: Global, events: &[(u64, &[u8])]) -> bool {
+    for (client, line) in events {
+        if !serve(lobby, alloc, *client, *line) {
+            return false;
+        }
+    }
+    true
+}
+
+// Logs three users in, one after another, and sets the status of one; all read in between.
+pub const EVENTS: [(u64, &[u8]); 4] = [
+    (1, b"LOGIN Anna X03MO1qnZdYdgyfeuILPmQ== 0 * TestLobby 1.0"),
+    (2, b"LOGIN Bert X03MO1qnZdYdgyfeuILPmQ== 0 * TestLobby 1.0"),
+    (1, b"MYSTATUS 1"),
+    (3, b"LOGIN Cleo X03MO1qnZdYdgyfeuILPmQ== 0 * TestLobby 1.0"),
+];
+
+// What the last login sent.
+const SEEN: [(u64, &[u8]); 3] = [
+    (1, b"ADDUSER Cleo FR 0 3\n"),
+    (2, b"ADDUSER Cleo FR 0 3\n"),
+    (
+        3,
+        b"ACCEPTED Cleo\nMOTD Welcome\nADDUSER Anna DE 0 1\nADDUSER Bert ?? 0 2\nADDUSER Cleo FR 0 3\nCLIENTSTATUS Anna 1\nCLIENTSTATUS Bert 12\nLOGININFOEND\n",
+    ),
+];
+
+// Two channels, of which Cleo is in one, and what is said there.
+const TALK: [(u64, &[u8]); 6] = [
+    (1, b"JOIN main"),
+    (1, b"JOIN big"),
+    (2, b"JOIN main"),
+    (2, b"JOIN big"),
+    (3, b"JOIN main"),
+    (2, b"#7 SAY main hello"),
+];
+
+const HEARD: [(u64, &[u8]); 3] = [
+    (1, b"SAID main Bert hello\n"),
+    (2, b"#7 SAID main Bert hello\n"),
+    (3, b"SAID main Bert hello\n"),
+];
+
+// What Anna's log out sent.
+const LEFT: [(u64, &[u8]); 2] = [
+    (2, b"LEFT big Anna\nLEFT main Anna\nREMOVEUSER Anna\n"),
+    (3, b"LEFT main Anna\nREMOVEUSER Anna\n"),
+];
+
+// The events are served, and then these clients read this of the last one.
+pub fn serve_and_see(
+    rt: &impl Abort,
+    alloc: Global,
+    lobby: &mut Lobby,
+    events: &[(u64, &[u8])],
+    seen: &[(u64, &[u8])],
+) {
+    assert!(rt;
+        serve_all(lobby, alloc, events),
+        "memory is refused for ever, or left a trace"
+    );
+    see(rt, lobby, seen);
+}
+
+#[test]
+fn an_event_that_memory_refused_leaves_no_trace(rt: HostRuntime) {
+    let Some(mut lobby) = lobby_of_three(rt.alloc()) else {
+        assert!(rt; false, "no lobby");
+        return;
+    };
+    serve_and_see(&rt, rt.alloc(), &mut lobby, &EVENTS, &SEEN);
+    serve_and_see(&rt, rt.alloc(), &mut lobby, &TALK, &HEARD);
+    serve_and_see(&rt, rt.alloc(), &mut lobby, &[(1, b"EXIT")], &LEFT);
+}
+
+// Anna logs in and out again, and reads what she got.
+fn log_in_and_out(rt: &impl Abort, alloc: Global, lobby: &mut Lobby) {
+    let (client, line) = EVENTS[0];
+    assert!(rt; wakes_alone(lobby, alloc, client, line, 1));
+    assert!(rt; wakes_nobody(lobby, alloc, client, b"#5 EXIT bye"));
+    assert!(rt; wakes_nobody(lobby, alloc, client, b"PING"));
+    let got = b"ACCEPTED Anna\nMOTD Welcome\nADDUSER Anna DE 0 1\nLOGININFOEND\n";
+    assert!(rt; drains(lobby, client, &mut [0; 256], got, true));
+}
+
+#[test]
+fn a_user_that_exits_is_finished_when_all_is_read(rt: HostRuntime) {
+    match lobby_of_three(rt.alloc()) {
+        Some(mut lobby) => log_in_and_out(&rt, rt.alloc(), &mut lobby),
+        None => assert!(rt; false, "no lobby"),
+    }
+}
+
+fn open_often(lobby: &mut Lobby, times: u32) -> Result<(), OpenError> {
+    for _ in 0..times {
+        let _ = lobby.open([10, 0, 0, 1], 0)?;
+    }
+    Ok(())
+}
+
+fn find_it_full(rt: &impl Abort, lobby: &mut Lobby) {
+    assert_eq!(rt; lobby.open([10, 0, 0, 1], 0), Err(OpenError::Full));
+    assert_eq!(rt; lobby.last_client(), 10_000);
+    assert!(rt; lobby.shut(7).is_ok());
+    assert_eq!(rt; lobby.open([10, 0, 0, 1], 0), Ok(10_001));
+}
+
+#[test]
+fn ten_thousand_clients_are_full(rt: HostRuntime) {
+    let Some(mut lobby) = new_lobby(rt.alloc()) else {
+        assert!(rt; false, "no lobby");
+        return;
+    };
+    assert_eq!(rt; open_often(&mut lobby, 10_000), Ok(()));
+    find_it_full(&rt, &mut lobby);
+}

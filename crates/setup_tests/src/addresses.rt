@@ -1,0 +1,65 @@
+//! Numbers and addresses that are written as they have to be, and ones that nearly are.
+
+use address_words::{address, number, number_before, part_at, socket_address};
+
+#[test]
+fn numbers_have_no_leading_zeros(rt: HostRuntime) {
+    let rows: [(&[u8], Option<u32>); 9] = [
+        (b"0", Some(0)),
+        (b"10", Some(10)),
+        (b"4294967295", Some(u32::MAX)),
+        (b"4294967296", None),
+        (b"", None),
+        (b"01", None),
+        (b"+1", None),
+        (b"-1", None),
+        (b"1 ", None),
+    ];
+    for (text, want) in rows {
+        assert_eq!(rt; number(text), want, "{text:?}");
+    }
+    assert_eq!(rt;
+        number_before(b"12 rest", b' '),
+        Some((12, b"rest".as_slice()))
+    );
+    assert_eq!(rt; number_before(b"12", b' '), None);
+    assert_eq!(rt;
+        part_at(b"a=b=c", b'='),
+        Some((b"a".as_slice(), b"b=c".as_slice()))
+    );
+}
+
+#[test]
+fn addresses_have_four_numbers(rt: HostRuntime) {
+    let rows: [(&[u8], Option<[u8; 4]>); 8] = [
+        (b"127.0.0.1", Some([127, 0, 0, 1])),
+        (b"255.255.255.255", Some([255, 255, 255, 255])),
+        (b"256.0.0.1", None),
+        (b"10.0.0", None),
+        (b"10.0.0.1.2", None),
+        (b"10.0.0.01", None),
+        (b"10..0.1", None),
+        (b"localhost", None),
+    ];
+    for (text, want) in rows {
+        assert_eq!(rt; address(text), want, "{text:?}");
+    }
+}
+
+#[test]
+fn a_port_stands_behind_a_colon(rt: HostRuntime) {
+    let here = [127, 0, 0, 1];
+    let rows: [(&[u8], Option<([u8; 4], u16)>); 8] = [
+        (b"127.0.0.1:8200", Some((here, 8200))),
+        (b"127.0.0.1:0", Some((here, 0))),
+        (b"127.0.0.1:65535", Some((here, u16::MAX))),
+        (b"127.0.0.1:65536", None),
+        (b"127.0.0.1:08200", None),
+        (b"127.0.0.1:", None),
+        (b"127.0.0.1", None),
+        (b"[::1]:8200", None),
+    ];
+    for (text, want) in rows {
+        assert_eq!(rt; socket_address(text), want, "{text:?}");
+    }
+}
