@@ -5,7 +5,7 @@ ghost use Rattle.std.specs.List.{All};
 
 use crate::{ADDRESS, MOST_UNREAD, hand_out, new_lobby, open_desk, read};
 use anyhow::Result;
-use lobby_lock::{Desk, Pass};
+use lobby_lock::{Desk, HANDED_OVER, Pass};
 use lobby_machine::Lobby;
 use std::alloc::{AllocError, Global};
 use std::rt::Clock;
@@ -91,7 +91,8 @@ pub fn time_holds<R: Threads + Wait + Sync + Clock + Print + AllocGlobal>(
     let all = holds.saturating_mul(sizes.len() as u64);
     report(rt, "holds", all, size, is_timed.then_some(taken))?;
     if is_timed {
-        println!(rt; "a lobby is {} bytes", size_of::<Lobby>())?;
+        let lobby = size_of::<Lobby>();
+        println!(rt; "a lobby is {lobby} bytes, and {HANDED_OVER} are handed over")?;
     }
     Ok(())
 }

@@ -6,6 +6,7 @@ ghost use Rattle.lobby_lock.specs.Rule.{Agree, seen_by};
 ghost use Rattle.lobby_lock.specs.Passes.{first_pass, new_pass};
 
 use crate::bell::Bell;
+use crate::boxed::BoxedLobby;
 use crate::held::Held;
 use crate::pass::Pass;
 use crate::place::{begin, fetch};
@@ -61,6 +62,9 @@ impl Desk {
         ensures pass { IfOk result (λ r. r.1 ≡ first_pass r.0 lobby.plain) }
         ensures refused { IfErr result (λ error. error ≡ DeskError.Memory) }
     {
+        let Ok(lobby) = BoxedLobby::new(alloc, lobby) else {
+            return Err(DeskError::Memory);
+        };
         let Ok(room) = Vec::with_capacity(alloc, MOST_EVENTS) else {
             return Err(DeskError::Memory);
         };

@@ -9,12 +9,13 @@ ghost use Rattle.lobby_post.specs.Mail.{IsWakes};
 ghost use Rattle.lobby_machine.specs.Shown.{unread_of, is_finished};
 ghost use Rattle.lobby_lock.specs.Passes.{lobby_after, pass_after};
 
+use crate::boxed::BoxedLobby;
 use crate::desk::{Desk, MOST_EVENTS};
 use crate::pass::Pass;
 use crate::place::put_back;
 use crate::rule::PlacePass;
 use command_grammar::Request;
-use lobby_machine::{Drained, Lobby, OpenError, Wakes};
+use lobby_machine::{Drained, OpenError, Wakes};
 use lobby_model::Event;
 use std::alloc::AllocError;
 use std::marker::{Brand, Model};
@@ -26,7 +27,7 @@ pub struct Held {
     pub(crate) inner: PlacePass,
     pub(crate) number: u64,
     pub(crate) handed: u64,
-    pub(crate) lobby: Lobby,
+    pub(crate) lobby: BoxedLobby,
     pub(crate) events: Vec<Event>,
 }
 

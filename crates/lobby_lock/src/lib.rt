@@ -14,6 +14,7 @@
 #![tactic(auto)]
 
 mod bell;
+mod boxed;
 mod desk;
 mod held;
 mod pass;
@@ -21,6 +22,7 @@ mod place;
 mod rule;
 mod view;
 
+pub use boxed::HANDED_OVER;
 pub use desk::{Desk, DeskError, MOST_EVENTS, MOST_HANDED_OUT};
 pub use held::Held;
 pub use pass::Pass;

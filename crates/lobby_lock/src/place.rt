@@ -6,13 +6,13 @@ ghost use Rattle.lobby_lock.specs.Rule.{new_worker, opened, gave, Took};
 ghost use Rattle.lobby_lock.specs.Passes.{shown_pass, lobby_after};
 
 use crate::bell::Bell;
+use crate::boxed::BoxedLobby;
 use crate::rule::{Giving, Happened, Opening, Place, PlacePass, Taking};
-use lobby_machine::Lobby;
 use lobby_model::Event;
 use std::sync::Wait;
 
 /// The lobby is first put in, by the one pass that there is.
-pub fn begin<R: Wait>(rt: &R, place: &Place, pass: &mut PlacePass, lobby: Lobby)
+pub fn begin<R: Wait>(rt: &R, place: &Place, pass: &mut PlacePass, lobby: BoxedLobby)
     requires queue { IsPassOf place.now pass.old × (ruled_capacity place.now ≡ 1) }
     requires alone { ((view pass.old).alive ≡ true) × ((view pass.old).holds ≡ true) × ((view pass.old).worker ≡ new_worker 0 []) × ((view pass.old).handed ≡ 0) }
     ensures queue { IsSamePass pass.old pass.new }
@@ -29,7 +29,7 @@ pub fn put_back<E: Happened, R: Wait>(
     rt: &R,
     place: &Place,
     pass: &mut PlacePass,
-    lobby: Lobby,
+    lobby: BoxedLobby,
     events: &[Event],
 )
     requires queue { IsPassOf place.now pass.old × (ruled_capacity place.now ≡ 1) }
@@ -46,7 +46,7 @@ pub fn put_back<E: Happened, R: Wait>(
 }
 
 /// Waits for the lobby.
-pub fn fetch<R: Wait>(rt: &R, place: &Place, bell: &Bell, pass: &mut PlacePass) -> Lobby
+pub fn fetch<R: Wait>(rt: &R, place: &Place, bell: &Bell, pass: &mut PlacePass) -> BoxedLobby
     requires queue { IsPassOf place.now pass.old }
     requires alive { (view pass.old).alive ≡ true }
     ensures queue { IsSamePass pass.old pass.new }

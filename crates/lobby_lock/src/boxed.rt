@@ -1,0 +1,88 @@
+//! A lobby that is handed over by its address.
+
+ghost use Rattle.std.specs.Prelude.{◌≡◌, ℕ, ◌+◌, ◌≤◌, ◌↔◌, ◌++◌, length, take, drop, min, OnOk, OnErr, IfOk, IsTrue, true, false};
+ghost use Rattle.command_grammar.specs.Kinds.{keeps_kinds};
+ghost use Rattle.lobby_model.specs.declared.event.Event.TheVariants as event;
+ghost use Rattle.lobby_model.specs.Sessions.{has_place};
+ghost use Rattle.lobby_model.specs.Next.{next};
+ghost use Rattle.lobby_post.specs.Mail.{IsWakes};
+ghost use Rattle.lobby_machine.specs.Shown.{unread_of, is_finished};
+
+use command_grammar::Request;
+use lobby_machine::{Drained, Lobby, OpenError, Wakes};
+use std::alloc::{AllocError, Global};
+use std::marker::Model;
+
+/// How many bytes go from worker to worker when the lobby is handed over: its address alone.
+pub const HANDED_OVER: usize = size_of::<BoxedLobby>();
+
+const _: () = prove!(HANDED_OVER == size_of::<usize>());
+
+/// A lobby that stays where it lies while it is handed from worker to worker. Contracts see it as
+/// the lobby itself, and each of its calls is the lobby's own.
+#[derive(Drop)]
+pub struct BoxedLobby {
+    inner: Box<Lobby>,
+}
+
+impl Model for BoxedLobby {
+    ghost use Rattle.lobby_machine.specs.Shown.{Shown};
+
+    ghost Value = { Shown };
+
+    ghost view = { λ b. b.inner.value };
+}
+
+impl BoxedLobby {
+    /// Lays the lobby down. Fails only where memory is refused.
+    pub fn new(alloc: Global, lobby: Lobby) -> Result<BoxedLobby, AllocError>
+        ensures { IfOk result (λ boxed. boxed ≡ lobby) }
+    {
+        match Box::new(alloc, lobby) {
+            Ok(inner) => Ok(BoxedLobby { inner }),
+            Err(_) => Err(AllocError),
+        }
+    }
+
+    /// As `Lobby::open`.
+    pub fn open(&mut self, ip: [u8; 4], home: u8) -> Result<u64, OpenError>
+        requires { home ≤ 63 }
+        ensures number { IfOk result (λ number. number ≡ self.old.plain.last_client + 1) }
+        ensures ok { OnOk result ((has_place self.old.plain ≡ true) × (self.new.plain ≡ next self.old.plain (event.Open ip home))) }
+        ensures full { (result ≡ Err OpenError.Full) ↔ (10000 ≤ length self.old.plain.clients) }
+        ensures no_number { result ≡ Err OpenError.NoNumber → self.old.plain.last_client ≡ 18446744073709551615 }
+        ensures no_place { has_place self.old.plain ≡ false → result ≡ Err OpenError.Memory → ⊥ }
+        ensures err { OnErr result (self.new ≡ self.old) }
+    {
+        self.inner.open(ip, home)
+    }
+
+    /// As `Lobby::say`.
+    pub fn say(&mut self, client: u64, request: &Request) -> Result<Wakes, AllocError>
+        requires { IsTrue (keeps_kinds request.now.command) }
+        ensures ok { OnOk result (self.new.plain ≡ next self.old.plain (event.Say client request.now)) }
+        ensures wakes { IfOk result (λ wakes. IsWakes self.old.plain (event.Say client request.now) wakes) }
+        ensures err { OnErr result (self.new ≡ self.old) }
+    {
+        self.inner.say(client, request)
+    }
+
+    /// As `Lobby::shut`.
+    pub fn shut(&mut self, client: u64) -> Result<Wakes, AllocError>
+        ensures ok { OnOk result (self.new.plain ≡ next self.old.plain (event.Shut client)) }
+        ensures wakes { IfOk result (λ wakes. IsWakes self.old.plain (event.Shut client) wakes) }
+        ensures err { OnErr result (self.new ≡ self.old) }
+    {
+        self.inner.shut(client)
+    }
+
+    /// As `Lobby::drain`.
+    pub fn drain(&mut self, client: u64, into: &mut [u8]) -> Drained
+        ensures count { result.count ≡ min (length (unread_of self.old.plain client)) (length into.old) }
+        ensures given { into.new ≡ take result.count (unread_of self.old.plain client) ++ drop result.count into.old }
+        ensures finished { result.finished ≡ is_finished self.new.plain client }
+        ensures next { self.new.plain ≡ next self.old.plain (event.Drain client (length into.old)) }
+    {
+        self.inner.drain(client, into)
+    }
+}
