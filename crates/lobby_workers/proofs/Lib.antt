@@ -3,3 +3,7 @@ pub mod Joins
 pub mod Lines
 pub mod Parts
 pub mod Drains
+pub mod Talks
+pub mod Hearings
+pub mod Tellings
+pub mod Turns

@@ -8,10 +8,16 @@
 
 mod conn;
 mod gate;
+mod hearing;
 mod holds;
 mod link;
+mod serving;
+mod telling;
+mod turn;
 
 pub use conn::Conn;
 pub use gate::Gate;
 pub use holds::{drain, is_finished, say, shut};
 pub use link::{Got, Link, Sent};
+pub use serving::serve;
+pub use turn::{Turn, TurnState};
