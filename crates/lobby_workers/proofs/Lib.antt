@@ -7,3 +7,4 @@ pub mod Talks
 pub mod Hearings
 pub mod Tellings
 pub mod Turns
+pub mod Moves
