@@ -3,3 +3,8 @@ pub mod Joins
 pub mod Lines
 pub mod Parts
 pub mod Drains
+pub mod Talks
+pub mod Hearings
+pub mod Tellings
+pub mod Turns
+pub mod Moves

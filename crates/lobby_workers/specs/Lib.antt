@@ -3,3 +3,7 @@ pub mod Moments
 pub mod Seat
 pub mod Went
 pub mod Holds
+pub mod Talk
+pub mod Hearing
+pub mod Telling
+pub mod Turned

@@ -66,7 +66,7 @@ impl Conn {
     }
 
     /// What its client asks next, as `Session::next_request` says.
-    pub fn next_request(&self) -> Result<Next, AllocError>
+    pub(crate) fn next_request(&self) -> Result<Next, AllocError>
         ensures ok { IfOk result (λ next. IsNextOf (Some self.now.session) next) }
         ensures kinds { IfOk result KeepsKinds }
     {
@@ -81,7 +81,7 @@ impl Conn {
     }
 
     /// Whether all that was drained was written.
-    pub fn is_written(&self) -> bool
+    pub(crate) fn is_written(&self) -> bool
         ensures { IsTrue result ↔ (self.now.unwritten ≡ []) }
     {
         self.rest().is_empty()
@@ -98,7 +98,7 @@ impl Conn {
     }
 
     /// Feeds what was read and not yet fed. Where memory is refused, nothing changes.
-    pub fn feed(&mut self) -> Result<(), AllocError>
+    pub(crate) fn feed(&mut self) -> Result<(), AllocError>
         ensures went { OnOk result ((wire : Wire) (pass : ShownPass) → Went (seat self.old wire pass) (seat self.new wire pass) []) }
         ensures fed { OnOk result (self.new.unfed ≡ []) }
         ensures unwritten { self.new.unwritten ≡ self.old.unwritten }
@@ -110,7 +110,7 @@ impl Conn {
     }
 
     /// Reads a piece. All that was read before was fed.
-    pub fn read<L: Link>(&mut self, link: &mut L) -> Result<Got, AllocError>
+    pub(crate) fn read<L: Link>(&mut self, link: &mut L) -> Result<Got, AllocError>
         requires fed { self.old.unfed ≡ [] }
         requires wire { MayGoOn (L.wire link.old) }
         ensures went { (pass : ShownPass) → Went (seat self.old (L.wire link.old) pass) (seat self.new (L.wire link.new) pass) [] }
@@ -135,7 +135,7 @@ impl Conn {
     }
 
     /// Writes what was drained and not yet written, as much of it as the link takes now.
-    pub fn write<L: Link, G: Gate>(&mut self, link: &mut L, gate: &G, worker: u64) -> Sent
+    pub(crate) fn write<L: Link, G: Gate>(&mut self, link: &mut L, gate: &G, worker: u64) -> Sent
         requires { MayGoOn (L.wire link.old) }
         ensures went { (pass : ShownPass) → Went (seat self.old (L.wire link.old) pass) (seat self.new (L.wire link.new) pass) [] }
         ensures session { self.new.session ≡ self.old.session }
@@ -157,7 +157,7 @@ impl Conn {
     }
 
     /// Accepts the next line, where one is there.
-    pub fn accept(&mut self)
+    pub(crate) fn accept(&mut self)
         ensures session { Accepted (Some self.old.session) (Some self.new.session) }
         ensures client { self.new.session.client ≡ self.old.session.client }
         ensures unfed { self.new.unfed ≡ self.old.unfed }

@@ -20,7 +20,7 @@ use std::sync::Wait;
 
 /// Tells the lobby what the next line asks for, and accepts the line. Where memory is refused, the
 /// line stays next.
-pub fn say<R: Wait, G: Gate>(
+pub(crate) fn say<R: Wait, G: Gate>(
     rt: &R,
     conn: &mut Conn,
     desk: &Desk,
@@ -69,7 +69,7 @@ fn drain_into<R: Wait, G: Gate>(
 }
 
 /// Drains a piece for the client. All that was drained before was written.
-pub fn drain<R: Wait, G: Gate>(
+pub(crate) fn drain<R: Wait, G: Gate>(
     rt: &R,
     conn: &mut Conn,
     desk: &Desk,
@@ -96,7 +96,7 @@ pub fn drain<R: Wait, G: Gate>(
 }
 
 /// Asks whether nothing will ever come of the client, without draining a byte.
-pub fn is_finished<R: Wait, G: Gate>(
+pub(crate) fn is_finished<R: Wait, G: Gate>(
     rt: &R,
     conn: &Conn,
     desk: &Desk,
@@ -111,7 +111,7 @@ pub fn is_finished<R: Wait, G: Gate>(
 }
 
 /// Shuts the client.
-pub fn shut<R: Wait, G: Gate>(
+pub(crate) fn shut<R: Wait, G: Gate>(
     rt: &R,
     conn: &Conn,
     desk: &Desk,
