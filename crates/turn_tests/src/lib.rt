@@ -1,0 +1,6 @@
+//! Tests of a connection's turns over links in memory: what a client that is served reads, and how
+//! its turns end.
+#![tactic(auto)]
+
+#[cfg(test)]
+mod turns;

@@ -1,0 +1,213 @@
+//! One worker, or two in threads of their own, and clients over links in memory.
+
+ghost use Rattle.std.specs.Prelude.{◌≡◌};
+
+use account_book::AccountBook;
+use line_words::TextBuf;
+use lobby_lock::{Desk, Pass};
+use lobby_machine::Lobby;
+use lobby_model::Settings;
+use lobby_workers::{Conn, Gate, Link, MemoryLink, Turn, TurnState, serve};
+use std::alloc::Global;
+use std::process::Abort;
+use std::sync::Wait;
+use std::test::*;
+use std::thread;
+
+const GREETING: &[u8] = b"TASSERVER 0.38 * 8201 0\n";
+
+const GREETING_AND_PONG: &[u8] = b"TASSERVER 0.38 * 8201 0\nPONG\n";
+
+// A gate that does nothing.
+#[derive(Drop)]
+struct Open;
+
+impl Gate for Open {
+    fn before_take(&self, worker: u64) {
+        let _ = worker;
+    }
+
+    fn after_write(&self, worker: u64, bytes: &[u8]) {
+        let _ = (worker, bytes.len());
+    }
+
+    fn woken(&self, worker: u64) {
+        let _ = worker;
+    }
+}
+
+fn new_lobby(alloc: Global) -> Result<Lobby, Fail> {
+    let motd = [TextBuf::copy_of(alloc, b"Welcome")?];
+    let settings = Settings::new(alloc, b"0.38", b"*", 8201, 0, &motd, 65_536)?;
+    match AccountBook::from_toml(alloc, b"") {
+        Ok(accounts) => Lobby::new(alloc, settings, accounts).map_err(Fail::from),
+        Err(error) => Err(Fail::from(error)),
+    }
+}
+
+// Opens a client and serves it over this link for so many turns, or until it was shut; and what its
+// last turn came to.
+fn serve_client<R: Wait>(
+    rt: &R,
+    alloc: Global,
+    desk: &Desk,
+    pass: Pass,
+    link: &mut MemoryLink,
+    turns: u64,
+) -> (Pass, Option<Turn>)
+    requires { pass.desk ≡ desk.now }
+    ensures desk { result.0.desk ≡ desk.now }
+    ensures number { result.0.worker.number ≡ pass.worker.number }
+{
+    let mut held = desk.take(rt, pass);
+    let client = held.open([10, 0, 0, 1], 0).unwrap_or(0);
+    let mut pass = held.give(rt, desk);
+    let mut conn = Conn::new(alloc, client);
+    let mut last = None;
+    for _ in 0..turns {
+        if !link.fresh() {
+            return (pass, None);
+        }
+        let (next, turn) = serve(rt, &mut conn, link, desk, pass, &Open);
+        pass = next;
+        last = Some(turn);
+        if turn.state == TurnState::Closed {
+            return (pass, last);
+        }
+    }
+    (pass, last)
+}
+
+// Serves one client alone over a link, and compares how its last turn ended and what it read.
+fn check<R: Wait + Abort>(
+    rt: &R,
+    alloc: Global,
+    link: MemoryLink,
+    turns: u64,
+    state: TurnState,
+    output: &[u8],
+) -> Result<(), Fail> {
+    let Ok((desk, pass)) = Desk::open(rt, alloc, new_lobby(alloc)?) else {
+        assert!(rt; false, "a desk was opened");
+        return Ok(());
+    };
+    let mut link = link;
+    let (_pass, turn) = serve_client(rt, alloc, &desk, pass, &mut link, turns);
+    assert_eq!(rt; turn.map(|turn| turn.state), Some(state));
+    assert_eq!(rt; link.output(), output);
+    Ok(())
+}
+
+#[test]
+fn a_turn_ends_as_its_link_and_its_lines_say(rt: HostRuntime) -> Result<(), Fail> {
+    let alloc = rt.alloc();
+    let ping = |alloc| Vec::from_slice(alloc, b"PING\n");
+    // nothing came yet
+    check(
+        &rt,
+        alloc,
+        MemoryLink::new(alloc, Vec::new(alloc), 9, 100),
+        1,
+        TurnState::Idle,
+        GREETING,
+    )?;
+    // byte by byte, more than a turn reads
+    let link = MemoryLink::new(
+        alloc,
+        Vec::from_slice(alloc, b"                    PING\n")?,
+        1,
+        100,
+    );
+    check(&rt, alloc, link, 1, TurnState::Again, GREETING)?;
+    let link = MemoryLink::new(
+        alloc,
+        Vec::from_slice(alloc, b"                    PING\n")?,
+        1,
+        100,
+    );
+    check(&rt, alloc, link, 2, TurnState::Idle, GREETING_AND_PONG)?;
+    // a link that takes nothing, and one that takes little
+    check(
+        &rt,
+        alloc,
+        MemoryLink::new(alloc, ping(alloc)?, 9, 0),
+        1,
+        TurnState::Idle,
+        b"",
+    )?;
+    check(
+        &rt,
+        alloc,
+        MemoryLink::new(alloc, ping(alloc)?, 9, 1),
+        1,
+        TurnState::Again,
+        b"TASSERVER 0.38 *",
+    )?;
+    // the other side sends no more
+    let link = MemoryLink::new(alloc, ping(alloc)?, 9, 100).ended();
+    check(&rt, alloc, link, 1, TurnState::Closed, GREETING_AND_PONG)?;
+    // a device that fails at its first read, and at its first write
+    check(
+        &rt,
+        alloc,
+        MemoryLink::new(alloc, ping(alloc)?, 9, 100).failing_at(1),
+        1,
+        TurnState::Closed,
+        GREETING,
+    )?;
+    check(
+        &rt,
+        alloc,
+        MemoryLink::new(alloc, ping(alloc)?, 9, 100).failing_at(3),
+        1,
+        TurnState::Closed,
+        b"",
+    )?;
+    Ok(())
+}
+
+#[test]
+fn a_line_that_is_too_long_shuts_its_client(rt: HostRuntime) -> Result<(), Fail> {
+    let alloc = rt.alloc();
+    let mut line = Vec::new(alloc);
+    line.extend_from_slice(b"PING\n")?;
+    for _ in 0..8_193u64 {
+        line.push(b'A')?;
+    }
+    check(
+        &rt,
+        alloc,
+        MemoryLink::new(alloc, line, 4_096, 100),
+        1,
+        TurnState::Closed,
+        GREETING_AND_PONG,
+    )
+}
+
+#[test]
+fn two_workers_serve_side_by_side(rt: HostRuntime) -> Result<(), Fail> {
+    let alloc = rt.alloc();
+    let Ok((desk, pass)) = Desk::open(&rt, alloc, new_lobby(alloc)?) else {
+        assert!(rt; false, "a desk was opened");
+        return Ok(());
+    };
+    let Ok((pass, other)) = desk.hand_out(alloc, pass) else {
+        assert!(rt; false, "a pass was handed out");
+        return Ok(());
+    };
+    let mut first = MemoryLink::new(alloc, Vec::from_slice(alloc, b"PING\n")?, 9, 100);
+    let mut second = MemoryLink::new(alloc, Vec::from_slice(alloc, b"PING\n")?, 9, 100);
+    let (run, shared, mine, theirs) = (&rt, &desk, &mut first, &mut second);
+    let _ended = thread::join(
+        run,
+        move || -> Pass
+            requires { pass.desk ≡ shared.now }
+        { serve_client(run, alloc, shared, pass, mine, 3).0 },
+        move || -> Pass
+            requires { other.desk ≡ shared.now }
+        { serve_client(run, alloc, shared, other, theirs, 3).0 },
+    );
+    assert_eq!(rt; first.output(), GREETING_AND_PONG);
+    assert_eq!(rt; second.output(), GREETING_AND_PONG);
+    Ok(())
+}
