@@ -8,5 +8,3 @@ pub mod Hearings
 pub mod Tellings
 pub mod Turns
 pub mod Moves
-pub mod Logs
-pub mod Kept

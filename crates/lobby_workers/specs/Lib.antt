@@ -7,4 +7,3 @@ pub mod Talk
 pub mod Hearing
 pub mod Telling
 pub mod Turned
-pub mod Gathered
