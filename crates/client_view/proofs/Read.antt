@@ -1,17 +1,20 @@
--- What a line folds, by whether it is read.
-use Rattle.std.proofs.Common.{◌≡◌, ℕ, List, [], ◌∷◌, refl, ap}
-use Rattle.std.specs.Prelude.{Some, None}
-use Rattle.reply_grammar.specs.Replies.{Line, ReadsAs}
+-- What a line folds, by what was read behind its head.
+use Rattle.std.proofs.Common.{◌≡◌, ◌∙◌, ℕ, List, [], refl, sym, ap}
+use Rattle.std.specs.Prelude.{Option, Some, None}
+use Rattle.line_framer.specs.Frames.{without_cr}
+use Rattle.reply_grammar.specs.declared.Reply.{Reply}
+use Rattle.reply_reader.specs.Heads.{with_id}
 use Rattle.reply_reader.specs.Lines.{read_line}
-use Rattle.reply_reader.proofs.Whole.{is_read, line_takes}
 use Rattle.lobby_view.specs.Bytes.{one_read}
+use Rattle.client_view.specs.Told.{told}
 
-pub read_some : (bytes : List ℕ) (line : Line) → ReadsAs bytes line → one_read (read_line bytes) ≡ line.1 ∷ []
-read_some bytes line reads = ap one_read (is_read bytes line reads)
+told_is : (id : Option ℕ) (read : Option Reply) → told read ≡ one_read (with_id id read)
+told_is id None = refl
+told_is id (Some r) = refl
 
-pub read_none : (bytes : List ℕ) → ((line : Line) → ReadsAs bytes line → ⊥) → one_read (read_line bytes) ≡ []
-read_none bytes none =
-    elim (read_line bytes) as (λ o. read_line bytes ≡ o → one_read o ≡ []) [
-      | None ↦ λ e. refl
-      | Some line ↦ λ e. absurd (none line (line_takes bytes line e))
-    ] refl
+-- the line behind a CR that was dropped
+pub told_line : (line bytes : List ℕ) (id : Option ℕ) (read : Option Reply) → bytes ≡ without_cr line → read_line bytes ≡ with_id id read → told read ≡ one_read (read_line (without_cr line))
+told_line line bytes id read is e = told_is id read ∙ ap one_read (sym e) ∙ ap (λ (l : List ℕ). one_read (read_line l)) is
+
+pub none_line : (line bytes : List ℕ) → bytes ≡ without_cr line → read_line bytes ≡ None → [] ≡ one_read (read_line (without_cr line))
+none_line line bytes is e = ap one_read (sym e) ∙ ap (λ (l : List ℕ). one_read (read_line l)) is

@@ -2,12 +2,15 @@
 
 ghost use Rattle.std.specs.Prelude.{◌≡◌, OnOk, OnErr, IfOk, length};
 ghost use Rattle.line_framer.specs.Frames as frames;
-ghost use Rattle.reply_reader.specs.Lines.{read_line};
+ghost use Rattle.reply_grammar.specs.declared.command_word.CommandWord.TheVariants as command;
+ghost use Rattle.reply_reader.specs.Lines.{read_arguments, read_line};
 ghost use Rattle.lobby_view.specs.View.{shown_all};
 ghost use Rattle.lobby_view.specs.Bytes.{one_read};
+ghost use Rattle.client_view.specs.Told.{told};
 
 use crate::known::Known;
-use reply_reader::read_reply;
+use reply_grammar::CommandWord;
+use reply_reader::{Head, read_client_status, read_head, read_said};
 use std::alloc::AllocError;
 
 /// The bytes without one CR at their end.
@@ -28,8 +31,63 @@ impl Known {
         ensures count { IfOk result (λ count. count ≡ length (one_read (read_line (frames.without_cr line.now)))) }
         ensures err { OnErr result (self.new ≡ self.old) }
     {
-        match read_reply(self.alloc, without_cr(line)) {
-            Ok(Some((_, reply))) => {
+        match read_head(without_cr(line)) {
+            Some(head) => self.take_head(head),
+            None => Ok(0),
+        }
+    }
+
+    // Nine in ten lines are a status or talk. These are folded without a `Reply`, which is as large as
+    // the largest kind, and whose moves from where it is read to here would cost more than the rest.
+    fn take_head(&mut self, head: Head) -> Result<usize, AllocError>
+        ensures ok { OnOk result (self.new ≡ shown_all self.old (told (read_arguments head.entry.command head.entry.arguments.now))) }
+        ensures count { IfOk result (λ count. count ≡ length (told (read_arguments head.entry.command head.entry.arguments.now))) }
+        ensures err { OnErr result (self.new ≡ self.old) }
+    {
+        match head.command {
+            CommandWord::ClientStatus => self.take_status(head.arguments),
+            CommandWord::Said => self.take_said(head.arguments),
+            _ => self.take_reply(head),
+        }
+    }
+
+    // The arguments are those of `CLIENTSTATUS`.
+    fn take_status(&mut self, arguments: &[u8]) -> Result<usize, AllocError>
+        ensures ok { OnOk result (self.new ≡ shown_all self.old (told (read_arguments command.ClientStatus arguments.now))) }
+        ensures count { IfOk result (λ count. count ≡ length (told (read_arguments command.ClientStatus arguments.now))) }
+        ensures err { OnErr result (self.new ≡ self.old) }
+    {
+        match read_client_status(self.alloc, arguments) {
+            Ok(Some((user, status))) => {
+                self.client_status(&user, status);
+                Ok(1)
+            }
+            Ok(None) => Ok(0),
+            Err(refused) => Err(refused),
+        }
+    }
+
+    // The arguments are those of `SAID`, of which nothing is kept.
+    fn take_said(&mut self, arguments: &[u8]) -> Result<usize, AllocError>
+        ensures ok { OnOk result (self.new ≡ shown_all self.old (told (read_arguments command.Said arguments.now))) }
+        ensures count { IfOk result (λ count. count ≡ length (told (read_arguments command.Said arguments.now))) }
+        ensures err { OnErr result (self.new ≡ self.old) }
+    {
+        match read_said(self.alloc, arguments) {
+            Ok(Some(_)) => Ok(1),
+            Ok(None) => Ok(0),
+            Err(refused) => Err(refused),
+        }
+    }
+
+    #[inline(never)]
+    fn take_reply(&mut self, head: Head) -> Result<usize, AllocError>
+        ensures ok { OnOk result (self.new ≡ shown_all self.old (told (read_arguments head.entry.command head.entry.arguments.now))) }
+        ensures count { IfOk result (λ count. count ≡ length (told (read_arguments head.entry.command head.entry.arguments.now))) }
+        ensures err { OnErr result (self.new ≡ self.old) }
+    {
+        match head.reply(self.alloc) {
+            Ok(Some(reply)) => {
                 self.fold(reply)?;
                 Ok(1)
             }

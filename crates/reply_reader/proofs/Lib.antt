@@ -7,3 +7,5 @@ pub mod Whole
 pub mod Signed
 pub mod Many
 pub mod Dispatch
+pub mod Named
+pub mod Behind

@@ -27,7 +27,7 @@ same_self : (w : List ℕ) → same w w ≡ true
 same_self [] = refl
 same_self (x ∷ w) = and_from (x == x) (same w w) (eq-eqb x x refl) (same_self w)
 
-same_is : (v w : List ℕ) → same v w ≡ true → v ≡ w
+pub same_is : (v w : List ℕ) → same v w ≡ true → v ≡ w
 same_is [] [] h = refl
 same_is [] (y ∷ w) h = absurd cc
 same_is (x ∷ v) [] h = absurd cc
@@ -50,7 +50,7 @@ named_takes w c e = named_takes_in commands w c e
 
 -- one line for each reply
 
-named_again : (c : CommandWord) → named (word_of c) ≡ Some c
+pub named_again : (c : CommandWord) → named (word_of c) ≡ Some c
 unfolding named
 named_again command.TasServer = refl
 named_again command.Accepted = refl

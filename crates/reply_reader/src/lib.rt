@@ -8,6 +8,7 @@ mod channels;
 mod command_words;
 mod error;
 mod fields;
+mod heads;
 mod laws;
 mod lists;
 mod numbers;
@@ -16,5 +17,6 @@ mod room;
 mod session;
 mod shapes;
 
+pub use heads::{Head, read_client_status, read_head, read_said};
 pub use laws::{each_reads_alone, no_two_alike};
 pub use reading::read_reply;

@@ -38,10 +38,13 @@ pub(crate) fn small_at(bytes: &[u8], high: u8) -> Result<(u8, &[u8]), ReadError>
 }
 
 /// A message id.
-pub(crate) fn id_of(word: &[u8]) -> Result<u32, ReadError>
-    ensures { Gives (λ x. x) result (number_in 0 2147483647 word.now) }
+pub(crate) fn id_of(word: &[u8]) -> Option<u32>
+    ensures { result ≡ number_in 0 2147483647 word.now }
 {
-    number_in(word, 0, 2147483647)
+    match number_in(word, 0, 2147483647) {
+        Ok(id) => Some(id),
+        Err(_) => None,
+    }
 }
 
 #[tactic(auto, unfolding(crate::specs::Reading::number_at))]
@@ -56,6 +59,7 @@ fn number_at(bytes: &[u8], low: u32, high: u32) -> Result<(u32, &[u8]), ReadErro
 fn number_in(word: &[u8], low: u32, high: u32) -> Result<u32, ReadError>
     ensures value { Gives (λ x. x) result (number_in low high word.now) }
     ensures range { IfOk result (λ x. (low ≤ x) × (x ≤ high)) }
+    ensures refused { IfErr result (λ e. e ≡ ReadError.Unread) }
 {
     let number = canonical(word, low as i64, high as i64)?;
     Ok(number as u32)

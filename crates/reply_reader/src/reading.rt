@@ -1,15 +1,13 @@
 //! A line read back as its reply.
 
-ghost use Rattle.std.specs.Prelude.{◌≡◌, IfNone, IfOk, IfSome};
-ghost use Rattle.reply_reader.specs.Lines.{behind_space, read_arguments, read_body, read_line, read_numbered};
+ghost use Rattle.std.specs.Prelude.{IfNone, IfOk, IfSome};
+ghost use Rattle.reply_reader.specs.Lines.{read_arguments};
 ghost use Rattle.reply_reader.specs.Reading.{Gives};
 ghost use Rattle.reply_grammar.specs.Replies.{Line, ReadsAs};
 
-use crate::command_words::named;
 use crate::error::ReadError;
-use crate::numbers::id_of;
+use crate::heads::read_head;
 use crate::{battles, channels, room, session};
-use line_words::split_at_byte;
 use reply_grammar::{CommandWord, Reply};
 use std::alloc::{AllocError, Global};
 
@@ -19,59 +17,22 @@ pub fn read_reply(alloc: Global, line: &[u8]) -> Result<Option<(Option<u32>, Rep
     ensures some { IfOk result (λ found. IfSome found (ReadsAs line.now)) }
     ensures none { IfOk result (λ found. IfNone found ((pair : Line) → ReadsAs line.now pair → ⊥)) }
 {
-    match read_line(alloc, line) {
-        Ok(pair) => Ok(Some(pair)),
-        Err(ReadError::Memory) => Err(AllocError),
-        Err(ReadError::Unread) => Ok(None),
+    match read_head(line) {
+        Some(head) => match arguments(alloc, head.command, head.arguments) {
+            Ok(reply) => Ok(Some((head.id, reply))),
+            Err(ReadError::Memory) => Err(AllocError),
+            Err(ReadError::Unread) => Ok(None),
+        },
+        None => Ok(None),
     }
 }
 
-#[tactic(auto, unfolding(crate::specs::Lines::read_line))]
-fn read_line(alloc: Global, bytes: &[u8]) -> Result<(Option<u32>, Reply), ReadError>
-    ensures { Gives (λ x. x) result (read_line bytes.now) }
-{
-    match bytes {
-        [] => Err(ReadError::Unread),
-        [first, rest @ ..] => {
-            if *first == b'#' {
-                return read_numbered(alloc, rest);
-            }
-            Ok((None, read_body(alloc, bytes)?))
-        }
-    }
-}
-
-#[tactic(auto, unfolding(crate::specs::Lines::read_numbered))]
-fn read_numbered(alloc: Global, bytes: &[u8]) -> Result<(Option<u32>, Reply), ReadError>
-    ensures { Gives (λ x. x) result (read_numbered bytes.now) }
-{
-    let (digits, rest) = split_at_byte(bytes, b' ');
-    let id = id_of(digits)?;
-    let text = behind_space(rest)?;
-    Ok((Some(id), read_body(alloc, text)?))
-}
-
-fn behind_space(bytes: &[u8]) -> Result<&[u8], ReadError>
-    ensures { Gives (λ x. x.now) result (behind_space bytes.now) }
-{
-    match bytes {
-        [] => Err(ReadError::Unread),
-        [_, rest @ ..] => Ok(rest),
-    }
-}
-
-#[tactic(auto, unfolding(crate::specs::Lines::read_body))]
-fn read_body(alloc: Global, bytes: &[u8]) -> Result<Reply, ReadError>
-    ensures { Gives (λ r. r) result (read_body bytes.now) }
-{
-    let (word, rest) = split_at_byte(bytes, b' ');
-    match named(word) {
-        Some(command) => arguments(alloc, command, rest),
-        None => Err(ReadError::Unread),
-    }
-}
-
-fn arguments(alloc: Global, command: CommandWord, bytes: &[u8]) -> Result<Reply, ReadError>
+/// The reply of the arguments behind a command.
+pub(crate) fn arguments(
+    alloc: Global,
+    command: CommandWord,
+    bytes: &[u8],
+) -> Result<Reply, ReadError>
     ensures { Gives (λ r. r) result (read_arguments command bytes.now) }
 {
     match command {

@@ -1,5 +1,6 @@
 //! Reading the replies on the greeting, logins and users.
 
+ghost use Rattle.reply_grammar.specs.declared.Reply.TheVariants as reply;
 ghost use Rattle.reply_grammar.specs.declared.command_word.CommandWord.TheVariants as command;
 ghost use Rattle.reply_reader.specs.Lines.{read_arguments};
 ghost use Rattle.reply_reader.specs.Reading.{Gives};
@@ -8,6 +9,7 @@ use crate::error::ReadError;
 use crate::fields::{ended, name_at, word_at};
 use crate::numbers::{small_at, u16_at, u32_at, wide_at};
 use crate::shapes::{nothing, only_name, only_text};
+use line_words::NameBuf;
 use reply_grammar::Reply;
 use std::alloc::Global;
 
@@ -80,14 +82,22 @@ pub(crate) fn remove_user(alloc: Global, bytes: &[u8]) -> Result<Reply, ReadErro
     Ok(Reply::RemoveUser { user })
 }
 
-#[tactic(auto, unfolding(crate::specs::Reading::shaped))]
 pub(crate) fn client_status(alloc: Global, bytes: &[u8]) -> Result<Reply, ReadError>
     ensures { Gives (λ r. r) result (read_arguments command.ClientStatus bytes.now) }
+{
+    let (user, status) = status_of(alloc, bytes)?;
+    Ok(Reply::ClientStatus { user, status })
+}
+
+// A user and its status.
+#[tactic(auto, unfolding(crate::specs::Reading::shaped))]
+pub(crate) fn status_of(alloc: Global, bytes: &[u8]) -> Result<(NameBuf, u32), ReadError>
+    ensures { Gives (λ x. reply.ClientStatus x.0 x.1) result (read_arguments command.ClientStatus bytes.now) }
 {
     let (user, rest) = name_at(alloc, bytes)?;
     let (status, rest) = u32_at(rest)?;
     ended(rest)?;
-    Ok(Reply::ClientStatus { user, status })
+    Ok((user, status))
 }
 
 pub(crate) fn login_info_end(bytes: &[u8]) -> Result<Reply, ReadError>
