@@ -1,10 +1,15 @@
 # The recipes of this repository, one line each.
 SCRIPT ?= examples/ping.play
+SETTINGS ?= examples/lobby.toml
+ACCOUNTS ?= examples/accounts.toml
 
-.PHONY: play hash view build test check bench memory soak
+.PHONY: play serve hash view build test check bench memory soak
 
 play:
 	@tools/run.sh lobby_play < $(SCRIPT)
+
+serve:
+	@tools/run.sh lobby_main serve $(abspath $(SETTINGS)) $(abspath $(ACCOUNTS))
 
 hash:
 	@tools/run.sh lobby_main hash
@@ -16,7 +21,7 @@ build:
 	@tools/build.sh
 
 test:
-	RT_JOBS=$$(tools/lanes.sh) rt ci && checks/rows.sh && checks/programs.sh && checks/links.py && checks/views.sh
+	RT_JOBS=$$(tools/lanes.sh) rt ci && checks/rows.sh && checks/programs.sh && checks/serve.sh && checks/links.py && checks/views.sh
 
 check:
 	@cd crates/$(or $(CRATE),$(error give a crate, as make check CRATE=line_words)) && rt check

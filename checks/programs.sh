@@ -35,8 +35,6 @@ expect 0 '1B2M2Y8AsgTpgAmY7PhCfg==\n' '' '' "$main" hash
 expect 1 '' "$usage\n" '' "$main"
 expect 1 '' "$usage\n" 'password\n' "$main" hash more
 expect 1 '' "$usage\n" 'password\n' "$main" Hash
-expect 1 '' "$usage\n" '' "$main" serve
-expect 1 '' "$usage\n" '' "$main" serve settings.toml accounts.toml
 expect 1 '' "$usage\n" "$(printf 'a%.0s' {1..8193})\n" "$main" hash
 expect 2 '' 'cannot read input\n' . "$main" hash
 

@@ -1,7 +1,7 @@
 #!/usr/bin/env bash
 # run.sh PROGRAM ARGUMENT.. : runs the program that `make build` proved and built, in bin/, where no source is newer.
 # Otherwise it builds one on the spot, in about half a minute, without any proof, and says so. Such a build shows at most
-# 1 MiB, and runs for at most a minute.
+# 1 MiB, and runs for at most a minute, a server for at most an hour and without an input.
 set -euo pipefail
 root=$(cd "$(dirname "$0")/.." && pwd)
 name=$1
@@ -15,10 +15,18 @@ echo "$name: this build is not the proved one, which 'make build' makes; it take
 room=$(mktemp -d)
 trap 'rm -rf "$room"' EXIT
 # rt try reads no terminal, and does not wait for a pipe: the input is taken first, of a terminal one line.
-if [ -t 0 ]; then head -n 1 > "$room/input"; else cat > "$room/input"; fi
+limit=()
+if [ "${1:-}" = serve ]; then
+    : > "$room/input"
+    limit=(--seconds 3600)
+elif [ -t 0 ]; then
+    head -n 1 > "$room/input"
+else
+    cat > "$room/input"
+fi
 cd "$root/crates/$name"
 status=0
-rt try -- "$@" < "$room/input" 2> "$room/told" || status=$?
+rt try "${limit[@]}" -- "$@" < "$room/input" 2> "$room/told" || status=$?
 # Of a program that came to its end, only what it told itself.
 if grep -q '^run=ended ' "$room/told"; then
     grep -v -E '^(checked: |interpreted: |run=)' "$room/told" >&2 || true

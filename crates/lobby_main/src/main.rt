@@ -1,17 +1,22 @@
-//! The server program of the lobby. So far it makes password words alone.
+//! The server program of the lobby: `serve` runs the server, `hash` makes password words.
 #![tactic(auto)]
 
 mod hash;
+mod serve;
 
+use std::fmt::Display;
+use std::net::Net;
 use std::process::ExitCode;
-use std::rt::Env;
+use std::rt::{Env, Files};
+use std::sync::Wait;
+use std::thread::Threads;
 use std::{env, io};
 
 const USAGE: &str = "usage: lobby_main serve SETTINGS ACCOUNTS or lobby_main hash";
 
 /// Tells why the program ends, and gives its exit status. A line that cannot be printed is lost.
-fn fail<R: Eprint>(rt: &R, text: &str, status: u8) -> u8 {
-    let _ = rt.eprintln(text);
+fn fail<R: Eprint, D: Display + Drop>(rt: &R, reason: D, status: u8) -> u8 {
+    let _ = rt.eprintln(reason);
     status
 }
 
@@ -26,20 +31,40 @@ fn print_word<R: Input + Print + Eprint>(rt: &R) -> u8 {
     }
 }
 
-fn run<R: Env + Input + Print + Eprint + AllocGlobal>(rt: &R) -> u8 {
+/// Runs the server until its input ends, or until the program is killed.
+fn run_server<R>(rt: &R, settings: &str, accounts: &str) -> u8
+where
+    R: Files + Input + Print + Eprint + AllocGlobal + Threads + Wait + Net + Sync,
+{
+    match serve::serve(rt, settings, accounts) {
+        Ok(0) => 0,
+        Ok(2) => fail(rt, "cannot read input", 2),
+        Ok(3) => fail(rt, "cannot listen", 3),
+        Ok(status) => fail(rt, "no memory", status),
+        Err(error) => fail(rt, error, error.status()),
+    }
+}
+
+fn run<R>(rt: &R) -> u8
+where
+    R: Files + Env + Input + Print + Eprint + AllocGlobal + Threads + Wait + Net + Sync,
+{
     let mut words = match env::args(rt) {
         Ok(words) => words,
         Err(e) if e.kind() == io::ErrorKind::OutOfMemory => return fail(rt, "no memory", 4),
         Err(_) => return fail(rt, USAGE, 1),
     };
     words.next();
-    let Some(command) = words.next() else {
+    let (command, settings, accounts) = (words.next(), words.next(), words.next());
+    if words.next().is_some() {
         return fail(rt, USAGE, 1);
-    };
-    if command.as_str() == "hash" && words.next().is_none() {
-        print_word(rt)
-    } else {
-        fail(rt, USAGE, 1)
+    }
+    match (command, settings, accounts) {
+        (Some(command), None, None) if command.as_str() == "hash" => print_word(rt),
+        (Some(command), Some(settings), Some(accounts)) if command.as_str() == "serve" => {
+            run_server(rt, settings.as_str(), accounts.as_str())
+        }
+        _ => fail(rt, USAGE, 1),
     }
 }
 

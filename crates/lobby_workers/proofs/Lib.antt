@@ -8,3 +8,5 @@ pub mod Hearings
 pub mod Tellings
 pub mod Turns
 pub mod Moves
+pub mod Logs
+pub mod Kept

@@ -7,3 +7,4 @@ pub mod Talk
 pub mod Hearing
 pub mod Telling
 pub mod Turned
+pub mod Gathered

@@ -1,0 +1,118 @@
+//! The command `serve`: a server by a file of settings and a file of accounts.
+
+use account_book::{AccountBook, AccountsError};
+use lobby_setup::{Setup, SetupError, read_setup};
+use lobby_workers::{Gate, Service, run_server};
+use mio::net::TcpListener;
+use std::net::{Net, SocketAddr};
+use std::rt::Files;
+use std::sync::Wait;
+use std::thread::Threads;
+use std::{fs, io};
+use thiserror::Error;
+
+/// Why no server starts.
+#[derive(Clone, Copy, PartialEq, Eq, Debug, Error)]
+pub enum ServeError {
+    /// The file of settings cannot be read, or is refused.
+    #[error("cannot use settings")]
+    Settings,
+    /// The file of accounts cannot be read, or is refused.
+    #[error("cannot use accounts")]
+    Accounts,
+    /// The address is not one at which this program can listen.
+    #[error("cannot listen")]
+    Listener,
+    /// Memory was refused.
+    #[error("no memory")]
+    Memory,
+}
+
+impl ServeError {
+    /// The exit status of the program.
+    pub fn status(self) -> u8 {
+        match self {
+            ServeError::Settings | ServeError::Accounts => 2,
+            ServeError::Listener => 3,
+            ServeError::Memory => 4,
+        }
+    }
+}
+
+/// The gate of the program: nobody looks at its workers.
+struct OpenGate;
+
+impl Gate for OpenGate {
+    fn before_take(&self, _worker: u64) {}
+
+    fn after_write(&self, _worker: u64, _bytes: &[u8]) {}
+
+    fn woken(&self, _worker: u64) {}
+}
+
+/// Reads a file whole. A file that cannot be read is this fault, but for want of memory.
+fn read_file<R: Files + AllocGlobal>(
+    rt: &R,
+    path: &str,
+    fault: ServeError,
+) -> Result<Vec<u8>, ServeError> {
+    match fs::read(rt, path) {
+        Ok(bytes) => Ok(bytes),
+        Err(error) if error.kind() == io::ErrorKind::OutOfMemory => Err(ServeError::Memory),
+        Err(_) => Err(fault),
+    }
+}
+
+fn settings_at<R: Files + AllocGlobal>(rt: &R, path: &str) -> Result<Setup, ServeError> {
+    let bytes = read_file(rt, path, ServeError::Settings)?;
+    match read_setup(rt.alloc(), &bytes) {
+        Ok(setup) => Ok(setup),
+        Err(SetupError::Unusable(_)) => Err(ServeError::Settings),
+        Err(SetupError::Memory) => Err(ServeError::Memory),
+    }
+}
+
+fn accounts_at<R: Files + AllocGlobal>(rt: &R, path: &str) -> Result<AccountBook, ServeError> {
+    let bytes = read_file(rt, path, ServeError::Accounts)?;
+    match AccountBook::from_toml(rt.alloc(), &bytes) {
+        Ok(accounts) => Ok(accounts),
+        Err(AccountsError::NotToml | AccountsError::BadField(_) | AccountsError::DuplicateName) => {
+            Err(ServeError::Accounts)
+        }
+        Err(AccountsError::Memory) => Err(ServeError::Memory),
+    }
+}
+
+/// Runs a server by its files, and gives the status that `run_server` says. The first fault in the order of
+/// settings, accounts and listener is the answer.
+pub fn serve<R>(rt: &R, settings: &str, accounts: &str) -> Result<u8, ServeError>
+where
+    R: Files + Input + Print + AllocGlobal + Threads + Wait + Net + Sync,
+{
+    let Setup {
+        settings,
+        address,
+        workers,
+        stop_at_input_end,
+    } = settings_at(rt, settings)?;
+    let service = Service {
+        settings,
+        accounts: accounts_at(rt, accounts)?,
+        workers,
+        stop_at_input_end,
+    };
+    let Ok(listener) = TcpListener::bind(rt, SocketAddr::V4(address)) else {
+        return Err(ServeError::Listener);
+    };
+    let mut input = rt.reader();
+    let mut output = io::writer(rt);
+    Ok(run_server(
+        rt,
+        rt.alloc(),
+        service,
+        listener,
+        &mut input,
+        &mut output,
+        &OpenGate,
+    ))
+}

@@ -1,0 +1,99 @@
+//! What the workers of a server share: where connections wait for them, and how they are woken.
+
+ghost use Rattle.std.specs.Prelude.{◌<◌};
+
+use crossbeam_queue::ArrayQueue;
+use lobby_machine::Wakes;
+use mio::Waker;
+use mio::net::TcpStream;
+use std::alloc::{AllocError, Global};
+use std::sync::Wait;
+use std::sync::atomic::{AtomicBool, Ordering};
+
+/// The most connections that wait in an inbox.
+const INBOX: usize = 256;
+
+/// More workers than there are in a set of woken ones.
+const MOST_WORKERS: usize = 64;
+
+/// An accepted connection on its way to its worker.
+#[derive(Drop)]
+pub struct Arrival {
+    pub stream: TcpStream,
+    /// Where it comes from.
+    pub ip: [u8; 4],
+}
+
+/// The workers of a server, by their numbers from 0. Each has an inbox for its connections, and a
+/// waker by which the others end its wait.
+#[derive(Drop)]
+pub struct Crew {
+    inboxes: Vec<ArrayQueue<Arrival>>,
+    wakers: Vec<Waker>,
+    stop: AtomicBool,
+}
+
+impl Crew {
+    /// No worker yet.
+    pub fn new(alloc: Global) -> Crew {
+        Crew {
+            inboxes: Vec::new(alloc),
+            wakers: Vec::new(alloc),
+            stop: AtomicBool::new(false),
+        }
+    }
+
+    /// The next worker joins: its waker. Fails only where memory is refused.
+    pub fn join(&mut self, alloc: Global, waker: Waker) -> Result<(), AllocError> {
+        self.inboxes.push(ArrayQueue::new(alloc, INBOX)?)?;
+        self.wakers.push(waker)?;
+        Ok(())
+    }
+
+    /// The worker of the connection before which so many were accepted.
+    fn place(&self, accepted: u64) -> usize {
+        match self.inboxes.len() as u64 {
+            0 => 0,
+            workers => (accepted % workers) as usize,
+        }
+    }
+
+    /// Puts the connection before which so many were accepted into its worker's inbox, and wakes the
+    /// worker. One that meets a full inbox is closed.
+    pub fn hand_over<R: Wait>(&self, rt: &R, accepted: u64, arrival: Arrival) {
+        let place = self.place(accepted);
+        if let Some(inbox) = self.inboxes.get(place)
+            && inbox.push(rt, arrival).is_ok()
+            && let Some(waker) = self.wakers.get(place)
+        {
+            let _ = waker.wake();
+        }
+    }
+
+    /// The connections that wait in a worker's inbox, one after another.
+    pub fn next_arrival<R: Wait>(&self, rt: &R, worker: u64) -> Option<Arrival> {
+        self.inboxes.get(worker as usize)?.pop(rt)
+    }
+
+    /// Wakes these workers.
+    pub fn wake(&self, wakes: Wakes) {
+        for (worker, waker) in self.wakers.iter().enumerate() {
+            if worker < MOST_WORKERS && wakes.has(worker as u8) {
+                let _ = waker.wake();
+            }
+        }
+    }
+
+    /// Tells all workers to end.
+    pub fn stop(&self) {
+        self.stop.store(true, Ordering::SeqCst);
+        for waker in &self.wakers {
+            let _ = waker.wake();
+        }
+    }
+
+    /// Whether all workers are to end.
+    pub fn is_stopped(&self) -> bool {
+        self.stop.load(Ordering::SeqCst)
+    }
+}

@@ -1,0 +1,308 @@
+//! The server: a lobby, its workers in threads of their own, and what ends them.
+
+ghost use Rattle.std.specs.Prelude.{◌≡◌, ◌≤◌, [], IfOk, vec_len, vec_capacity};
+ghost use Rattle.std.specs.List.{All};
+
+use crate::connections::Shared;
+use crate::crew::Crew;
+use crate::error::ServerError;
+use crate::gate::Gate;
+use crate::worker::{Station, run_worker};
+use account_book::AccountBook;
+use lobby_lock::{Desk, DeskError, Pass};
+use lobby_machine::Lobby;
+use lobby_model::Settings;
+use mio::net::TcpListener;
+use std::alloc::{AllocError, Global};
+use std::io::{ErrorKind, Read, Write};
+use std::net::Net;
+use std::snapshot::Snapshot;
+use std::sync::Wait;
+use std::thread::{self, Promise, PromisedHandle, Scope, Threads};
+
+/// What a server serves, and how.
+#[derive(Drop)]
+pub struct Service {
+    pub settings: Settings,
+    pub accounts: AccountBook,
+    /// How many threads serve clients, 1 to 64.
+    pub workers: u32,
+    /// Whether the server ends where its input does. Else it runs until it is killed.
+    pub stop_at_input_end: bool,
+}
+
+/// A worker before it starts.
+#[derive(Drop)]
+struct Seat {
+    station: Station,
+    pass: Pass,
+}
+
+/// That a worker's pass comes back as that worker's.
+#[derive(Drop)]
+struct SamePass(Snapshot<Pass>);
+
+impl Promise<Pass> for SamePass {
+    ghost use Rattle.std.specs.Prelude.{◌≡◌};
+
+    ghost kept_by = { λ p r. (r.desk ≡ p.0.value.desk) × (r.worker.number ≡ p.0.value.worker.number) };
+}
+
+type Handle = PromisedHandle<Pass, SamePass>;
+
+/// Runs a server on a listener, and gives the exit status of its program.
+///
+/// It makes what its workers need, prints `listening`, and starts them, each in a thread of its own.
+/// The status is 3 where a poll, a waker, a registration or a thread cannot be made, and 4 where
+/// memory is refused while starting; workers that had started are stopped. With `stop_at_input_end`
+/// the first thread reads the input to its end and then stops the workers: the status is 0, or 2
+/// where a read failed. A worker that is stopped shuts its clients, and its pass is taken back. A
+/// print that fails is ignored.
+pub fn run_server<R: Threads + Wait + Net + Sync, I: Read, O: Write, G: Gate + Sync>(
+    rt: &R,
+    alloc: Global,
+    service: Service,
+    listener: TcpListener,
+    input: &mut I,
+    output: &mut O,
+    gate: &G,
+) -> u8
+    requires { (1 ≤ service.workers) × (service.workers ≤ 64) }
+{
+    match serve_until_end(rt, alloc, service, listener, input, output, gate) {
+        Ok(()) => 0,
+        Err(error) => error.status(),
+    }
+}
+
+fn serve_until_end<R: Threads + Wait + Net + Sync, I: Read, O: Write, G: Gate + Sync>(
+    rt: &R,
+    alloc: Global,
+    service: Service,
+    listener: TcpListener,
+    input: &mut I,
+    output: &mut O,
+    gate: &G,
+) -> Result<(), ServerError> {
+    let Service {
+        settings,
+        accounts,
+        workers,
+        stop_at_input_end,
+    } = service;
+    let lobby = Lobby::new(alloc, settings, accounts)?;
+    let (desk, pass) = open_desk(rt, alloc, lobby)?;
+    let mut crew = Crew::new(alloc);
+    let first = new_station(rt, alloc, &mut crew, Some(listener))?;
+    let (pass, others) = seats(rt, alloc, &desk, pass, workers, &mut crew)?;
+    let first = Seat {
+        station: first,
+        pass,
+    };
+    let _ = output.write_all(b"listening\n");
+    let _ = output.flush();
+    let shared = Shared {
+        desk: &desk,
+        crew: &crew,
+        gate,
+    };
+    let input = if stop_at_input_end { Some(input) } else { None };
+    run_workers(rt, alloc, &shared, first, others, input)
+}
+
+fn open_desk<R: Wait>(
+    rt: &R,
+    alloc: Global,
+    lobby: Lobby,
+) -> Result<(Desk, Pass), ServerError>
+    ensures { IfOk result (λ r. (r.1.desk ≡ r.0) × (r.1.worker.number ≡ 0)) }
+{
+    match Desk::open(rt, alloc, lobby) {
+        Ok(opened) => Ok(opened),
+        Err(_) => Err(ServerError::Memory),
+    }
+}
+
+/// The station of the crew's next worker.
+fn new_station<R: Net>(
+    rt: &R,
+    alloc: Global,
+    crew: &mut Crew,
+    listener: Option<TcpListener>,
+) -> Result<Station, ServerError> {
+    match Station::new(rt, alloc, listener) {
+        Ok((station, waker)) => match crew.join(alloc, waker) {
+            Ok(()) => Ok(station),
+            Err(_) => Err(ServerError::Memory),
+        },
+        Err(error) => Err(error),
+    }
+}
+
+/// The seats of all workers but the first, whose pass comes back.
+fn seats<R: Net>(
+    rt: &R,
+    alloc: Global,
+    desk: &Desk,
+    pass: Pass,
+    workers: u32,
+    crew: &mut Crew,
+) -> Result<(Pass, Vec<Seat>), ServerError>
+    requires { (pass.desk ≡ desk.now) × (pass.worker.number ≡ 0) }
+    ensures { IfOk result (λ r. (r.0.desk ≡ desk.now) × (r.0.worker.number ≡ 0) × All (λ seat. seat.pass.desk ≡ desk.now) r.1.items) }
+{
+    let mut pass = pass;
+    let mut seats = Vec::new(alloc);
+    for _ in 1..workers {
+        let station = new_station(rt, alloc, crew, None)?;
+        let (mine, other) = hand_out(desk, alloc, pass)?;
+        pass = mine;
+        let seat = Seat {
+            station,
+            pass: other,
+        };
+        let Ok(()) = seats.push(seat) else {
+            return Err(ServerError::Memory);
+        };
+    }
+    Ok((pass, seats))
+}
+
+fn hand_out(desk: &Desk, alloc: Global, pass: Pass) -> Result<(Pass, Pass), ServerError>
+    requires { (pass.desk ≡ desk.now) × (pass.worker.number ≡ 0) }
+    ensures mine { IfOk result (λ r. (r.0.desk ≡ desk.now) × (r.0.worker.number ≡ 0)) }
+    ensures other { IfOk result (λ r. r.1.desk ≡ desk.now) }
+{
+    match desk.hand_out(alloc, pass) {
+        Ok(passes) => Ok(passes),
+        Err((_, DeskError::Memory)) => Err(ServerError::Memory),
+        // There are 64 workers at most.
+        Err((_, DeskError::TooManyWorkers)) => Err(ServerError::System),
+    }
+}
+
+/// Runs the workers until the input ends, where there is one.
+fn run_workers<R: Threads + Wait + Sync, I: Read, G: Gate + Sync>(
+    rt: &R,
+    alloc: Global,
+    shared: &Shared<'_, G>,
+    first: Seat,
+    others: Vec<Seat>,
+    input: Option<&mut I>,
+) -> Result<(), ServerError>
+    requires first { (first.pass.desk ≡ shared.now.desk.now) × (first.pass.worker.number ≡ 0) }
+    requires others { All (λ seat. seat.pass.desk ≡ shared.now.desk.now) others.items }
+{
+    let handles = Vec::with_capacity(alloc, others.len())?;
+    thread::scope(
+        thread::scope_env(),
+        rt,
+        move |scope| -> Result<(), ServerError>
+            requires { (first.pass.desk ≡ shared.now.desk.now) × (first.pass.worker.number ≡ 0) × All (λ seat. seat.pass.desk ≡ shared.now.desk.now) others.items × (handles.items ≡ []) × (vec_len others ≤ vec_capacity handles) }
+        { run_threads(scope, rt, shared, first, others, handles, input) },
+    )
+}
+
+/// Runs the workers in threads of a scope. There is room for the handles of all.
+fn run_threads<'s, 'e, R: Threads + Wait + Sync, I: Read, G: Gate + Sync>(
+    scope: &Scope<'s, &'e ()>,
+    rt: &'e R,
+    shared: &'e Shared<'e, G>,
+    first: Seat,
+    others: Vec<Seat>,
+    handles: Vec<Handle>,
+    input: Option<&mut I>,
+) -> Result<(), ServerError>
+    requires first { (first.pass.desk ≡ shared.now.desk.now) × (first.pass.worker.number ≡ 0) }
+    requires others { All (λ seat. seat.pass.desk ≡ shared.now.desk.now) others.items }
+    requires none { handles.items ≡ [] }
+    requires room { vec_len others ≤ vec_capacity handles }
+{
+    let first = start(scope, rt, shared, first)?;
+    let (handles, started) = start_all(scope, rt, shared, others, handles);
+    let ended = match (started, input) {
+        (Err(error), _) => Err(error),
+        (Ok(()), Some(input)) => read_to_end(input),
+        // The workers run until the program is killed.
+        (Ok(()), None) => {
+            take_back(rt, shared.desk, first, handles);
+            return Ok(());
+        }
+    };
+    shared.crew.stop();
+    take_back(rt, shared.desk, first, handles);
+    ended
+}
+
+/// Starts a worker's thread.
+fn start<'s, 'e, R: Wait + Sync, G: Gate + Sync>(
+    scope: &Scope<'s, &'e ()>,
+    rt: &'e R,
+    shared: &'e Shared<'e, G>,
+    seat: Seat,
+) -> Result<Handle, ServerError>
+    requires { seat.pass.desk ≡ shared.now.desk.now }
+    ensures desk { IfOk result (λ handle. handle.promise.0.value.desk ≡ shared.now.desk.now) }
+    ensures number { IfOk result (λ handle. handle.promise.0.value.worker.number ≡ seat.pass.worker.number) }
+{
+    let Seat { station, pass } = seat;
+    let promise = SamePass(Snapshot::of(&pass));
+    let work = move || -> Pass
+        requires { pass.desk ≡ shared.now.desk.now }
+        ensures { (result.desk ≡ pass.entry.desk) × (result.worker.number ≡ pass.entry.worker.number) }
+    { run_worker(rt, shared, station, pass) };
+    match scope.spawn_with(promise, work) {
+        Ok(handle) => Ok(handle),
+        Err(_) => Err(ServerError::System),
+    }
+}
+
+/// Starts the workers' threads one after another, up to the first that cannot be made.
+fn start_all<'s, 'e, R: Wait + Sync, G: Gate + Sync>(
+    scope: &Scope<'s, &'e ()>,
+    rt: &'e R,
+    shared: &'e Shared<'e, G>,
+    seats: Vec<Seat>,
+    handles: Vec<Handle>,
+) -> (Vec<Handle>, Result<(), ServerError>)
+    requires seats { All (λ seat. seat.pass.desk ≡ shared.now.desk.now) seats.items }
+    requires none { handles.items ≡ [] }
+    requires room { vec_len seats ≤ vec_capacity handles }
+    ensures { All (λ handle. handle.promise.0.value.desk ≡ shared.now.desk.now) result.0.items }
+{
+    let mut seats = seats;
+    let mut handles = handles;
+    while let Some(seat) = seats.pop() {
+        match start(scope, rt, shared, seat) {
+            Ok(handle) => handles.push_reserved(handle),
+            Err(error) => return (handles, Err(error)),
+        }
+    }
+    (handles, Ok(()))
+}
+
+/// Waits for all workers, and takes their passes back.
+fn take_back<R: Threads>(rt: &R, desk: &Desk, first: Handle, others: Vec<Handle>)
+    requires first { (first.promise.0.value.desk ≡ desk.now) × (first.promise.0.value.worker.number ≡ 0) }
+    requires others { All (λ handle. handle.promise.0.value.desk ≡ desk.now) others.items }
+{
+    let mut pass = first.join(rt);
+    let mut others = others;
+    while let Some(handle) = others.pop() {
+        pass = desk.take_back(pass, handle.join(rt));
+    }
+}
+
+/// Reads an input to its end.
+fn read_to_end<I: Read>(input: &mut I) -> Result<(), ServerError> {
+    let mut piece = [0u8; 4_096];
+    for _ in 0..u64::MAX {
+        match input.read(&mut piece) {
+            Ok(0) => return Ok(()),
+            Ok(_) => {}
+            Err(error) if error.kind() == ErrorKind::Interrupted => {}
+            Err(_) => return Err(ServerError::Input),
+        }
+    }
+    Err(ServerError::Input)
+}

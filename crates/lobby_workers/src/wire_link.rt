@@ -1,0 +1,181 @@
+//! The link over a socket that never waits.
+
+ghost use Rattle.std.specs.Prelude.{◌≡◌, ◌≤◌, ◌++◌, ℕ, length, take};
+ghost use Rattle.lobby_workers.specs.Gathered.{gathered};
+ghost use Rattle.lobby_workers.specs.Wire.{got_count, sent_count};
+
+use crate::conn::PIECE;
+use crate::link::{Got, Link, Sent};
+use http_server::Log;
+use mio::net::TcpStream;
+use mio::{Interest, Registry, Token};
+use std::io::{self, ErrorKind, Read, Write};
+
+/// So often a call that a signal broke off is tried before it counts as a failure.
+const TRIES: u32 = 16;
+
+/// Up to this many of each a link has room for a turn more, with each count a number of 64 bits.
+const LAST_FRESH: u64 = 18_446_744_073_709_551_583;
+
+/// The link over a socket that never waits. It tells proofs which bytes the system said that its calls
+/// moved; that takes no memory.
+#[derive(Drop)]
+pub struct WireLink {
+    stream: TcpStream,
+    reads: u64,
+    writes: u64,
+    failures: u64,
+    last_got: Option<Got>,
+    last_sent: Option<Sent>,
+    heard: Log<[u8; PIECE], usize>,
+    told: Log<[u8; PIECE], usize>,
+}
+
+impl WireLink {
+    /// The link over a socket on which it made no call.
+    pub fn new(stream: TcpStream) -> WireLink {
+        WireLink {
+            stream,
+            reads: 0,
+            writes: 0,
+            failures: 0,
+            last_got: None,
+            last_sent: None,
+            heard: Log::new(),
+            told: Log::new(),
+        }
+    }
+
+    /// Has a poll tell under this token when the socket has something to read, and when it takes bytes
+    /// again. Fails where the system refuses it.
+    pub fn register(&mut self, registry: &Registry, token: Token) -> io::Result<()> {
+        registry.register(
+            &mut self.stream,
+            token,
+            Interest::READABLE | Interest::WRITABLE,
+        )
+    }
+}
+
+fn try_read(stream: &mut TcpStream, into: &mut [u8]) -> Got
+    ensures { got_count result ≤ length into.old }
+{
+    for _ in 0..TRIES {
+        match stream.read(into) {
+            Ok(0) => return Got::End,
+            Ok(count) => return Got::Bytes(count),
+            Err(error) => match error.kind() {
+                ErrorKind::WouldBlock => return Got::Later,
+                ErrorKind::Interrupted => {}
+                _ => return Got::Fault,
+            },
+        }
+    }
+    Got::Fault
+}
+
+fn try_write(stream: &mut TcpStream, from: &[u8]) -> Sent
+    ensures { sent_count result ≤ length from.now }
+{
+    for _ in 0..TRIES {
+        match stream.write(from) {
+            Ok(count) => return Sent::Took(count),
+            Err(error) => match error.kind() {
+                ErrorKind::WouldBlock => return Sent::Later,
+                ErrorKind::Interrupted => {}
+                _ => return Sent::Fault,
+            },
+        }
+    }
+    Sent::Fault
+}
+
+/// Reads up to so many bytes. They stand at the front of the piece.
+fn read_piece(stream: &mut TcpStream, room: usize) -> (Got, [u8; PIECE])
+    requires { room ≤ PIECE }
+    ensures { got_count result.0 ≤ room }
+{
+    let mut piece = [0u8; PIECE];
+    let got = try_read(stream, &mut piece[..room]);
+    (got, piece)
+}
+
+/// A piece with so many of these bytes at its front.
+#[tactic(auto, using(crate::proofs::Logs::front_of))]
+fn fill_piece(from: &[u8], size: usize) -> [u8; PIECE]
+    requires room { size ≤ PIECE }
+    requires bytes { size ≤ length from.now }
+    ensures { (n : ℕ) → n ≤ size → take n result ≡ take n from.now }
+{
+    let mut piece = [0u8; PIECE];
+    piece[..size].copy_from_slice(&from[..size]);
+    piece
+}
+
+fn write_piece(stream: &mut TcpStream, piece: &[u8; PIECE], size: usize) -> Sent
+    requires { size ≤ PIECE }
+    ensures { sent_count result ≤ size }
+{
+    try_write(stream, &piece[..size])
+}
+
+/// The log with so many bytes more, which stand at the front of a piece.
+#[tactic(auto, using(crate::proofs::Logs::gathered_more))]
+fn note(
+    log: &Log<[u8; PIECE], usize>,
+    piece: &[u8; PIECE],
+    count: usize,
+) -> Log<[u8; PIECE], usize>
+    ensures { gathered result.items ≡ gathered log.now.items ++ take count piece.now }
+{
+    log.and(piece, &count)
+}
+
+impl Link for WireLink {
+    ghost use Rattle.std.specs.Prelude.{Some};
+    ghost use Rattle.lobby_workers.specs.Gathered.{gathered};
+
+    ghost wire = { λ l. record { reads = l.reads; writes = l.writes; failures = l.failures; heard = Some (gathered l.heard.items); told = Some (gathered l.told.items); last_got = l.last_got; last_sent = l.last_sent } };
+
+    #[tactic(auto, using(crate::proofs::Logs::copied))]
+    fn read(&mut self, into: &mut [u8]) -> Got {
+        self.reads += 1;
+        let (got, piece) = read_piece(&mut self.stream, into.len().min(PIECE));
+        match got {
+            Got::Bytes(count) => {
+                into[..count].copy_from_slice(&piece[..count]);
+                self.heard = note(&self.heard, &piece, count);
+            }
+            Got::Fault => self.failures += 1,
+            Got::Later | Got::End => {}
+        }
+        self.last_got = Some(got);
+        got
+    }
+
+    fn write(&mut self, from: &[u8]) -> Sent {
+        self.writes += 1;
+        let size = from.len().min(PIECE);
+        let piece = fill_piece(from, size);
+        let sent = write_piece(&mut self.stream, &piece, size);
+        match sent {
+            Sent::Took(count) => self.told = note(&self.told, &piece, count),
+            Sent::Fault => self.failures += 1,
+            Sent::Later => {}
+        }
+        self.last_sent = Some(sent);
+        sent
+    }
+
+    fn last_got(&self) -> Option<Got> {
+        self.last_got
+    }
+
+    fn last_sent(&self) -> Option<Sent> {
+        self.last_sent
+    }
+
+    fn fresh(&self) -> bool {
+        self.reads <= LAST_FRESH && self.writes <= LAST_FRESH && self.failures <= LAST_FRESH
+    }
+}

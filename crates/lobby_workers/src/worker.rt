@@ -1,0 +1,232 @@
+//! A worker: it waits for news of its connections, and gives turns to those that may have some.
+
+ghost use Rattle.std.specs.Prelude.{◌≡◌};
+
+use crate::connections::{Connections, Pause, Shared};
+use crate::crew::{Arrival, Crew};
+use crate::error::ServerError;
+use crate::gate::Gate;
+use lobby_lock::Pass;
+use mio::net::TcpListener;
+use mio::{Events, Interest, Poll, Token, Waker};
+use std::alloc::Global;
+use std::io::ErrorKind;
+use std::net::{Net, SocketAddr};
+use std::sync::Wait;
+
+/// The token of a worker's waker. Connections have the keys of their table, far below.
+const WAKER: Token = Token(usize::MAX);
+
+/// The token of the listener.
+const LISTENER: Token = Token(usize::MAX - 1);
+
+/// The most events that one poll tells.
+const EVENTS: usize = 1_024;
+
+/// The most connections that are accepted in a round, so that who waits to be accepted does not keep
+/// the worker from its connections.
+const ACCEPTS: u32 = 64;
+
+/// What a worker works with: its poll, its connections, and at one worker the listener.
+#[derive(Drop)]
+pub struct Station {
+    poll: Poll,
+    events: Events,
+    listener: Option<TcpListener>,
+    // how many connections were accepted
+    accepted: u64,
+    // whether to accept though the poll does not tell of the listener
+    goes_on: bool,
+    connections: Connections,
+}
+
+/// What a poll told of the waker and of the listener.
+#[derive(Clone, Copy)]
+struct News {
+    woken: bool,
+    called: bool,
+}
+
+impl Station {
+    /// A station with its waker. Fails where memory is refused, or the system makes no poll or waker
+    /// or does not register the listener.
+    pub fn new<R: Net>(
+        rt: &R,
+        alloc: Global,
+        listener: Option<TcpListener>,
+    ) -> Result<(Station, Waker), ServerError> {
+        let Ok(events) = Events::with_capacity(alloc, EVENTS) else {
+            return Err(ServerError::Memory);
+        };
+        let Ok(poll) = Poll::new(rt) else {
+            return Err(ServerError::System);
+        };
+        let Ok(waker) = Waker::new(poll.registry(), WAKER) else {
+            return Err(ServerError::System);
+        };
+        let mut listener = listener;
+        if let Some(listener) = &mut listener
+            && poll
+                .registry()
+                .register(listener, LISTENER, Interest::READABLE)
+                .is_err()
+        {
+            return Err(ServerError::System);
+        }
+        let station = Station {
+            poll,
+            events,
+            listener,
+            accepted: 0,
+            goes_on: false,
+            connections: Connections::new(alloc),
+        };
+        Ok((station, waker))
+    }
+
+    /// What the last poll told of the waker and of the listener.
+    fn news(&self) -> News {
+        let mut news = News {
+            woken: false,
+            called: false,
+        };
+        for event in &self.events {
+            news.woken |= event.token() == WAKER;
+            news.called |= event.token() == LISTENER;
+        }
+        news
+    }
+
+    /// Accepts connections and hands them over to their workers.
+    fn accept<R: Wait>(&mut self, rt: &R, crew: &Crew) {
+        let Some(listener) = &self.listener else {
+            return;
+        };
+        self.goes_on = true;
+        for _ in 0..ACCEPTS {
+            match listener.accept() {
+                Ok((stream, address)) => {
+                    let ip = ip_of(address);
+                    crew.hand_over(rt, self.accepted, Arrival { stream, ip });
+                    self.accepted = self.accepted.wrapping_add(1);
+                }
+                Err(error) => match error.kind() {
+                    ErrorKind::WouldBlock => {
+                        self.goes_on = false;
+                        return;
+                    }
+                    ErrorKind::Interrupted => {}
+                    _ => {
+                        self.connections.hurry(Pause::Short);
+                        return;
+                    }
+                },
+            }
+        }
+        self.connections.hurry(Pause::None);
+    }
+
+    /// Takes the connections out of the inbox.
+    fn look_into_inbox<R: Wait, G: Gate>(
+        &mut self,
+        rt: &R,
+        shared: &Shared<'_, G>,
+        pass: Pass,
+    ) -> Pass
+        requires { pass.desk ≡ shared.now.desk.now }
+        ensures desk { result.desk ≡ pass.desk }
+        ensures number { result.worker.number ≡ pass.worker.number }
+    {
+        let worker = pass.number();
+        let mut pass = pass;
+        for _ in 0..EVENTS {
+            let Some(arrival) = shared.crew.next_arrival(rt, worker) else {
+                return pass;
+            };
+            let registry = self.poll.registry();
+            pass = self.connections.adopt(rt, shared, pass, registry, arrival);
+        }
+        pass
+    }
+
+    /// Gives turns to those of whom the last poll told.
+    fn turn_ready<R: Wait, G: Gate>(
+        &mut self,
+        rt: &R,
+        shared: &Shared<'_, G>,
+        pass: Pass,
+    ) -> Pass
+        requires { pass.desk ≡ shared.now.desk.now }
+        ensures desk { result.desk ≡ pass.desk }
+        ensures number { result.worker.number ≡ pass.worker.number }
+    {
+        let mut pass = pass;
+        for event in &self.events {
+            pass = self.connections.turn(rt, shared, pass, event.token().0);
+        }
+        pass
+    }
+
+    /// Waits for news and goes round once.
+    fn go_round<R: Wait, G: Gate>(
+        &mut self,
+        rt: &R,
+        shared: &Shared<'_, G>,
+        pass: Pass,
+    ) -> Pass
+        requires { pass.desk ≡ shared.now.desk.now }
+        ensures desk { result.desk ≡ pass.desk }
+        ensures number { result.worker.number ≡ pass.worker.number }
+    {
+        let timeout = self.connections.pause().timeout();
+        let polled = self.poll.poll(&mut self.events, timeout);
+        let news = self.news();
+        if news.woken {
+            shared.gate.woken(pass.number());
+        }
+        self.connections.begin_round();
+        if polled.is_err() {
+            self.connections.hurry(Pause::Short);
+        }
+        if news.called || self.goes_on {
+            self.accept(rt, shared.crew);
+        }
+        if news.woken {
+            let pass = self.look_into_inbox(rt, shared, pass);
+            return self.connections.turn_each(rt, shared, pass);
+        }
+        let pass = self.connections.turn_left(rt, shared, pass);
+        self.turn_ready(rt, shared, pass)
+    }
+}
+
+/// The IPv4 address of a peer. A listener at an IPv4 address meets no other.
+fn ip_of(address: SocketAddr) -> [u8; 4] {
+    match address {
+        SocketAddr::V4(address) => address.ip().octets(),
+        SocketAddr::V6(_) => [0; 4],
+    }
+}
+
+/// Serves connections until the crew is told to stop, then shuts their clients, and gives the pass
+/// back. It waits for news, at the desk, and else nowhere.
+pub fn run_worker<R: Wait, G: Gate>(
+    rt: &R,
+    shared: &Shared<'_, G>,
+    station: Station,
+    pass: Pass,
+) -> Pass
+    requires { pass.desk ≡ shared.now.desk.now }
+    ensures desk { result.desk ≡ pass.desk }
+    ensures number { result.worker.number ≡ pass.worker.number }
+{
+    let mut station = station;
+    let mut pass = pass;
+    for _ in rt.forever() {
+        if shared.crew.is_stopped() {
+            break;
+        }
+        pass = station.go_round(rt, shared, pass);
+    }
+    station.connections.shut_all(rt, shared, pass)
+}

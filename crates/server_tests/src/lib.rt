@@ -1,0 +1,10 @@
+//! Tests of the server over sockets: clients of this machine connect to a server that runs in a thread of its own. They stand in a
+//! crate of their own, since a crate with tests is proved twice.
+#![tactic(auto)]
+
+#[cfg(test)]
+mod clients;
+#[cfg(test)]
+mod running;
+#[cfg(test)]
+mod server;

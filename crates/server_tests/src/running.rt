@@ -1,0 +1,149 @@
+//! A server that runs in a thread of its own, until the test ends its input.
+
+ghost use Rattle.std.specs.Prelude.{◌≡◌, ◌≤◌, IfOk};
+
+use crate::clients::LOOKS;
+use account_book::AccountBook;
+use line_words::TextBuf;
+use lobby_model::Settings;
+use lobby_workers::{Gate, Service, run_server};
+use mio::net::TcpListener;
+use std::alloc::Global;
+use std::io::{self, Read};
+use std::net::{IpAddr, Ipv4Addr, Net, SocketAddr};
+use std::sync::{Arc, Wait};
+use std::sync::atomic::{AtomicBool, Ordering};
+use std::test::Fail;
+use std::thread::{self, JoinHandle, Threads};
+use std::time::Duration;
+
+const ACCOUNTS: &[u8] = b"[[account]]
+name = \"Anna\"
+password = \"X03MO1qnZdYdgyfeuILPmQ==\"
+id = 1
+country = \"DE\"
+[[account]]
+name = \"Bert\"
+password = \"X03MO1qnZdYdgyfeuILPmQ==\"
+id = 2
+rank = 3
+";
+
+/// What a server says to whom it accepts.
+pub const GREETING: &[u8] = b"TASSERVER 0.38 * 8201 0\n";
+
+/// The port of this machine.
+pub fn loopback(port: u16) -> SocketAddr {
+    SocketAddr::new(IpAddr::V4(Ipv4Addr::new(127, 0, 0, 1)), port)
+}
+
+/// A service for Anna and Bert, with so many workers.
+pub fn service(alloc: Global, workers: u32) -> Result<Service, Fail>
+    ensures { IfOk result (λ service. service.workers ≡ workers) }
+{
+    let motd = [TextBuf::copy_of(alloc, b"Welcome")?];
+    let settings = Settings::new(alloc, b"0.38", b"*", 8201, 0, &motd, 4_194_304)?;
+    match AccountBook::from_toml(alloc, ACCOUNTS) {
+        Ok(accounts) => Ok(Service {
+            settings,
+            accounts,
+            workers,
+            stop_at_input_end: true,
+        }),
+        Err(error) => Err(Fail::from(error)),
+    }
+}
+
+/// An input that ends once its flag is set.
+#[derive(Drop)]
+struct UntilSet {
+    clock: HostRuntime,
+    flag: Arc<AtomicBool>,
+}
+
+impl Read for UntilSet {
+    fn read(&mut self, _into: &mut [u8]) -> io::Result<usize> {
+        for _ in 0..LOOKS {
+            if self.flag.load(Ordering::SeqCst) {
+                break;
+            }
+            thread::sleep(&self.clock, Duration::from_millis(1));
+        }
+        Ok(0)
+    }
+}
+
+/// A gate at which nobody stops.
+#[derive(Clone, Copy)]
+pub struct OpenGate;
+
+impl Gate for OpenGate {
+    fn before_take(&self, _worker: u64) {}
+
+    fn after_write(&self, _worker: u64, _bytes: &[u8]) {}
+
+    fn woken(&self, _worker: u64) {}
+}
+
+/// A server that runs.
+#[derive(Drop)]
+pub struct Running {
+    /// Where it listens.
+    pub address: SocketAddr,
+    flag: Arc<AtomicBool>,
+    thread: JoinHandle<u8>,
+}
+
+impl Running {
+    /// Starts a server for Anna and Bert, with so many workers that share a gate.
+    pub fn start<R, G>(
+        rt: R,
+        clock: HostRuntime,
+        workers: u32,
+        gate: Arc<G>,
+    ) -> Result<Running, Fail>
+    where
+        R: Threads + Wait + Net + Sync + Copy + Send + Drop + 'static,
+        G: Gate + Sync + Send + Drop + 'static,
+        requires { (1 ≤ workers) × (workers ≤ 64) }
+    {
+        let alloc = clock.alloc();
+        let listener = TcpListener::bind(&rt, loopback(0))?;
+        let address = listener.local_addr()?;
+        let flag = Arc::new(alloc, AtomicBool::new(false))?;
+        let theirs = flag.clone()?;
+        let service = service(alloc, workers)?;
+        let thread = thread::spawn(&rt, move || {
+            let mut input = UntilSet {
+                clock,
+                flag: theirs,
+            };
+            let mut output = Vec::new(alloc);
+            run_server(
+                &rt,
+                alloc,
+                service,
+                listener,
+                &mut input,
+                &mut output,
+                &*gate,
+            )
+        })?;
+        Ok(Running {
+            address,
+            flag,
+            thread,
+        })
+    }
+
+    /// Ends its input, and gives its status.
+    pub fn end<R: Threads>(self, rt: &R) -> u8 {
+        let Running {
+            address: _,
+            flag,
+            thread,
+        } = self;
+        flag.store(true, Ordering::SeqCst);
+        thread.join(rt)
+    }
+}
