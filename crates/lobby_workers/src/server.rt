@@ -238,23 +238,32 @@ fn run_threads<'s, 'e, R: Threads + Wait + Sync, I: Read, G: Gate + Sync>(
 fn start<'s, 'e, R: Wait + Sync, G: Gate + Sync>(
     scope: &Scope<'s, &'e ()>,
     rt: &'e R,
-    shared: &'e Shared<'e, G>,
+    shared: &Shared<'e, G>,
     seat: Seat,
 ) -> Result<Handle, ServerError>
     requires { seat.pass.desk ≡ shared.now.desk.now }
     ensures desk { IfOk result (λ handle. handle.promise.0.value.desk ≡ shared.now.desk.now) }
     ensures number { IfOk result (λ handle. handle.promise.0.value.worker.number ≡ seat.pass.worker.number) }
 {
-    let Seat { station, pass } = seat;
-    let promise = SamePass(Snapshot::of(&pass));
-    let work = move || -> Pass
-        requires { pass.desk ≡ shared.now.desk.now }
-        ensures { (result.desk ≡ pass.entry.desk) × (result.worker.number ≡ pass.entry.worker.number) }
-    { run_worker(rt, shared, station, pass) };
-    match scope.spawn_with(promise, work) {
+    let promise = SamePass(Snapshot::of(&seat.pass));
+    let desk = shared.desk;
+    let crew = shared.crew;
+    let gate = shared.gate;
+    match scope.spawn_with(promise, move || work(rt, desk, crew, gate, seat)) {
         Ok(handle) => Ok(handle),
         Err(_) => Err(ServerError::System),
     }
+}
+
+/// What a worker's thread does. It captures references and no `Shared`: of a captured struct that holds references nothing
+/// is known in a promise.
+fn work<R: Wait, G: Gate>(rt: &R, desk: &Desk, crew: &Crew, gate: &G, seat: Seat) -> Pass
+    requires { seat.pass.desk ≡ desk.now }
+    ensures desk { result.desk ≡ seat.pass.desk }
+    ensures number { result.worker.number ≡ seat.pass.worker.number }
+{
+    let Seat { station, pass } = seat;
+    run_worker(rt, &Shared { desk, crew, gate }, station, pass)
 }
 
 /// Starts the workers' threads one after another, up to the first that cannot be made.
