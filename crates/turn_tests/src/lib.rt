@@ -3,4 +3,6 @@
 #![tactic(auto)]
 
 #[cfg(test)]
+mod side_by_side;
+#[cfg(test)]
 mod turns;

@@ -1,4 +1,4 @@
-//! One worker, or two in threads of their own, and clients over links in memory.
+//! One worker and its client over a link in memory.
 
 ghost use Rattle.std.specs.Prelude.{◌≡◌};
 
@@ -12,11 +12,10 @@ use std::alloc::Global;
 use std::process::Abort;
 use std::sync::Wait;
 use std::test::*;
-use std::thread;
 
 const GREETING: &[u8] = b"TASSERVER 0.38 * 8201 0\n";
 
-const GREETING_AND_PONG: &[u8] = b"TASSERVER 0.38 * 8201 0\nPONG\n";
+pub(crate) const GREETING_AND_PONG: &[u8] = b"TASSERVER 0.38 * 8201 0\nPONG\n";
 
 // A gate that does nothing.
 #[derive(Drop)]
@@ -36,7 +35,7 @@ impl Gate for Open {
     }
 }
 
-fn new_lobby(alloc: Global) -> Result<Lobby, Fail> {
+pub(crate) fn new_lobby(alloc: Global) -> Result<Lobby, Fail> {
     let motd = [TextBuf::copy_of(alloc, b"Welcome")?];
     let settings = Settings::new(alloc, b"0.38", b"*", 8201, 0, &motd, 65_536)?;
     match AccountBook::from_toml(alloc, b"") {
@@ -45,14 +44,15 @@ fn new_lobby(alloc: Global) -> Result<Lobby, Fail> {
     }
 }
 
-// Opens a client and serves it over this link for so many turns, or until it was shut; and what its
-// last turn came to.
-fn serve_client<R: Wait>(
+// Opens a client and serves it over this link and past this gate for so many turns, or until it was
+// shut; and what its last turn came to.
+pub(crate) fn serve_client<R: Wait, L: Link, G: Gate>(
     rt: &R,
     alloc: Global,
     desk: &Desk,
     pass: Pass,
-    link: &mut MemoryLink,
+    link: &mut L,
+    gate: &G,
     turns: u64,
 ) -> (Pass, Option<Turn>)
     requires { pass.desk ≡ desk.now }
@@ -68,7 +68,7 @@ fn serve_client<R: Wait>(
         if !link.fresh() {
             return (pass, None);
         }
-        let (next, turn) = serve(rt, &mut conn, link, desk, pass, &Open);
+        let (next, turn) = serve(rt, &mut conn, link, desk, pass, gate);
         pass = next;
         last = Some(turn);
         if turn.state == TurnState::Closed {
@@ -92,7 +92,7 @@ fn check<R: Wait + Abort>(
         return Ok(());
     };
     let mut link = link;
-    let (_pass, turn) = serve_client(rt, alloc, &desk, pass, &mut link, turns);
+    let (_pass, turn) = serve_client(rt, alloc, &desk, pass, &mut link, &Open, turns);
     assert_eq!(rt; turn.map(|turn| turn.state), Some(state));
     assert_eq!(rt; link.output(), output);
     Ok(())
@@ -182,32 +182,4 @@ fn a_line_that_is_too_long_shuts_its_client(rt: HostRuntime) -> Result<(), Fail>
         TurnState::Closed,
         GREETING_AND_PONG,
     )
-}
-
-#[test]
-fn two_workers_serve_side_by_side(rt: HostRuntime) -> Result<(), Fail> {
-    let alloc = rt.alloc();
-    let Ok((desk, pass)) = Desk::open(&rt, alloc, new_lobby(alloc)?) else {
-        assert!(rt; false, "a desk was opened");
-        return Ok(());
-    };
-    let Ok((pass, other)) = desk.hand_out(alloc, pass) else {
-        assert!(rt; false, "a pass was handed out");
-        return Ok(());
-    };
-    let mut first = MemoryLink::new(alloc, Vec::from_slice(alloc, b"PING\n")?, 9, 100);
-    let mut second = MemoryLink::new(alloc, Vec::from_slice(alloc, b"PING\n")?, 9, 100);
-    let (run, shared, mine, theirs) = (&rt, &desk, &mut first, &mut second);
-    let _ended = thread::join(
-        run,
-        move || -> Pass
-            requires { pass.desk ≡ shared.now }
-        { serve_client(run, alloc, shared, pass, mine, 3).0 },
-        move || -> Pass
-            requires { other.desk ≡ shared.now }
-        { serve_client(run, alloc, shared, other, theirs, 3).0 },
-    );
-    assert_eq!(rt; first.output(), GREETING_AND_PONG);
-    assert_eq!(rt; second.output(), GREETING_AND_PONG);
-    Ok(())
 }
