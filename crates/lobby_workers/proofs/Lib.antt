@@ -10,3 +10,4 @@ pub mod Turns
 pub mod Moves
 pub mod Logs
 pub mod Kept
+pub mod Seats

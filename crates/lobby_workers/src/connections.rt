@@ -246,12 +246,7 @@ impl Connections {
 
     /// Shuts the clients of all connections and closes these. A client whose shut is refused memory
     /// is left out.
-    pub fn shut_all<R: Wait, G: Gate>(
-        &mut self,
-        rt: &R,
-        shared: &Shared<'_, G>,
-        pass: Pass,
-    ) -> Pass
+    pub fn shut_all<R: Wait, G: Gate>(&mut self, rt: &R, shared: &Shared<'_, G>, pass: Pass) -> Pass
         requires { pass.desk ≡ shared.now.desk.now }
         ensures desk { result.desk ≡ pass.desk }
         ensures number { result.worker.number ≡ pass.worker.number }
@@ -306,12 +301,7 @@ fn serve_or_shut<R: Wait, G: Gate>(
 }
 
 /// Shuts the client of a connection.
-fn shut<R: Wait, G: Gate>(
-    rt: &R,
-    shared: &Shared<'_, G>,
-    pass: Pass,
-    conn: &Conn,
-) -> (Pass, Turn)
+fn shut<R: Wait, G: Gate>(rt: &R, shared: &Shared<'_, G>, pass: Pass, conn: &Conn) -> (Pass, Turn)
     requires { pass.desk ≡ shared.now.desk.now }
     ensures { (result.0.desk ≡ pass.desk) × (result.0.worker.number ≡ pass.worker.number) }
 {

@@ -110,11 +110,7 @@ fn serve_until_end<R: Threads + Wait + Net + Sync, I: Read, O: Write, G: Gate + 
     run_workers(rt, alloc, &shared, first, others, input)
 }
 
-fn open_desk<R: Wait>(
-    rt: &R,
-    alloc: Global,
-    lobby: Lobby,
-) -> Result<(Desk, Pass), ServerError>
+fn open_desk<R: Wait>(rt: &R, alloc: Global, lobby: Lobby) -> Result<(Desk, Pass), ServerError>
     ensures { IfOk result (λ r. (r.1.desk ≡ r.0) × (r.1.worker.number ≡ 0)) }
 {
     match Desk::open(rt, alloc, lobby) {

@@ -121,11 +121,7 @@ fn write_piece(stream: &mut TcpStream, piece: &[u8; PIECE], size: usize) -> Sent
 
 /// The log with so many bytes more, which stand at the front of a piece.
 #[tactic(auto, using(crate::proofs::Logs::gathered_more))]
-fn note(
-    log: &Log<[u8; PIECE], usize>,
-    piece: &[u8; PIECE],
-    count: usize,
-) -> Log<[u8; PIECE], usize>
+fn note(log: &Log<[u8; PIECE], usize>, piece: &[u8; PIECE], count: usize) -> Log<[u8; PIECE], usize>
     ensures { gathered result.items ≡ gathered log.now.items ++ take count piece.now }
 {
     log.and(piece, &count)

@@ -150,12 +150,7 @@ impl Station {
     }
 
     /// Gives turns to those of whom the last poll told.
-    fn turn_ready<R: Wait, G: Gate>(
-        &mut self,
-        rt: &R,
-        shared: &Shared<'_, G>,
-        pass: Pass,
-    ) -> Pass
+    fn turn_ready<R: Wait, G: Gate>(&mut self, rt: &R, shared: &Shared<'_, G>, pass: Pass) -> Pass
         requires { pass.desk ≡ shared.now.desk.now }
         ensures desk { result.desk ≡ pass.desk }
         ensures number { result.worker.number ≡ pass.worker.number }
@@ -168,12 +163,7 @@ impl Station {
     }
 
     /// Waits for news and goes round once.
-    fn go_round<R: Wait, G: Gate>(
-        &mut self,
-        rt: &R,
-        shared: &Shared<'_, G>,
-        pass: Pass,
-    ) -> Pass
+    fn go_round<R: Wait, G: Gate>(&mut self, rt: &R, shared: &Shared<'_, G>, pass: Pass) -> Pass
         requires { pass.desk ≡ shared.now.desk.now }
         ensures desk { result.desk ≡ pass.desk }
         ensures number { result.worker.number ≡ pass.worker.number }
