@@ -2,12 +2,15 @@
 
 use mio::net::TcpStream;
 use std::io::{self, Read, Write};
-use std::net::{Net, SocketAddr};
+use std::net::{Net, Shutdown, SocketAddr};
 use std::thread;
 use std::time::{Clock, Duration};
 
 /// So often a client or a gate looks for what it waits for, with a sleep of a millisecond after each look.
 pub const LOOKS: u32 = 10_000;
+
+/// The most bytes that a client reads at once.
+const PIECE: usize = 4_096;
 
 /// What one turn at the socket came to.
 #[derive(Clone, Copy, PartialEq, Eq, Debug)]
@@ -15,9 +18,10 @@ enum Moved {
     Some(usize),
     Nothing,
     Ended,
+    Broken,
 }
 
-fn moved(counted: io::Result<usize>) -> Moved {
+fn outcome(counted: io::Result<usize>) -> Moved {
     match counted {
         Ok(0) => Moved::Ended,
         Ok(count) => Moved::Some(count),
@@ -25,7 +29,7 @@ fn moved(counted: io::Result<usize>) -> Moved {
             io::ErrorKind::WouldBlock
             | io::ErrorKind::Interrupted
             | io::ErrorKind::NotConnected => Moved::Nothing,
-            _ => Moved::Ended,
+            _ => Moved::Broken,
         },
     }
 }
@@ -43,20 +47,17 @@ impl Client {
         Ok(Client { stream })
     }
 
-    /// Sends bytes, as many as the socket takes, and gives how many.
-    pub fn send_some(&mut self, bytes: &[u8]) -> usize {
-        match moved(self.stream.write(bytes)) {
-            Moved::Some(count) => count,
-            Moved::Nothing | Moved::Ended => 0,
-        }
-    }
-
-    /// Whether all these bytes can be sent at once, within so many looks.
+    /// Whether these bytes can be sent, within so many looks. Nothing is read meanwhile.
     pub fn send<C: Clock>(&mut self, clock: &C, bytes: &[u8]) -> bool {
+        let mut rest = bytes;
         for _ in 0..LOOKS {
-            match self.send_some(bytes) {
-                0 => thread::sleep(clock, Duration::from_millis(1)),
-                count => return count == bytes.len(),
+            if rest.is_empty() {
+                return true;
+            }
+            match outcome(self.stream.write(rest)) {
+                Moved::Some(count) => rest = rest.get(count..).unwrap_or(&[]),
+                Moved::Nothing => thread::sleep(clock, Duration::from_millis(1)),
+                Moved::Ended | Moved::Broken => return false,
             }
         }
         false
@@ -65,13 +66,13 @@ impl Client {
     /// Whether exactly these bytes come, within so many looks.
     pub fn reads<C: Clock>(&mut self, clock: &C, want: &[u8]) -> bool {
         let mut rest = want;
-        let mut piece = [0u8; 256];
+        let mut piece = [0u8; PIECE];
         for _ in 0..LOOKS {
             if rest.is_empty() {
                 return true;
             }
-            let room = rest.len().min(piece.len());
-            match moved(self.stream.read(&mut piece[..room])) {
+            let room = rest.len().min(PIECE);
+            match outcome(self.stream.read(&mut piece[..room])) {
                 Moved::Some(count) => {
                     if rest.get(..count) != piece.get(..count) {
                         return false;
@@ -79,82 +80,53 @@ impl Client {
                     rest = rest.get(count..).unwrap_or(&[]);
                 }
                 Moved::Nothing => thread::sleep(clock, Duration::from_millis(1)),
-                Moved::Ended => return false,
+                Moved::Ended | Moved::Broken => return false,
             }
         }
         false
     }
 
-    /// Whether the connection ends, whatever comes before, within so many looks.
-    pub fn ends<C: Clock>(&mut self, clock: &C) -> bool {
-        let mut piece = [0u8; 256];
-        for _ in 0..LOOKS {
-            match moved(self.stream.read(&mut piece)) {
-                Moved::Some(_) => {}
-                Moved::Nothing => thread::sleep(clock, Duration::from_millis(1)),
-                Moved::Ended => return true,
-            }
-        }
-        false
-    }
-
-    /// Sends a line so many times while it reads its answer as often. Whether just these came, each within so many looks.
-    pub fn asks<C: Clock>(&mut self, clock: &C, line: &[u8], answer: &[u8], times: usize) -> bool {
-        let (to_send, to_read) = (
-            line.len().saturating_mul(times),
-            answer.len().saturating_mul(times),
-        );
-        let (mut sent, mut read, mut vain) = (0usize, 0usize, 0u32);
-        let mut piece = [0u8; 4_096];
-        for _ in 0..u64::MAX {
-            if read == to_read {
-                return true;
-            }
-            let before = sent.saturating_add(read);
-            if sent < to_send {
-                sent = sent.saturating_add(self.send_some(part(line, sent)));
-            }
-            match moved(self.stream.read(&mut piece)) {
-                Moved::Some(count) => {
-                    if !continues(answer, read, &piece, count) {
-                        return false;
-                    }
-                    read = read.saturating_add(count);
-                }
-                Moved::Nothing => {}
-                Moved::Ended => return false,
-            }
-            if before < sent.saturating_add(read) {
-                vain = 0;
-            } else if vain < LOOKS {
-                vain += 1;
-                thread::sleep(clock, Duration::from_millis(1));
-            } else {
+    /// Whether these bytes can be sent so many times over. Nothing is read meanwhile.
+    pub fn send_times<C: Clock>(&mut self, clock: &C, bytes: &[u8], times: usize) -> bool {
+        for _ in 0..times {
+            if !self.send(clock, bytes) {
                 return false;
             }
         }
-        false
+        true
     }
-}
 
-/// What is left of the line in which this byte stands, where lines follow one another.
-fn part(line: &[u8], sent: usize) -> &[u8] {
-    if line.is_empty() {
-        return line;
-    }
-    line.get(sent % line.len()..).unwrap_or(&[])
-}
-
-/// Whether so many bytes of a piece go on from this place, where answers follow one another.
-fn continues(answer: &[u8], from: usize, piece: &[u8], count: usize) -> bool {
-    if answer.is_empty() {
-        return false;
-    }
-    for k in 0..count {
-        let place = from.wrapping_add(k) % answer.len();
-        if answer.get(place) != piece.get(k) {
-            return false;
+    /// Whether exactly these bytes come, so many times over.
+    pub fn reads_times<C: Clock>(&mut self, clock: &C, want: &[u8], times: usize) -> bool {
+        for _ in 0..times {
+            if !self.reads(clock, want) {
+                return false;
+            }
         }
+        true
     }
-    true
+
+    /// Ends what is sent, and goes on reading. Whether the system allowed it.
+    pub fn finish(&mut self) -> bool {
+        self.stream.shutdown(Shutdown::Write).is_ok()
+    }
+
+    /// How many bytes come before the other side closes the connection. None where it does not within so
+    /// many looks, or where the connection breaks.
+    pub fn ends<C: Clock>(&mut self, clock: &C) -> Option<usize> {
+        let mut count = 0usize;
+        let mut piece = [0u8; PIECE];
+        for _ in 0..LOOKS {
+            match outcome(self.stream.read(&mut piece)) {
+                Moved::Some(more) => count = count.saturating_add(more),
+                Moved::Nothing => thread::sleep(clock, Duration::from_millis(1)),
+                Moved::Ended => return Some(count),
+                Moved::Broken => return None,
+            }
+        }
+        None
+    }
+
+    /// Breaks the connection off. What came and was not read makes the system send a reset and no end.
+    pub fn break_off(self) {}
 }

@@ -5,6 +5,10 @@
 #[cfg(test)]
 mod clients;
 #[cfg(test)]
+mod gates;
+#[cfg(test)]
 mod running;
 #[cfg(test)]
 mod server;
+#[cfg(test)]
+mod workers;

@@ -73,18 +73,6 @@ impl Read for UntilSet {
     }
 }
 
-/// A gate at which nobody stops.
-#[derive(Clone, Copy)]
-pub struct OpenGate;
-
-impl Gate for OpenGate {
-    fn before_take(&self, _worker: u64) {}
-
-    fn after_write(&self, _worker: u64, _bytes: &[u8]) {}
-
-    fn woken(&self, _worker: u64) {}
-}
-
 /// A server that runs.
 #[derive(Drop)]
 pub struct Running {
