@@ -26,9 +26,8 @@ fn outcome(counted: io::Result<usize>) -> Moved {
         Ok(0) => Moved::Ended,
         Ok(count) => Moved::Some(count),
         Err(error) => match error.kind() {
-            io::ErrorKind::WouldBlock
-            | io::ErrorKind::Interrupted
-            | io::ErrorKind::NotConnected => Moved::Nothing,
+            io::ErrorKind::WouldBlock | io::ErrorKind::Interrupted | io::ErrorKind::NotConnected =>
+                Moved::Nothing,
             _ => Moved::Broken,
         },
     }

@@ -2,7 +2,6 @@
 
 ghost use Rattle.std.specs.Prelude.{◌≡◌, ◌≤◌, IfOk};
 
-use crate::clients::LOOKS;
 use account_book::AccountBook;
 use line_words::TextBuf;
 use lobby_model::Settings;
@@ -11,8 +10,8 @@ use mio::net::TcpListener;
 use std::alloc::Global;
 use std::io::{self, Read};
 use std::net::{IpAddr, Ipv4Addr, Net, SocketAddr};
-use std::sync::{Arc, Wait};
 use std::sync::atomic::{AtomicBool, Ordering};
+use std::sync::{Arc, Wait};
 use std::test::Fail;
 use std::thread::{self, JoinHandle, Threads};
 use std::time::Duration;
@@ -31,6 +30,30 @@ rank = 3
 
 /// What a server says to whom it accepts.
 pub const GREETING: &[u8] = b"TASSERVER 0.38 * 8201 0\n";
+
+/// What a client says that logs in as Anna.
+pub const ANNA_LOGS_IN: &[u8] = b"LOGIN Anna X03MO1qnZdYdgyfeuILPmQ== 0 * TestLobby 1.0\n";
+
+/// What a client says that logs in as Bert.
+pub const BERT_LOGS_IN: &[u8] = b"LOGIN Bert X03MO1qnZdYdgyfeuILPmQ== 0 * TestLobby 1.0\n";
+
+/// What Anna sees of her login, where nobody else is there.
+pub const ANNA_IS_IN: &[u8] = b"ACCEPTED Anna\nMOTD Welcome\nADDUSER Anna DE 0 1\nLOGININFOEND\n";
+
+/// What Anna is told of Bert's login.
+pub const BERT_COMES: &[u8] = b"ADDUSER Bert ?? 0 2\nCLIENTSTATUS Bert 12\n";
+
+/// What Bert sees of his login, where Anna is there.
+pub const BERT_IS_IN: &[u8] = b"ACCEPTED Bert
+MOTD Welcome
+ADDUSER Anna DE 0 1
+ADDUSER Bert ?? 0 2
+CLIENTSTATUS Bert 12
+LOGININFOEND
+";
+
+/// So often an input looks whether it is to end: for longer than any test takes.
+const INPUT_LOOKS: u32 = 50_000;
 
 /// The port of this machine.
 pub fn loopback(port: u16) -> SocketAddr {
@@ -54,7 +77,7 @@ pub fn service(alloc: Global, workers: u32) -> Result<Service, Fail>
     }
 }
 
-/// An input that ends once its flag is set.
+/// An input that ends once its flag is set. One whose flag is never set fails, so that no test passes because its server ended by itself.
 #[derive(Drop)]
 struct UntilSet {
     clock: HostRuntime,
@@ -63,13 +86,13 @@ struct UntilSet {
 
 impl Read for UntilSet {
     fn read(&mut self, _into: &mut [u8]) -> io::Result<usize> {
-        for _ in 0..LOOKS {
+        for _ in 0..INPUT_LOOKS {
             if self.flag.load(Ordering::SeqCst) {
-                break;
+                return Ok(0);
             }
             thread::sleep(&self.clock, Duration::from_millis(1));
         }
-        Ok(0)
+        Err(io::Error::from(io::ErrorKind::Other))
     }
 }
 

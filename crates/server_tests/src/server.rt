@@ -2,7 +2,10 @@
 
 use crate::clients::Client;
 use crate::gates::OpenGate;
-use crate::running::{GREETING, Running, loopback, service};
+use crate::running::{
+    ANNA_IS_IN, ANNA_LOGS_IN, BERT_COMES, BERT_IS_IN, BERT_LOGS_IN, GREETING, Running, loopback,
+    service,
+};
 use lobby_workers::run_server;
 use mio::net::TcpListener;
 use std::alloc::{AllocError, Global};
@@ -69,6 +72,14 @@ fn times_over(alloc: Global, text: &[u8], times: usize) -> Result<Vec<u8>, Alloc
     Ok(all)
 }
 
+/// A line of these two parts.
+fn talk(alloc: Global, front: &[u8], text: &[u8]) -> Result<Vec<u8>, AllocError> {
+    let mut line = Vec::from_slice(alloc, front)?;
+    line.extend_from_slice(text)?;
+    line.push(b'\n')?;
+    Ok(line)
+}
+
 /// Far more lines than a turn takes, which the client sends before it reads.
 #[test]
 fn a_burst_is_answered_whole(rt: HostRuntime) -> Result<(), Fail> {
@@ -87,29 +98,38 @@ fn a_burst_is_answered_whole(rt: HostRuntime) -> Result<(), Fail> {
     Ok(())
 }
 
-/// Longer lines than a turn reads, and more answers than it writes and than the system keeps for a client that does not read.
+/// Longer lines than a turn reads, more answers than it writes, and more than most systems keep for a client that does not read: Anna
+/// reads once Bert was told all.
 #[test]
 fn a_client_that_reads_late_gets_all(rt: HostRuntime) -> Result<(), Fail> {
     let server = Running::start(rt, rt, 1, Arc::new(rt.alloc(), OpenGate)?)?;
     let mut anna = Client::connect(&rt, server.address)?;
-    assert!(rt; anna.reads(&rt, GREETING));
-    let login = b"LOGIN Anna X03MO1qnZdYdgyfeuILPmQ== 0 * TestLobby 1.0\n";
-    assert!(rt; anna.send(&rt, login));
-    let seen = b"ACCEPTED Anna\nMOTD Welcome\nADDUSER Anna DE 0 1\nLOGININFOEND\n";
-    assert!(rt; anna.reads(&rt, seen));
+    assert!(rt; anna.reads(&rt, GREETING) && anna.send(&rt, ANNA_LOGS_IN));
+    assert!(rt; anna.reads(&rt, ANNA_IS_IN));
+    let mut bert = Client::connect(&rt, server.address)?;
+    assert!(rt; bert.reads(&rt, GREETING) && bert.send(&rt, BERT_LOGS_IN));
+    assert!(rt; bert.reads(&rt, BERT_IS_IN) && anna.reads(&rt, BERT_COMES));
     let text = times_over(rt.alloc(), b"0123456789abcdef", 250)?;
-    let mut line = Vec::from_slice(rt.alloc(), b"SAYPRIVATE Anna ")?;
-    line.extend_from_slice(&text)?;
-    line.extend_from_slice(b"\n")?;
-    // To oneself both lines come.
-    let mut answer = Vec::from_slice(rt.alloc(), &line)?;
-    answer.extend_from_slice(b"SAIDPRIVATE Anna ")?;
-    answer.extend_from_slice(&text)?;
-    answer.extend_from_slice(b"\n")?;
-    assert!(rt; anna.send_times(&rt, &line, 500));
-    assert!(rt; anna.reads_times(&rt, &answer, 500), "all are told");
+    let line = talk(rt.alloc(), b"SAYPRIVATE Anna ", &text)?;
+    let echo = talk(rt.alloc(), b"SAIDPRIVATE Anna ", &text)?;
+    for _ in 0..5 {
+        assert!(rt; anna.send_times(&rt, &line, 100));
+        assert!(rt; anna.send(&rt, b"SAYPRIVATE Bert on\n"));
+    }
+    assert!(rt;
+        bert.reads_times(&rt, b"SAIDPRIVATE Anna on\n", 5),
+        "Bert is told"
+    );
+    for _ in 0..5 {
+        for _ in 0..100 {
+            assert!(rt;
+                anna.reads(&rt, &line) && anna.reads(&rt, &echo),
+                "Anna is told"
+            );
+        }
+        assert!(rt; anna.reads(&rt, b"SAYPRIVATE Bert on\n"));
+    }
     assert_eq!(rt; server.end(&rt), 0);
-    assert_eq!(rt; anna.ends(&rt), Some(0));
     Ok(())
 }
 

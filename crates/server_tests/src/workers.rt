@@ -2,19 +2,9 @@
 
 use crate::clients::Client;
 use crate::gates::{Greeters, Meeting, OpenGate, Stop};
-use crate::running::{GREETING, Running};
+use crate::running::{ANNA_IS_IN, ANNA_LOGS_IN, BERT_COMES, BERT_LOGS_IN, GREETING, Running};
 use std::sync::Arc;
 use std::test::Fail;
-
-const ANNA_LOGS_IN: &[u8] = b"LOGIN Anna X03MO1qnZdYdgyfeuILPmQ== 0 * TestLobby 1.0\n";
-
-const BERT_LOGS_IN: &[u8] = b"LOGIN Bert X03MO1qnZdYdgyfeuILPmQ== 0 * TestLobby 1.0\n";
-
-/// What Anna sees of her login, where nobody else is there.
-const ANNA_IS_IN: &[u8] = b"ACCEPTED Anna\nMOTD Welcome\nADDUSER Anna DE 0 1\nLOGININFOEND\n";
-
-/// What Anna is told of Bert's login.
-const BERT_COMES: &[u8] = b"ADDUSER Bert ?? 0 2\nCLIENTSTATUS Bert 12\n";
 
 #[test]
 fn two_workers_serve_two_clients(rt: HostRuntime) -> Result<(), Fail> {
@@ -35,7 +25,10 @@ fn two_workers_serve_two_clients(rt: HostRuntime) -> Result<(), Fail> {
     assert!(rt; bert.send(&rt, BERT_LOGS_IN));
     assert!(rt; anna.reads(&rt, BERT_COMES), "Anna is told of Bert");
     assert_eq!(rt; server.end(&rt), 0);
-    assert!(rt; anna.ends(&rt).is_some(), "the server closes its connections");
+    assert!(rt;
+        anna.ends(&rt).is_some(),
+        "the server closes its connections"
+    );
     Ok(())
 }
 
@@ -87,7 +80,7 @@ fn a_reset_in_mid_line_logs_out_its_own_user_alone(rt: HostRuntime) -> Result<()
         assert!(rt; bert.reads(&rt, GREETING) && bert.send(&rt, BERT_LOGS_IN));
         assert!(rt; bert.reads(&rt, b"ACCEPTED Bert\n"), "the name is free");
         assert!(rt; anna.reads(&rt, BERT_COMES));
-        assert!(rt; bert.send(&rt, b"PING\nSAYPRIVATE Anna hal"));
+        assert!(rt; bert.send(&rt, b"SAYPRIVATE Anna hal"));
         bert.break_off();
         assert!(rt; anna.reads(&rt, b"REMOVEUSER Bert\n"), "Bert is out");
         assert!(rt; anna.send(&rt, b"#7 PING\n"));
