@@ -56,12 +56,15 @@ where
     };
     words.next();
     let (command, settings, accounts) = (words.next(), words.next(), words.next());
+    let Some(command) = command else {
+        return fail(rt, USAGE, 1);
+    };
     if words.next().is_some() {
         return fail(rt, USAGE, 1);
     }
-    match (command, settings, accounts) {
-        (Some(command), None, None) if command.as_str() == "hash" => print_word(rt),
-        (Some(command), Some(settings), Some(accounts)) if command.as_str() == "serve" => {
+    match (command.as_str(), &settings, &accounts) {
+        ("hash", None, None) => print_word(rt),
+        ("serve", Some(settings), Some(accounts)) => {
             run_server(rt, settings.as_str(), accounts.as_str())
         }
         _ => fail(rt, USAGE, 1),

@@ -1,5 +1,7 @@
 //! The command `serve`: a server by a file of settings and a file of accounts.
 
+ghost use Rattle.std.specs.Prelude.{◌≤◌, IfOk};
+
 use account_book::{AccountBook, AccountsError};
 use lobby_setup::{Setup, SetupError, read_setup};
 use lobby_workers::{Gate, Service, run_server};
@@ -63,7 +65,9 @@ fn read_file<R: Files + AllocGlobal>(
     }
 }
 
-fn settings_at<R: Files + AllocGlobal>(rt: &R, path: &str) -> Result<Setup, ServeError> {
+fn settings_at<R: Files + AllocGlobal>(rt: &R, path: &str) -> Result<Setup, ServeError>
+    ensures { IfOk result (λ setup. (1 ≤ setup.workers) × (setup.workers ≤ 64)) }
+{
     let bytes = read_file(rt, path, ServeError::Settings)?;
     match read_setup(rt.alloc(), &bytes) {
         Ok(setup) => Ok(setup),
