@@ -1,7 +1,7 @@
 #!/usr/bin/env bash
 # run.sh PROGRAM ARGUMENT.. : runs the program that `make build` proved and built, in bin/, where no source is newer.
-# Otherwise it builds one on the spot, in about half a minute, without any proof, and says so. Such a build shows at most
-# 1 MiB, and runs for at most a minute, a server for at most an hour and without an input.
+# Otherwise it builds one on the spot, in a minute or two, without any proof, and says so. Such a build shows at most
+# 1 MiB, when it has ended, and runs for at most a minute, a server for at most an hour and without an input.
 set -euo pipefail
 root=$(cd "$(dirname "$0")/.." && pwd)
 name=$1
@@ -11,7 +11,7 @@ if [ -x "$program" ] && [ -z "$(find "$root/crates.txt" "$root/crates" \( -name 
     \( -name '*.rt' -o -name '*.antt' -o -name crates.txt \) -newer "$program" -print -quit)" ]; then
     exec "$program" "$@"
 fi
-echo "$name: this build is not the proved one, which 'make build' makes; it takes about half a minute" >&2
+echo "$name: this build is not the proved one, which 'make build' makes; it takes a minute or two" >&2
 room=$(mktemp -d)
 trap 'rm -rf "$room"' EXIT
 # rt try reads no terminal, and does not wait for a pipe: the input is taken first, of a terminal one line.
@@ -19,6 +19,7 @@ limit=()
 if [ "${1:-}" = serve ]; then
     : > "$room/input"
     limit=(--seconds 3600)
+    echo "$name: the server does not say when it listens; it serves for an hour, or until Ctrl-C" >&2
 elif [ -t 0 ]; then
     head -n 1 > "$room/input"
 else

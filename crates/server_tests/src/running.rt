@@ -65,7 +65,7 @@ pub fn service(alloc: Global, workers: u32) -> Result<Service, Fail>
     ensures { IfOk result (λ service. service.workers ≡ workers) }
 {
     let motd = [TextBuf::copy_of(alloc, b"Welcome")?];
-    let settings = Settings::new(alloc, b"0.38", b"*", 8201, 0, &motd, 4_194_304)?;
+    let settings = Settings::new(alloc, b"0.38", b"*", 8201, 0, &motd, 8_388_608)?;
     match AccountBook::from_toml(alloc, ACCOUNTS) {
         Ok(accounts) => Ok(Service {
             settings,

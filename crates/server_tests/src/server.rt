@@ -112,15 +112,15 @@ fn a_client_that_reads_late_gets_all(rt: HostRuntime) -> Result<(), Fail> {
     let text = times_over(rt.alloc(), b"0123456789abcdef", 250)?;
     let line = talk(rt.alloc(), b"SAYPRIVATE Anna ", &text)?;
     let echo = talk(rt.alloc(), b"SAIDPRIVATE Anna ", &text)?;
-    for _ in 0..5 {
+    for _ in 0..7 {
         assert!(rt; anna.send_times(&rt, &line, 100));
         assert!(rt; anna.send(&rt, b"SAYPRIVATE Bert on\n"));
     }
     assert!(rt;
-        bert.reads_times(&rt, b"SAIDPRIVATE Anna on\n", 5),
+        bert.reads_times(&rt, b"SAIDPRIVATE Anna on\n", 7),
         "Bert is told"
     );
-    for _ in 0..5 {
+    for _ in 0..7 {
         for _ in 0..100 {
             assert!(rt;
                 anna.reads(&rt, &line) && anna.reads(&rt, &echo),
