@@ -1,12 +1,14 @@
 //! Two workers in threads of their own, each with a client of its own over a link in memory. Neither
 //! holds the other up, be it before the desk or in a read or a write of its link.
 
+ghost use Rattle.std.specs.Prelude.{◌≡◌};
+
 use crate::turns::{GREETING_AND_PONG, new_lobby, serve_client};
 use lobby_lock::Desk;
 use lobby_workers::{Gate, Got, Link, MemoryLink, Sent, Turn, TurnState};
 use std::process::Abort;
-use std::sync::Wait;
 use std::sync::atomic::{AtomicBool, Ordering};
+use std::sync::{Arc, Wait};
 use std::test::*;
 use std::thread::{self, Threads};
 use std::time::Duration;
@@ -94,12 +96,12 @@ impl Gate for Meeting {
 
 // The first worker's link.
 #[derive(Drop)]
-struct StoppingLink<'a> {
+struct StoppingLink {
     inner: MemoryLink,
-    meeting: &'a Meeting,
+    meeting: Arc<Meeting>,
 }
 
-impl<'a> StoppingLink<'a> {
+impl StoppingLink {
     fn stop_at(&self, stop: Stop) {
         if self.meeting.stop == stop {
             self.meeting
@@ -108,7 +110,7 @@ impl<'a> StoppingLink<'a> {
     }
 }
 
-impl<'a> Link for StoppingLink<'a> {
+impl Link for StoppingLink {
     ghost wire = { λ l. ⟦<MemoryLink as Link>⟧.wire l.inner };
 
     fn read(&mut self, into: &mut [u8]) -> Got {
@@ -148,13 +150,13 @@ where
         assert!(rt; false, "a pass was handed out");
         return Ok(());
     };
-    let meeting = Meeting::new(clock, stop);
+    let meeting = Arc::new(alloc, Meeting::new(clock, stop))?;
     let mut first = StoppingLink {
         inner: MemoryLink::new(alloc, Vec::from_slice(alloc, b"PING\n")?, 9, 100),
-        meeting: &meeting,
+        meeting: meeting.clone()?,
     };
     let mut second = MemoryLink::new(alloc, Vec::from_slice(alloc, b"PING\n")?, 9, 100);
-    let (shared, gate, mine, theirs) = (&desk, &meeting, &mut first, &mut second);
+    let (shared, gate, mine, theirs) = (&desk, &*meeting, &mut first, &mut second);
     let (first_turn, second_turn) = thread::join(
         rt,
         move || -> Option<Turn>
