@@ -96,65 +96,67 @@ impl Read for UntilSet {
     }
 }
 
-/// A server that runs.
+/// A server that is about to run.
+#[derive(Drop)]
+pub struct Server {
+    service: Service,
+    listener: TcpListener,
+    input: UntilSet,
+    ghost within: { (1 ≤ service.workers) × (service.workers ≤ 64) },
+}
+
+impl Server {
+    /// Runs until its test ends its input, and gives its status.
+    pub fn run<R: Threads + Wait + Net + Sync, G: Gate + Sync>(self, rt: &R, gate: &G) -> u8 {
+        let Server {
+            service,
+            listener,
+            mut input,
+        } = self;
+        let alloc = input.clock.alloc();
+        let mut output = Vec::new(alloc);
+        run_server(rt, alloc, service, listener, &mut input, &mut output, gate)
+    }
+}
+
+/// What a test has of a server that runs in a thread of its own.
 #[derive(Drop)]
 pub struct Running {
     /// Where it listens.
     pub address: SocketAddr,
     flag: Arc<AtomicBool>,
-    thread: JoinHandle<u8>,
 }
 
 impl Running {
-    /// Starts a server for Anna and Bert, with so many workers that share a gate.
-    pub fn start<R, G>(
-        rt: R,
-        clock: HostRuntime,
-        workers: u32,
-        gate: Arc<G>,
-    ) -> Result<Running, Fail>
-    where
-        R: Threads + Wait + Net + Sync + Copy + Send + Drop + 'static,
-        G: Gate + Sync + Send + Drop + 'static,
-        requires { (1 ≤ workers) × (workers ≤ 64) }
-    {
-        let alloc = clock.alloc();
-        let listener = TcpListener::bind(&rt, loopback(0))?;
-        let address = listener.local_addr()?;
-        let flag = Arc::new(alloc, AtomicBool::new(false))?;
-        let theirs = flag.clone()?;
-        let service = service(alloc, workers)?;
-        let thread = thread::spawn(&rt, move || {
-            let mut input = UntilSet {
-                clock,
-                flag: theirs,
-            };
-            let mut output = Vec::new(alloc);
-            run_server(
-                &rt,
-                alloc,
-                service,
-                listener,
-                &mut input,
-                &mut output,
-                &*gate,
-            )
-        })?;
-        Ok(Running {
-            address,
-            flag,
-            thread,
-        })
-    }
-
-    /// Ends its input, and gives its status.
-    pub fn end<R: Threads>(self, rt: &R) -> u8 {
-        let Running {
-            address: _,
-            flag,
-            thread,
-        } = self;
-        flag.store(true, Ordering::SeqCst);
+    /// Ends the server's input, and gives its status. Its thread is this one.
+    pub fn end<R: Threads>(self, rt: &R, thread: JoinHandle<u8>) -> u8 {
+        self.flag.store(true, Ordering::SeqCst);
         thread.join(rt)
     }
+}
+
+/// A server for Anna and Bert, with so many workers, and what a test has of it. A test starts the thread itself, since nothing
+/// but a test may give its runtime to one.
+pub fn new_server<R: Net>(
+    rt: &R,
+    clock: HostRuntime,
+    workers: u32,
+) -> Result<(Server, Running), Fail>
+    requires { (1 ≤ workers) × (workers ≤ 64) }
+{
+    let alloc = clock.alloc();
+    let listener = TcpListener::bind(rt, loopback(0))?;
+    let address = listener.local_addr()?;
+    let flag = Arc::new(alloc, AtomicBool::new(false))?;
+    let theirs = flag.clone()?;
+    let service = service(alloc, workers)?;
+    let server = Server {
+        service,
+        listener,
+        input: UntilSet {
+            clock,
+            flag: theirs,
+        },
+    };
+    Ok((server, Running { address, flag }))
 }

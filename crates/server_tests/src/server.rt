@@ -3,15 +3,15 @@
 use crate::clients::Client;
 use crate::gates::OpenGate;
 use crate::running::{
-    ANNA_IS_IN, ANNA_LOGS_IN, BERT_COMES, BERT_IS_IN, BERT_LOGS_IN, GREETING, Running, loopback,
+    ANNA_IS_IN, ANNA_LOGS_IN, BERT_COMES, BERT_IS_IN, BERT_LOGS_IN, GREETING, loopback, new_server,
     service,
 };
 use lobby_workers::run_server;
 use mio::net::TcpListener;
 use std::alloc::{AllocError, Global};
 use std::io::{self, Read};
-use std::sync::Arc;
 use std::test::Fail;
+use std::thread;
 
 #[test]
 fn an_input_that_is_empty_ends_the_server(rt: HostRuntime) -> Result<(), Fail> {
@@ -86,14 +86,15 @@ fn a_burst_is_answered_whole(rt: HostRuntime) -> Result<(), Fail> {
     let lines = times_over(rt.alloc(), b"PING\n", 1_000)?;
     let answers = times_over(rt.alloc(), b"PONG\n", 1_000)?;
     for workers in [1u32, 3] {
-        let server = Running::start(rt, rt, workers, Arc::new(rt.alloc(), OpenGate)?)?;
-        let mut client = Client::connect(&rt, server.address)?;
+        let (server, running) = new_server(&rt, rt, workers)?;
+        let thread = thread::spawn(&rt, move || server.run(&rt, &OpenGate))?;
+        let mut client = Client::connect(&rt, running.address)?;
         assert!(rt; client.reads(&rt, GREETING));
         assert!(rt; client.send_times(&rt, &lines, 14));
         assert!(rt; client.reads_times(&rt, &answers, 14), "all are answered");
         assert!(rt; client.send(&rt, b"EXIT\n"));
         assert_eq!(rt; client.ends(&rt), Some(0));
-        assert_eq!(rt; server.end(&rt), 0);
+        assert_eq!(rt; running.end(&rt, thread), 0);
     }
     Ok(())
 }
@@ -102,11 +103,12 @@ fn a_burst_is_answered_whole(rt: HostRuntime) -> Result<(), Fail> {
 /// reads once Bert was told all.
 #[test]
 fn a_client_that_reads_late_gets_all(rt: HostRuntime) -> Result<(), Fail> {
-    let server = Running::start(rt, rt, 1, Arc::new(rt.alloc(), OpenGate)?)?;
-    let mut anna = Client::connect(&rt, server.address)?;
+    let (server, running) = new_server(&rt, rt, 1)?;
+    let thread = thread::spawn(&rt, move || server.run(&rt, &OpenGate))?;
+    let mut anna = Client::connect(&rt, running.address)?;
     assert!(rt; anna.reads(&rt, GREETING) && anna.send(&rt, ANNA_LOGS_IN));
     assert!(rt; anna.reads(&rt, ANNA_IS_IN));
-    let mut bert = Client::connect(&rt, server.address)?;
+    let mut bert = Client::connect(&rt, running.address)?;
     assert!(rt; bert.reads(&rt, GREETING) && bert.send(&rt, BERT_LOGS_IN));
     assert!(rt; bert.reads(&rt, BERT_IS_IN) && anna.reads(&rt, BERT_COMES));
     let text = times_over(rt.alloc(), b"0123456789abcdef", 250)?;
@@ -129,20 +131,21 @@ fn a_client_that_reads_late_gets_all(rt: HostRuntime) -> Result<(), Fail> {
         }
         assert!(rt; anna.reads(&rt, b"SAYPRIVATE Bert on\n"));
     }
-    assert_eq!(rt; server.end(&rt), 0);
+    assert_eq!(rt; running.end(&rt, thread), 0);
     Ok(())
 }
 
 #[test]
 fn who_sends_no_more_gets_all_answers(rt: HostRuntime) -> Result<(), Fail> {
-    let server = Running::start(rt, rt, 2, Arc::new(rt.alloc(), OpenGate)?)?;
+    let (server, running) = new_server(&rt, rt, 2)?;
+    let thread = thread::spawn(&rt, move || server.run(&rt, &OpenGate))?;
     for lines in [b"PING\n".as_slice(), b"PING\nPING", b"PING\nEXIT\nPING\n"] {
-        let mut client = Client::connect(&rt, server.address)?;
+        let mut client = Client::connect(&rt, running.address)?;
         assert!(rt; client.send(&rt, lines) && client.finish());
         assert!(rt; client.reads(&rt, GREETING), "the greeting");
         assert!(rt; client.reads(&rt, b"PONG\n"), "the answer");
         assert_eq!(rt; client.ends(&rt), Some(0));
     }
-    assert_eq!(rt; server.end(&rt), 0);
+    assert_eq!(rt; running.end(&rt, thread), 0);
     Ok(())
 }

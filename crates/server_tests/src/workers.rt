@@ -2,17 +2,19 @@
 
 use crate::clients::Client;
 use crate::gates::{Greeters, Meeting, OpenGate, Stop};
-use crate::running::{ANNA_IS_IN, ANNA_LOGS_IN, BERT_COMES, BERT_LOGS_IN, GREETING, Running};
+use crate::running::{ANNA_IS_IN, ANNA_LOGS_IN, BERT_COMES, BERT_LOGS_IN, GREETING, new_server};
 use std::sync::Arc;
 use std::test::Fail;
+use std::thread;
 
 #[test]
 fn two_workers_serve_two_clients(rt: HostRuntime) -> Result<(), Fail> {
     let gate = Arc::new(rt.alloc(), Meeting::new(rt))?;
-    let server = Running::start(rt, rt, 2, gate.clone()?)?;
-    let mut anna = Client::connect(&rt, server.address)?;
+    let (theirs, (server, running)) = (gate.clone()?, new_server(&rt, rt, 2)?);
+    let thread = thread::spawn(&rt, move || server.run(&rt, &*theirs))?;
+    let mut anna = Client::connect(&rt, running.address)?;
     assert!(rt; anna.reads(&rt, GREETING), "the first greeting");
-    let mut bert = Client::connect(&rt, server.address)?;
+    let mut bert = Client::connect(&rt, running.address)?;
     assert!(rt; bert.reads(&rt, GREETING), "the second greeting");
     assert!(rt; gate.woken() > 0, "worker 1 was woken");
     gate.shut();
@@ -24,7 +26,7 @@ fn two_workers_serve_two_clients(rt: HostRuntime) -> Result<(), Fail> {
     assert!(rt; anna.reads(&rt, ANNA_IS_IN), "Anna is in");
     assert!(rt; bert.send(&rt, BERT_LOGS_IN));
     assert!(rt; anna.reads(&rt, BERT_COMES), "Anna is told of Bert");
-    assert_eq!(rt; server.end(&rt), 0);
+    assert_eq!(rt; running.end(&rt, thread), 0);
     assert!(rt;
         anna.ends(&rt).is_some(),
         "the server closes its connections"
@@ -35,10 +37,11 @@ fn two_workers_serve_two_clients(rt: HostRuntime) -> Result<(), Fail> {
 #[test]
 fn a_worker_that_writes_keeps_no_other_waiting(rt: HostRuntime) -> Result<(), Fail> {
     let gate = Arc::new(rt.alloc(), Stop::new(rt))?;
-    let server = Running::start(rt, rt, 2, gate.clone()?)?;
-    let mut first = Client::connect(&rt, server.address)?;
+    let (theirs, (server, running)) = (gate.clone()?, new_server(&rt, rt, 2)?);
+    let thread = thread::spawn(&rt, move || server.run(&rt, &*theirs))?;
+    let mut first = Client::connect(&rt, running.address)?;
     assert!(rt; first.reads(&rt, GREETING));
-    let mut second = Client::connect(&rt, server.address)?;
+    let mut second = Client::connect(&rt, running.address)?;
     assert!(rt; second.reads(&rt, GREETING));
     assert!(rt; first.send(&rt, b"PING\n"));
     assert!(rt; gate.is_reached(), "worker 0 stands at its write");
@@ -46,22 +49,23 @@ fn a_worker_that_writes_keeps_no_other_waiting(rt: HostRuntime) -> Result<(), Fa
     assert!(rt; second.reads(&rt, b"PONG\n"), "worker 1 serves");
     assert!(rt; gate.let_go(), "worker 0 stood there all the while");
     assert!(rt; first.reads(&rt, b"PONG\n"));
-    assert_eq!(rt; server.end(&rt), 0);
+    assert_eq!(rt; running.end(&rt, thread), 0);
     Ok(())
 }
 
 #[test]
 fn connections_go_to_the_workers_in_turn(rt: HostRuntime) -> Result<(), Fail> {
     let gate = Arc::new(rt.alloc(), Greeters::new(rt))?;
-    let server = Running::start(rt, rt, 2, gate.clone()?)?;
+    let (theirs, (server, running)) = (gate.clone()?, new_server(&rt, rt, 2)?);
+    let thread = thread::spawn(&rt, move || server.run(&rt, &*theirs))?;
     let mut clients = Vec::new(rt.alloc());
     for before in 0u64..5 {
-        let mut client = Client::connect(&rt, server.address)?;
+        let mut client = Client::connect(&rt, running.address)?;
         assert!(rt; client.reads(&rt, GREETING));
         assert_eq!(rt; gate.last_of(before.saturating_add(1)), Some(before % 2));
         clients.push(client)?;
     }
-    assert_eq!(rt; server.end(&rt), 0);
+    assert_eq!(rt; running.end(&rt, thread), 0);
     for mut client in clients {
         assert_eq!(rt; client.ends(&rt), Some(0));
     }
@@ -70,13 +74,14 @@ fn connections_go_to_the_workers_in_turn(rt: HostRuntime) -> Result<(), Fail> {
 
 #[test]
 fn a_reset_in_mid_line_logs_out_its_own_user_alone(rt: HostRuntime) -> Result<(), Fail> {
-    let server = Running::start(rt, rt, 2, Arc::new(rt.alloc(), OpenGate)?)?;
-    let mut anna = Client::connect(&rt, server.address)?;
+    let (server, running) = new_server(&rt, rt, 2)?;
+    let thread = thread::spawn(&rt, move || server.run(&rt, &OpenGate))?;
+    let mut anna = Client::connect(&rt, running.address)?;
     assert!(rt; anna.reads(&rt, GREETING) && anna.send(&rt, ANNA_LOGS_IN));
     assert!(rt; anna.reads(&rt, ANNA_IS_IN));
     // Bert's connections go to both workers in turn.
     for _ in 0..4 {
-        let mut bert = Client::connect(&rt, server.address)?;
+        let mut bert = Client::connect(&rt, running.address)?;
         assert!(rt; bert.reads(&rt, GREETING) && bert.send(&rt, BERT_LOGS_IN));
         assert!(rt; bert.reads(&rt, b"ACCEPTED Bert\n"), "the name is free");
         assert!(rt; anna.reads(&rt, BERT_COMES));
@@ -86,7 +91,7 @@ fn a_reset_in_mid_line_logs_out_its_own_user_alone(rt: HostRuntime) -> Result<()
         assert!(rt; anna.send(&rt, b"#7 PING\n"));
         assert!(rt; anna.reads(&rt, b"#7 PONG\n"), "Anna is served");
     }
-    assert_eq!(rt; server.end(&rt), 0);
+    assert_eq!(rt; running.end(&rt, thread), 0);
     assert_eq!(rt; anna.ends(&rt), Some(0));
     Ok(())
 }
