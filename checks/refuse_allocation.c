@@ -1,5 +1,6 @@
 /* Refuses one allocation of a program, the one that the variable REFUSED numbers, and tells at the program's end how
    many there were; for LD_PRELOAD. */
+#include <errno.h>
 #include <stdio.h>
 #include <stdlib.h>
 
@@ -16,7 +17,11 @@ __attribute__((constructor)) static void begin(void) {
     refused = word ? strtoul(word, NULL, 10) : 0;
 }
 
-static int is_refused(void) { return ++taken == refused; }
+static int is_refused(void) {
+    if (++taken != refused) return 0;
+    errno = ENOMEM;
+    return 1;
+}
 
 void *malloc(size_t size) { return is_refused() ? NULL : __libc_malloc(size); }
 
