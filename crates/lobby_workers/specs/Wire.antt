@@ -1,5 +1,5 @@
 -- What a link shows of its calls.
-use Rattle.std.specs.Prelude.{ℕ, ◌-◌, ◌<◌, ◌≤◌, ◌^◌, List, ◌++◌, Option}
+use Rattle.std.specs.Prelude.{ℕ, ◌-◌, ◌<◌, ◌≤◌, ◌^◌, List, [], ◌++◌, Option, Some, None}
 use Rattle.std.specs.Option.{option_map}
 use Rattle.lobby_workers.specs.declared.link.Got.{Got}
 use Rattle.lobby_workers.specs.declared.link.Got.TheVariants as got
@@ -16,6 +16,10 @@ pub record Wire : Type 0 where
   pub told : Option (List ℕ)
   pub last_got : Option Got
   pub last_sent : Option Sent
+
+-- no call was made
+abbrev pub untouched : Wire
+untouched = record { reads = 0; writes = 0; failures = 0; heard = Some []; told = Some []; last_got = None; last_sent = None }
 
 -- how many bytes a read gave
 abbrev pub got_count : Got → ℕ

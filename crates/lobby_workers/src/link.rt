@@ -71,5 +71,6 @@ pub trait Link {
     /// Whether each count still has place for a turn. They are numbers of 64 bits, so this fails
     /// only after more turns than a link can live to see.
     fn fresh(&self) -> bool
-        ensures { result ≡ true → IsFresh (wire self.now) };
+        ensures fresh { result ≡ true → IsFresh (wire self.now) }
+        ensures worn { IsFresh (wire self.now) → result ≡ true };
 }

@@ -1,6 +1,7 @@
 //! A link in memory.
 
-ghost use Rattle.std.specs.Prelude.{◌≤◌, length};
+ghost use Rattle.std.specs.Prelude.{◌≡◌, ◌≤◌, length, Some};
+ghost use Rattle.lobby_workers.specs.Wire.{untouched};
 
 use crate::link::{Got, Link, Sent};
 use std::alloc::Global;
@@ -30,7 +31,9 @@ pub struct MemoryLink {
 impl MemoryLink {
     /// A link that has these bytes to read. A read gives at most `piece` bytes of them and a write
     /// takes at most `room`; a link with room for none answers `Later` to each write.
-    pub fn new(alloc: Global, input: Vec<u8>, piece: usize, room: usize) -> MemoryLink {
+    pub fn new(alloc: Global, input: Vec<u8>, piece: usize, room: usize) -> MemoryLink
+        ensures { ⟦<MemoryLink as Link>⟧.wire result ≡ untouched }
+    {
         MemoryLink {
             input,
             at: 0,
@@ -48,7 +51,9 @@ impl MemoryLink {
     }
 
     /// The same link, whose other side sends nothing behind what there is to read.
-    pub fn ended(self) -> MemoryLink {
+    pub fn ended(self) -> MemoryLink
+        ensures { ⟦<MemoryLink as Link>⟧.wire result ≡ ⟦<MemoryLink as Link>⟧.wire self }
+    {
         let mut link = self;
         link.is_ended = true;
         link
@@ -56,14 +61,18 @@ impl MemoryLink {
 
     /// The same link, but its device fails at its call of this number, counted from 1 over reads and
     /// writes together.
-    pub fn failing_at(self, call: u64) -> MemoryLink {
+    pub fn failing_at(self, call: u64) -> MemoryLink
+        ensures { ⟦<MemoryLink as Link>⟧.wire result ≡ ⟦<MemoryLink as Link>⟧.wire self }
+    {
         let mut link = self;
         link.fails_at = call;
         link
     }
 
     /// All that was written.
-    pub fn output(&self) -> &[u8] {
+    pub fn output(&self) -> &[u8]
+        ensures { (⟦<MemoryLink as Link>⟧.wire self.now).told ≡ Some result.now }
+    {
         &self.output
     }
 

@@ -2,7 +2,7 @@
 
 ghost use Rattle.std.specs.Prelude.{◌≡◌, ◌≤◌, ◌++◌, ℕ, length, take};
 ghost use Rattle.lobby_workers.specs.Gathered.{gathered};
-ghost use Rattle.lobby_workers.specs.Wire.{got_count, sent_count};
+ghost use Rattle.lobby_workers.specs.Wire.{got_count, sent_count, untouched};
 
 use crate::conn::PIECE;
 use crate::link::{Got, Link, Sent};
@@ -33,7 +33,9 @@ pub struct WireLink {
 
 impl WireLink {
     /// The link over a socket on which it made no call.
-    pub fn new(stream: TcpStream) -> WireLink {
+    pub fn new(stream: TcpStream) -> WireLink
+        ensures { ⟦<WireLink as Link>⟧.wire result ≡ untouched }
+    {
         WireLink {
             stream,
             reads: 0,
@@ -48,7 +50,9 @@ impl WireLink {
 
     /// Has a poll tell under this token when the socket has something to read, and when it takes bytes
     /// again. Fails where the system refuses it.
-    pub fn register(&mut self, registry: &Registry, token: Token) -> io::Result<()> {
+    pub fn register(&mut self, registry: &Registry, token: Token) -> io::Result<()>
+        ensures { ⟦<WireLink as Link>⟧.wire self.new ≡ ⟦<WireLink as Link>⟧.wire self.old }
+    {
         registry.register(
             &mut self.stream,
             token,
