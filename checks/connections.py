@@ -1,0 +1,467 @@
+#!/usr/bin/env python3
+"""Connects to the running server in unfriendly ways, and compares what each client and those beside it are told: slow readers,
+half-closed sockets, connections that are reset at every stage, many that come at once, bytes that come one by one, lines
+without end. Run by hand, behind `make build`:
+
+    checks/connections.py [WORKERS [NAME ..]]
+
+WORKERS is 4 if left out, and the names are those of some of the checks below. $LOBBY_MAIN names another build of the server."""
+import contextlib
+import errno
+import select
+import socket
+import sys
+import threading
+import time
+
+from lobby_server import ADDRESS, GREETING, Account, Client, Difference, Server, greeted, logged_in, run
+
+ANNA, BERT, EVE = Account("Anna", 1, 0, "DE"), Account("Bert", 2, 3), Account("Eve", 9, 1, "FR")
+OPEN = "OPENBATTLE 0 0 * 8452 8 -1 0 123 Spring\t104.0\tComet Catcher\tEve's game\tBA 9.46\n"
+
+
+def opened(number, founder):
+    """What all are told of such a battle."""
+    rest = "8452 8 0 0 123 Spring\t104.0\tComet Catcher\tEve's game\tBA 9.46"
+    return f"BATTLEOPENED {number} 0 0 {founder} {ADDRESS} {rest}\n"
+
+
+def both(clients, lines):
+    for client in clients:
+        client.expect(lines)
+
+
+def lines_until(client, last, most=100):
+    """The lines that come up to this one, without it."""
+    found = []
+    for _ in range(most):
+        while b"\n" not in client.heard[client.checked :] and client.receive():
+            pass
+        line, end, _ = bytes(client.heard[client.checked :]).partition(b"\n")
+        if not end:
+            raise Difference(f"the stream ends before {last[:60]}")
+        client.checked += len(line) + 1
+        if line + end == last:
+            return found
+        found.append(line + end)
+    raise Difference(f"{most} lines came before {last[:60]}")
+
+
+def slow_reader(workers):
+    """One who reads nothing in a busy channel is cut and closed, and the others are told so once."""
+    with Server(workers, [ANNA, BERT, EVE], "outbox_limit = 65536\n") as server:
+        anna = logged_in(server, ANNA, [])
+        bert = logged_in(server, BERT, [ANNA])
+        slow = logged_in(server, EVE, [ANNA, BERT], room=4_096)
+        both([anna], BERT.arrival() + EVE.arrival())
+        both([bert], EVE.arrival())
+        names = []
+        for name, client in (("Anna", anna), ("Bert", bert), ("Eve", slow)):
+            client.send("JOIN busy\n")
+            names.append(name)
+            if client is not slow:
+                client.expect(f"JOIN busy\nCLIENTS busy {' '.join(names)}\n")
+            both([anna, bert][: len(names) - 1], f"JOINED busy {name}\n")
+        said, told = talk_until_cut(anna, bert)
+        if told != [[b"LEFT busy Eve\n", b"REMOVEUSER Eve\n"]] * 2:
+            raise Difference(f"of the slow reader the others are told {told}")
+        both([anna, bert], "")
+        anna.expect_nothing_more()
+        bert.expect_nothing_more()
+        while slow.receive():
+            pass
+        whole = b"JOIN busy\nCLIENTS busy Anna Bert Eve\n" + b"".join(said)
+        found = bytes(slow.heard[slow.checked :])
+        if not whole.startswith(found) or found == whole:
+            raise Difference("what the slow reader got is not the front of what it was told")
+        logged_in(server, EVE, [ANNA, BERT])
+        print(f"  cut behind {len(whole) / 1e6:.2f} MB, of which it could read {len(found) / 1e6:.2f} MB")
+
+
+def talk_until_cut(anna, bert):
+    """Anna speaks, line by line, up to some lines behind the one at which the others are told that someone left."""
+    said, told, rest = [], [[], []], 20
+    for number in range(4_000):
+        text = f"{number} ".ljust(8_000, "x")
+        anna.send(f"SAY busy {text}\n")
+        said.append(f"SAID busy Anna {text}\n".encode())
+        for client, others in zip((anna, bert), told):
+            others += lines_until(client, said[-1])
+        rest -= any(told)
+        if not rest:
+            return said, told
+    raise Difference("4,000 long lines do not cut one who reads nothing")
+
+
+def half_closed(workers):
+    """One who says no more is told all that it asked for, and then its connection ends."""
+    with Server(workers, [ANNA, EVE]) as server:
+        anna = logged_in(server, ANNA, [])
+        login = f"ACCEPTED Eve\n{ANNA.arrival()}ADDUSER Eve FR 0 9\nCLIENTSTATUS Eve 4\nLOGININFOEND\n"
+        cases = [("", ""), ("PING\n", "PONG\n"), ("PING", ""), ("#5 PING\nPING", "#5 PONG\n"), ("PING\n" * 20_000, "PONG\n" * 20_000)]
+        cases += [(EVE.login(), login), (EVE.login() + "PING\n", login + "PONG\n")]
+        for said, told in cases:
+            eve = Client(server)
+            eve.send(said)
+            eve.socket.shutdown(socket.SHUT_WR)
+            eve.expect(GREETING)
+            eve.expect(told)
+            eve.expect_end()
+            if told.startswith("ACCEPTED"):
+                anna.expect(EVE.arrival() + "REMOVEUSER Eve\n")
+            anna.expect_nothing_more()
+
+
+def late_readers(workers):
+    """One who asks for much, says no more and then reads late is told all of it."""
+    with Server(workers, []) as server:
+        for is_closed in (True, False):
+            client = greeted(server)
+            client.send("#12345 PING\n" * 200_000)
+            if is_closed:
+                client.socket.shutdown(socket.SHUT_WR)
+            time.sleep(0.5)
+            client.expect("#12345 PONG\n" * 200_000)
+            client.expect_end() if is_closed else client.expect_nothing_more()
+
+
+def in_no_channel(eve, anna, bert):
+    """Logged in, with all that it was told unread."""
+    return "REMOVEUSER Eve\n"
+
+
+def in_a_line(eve, anna, bert):
+    eve.send("JOIN ma")
+    return "REMOVEUSER Eve\n"
+
+
+def in_a_channel(eve, anna, bert):
+    eve.send("JOIN main\n")
+    both([anna, bert], "JOINED main Eve\n")
+    return "LEFT main Eve\nREMOVEUSER Eve\n"
+
+
+def as_a_member(eve, anna, bert):
+    eve.send("JOINBATTLE 1\nMYBATTLESTATUS 0 255\n")
+    both([anna], "JOINEDBATTLE 1 Eve\nCLIENTBATTLESTATUS Eve 0 255\n")
+    both([bert], "JOINEDBATTLE 1 Eve\n")
+    return "LEFTBATTLE 1 Eve\nREMOVEUSER Eve\n"
+
+
+def as_a_founder(eve, anna, bert):
+    as_a_founder.battle += 1
+    number = as_a_founder.battle
+    eve.send(OPEN)
+    both([anna, bert], opened(number, "Eve"))
+    bert.send(f"JOINBATTLE {number}\n")
+    bert.expect(f"JOINBATTLE {number} -1\nJOINEDBATTLE {number} Bert\nCLIENTBATTLESTATUS Eve 0 0\nREQUESTBATTLESTATUS\n")
+    anna.expect(f"JOINEDBATTLE {number} Bert\n")
+    return f"BATTLECLOSED {number}\nREMOVEUSER Eve\n"
+
+
+def in_all(eve, anna, bert):
+    in_a_channel(eve, anna, bert)
+    founded = as_a_founder(eve, anna, bert)
+    return "LEFT main Eve\n" + founded
+
+
+def with_an_exit(eve, anna, bert):
+    eve.send("EXIT\n")
+    both([anna, bert], "REMOVEUSER Eve\n")
+    return ""
+
+
+STAGES = [in_no_channel, in_a_line, in_a_channel, as_a_member, as_a_founder, in_all, with_an_exit]
+
+
+def resets(workers):
+    """Connections that are reset, at each stage: the others are told once that Eve is gone, and of what she leaves."""
+    with Server(workers, [ANNA, BERT, EVE]) as server:
+        anna = logged_in(server, ANNA, [])
+        bert = logged_in(server, BERT, [ANNA])
+        anna.expect(BERT.arrival())
+        anna.send("JOIN main\n")
+        anna.expect("JOIN main\nCLIENTS main Anna\n")
+        bert.send("JOIN main\n")
+        bert.expect("JOIN main\nCLIENTS main Anna Bert\n")
+        anna.expect("JOINED main Bert\n")
+        anna.send(OPEN)
+        both([anna, bert], opened(1, "Anna"))
+        anna.expect("OPENBATTLE 1\nREQUESTBATTLESTATUS\n")
+        as_a_founder.battle = 1
+        for _ in range(20):
+            resets_before_a_login(server, anna, bert)
+            for stage in STAGES:
+                eve = Client(server)
+                eve.send(EVE.login())
+                both([anna, bert], EVE.arrival())
+                told = stage(eve, anna, bert)
+                eve.reset()
+                both([anna, bert], told)
+                anna.expect_nothing_more()
+                bert.expect_nothing_more()
+
+
+def resets_before_a_login(server, anna, bert):
+    """Of one who did not log in the others are told nothing."""
+    Client(server).reset()
+    unread = Client(server)
+    unread.send("PING\nLOGIN Ev")
+    unread.reset()
+    met = greeted(server)
+    met.send("PING\nLOGIN Eve")
+    met.reset()
+    for client in (anna, bert):
+        client.expect_nothing_more()
+
+
+def hasty_logins(workers):
+    """Of one who is reset behind its LOGIN the others are told that it came and went, or nothing."""
+    crowd = [Account(f"Eve{number}", number) for number in range(200)]
+    with Server(workers, [ANNA, *crowd]) as server:
+        anna = logged_in(server, ANNA, [])
+        for account in crowd:
+            client = Client(server)
+            client.send(account.login() + "JOIN main\n")
+            client.reset()
+        told, quiet = [], 0
+        for _ in range(600):
+            time.sleep(0.05)
+            more = lines_until_pong(anna)
+            told += [it.decode() for it in more]
+            quiet = 0 if more else quiet + 1
+            if quiet == 10:
+                break
+        for account in crowd[:]:
+            found = [it for it in told if it.split()[1] == account.name]
+            if found and found != [*account.arrival().splitlines(True), f"REMOVEUSER {account.name}\n"]:
+                raise Difference(f"of a hasty login others are told {found}")
+            if found:
+                crowd.remove(account)
+        # All are gone now, so that each may log in.
+        client = greeted(server)
+        for account in crowd[:20]:
+            client.send(account.login() + "EXIT\n")
+            anna.expect(account.arrival() + f"REMOVEUSER {account.name}\n")
+            client = greeted(server)
+        print(f"  {200 - len(crowd)} of 200 were logged in before their reset was seen")
+
+
+def lines_until_pong(client):
+    client.send("#78 PING\n")
+    return lines_until(client, b"#78 PONG\n", 1_000)
+
+
+def resets_at_once(workers):
+    """Sixty users of a channel and a battle are reset together: the others are told of each once, and whole."""
+    crowd = [Account(f"Eve{number}", 100 + number) for number in range(60)]
+    with Server(workers, [ANNA, BERT, *crowd]) as server:
+        anna = logged_in(server, ANNA, [])
+        anna.send("JOIN main\n" + OPEN)
+        anna.expect("JOIN main\nCLIENTS main Anna\n" + opened(1, "Anna") + "OPENBATTLE 1\nREQUESTBATTLESTATUS\n")
+        for _ in range(5):
+            clients = []
+            for account in crowd:
+                clients.append(greeted(server))
+                clients[-1].send(account.login() + "JOIN main\nJOINBATTLE 1\n")
+                anna.expect(f"{account.arrival()}JOINED main {account.name}\nJOINEDBATTLE 1 {account.name}\n")
+            for client in clients:
+                client.reset()
+            told = {it.name: f"LEFT main {it.name}\nLEFTBATTLE 1 {it.name}\nREMOVEUSER {it.name}\n".encode() for it in crowd}
+            size = sum(map(len, told.values()))
+            while len(anna.heard) < anna.checked + size and anna.receive():
+                pass
+            found = bytes(anna.heard[anna.checked : anna.checked + size])
+            parts = sorted(it + b"\n" for it in found.replace(b"\nLEFT ", b"\n\nLEFT ").rstrip(b"\n").split(b"\n\n"))
+            if parts != sorted(told.values()):
+                raise Difference(f"of the reset ones Anna is told {found}")
+            anna.checked += size
+            anna.expect_nothing_more()
+
+
+def one_by_one(workers):
+    """A session whose bytes come each in a packet of its own, with both ends of a line."""
+    for end in ("\n", "\r\n"):
+        with Server(workers, [ANNA, EVE]) as server:
+            anna = logged_in(server, ANNA, [])
+            eve = greeted(server)
+            said = EVE.login() + "#7 JOIN main\n\n#8 SAY main  two  spaces \nMYSTATUS 1\nPINGS\n" + OPEN + "LEAVE main\n#9 PING\nEXIT\n"
+            for byte in said.replace("\n", end).encode():
+                eve.send(bytes([byte]))
+                time.sleep(0.000_2)
+            eve.expect(f"ACCEPTED Eve\n{ANNA.arrival()}ADDUSER Eve FR 0 9\nCLIENTSTATUS Eve 4\nLOGININFOEND\n")
+            eve.expect("#7 JOIN main\n#7 CLIENTS main Eve\n#8 SAID main Eve  two  spaces \nCLIENTSTATUS Eve 5\nSERVERMSG Unknown command\n")
+            eve.expect(opened(1, "Eve") + "OPENBATTLE 1\nREQUESTBATTLESTATUS\nLEFT main Eve\n#9 PONG\n")
+            eve.expect_end()
+            anna.expect(EVE.arrival() + "CLIENTSTATUS Eve 5\n" + opened(1, "Eve") + "BATTLECLOSED 1\nREMOVEUSER Eve\n")
+            anna.expect_nothing_more()
+
+
+def line_limits(workers):
+    """The longest line is served, and a longer one ends the connection, with its LF and without."""
+    with Server(workers, [ANNA]) as server:
+        anna = logged_in(server, ANNA, [])
+        for end in ("\n", "\r\n"):
+            longest = "X" * (8_192 - len(end) + 1)
+            anna.send(longest + end)
+            anna.expect("SERVERMSG Unknown command\n")
+        anna.expect_nothing_more()
+        for line in ("X" * 8_192 + "\r\n", "X" * 8_193 + "\n", "X" * 8_193, "X" * 100_000):
+            client = greeted(server)
+            with contextlib.suppress(OSError):
+                client.send("PING\n" + line + "PING\n")
+            client.receive()
+            found = bytes(client.heard[client.checked :])
+            if found not in (b"PONG\n", b"") or client.receive():
+                raise Difference(f"in front of a line that is too long there is {found}")
+        anna.expect_nothing_more()
+
+
+def flood(workers):
+    """Four clients that say 400,000 lines each without a break are answered each."""
+    with Server(workers, [], "outbox_limit = 67108864\n") as server:
+        clients = [greeted(server) for _ in range(4)]
+        speakers = [threading.Thread(target=it.send, args=("PING\n" * 400_000,)) for it in clients]
+        begun = time.monotonic()
+        for speaker in speakers:
+            speaker.start()
+        for client in clients:
+            client.expect(b"PONG\n" * 400_000)
+        for speaker in speakers:
+            speaker.join()
+        print(f"  1,600,000 answers in {time.monotonic() - begun:.1f} s")
+        for client in clients:
+            client.expect_nothing_more()
+
+
+class Burst:
+    """Connections that are made at once, without waiting, and made again where they are closed without a byte."""
+
+    def __init__(self, server, count):
+        self.server, self.poll = server, select.epoll()
+        self.open, self.served, self.closed = {}, 0, 0
+        for _ in range(count):
+            self.connect()
+
+    def connect(self):
+        link = socket.socket()
+        link.setblocking(False)
+        if link.connect_ex((ADDRESS, self.server.port)) not in (0, errno.EINPROGRESS):
+            raise Difference("a connection is refused")
+        self.poll.register(link, select.EPOLLIN)
+        self.open[link.fileno()] = link
+
+    def take(self, link):
+        try:
+            found = link.recv(4_096)
+        except ConnectionResetError:
+            found = b""
+        if found == GREETING:
+            self.served += 1
+        elif found:
+            raise Difference(f"instead of a greeting there is {found}")
+        else:
+            self.closed += 1
+            del self.open[link.fileno()]
+            link.close()
+            self.connect()
+
+    def wait(self, count):
+        """Waits until so many are greeted."""
+        end = time.monotonic() + 60
+        while self.served < count:
+            if time.monotonic() > end:
+                raise Difference(f"{self.served} of {count} are greeted in a minute, and {self.closed} were closed")
+            for number, _ in self.poll.poll(0.1):
+                self.take(self.open[number])
+
+
+def burst(workers):
+    """Three thousand connections come while the workers are busy: each is greeted, or closed without a byte and comes again."""
+    heavy = [Account(f"Heavy{number}", number) for number in range(24)]
+    with Server(workers, heavy, "outbox_limit = 67108864\n") as server:
+        clients = [greeted(server) for _ in heavy]
+        # Those that fall to worker 0, which accepts, stay quiet.
+        busy = [(it, account) for number, (it, account) in enumerate(zip(clients, heavy)) if number % workers or workers == 1]
+        names = [f"channel_{number:011}" for number in range(4_000)]
+        for client, account in busy:
+            client.send(account.login())
+            lines_until_end_of(client, b"LOGININFOEND\n")
+        busy[0][0].send("".join(f"JOIN {name}\n" for name in names))
+        for client, _ in busy:
+            client.send("#5 PING\n")
+            lines_until_end_of(client, b"#5 PONG\n")
+        listed = "".join(f"CHANNEL {name} 1\n" for name in names) + "ENDOFCHANNELS\n"
+        begun = time.monotonic()
+        for client, _ in busy:
+            client.send("CHANNELS\n" * 60)
+        crowd = Burst(server, 3_000)
+        crowd.wait(3_000)
+        print(f"  3,000 greeted in {time.monotonic() - begun:.1f} s; {crowd.closed} were closed without a byte and came again")
+        for client, _ in busy:
+            client.expect(listed * 60)
+        for link in crowd.open.values():
+            link.close()
+
+
+def lines_until_end_of(client, text):
+    """Takes all up to and with the first place of this text."""
+    while (at := client.heard.find(text, client.checked)) < 0:
+        if not client.receive():
+            raise Difference(f"the stream ends before {text}")
+    client.checked = at + len(text)
+
+
+def restarts(workers):
+    """A server that ended with clients there is started again at the same port at once."""
+    port = 0
+    for _ in range(3):
+        with Server(workers, [], port=port) as server:
+            port = server.port
+            clients = [greeted(server) for _ in range(20)]
+            server.stop()
+        for client in clients:
+            client.expect_end()
+
+
+def open_files(workers):
+    """Where the system gives no more connections, those that are there are served, and the next wait until some have left."""
+    files = 40 + 4 * workers
+    with Server(workers, [], files=files) as server:
+        waiting = [Client(server) for _ in range(300)]
+        count, begun = 0, server.seconds()
+        for _ in range(100):
+            time.sleep(0.2)
+            ready = select.select([it.socket for it in waiting], [], [], 1)[0]
+            served = [it for it in waiting if it.socket in ready]
+            waiting = [it for it in waiting if it.socket not in ready]
+            for client in served:
+                client.expect(GREETING)
+                client.expect_nothing_more()
+            if len(served) >= files:
+                raise Difference(f"{len(served)} are greeted by one who may open {files} files")
+            count += len(served)
+            for client in served:
+                client.close()
+            if not waiting:
+                break
+        if count != 300:
+            raise Difference(f"{count} of 300 were greeted")
+        print(f"  300 were greeted in turn, and the server took {server.seconds() - begun:.2f} s of processors")
+
+
+CHECKS = [slow_reader, half_closed, late_readers, resets, resets_at_once, hasty_logins, one_by_one, line_limits, flood, burst]
+CHECKS += [restarts, open_files]
+
+
+def check(workers="4", *names):
+    for each in CHECKS:
+        if not names or each.__name__ in names:
+            begun = time.monotonic()
+            print(f"{each.__name__}, {workers} workers", flush=True)
+            each(int(workers))
+            print(f"  {time.monotonic() - begun:.1f} s", flush=True)
+
+
+if __name__ == "__main__":
+    run(check, sys.argv[1:])
