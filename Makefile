@@ -3,7 +3,7 @@ SCRIPT ?= examples/ping.play
 SETTINGS ?= examples/lobby.toml
 ACCOUNTS ?= examples/accounts.toml
 
-.PHONY: play serve hash view build test check bench memory soak
+.PHONY: play serve hash view build test check bench memory soak connections
 
 play:
 	@tools/run.sh lobby_play < $(SCRIPT)
@@ -34,3 +34,6 @@ memory:
 
 soak:
 	@checks/soak.sh
+
+connections:
+	@for workers in 1 4; do checks/connections.py $$workers && checks/played.py $$workers && checks/crowd.py $$workers || exit 1; done
