@@ -1,0 +1,503 @@
+// load MODE PORT PID ... : clients of a lobby at 127.0.0.1:PORT, whose process is PID. It compares every byte that comes back,
+// and prints one line of names and figures. The processor time is that of the server over the measured time alone.
+//
+//   load fanout PORT PID CLIENTS WINDOW SECONDS [QUIET]   the first client speaks in a channel of all, with WINDOW lines unanswered
+//   load ping PORT PID CLIENTS DEPTH SECONDS [QUIET]      each client keeps DEPTH times PING unanswered
+//   load logins PORT PID CLIENTS one|all                  greeted clients log in, one after another or all at once
+//   load memory PORT PID CLIENTS                          what the server holds: before, with greeted clients, with members of a channel
+//
+// Clients log in as u0001, u0002 and so on. QUIET more are greeted, and do nothing. gcc -O2.
+#define _GNU_SOURCE
+#include <arpa/inet.h>
+#include <errno.h>
+#include <fcntl.h>
+#include <netinet/in.h>
+#include <netinet/tcp.h>
+#include <poll.h>
+#include <stdarg.h>
+#include <stdbool.h>
+#include <stdint.h>
+#include <stdio.h>
+#include <stdlib.h>
+#include <string.h>
+#include <sys/epoll.h>
+#include <sys/socket.h>
+#include <time.h>
+#include <unistd.h>
+
+#define PASSWORD "X03MO1qnZdYdgyfeuILPmQ=="
+#define CHANNEL "load"
+#define GREETING "TASSERVER 0.38 * 8201 0"
+
+enum {
+    SECONDS_MOST = 60,     // of a mode
+    CLIENTS_MOST = 4000,
+    LINE_MOST = 1024,      // bytes of a line of a login or a JOIN
+    READ_BYTES = 65536,
+    READY_MOST = 1024,
+    CYCLE = 4096,          // so many different lines are spoken, and then the first again
+    SAID_BYTES = 60,       // a delivered line with its LF
+    SAY_BYTES = 53,        // the same line as it is spoken, without the name of the speaker
+    DEPTH_MOST = 1024,
+    BUCKETS = 1000000,     // of a tenth of a microsecond
+};
+
+struct client {
+    int socket;
+    unsigned number;         // u0001 is number 1
+    char line[LINE_MOST];    // a line that has not come to its end
+    size_t held;
+    bool is_greeted, is_accepted, is_in, is_joined;
+    unsigned users;          // how many it was told of
+    unsigned members;
+    unsigned char *told;     // by number, whether it was told of this user
+    uint64_t bytes;          // that came since the measured time began
+    double *sent_at;         // of the unanswered PINGs, in a ring
+    uint64_t asked;
+};
+
+struct usage {
+    double at, user, system;
+};
+
+static struct client *clients;
+static unsigned client_count;
+static unsigned quiet_count; // who stand behind the others
+static int poll_set;
+static int server;
+static double deadline;
+static bool is_in_order;     // whether users log in one after another, in the order of their numbers
+static unsigned greeted_count, in_count, told_count, settled_count;
+static char said[CYCLE * SAID_BYTES], say[CYCLE * SAY_BYTES];
+static uint32_t latencies[BUCKETS];
+static uint64_t answered;
+static void (*take)(struct client *, const char *, size_t);
+
+static void fail(const char *form, ...) {
+    va_list words;
+    va_start(words, form);
+    fprintf(stderr, "load: ");
+    vfprintf(stderr, form, words);
+    fprintf(stderr, "\n");
+    va_end(words);
+    exit(1);
+}
+
+static double now(void) {
+    struct timespec time;
+    clock_gettime(CLOCK_MONOTONIC, &time);
+    return (double)time.tv_sec + (double)time.tv_nsec * 1e-9;
+}
+
+// The processor time that the server has taken so far.
+static struct usage usage(void) {
+    char path[64], text[1024];
+    snprintf(path, sizeof path, "/proc/%d/stat", server);
+    FILE *file = fopen(path, "r");
+    if (file == NULL || fgets(text, sizeof text, file) == NULL) fail("no server %d", server);
+    fclose(file);
+    const char *behind_name = strrchr(text, ')');
+    unsigned long user, system;
+    if (behind_name == NULL || sscanf(behind_name + 1, " %*c %*d %*d %*d %*d %*d %*u %*u %*u %*u %*u %lu %lu", &user, &system) != 2)
+        fail("cannot read %s", path);
+    double second = (double)sysconf(_SC_CLK_TCK);
+    return (struct usage){ now(), (double)user / second, (double)system / second };
+}
+
+// The server's memory in kB that is in use now.
+static unsigned long resident(void) {
+    char path[64], text[256];
+    unsigned long size = 0;
+    snprintf(path, sizeof path, "/proc/%d/status", server);
+    FILE *file = fopen(path, "r");
+    if (file == NULL) fail("no server %d", server);
+    while (fgets(text, sizeof text, file) != NULL)
+        if (sscanf(text, "VmRSS: %lu kB", &size) == 1) break;
+    fclose(file);
+    if (size == 0) fail("cannot read %s", path);
+    return size;
+}
+
+// Reads the number of the user at the start of a text, and gives what stands behind the name.
+static const char *read_name(const char *text, unsigned *number) {
+    if (text[0] != 'u') return NULL;
+    *number = 0;
+    for (int place = 1; place <= 4; place++) {
+        if (text[place] < '0' || text[place] > '9') return NULL;
+        *number = *number * 10 + (unsigned)(text[place] - '0');
+    }
+    return *number >= 1 && *number <= client_count ? text + 5 : NULL;
+}
+
+// What stands behind these words at the start of a line.
+static const char *behind(const char *line, const char *words) {
+    size_t length = strlen(words);
+    return strncmp(line, words, length) == 0 ? line + length : NULL;
+}
+
+static void note_if_settled(const struct client *client) {
+    if (client->users == client_count && client->members == client_count) settled_count++;
+}
+
+// Each user is told of once, and in the order of names where they log in so. In a burst they always come so.
+static void note_user(struct client *client, const char *rest) {
+    unsigned number;
+    const char *behind_name = read_name(rest, &number);
+    char expected[32];
+    if (behind_name == NULL || client->told[number]) fail("ADDUSER %s at client %u", rest, client->number);
+    snprintf(expected, sizeof expected, " ?? 0 %u", number);
+    if (strcmp(behind_name, expected) != 0) fail("ADDUSER %s at client %u", rest, client->number);
+    client->told[number] = 1;
+    client->users++;
+    if (is_in_order && number != client->users) fail("ADDUSER %s out of order at client %u", rest, client->number);
+    if (client->users == client_count) told_count++;
+    note_if_settled(client);
+}
+
+// Members join in the order of their numbers, and are told in that order.
+static const char *note_member(struct client *client, const char *name) {
+    unsigned number;
+    const char *rest = read_name(name, &number);
+    if (rest == NULL || number != client->members + 1) fail("member %s out of order at client %u", name, client->number);
+    client->members++;
+    note_if_settled(client);
+    return rest;
+}
+
+static void note_members(struct client *client, const char *rest) {
+    int names = 0;
+    while (*rest != '\0') {
+        if (*rest != ' ') fail("CLIENTS %s", rest);
+        rest = note_member(client, rest + 1);
+        names++;
+    }
+    if (names < 1 || names > 32 || !client->is_joined) fail("CLIENTS with %d names at client %u", names, client->number);
+}
+
+static void note_once(const struct client *client, bool *mark, bool is_time, const char *line) {
+    if (*mark || !is_time) fail("client %u did not wait for: %s", client->number, line);
+    *mark = true;
+}
+
+// A line of a greeting, a login or a JOIN.
+static void take_line(struct client *client, const char *line) {
+    const char *rest;
+    unsigned number;
+    if ((rest = behind(line, "ADDUSER ")) && client->is_accepted) {
+        note_user(client, rest);
+    } else if ((rest = behind(line, "JOINED " CHANNEL " ")) && client->is_joined) {
+        if (*note_member(client, rest) != '\0') fail("more behind: %s", line);
+    } else if ((rest = behind(line, "CLIENTS " CHANNEL))) {
+        note_members(client, rest);
+    } else if (strcmp(line, "JOIN " CHANNEL) == 0) {
+        note_once(client, &client->is_joined, client->is_in, line);
+    } else if (strcmp(line, "LOGININFOEND") == 0) {
+        note_once(client, &client->is_in, client->is_accepted && client->told[client->number], line);
+        in_count++;
+    } else if ((rest = behind(line, "ACCEPTED ")) && read_name(rest, &number) && number == client->number && rest[5] == '\0') {
+        note_once(client, &client->is_accepted, client->is_greeted, line);
+    } else if (strcmp(line, GREETING) == 0) {
+        note_once(client, &client->is_greeted, true, line);
+        greeted_count++;
+    } else {
+        fail("client %u did not expect: %s", client->number, line);
+    }
+}
+
+static void take_lines(struct client *client, const char *bytes, size_t count) {
+    for (size_t at = 0; at < count; at++) {
+        if (client->held == LINE_MOST) fail("a line of client %u is too long", client->number);
+        client->line[client->held++] = bytes[at];
+        if (bytes[at] == '\n') {
+            client->line[client->held - 1] = '\0';
+            client->held = 0;
+            take_line(client, client->line);
+        }
+    }
+}
+
+// Each member gets each line once and in order: its bytes are a stream that is known.
+static void take_said(struct client *client, const char *bytes, size_t count) {
+    while (count > 0) {
+        size_t at = client->bytes % sizeof said;
+        size_t piece = sizeof said - at < count ? sizeof said - at : count;
+        if (memcmp(said + at, bytes, piece) != 0) fail("other lines than were said, behind byte %lu of client %u", client->bytes, client->number);
+        client->bytes += piece;
+        bytes += piece;
+        count -= piece;
+    }
+}
+
+static void take_pongs(struct client *client, const char *bytes, size_t count) {
+    double at = now();
+    for (size_t place = 0; place < count; place++) {
+        if (bytes[place] != "PONG\n"[client->bytes % 5]) fail("no PONG at client %u", client->number);
+        client->bytes++;
+        if (client->bytes % 5 != 0) continue;
+        uint64_t which = client->bytes / 5 - 1;
+        if (which >= client->asked) fail("a PONG too many at client %u", client->number);
+        double tenths = (at - client->sent_at[which % DEPTH_MOST]) * 1e7;
+        latencies[tenths < BUCKETS ? (size_t)tenths : BUCKETS - 1]++;
+        answered++;
+    }
+}
+
+static void take_nothing(struct client *client, const char *bytes, size_t count) {
+    fail("client %u did not expect: %.*s", client->number, (int)count, bytes);
+}
+
+// Waits so many milliseconds at most, and takes what has come.
+static void pump(int milliseconds) {
+    static char bytes[READ_BYTES];
+    struct epoll_event ready[READY_MOST];
+    if (now() > deadline) fail("no end in %d seconds: %u greeted, %u in, %u told of all, %u settled", SECONDS_MOST, greeted_count, in_count, told_count, settled_count);
+    int count = epoll_wait(poll_set, ready, READY_MOST, milliseconds);
+    for (int place = 0; place < count; place++) {
+        struct client *client = ready[place].data.ptr;
+        ssize_t length = read(client->socket, bytes, sizeof bytes);
+        if (length > 0) take(client, bytes, (size_t)length);
+        else if (length == 0 || (errno != EAGAIN && errno != EINTR)) fail("client %u was closed", client->number);
+    }
+}
+
+static void pump_until(const unsigned *count, unsigned wanted) {
+    while (*count < wanted) pump(100);
+}
+
+// Nothing more comes.
+static void expect_silence(void) {
+    take = take_nothing;
+    pump(20);
+}
+
+// A write of few bytes, which the socket has room for.
+static void tell(const struct client *client, const char *form, ...) {
+    char text[256];
+    va_list words;
+    va_start(words, form);
+    int length = vsnprintf(text, sizeof text, form, words);
+    va_end(words);
+    if (write(client->socket, text, (size_t)length) != length) fail("client %u cannot write", client->number);
+}
+
+static void open_client(struct client *client, unsigned number, const struct sockaddr_in *address) {
+    int one = 1;
+    client->number = number;
+    client->told = calloc(client_count + 1, 1);
+    client->sent_at = calloc(DEPTH_MOST, sizeof *client->sent_at);
+    client->socket = socket(AF_INET, SOCK_STREAM, 0);
+    if (client->told == NULL || client->sent_at == NULL || client->socket < 0) fail("no memory or socket for client %u", number);
+    if (connect(client->socket, (const struct sockaddr *)address, sizeof *address) != 0) fail("client %u cannot connect: %s", number, strerror(errno));
+    setsockopt(client->socket, IPPROTO_TCP, TCP_NODELAY, &one, sizeof one);
+    fcntl(client->socket, F_SETFL, O_NONBLOCK);
+    struct epoll_event event = { .events = EPOLLIN, .data.ptr = client };
+    if (epoll_ctl(poll_set, EPOLL_CTL_ADD, client->socket, &event) != 0) fail("epoll_ctl: %s", strerror(errno));
+}
+
+// Connects the clients, a hundred at a time, and waits for their greetings.
+static void open_clients(int port) {
+    struct sockaddr_in address = { .sin_family = AF_INET, .sin_port = htons((uint16_t)port), .sin_addr.s_addr = htonl(INADDR_LOOPBACK) };
+    take = take_lines;
+    for (unsigned place = 0; place < client_count + quiet_count; place++) {
+        open_client(&clients[place], place + 1, &address);
+        if (place % 100 == 99) pump_until(&greeted_count, place + 1);
+    }
+    pump_until(&greeted_count, client_count + quiet_count);
+}
+
+static void log_in(const struct client *client) {
+    tell(client, "LOGIN u%04u " PASSWORD " 0 127.0.0.1 load\n", client->number);
+}
+
+// Hears a client alone, until it is in. What others are told waits in their sockets meanwhile.
+static void await_login(struct client *client) {
+    char bytes[READ_BYTES];
+    struct pollfd wanted = { .fd = client->socket, .events = POLLIN };
+    while (!client->is_in) {
+        if (now() > deadline) fail("client %u is not in", client->number);
+        if (poll(&wanted, 1, 100) < 1) continue;
+        ssize_t length = read(client->socket, bytes, sizeof bytes);
+        if (length <= 0) fail("client %u was closed", client->number);
+        take(client, bytes, (size_t)length);
+    }
+}
+
+// Logs all clients in, and waits until each is in.
+static void log_all_in(bool one_after_another) {
+    is_in_order = one_after_another;
+    for (unsigned place = 0; place < client_count; place++) {
+        log_in(&clients[place]);
+        if (!one_after_another) continue;
+        await_login(&clients[place]);
+        if (place % 100 == 99) pump(0);
+    }
+    pump_until(&in_count, client_count);
+}
+
+// Has all clients join the channel, one after another, and waits until each knows of all.
+static void join_all(void) {
+    for (unsigned place = 0; place < client_count; place++) {
+        tell(&clients[place], "JOIN " CHANNEL "\n");
+        pump_until(&clients[place].members, place + 1);
+    }
+    pump_until(&settled_count, client_count);
+}
+
+static void print_usage(struct usage from, struct usage to) {
+    printf(" seconds %.4f user %.2f system %.2f\n", to.at - from.at, to.user - from.user, to.system - from.system);
+}
+
+static void make_lines(void) {
+    char line[128];
+    for (int place = 0; place < CYCLE; place++) {
+        int length = snprintf(line, sizeof line, "SAID " CHANNEL " u0001 %06d a line for all who listen, ...........", place);
+        if (length < SAID_BYTES - 1) fail("the lines are too short");
+        line[SAID_BYTES - 1] = '\n';
+        memcpy(said + place * SAID_BYTES, line, SAID_BYTES);
+        char *spoken = say + place * SAY_BYTES;
+        memcpy(spoken, "SAY " CHANNEL " ", 9);
+        memcpy(spoken + 9, line + 16, SAID_BYTES - 16);
+    }
+}
+
+// Speaks up to this line, as far as the socket takes it.
+static void speak(const struct client *speaker, uint64_t *spoken, uint64_t lines) {
+    while (*spoken < lines * SAY_BYTES) {
+        size_t at = *spoken % sizeof say;
+        uint64_t left = lines * SAY_BYTES - *spoken;
+        size_t piece = sizeof say - at < left ? sizeof say - at : (size_t)left;
+        ssize_t length = write(speaker->socket, say + at, piece);
+        if (length < 0 && errno == EAGAIN) return;
+        if (length < 0) fail("the speaker cannot write: %s", strerror(errno));
+        *spoken += (uint64_t)length;
+    }
+}
+
+static bool have_all(uint64_t bytes) {
+    for (unsigned place = 0; place < client_count; place++)
+        if (clients[place].bytes < bytes) return false;
+    return true;
+}
+
+static void run_fanout(uint64_t window, double seconds) {
+    const struct client *speaker = &clients[0];
+    uint64_t spoken = 0, lines = window;
+    log_all_in(true);
+    join_all();
+    make_lines();
+    take = take_said;
+    struct usage from = usage();
+    while (now() < from.at + seconds) {
+        lines = speaker->bytes / SAID_BYTES + window;
+        speak(speaker, &spoken, lines);
+        pump(1);
+    }
+    lines = (spoken + SAY_BYTES - 1) / SAY_BYTES;
+    do {
+        speak(speaker, &spoken, lines);
+        pump(1);
+    } while (!have_all(lines * SAID_BYTES));
+    struct usage to = usage();
+    expect_silence();
+    printf("lines %lu", lines * client_count);
+    print_usage(from, to);
+}
+
+static void ask(struct client *client, unsigned depth) {
+    char text[DEPTH_MOST * 5];
+    size_t length = 0;
+    double at = now();
+    while (client->asked < client->bytes / 5 + depth) {
+        memcpy(text + length, "PING\n", 5);
+        client->sent_at[client->asked % DEPTH_MOST] = at;
+        client->asked++;
+        length += 5;
+    }
+    if (length > 0 && write(client->socket, text, length) != (ssize_t)length) fail("client %u cannot write", client->number);
+}
+
+// The latency in microseconds below which such a share of the answers came.
+static double latency(double share) {
+    double wanted = share * (double)answered, seen = 0;
+    size_t place = 0;
+    while (place + 1 < BUCKETS && (seen += latencies[place]) < wanted) place++;
+    return (double)place / 10;
+}
+
+static void run_ping(unsigned depth, double seconds) {
+    take = take_pongs;
+    struct usage from = usage();
+    uint64_t asked = 0;
+    while (now() < from.at + seconds) {
+        for (unsigned place = 0; place < client_count; place++) ask(&clients[place], depth);
+        pump(1);
+    }
+    for (unsigned place = 0; place < client_count; place++) asked += clients[place].asked;
+    while (answered < asked) pump(1);
+    struct usage to = usage();
+    expect_silence();
+    printf("answers %lu median %.1f late %.1f", answered, latency(0.5), latency(0.99));
+    print_usage(from, to);
+}
+
+static void run_logins(const char *how) {
+    struct usage from = usage();
+    log_all_in(strcmp(how, "one") == 0);
+    struct usage to = usage();
+    pump_until(&told_count, client_count);
+    struct usage end = usage();
+    expect_silence();
+    printf("logins %u all_told %.4f", client_count, end.at - from.at);
+    print_usage(from, to);
+}
+
+// A while in which the server gives back what it needs no more.
+static void rest(void) {
+    double end = now() + 1.0;
+    while (now() < end) pump(100);
+}
+
+static void run_memory(int port) {
+    unsigned long before = resident();
+    open_clients(port);
+    rest();
+    unsigned long greeted = resident();
+    log_all_in(true);
+    pump_until(&told_count, client_count);
+    join_all();
+    rest();
+    unsigned long joined = resident();
+    expect_silence();
+    printf("before %lu greeted %lu joined %lu bytes_greeted %.0f bytes_joined %.0f\n", before, greeted, joined,
+           (double)(greeted - before) * 1024 / client_count, (double)(joined - before) * 1024 / client_count);
+}
+
+static long number_at(int place, int count, char **words, long most) {
+    char *end = "";
+    long number = place < count ? strtol(words[place], &end, 10) : 0;
+    if (place >= count || *end != '\0' || number < 1 || number > most) fail("word %d is to be a number from 1 to %ld", place, most);
+    return number;
+}
+
+int main(int count, char **words) {
+    const char *mode = count > 1 ? words[1] : "";
+    int port = (int)number_at(2, count, words, 65535);
+    server = (int)number_at(3, count, words, 1 << 30);
+    client_count = (unsigned)number_at(4, count, words, CLIENTS_MOST);
+    quiet_count = count > 7 ? (unsigned)number_at(7, count, words, CLIENTS_MOST) : 0;
+    clients = calloc(client_count + quiet_count, sizeof *clients);
+    poll_set = epoll_create1(0);
+    if (clients == NULL || poll_set < 0) fail("no memory or poll");
+    deadline = now() + SECONDS_MOST;
+    alarm(SECONDS_MOST + 10);
+    if (strcmp(mode, "memory") == 0) {
+        run_memory(port);
+        return 0;
+    }
+    open_clients(port);
+    if (strcmp(mode, "fanout") == 0) run_fanout((uint64_t)number_at(5, count, words, CYCLE), (double)number_at(6, count, words, 30));
+    else if (strcmp(mode, "ping") == 0) run_ping((unsigned)number_at(5, count, words, DEPTH_MOST), (double)number_at(6, count, words, 30));
+    else if (strcmp(mode, "logins") == 0 && count > 5) run_logins(words[5]);
+    else fail("no such mode");
+    return 0;
+}

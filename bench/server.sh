@@ -1,0 +1,215 @@
+#!/usr/bin/env bash
+# The server beside a bare epoll loop, over loopback: fan-out, PING, logins, memory, system calls.
+#   bench/server.sh [WORKERS [RUNS [SECONDS]]]
+# Runs the server that `make build` leaves, or the one at LOBBY_MAIN, with so many workers (1), and the bare loop with one write a
+# client and round and with one write a line: all in turn, a new process each time, so many runs (5), a measured time of so many
+# seconds (3) where a mode has one. Prints medians of the runs, and of the ratios of each turn. MODES, some of
+# "fanout ping quiet logins memory calls", leaves the others out.
+set -euo pipefail
+cd "$(dirname "$0")/.."
+workers=${1:-1}
+runs=${2:-5}
+seconds=${3:-3}
+modes=${MODES:-fanout ping quiet logins memory calls}
+main=${LOBBY_MAIN:-$PWD/bin/lobby_main}
+[ -x "$main" ] || { echo "there is no $main: make build makes it"; exit 1; }
+ulimit -n 8192
+room=$(mktemp -d)
+server=
+
+stop() {
+    if [ -z "$server" ]; then return; fi
+    kill "$server" 2> "$room/kill" || true
+    wait "$server" 2> "$room/kill" || true
+    server=
+}
+trap 'stop; rm -rf "$room"' EXIT
+
+gcc -O2 -o "$room/load" bench/load.c
+gcc -O2 -o "$room/bare_fanout" bench/bare_fanout.c
+for number in $(seq 1 2000); do
+    printf '[[account]]\nname = "u%04d"\npassword = "X03MO1qnZdYdgyfeuILPmQ=="\nid = %d\n' "$number" "$number"
+done > "$room/accounts.toml"
+
+# launch SERVER PORT : becomes the server.
+launch() {
+    printf 'address = "127.0.0.1:%d"\nworkers = %d\n' "$2" "$workers" > "$room/settings.toml"
+    case $1 in
+        ours) exec "$main" serve "$room/settings.toml" "$room/accounts.toml" ;;
+        bare) exec "$room/bare_fanout" "$2" ;;
+        bare_lines) exec "$room/bare_fanout" "$2" lines ;;
+    esac
+}
+
+# start SERVER : at a port below those that connecting sockets get, at another one where it is in use.
+start() {
+    local try moment
+    for try in $(seq 1 20); do
+        port=$((20000 + RANDOM % 12000))
+        : > "$room/told"
+        launch "$1" "$port" > "$room/told" 2> "$room/error" < /dev/null &
+        server=$!
+        for moment in $(seq 1 200); do
+            if grep -q '^listening$' "$room/told"; then return; fi
+            if ! kill -0 "$server" 2> "$room/kill"; then break; fi
+            sleep 0.05
+        done
+        stop
+    done
+    echo "no $1 starts in $try tries and $moment looks:"
+    cat "$room/error"
+    exit 1
+}
+
+# measure SERVER MODE WORD.. : one run of the load at a new server, whose figures are kept.
+measure() {
+    local name=$1 mode=$2
+    shift 2
+    start "$name"
+    timeout 90 "$room/load" "$mode" "$port" "$server" "$@" >> "$room/$name.$mode.$1.${2:-}" || { echo "$name: the load failed at $mode $*"; exit 1; }
+    stop
+}
+
+# in_turn SERVERS MODE WORD.. : so many runs of these servers.
+in_turn() {
+    local run name names=$1
+    shift
+    for run in $(seq 1 "$runs"); do
+        for name in $names; do measure "$name" "$@"; done
+    done
+}
+
+median() { sort -g | awk '{ at[NR] = $1 } END { print at[int((NR + 1) / 2)] }'; }
+
+# each FILE EXPRESSION : of each run, the expression over its figures.
+each() { awk '{ for (i = 1; i < NF; i += 2) of[$i] = $(i + 1); print '"$2"' }' "$room/$1"; }
+
+# figure FORM FILE EXPRESSION : the median of the runs.
+figure() { printf "$1" "$(each "$2" "$3" | median)"; }
+
+# ratio FILE FILE EXPRESSION : the median of the ratios of runs in one turn.
+ratio() { printf '%.2f' "$(paste <(each "$1" "$3") <(each "$2" "$3") | awk '$2 > 0 { print $1 / $2 }' | median)"; }
+
+fanout() {
+    local members window name cost='(of["user"] + of["system"]) / of["lines"] * 1e6'
+    echo "Fan-out: processor seconds a million delivered lines (user + system), delivered lines a second, seconds taken by $workers worker(s)"
+    echo '| Members | In flight | Server | Bare | Bare, a write a line | Server / bare | Server / bare, a write a line | Lines a second: server | bare | bare, a write a line |'
+    echo '|---|---|---|---|---|---|---|---|---|---|'
+    for window in 256 4; do
+        for members in 50 200 1000; do
+            in_turn "ours bare bare_lines" fanout "$members" "$window" "$seconds"
+            printf '| %d | %d ' "$members" "$window"
+            for name in ours bare bare_lines; do
+                figure '| %.3f' "$name.fanout.$members.$window" "$cost"
+                figure ' (%.3f' "$name.fanout.$members.$window" 'of["user"] / of["lines"] * 1e6'
+                figure ' + %.3f) ' "$name.fanout.$members.$window" 'of["system"] / of["lines"] * 1e6'
+            done
+            printf '| %s | %s ' "$(ratio "ours.fanout.$members.$window" "bare.fanout.$members.$window" "$cost")" \
+                "$(ratio "ours.fanout.$members.$window" "bare_lines.fanout.$members.$window" "$cost")"
+            for name in ours bare bare_lines; do figure "| %'.0f " "$name.fanout.$members.$window" 'of["lines"] / of["seconds"]'; done
+            echo '|'
+        done
+    done
+}
+
+ping() {
+    local clients depth name
+    echo 'PING: answers a second, latency in us (median, 99th percentile), processor seconds a million answers'
+    echo '| Clients | In flight each | Server | Bare | Server: median, 99 % | Bare: median, 99 % | Server: seconds a million | Bare | Server / bare, of seconds |'
+    echo '|---|---|---|---|---|---|---|---|---|'
+    for depth in 1 20; do
+        for clients in 1 50; do
+            in_turn "ours bare" ping "$clients" "$depth" "$seconds"
+            printf '| %d | %d ' "$clients" "$depth"
+            for name in ours bare; do figure "| %'.0f " "$name.ping.$clients.$depth" 'of["answers"] / of["seconds"]'; done
+            for name in ours bare; do
+                figure '| %.0f, ' "$name.ping.$clients.$depth" 'of["median"]'
+                figure '%.0f ' "$name.ping.$clients.$depth" 'of["late"]'
+            done
+            for name in ours bare; do figure '| %.2f ' "$name.ping.$clients.$depth" '(of["user"] + of["system"]) / of["answers"] * 1e6'; done
+            echo "| $(ratio "ours.ping.$clients.$depth" "bare.ping.$clients.$depth" '(of["user"] + of["system"]) / of["answers"]') |"
+        done
+    done
+}
+
+# What clients cost who are greeted and then do nothing.
+quiet() {
+    local others name
+    echo 'With quiet clients beside: one client that keeps one PING unanswered, and a channel of 50 with 4 lines in flight'
+    echo '| Quiet clients | PING, median us: server | bare | seconds a million: server | bare | SAY, seconds a million delivered lines: server | bare |'
+    echo '|---|---|---|---|---|---|---|'
+    for others in 0 200 2000; do
+        for name in ours bare; do rm -f "$room/$name.ping.1.1" "$room/$name.fanout.50.4"; done
+        in_turn "ours bare" ping 1 1 "$seconds" $([ "$others" = 0 ] || echo "$others")
+        in_turn "ours bare" fanout 50 4 "$seconds" $([ "$others" = 0 ] || echo "$others")
+        printf '| %d ' "$others"
+        for name in ours bare; do figure '| %.0f ' "$name.ping.1.1" 'of["median"]'; done
+        for name in ours bare; do figure '| %.1f ' "$name.ping.1.1" '(of["user"] + of["system"]) / of["answers"] * 1e6'; done
+        for name in ours bare; do figure '| %.2f ' "$name.fanout.50.4" '(of["user"] + of["system"]) / of["lines"] * 1e6'; done
+        echo '|'
+    done
+}
+
+logins() {
+    local how name
+    echo '2,000 logins: seconds until each has LOGININFOEND, and until each is told of all; processor seconds of the server until the first'
+    echo '| How | Server | told of all | processor | Bare | told of all | processor | Bare, a write a line | told of all | processor |'
+    echo '|---|---|---|---|---|---|---|---|---|---|'
+    for how in one all; do
+        in_turn "ours bare bare_lines" logins 2000 "$how"
+        printf '| %s ' "$how"
+        for name in ours bare bare_lines; do
+            figure '| %.2f ' "$name.logins.2000.$how" 'of["seconds"]'
+            figure '| %.2f ' "$name.logins.2000.$how" 'of["all_told"]'
+            figure '| %.2f ' "$name.logins.2000.$how" 'of["user"] + of["system"]'
+        done
+        echo '|'
+    done
+}
+
+memory() {
+    local name
+    in_turn "ours bare" memory 2000
+    echo 'Memory that is resident: kB before, bytes a client with 2,000 greeted, and with these in one channel and quiet'
+    echo '| | Before | Greeted | In a channel |'
+    echo '|---|---|---|---|'
+    for name in ours bare; do
+        figure "| $name | %.0f kB " "$name.memory.2000." 'of["before"]'
+        figure '| %.0f ' "$name.memory.2000." 'of["bytes_greeted"]'
+        figure '| %.0f |\n' "$name.memory.2000." 'of["bytes_joined"]'
+    done
+}
+
+# System calls in two seconds of the measured time.
+calls() {
+    local name members window
+    command -v strace > "$room/which" || { echo 'there is no strace: no system calls are counted'; return; }
+    echo 'System calls a client and poll'
+    echo '| Members | In flight | | Writes | Reads | Writes to wakers a poll |'
+    echo '|---|---|---|---|---|---|'
+    for window in 256 4; do
+        members=$((window == 4 ? 200 : 50))
+        for name in ours bare; do
+            start "$name"
+            timeout 90 "$room/load" fanout "$port" "$server" "$members" "$window" 6 > "$room/load.out" &
+            sleep 2
+            timeout 2 strace -f -c -e trace=write,sendto,read,recvfrom,epoll_wait -p "$server" -o "$room/calls" 2> "$room/strace" || true
+            wait $!
+            stop
+            awk -v members="$members" -v window="$window" -v name="$name" '
+                $4 ~ /^[0-9]+$/ && $NF != "total" { calls[$NF] = $4 }
+                END {
+                    wakes = name == "ours" ? calls["write"] : 0
+                    written = calls["sendto"] + calls["write"] - wakes
+                    read = calls["recvfrom"] + calls["read"]
+                    polls = calls["epoll_wait"] * members
+                    printf "| %d | %d | %s | %.2f | %.2f | %.2f |\n", members, window, name, written / polls, read / polls, wakes / calls["epoll_wait"]
+                }' "$room/calls"
+        done
+    done
+}
+
+for mode in $modes; do
+    "$mode"
+    echo
+done
