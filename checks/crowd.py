@@ -105,8 +105,11 @@ class Crowd:
             peer.unsent = peer.unsent[peer.link.send(peer.unsent) :]
         except BlockingIOError:
             pass
-        events = select.EPOLLIN | (select.EPOLLOUT if peer.unsent else 0)
-        self.poll.modify(peer.link, events)
+        self.want_to_send(peer)
+
+    def want_to_send(self, peer):
+        """Asks the poll to tell when a peer takes bytes, where some are left for it."""
+        self.poll.modify(peer.link, select.EPOLLIN | (select.EPOLLOUT if peer.unsent else 0))
 
     def pump(self, seconds):
         """Takes what has come, and waits for it so long."""
@@ -128,7 +131,7 @@ class Crowd:
                 pass
         if data:
             peer.unsent += data
-            self.poll.modify(peer.link, select.EPOLLIN | select.EPOLLOUT)
+            self.want_to_send(peer)
 
     def await_text(self, peer, text):
         """Has `wait` wait for a text that comes behind the last one that was awaited."""

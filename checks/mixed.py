@@ -1,0 +1,225 @@
+#!/usr/bin/env python3
+"""Some dozens of users say lines of all commands, good and bad ones, at once and without waiting, and now and then one leaves
+and comes again. At the end the bytes of each are folded by view_show, whole and one by one: all have to know the same users and
+battles, which one who logs in then is told at once; the members of a battle the same room; those of a channel the same members.
+Run by hand, behind `make build`:
+
+    checks/mixed.py [WORKERS [SECONDS [USERS [SEED]]]]
+
+They are 4, 20, 48 and 1 if left out. $LOBBY_MAIN and $VIEW_SHOW name other builds of the programs."""
+import collections
+import random
+import socket
+import struct
+import subprocess
+import sys
+import time
+
+from crowd import Crowd, Peer
+from lobby_server import Account, Difference, Server, program, run
+
+NAMES = [f"User{number:02}" for number in range(100)]
+WORDS = ["Robo", "Rex", "Kai", "Max"]
+KEYS = ["game/mode", "game/units", "map/start", "x", "y"]
+
+
+class Speaker:
+    """Makes lines of all commands, most of them such as are served."""
+
+    def __init__(self, choice, names):
+        self.choice, self.names, self.battles = choice, names, 1
+        self.makers = [getattr(self, it) for it in dir(Speaker) if it.startswith("say_")]
+
+    def u32(self):
+        return self.choice.randrange(1 << 32)
+
+    def colour(self):
+        return self.choice.randrange(-9, 1 << 24)
+
+    def name(self):
+        return self.choice.choice(self.names)
+
+    def channel(self):
+        return self.choice.choice("abcd")
+
+    def line(self):
+        number = f"#{self.choice.randrange(99)} " if self.choice.random() < 0.2 else ""
+        return number + self.choice.choice(self.makers)() + self.choice.choice(("\n", "\r\n"))
+
+    def say_channels(self):
+        verb = self.choice.choice(("JOIN", "JOIN", "LEAVE"))
+        return f"{verb} {self.channel()}"
+
+    def say_talk(self):
+        verb = self.choice.choice(("SAY", "SAYEX"))
+        return f"{verb} {self.channel()} text {self.u32()}"
+
+    def say_private(self):
+        return f"SAYPRIVATE {self.name()} text {self.u32()}"
+
+    def say_status(self):
+        return f"MYSTATUS {self.u32()}"
+
+    def say_short(self):
+        if self.choice.random() < 0.05:
+            return "LEAVEBATTLE"
+        return self.choice.choice(("PING", "CHANNELS", "NOTHING", "SAY", "MYSTATUS x", "  ", "RING \t"))
+
+    def say_open(self):
+        if self.choice.random() < 0.8:
+            return "PING"
+        word = self.choice.choice(("*", "*", "word"))
+        return f"OPENBATTLE 0 0 {word} 8452 8 {self.colour()} 0 1 Spring\t104.0\tMap {self.u32()}\tTitle\tBA"
+
+    def say_join(self):
+        battle = max(1, self.battles - self.choice.randrange(6))
+        return f"JOINBATTLE {battle}{self.choice.choice(('', ' word', ' word script', ' *'))}"
+
+    def say_own_status(self):
+        return f"MYBATTLESTATUS {self.u32()} {self.colour()}"
+
+    def say_in_battle(self):
+        return f"{self.choice.choice(('SAYBATTLE', 'SAYBATTLEEX'))} text {self.u32()}"
+
+    def say_info(self):
+        return f"UPDATEBATTLEINFO {self.choice.randrange(9)} {int(self.choice.random() < 0.2)} 7 Map {self.u32()}"
+
+    def say_bot(self):
+        verb = self.choice.choice(("ADDBOT", "UPDATEBOT", "REMOVEBOT"))
+        rest = "" if verb == "REMOVEBOT" else f" {self.u32()} {self.colour()}"
+        return f"{verb} {self.choice.choice(WORDS)}{rest}{' KAIK' if verb == 'ADDBOT' else ''}"
+
+    def say_rectangle(self):
+        if self.choice.random() < 0.3:
+            return f"REMOVESTARTRECT {self.choice.randrange(16)}"
+        return f"ADDSTARTRECT {self.choice.randrange(16)} {' '.join(str(self.choice.randrange(201)) for _ in range(4))}"
+
+    def say_tags(self):
+        if self.choice.random() < 0.3:
+            return f"REMOVESCRIPTTAGS {self.choice.choice(KEYS)} {self.choice.choice(KEYS)}"
+        return "SETSCRIPTTAGS " + "\t".join(f"{self.choice.choice(KEYS)}={self.u32()}" for _ in range(self.choice.randrange(1, 4)))
+
+    def say_force(self):
+        verb = self.choice.choice(("HANDICAP", "FORCETEAMNO", "FORCEALLYNO", "FORCETEAMCOLOR"))
+        return f"{verb} {self.name()} {self.choice.randrange(16)}"
+
+    def say_member(self):
+        return f"{self.choice.choice(('FORCESPECTATORMODE', 'RING', 'RING', 'KICKFROMBATTLE'))} {self.name()}"
+
+
+class Mixed:
+    """All users, of whom each is logged in most of the time."""
+
+    def __init__(self, crowd, accounts, choice):
+        self.crowd, self.choice, self.accounts = crowd, choice, accounts
+        self.speaker = Speaker(choice, [it.name for it in accounts])
+        self.peers = [self.enter(it) for it in accounts]
+        self.lines = self.returns = 0
+
+    def enter(self, account):
+        peer = Peer(account.number)
+        peer.account = account
+        self.crowd.connect(peer)
+        # A connection that is not made yet takes no line.
+        peer.unsent = account.login().encode()
+        self.crowd.want_to_send(peer)
+        return peer
+
+    def leave(self, at):
+        """One leaves, by EXIT, a close or a reset, and comes again."""
+        peer = self.peers[at]
+        how = self.choice.randrange(3)
+        if how == 0:
+            self.crowd.send(peer, "EXIT\n")
+        else:
+            if how == 1:
+                peer.link.setsockopt(socket.SOL_SOCKET, socket.SO_LINGER, struct.pack("ii", 1, 0))
+            self.crowd.forget(peer)
+        self.returns += 1
+        self.peers[at] = self.enter(self.accounts[at])
+
+    def talk(self, seconds):
+        end = time.monotonic() + seconds
+        while time.monotonic() < end:
+            told = self.peers[0].heard
+            last = told.rfind(b"\nBATTLEOPENED ")
+            self.speaker.battles = int(told[last:].split(b" ", 2)[1]) if last >= 0 else self.speaker.battles
+            for at in range(len(self.peers)):
+                peer = self.peers[at]
+                if len(peer.unsent) > 10_000:
+                    continue
+                if b"\nLOGININFOEND\n" not in peer.heard and b"\nDENIED " in peer.heard[-2_000:]:
+                    self.crowd.send(peer, peer.account.login())
+                count = self.choice.randrange(40)
+                self.crowd.send(peer, "".join(self.speaker.line() for _ in range(count)))
+                self.lines += count
+                if self.choice.random() < 0.01:
+                    self.leave(at)
+            self.crowd.pump(0.001)
+
+    def all_in(self):
+        """Waits until each is logged in."""
+        for number in range(100, 200, 2):
+            self.crowd.barrier(self.peers, number)
+            out = [it for it in self.peers if b"\nLOGININFOEND\n" not in it.heard]
+            if not out:
+                return
+            for peer in out:
+                self.crowd.send(peer, peer.account.login())
+        raise Difference(f"{len(out)} cannot log in, one as {bytes(out[0].heard[-300:])}")
+
+
+def view(heard):
+    """What a client knows: of all, and by channel and room."""
+    shower = program("VIEW_SHOW", "view_show")
+    texts = [subprocess.run([shower, *how], input=bytes(heard), stdout=subprocess.PIPE, timeout=120, check=True).stdout for how in ([], ["one-by-one"])]
+    if texts[0] != texts[1]:
+        raise Difference("a view folds bytes one by one to something else")
+    parts, key = collections.defaultdict(list), "me"
+    for line in texts[0].decode().splitlines():
+        words = line.split()
+        if not line.startswith(" "):
+            key = {"me": "me", "user": "all", "battle": "all"}.get(words[0]) or f"{words[0]} {words[1]}"
+        parts[key].append(line)
+    return parts
+
+
+def compare(peers):
+    """All that more than one knows has to be the same. The last peer is the onlooker, who logged in behind all else."""
+    shared, holders = {}, collections.Counter()
+    for peer in reversed(peers):
+        for key, lines in view(peer.heard).items():
+            if key == "me":
+                continue
+            if shared.setdefault(key, lines) != lines:
+                other = [it for it in zip(shared[key], lines) if it[0] != it[1]][:3]
+                raise Difference(f"{peer.account.name} knows {key} otherwise: {other}, {len(shared[key])} and {len(lines)} lines")
+            holders[key] += 1
+    if holders["all"] != len(peers):
+        raise Difference("some know no users")
+    for key, lines in shared.items():
+        # Each who knows a channel or a room is one of its members.
+        if key != "all" and holders[key] != sum(it.startswith("  member ") for it in lines):
+            raise Difference(f"{holders[key]} know {key}: {lines}")
+    rooms = sum(it.startswith("room") for it in shared)
+    print(f"  {len(peers)} clients know the same; {rooms} rooms and {len(shared) - 1 - rooms} channels are known by all of their members")
+
+
+def check(workers="4", seconds="20", users="48", seed="1"):
+    accounts = [Account(NAMES[number], number, number % 8) for number in range(int(users))]
+    watcher = Account("Watcher", 1_000)
+    with Server(int(workers), [*accounts, watcher], "outbox_limit = 67108864\n") as server:
+        mixed = Mixed(Crowd(server), accounts, random.Random(int(seed)))
+        mixed.talk(float(seconds))
+        mixed.all_in()
+        mixed.accounts.append(watcher)
+        mixed.peers.append(mixed.enter(watcher))
+        mixed.all_in()
+        size = sum(len(it.heard) for it in mixed.peers)
+        print(f"  {mixed.lines} lines were said, {mixed.returns} left and came again, {size / 1e6:.0f} MB are compared", flush=True)
+        print(f"  the server: {server.memory()[1]:.0f} MB at most, {server.seconds():.1f} s of processors", flush=True)
+        compare(mixed.peers)
+
+
+if __name__ == "__main__":
+    run(check, sys.argv[1:])
