@@ -9,6 +9,7 @@ WORKERS is 4 if left out, and the names are those of some of the checks below. $
 import contextlib
 import errno
 import os
+import re
 import select
 import socket
 import subprocess
@@ -65,7 +66,7 @@ def slow_reader(workers):
             if client is not slow:
                 client.expect(f"JOIN busy\nCLIENTS busy {' '.join(names)}\n")
             both([anna, bert][: len(names) - 1], f"JOINED busy {name}\n")
-        said, told = talk_until_cut(anna, bert)
+        said, told = talk_until_cut([anna, bert], 1)
         if told != [[b"LEFT busy Eve\n", b"REMOVEUSER Eve\n"]] * 2:
             raise Difference(f"of the slow reader the others are told {told}")
         both([anna, bert], "")
@@ -81,19 +82,53 @@ def slow_reader(workers):
         print(f"  cut behind {len(whole) / 1e6:.2f} MB, of which it could read {len(found) / 1e6:.2f} MB")
 
 
-def talk_until_cut(anna, bert):
-    """Anna speaks, line by line, up to some lines behind the one at which the others are told that someone left."""
-    said, told, rest = [], [[], []], 20
+def talk_until_cut(clients, count):
+    """The first speaks, line by line, up to some lines behind the one at which all are told that so many are gone."""
+    said, told, rest = [], [[] for _ in clients], 20
     for number in range(4_000):
         text = f"{number} ".ljust(8_000, "x")
-        anna.send(f"SAY busy {text}\n")
+        clients[0].send(f"SAY busy {text}\n")
         said.append(f"SAID busy Anna {text}\n".encode())
-        for client, others in zip((anna, bert), told):
+        for client, others in zip(clients, told):
             others += lines_until(client, said[-1])
-        rest -= any(told)
+        rest -= all(sum(it.startswith(b"REMOVEUSER ") for it in others) >= count for others in told)
         if not rest:
             return said, told
-    raise Difference("4,000 long lines do not cut one who reads nothing")
+    raise Difference("4,000 long lines do not cut those who read nothing")
+
+
+def slow_readers(workers):
+    """Thirty of a channel read nothing, and half of them have a battle: the others are told of each once, and whole."""
+    crowd = [Account(f"Eve{number}", 100 + number) for number in range(30)]
+    with Server(workers, [ANNA, BERT, *crowd], "outbox_limit = 65536\n") as server:
+        anna = logged_in(server, ANNA, [])
+        bert = logged_in(server, BERT, [ANNA])
+        anna.send("JOIN busy\n")
+        anna.expect(BERT.arrival() + "JOIN busy\nCLIENTS busy Anna\n")
+        slow, wanted = [], []
+        for number, account in enumerate(crowd):
+            slow.append(greeted(server, room=4_096))
+            battle = number // 2 + 1 if number % 2 else 0
+            slow[-1].send(account.login() + "JOIN busy\n" + OPEN * bool(battle))
+            shown = opened(battle, account.name) if battle else ""
+            anna.expect(f"{account.arrival()}JOINED busy {account.name}\n{shown}")
+            bert.expect(account.arrival() + shown)
+            closed = [f"BATTLECLOSED {battle}\n"] if battle else []
+            wanted.append([f"LEFT busy {account.name}\n", *closed, f"REMOVEUSER {account.name}\n"])
+        _, told = talk_until_cut([anna], len(crowd))
+        found = re.findall(r"LEFT .*\n(?:BATTLECLOSED .*\n)?REMOVEUSER .*\n", b"".join(told[0]).decode())
+        if sorted(found) != sorted("".join(it) for it in wanted) or "".join(found) != b"".join(told[0]).decode():
+            raise Difference(f"of slow readers Anna is told {told}")
+        bert.expect("".join(line for it in found for line in it.splitlines(True) if not line.startswith("LEFT ")))
+        anna.expect_nothing_more()
+        bert.expect_nothing_more()
+        # What the system still holds for them it may give them slowly; the server has closed them all, and has three sockets:
+        # the one at which it listens, and those of the two who are left.
+        for _ in range(500):
+            if server.sockets() == 3:
+                return
+            time.sleep(0.01)
+        raise Difference(f"the server has {server.sockets()} sockets for two clients")
 
 
 def half_closed(workers):
@@ -457,7 +492,7 @@ def open_files(workers):
         print(f"  300 were greeted in turn, and the server took {server.seconds() - begun:.2f} s of processors")
 
 
-CHECKS = [slow_reader, half_closed, late_readers, resets, resets_at_once, hasty_logins, one_by_one, line_limits, flood, burst]
+CHECKS = [slow_reader, slow_readers, half_closed, late_readers, resets, resets_at_once, hasty_logins, one_by_one, line_limits, flood, burst]
 CHECKS += [restarts, open_files]
 
 

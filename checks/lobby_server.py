@@ -128,6 +128,14 @@ class Server:
         sizes = dict(line.split(":", 1) for line in lines)
         return tuple(int(sizes[it].split()[0]) / 1024 for it in ("VmRSS", "VmHWM"))
 
+    def sockets(self):
+        """How many sockets it has open."""
+        count = 0
+        for link in Path(f"/proc/{self.process.pid}/fd").iterdir():
+            with contextlib.suppress(FileNotFoundError):
+                count += os.readlink(link).startswith("socket:")
+        return count
+
     def seconds(self):
         """How many seconds of processors it took."""
         fields = Path(f"/proc/{self.process.pid}/stat").read_text().rpartition(")")[2].split()
