@@ -36,4 +36,4 @@ soak:
 	@checks/soak.sh
 
 connections:
-	@for workers in 1 4; do checks/connections.py $$workers && checks/played.py $$workers && checks/crowd.py $$workers || exit 1; done
+	@for workers in 1 4; do checks/connections.py $$workers && checks/played.py $$workers && checks/mixed.py $$workers && checks/crowd.py $$workers || exit 1; done
