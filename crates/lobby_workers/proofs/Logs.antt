@@ -1,5 +1,5 @@
 -- What one more piece adds, and what a copy put in front.
-use Rattle.std.proofs.Common.{◌≡◌, ℕ, ◌≤◌, List, [], ◌∷◌, ◌++◌, take, length, refl, ap, ◌∙◌, sym, arith}
+use Rattle.std.proofs.Common.{◌≡◌, ℕ, ◌≤◌, List, [], ◌∷◌, ◌++◌, take, length, ap, ◌∙◌, sym, arith}
 use Rattle.std.proofs.lemmas.List.{append_assoc, append-nil, take_at, length-take-le, take-append-le, take-take}
 use Rattle.lobby_workers.specs.Gathered.{gathered}
 
