@@ -21,7 +21,7 @@ build:
 	@tools/build.sh
 
 test:
-	RT_JOBS=$$(tools/lanes.sh) rt ci && checks/rows.sh && checks/programs.sh && checks/serve.sh && checks/links.py && checks/views.sh
+	@tools/gate.py
 
 check:
 	@cd crates/$(or $(CRATE),$(error give a crate, as make check CRATE=line_words)) && rt check

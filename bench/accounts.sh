@@ -3,8 +3,7 @@
 # the times and the most memory that the program held. More counts may be given as arguments.
 set -eu
 cd "$(dirname "$0")/.."
-program=crates/bench_accounts/out/bench_accounts
-[ -x "$program" ] || (cd crates/bench_accounts && rt run > /dev/null)
+program=$(tools/build_bench.sh bench_accounts)
 
 list=$(mktemp)
 trap 'rm -f "$list"' EXIT

@@ -5,17 +5,17 @@
 set -euo pipefail
 cd "$(dirname "$0")/.."
 lines=${1:-4000000}
-(cd crates/bench_lobby && rt run --jobs 1 > /dev/null)
-out=crates/bench_lobby/out
+program=$(tools/build_bench.sh bench_lobby)
+out=$(dirname "$program")
 rustc -C opt-level=3 -o "$out/rooms" bench/rooms.rs
 statuses=$((lines / 8))
 for _ in 1 2 3 4 5; do
     for battles in 50 500; do
-        "$out/bench_lobby" clients=10000 users=5000 battles="$battles" statuses="$statuses" | sed "s/^/lobby $battles /"
+        "$program" clients=10000 users=5000 battles="$battles" statuses="$statuses" | sed "s/^/lobby $battles /"
         "$out/rooms" 10000 5000 "$battles" "$statuses" | sed "s/^/baseline $battles /"
     done
     for battles in 0 250; do
-        "$out/bench_lobby" clients=10000 users=2000 battles="$battles" | sed "s/^/login $battles /"
+        "$program" clients=10000 users=2000 battles="$battles" | sed "s/^/login $battles /"
     done
 done | awk '
     { sub(/last joins:/, "joins:"); sub(/log outs:/, "leaves:") }

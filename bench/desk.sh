@@ -5,14 +5,14 @@
 set -euo pipefail
 cd "$(dirname "$0")/.."
 holds=${1:-4000000}
-(cd crates/bench_desk && rt run --jobs 1 > /dev/null)
-out=crates/bench_desk/out
+program=$(tools/build_bench.sh bench_desk)
+out=$(dirname "$program")
 rustc -C opt-level=3 -o "$out/mutex" bench/mutex.rs
 for _ in 1 2 3 4 5; do
-    "$out/bench_desk" alone "$holds" | sed "s/^/desk 0 /"
+    "$program" alone "$holds" | sed "s/^/desk 0 /"
     "$out/mutex" alone "$holds" | sed "s/^/baseline 0 /"
     for threads in 1 2 4; do
-        "$out/bench_desk" holds "$threads" $((holds / threads)) | sed "s/^/desk $threads /"
+        "$program" holds "$threads" $((holds / threads)) | sed "s/^/desk $threads /"
         "$out/mutex" holds "$threads" $((holds / threads)) | sed "s/^/baseline $threads /"
     done
 done | awk '

@@ -1,5 +1,5 @@
 //! Tells users of changed statuses, and the members of a channel what one of them says, written by hand over Rust's std
-//! alone: a baseline of crates/bench_lobby.
+//! alone: a baseline of bench/programs/bench_lobby.
 //!
 //! Each client has a buffer of its own in a map by number, and each user a status in a map by name. An event looks its
 //! user up, formats one line and appends it to the buffer of each user, in the order of the clients, or of each member of

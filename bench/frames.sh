@@ -4,11 +4,11 @@
 set -euo pipefail
 cd "$(dirname "$0")/.."
 passes=${1:-1092}
-(cd crates/bench_frames && rt run --jobs 1 > /dev/null)
-out=crates/bench_frames/out
+program=$(tools/build_bench.sh bench_frames)
+out=$(dirname "$program")
 gcc -O2 -o "$out/scan_lines" bench/scan_lines.c
 for _ in 1 2 3 4 5; do
-    "$out/bench_frames" "$passes" | sed 's/^/framer /'
+    "$program" "$passes" | sed 's/^/framer /'
     "$out/scan_lines" "$passes" | sed 's/^/scan /'
 done | awk '
     $2 == "pieces" { size = $4 + 0 }

@@ -5,11 +5,11 @@
 set -euo pipefail
 cd "$(dirname "$0")/.."
 passes=${1:-4000}
-(cd crates/bench_grammar && rt run --jobs 1 > /dev/null)
-out=crates/bench_grammar/out
+program=$(tools/build_bench.sh bench_grammar)
+out=$(dirname "$program")
 rustc -C opt-level=3 -o "$out/lines" bench/lines.rs
 for _ in $(seq 51); do
-    "$out/bench_grammar" "$passes" | sed 's/^/grammars /'
+    "$program" "$passes" | sed 's/^/grammars /'
     "$out/lines" "$passes" | sed 's/^/baseline /'
 done | awk '
     $2 == "read:" || $2 == "printed:" {

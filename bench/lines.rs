@@ -1,4 +1,4 @@
-//! Reads and prints the mix of lines of crates/bench_grammar, written by hand over Rust's std alone: its baseline.
+//! Reads and prints the mix of lines of bench/programs/bench_grammar, written by hand over Rust's std alone: its baseline.
 //!
 //! It knows all 31 command words, and reads the arguments of the commands of the mix by the same rules: bytes without CR and
 //! LF, words behind runs of spaces, names of 1 to 20 letters, numbers within bounds, and each argument that is kept owned.

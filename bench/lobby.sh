@@ -6,17 +6,17 @@
 set -euo pipefail
 cd "$(dirname "$0")/.."
 lines=${1:-20000000}
-(cd crates/bench_lobby && rt run --jobs 1 > /dev/null)
-out=crates/bench_lobby/out
+program=$(tools/build_bench.sh bench_lobby)
+out=$(dirname "$program")
 rustc -C opt-level=3 -o "$out/fanout" bench/fanout.rs
 for _ in 1 2 3 4 5; do
     for users in 200 2000; do
         events=$((lines / users))
-        "$out/bench_lobby" clients=10000 users="$users" events="$events" | sed "s/^/lobby $users /"
+        "$program" clients=10000 users="$users" events="$events" | sed "s/^/lobby $users /"
         "$out/fanout" 10000 "$users" "$events" 0 0 | sed "s/^/baseline $users /"
     done
     for clients in 10 10000; do
-        "$out/bench_lobby" clients="$clients" pings=1000000 | sed "s/^/lobby $clients /"
+        "$program" clients="$clients" pings=1000000 | sed "s/^/lobby $clients /"
     done
 done | awk -v lines="$lines" '
     $3 ~ /:$/ {

@@ -1,5 +1,5 @@
 //! Threads that each lock a lobby from time to time and have one client send `PING`, written by hand over Rust's std
-//! alone: a baseline of crates/bench_desk.
+//! alone: a baseline of bench/programs/bench_desk.
 //!
 //! `mutex alone PINGS` sends so many without a lock; `mutex holds THREADS HOLDS` has each of so many threads lock the one
 //! `Mutex` so often. A hold looks its client up in an ordered map by number, appends the answer to its buffer and keeps

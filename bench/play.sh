@@ -2,8 +2,8 @@
 # Seconds and most memory of lobby_play on scripts of the largest size, 1,048,576 bytes: medians of 3 runs.
 set -euo pipefail
 cd "$(dirname "$0")/.."
-program=crates/lobby_play/out/lobby_play
-[ -x "$program" ] || (cd crates/lobby_play && rt run --jobs 1 < /dev/null > /dev/null)
+program=bin/lobby_play
+[ -x "$program" ] || { echo "there is no $program: make build makes it"; exit 1; }
 python3 - "$program" <<'PY'
 import subprocess, sys, tempfile
 

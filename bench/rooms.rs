@@ -1,5 +1,5 @@
 //! Tells the members of battles of each other's statuses, written by hand over Rust's std alone: a baseline of
-//! crates/bench_lobby.
+//! bench/programs/bench_lobby.
 //!
 //! Each client has a buffer of its own in a map by number, each user its battle in a map by name, and each battle the
 //! clients and statuses of its members. An event looks its user up, its battle and its status there, formats one line, and

@@ -1,4 +1,4 @@
-/* Scans lines of 60 bytes for LF by memchr, in pieces of 1, 7 and 4,096 bytes: the baseline of crates/bench_frames. */
+/* Scans lines of 60 bytes for LF by memchr, in pieces of 1, 7 and 4,096 bytes: the baseline of bench/programs/bench_frames. */
 #define _POSIX_C_SOURCE 199309L
 #include <stdio.h>
 #include <stdlib.h>

@@ -6,18 +6,18 @@
 set -euo pipefail
 cd "$(dirname "$0")/.."
 lines=${1:-10000000}
-(cd crates/bench_lobby && rt run --jobs 1 > /dev/null)
-out=crates/bench_lobby/out
+program=$(tools/build_bench.sh bench_lobby)
+out=$(dirname "$program")
 rustc -C opt-level=3 -o "$out/fanout" bench/fanout.rs
 for _ in 1 2 3 4 5; do
     for sizes in "200 50" "2000 50" "2000 1000" "5000 50"; do
         read -r users members <<< "$sizes"
         words=$((lines / members))
-        "$out/bench_lobby" clients=10000 users="$users" members="$members" words="$words" | sed "s/^/lobby $users-$members /"
+        "$program" clients=10000 users="$users" members="$members" words="$words" | sed "s/^/lobby $users-$members /"
         "$out/fanout" 10000 "$users" 0 "$members" "$words" | sed "s/^/baseline $users-$members /"
     done
     for channels in 10 100; do
-        "$out/bench_lobby" clients=10000 users=2000 members=2 channels="$channels" | sed "s/^/lobby $channels-channels /"
+        "$program" clients=10000 users=2000 members=2 channels="$channels" | sed "s/^/lobby $channels-channels /"
     done
 done | awk '
     { sub(/last joins:/, "joins:"); sub(/log outs:/, "leaves:") }

@@ -6,7 +6,7 @@
 set -euo pipefail
 cd "$(dirname "$0")/.."
 lines=${1:-1000000}
-(cd crates/view_show && rt run --jobs 1 < stdin > /dev/null)
+[ -x bin/view_show ] || { echo "there is no bin/view_show: make build makes it"; exit 1; }
 room=$(mktemp -d)
 trap 'rm -rf "$room"' EXIT
 rustc -O -o "$room/fold" bench/view.rs
@@ -41,7 +41,7 @@ total=$(wc -l < "$room/session")
 count() {
     "$@" < "$room/session" | awk '/^channel/ { exit } { seen[$1]++ } END { print seen["user"], seen["battle"], seen["member"] }'
 }
-view=crates/view_show/out/view_show
+view=bin/view_show
 [ "$(count "$view")" = "$(count "$room/fold")" ] || { echo "the two end with other users or battles"; exit 1; }
 
 # seconds PROGRAM : how long it takes to fold the session.

@@ -1,12 +1,11 @@
 #!/usr/bin/env bash
 # Runs both programs, as the gate built them, with good and bad arguments and inputs, and compares what they print, what they
-# tell on standard error and their exit status; and reads the file of accounts in examples/.
+# tell on standard error and their exit status. The files in examples/ are read by serve.sh.
 set -euo pipefail
 cd "$(dirname "$0")/.."
 play=crates/lobby_play/out/lobby_play
 main=crates/lobby_main/out/lobby_main
-accounts=crates/bench_accounts/out/bench_accounts
-for program in "$play" "$main" "$accounts"; do
+for program in "$play" "$main"; do
     [ -x "$program" ] || { echo "there is no $program: make test builds it"; exit 1; }
 done
 usage='usage: lobby_main serve SETTINGS ACCOUNTS or lobby_main hash'
@@ -44,12 +43,6 @@ expect 0 "$greeting" '' 'open 1 10.0.0.1\nshow 1\n' "$play"
 expect 1 "$greeting" 'line 3: bad step\n' 'open 1 10.0.0.1\nshow 1\nshow 2\nshow 1\n' "$play"
 expect 2 '' 'device fault\n' . "$play"
 expect 2 '' 'script too long\n' "$(printf '\\n%.0s' {1..1048577})" "$play"
-
-said=$({ "$accounts" examples/accounts.toml 0 2>&1 || true; } | head -1)
-case $said in
-    "3 accounts read in "*) passed=$((passed + 1)) ;;
-    *) echo "examples/accounts.toml: $said"; failed=$((failed + 1)) ;;
-esac
 
 echo "programs: $passed passed, $failed failed"
 [ "$failed" -eq 0 ]

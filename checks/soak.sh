@@ -4,5 +4,5 @@
 # The arguments are the number of threads and the events of each.
 set -euo pipefail
 cd "$(dirname "$0")/.."
-(cd crates/bench_desk && rt run > /dev/null)
-crates/bench_desk/out/bench_desk soak "${1:-8}" "${2:-25000}"
+program=$(tools/build_bench.sh bench_desk)
+"$program" soak "${1:-8}" "${2:-25000}"

@@ -1,50 +1,37 @@
 #!/usr/bin/env bash
-# Proves each crate that the programs stand on, lowest first, then proves and builds the programs, optimised, into bin/.
-# What an earlier run proved is not proved again. What a crate's check says goes to bin/CRATE.log.
+# Proves each crate, and builds the programs, optimised, into bin/. Crates of which neither stands on the other are proved side by
+# side; what an earlier run proved is not proved again. What the checks say goes to bin/build.log.
 set -euo pipefail
 cd "$(dirname "$0")/.."
-programs=(lobby_play lobby_main view_show)
 mkdir -p bin
 # The programs get the time at which this began, so that a source edited meanwhile is newer than they.
 touch bin/begun
 
-# The libraries of the repository that the programs stand on, lowest first, as crates.txt lists them.
-mapfile -t libraries < <(awk -v programs="${programs[*]}" '
-    /^[^#].*:/ { name = $1; sub(/:.*/, "", name); order[++count] = name; $1 = ""; uses[name] = $0 }
-    END {
-        split(programs, left, " ")
-        for (at = 1; at in left; at++) {
-            found = split(uses[left[at]], below, " ")
-            for (i = 1; i <= found; i++) if (below[i] in uses && !(below[i] in wanted)) { wanted[below[i]]; left[length(left) + 1] = below[i] }
-        }
-        for (i = 1; i <= count; i++) if (order[i] in wanted) print order[i]
-    }' crates.txt)
+# Twice the processors, since a crate that waits for one below takes a place too, as far as 3 GB of free memory for each reach.
+places=$(awk -v most=$((2 * $(nproc))) '/^MemAvailable:/ { n = int($2 / 3000000); print n < 1 ? 1 : n < most ? n : most }' /proc/meminfo)
+all=$(grep -c '^[^#].*:' crates.txt)
+if ! rt all check --jobs "$places" 2>&1 | tee bin/build.log | awk -v all="$all" '
+    /^== summary$/ { over = 1 }
+    /^== / && !over { system("date +%T | tr \"\\n\" \" \""); printf "%d of %d: %s\n", ++count, all, $2; fflush() }'
+then
+    sed -n '/^== summary$/,$ { /: ok$/d; p }' bin/build.log
+    grep -m 20 -E '(error|not proved)' bin/build.log || true
+    exit 1
+fi
 
-[ "${#libraries[@]}" -gt 0 ] || { echo "crates.txt names no library"; exit 1; }
-all=$((${#libraries[@]} + ${#programs[@]}))
-count=0
-
-# prove CRATE COMMAND.. : runs the command in the crate's folder.
-prove() {
-    local crate=$1 start=$SECONDS
+# build PROGRAM COMMAND.. : the command in the program's folder builds it, and then runs it on nothing.
+build() {
+    local program=$1
     shift
-    count=$((count + 1))
-    printf '%d of %d: %s ..' "$count" "$all" "$crate"
-    if ! (cd "crates/$crate" && "$@") < /dev/null > "bin/$crate.log" 2>&1; then
-        printf ' NOT PROVED\n'
-        tail -n 20 "bin/$crate.log"
+    if ! (cd "crates/$program" && "$@") < /dev/null > "bin/$program.log" 2>&1; then
+        tail -n 20 "bin/$program.log"
         exit 1
     fi
-    printf ' proved, %d s\n' $((SECONDS - start))
-}
-
-for crate in "${libraries[@]}"; do prove "$crate" rt lib; done
-# `rt run` builds the program, and then runs it on nothing.
-prove lobby_play rt run
-prove lobby_main rt run -- hash
-prove view_show rt run
-for program in "${programs[@]}"; do
     cp "crates/$program/out/$program" bin/
     touch -r bin/begun "bin/$program"
-done
-echo "bin/lobby_play, bin/lobby_main and bin/view_show are built"
+    echo "bin/$program is built"
+}
+
+build lobby_play rt run
+build lobby_main rt run -- hash
+build view_show rt run

@@ -1,0 +1,158 @@
+#!/usr/bin/env python3
+"""The merge gate: `rt ci` and then the checks of the built programs, and at the end where the processor's time went.
+
+Says for each crate the seconds of a processor of its proof, its tests, its programs and its edits, for each edit its own, and
+which crates take more than they may. The same goes to out/gate.txt. The status is that of the first part that failed."""
+import collections
+import os
+import re
+import subprocess
+import sys
+import threading
+import time
+from pathlib import Path
+
+ROOT = Path(__file__).resolve().parent.parent
+CHECKS = ["rows.sh", "programs.sh", "serve.sh", "links.py", "views.sh"]
+# What the proof of a crate may take from nothing, in seconds of a processor: most crates, and any.
+BUDGET, LIMIT = 300, 400
+KINDS = ["proof", "tests", "programs", "edits"]
+TICK = os.sysconf("SC_CLK_TCK")
+# Seconds between two looks. What a process takes between the last look and its end is told apart.
+PAUSE = 0.25
+
+
+def edited(edit, texts):
+    """Writes into texts, by path, what the files of a crate are with this edit."""
+    path = old = ""
+    for line in edit.read_text(encoding="utf-8").split("\n"):
+        if line.startswith("file: "):
+            path = line[6:].strip()
+        elif line.startswith("old: "):
+            old = line[5:]
+        elif line.startswith("new:"):
+            texts[path] = texts[path].replace(old, line[4:].removeprefix(" "))
+
+
+def edit_in(folder, crate):
+    """The edit with which the folder is a copy of the crate, or that there is none."""
+    for edit in sorted((ROOT / "crates" / crate / "must-fail").glob("*.edit")):
+        paths = re.findall(r"(?m)^file: (.*\S)", edit.read_text(encoding="utf-8"))
+        try:
+            texts = {it: (ROOT / "crates" / crate / it).read_text(encoding="utf-8") for it in paths}
+            edited(edit, texts)
+            if all((folder / it).read_text(encoding="utf-8") == texts[it] for it in paths):
+                return edit.stem
+        except OSError:
+            pass
+    return "as it is"
+
+
+class Watch:
+    """Looks at the processes below this one, and keeps what each took."""
+
+    def __init__(self):
+        self.taken = {}
+        self.label = {}
+        self.over = threading.Event()
+
+    def processes(self):
+        """Parent, clock ticks taken and start of each process, by number."""
+        found = {}
+        for name in os.listdir("/proc"):
+            if name.isdigit():
+                try:
+                    said = Path(f"/proc/{name}/stat").read_text(errors="replace").rpartition(")")[2].split()
+                    found[int(name)] = int(said[1]), int(said[11]) + int(said[12]), said[19]
+                except (OSError, IndexError):
+                    pass
+        return found
+
+    def label_of(self, process, parent):
+        """Which crate a process works for and how, or what its parent does."""
+        try:
+            words = Path(f"/proc/{process}/cmdline").read_bytes().decode(errors="replace").split("\0")
+            folder = Path(os.readlink(f"/proc/{process}/cwd"))
+        except OSError:
+            return parent
+        if "--crate-name" not in words:
+            return parent
+        crate = words[words.index("--crate-name") + 1]
+        if folder.name.startswith("rt-edit-"):
+            return crate, "edits", edit_in(folder, crate)
+        kind = "tests" if "--test" in words else "programs" if "--crate-checked" in words else "proof"
+        return crate, kind, ""
+
+    def look(self):
+        found = self.processes()
+        below = collections.defaultdict(list)
+        for it, (parent, _, _) in found.items():
+            below[parent].append(it)
+        todo = [(it, ("", "", "")) for it in below[os.getpid()]]
+        while todo:
+            process, parent = todo.pop()
+            _, ticks, start = found[process]
+            key = process, start
+            # A process may not be what it will be until it has started its program.
+            if self.label.get(key, ("", "", ""))[0] == "":
+                self.label[key] = self.label_of(process, parent)
+            self.taken[key] = ticks / TICK
+            todo += [(it, self.label[key]) for it in below[process]]
+
+    def run(self):
+        while not self.over.wait(PAUSE):
+            self.look()
+
+    def sums(self):
+        """Seconds by crate, kind and edit."""
+        sums = collections.Counter()
+        for key, seconds in self.taken.items():
+            sums[self.label[key]] += seconds
+        return sums
+
+
+def table(sums, whole, minutes):
+    """The lines of the table."""
+    crates = sorted({crate for crate, _, _ in sums if crate}, key=lambda it: -sum(s for k, s in sums.items() if k[0] == it))
+    of = lambda crate, kind: sum(s for k, s in sums.items() if k[0] == crate and k[1] == kind)
+    yield f"{'seconds of a processor':24}" + "".join(f"{it:>10}" for it in [*KINDS, "sum"])
+    for crate in crates:
+        each = [of(crate, it) for it in KINDS]
+        note = "  over its limit" if each[0] > LIMIT else "  over its budget" if each[0] > BUDGET else ""
+        yield f"{crate:24}" + "".join(f"{it:10.0f}" for it in [*each, sum(each)]) + note
+    each = [sum(of(crate, it) for crate in crates) for it in KINDS]
+    yield f"{'all crates':24}" + "".join(f"{it:10.0f}" for it in [*each, sum(each)])
+    yield f"{'rt, runs and checks':24}" + " " * 40 + f"{sums['', '', '']:10.0f}"
+    yield f"{'between looks':24}" + " " * 40 + f"{whole - sum(sums.values()):10.0f}"
+    edits = [(s, f"{crate}/{edit}") for (crate, kind, edit), s in sums.items() if kind == "edits"]
+    yield ""
+    for seconds, edit in sorted(edits, reverse=True):
+        yield f"{seconds:8.0f}  {edit}"
+    yield ""
+    lanes = len(os.sched_getaffinity(0))
+    yield f"gate: {whole / 60:.1f} minutes of a processor, {minutes:.1f} minutes on {lanes} processors"
+
+
+def main():
+    begun = time.monotonic()
+    watch = Watch()
+    looking = threading.Thread(target=watch.run)
+    looking.start()
+    lanes = subprocess.run([ROOT / "tools/lanes.sh"], stdout=subprocess.PIPE, text=True, check=True).stdout.strip()
+    try:
+        status = subprocess.run(["rt", "ci"], cwd=ROOT, env={**os.environ, "RT_JOBS": lanes}).returncode
+        for it in CHECKS:
+            status = status or subprocess.run([ROOT / "checks" / it], cwd=ROOT).returncode
+    finally:
+        watch.over.set()
+        looking.join()
+    times = os.times()
+    lines = [*table(watch.sums(), times.children_user + times.children_system, (time.monotonic() - begun) / 60)]
+    (ROOT / "out").mkdir(exist_ok=True)
+    (ROOT / "out/gate.txt").write_text("\n".join(lines) + "\n")
+    print("\n".join(["", *lines]), flush=True)
+    return status
+
+
+if __name__ == "__main__":
+    sys.exit(main())
