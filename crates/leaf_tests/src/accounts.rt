@@ -1,5 +1,6 @@
 //! Vectors of the two standards behind password words, and files with each kind of fault.
 
+use crate::verdict::{same, same_for};
 use account_book::{Account, AccountBook, AccountsError, LoginFault, password_word};
 use base64::engine::general_purpose::STANDARD;
 use std::alloc::Global;
@@ -83,8 +84,8 @@ fn words_of_the_md5_test_suite(rt: HostRuntime) {
     for (password, digest) in SUITE {
         assert!(rt; writes_digest(rt.alloc(), password, digest), "{password:?}");
     }
-    assert_eq!(rt; password_word(b"password").as_slice(), WORD);
-    assert_eq!(rt; password_word(b"").as_slice(), NO_PASSWORD);
+    same(&rt, password_word(b"password").as_slice(), WORD);
+    same(&rt, password_word(b"").as_slice(), NO_PASSWORD);
 }
 
 const VECTORS: [(&str, &str); 7] = [
@@ -114,20 +115,20 @@ fn base64_test_vectors(rt: HostRuntime) {
 // What an account of the file shows: with `?` in the function that owns the book, its proof would take a minute.
 fn shows_bert(rt: &impl Abort, book: &AccountBook) -> Result<(), LoginFault> {
     let bert = book.check(b"Bert", WORD)?;
-    assert_eq!(rt; bert.name(), b"Bert".as_slice());
-    assert_eq!(rt; bert.password(), WORD);
-    assert_eq!(rt; (bert.id(), bert.rank()), (2, 3));
+    same(rt, bert.name(), b"Bert".as_slice());
+    same(rt, bert.password(), WORD);
+    same(rt, (bert.id(), bert.rank()), (2, 3));
     assert!(rt; !bert.access() && !bert.bot());
-    assert_eq!(rt; bert.country(), b"??".as_slice());
-    assert_eq!(rt; book.check(b"Cleo", WORD)?.country(), b"FR".as_slice());
+    same(rt, bert.country(), b"??".as_slice());
+    same(rt, book.check(b"Cleo", WORD)?.country(), b"FR".as_slice());
     Ok(())
 }
 
 fn refuses_logins(rt: &impl Abort, book: &AccountBook) {
     let other_word = book.check(b"Anna", NO_PASSWORD);
-    assert_eq!(rt; other_word.err(), Some(LoginFault::BadPassword));
+    same(rt, other_word.err(), Some(LoginFault::BadPassword));
     let other_name = book.check(b"anna", WORD);
-    assert_eq!(rt; other_name.err(), Some(LoginFault::NoAccount));
+    same(rt, other_name.err(), Some(LoginFault::NoAccount));
     assert!(rt; book.get(b"Anna").is_some() && book.get(b"Dora").is_none());
 }
 
@@ -137,9 +138,9 @@ fn reads_a_file_and_checks_logins(rt: HostRuntime) {
         assert!(rt; false, "the file is good");
         return;
     };
-    assert_eq!(rt; book.len(), 3);
+    same(&rt, book.len(), 3);
     assert!(rt; !book.is_empty());
-    assert_eq!(rt; shows_bert(&rt, &book), Ok(()));
+    same(&rt, shows_bert(&rt, &book), Ok(()));
     refuses_logins(&rt, &book);
 }
 
@@ -155,13 +156,14 @@ fn add(book: &mut AccountBook, alloc: Global, id: u32, marked: bool) -> Result<(
 #[test]
 fn adds_an_account(rt: HostRuntime) {
     let mut book = AccountBook::new(rt.alloc());
-    assert_eq!(rt; add(&mut book, rt.alloc(), u32::MAX, true), Ok(()));
-    assert_eq!(rt;
+    same(&rt, add(&mut book, rt.alloc(), u32::MAX, true), Ok(()));
+    same(
+        &rt,
         add(&mut book, rt.alloc(), 5, false),
-        Err(AccountsError::DuplicateName)
+        Err(AccountsError::DuplicateName),
     );
     let first = book.check(b"[AI]_1", WORD).ok().map(Account::id);
-    assert_eq!(rt; first, Some(u32::MAX));
+    same(&rt, first, Some(u32::MAX));
 }
 
 /// Name, password word, rank and country of accounts, and whether they are accounts. The last words have bits left over
@@ -189,7 +191,7 @@ fn refuses_fields_that_break_their_rules(rt: HostRuntime) {
         } else {
             Some(AccountsError::BadField(0))
         };
-        assert_eq!(rt; told, want, "{name:?} {word:?} {rank} {country:?}");
+        same_for(&rt, &(name, word, rank, country), told, want);
     }
 }
 
@@ -216,7 +218,7 @@ const FILES: [(&[u8], Option<AccountsError>); 10] = [
 #[test]
 fn refuses_files(rt: HostRuntime) {
     for (file, told) in FILES {
-        assert_eq!(rt; refusal(rt.alloc(), file), told, "{file:?}");
+        same_for(&rt, &file, refusal(rt.alloc(), file), told);
     }
 }
 
@@ -250,6 +252,6 @@ fn refusal_with(alloc: Global, lines: &str) -> Option<AccountsError> {
 #[test]
 fn refuses_accounts_of_a_file(rt: HostRuntime) {
     for (lines, told) in MORE_LINES {
-        assert_eq!(rt; refusal_with(rt.alloc(), lines), told, "{lines}");
+        same_for(&rt, &lines, refusal_with(rt.alloc(), lines), told);
     }
 }

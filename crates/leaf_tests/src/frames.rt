@@ -1,6 +1,8 @@
 //! Streams of bytes cut into lines, with memory at hand.
 
+use crate::verdict::same;
 use line_framer::{FeedError, Framer};
+use std::process::Abort;
 use std::rt::HostRuntime;
 
 const LIMIT: usize = 8192;
@@ -28,31 +30,34 @@ fn fed(framer: &mut Framer, piece: &[u8]) -> Result<(), FeedError> {
     }
 }
 
+fn see_the_last(rt: &impl Abort, framer: &mut Framer) {
+    assert!(rt; framer.next_len().is_none());
+    same(rt, fed(framer, b"\n"), Ok(()));
+    assert!(rt; takes(framer, b"EXIT"));
+}
+
 #[test]
 fn a_line_is_one_however_it_is_cut(rt: HostRuntime) {
     let stream = b"PING\r\nSAY main a\rb\n\n\r\r\nEXIT";
     for size in [1, 2, 7, 64] {
         let mut framer = Framer::new(rt.alloc(), LIMIT);
         for piece in stream.chunks(size) {
-            assert_eq!(rt; fed(&mut framer, piece), Ok(()));
+            same(&rt, fed(&mut framer, piece), Ok(()));
         }
-        assert!(rt; takes(&mut framer, b"PING"), "in pieces of {size}");
-        assert!(rt; takes(&mut framer, b"SAY main a\rb"), "in pieces of {size}");
-        assert!(rt; takes(&mut framer, b""), "in pieces of {size}");
-        assert!(rt; takes(&mut framer, b"\r"), "in pieces of {size}");
-        assert!(rt; framer.next_len().is_none());
-        assert_eq!(rt; fed(&mut framer, b"\n"), Ok(()));
-        assert!(rt; takes(&mut framer, b"EXIT"), "in pieces of {size}");
+        for line in [b"PING".as_slice(), b"SAY main a\rb", b"", b"\r"] {
+            assert!(rt; takes(&mut framer, line), "{line:?} in pieces of {size}");
+        }
+        see_the_last(&rt, &mut framer);
     }
 }
 
 #[test]
 fn a_cr_is_dropped_though_its_lf_comes_in_the_next_piece(rt: HostRuntime) {
     let mut framer = Framer::new(rt.alloc(), LIMIT);
-    assert_eq!(rt; fed(&mut framer, b"PI"), Ok(()));
-    assert_eq!(rt; fed(&mut framer, b"NG\r"), Ok(()));
+    same(&rt, fed(&mut framer, b"PI"), Ok(()));
+    same(&rt, fed(&mut framer, b"NG\r"), Ok(()));
     assert!(rt; framer.next_len().is_none());
-    assert_eq!(rt; fed(&mut framer, b"\n"), Ok(()));
+    same(&rt, fed(&mut framer, b"\n"), Ok(()));
     assert!(rt; takes(&mut framer, b"PING"));
     assert!(rt; framer.next_len().is_none());
 }
@@ -60,19 +65,19 @@ fn a_cr_is_dropped_though_its_lf_comes_in_the_next_piece(rt: HostRuntime) {
 #[test]
 fn a_line_of_8192_bytes_is_a_line(rt: HostRuntime) {
     let mut framer = Framer::new(rt.alloc(), LIMIT);
-    assert_eq!(rt; fed(&mut framer, &[b'A'; 8192]), Ok(()));
-    assert_eq!(rt; fed(&mut framer, b"\n"), Ok(()));
-    assert_eq!(rt; framer.next_len(), Some(8192));
+    same(&rt, fed(&mut framer, &[b'A'; 8192]), Ok(()));
+    same(&rt, fed(&mut framer, b"\n"), Ok(()));
+    same(&rt, framer.next_len(), Some(8192));
     assert!(rt; !framer.is_spoilt());
 }
 
 #[test]
 fn a_line_of_8193_bytes_spoils_and_the_line_before_it_is_kept(rt: HostRuntime) {
     let mut framer = Framer::new(rt.alloc(), LIMIT);
-    assert_eq!(rt; fed(&mut framer, b"PING\nEX"), Ok(()));
-    assert_eq!(rt; fed(&mut framer, &[b'A'; 8191]), Err(FeedError::Spoilt));
+    same(&rt, fed(&mut framer, b"PING\nEX"), Ok(()));
+    same(&rt, fed(&mut framer, &[b'A'; 8191]), Err(FeedError::Spoilt));
     assert!(rt; framer.is_spoilt());
-    assert_eq!(rt; fed(&mut framer, b"\nEXIT\n"), Err(FeedError::Spoilt));
+    same(&rt, fed(&mut framer, b"\nEXIT\n"), Err(FeedError::Spoilt));
     assert!(rt; takes(&mut framer, b"PING"));
     assert!(rt; framer.next_len().is_none());
 }
@@ -80,9 +85,10 @@ fn a_line_of_8193_bytes_spoils_and_the_line_before_it_is_kept(rt: HostRuntime) {
 #[test]
 fn a_piece_of_many_lines_may_be_longer_than_the_limit(rt: HostRuntime) {
     let mut framer = Framer::new(rt.alloc(), 4);
-    assert_eq!(rt;
+    same(
+        &rt,
         fed(&mut framer, b"PING\nPONG\r\nEXIT\nPING\n"),
-        Err(FeedError::Spoilt)
+        Err(FeedError::Spoilt),
     );
     assert!(rt; takes(&mut framer, b"PING"));
     assert!(rt; framer.peek().is_none());

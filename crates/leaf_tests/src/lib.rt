@@ -22,4 +22,6 @@ mod settings;
 #[cfg(test)]
 mod status_words;
 #[cfg(test)]
+mod verdict;
+#[cfg(test)]
 mod words;

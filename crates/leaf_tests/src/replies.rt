@@ -1,5 +1,6 @@
 //! A line for each reply, read and printed again, and lines that no reply prints.
 
+use crate::verdict::{same, same_for};
 use line_words::{NameBuf, Text, TextBuf, WordBuf};
 use reply_grammar::{LentReply, Reply, print, print_id, print_lent};
 use reply_reader::read_reply;
@@ -118,34 +119,35 @@ const REFUSED: [&[u8]; 51] = [
 #[test]
 fn each_reply_is_printed_as_it_was_read(rt: HostRuntime) {
     for line in LINES {
-        assert_eq!(rt; prints_again(rt.alloc(), line), Ok(Some(true)), "{line:?}");
+        same_for(&rt, &line, prints_again(rt.alloc(), line), Ok(Some(true)));
     }
 }
 
 #[test]
 fn what_no_reply_prints_is_refused(rt: HostRuntime) {
     for line in REFUSED {
-        assert_eq!(rt; prints_again(rt.alloc(), line), Ok(None), "read: {line:?}");
+        same_for(&rt, &line, prints_again(rt.alloc(), line), Ok(None));
     }
 }
 
 #[test]
 fn a_line_stands_behind_what_was_there(rt: HostRuntime) {
     let mut out = Vec::new(rt.alloc());
-    assert_eq!(rt; print(&Reply::Pong, None, &mut out), Ok(()));
-    assert_eq!(rt; print(&Reply::Pong, Some(7), &mut out), Ok(()));
-    assert_eq!(rt; out.as_slice(), b"PONG\n#7 PONG\n".as_slice());
+    same(&rt, print(&Reply::Pong, None, &mut out), Ok(()));
+    same(&rt, print(&Reply::Pong, Some(7), &mut out), Ok(()));
+    same(&rt, out.as_slice(), b"PONG\n#7 PONG\n".as_slice());
 }
 
 #[test]
 fn a_lent_reply_prints_as_an_owned_one(rt: HostRuntime) {
     let mut out = Vec::new(rt.alloc());
-    assert_eq!(rt; print_refusal(&mut out), Ok(()));
-    assert_eq!(rt; print_user(rt.alloc(), &mut out), Ok(()));
-    assert_eq!(rt; print_private(rt.alloc(), &mut out), Ok(()));
-    assert_eq!(rt;
+    same(&rt, print_refusal(&mut out), Ok(()));
+    same(&rt, print_user(rt.alloc(), &mut out), Ok(()));
+    same(&rt, print_private(rt.alloc(), &mut out), Ok(()));
+    same(
+        &rt,
         out.as_slice(),
-        b"#7 SERVERMSG Log in first\nADDUSER Bert ?? -1 4294967295\n#9 SAYPRIVATE Bert hi  there\n".as_slice()
+        b"#7 SERVERMSG Log in first\nADDUSER Bert ?? -1 4294967295\n#9 SAYPRIVATE Bert hi  there\n".as_slice(),
     );
 }
 
@@ -176,10 +178,11 @@ fn print_private(alloc: Global, out: &mut Vec<u8>) -> Result<(), AllocError> {
 #[test]
 fn lent_names_may_have_one_more(rt: HostRuntime) {
     let mut out = Vec::new(rt.alloc());
-    assert_eq!(rt; print_names(rt.alloc(), &mut out), Ok(()));
-    assert_eq!(rt;
+    same(&rt, print_names(rt.alloc(), &mut out), Ok(()));
+    same(
+        &rt,
         out.as_slice(),
-        b"#3 CLIENTS main u01 u02\nCLIENTS main u01 u02 Bert\n".as_slice()
+        b"#3 CLIENTS main u01 u02\nCLIENTS main u01 u02 Bert\n".as_slice(),
     );
 }
 
@@ -197,14 +200,15 @@ fn print_names(alloc: Global, out: &mut Vec<u8>) -> Result<(), AllocError> {
 #[test]
 fn a_line_behind_an_id_is_the_line_under_it(rt: HostRuntime) {
     let mut out = Vec::new(rt.alloc());
-    assert_eq!(rt; print_id(Some(7), &mut out), Ok(()));
-    assert_eq!(rt; print_lent(LentReply::Pong, None, &mut out), Ok(()));
-    assert_eq!(rt; print_id(None, &mut out), Ok(()));
-    assert_eq!(rt;
+    same(&rt, print_id(Some(7), &mut out), Ok(()));
+    same(&rt, print_lent(LentReply::Pong, None, &mut out), Ok(()));
+    same(&rt, print_id(None, &mut out), Ok(()));
+    same(
+        &rt,
         print_lent(LentReply::EndOfChannels, None, &mut out),
-        Ok(())
+        Ok(()),
     );
-    assert_eq!(rt; out.as_slice(), b"#7 PONG\nENDOFCHANNELS\n".as_slice());
+    same(&rt, out.as_slice(), b"#7 PONG\nENDOFCHANNELS\n".as_slice());
 }
 
 // Whether the reply that was read prints this line, with its end; nothing where there is no reply.

@@ -1,5 +1,6 @@
 //! Lines that are read with memory at hand.
 
+use crate::verdict::same_for;
 use command_grammar::{Command, ReadFault, read_request};
 use line_words::{Pair, WordBuf};
 use std::alloc::{AllocError, Global};
@@ -68,7 +69,7 @@ const GOOD_LINES: [&[u8]; 31] = [
 #[test]
 fn each_command_is_read(rt: HostRuntime) {
     for line in GOOD_LINES {
-        assert_eq!(rt; fault_of(rt.alloc(), line), Ok(None), "{line:?}");
+        same_for(&rt, &line, fault_of(rt.alloc(), line), Ok(None));
     }
 }
 
@@ -91,7 +92,7 @@ const FAULTS: [(&[u8], ReadFault); 13] = [
 #[test]
 fn faults_are_told(rt: HostRuntime) {
     for (line, fault) in FAULTS {
-        assert_eq!(rt; fault_of(rt.alloc(), line), Ok(Some(fault)), "{line:?}");
+        same_for(&rt, &line, fault_of(rt.alloc(), line), Ok(Some(fault)));
     }
 }
 
@@ -107,7 +108,7 @@ const IDS: [(&[u8], Option<u32>); 6] = [
 #[test]
 fn ids_are_read(rt: HostRuntime) {
     for (line, id) in IDS {
-        assert_eq!(rt; id_of(rt.alloc(), line), Ok(id), "{line:?}");
+        same_for(&rt, &line, id_of(rt.alloc(), line), Ok(id));
     }
 }
 

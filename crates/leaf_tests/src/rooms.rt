@@ -1,5 +1,6 @@
 //! A room with memory at hand: each of its calls that may be refused it, and the most tags that a room has.
 
+use crate::verdict::same;
 use battle_room::{Room, RoomError};
 use line_words::{KeyBuf, NameBuf, Pair, PairList, SentenceBuf, WordBuf, WordList};
 use status_bits::BattleStatus;
@@ -145,13 +146,13 @@ fn has_tag(room: &Room, alloc: Global, key: &[u8]) -> Option<bool> {
 
 /// One tag more is refused, and none of the others is set then.
 fn set_more(rt: &impl Abort, room: &mut Room, alloc: Global) {
-    assert_eq!(rt; set_tags(room, all_pairs(alloc)), Some(Ok(())));
+    same(rt, set_tags(room, all_pairs(alloc)), Some(Ok(())));
     assert!(rt; begins(room, 512, b"k1", b"1"));
     let more = pairs(alloc, &[(b"new", b"1"), (b"k1", b"2")]);
-    assert_eq!(rt; set_tags(room, more), Some(Err(RoomError::TooManyTags)));
+    same(rt, set_tags(room, more), Some(Err(RoomError::TooManyTags)));
     assert!(rt; begins(room, 512, b"k1", b"1"));
     let other = pairs(alloc, &[(b"k1", b"2")]);
-    assert_eq!(rt; set_tags(room, other), Some(Ok(())));
+    same(rt, set_tags(room, other), Some(Ok(())));
     assert!(rt; begins(room, 512, b"k1", b"2"));
 }
 
@@ -162,8 +163,8 @@ fn remove_some(rt: &impl Abort, room: &mut Room, alloc: Global) {
     };
     assert!(rt; removes(room, &keys, &[b"k2", b"k1"]));
     assert!(rt; begins(room, 510, b"k3", b"1"));
-    assert_eq!(rt; has_tag(room, alloc, b"k1"), Some(false));
-    assert_eq!(rt; has_tag(room, alloc, b"k3"), Some(true));
+    same(rt, has_tag(room, alloc, b"k1"), Some(false));
+    same(rt, has_tag(room, alloc, b"k3"), Some(true));
 }
 
 #[test]

@@ -1,5 +1,6 @@
 //! Settings with memory at hand.
 
+use crate::verdict::{same, same_for};
 use line_words::TextBuf;
 use lobby_model::settings::{DEFAULT_OUTBOX_LIMIT, GREATEST_OUTBOX_LIMIT, LEAST_OUTBOX_LIMIT};
 use lobby_model::{Settings, SettingsError};
@@ -25,11 +26,15 @@ fn settings(alloc: Global, count: u32, line: &[u8]) -> Result<Settings, Settings
 }
 
 fn shows_default(rt: &impl Abort, settings: &Settings) {
-    assert_eq!(rt; settings.protocol_version().as_slice(), b"0.38".as_slice());
-    assert_eq!(rt; settings.spring_version().as_slice(), b"*".as_slice());
-    assert_eq!(rt; (settings.udp_port(), settings.server_mode()), (8201, 0));
-    assert_eq!(rt; settings.motd().as_slice().len(), 1);
-    assert_eq!(rt; settings.outbox_limit(), 4_194_304);
+    same(
+        rt,
+        settings.protocol_version().as_slice(),
+        b"0.38".as_slice(),
+    );
+    same(rt, settings.spring_version().as_slice(), b"*".as_slice());
+    same(rt, (settings.udp_port(), settings.server_mode()), (8201, 0));
+    same(rt, settings.motd().as_slice().len(), 1);
+    same(rt, settings.outbox_limit(), 4_194_304);
 }
 
 #[test]
@@ -72,9 +77,9 @@ fn a_value_out_of_its_bounds_is_refused(rt: HostRuntime) {
             Some(SettingsError::OutOfBounds)
         };
         let first = refusal(rt.alloc(), version, b"*", mode, limit);
-        assert_eq!(rt; first, want, "{version:?} {mode} {limit}");
+        same_for(&rt, &(version, mode, limit), first, want);
         let second = refusal(rt.alloc(), b"0.38", version, mode, limit);
-        assert_eq!(rt; second, want, "{version:?} {mode} {limit}");
+        same_for(&rt, &(version, mode, limit), second, want);
     }
 }
 
@@ -89,6 +94,6 @@ const MESSAGES: [(u32, &[u8], Option<SettingsError>); 3] = [
 fn a_message_of_the_day_has_100_lines_of_1000_bytes(rt: HostRuntime) {
     for (count, line, told) in MESSAGES {
         let refusal = settings(rt.alloc(), count, line).err();
-        assert_eq!(rt; refusal, told, "{count} lines");
+        same_for(&rt, &count, refusal, told);
     }
 }

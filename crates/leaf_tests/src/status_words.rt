@@ -1,20 +1,22 @@
 //! Words of the protocol's own examples, and of its tables of bits.
 
+use crate::verdict::same;
 use status_bits::{BattleStatus, UserStatus, merge_battle, merge_user};
 
 #[test]
 fn mystatus_sets_in_game_and_away_alone(rt: HostRuntime) {
     let bert = UserStatus::of_account(3, false, false);
-    assert_eq!(rt; bert.word(), 12);
+    same(&rt, bert.word(), 12);
     let asked = merge_user(bert, 127);
-    assert_eq!(rt; asked.word(), 15);
+    same(&rt, asked.word(), 15);
     assert!(rt; asked.in_game() && asked.away());
-    assert_eq!(rt; asked.rank(), 3);
+    same(&rt, asked.rank(), 3);
     assert!(rt; !asked.access() && !asked.bot());
-    assert_eq!(rt; UserStatus::of_account(7, true, true).word(), 124);
-    assert_eq!(rt;
+    same(&rt, UserStatus::of_account(7, true, true).word(), 124);
+    same(
+        &rt,
         merge_user(UserStatus::of_account(0, true, false), 0).word(),
-        32
+        32,
     );
 }
 
@@ -22,31 +24,32 @@ fn mystatus_sets_in_game_and_away_alone(rt: HostRuntime) {
 fn fields_of_a_battle_status(rt: HostRuntime) {
     // Bits 1, 2, 3, 6, 10, 22 and 25.
     let status = merge_battle(BattleStatus::zero(), 37_749_838);
-    assert_eq!(rt; status.word(), 37_749_838);
+    same(&rt, status.word(), 37_749_838);
     assert!(rt; status.ready() && status.player());
-    assert_eq!(rt; status.team(), 3);
-    assert_eq!(rt; status.ally(), 1);
-    assert_eq!(rt; status.handicap(), 0);
-    assert_eq!(rt; status.sync(), 1);
-    assert_eq!(rt; status.side(), 2);
+    same(&rt, status.team(), 3);
+    same(&rt, status.ally(), 1);
+    same(&rt, status.handicap(), 0);
+    same(&rt, status.sync(), 1);
+    same(&rt, status.side(), 2);
 }
 
 #[test]
 fn settings_of_the_founder(rt: HostRuntime) {
     let status = merge_battle(BattleStatus::zero(), 37_749_838);
-    assert_eq!(rt; status.with_handicap(50).word(), 37_852_238);
+    same(&rt, status.with_handicap(50).word(), 37_852_238);
     let forced = status.with_team(5);
-    assert_eq!(rt; forced.word(), 37_749_846);
-    assert_eq!(rt; forced.as_spectator().word(), 37_748_822);
-    assert_eq!(rt; BattleStatus::zero().with_ally(15).word(), 960);
+    same(&rt, forced.word(), 37_749_846);
+    same(&rt, forced.as_spectator().word(), 37_748_822);
+    same(&rt, BattleStatus::zero().with_ally(15).word(), 960);
 }
 
 #[test]
 fn mybattlestatus_keeps_the_handicap(rt: HostRuntime) {
     let status = merge_battle(BattleStatus::zero(), 37_749_838);
-    assert_eq!(rt; merge_battle(status, u32::MAX).word(), 264_243_198);
-    assert_eq!(rt;
+    same(&rt, merge_battle(status, u32::MAX).word(), 264_243_198);
+    same(
+        &rt,
         merge_battle(status.with_handicap(50), u32::MAX).word(),
-        264_345_598
+        264_345_598,
     );
 }

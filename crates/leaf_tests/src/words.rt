@@ -1,5 +1,6 @@
 //! Words, sentences, numbers and the kinds of argument: each public call once on values of the protocol.
 
+use crate::verdict::{same, same_for};
 use line_words::{
     KeyBuf, Name, NameBuf, Pair, PairList, Sentence, SentenceBuf, Text, Word, Words, is_key,
     read_number, split_at_byte, split_sentences, write_number,
@@ -10,25 +11,25 @@ use std::alloc::Global;
 fn words_end_at_spaces(rt: HostRuntime) {
     let mut words = Words::new(b"  JOINBATTLE  7 pw\t9  ");
     words.skip_spaces();
-    assert_eq!(rt; words.rest(), b"JOINBATTLE  7 pw\t9  ".as_slice());
-    assert_eq!(rt; words.next_word(), Some(b"JOINBATTLE".as_slice()));
-    assert_eq!(rt; words.rest(), b"  7 pw\t9  ".as_slice());
-    assert_eq!(rt; words.next_word(), Some(b"7".as_slice()));
-    assert_eq!(rt; words.next_word(), Some(b"pw\t9".as_slice()));
-    assert_eq!(rt; words.next_word(), None);
-    assert_eq!(rt; words.rest(), b"".as_slice());
+    same(&rt, words.rest(), b"JOINBATTLE  7 pw\t9  ".as_slice());
+    same(&rt, words.next_word(), Some(b"JOINBATTLE".as_slice()));
+    same(&rt, words.rest(), b"  7 pw\t9  ".as_slice());
+    same(&rt, words.next_word(), Some(b"7".as_slice()));
+    same(&rt, words.next_word(), Some(b"pw\t9".as_slice()));
+    same(&rt, words.next_word(), None);
+    same(&rt, words.rest(), b"".as_slice());
 }
 
 #[test]
 fn sentences_end_at_tabs(rt: HostRuntime) {
     let mut sentences = split_sentences(b"\ta b\t");
-    assert_eq!(rt; sentences.next(), Some(b"".as_slice()));
-    assert_eq!(rt; sentences.next(), Some(b"a b".as_slice()));
-    assert_eq!(rt; sentences.next(), Some(b"".as_slice()));
-    assert_eq!(rt; sentences.next(), None);
+    same(&rt, sentences.next(), Some(b"".as_slice()));
+    same(&rt, sentences.next(), Some(b"a b".as_slice()));
+    same(&rt, sentences.next(), Some(b"".as_slice()));
+    same(&rt, sentences.next(), None);
     let (key, value) = split_at_byte(b"a=b=c", b'=');
-    assert_eq!(rt; key, b"a".as_slice());
-    assert_eq!(rt; value, b"=b=c".as_slice());
+    same(&rt, key, b"a".as_slice());
+    same(&rt, value, b"=b=c".as_slice());
 }
 
 #[test]
@@ -50,24 +51,25 @@ fn numbers_are_read(rt: HostRuntime) {
         (b"--1", None),
     ];
     for (word, number) in WIDE {
-        assert_eq!(rt;
+        same_for(
+            &rt,
+            &word,
             read_number(word, -2147483648, 4294967295),
             number,
-            "{word:?}"
         );
     }
-    assert_eq!(rt; read_number(b"1", 0, 0), None);
+    same(&rt, read_number(b"1", 0, 0), None);
 }
 
 #[test]
 fn numbers_are_written(rt: HostRuntime) {
     let mut buffer = [b'x'; 20];
     let length = write_number(-120, &mut buffer);
-    assert_eq!(rt; length, 4);
-    assert_eq!(rt; buffer, *b"-120xxxxxxxxxxxxxxxx");
+    same(&rt, length, 4);
+    same(&rt, buffer, *b"-120xxxxxxxxxxxxxxxx");
     let length = write_number(i64::MIN, &mut buffer);
-    assert_eq!(rt; length, 20);
-    assert_eq!(rt; buffer, *b"-9223372036854775808");
+    same(&rt, length, 20);
+    same(&rt, buffer, *b"-9223372036854775808");
 }
 
 fn is_name(bytes: &[u8]) -> bool {

@@ -2,7 +2,7 @@
 use Rattle.std.proofs.Common.{◌≡◌, ℕ, ◌<◌, ◌≤◌, true, false, List, [], ◌∷◌, ◌++◌, length, Option, Some, None, IfSome, refl, ap, sym, ◌∙◌, arith, length-append, append-nil, ne_eqb, ◌≢◌}
 use Rattle.std.specs.List.{list_any, AllByRecursion}
 use Rattle.std.specs.Io.KnownBytes.{Consumes, IsAtEnd}
-use Rattle.lobby_main.specs.Hash.{is_line_feed, first_line, without_return, password_in}
+use Rattle.lobby_cli.specs.Hash.{is_line_feed, first_line, without_return, password_in}
 
 -- no byte is an LF
 abbrev pub HasNoFeed : List ℕ → Type 0

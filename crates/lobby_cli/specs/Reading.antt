@@ -1,11 +1,11 @@
 -- What the reading of a line gives.
 use Rattle.std.specs.Prelude.{ℕ, ◌≡◌, ◌<◌, ◌≤◌, List, [], ◌∷◌, length, take, Option, IfSome, ⊤}
 use Rattle.std.specs.Io.KnownBytes.{Keeps, Consumes, IsAtEnd}
-use Rattle.lobby_main.specs.Hash.{first_line, password_in}
-use Rattle.lobby_main.specs.declared.hash.Got.{Got}
-use Rattle.lobby_main.specs.declared.hash.Got.TheVariants.{Byte, End, Interrupted, Fault}
-use Rattle.lobby_main.specs.declared.hash.Line.{Line}
-use Rattle.lobby_main.specs.declared.hash.Line.TheVariants.{Password, TooLong, Fault as Unread}
+use Rattle.lobby_cli.specs.Hash.{first_line, password_in}
+use Rattle.lobby_cli.specs.declared.hash.Got.{Got}
+use Rattle.lobby_cli.specs.declared.hash.Got.TheVariants.{Byte, End, Interrupted, Fault}
+use Rattle.lobby_cli.specs.declared.hash.Line.{Line}
+use Rattle.lobby_cli.specs.declared.hash.Line.TheVariants.{Password, TooLong, Fault as Unread}
 
 -- One read took a byte, or nothing: at the end, or because it failed
 abbrev pub GivesByte : Option (List ℕ) → Option (List ℕ) → Got → Type 0

@@ -2,8 +2,8 @@
 
 ghost use Rattle.std.specs.Prelude.{◌≡◌, ◌≢◌, ◌<◌, ◌≤◌, length, take, IfSome};
 ghost use Rattle.std.specs.Io.KnownBytes.{Keeps};
-ghost use Rattle.lobby_main.specs.Hash.{first_line, password_in, word_line, without_return, GainsFront};
-ghost use Rattle.lobby_main.specs.Reading.{GivesByte, Begins};
+ghost use Rattle.lobby_cli.specs.Hash.{first_line, password_in, word_line, without_return, GainsFront};
+ghost use Rattle.lobby_cli.specs.Reading.{GivesByte, Begins};
 
 use account_book::password_word;
 use std::io::{ErrorKind, Read, Write};

@@ -253,8 +253,23 @@ impl Hall {
     pub fn into_record(mut self) -> Result<Record, HallError>
         ensures { IfOk result (λ logs. logs ≡ self.record_so_far) }
     {
-        self.logs.catch_up_all(&self.lobby)?;
-        Ok(self.logs)
+        let caught_up = self.logs.catch_up_all(&self.lobby);
+        let Hall {
+            alloc: _,
+            lobby,
+            sessions,
+            logs,
+            drained: _,
+        } = self;
+        drop(lobby);
+        drop(sessions);
+        match caught_up {
+            Ok(()) => Ok(logs),
+            Err(refused) => {
+                drop(logs);
+                Err(HallError::from(refused))
+            }
+        }
     }
 }
 
@@ -270,8 +285,22 @@ pub fn run(
     ensures { IfOk result (λ logs. IsRecordOf logs settings accounts steps.now) }
 {
     let mut hall = Hall::new(alloc, settings, accounts)?;
+    match take_steps(&mut hall, steps) {
+        Ok(()) => hall.into_record(),
+        Err(refused) => {
+            drop(hall);
+            Err(refused)
+        }
+    }
+}
+
+/// A hall takes steps in their order. Where memory is refused, it has taken some of the first ones.
+fn take_steps(hall: &mut Hall, steps: &[Step]) -> Result<(), HallError>
+    requires { AllByRecursion HasHome steps.now }
+    ensures { OnOk result ((settings : Configuration) (accounts : List Account) → StandsFor hall.old settings accounts [] → StandsFor hall.new settings accounts steps.now) }
+{
     for step in steps {
         hall.step(step)?;
     }
-    hall.into_record()
+    Ok(())
 }

@@ -26,6 +26,3 @@ pub use boxed::HANDED_OVER;
 pub use desk::{Desk, DeskError, MOST_EVENTS, MOST_HANDED_OUT};
 pub use held::Held;
 pub use pass::Pass;
-
-#[cfg(test)]
-mod tests;

@@ -177,20 +177,19 @@ on_ok (Ok x) P Q f h = f h
 on_ok (Err e) P Q f h = tt
 
 -- one who opens a battle
-pub opened_so : (s : State) (c : ℕ) (old a new : Posted) (me : List ℕ) (number : ℕ) (name : List ℕ) (battle : Battle) (outcome : Outcome)
+pub opened_so : (s : State) (c : ℕ) (old new : Posted) (me : List ℕ) (number : ℕ) (name : List ℕ) (battle : Battle) (outcome : Outcome)
     → outcome ≡ open_battle s me battle → battle_of s me ≡ None → (s.last_battle == 2147483647) ≡ false → number ≡ s.last_battle + 1
     → number ≤ 2147483647 → name ≡ me → name_of s c ≡ Some me → member_names battle.room ≡ me ∷ []
-    → Told s old a (tell everyone (opened_line number battle.info ∷ []) ∷ [])
-    → Told s a new (tell (user me) (reply.OpenBattle number ∷ reply.RequestBattleStatus ∷ []) ∷ [])
+    → Told s old new (tell everyone (opened_line number battle.info ∷ []) ∷ tell (user me) (reply.OpenBattle number ∷ reply.RequestBattleStatus ∷ []) ∷ [])
     → Obeyed s c old new (InBattles (Open number name battle)) outcome
-opened_so s c old a new me number name battle outcome is free left numbered small named mine members first second =
+opened_so s c old new me number name battle outcome is free left numbered small named mine members told =
     let comes : outcome ≡ done (opens name number battle) =
     is
     ∙ (λ i. refuse_if (is_some (free i)) (reply.OpenBattleFailed already_in_battle)
     (refuse_if (left i) (reply.OpenBattleFailed no_number_left) (done (opens me (s.last_battle + 1) battle))))
     ∙ (λ i. done (opens (sym named i) (sym numbered i) battle)) in
     subst (λ o. Obeyed s c old new (InBattles (Open number name battle)) o) (sym comes) (record {
-      told = subst (λ n. Told s old new (opens n number battle).told) (sym named) (told_then s old a new _ _ first second);
+      told = subst (λ n. Told s old new (opens n number battle).told) (sym named) told;
       effect = refl;
       can_be = (
         record { user = mine ∙ ap (λ n. Some n) (sym named); free = ap (battle_of s) named ∙ free },

@@ -147,7 +147,13 @@ impl Battles {
                 name,
                 battle,
             } => {
-                self.by_number.insert(number, battle)?;
+                match self.by_number.insert(number, battle) {
+                    Ok(old) => drop(old),
+                    Err(failed) => {
+                        drop(failed);
+                        return Err(AllocError);
+                    }
+                }
                 self.last = number;
                 seats.enter_battle(&name, number);
             }
@@ -185,7 +191,7 @@ impl Battles {
     {
         if let Some(battle) = self.by_number.get_mut(&number) {
             if battle.is_founder(name) {
-                let _ = self.by_number.remove(&number);
+                drop(self.by_number.remove(&number));
             } else {
                 battle.room.drop_member(name);
             }

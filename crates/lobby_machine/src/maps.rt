@@ -149,7 +149,13 @@ impl Maps {
         ensures wakes { IfOk result (λ wakes. (e : Event) → effect self.old e ≡ changed self.old client change → Matches self.old e post.now → IsWakes self.old e wakes) }
         ensures err { OnErr result (self.new ≡ self.old) }
     {
-        post.make_room(&mut self.clients)?;
+        match post.make_room(&mut self.clients) {
+            Ok(()) => {}
+            Err(refused) => {
+                drop(change);
+                return Err(refused);
+            }
+        }
         let done = apply(
             &mut self.clients,
             &mut self.seats,

@@ -1,79 +1,8 @@
 //! The server program of the lobby: `serve` runs the server, `hash` makes password words.
 #![tactic(auto)]
 
-mod hash;
-mod serve;
-
-use std::fmt::Display;
-use std::net::Net;
 use std::process::ExitCode;
-use std::rt::{Env, Files};
-use std::sync::Wait;
-use std::thread::Threads;
-use std::{env, io};
-
-const USAGE: &str = "usage: lobby_main serve SETTINGS ACCOUNTS or lobby_main hash";
-
-/// Tells why the program ends, and gives its exit status. A line that cannot be printed is lost.
-fn fail<R: Eprint, D: Display + Drop>(rt: &R, reason: D, status: u8) -> u8 {
-    let _ = rt.eprintln(reason);
-    status
-}
-
-/// Prints the password word of standard input's first line.
-fn print_word<R: Input + Print + Eprint>(rt: &R) -> u8 {
-    let mut reader = rt.reader();
-    let mut writer = io::writer(rt);
-    match hash::hash_line(&mut reader, &mut writer) {
-        0 => 0,
-        1 => fail(rt, USAGE, 1),
-        status => fail(rt, "cannot read input", status),
-    }
-}
-
-/// Runs the server until its input ends, or until the program is killed.
-fn run_server<R>(rt: &R, settings: &str, accounts: &str) -> u8
-where
-    R: Files + Input + Print + Eprint + AllocGlobal + Threads + Wait + Net + Sync,
-{
-    match serve::serve(rt, settings, accounts) {
-        Ok(0) => 0,
-        Ok(2) => fail(rt, "cannot read input", 2),
-        Ok(3) => fail(rt, "cannot listen", 3),
-        Ok(status) => fail(rt, "no memory", status),
-        Err(error) => fail(rt, error, error.status()),
-    }
-}
-
-fn run<R>(rt: &R) -> u8
-where
-    R: Files + Env + Input + Print + Eprint + AllocGlobal + Threads + Wait + Net + Sync,
-{
-    let mut words = match env::args(rt) {
-        Ok(words) => words,
-        Err(e) if e.kind() == io::ErrorKind::OutOfMemory => return fail(rt, "no memory", 4),
-        Err(_) => return fail(rt, USAGE, 1),
-    };
-    words.next();
-    let (command, settings, accounts) = (words.next(), words.next(), words.next());
-    let Some(command) = command else {
-        return fail(rt, USAGE, 1);
-    };
-    if words.next().is_some() {
-        return fail(rt, USAGE, 1);
-    }
-    match (command.as_str(), &settings, &accounts) {
-        ("hash", None, None) => print_word(rt),
-        ("serve", Some(settings), Some(accounts)) => {
-            run_server(rt, settings.as_str(), accounts.as_str())
-        }
-        _ => fail(rt, USAGE, 1),
-    }
-}
 
 fn main(rt: HostRuntime) -> ExitCode {
-    ExitCode::from(run(&rt))
+    ExitCode::from(lobby_cli::run(&rt))
 }
-
-#[cfg(test)]
-mod tests;

@@ -8,3 +8,5 @@ mod hall;
 mod scripts;
 #[cfg(test)]
 mod settings;
+#[cfg(test)]
+mod verdict;

@@ -1,5 +1,6 @@
 //! Scripts whose reader or writer fails, and scripts of the largest size.
 
+use crate::verdict::same;
 use lobby_script::{MOST_READS, PlayFault, SCRIPT_LIMIT, play};
 use std::io;
 use std::io::{Error, ErrorKind, Read, Write};
@@ -164,8 +165,8 @@ const FAULTS: [(PlayFault, &str, u8); 4] = [
 #[test]
 fn each_fault_has_its_text_and_status(rt: HostRuntime) -> Result<(), Fail> {
     for (fault, text, status) in FAULTS {
-        assert_eq!(rt; format!(in rt.alloc(); "{fault}")?.as_str(), text);
-        assert_eq!(rt; fault.status(), status);
+        same(&rt, format!(in rt.alloc(); "{fault}")?.as_str(), text);
+        same(&rt, fault.status(), status);
     }
     Ok(())
 }

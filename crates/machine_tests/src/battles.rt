@@ -1,6 +1,7 @@
 //! Events in a battle that are refused memory.
 
-use crate::machine::{EVENTS, drains, lobby_of_three, serve_all, serve_and_see};
+use crate::machine::{EVENTS, drains, lobby_of_three, only_if, serve_all, serve_and_see};
+use crate::verdict::same;
 use lobby_machine::Lobby;
 use std::alloc::Global;
 use std::process::Abort;
@@ -62,24 +63,19 @@ const LEFT: [(u64, &[u8]); 2] = [
 
 // Anna, Bert and Cleo, who saw one another log in.
 fn lobby_of_users(alloc: Global) -> Option<Lobby> {
-    match lobby_of_three(alloc) {
-        Some(mut lobby) => {
-            if serve_all(&mut lobby, alloc, &EVENTS) {
-                Some(lobby)
-            } else {
-                None
-            }
-        }
-        None => None,
-    }
+    let mut lobby = lobby_of_three(alloc)?;
+    let are_in = serve_all(&mut lobby, alloc, &EVENTS);
+    only_if(are_in, lobby)
 }
 
 #[test]
 fn three_users_are_in_no_battle(rt: HostRuntime) {
-    match lobby_of_users(rt.alloc()) {
-        Some(lobby) => assert_eq!(rt; lobby.last_client(), 3),
+    let made = lobby_of_users(rt.alloc());
+    match &made {
+        Some(lobby) => same(&rt, lobby.last_client(), 3),
         None => assert!(rt; false, "no lobby"),
     }
+    drop(made);
 }
 
 fn play(rt: &impl Abort, alloc: Global, lobby: &mut Lobby) {
@@ -92,8 +88,10 @@ fn play(rt: &impl Abort, alloc: Global, lobby: &mut Lobby) {
 
 #[test]
 fn a_battle_event_that_memory_refused_leaves_no_trace(rt: HostRuntime) {
-    match lobby_of_users(rt.alloc()) {
-        Some(mut lobby) => play(&rt, rt.alloc(), &mut lobby),
+    let mut made = lobby_of_users(rt.alloc());
+    match &mut made {
+        Some(lobby) => play(&rt, rt.alloc(), lobby),
         None => assert!(rt; false, "no lobby"),
     }
+    drop(made);
 }

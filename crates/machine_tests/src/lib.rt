@@ -8,3 +8,5 @@ mod battles;
 mod machine;
 #[cfg(test)]
 mod talk;
+#[cfg(test)]
+mod verdict;

@@ -3,6 +3,7 @@
 ghost use Rattle.std.specs.Prelude.{◌<◌, IfOk, IsTrue};
 ghost use Rattle.command_grammar.specs.Kinds.{keeps_kinds};
 
+use crate::verdict::same;
 use account_book::{Account, AccountBook};
 use command_grammar::{Request, read_request};
 use line_words::TextBuf;
@@ -35,14 +36,29 @@ pub fn add_account(
     }
 }
 
-fn new_accounts(alloc: Global) -> Option<AccountBook> {
-    let mut accounts = AccountBook::new(alloc);
+fn add_accounts(accounts: &mut AccountBook, alloc: Global) -> bool {
     for (name, id, rank, country) in ACCOUNTS {
-        if !add_account(&mut accounts, alloc, name, id, rank, country) {
-            return None;
+        if !add_account(accounts, alloc, name, id, rank, country) {
+            return false;
         }
     }
-    Some(accounts)
+    true
+}
+
+// The value, where it is as it should be.
+pub fn only_if<T: Drop>(is_so: bool, value: T) -> Option<T> {
+    if is_so {
+        Some(value)
+    } else {
+        drop(value);
+        None
+    }
+}
+
+fn new_accounts(alloc: Global) -> Option<AccountBook> {
+    let mut accounts = AccountBook::new(alloc);
+    let are_added = add_accounts(&mut accounts, alloc);
+    only_if(are_added, accounts)
 }
 
 // The default settings, but for the least limit of an outbox and a message of the day.
@@ -55,7 +71,10 @@ fn new_settings(alloc: Global) -> Option<Settings> {
 pub fn lobby_of(alloc: Global, accounts: AccountBook) -> Option<Lobby> {
     match new_settings(alloc) {
         Some(settings) => Lobby::new(alloc, settings, accounts).ok(),
-        None => None,
+        None => {
+            drop(accounts);
+            None
+        }
     }
 }
 
@@ -127,9 +146,9 @@ fn wakes_nobody(lobby: &mut Lobby, alloc: Global, client: u64, line: &[u8]) -> b
 
 fn open_two(rt: &impl Abort, lobby: &mut Lobby) {
     assert!(rt; lobby.has_place());
-    assert_eq!(rt; lobby.open([10, 0, 0, 1], 5), Ok(1));
-    assert_eq!(rt; lobby.open([10, 0, 0, 2], 63), Ok(2));
-    assert_eq!(rt; lobby.last_client(), 2);
+    same(rt, lobby.open([10, 0, 0, 1], 5), Ok(1));
+    same(rt, lobby.open([10, 0, 0, 2], 63), Ok(2));
+    same(rt, lobby.last_client(), 2);
 }
 
 // Lines that are answered, most of them by a refusal.
@@ -157,23 +176,26 @@ fn wake(rt: &impl Abort, alloc: Global, lobby: &mut Lobby) {
 
 #[test]
 fn an_answer_wakes_the_worker_of_its_client(rt: HostRuntime) {
-    let Some(mut lobby) = new_lobby(rt.alloc()) else {
-        assert!(rt; false, "no lobby");
-        return;
-    };
-    open_two(&rt, &mut lobby);
-    wake(&rt, rt.alloc(), &mut lobby);
+    let mut made = new_lobby(rt.alloc());
+    match &mut made {
+        Some(lobby) => {
+            open_two(&rt, lobby);
+            wake(&rt, rt.alloc(), lobby);
+        }
+        None => assert!(rt; false, "no lobby"),
+    }
+    drop(made);
 }
 
 fn exit(rt: &impl Abort, alloc: Global, lobby: &mut Lobby) {
-    assert_eq!(rt; lobby.open([10, 0, 0, 1], 0), Ok(1));
+    same(rt, lobby.open([10, 0, 0, 1], 0), Ok(1));
     assert!(rt; wakes_nobody(lobby, alloc, 1, b"EXIT bye"));
     assert!(rt; wakes_nobody(lobby, alloc, 1, b"PING"));
 }
 
 fn read_on(rt: &impl Abort, lobby: &mut Lobby) {
     let mut piece = [b'.'; 16];
-    assert_eq!(rt; lobby.copy_unread(1, 19, &mut piece), 5);
+    same(rt, lobby.copy_unread(1, 19, &mut piece), 5);
     assert!(rt; piece.starts_with(b"01 0\n..........."));
     assert!(rt; drains(lobby, 1, &mut piece, b"TASSERVER 0.38 *", false));
     assert!(rt; drains(lobby, 1, &mut piece, b" 8201 0\n", true));
@@ -182,19 +204,22 @@ fn read_on(rt: &impl Abort, lobby: &mut Lobby) {
 
 fn leave(rt: &impl Abort, lobby: &mut Lobby) {
     assert!(rt; lobby.has_client(1));
-    assert_eq!(rt; lobby.shut(1), Ok(Wakes::none()));
+    same(rt, lobby.shut(1), Ok(Wakes::none()));
     assert!(rt; !lobby.has_client(1));
 }
 
 #[test]
 fn a_client_that_exits_may_read_on(rt: HostRuntime) {
-    let Some(mut lobby) = new_lobby(rt.alloc()) else {
-        assert!(rt; false, "no lobby");
-        return;
-    };
-    exit(&rt, rt.alloc(), &mut lobby);
-    read_on(&rt, &mut lobby);
-    leave(&rt, &mut lobby);
+    let mut made = new_lobby(rt.alloc());
+    match &mut made {
+        Some(lobby) => {
+            exit(&rt, rt.alloc(), lobby);
+            read_on(&rt, lobby);
+            leave(&rt, lobby);
+        }
+        None => assert!(rt; false, "no lobby"),
+    }
+    drop(made);
 }
 
 fn ping_often(lobby: &mut Lobby, alloc: Global, client: u64, times: u32) -> bool {
@@ -208,25 +233,28 @@ fn ping_often(lobby: &mut Lobby, alloc: Global, client: u64, times: u32) -> bool
 
 // A greeting takes 24 bytes, and each answer 17.
 fn fill(rt: &impl Abort, alloc: Global, lobby: &mut Lobby) {
-    assert_eq!(rt; lobby.open([10, 0, 0, 1], 0), Ok(1));
+    same(rt, lobby.open([10, 0, 0, 1], 0), Ok(1));
     assert!(rt; ping_often(lobby, alloc, 1, 3853));
-    assert_eq!(rt; lobby.unread(1), 65_525);
+    same(rt, lobby.unread(1), 65_525);
 }
 
 fn cut(rt: &impl Abort, alloc: Global, lobby: &mut Lobby) {
     assert!(rt; wakes_alone(lobby, alloc, 1, b"#2147483647 PING", 0));
-    assert_eq!(rt; lobby.unread(1), 0);
+    same(rt, lobby.unread(1), 0);
     assert!(rt; drains(lobby, 1, &mut [0; 8], b"", true));
 }
 
 #[test]
 fn a_client_that_reads_nothing_is_cut_at_the_limit(rt: HostRuntime) {
-    let Some(mut lobby) = new_lobby(rt.alloc()) else {
-        assert!(rt; false, "no lobby");
-        return;
-    };
-    fill(&rt, rt.alloc(), &mut lobby);
-    cut(&rt, rt.alloc(), &mut lobby);
+    let mut made = new_lobby(rt.alloc());
+    match &mut made {
+        Some(lobby) => {
+            fill(&rt, rt.alloc(), lobby);
+            cut(&rt, rt.alloc(), lobby);
+        }
+        None => assert!(rt; false, "no lobby"),
+    }
+    drop(made);
 }
 
 fn read_all(lobby: &mut Lobby, client: u64) {
@@ -243,21 +271,19 @@ fn open_three(lobby: &mut Lobby) -> Result<(), OpenError> {
 }
 
 pub fn lobby_of_three(alloc: Global) -> Option<Lobby> {
-    match new_lobby(alloc) {
-        Some(mut lobby) => match open_three(&mut lobby) {
-            Ok(()) => Some(lobby),
-            Err(_) => None,
-        },
-        None => None,
-    }
+    let mut lobby = new_lobby(alloc)?;
+    let are_open = open_three(&mut lobby).is_ok();
+    only_if(are_open, lobby)
 }
 
 #[test]
 fn three_clients_are_numbered_in_order(rt: HostRuntime) {
-    match lobby_of_three(rt.alloc()) {
-        Some(lobby) => assert_eq!(rt; lobby.last_client(), 3),
+    let made = lobby_of_three(rt.alloc());
+    match &made {
+        Some(lobby) => same(&rt, lobby.last_client(), 3),
         None => assert!(rt; false, "no lobby"),
     }
+    drop(made);
 }
 
 // Reads a line, once more where memory was refused.
@@ -366,13 +392,16 @@ pub fn serve_and_see(
 
 #[test]
 fn an_event_that_memory_refused_leaves_no_trace(rt: HostRuntime) {
-    let Some(mut lobby) = lobby_of_three(rt.alloc()) else {
-        assert!(rt; false, "no lobby");
-        return;
-    };
-    serve_and_see(&rt, rt.alloc(), &mut lobby, &EVENTS, &SEEN);
-    serve_and_see(&rt, rt.alloc(), &mut lobby, &TALK, &HEARD);
-    serve_and_see(&rt, rt.alloc(), &mut lobby, &[(1, b"EXIT")], &LEFT);
+    let mut made = lobby_of_three(rt.alloc());
+    match &mut made {
+        Some(lobby) => {
+            serve_and_see(&rt, rt.alloc(), lobby, &EVENTS, &SEEN);
+            serve_and_see(&rt, rt.alloc(), lobby, &TALK, &HEARD);
+            serve_and_see(&rt, rt.alloc(), lobby, &[(1, b"EXIT")], &LEFT);
+        }
+        None => assert!(rt; false, "no lobby"),
+    }
+    drop(made);
 }
 
 // Anna logs in and out again, and reads what she got.
@@ -387,10 +416,12 @@ fn log_in_and_out(rt: &impl Abort, alloc: Global, lobby: &mut Lobby) {
 
 #[test]
 fn a_user_that_exits_is_finished_when_all_is_read(rt: HostRuntime) {
-    match lobby_of_three(rt.alloc()) {
-        Some(mut lobby) => log_in_and_out(&rt, rt.alloc(), &mut lobby),
+    let mut made = lobby_of_three(rt.alloc());
+    match &mut made {
+        Some(lobby) => log_in_and_out(&rt, rt.alloc(), lobby),
         None => assert!(rt; false, "no lobby"),
     }
+    drop(made);
 }
 
 fn open_often(lobby: &mut Lobby, times: u32) -> Result<(), OpenError> {
@@ -401,18 +432,21 @@ fn open_often(lobby: &mut Lobby, times: u32) -> Result<(), OpenError> {
 }
 
 fn find_it_full(rt: &impl Abort, lobby: &mut Lobby) {
-    assert_eq!(rt; lobby.open([10, 0, 0, 1], 0), Err(OpenError::Full));
-    assert_eq!(rt; lobby.last_client(), 10_000);
+    same(rt, lobby.open([10, 0, 0, 1], 0), Err(OpenError::Full));
+    same(rt, lobby.last_client(), 10_000);
     assert!(rt; lobby.shut(7).is_ok());
-    assert_eq!(rt; lobby.open([10, 0, 0, 1], 0), Ok(10_001));
+    same(rt, lobby.open([10, 0, 0, 1], 0), Ok(10_001));
 }
 
 #[test]
 fn ten_thousand_clients_are_full(rt: HostRuntime) {
-    let Some(mut lobby) = new_lobby(rt.alloc()) else {
-        assert!(rt; false, "no lobby");
-        return;
-    };
-    assert_eq!(rt; open_often(&mut lobby, 10_000), Ok(()));
-    find_it_full(&rt, &mut lobby);
+    let mut made = new_lobby(rt.alloc());
+    match &mut made {
+        Some(lobby) => {
+            same(&rt, open_often(lobby, 10_000), Ok(()));
+            find_it_full(&rt, lobby);
+        }
+        None => assert!(rt; false, "no lobby"),
+    }
+    drop(made);
 }

@@ -3,7 +3,8 @@
 ghost use Rattle.std.specs.Prelude.{IsTrue};
 ghost use Rattle.command_grammar.specs.Kinds.{keeps_kinds};
 
-use crate::machine::{add_account, drains, lobby_of, read, say};
+use crate::machine::{add_account, drains, lobby_of, only_if, read, say};
+use crate::verdict::same;
 use account_book::AccountBook;
 use command_grammar::Request;
 use lobby_machine::Lobby;
@@ -15,12 +16,17 @@ const USERS: u32 = 33;
 // The users are u01 to u33, in the order of their clients.
 fn accounts(alloc: Global) -> Option<AccountBook> {
     let mut accounts = AccountBook::new(alloc);
+    let are_added = add_users(&mut accounts, alloc);
+    only_if(are_added, accounts)
+}
+
+fn add_users(accounts: &mut AccountBook, alloc: Global) -> bool {
     for user in 1..=USERS {
-        if !add_user(&mut accounts, alloc, user) {
-            return None;
+        if !add_user(accounts, alloc, user) {
+            return false;
         }
     }
-    Some(accounts)
+    true
 }
 
 fn add_user(accounts: &mut AccountBook, alloc: Global, user: u32) -> bool {
@@ -79,24 +85,19 @@ fn gather(lobby: &mut Lobby, alloc: Global) -> bool {
 
 // A lobby of them all, where all but the last are in a channel.
 fn gathered(alloc: Global) -> Option<Lobby> {
-    match new_lobby(alloc) {
-        Some(mut lobby) => {
-            if log_all_in(&mut lobby, alloc) && gather(&mut lobby, alloc) {
-                Some(lobby)
-            } else {
-                None
-            }
-        }
-        None => None,
-    }
+    let mut lobby = new_lobby(alloc)?;
+    let are_in = log_all_in(&mut lobby, alloc) && gather(&mut lobby, alloc);
+    only_if(are_in, lobby)
 }
 
 #[test]
 fn all_but_one_are_in_a_channel(rt: HostRuntime) {
-    match gathered(rt.alloc()) {
-        Some(lobby) => assert_eq!(rt; lobby.last_client(), 33),
+    let made = gathered(rt.alloc());
+    match &made {
+        Some(lobby) => same(&rt, lobby.last_client(), 33),
         None => assert!(rt; false, "no lobby"),
     }
+    drop(made);
 }
 
 // Whether nobody has a byte to read.
@@ -148,15 +149,20 @@ fn see_the_last(rt: &impl Abort, lobby: &mut Lobby) {
     );
 }
 
-#[test]
-fn a_join_that_memory_refused_leaves_no_trace(rt: HostRuntime) {
-    let Some(mut lobby) = gathered(rt.alloc()) else {
-        assert!(rt; false, "no lobby");
-        return;
-    };
+fn join_and_see(rt: &impl Abort, lobby: &mut Lobby, alloc: Global) {
     assert!(rt;
-        join_last(&mut lobby, rt.alloc()),
+        join_last(lobby, alloc),
         "memory is refused for ever, or left a trace"
     );
-    see_the_last(&rt, &mut lobby);
+    see_the_last(rt, lobby);
+}
+
+#[test]
+fn a_join_that_memory_refused_leaves_no_trace(rt: HostRuntime) {
+    let mut made = gathered(rt.alloc());
+    match &mut made {
+        Some(lobby) => join_and_see(&rt, lobby, rt.alloc()),
+        None => assert!(rt; false, "no lobby"),
+    }
+    drop(made);
 }

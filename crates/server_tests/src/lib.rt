@@ -11,4 +11,6 @@ mod running;
 #[cfg(test)]
 mod server;
 #[cfg(test)]
+mod verdict;
+#[cfg(test)]
 mod workers;

@@ -6,6 +6,7 @@ use crate::running::{
     ANNA_IS_IN, ANNA_LOGS_IN, BERT_COMES, BERT_IS_IN, BERT_LOGS_IN, GREETING, loopback, new_server,
     service,
 };
+use crate::verdict::same;
 use lobby_workers::run_server;
 use mio::net::TcpListener;
 use std::alloc::{AllocError, Global};
@@ -29,8 +30,8 @@ fn an_input_that_is_empty_ends_the_server(rt: HostRuntime) -> Result<(), Fail> {
             &mut output,
             &OpenGate,
         );
-        assert_eq!(rt; status, 0);
-        assert_eq!(rt; output.as_slice(), b"listening\n".as_slice());
+        same(&rt, status, 0);
+        same(&rt, output.as_slice(), b"listening\n".as_slice());
     }
     Ok(())
 }
@@ -59,7 +60,7 @@ fn an_input_that_fails_ends_the_server_too(rt: HostRuntime) -> Result<(), Fail> 
         &mut output,
         &OpenGate,
     );
-    assert_eq!(rt; status, 2);
+    same(&rt, status, 2);
     Ok(())
 }
 
@@ -93,8 +94,8 @@ fn a_burst_is_answered_whole(rt: HostRuntime) -> Result<(), Fail> {
         assert!(rt; client.send_times(&rt, &lines, 14));
         assert!(rt; client.reads_times(&rt, &answers, 14), "all are answered");
         assert!(rt; client.send(&rt, b"EXIT\n"));
-        assert_eq!(rt; client.ends(&rt), Some(0));
-        assert_eq!(rt; running.end(&rt, thread), 0);
+        same(&rt, client.ends(&rt), Some(0));
+        same(&rt, running.end(&rt, thread), 0);
     }
     Ok(())
 }
@@ -131,7 +132,7 @@ fn a_client_that_reads_late_gets_all(rt: HostRuntime) -> Result<(), Fail> {
         }
         assert!(rt; anna.reads(&rt, b"SAYPRIVATE Bert on\n"));
     }
-    assert_eq!(rt; running.end(&rt, thread), 0);
+    same(&rt, running.end(&rt, thread), 0);
     Ok(())
 }
 
@@ -144,8 +145,8 @@ fn who_sends_no_more_gets_all_answers(rt: HostRuntime) -> Result<(), Fail> {
         assert!(rt; client.send(&rt, lines) && client.finish());
         assert!(rt; client.reads(&rt, GREETING), "the greeting");
         assert!(rt; client.reads(&rt, b"PONG\n"), "the answer");
-        assert_eq!(rt; client.ends(&rt), Some(0));
+        same(&rt, client.ends(&rt), Some(0));
     }
-    assert_eq!(rt; running.end(&rt, thread), 0);
+    same(&rt, running.end(&rt, thread), 0);
     Ok(())
 }

@@ -3,6 +3,7 @@
 use crate::clients::Client;
 use crate::gates::{Greeters, Meeting, OpenGate, Stop};
 use crate::running::{ANNA_IS_IN, ANNA_LOGS_IN, BERT_COMES, BERT_LOGS_IN, GREETING, new_server};
+use crate::verdict::same;
 use std::sync::Arc;
 use std::test::Fail;
 use std::thread;
@@ -26,7 +27,7 @@ fn two_workers_serve_two_clients(rt: HostRuntime) -> Result<(), Fail> {
     assert!(rt; anna.reads(&rt, ANNA_IS_IN), "Anna is in");
     assert!(rt; bert.send(&rt, BERT_LOGS_IN));
     assert!(rt; anna.reads(&rt, BERT_COMES), "Anna is told of Bert");
-    assert_eq!(rt; running.end(&rt, thread), 0);
+    same(&rt, running.end(&rt, thread), 0);
     assert!(rt;
         anna.ends(&rt).is_some(),
         "the server closes its connections"
@@ -49,7 +50,7 @@ fn a_worker_that_writes_keeps_no_other_waiting(rt: HostRuntime) -> Result<(), Fa
     assert!(rt; second.reads(&rt, b"PONG\n"), "worker 1 serves");
     assert!(rt; gate.let_go(), "worker 0 stood there all the while");
     assert!(rt; first.reads(&rt, b"PONG\n"));
-    assert_eq!(rt; running.end(&rt, thread), 0);
+    same(&rt, running.end(&rt, thread), 0);
     Ok(())
 }
 
@@ -62,12 +63,16 @@ fn connections_go_to_the_workers_in_turn(rt: HostRuntime) -> Result<(), Fail> {
     for before in 0u64..5 {
         let mut client = Client::connect(&rt, running.address)?;
         assert!(rt; client.reads(&rt, GREETING));
-        assert_eq!(rt; gate.last_of(before.saturating_add(1)), Some(before % 2));
+        same(
+            &rt,
+            gate.last_of(before.saturating_add(1)),
+            Some(before % 2),
+        );
         clients.push(client)?;
     }
-    assert_eq!(rt; running.end(&rt, thread), 0);
+    same(&rt, running.end(&rt, thread), 0);
     for mut client in clients {
-        assert_eq!(rt; client.ends(&rt), Some(0));
+        same(&rt, client.ends(&rt), Some(0));
     }
     Ok(())
 }
@@ -91,7 +96,7 @@ fn a_reset_in_mid_line_logs_out_its_own_user_alone(rt: HostRuntime) -> Result<()
         assert!(rt; anna.send(&rt, b"#7 PING\n"));
         assert!(rt; anna.reads(&rt, b"#7 PONG\n"), "Anna is served");
     }
-    assert_eq!(rt; running.end(&rt, thread), 0);
-    assert_eq!(rt; anna.ends(&rt), Some(0));
+    same(&rt, running.end(&rt, thread), 0);
+    same(&rt, anna.ends(&rt), Some(0));
     Ok(())
 }

@@ -1,5 +1,6 @@
 //! Numbers and addresses that are written as they have to be, and ones that nearly are.
 
+use crate::verdict::{same, same_for};
 use address_words::{address, number, number_before, part_at, socket_address};
 
 #[test]
@@ -16,16 +17,18 @@ fn numbers_have_no_leading_zeros(rt: HostRuntime) {
         (b"1 ", None),
     ];
     for (text, want) in rows {
-        assert_eq!(rt; number(text), want, "{text:?}");
+        same_for(&rt, &text, number(text), want);
     }
-    assert_eq!(rt;
+    same(
+        &rt,
         number_before(b"12 rest", b' '),
-        Some((12, b"rest".as_slice()))
+        Some((12, b"rest".as_slice())),
     );
-    assert_eq!(rt; number_before(b"12", b' '), None);
-    assert_eq!(rt;
+    same(&rt, number_before(b"12", b' '), None);
+    same(
+        &rt,
         part_at(b"a=b=c", b'='),
-        Some((b"a".as_slice(), b"b=c".as_slice()))
+        Some((b"a".as_slice(), b"b=c".as_slice())),
     );
 }
 
@@ -42,7 +45,7 @@ fn addresses_have_four_numbers(rt: HostRuntime) {
         (b"localhost", None),
     ];
     for (text, want) in rows {
-        assert_eq!(rt; address(text), want, "{text:?}");
+        same_for(&rt, &text, address(text), want);
     }
 }
 
@@ -60,6 +63,6 @@ fn a_port_stands_behind_a_colon(rt: HostRuntime) {
         (b"[::1]:8200", None),
     ];
     for (text, want) in rows {
-        assert_eq!(rt; socket_address(text), want, "{text:?}");
+        same_for(&rt, &text, socket_address(text), want);
     }
 }

@@ -1,5 +1,6 @@
 //! Fields of a table of each kind, missing ones, and ones that are refused.
 
+use crate::verdict::{same, same_for};
 use std::test::Fail;
 use toml::Table;
 use toml_fields::{
@@ -23,27 +24,31 @@ fn table(rt: HostRuntime) -> Result<Table, Fail> {
 #[test]
 fn what_is_there_is_read(rt: HostRuntime) -> Result<(), Fail> {
     let table = table(rt)?;
-    assert_eq!(rt; text_at(&table, "word"), Ok("a text"));
-    assert_eq!(rt; text_or(&table, "word", "another"), Ok("a text"));
-    assert_eq!(rt; number_at(&table, "count", 7, 7), Ok(7));
-    assert_eq!(rt; number_or(&table, "count", 0, 8, 1), Ok(7));
-    assert_eq!(rt; flag_or(&table, "set", false), Ok(true));
+    same(&rt, text_at(&table, "word"), Ok("a text"));
+    same(&rt, text_or(&table, "word", "another"), Ok("a text"));
+    same(&rt, number_at(&table, "count", 7, 7), Ok(7));
+    same(&rt, number_or(&table, "count", 0, 8, 1), Ok(7));
+    same(&rt, flag_or(&table, "set", false), Ok(true));
     let values = list_or_empty(&table, "list")?;
-    assert_eq!(rt; values.len(), 2);
-    assert_eq!(rt; text_of(&values[0]), Ok("one"));
-    assert_eq!(rt; text_of(&values[1]), Err(FieldFault::OtherKind));
+    same(&rt, values.len(), 2);
+    same(&rt, text_of(&values[0]), Ok("one"));
+    same(&rt, text_of(&values[1]), Err(FieldFault::OtherKind));
     Ok(())
 }
 
 #[test]
 fn what_is_missing_has_its_default(rt: HostRuntime) -> Result<(), Fail> {
     let table = table(rt)?;
-    assert_eq!(rt; text_at(&table, "none"), Err(FieldFault::Missing));
-    assert_eq!(rt; number_at(&table, "none", 0, 9), Err(FieldFault::Missing));
-    assert_eq!(rt; text_or(&table, "none", "another"), Ok("another"));
-    assert_eq!(rt; number_or(&table, "none", 0, 9, 4), Ok(4));
-    assert_eq!(rt; flag_or(&table, "none", true), Ok(true));
-    assert_eq!(rt; list_or_empty(&table, "none")?.len(), 0);
+    same(&rt, text_at(&table, "none"), Err(FieldFault::Missing));
+    same(
+        &rt,
+        number_at(&table, "none", 0, 9),
+        Err(FieldFault::Missing),
+    );
+    same(&rt, text_or(&table, "none", "another"), Ok("another"));
+    same(&rt, number_or(&table, "none", 0, 9, 4), Ok(4));
+    same(&rt, flag_or(&table, "none", true), Ok(true));
+    same(&rt, list_or_empty(&table, "none")?.len(), 0);
     Ok(())
 }
 
@@ -51,21 +56,23 @@ fn what_is_missing_has_its_default(rt: HostRuntime) -> Result<(), Fail> {
 fn other_kinds_and_numbers_out_of_bounds_are_refused(rt: HostRuntime) -> Result<(), Fail> {
     let table = table(rt)?;
     let other = FieldFault::OtherKind;
-    assert_eq!(rt; text_at(&table, "count"), Err(other));
-    assert_eq!(rt; text_or(&table, "set", ""), Err(other));
-    assert_eq!(rt; number_at(&table, "half", 0, 9), Err(other));
-    assert_eq!(rt; number_or(&table, "word", 0, 9, 0), Err(other));
-    assert_eq!(rt; flag_or(&table, "count", false), Err(other));
-    assert_eq!(rt; list_or_empty(&table, "word").err(), Some(other));
+    same(&rt, text_at(&table, "count"), Err(other));
+    same(&rt, text_or(&table, "set", ""), Err(other));
+    same(&rt, number_at(&table, "half", 0, 9), Err(other));
+    same(&rt, number_or(&table, "word", 0, 9, 0), Err(other));
+    same(&rt, flag_or(&table, "count", false), Err(other));
+    same(&rt, list_or_empty(&table, "word").err(), Some(other));
     for (low, high) in [(0, 6), (8, 9)] {
-        assert_eq!(rt;
+        same(
+            &rt,
             number_at(&table, "count", low, high),
-            Err(FieldFault::NotAllowed)
+            Err(FieldFault::NotAllowed),
         );
     }
-    assert_eq!(rt;
+    same(
+        &rt,
         number_or(&table, "low", 0, 9, 0),
-        Err(FieldFault::NotAllowed)
+        Err(FieldFault::NotAllowed),
     );
     Ok(())
 }
@@ -80,6 +87,6 @@ fn a_file_that_is_none_shows_its_line(rt: HostRuntime) {
     ];
     for (file, line) in rows {
         let refused = read_document(rt.alloc(), file).err();
-        assert_eq!(rt; refused, Some(DocumentError::NotToml { line }), "{file:?}");
+        same_for(&rt, &file, refused, Some(DocumentError::NotToml { line }));
     }
 }

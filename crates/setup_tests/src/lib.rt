@@ -7,3 +7,5 @@ mod addresses;
 mod fields;
 #[cfg(test)]
 mod settings;
+#[cfg(test)]
+mod verdict;

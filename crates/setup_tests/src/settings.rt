@@ -1,5 +1,6 @@
 //! Files of settings: the smallest one, one that names all keys, and ones with each kind of fault.
 
+use crate::verdict::{same, same_for};
 use lobby_setup::{Key, Refusal, Setup, SetupError, read_setup};
 use std::net::{Ipv4Addr, SocketAddrV4};
 use std::process::Abort;
@@ -32,12 +33,16 @@ fn refused(key: Key, fault: FieldFault) -> Option<SetupError> {
 fn shows_defaults(rt: &impl Abort, setup: &Setup) {
     let here = SocketAddrV4::new(Ipv4Addr::LOCALHOST, 0);
     assert!(rt; setup.address == here);
-    assert_eq!(rt; (setup.workers, setup.stop_at_input_end), (4, false));
+    same(rt, (setup.workers, setup.stop_at_input_end), (4, false));
     let settings = &setup.settings;
-    assert_eq!(rt; settings.protocol_version().as_slice(), b"0.38".as_slice());
-    assert_eq!(rt; settings.spring_version().as_slice(), b"*".as_slice());
-    assert_eq!(rt; (settings.udp_port(), settings.server_mode()), (8201, 0));
-    assert_eq!(rt; settings.outbox_limit(), 4_194_304);
+    same(
+        rt,
+        settings.protocol_version().as_slice(),
+        b"0.38".as_slice(),
+    );
+    same(rt, settings.spring_version().as_slice(), b"*".as_slice());
+    same(rt, (settings.udp_port(), settings.server_mode()), (8201, 0));
+    same(rt, settings.outbox_limit(), 4_194_304);
     assert!(rt; settings.motd().as_slice().is_empty());
 }
 
@@ -52,15 +57,23 @@ fn an_address_is_enough(rt: HostRuntime) {
 fn shows_all(rt: &impl Abort, setup: &Setup) {
     let there = SocketAddrV4::new(Ipv4Addr::new(10, 0, 0, 2), 65_535);
     assert!(rt; setup.address == there);
-    assert_eq!(rt; (setup.workers, setup.stop_at_input_end), (64, true));
+    same(rt, (setup.workers, setup.stop_at_input_end), (64, true));
     let settings = &setup.settings;
-    assert_eq!(rt; settings.protocol_version().as_slice(), b"0.39".as_slice());
-    assert_eq!(rt; settings.spring_version().as_slice(), b"105.0".as_slice());
-    assert_eq!(rt; (settings.udp_port(), settings.server_mode()), (0, 1));
-    assert_eq!(rt; settings.outbox_limit(), 65_536);
+    same(
+        rt,
+        settings.protocol_version().as_slice(),
+        b"0.39".as_slice(),
+    );
+    same(
+        rt,
+        settings.spring_version().as_slice(),
+        b"105.0".as_slice(),
+    );
+    same(rt, (settings.udp_port(), settings.server_mode()), (0, 1));
+    same(rt, settings.outbox_limit(), 65_536);
     let motd = settings.motd().as_slice();
-    assert_eq!(rt; motd.len(), 3);
-    assert_eq!(rt; motd[2].as_slice(), b"Gr\xc3\xbc\xc3\x9fe".as_slice());
+    same(rt, motd.len(), 3);
+    same(rt, motd[2].as_slice(), b"Gr\xc3\xbc\xc3\x9fe".as_slice());
 }
 
 #[test]
@@ -90,7 +103,7 @@ fn each_value_has_its_bounds(rt: HostRuntime) -> Result<(), Fail> {
     ];
     for (line, key) in rows {
         let want = refused(key, FieldFault::NotAllowed);
-        assert_eq!(rt; refusal_with(rt, line)?, want, "{line}");
+        same_for(&rt, &line, refusal_with(rt, line)?, want);
     }
     Ok(())
 }
@@ -110,7 +123,7 @@ fn each_value_has_its_kind(rt: HostRuntime) -> Result<(), Fail> {
     ];
     for (line, key) in rows {
         let want = refused(key, FieldFault::OtherKind);
-        assert_eq!(rt; refusal_with(rt, line)?, want, "{line}");
+        same_for(&rt, &line, refusal_with(rt, line)?, want);
     }
     Ok(())
 }
@@ -126,7 +139,7 @@ fn an_address_is_four_numbers_and_a_port(rt: HostRuntime) {
     ];
     for (file, fault) in rows {
         let error = read_setup(rt.alloc(), file).err();
-        assert_eq!(rt; error, refused(Key::Address, fault), "{file:?}");
+        same_for(&rt, &file, error, refused(Key::Address, fault));
     }
 }
 
@@ -136,19 +149,19 @@ fn the_first_bad_line_of_the_day_is_named(rt: HostRuntime) -> Result<(), Fail> {
         Some(SetupError::Unusable(Refusal::MotdLine { place, fault }))
     };
     let bad = refusal_with(rt, "motd = ['a', \"b\\nc\", 5]")?;
-    assert_eq!(rt; bad, line(2, FieldFault::NotAllowed));
+    same(&rt, bad, line(2, FieldFault::NotAllowed));
     let bad = refusal_with(rt, "motd = ['a', 5, \"b\\r\"]")?;
-    assert_eq!(rt; bad, line(2, FieldFault::OtherKind));
+    same(&rt, bad, line(2, FieldFault::OtherKind));
     let mut many = String::new(rt.alloc());
     many.push_str("motd = [")?;
     for _ in 0..100 {
         many.push_str("'',")?;
     }
     let hundred = format!(in rt.alloc(); "{many}]")?;
-    assert_eq!(rt; refusal_with(rt, hundred.as_str())?, None);
+    same(&rt, refusal_with(rt, hundred.as_str())?, None);
     let one_more = format!(in rt.alloc(); "{many}'']")?;
     let bad = refusal_with(rt, one_more.as_str())?;
-    assert_eq!(rt; bad, line(101, FieldFault::NotAllowed));
+    same(&rt, bad, line(101, FieldFault::NotAllowed));
     Ok(())
 }
 
@@ -177,7 +190,7 @@ fn a_refusal_says_what_is_wrong_and_where(rt: HostRuntime) -> Result<(), Fail> {
             Ok(_) => assert!(rt; false, "{want}"),
             Err(error) => {
                 let text = format!(in rt.alloc(); "{error}")?;
-                assert_eq!(rt; text.as_str(), want);
+                same(&rt, text.as_str(), want);
             }
         }
     }

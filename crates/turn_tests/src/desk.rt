@@ -3,10 +3,11 @@
 ghost use Rattle.std.specs.Prelude.{◌≡◌, IfOk, IsTrue};
 ghost use Rattle.command_grammar.specs.Kinds.{keeps_kinds};
 
-use super::*;
+use crate::verdict::same;
 use account_book::AccountBook;
 use command_grammar::{Request, read_request};
 use line_words::TextBuf;
+use lobby_lock::{Desk, DeskError, Pass};
 use lobby_machine::{Lobby, Wakes};
 use lobby_model::Settings;
 use std::alloc::{AllocError, Global};
@@ -140,10 +141,10 @@ fn compare(rt: &impl Abort, seen: Option<Seen>) {
         assert!(rt; false, "a line was read");
         return;
     };
-    assert_eq!(rt; seen.client, 2);
-    assert_eq!(rt; seen.wakes, Some(Wakes::one(0).union(Wakes::one(1))));
-    assert_eq!(rt; seen.events, 3);
-    assert_eq!(rt; seen.bytes.get(..seen.count), Some(READ_BY_BERT));
+    same(rt, seen.client, 2);
+    same(rt, seen.wakes, Some(Wakes::one(0).union(Wakes::one(1))));
+    same(rt, seen.events, 3);
+    same(rt, seen.bytes.get(..seen.count), Some(READ_BY_BERT));
 }
 
 // Takes back the pass of a worker that has ended, and holds the lobby once more.
@@ -154,7 +155,7 @@ fn end<R: Wait + Abort>(rt: &R, desk: &Desk, pass: Pass, other: Pass)
     let pass = desk.take_back(pass, other);
     let mut held = desk.take(rt, pass);
     assert!(rt; held.shut(1).is_ok());
-    assert_eq!(rt; held.count(), 1);
+    same(rt, held.count(), 1);
     let _pass = held.give(rt, desk);
 }
 
@@ -225,10 +226,10 @@ fn sixty_three_passes_are_handed_out(rt: HostRuntime) -> Result<(), Fail> {
     };
     let mut others = Vec::new(rt.alloc());
     let (pass, count, refusal) = hand_out_all(&desk, rt.alloc(), pass, &mut others);
-    assert_eq!(rt; count, 63);
-    assert_eq!(rt; refusal, Some(DeskError::TooManyWorkers));
+    same(&rt, count, 63);
+    same(&rt, refusal, Some(DeskError::TooManyWorkers));
     let mut held = desk.take(&rt, pass);
-    assert_eq!(rt; held.open([10, 0, 0, 1], 63), Ok(1));
+    same(&rt, held.open([10, 0, 0, 1], 63), Ok(1));
     let _pass = held.give(&rt, &desk);
     Ok(())
 }

@@ -1,8 +1,12 @@
-//! Tests of a connection's turns over links in memory: what a client that is served reads, and how
+//! Tests of workers at one desk, and of a connection's turns over links in memory: what a client that is served reads, and how
 //! its turns end.
 #![tactic(auto)]
 
 #[cfg(test)]
+mod desk;
+#[cfg(test)]
 mod side_by_side;
 #[cfg(test)]
 mod turns;
+#[cfg(test)]
+mod verdict;

@@ -4,6 +4,7 @@
 ghost use Rattle.std.specs.Prelude.{◌≡◌};
 
 use crate::turns::{GREETING_AND_PONG, new_lobby, serve_client};
+use crate::verdict::same;
 use lobby_lock::Desk;
 use lobby_workers::{Gate, Got, Link, MemoryLink, Sent, Turn, TurnState};
 use std::process::Abort;
@@ -168,10 +169,10 @@ where
     );
     assert!(rt; meeting.did_meet(), "each worker saw what it looked for");
     for turn in [first_turn, second_turn] {
-        assert_eq!(rt; turn.map(|turn| turn.state), Some(TurnState::Idle));
+        same(rt, turn.map(|turn| turn.state), Some(TurnState::Idle));
     }
-    assert_eq!(rt; first.inner.output(), GREETING_AND_PONG);
-    assert_eq!(rt; second.output(), GREETING_AND_PONG);
+    same(rt, first.inner.output(), GREETING_AND_PONG);
+    same(rt, second.output(), GREETING_AND_PONG);
     Ok(())
 }
 

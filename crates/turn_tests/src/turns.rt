@@ -2,6 +2,7 @@
 
 ghost use Rattle.std.specs.Prelude.{◌≡◌};
 
+use crate::verdict::same;
 use account_book::AccountBook;
 use line_words::TextBuf;
 use lobby_lock::{Desk, Pass};
@@ -61,14 +62,34 @@ pub(crate) fn serve_client<R: Wait, L: Link, G: Gate>(
 {
     let mut held = desk.take(rt, pass);
     let client = held.open([10, 0, 0, 1], 0).unwrap_or(0);
-    let mut pass = held.give(rt, desk);
+    let pass = held.give(rt, desk);
     let mut conn = Conn::new(alloc, client);
+    let ended = take_turns(rt, desk, pass, &mut conn, link, gate, turns);
+    drop(conn);
+    ended
+}
+
+// Gives a connection so many turns, or until its client was shut; and what the last one came to.
+fn take_turns<R: Wait, L: Link, G: Gate>(
+    rt: &R,
+    desk: &Desk,
+    pass: Pass,
+    conn: &mut Conn,
+    link: &mut L,
+    gate: &G,
+    turns: u64,
+) -> (Pass, Option<Turn>)
+    requires { pass.desk ≡ desk.now }
+    ensures desk { result.0.desk ≡ desk.now }
+    ensures number { result.0.worker.number ≡ pass.worker.number }
+{
+    let mut pass = pass;
     let mut last = None;
     for _ in 0..turns {
         if !link.fresh() {
             return (pass, None);
         }
-        let (next, turn) = serve(rt, &mut conn, link, desk, pass, gate);
+        let (next, turn) = serve(rt, conn, link, desk, pass, gate);
         pass = next;
         last = Some(turn);
         if turn.state == TurnState::Closed {
@@ -76,6 +97,25 @@ pub(crate) fn serve_client<R: Wait, L: Link, G: Gate>(
         }
     }
     (pass, last)
+}
+
+// Serves one client alone over a link: what its last turn came to.
+fn serve_alone<R: Wait>(
+    rt: &R,
+    alloc: Global,
+    link: &mut MemoryLink,
+    turns: u64,
+) -> Result<Option<Turn>, Fail> {
+    let lobby = new_lobby(alloc)?;
+    match Desk::open(rt, alloc, lobby) {
+        Ok((desk, pass)) => {
+            let (pass, turn) = serve_client(rt, alloc, &desk, pass, link, &Open, turns);
+            drop(pass);
+            drop(desk);
+            Ok(turn)
+        }
+        Err(error) => Err(Fail::from(error)),
+    }
 }
 
 // Serves one client alone over a link, and compares how its last turn ended and what it read.
@@ -87,14 +127,11 @@ fn check<R: Wait + Abort>(
     state: TurnState,
     output: &[u8],
 ) -> Result<(), Fail> {
-    let Ok((desk, pass)) = Desk::open(rt, alloc, new_lobby(alloc)?) else {
-        assert!(rt; false, "a desk was opened");
-        return Ok(());
-    };
     let mut link = link;
-    let (_pass, turn) = serve_client(rt, alloc, &desk, pass, &mut link, &Open, turns);
-    assert_eq!(rt; turn.map(|turn| turn.state), Some(state));
-    assert_eq!(rt; link.output(), output);
+    let served = serve_alone(rt, alloc, &mut link, turns);
+    same(rt, link.output(), output);
+    drop(link);
+    same(rt, served?.map(|turn| turn.state), Some(state));
     Ok(())
 }
 

@@ -3,4 +3,6 @@
 #![tactic(auto)]
 
 #[cfg(test)]
+mod verdict;
+#[cfg(test)]
 mod views;

@@ -1,7 +1,9 @@
 //! What a client knows from its bytes, whole and byte by byte, and beyond the longest line.
 
+use crate::verdict::same;
 use client_view::{Battle, Channels, OwnRoom, User, View, ViewError};
 use line_words::NameBuf;
+use std::process::Abort;
 use std::rt::HostRuntime;
 use std::test::Fail;
 
@@ -36,102 +38,141 @@ fn name(bytes: &[u8]) -> Result<NameBuf, Fail> {
     Ok(NameBuf::of(bytes).ok_or("no name")?)
 }
 
+fn see_users(rt: &impl Abort, view: &mut View) -> Result<(), Fail> {
+    same(rt, view.feed(SENT), Ok(24));
+    assert!(rt; view.me() == b"Anna".as_slice());
+    same(rt, view.users().len(), 2);
+    let bert: &User = view.users().get(&name(b"Bert")?).ok_or("no Bert")?;
+    assert!(rt; bert.country.as_slice() == b"??".as_slice());
+    same(rt, (bert.cpu, bert.account, bert.status), (2400, 2, 12));
+    Ok(())
+}
+
 #[test]
 fn a_view_has_what_the_lines_told(rt: HostRuntime) -> Result<(), Fail> {
     let mut view = View::new(rt.alloc());
-    assert_eq!(rt; view.feed(SENT), Ok(24));
-    assert!(rt; view.me() == b"Anna".as_slice());
-    assert_eq!(rt; view.users().len(), 2);
-    let bert: &User = view.users().get(&name(b"Bert")?).ok_or("no Bert")?;
-    assert!(rt; bert.country.as_slice() == b"??".as_slice());
-    assert_eq!(rt; (bert.cpu, bert.account, bert.status), (2400, 2, 12));
+    let seen = see_users(&rt, &mut view);
+    drop(view);
+    seen
+}
+
+fn see_channel(rt: &impl Abort, view: &mut View) -> Result<(), Fail> {
+    same(rt, view.feed(SENT), Ok(24));
+    let channels: &Channels = view.channels();
+    same(rt, channels.len(), 1);
+    let names = channels.get(&name(b"main")?).ok_or("no main")?;
+    same(rt, names.len(), 2);
+    assert!(rt;
+        names
+            .first()
+            .is_some_and(|first| first.as_slice() == b"Anna".as_slice())
+    );
+    same(rt, view.feed(b"LEFT main Anna\n"), Ok(1));
+    same(rt, view.channels().len(), 0);
     Ok(())
 }
 
 #[test]
 fn a_channel_has_those_who_are_in_it(rt: HostRuntime) -> Result<(), Fail> {
     let mut view = View::new(rt.alloc());
-    assert_eq!(rt; view.feed(SENT), Ok(24));
-    let channels: &Channels = view.channels();
-    assert_eq!(rt; channels.len(), 1);
-    let names = channels.get(&name(b"main")?).ok_or("no main")?;
-    assert_eq!(rt; names.len(), 2);
-    assert!(rt;
-        names
-            .first()
-            .is_some_and(|first| first.as_slice() == b"Anna".as_slice())
-    );
-    assert_eq!(rt; view.feed(b"LEFT main Anna\n"), Ok(1));
-    assert_eq!(rt; view.channels().len(), 0);
+    let seen = see_channel(&rt, &mut view);
+    drop(view);
+    seen
+}
+
+fn see_battle(rt: &impl Abort, view: &mut View) -> Result<(), Fail> {
+    same(rt, view.feed(SENT), Ok(24));
+    same(rt, view.battles().len(), 1);
+    let battle: &Battle = view.battles().get(1).ok_or("no battle")?;
+    assert!(rt; battle.map.as_slice() == b"Other Map".as_slice() && battle.locked);
+    same(rt, (battle.spectators, battle.map_hash), (2, 5));
+    same(rt, battle.members().len(), 2);
     Ok(())
 }
 
 #[test]
 fn a_battle_has_its_members(rt: HostRuntime) -> Result<(), Fail> {
     let mut view = View::new(rt.alloc());
-    assert_eq!(rt; view.feed(SENT), Ok(24));
-    assert_eq!(rt; view.battles().len(), 1);
-    let battle: &Battle = view.battles().get(1).ok_or("no battle")?;
-    assert!(rt; battle.map.as_slice() == b"Other Map".as_slice() && battle.locked);
-    assert_eq!(rt; (battle.spectators, battle.map_hash), (2, 5));
-    assert_eq!(rt; battle.members().len(), 2);
+    let seen = see_battle(&rt, &mut view);
+    drop(view);
+    seen
+}
+
+fn see_room(rt: &impl Abort, view: &mut View) -> Result<(), Fail> {
+    same(rt, view.feed(SENT), Ok(24));
+    let room: &OwnRoom = view.room().ok_or("no room")?;
+    same(
+        rt,
+        (room.battle(), room.members().len(), room.bots().len()),
+        (1, 2, 1),
+    );
+    let bot = room.bots().first().ok_or("no bot")?;
+    same(rt, (bot.status, bot.colour), (1024, -1));
+    assert!(rt;
+        room.rect_at(1)
+            .is_some_and(|rect| rect.right == 200 && rect.bottom == 60)
+    );
+    same(rt, (room.rect_count(), room.tags().len()), (1, 1));
+    same(rt, view.feed(b"BATTLECLOSED 1\n"), Ok(1));
+    assert!(rt; view.room().is_none());
     Ok(())
 }
 
 #[test]
 fn the_room_has_what_its_members_share(rt: HostRuntime) -> Result<(), Fail> {
     let mut view = View::new(rt.alloc());
-    assert_eq!(rt; view.feed(SENT), Ok(24));
-    let room: &OwnRoom = view.room().ok_or("no room")?;
-    assert_eq!(rt;
-        (room.battle(), room.members().len(), room.bots().len()),
-        (1, 2, 1)
+    let seen = see_room(&rt, &mut view);
+    drop(view);
+    seen
+}
+
+fn see_pieces(rt: &impl Abort, view: &mut View) -> Result<(), Fail> {
+    let mut folded: usize = 0;
+    for k in 0..SENT.len() {
+        folded = folded.saturating_add(view.feed(&SENT[k..k + 1])?);
+    }
+    same(rt, folded, 24);
+    same(
+        rt,
+        (
+            view.users().len(),
+            view.channels().len(),
+            view.battles().len(),
+        ),
+        (2, 1, 1),
     );
-    let bot = room.bots().first().ok_or("no bot")?;
-    assert_eq!(rt; (bot.status, bot.colour), (1024, -1));
-    assert!(rt;
-        room.rect_at(1)
-            .is_some_and(|rect| rect.right == 200 && rect.bottom == 60)
+    let room = view.room().ok_or("no room")?;
+    same(
+        rt,
+        (room.members().len(), room.bots().len(), room.tags().len()),
+        (2, 1, 1),
     );
-    assert_eq!(rt; (room.rect_count(), room.tags().len()), (1, 1));
-    assert_eq!(rt; view.feed(b"BATTLECLOSED 1\n"), Ok(1));
-    assert!(rt; view.room().is_none());
     Ok(())
 }
 
 #[test]
 fn a_view_is_the_same_however_its_bytes_are_cut(rt: HostRuntime) -> Result<(), Fail> {
     let mut view = View::new(rt.alloc());
-    let mut folded: usize = 0;
-    for k in 0..SENT.len() {
-        folded = folded.saturating_add(view.feed(&SENT[k..k + 1])?);
-    }
-    assert_eq!(rt; folded, 24);
-    assert_eq!(rt;
-        (
-            view.users().len(),
-            view.channels().len(),
-            view.battles().len()
-        ),
-        (2, 1, 1)
+    let seen = see_pieces(&rt, &mut view);
+    drop(view);
+    seen
+}
+
+fn see_longest(rt: &impl Abort, view: &mut View) {
+    same(rt, view.feed(&[b'A'; 20_479]), Ok(0));
+    same(rt, view.feed(b"\nACCEPTED Bert\n"), Ok(1));
+    same(rt, view.feed(&[b'A'; 20_480]), Err(ViewError::LineTooLong));
+    same(
+        rt,
+        view.feed(b"\nACCEPTED Anna\n"),
+        Err(ViewError::LineTooLong),
     );
-    let room = view.room().ok_or("no room")?;
-    assert_eq!(rt;
-        (room.members().len(), room.bots().len(), room.tags().len()),
-        (2, 1, 1)
-    );
-    Ok(())
+    assert!(rt; view.me() == b"Bert".as_slice());
 }
 
 #[test]
 fn a_line_of_20479_bytes_is_a_line_and_a_longer_one_ends_all(rt: HostRuntime) {
     let mut view = View::new(rt.alloc());
-    assert_eq!(rt; view.feed(&[b'A'; 20_479]), Ok(0));
-    assert_eq!(rt; view.feed(b"\nACCEPTED Bert\n"), Ok(1));
-    assert_eq!(rt; view.feed(&[b'A'; 20_480]), Err(ViewError::LineTooLong));
-    assert_eq!(rt;
-        view.feed(b"\nACCEPTED Anna\n"),
-        Err(ViewError::LineTooLong)
-    );
-    assert!(rt; view.me() == b"Bert".as_slice());
+    see_longest(&rt, &mut view);
+    drop(view);
 }

@@ -4,10 +4,10 @@ ghost use Rattle.std.specs.Prelude.{◌≡◌, [], ◌∷◌, ◌++◌, decimal,
 ghost use Rattle.reply_grammar.specs.declared.Reply.TheVariants as reply;
 ghost use Rattle.line_words.specs.Table.{at_number};
 ghost use Rattle.reply_grammar.specs.Lent.{reply_of};
-ghost use Rattle.battle_room.specs.Room.{member_names};
+ghost use Rattle.battle_room.specs.Room.{member_names, new_room};
 ghost use Rattle.lobby_model.specs.State.{name_of, updated};
 ghost use Rattle.lobby_model.specs.Outcome.{everyone, tell, user};
-ghost use Rattle.lobby_model.specs.Battles.{address, bot_line, ip_text, join_battle, leave_battle, leaves_battle, member_has, open_battle, rect_line, room_lines, say_in_battle, set_own_status, status_line, update_battle};
+ghost use Rattle.lobby_model.specs.Battles.{address, bot_line, ip_text, join_battle, leave_battle, leaves_battle, member_has, open_battle, opened_line, rect_line, room_lines, say_in_battle, set_own_status, status_line, update_battle};
 ghost use Rattle.lobby_model.specs.Commands.{answer};
 ghost use Rattle.lobby_post.specs.Posted.{Told, with_own};
 ghost use Rattle.lobby_machine.specs.Answers.{Answers};
@@ -40,6 +40,36 @@ pub enum Leaving {
     Unseen,
 }
 
+/// The texts that all are told of a battle.
+#[derive(Drop)]
+struct Texts {
+    ip: WordBuf,
+    engine: Engine,
+    labels: Labels,
+}
+
+/// The engine that a battle is played with.
+#[derive(Drop)]
+struct Engine {
+    name: SentenceBuf,
+    version: SentenceBuf,
+}
+
+/// What is played in a battle, and what its founder calls it.
+#[derive(Drop)]
+struct Labels {
+    map: SentenceBuf,
+    title: SentenceBuf,
+    game_name: SentenceBuf,
+}
+
+/// What a battle keeps from those outside.
+#[derive(Drop)]
+struct Inside {
+    password: WordBuf,
+    room: Room,
+}
+
 impl Maps {
     /// `OPENBATTLE`: the user is in no battle, and a number is left.
     pub fn open_battle(
@@ -57,13 +87,33 @@ impl Maps {
         self.may_open(me)?;
         let number = self.next_number()?;
         let battle = self.new_battle(client, me, command)?;
+        match self.tell_opening(me, number, &battle, post) {
+            Ok(()) => Ok(Change::InBattles(BattleChange::Open {
+                number,
+                name: me.copy(),
+                battle,
+            })),
+            Err(refused) => {
+                drop(battle);
+                Err(Stop::from(refused))
+            }
+        }
+    }
+
+    /// Tells all that a user opens a battle, and the user what it has to know.
+    fn tell_opening(
+        &self,
+        me: &NameBuf,
+        number: u32,
+        battle: &Battle,
+        post: &mut Post,
+    ) -> Result<(), AllocError>
+        requires { name_of self.now post.old.issuer ≡ Some me.now }
+        ensures { OnOk result (Told self.now post.old post.new (tell everyone (opened_line number battle.now.info ∷ []) ∷ tell (user me.now) (reply.OpenBattle number ∷ reply.RequestBattleStatus ∷ []) ∷ [])) }
+    {
         self.tell_all(LentReply::BattleOpened(number, &battle.opened), post)?;
         self.tell_opener(me, number, post)?;
-        Ok(Change::InBattles(BattleChange::Open {
-            number,
-            name: me.copy(),
-            battle,
-        }))
+        Ok(())
     }
 
     /// The battle that a user opens by a command.
@@ -91,31 +141,76 @@ impl Maps {
         else {
             unreachable!()
         };
-        let alloc = self.alloc;
+        let texts = self.texts_of(client, engine_name, engine_version, map, title, game_name)?;
+        match self.inside_of(me, password) {
+            Ok(inside) => Ok(Battle {
+                opened: OpenedBattle {
+                    battle_type: *battle_type,
+                    nat_type: *nat_type,
+                    founder: me.copy(),
+                    ip: texts.ip,
+                    port: *port,
+                    max_players: *max_players,
+                    passworded: password.as_slice() != NO_PASSWORD,
+                    rank: *rank,
+                    map_hash: *map_hash,
+                    engine_name: texts.engine.name,
+                    engine_version: texts.engine.version,
+                    map: texts.labels.map,
+                    title: texts.labels.title,
+                    game_name: texts.labels.game_name,
+                },
+                spectators: 0,
+                locked: false,
+                password: inside.password,
+                game_hash: *game_hash,
+                room: inside.room,
+            }),
+            Err(refused) => {
+                drop(texts);
+                Err(refused)
+            }
+        }
+    }
+
+    /// What a battle that a user opens keeps from those outside.
+    fn inside_of(&self, me: &NameBuf, password: &WordBuf) -> Result<Inside, AllocError>
+        ensures password { IfOk result (λ inside. inside.password ≡ password.now) }
+        ensures room { IfOk result (λ inside. inside.room ≡ new_room me.now) }
+    {
+        let password = WordBuf::copy_of(self.alloc, password.as_slice())?;
+        let room = Room::new(self.alloc, me.copy(), self.seats.place_of(me))?;
+        Ok(Inside { password, room })
+    }
+
+    /// The texts that all are told of a battle which this client opens.
+    fn texts_of(
+        &self,
+        client: u64,
+        engine_name: &SentenceBuf,
+        engine_version: &SentenceBuf,
+        map: &SentenceBuf,
+        title: &SentenceBuf,
+        game_name: &SentenceBuf,
+    ) -> Result<Texts, AllocError>
+        requires { is_some (at_number self.now.clients client) ≡ true }
+        ensures ip { IfOk result (λ texts. texts.ip ≡ address (at_number self.now.clients client)) }
+        ensures engine_name { IfOk result (λ texts. texts.engine.name ≡ engine_name.now) }
+        ensures engine_version { IfOk result (λ texts. texts.engine.version ≡ engine_version.now) }
+        ensures map { IfOk result (λ texts. texts.labels.map ≡ map.now) }
+        ensures title { IfOk result (λ texts. texts.labels.title ≡ title.now) }
+        ensures game_name { IfOk result (λ texts. texts.labels.game_name ≡ game_name.now) }
+    {
         let ip = self.address_of(client)?;
-        Ok(Battle {
-            opened: OpenedBattle {
-                battle_type: *battle_type,
-                nat_type: *nat_type,
-                founder: me.copy(),
-                ip,
-                port: *port,
-                max_players: *max_players,
-                passworded: password.as_slice() != NO_PASSWORD,
-                rank: *rank,
-                map_hash: *map_hash,
-                engine_name: SentenceBuf::copy_of(alloc, engine_name.as_slice())?,
-                engine_version: SentenceBuf::copy_of(alloc, engine_version.as_slice())?,
-                map: SentenceBuf::copy_of(alloc, map.as_slice())?,
-                title: SentenceBuf::copy_of(alloc, title.as_slice())?,
-                game_name: SentenceBuf::copy_of(alloc, game_name.as_slice())?,
-            },
-            spectators: 0,
-            locked: false,
-            password: WordBuf::copy_of(alloc, password.as_slice())?,
-            game_hash: *game_hash,
-            room: Room::new(alloc, me.copy(), self.seats.place_of(me))?,
-        })
+        let engine = copy_engine(self.alloc, engine_name, engine_version)?;
+        match copy_labels(self.alloc, map, title, game_name) {
+            Ok(labels) => Ok(Texts { ip, engine, labels }),
+            Err(refused) => {
+                drop(ip);
+                drop(engine);
+                Err(refused)
+            }
+        }
     }
 
     /// The address of a client that is there, as it is printed.
@@ -350,6 +445,39 @@ impl Maps {
         self.tell_room(&battle.room, line, post)?;
         Ok(Change::Nothing)
     }
+}
+
+/// Copies the engine of a battle.
+fn copy_engine(
+    alloc: Global,
+    name: &SentenceBuf,
+    version: &SentenceBuf,
+) -> Result<Engine, AllocError>
+    ensures name { IfOk result (λ engine. engine.name ≡ name.now) }
+    ensures version { IfOk result (λ engine. engine.version ≡ version.now) }
+{
+    Ok(Engine {
+        name: SentenceBuf::copy_of(alloc, name.as_slice())?,
+        version: SentenceBuf::copy_of(alloc, version.as_slice())?,
+    })
+}
+
+/// Copies the map, the title and the game of a battle.
+fn copy_labels(
+    alloc: Global,
+    map: &SentenceBuf,
+    title: &SentenceBuf,
+    game_name: &SentenceBuf,
+) -> Result<Labels, AllocError>
+    ensures map { IfOk result (λ labels. labels.map ≡ map.now) }
+    ensures title { IfOk result (λ labels. labels.title ≡ title.now) }
+    ensures game_name { IfOk result (λ labels. labels.game_name ≡ game_name.now) }
+{
+    Ok(Labels {
+        map: SentenceBuf::copy_of(alloc, map.as_slice())?,
+        title: SentenceBuf::copy_of(alloc, title.as_slice())?,
+        game_name: SentenceBuf::copy_of(alloc, game_name.as_slice())?,
+    })
 }
 
 /// A change of what the members of a battle share.

@@ -1,9 +1,9 @@
 use Rattle.std.proofs.Common.{◌≤◌, take, drop, length, arith, subst, sym, length-drop}
 use Rattle.std.proofs.lemmas.List.{take_rest}
 use Rattle.std.specs.Io.KnownBytes.{Appends}
-use Rattle.lobby_main.proofs.Known.{Appends-more, Appends-Keeps}
-use Rattle.lobby_main.proofs.hash.print_front.Goals as goal
-use Rattle.lobby_main.proofs.hash.print_front.Goals.{in-Ok, in-Err}
+use Rattle.lobby_cli.proofs.Known.{Appends-more, Appends-Keeps}
+use Rattle.lobby_cli.proofs.hash.print_front.Goals as goal
+use Rattle.lobby_cli.proofs.hash.print_front.Goals.{in-Ok, in-Err}
 
 pub loop-preserved : goal.loop-preserved
 loop-preserved g c =

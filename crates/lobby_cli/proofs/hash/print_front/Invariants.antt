@@ -1,6 +1,6 @@
 use Rattle.std.proofs.Common.{◌≤◌, length, take}
 use Rattle.std.specs.Io.KnownBytes.{Appends}
-use Rattle.lobby_main.proofs.hash.print_front.Given as goal
+use Rattle.lobby_cli.proofs.hash.print_front.Given as goal
 
 -- what was written so far is what the output gained
 abbrev pub invariant-loop : goal.invariant-loop

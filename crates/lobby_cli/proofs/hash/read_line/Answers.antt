@@ -1,7 +1,7 @@
 use Rattle.std.proofs.Common.{◌≤◌, ◌∙◌, sym, take, length, arith, length-take}
 use Rattle.std.proofs.lemmas.List.{take-take}
-use Rattle.lobby_main.proofs.Lines.{begins_ended, begins_whole, begins_longer}
-use Rattle.lobby_main.proofs.hash.read_line.Goals as goal
+use Rattle.lobby_cli.proofs.Lines.{begins_ended, begins_whole, begins_longer}
+use Rattle.lobby_cli.proofs.hash.read_line.Goals as goal
 
 pub returns-in-Byte-eq10 : goal.returns-in-Byte-eq10
 returns-in-Byte-eq10 g c =

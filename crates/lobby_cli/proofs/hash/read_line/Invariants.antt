@@ -1,7 +1,7 @@
 use Rattle.std.proofs.Common.{◌≡◌, ◌≤◌, length, take}
 use Rattle.std.specs.Io.KnownBytes.{Consumes}
-use Rattle.lobby_main.proofs.Lines.{HasNoFeed}
-use Rattle.lobby_main.proofs.hash.read_line.Given as goal
+use Rattle.lobby_cli.proofs.Lines.{HasNoFeed}
+use Rattle.lobby_cli.proofs.hash.read_line.Given as goal
 
 -- the input lost what stands at the front of the buffer, and no LF is there
 abbrev pub invariant-loop : goal.invariant-loop

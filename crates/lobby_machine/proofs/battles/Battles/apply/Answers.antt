@@ -22,26 +22,26 @@ use Rattle.lobby_machine.proofs.Seated.{seated_joined, seated_left, seated_opene
 use Rattle.lobby_machine.proofs.battles.Battles.apply.Goals as goal
 
 -- opening
-pub returns-in_ok-insert-in-Open-clause-battles : goal.returns-in_ok-insert-in-Open-clause-battles
-returns-in_ok-insert-in-Open-clause-battles c = rw c.in-Open.is (c.in_ok-insert-in-Open.ensures.entries
+pub returns-in-Ok-clause-battles : goal.returns-in-Ok-clause-battles
+returns-in-Ok-clause-battles c = rw c.in-Open.is (c.in-Ok.ensures.entries
     ∙ insert_is_put nat_cmp c.args.self.now.by_number.entries c.in-Open.number c.in-Open.battle)
 
-pub returns-in_ok-insert-in-Open-clause-users : goal.returns-in_ok-insert-in-Open-clause-users
-returns-in_ok-insert-in-Open-clause-users c =
+pub returns-in-Ok-clause-users : goal.returns-in-Ok-clause-users
+returns-in-Ok-clause-users c =
     ap users_of c.enter_battle.ensures.users ∙ users_entered c.args.seats.now.users.entries c.in-Open.name c.in-Open.number
 
-pub returns-in_ok-insert-in-Open-clause-agree : goal.returns-in_ok-insert-in-Open-clause-agree
-returns-in_ok-insert-in-Open-clause-agree c = λ clients agree.
+pub returns-in-Ok-clause-agree : goal.returns-in-Ok-clause-agree
+returns-in-Ok-clause-agree c = λ clients agree.
     subst (λ (seats : ByName Seat). Agree clients seats) (sym c.enter_battle.ensures.users)
     (agree_changed clients c.args.seats.now.users.entries c.in-Open.name (seat_in c.in-Open.number) (λ x. refl) agree)
 
-pub returns-in_ok-insert-in-Open-clause-seated : goal.returns-in_ok-insert-in-Open-clause-seated
-returns-in_ok-insert-in-Open-clause-seated c = λ seated.
+pub returns-in-Ok-clause-seated : goal.returns-in-Ok-clause-seated
+returns-in-Ok-clause-seated c = λ seated.
     let can : CanEnter c.requires.0 c.args.self.now.by_number.entries c.args.client c.in-Open.name
     × (member_names c.in-Open.battle.room ≡ c.in-Open.name ∷ []) × (c.in-Open.number ≤ 2147483647) =
     subst (λ (x : BattleChange). CanChange c.requires.0 c.args.self.now.by_number.entries c.args.client x) c.in-Open.is c.requires.2 in
     subst (λ (m : ByNumber Battle). AreSeated m c.enter_battle.new.self.users.entries)
-    (sym (c.in_ok-insert-in-Open.ensures.entries ∙ insert_is_put nat_cmp c.args.self.now.by_number.entries c.in-Open.number c.in-Open.battle))
+    (sym (c.in-Ok.ensures.entries ∙ insert_is_put nat_cmp c.args.self.now.by_number.entries c.in-Open.number c.in-Open.battle))
     (subst (λ (seats : ByName Seat). AreSeated (put_number c.args.self.now.by_number.entries c.in-Open.number c.in-Open.battle) seats)
     (sym c.enter_battle.ensures.users)
     (seated_opened c.args.self.now.by_number.entries c.args.seats.now.users.entries seated c.requires.0 c.requires.1 c.args.client c.in-Open.name
@@ -58,7 +58,7 @@ add_member-requires c =
 
 pub returns-in_err-add_member-in-Join-clause-err : goal.returns-in_err-add_member-in-Join-clause-err
 returns-in_err-add_member-in-Join-clause-err c =
-    on_err c.from_residual-in_err-add_member-in-Join.result (
+    on_err c.from_residual.result (
       (c.get_mut.follows.holds c.add_member.new.self).0
           ∙ ap (set_value (is_at (nat_cmp c.in-Join.number)) c.args.self.now.by_number.entries) c.in_err-add_member-in-Join.ensures.err
           ∙ set_same nat_cmp c.in-Join.number c.in-Some.battle.now c.args.self.now.by_number.entries (sym c.in-Some.ensures.value),

@@ -16,11 +16,11 @@ pub invariant_of-self : goal.invariant_of-self
 invariant_of-self c = (
   c.self.invariant.0,
   fit_same _ _ c.make_room.new.clients _ _ _ _ _ c.make_room.ensures.clients c.make_room.ensures.limit
-      c.in_err-make_room.ensures.err c.self.invariant.1,
+      c.in-Err.ensures.err c.self.invariant.1,
 )
 
-pub invariant_of-self-in-Ok : goal.invariant_of-self-in-Ok
-invariant_of-self-in-Ok c =
+pub invariant_of-self-in-Ok-done : goal.invariant_of-self-in-Ok-done
+invariant_of-self-in-Ok-done c =
     let was : ByNumber Client = plain c.self.inside.clients.slots in
     let room : plain c.make_room.new.clients.slots ≡ was = c.make_room.ensures.clients in (
       c.self.invariant.0,
@@ -28,62 +28,62 @@ invariant_of-self-in-Ok c =
           c.apply-done.new.seats.clients.keys c.self.inside.last_client c.apply-done.new.battles.by_number.entries c.apply-done.new.battles.last
           (c.deliver.ensures.limit ∙ c.apply-done.ensures.limit ∙ c.make_room.ensures.limit
           ∙ c.self.invariant.1.limited) c.deliver.ensures.clients c.deliver.ensures.due
-          c.in-Ok.ensures.agree
+          c.in-Ok-done.ensures.agree
           (c.apply-done.ensures.listed (subst (λ (n : ByNumber Client). IsListed c.self.inside.seats.clients.keys n)
           (sym room) c.self.invariant.1.listed))
-          (subst (λ (n : ByNumber Client). Numbered c.self.inside.last_client n) (sym c.in-Ok.ensures.clients)
+          (subst (λ (n : ByNumber Client). Numbered c.self.inside.last_client n) (sym c.in-Ok-done.ensures.clients)
           (numbered_after c.self.inside.last_client (plain c.make_room.new.clients.slots) c.args.client c.args.change
           (subst (λ (n : ByNumber Client). Numbered c.self.inside.last_client n) (sym room) c.self.invariant.1.numbered)))
-          c.in-Ok.ensures.seated
-          (subst (λ n. n ≤ 2147483647) (sym c.in-Ok.ensures.last)
+          c.in-Ok-done.ensures.seated
+          (subst (λ n. n ≤ 2147483647) (sym c.in-Ok-done.ensures.last)
           (counted_after _ _ _ _ c.args.client c.self.inside.battles.last c.args.change (c.requires) c.self.invariant.1.counted)),
     )
 
-pub invariant_of-self-in-Err : goal.invariant_of-self-in-Err
-invariant_of-self-in-Err c =
+pub invariant_of-self-in-Err-done : goal.invariant_of-self-in-Err-done
+invariant_of-self-in-Err-done c =
     let was : ByNumber Client = plain c.self.inside.clients.slots in
     let room : plain c.make_room.new.clients.slots ≡ was = c.make_room.ensures.clients in
-    let same : plain c.forget.new.clients.slots ≡ was = c.forget.ensures.clients ∙ ap (λ (m : Crowd). plain m.slots) c.in-Err.ensures.err.0
+    let same : plain c.forget.new.clients.slots ≡ was = c.forget.ensures.clients ∙ ap (λ (m : Crowd). plain m.slots) c.in-Err-done.ensures.err.0
     ∙ room in (
       c.self.invariant.0,
       record {
         limited = c.forget.ensures.limit ∙ c.apply-done.ensures.limit ∙ c.make_room.ensures.limit ∙ c.self.invariant.1.limited;
         rest = c.forget.ensures.due;
         agree = subst (λ (n : ByNumber Client). Agree n c.apply-done.new.seats.users.entries) (sym same)
-            (subst (λ (us : ByName Seat). Agree was us) (sym c.in-Err.ensures.err.1) c.self.invariant.1.agree);
+            (subst (λ (us : ByName Seat). Agree was us) (sym c.in-Err-done.ensures.err.1) c.self.invariant.1.agree);
         listed = subst (λ (n : ByNumber Client). IsListed c.apply-done.new.seats.clients.keys n) (sym c.forget.ensures.clients)
             (c.apply-done.ensures.listed (subst (λ (n : ByNumber Client). IsListed c.self.inside.seats.clients.keys n)
             (sym room) c.self.invariant.1.listed));
         numbered = subst (λ (n : ByNumber Client). Numbered c.self.inside.last_client n) (sym same) c.self.invariant.1.numbered;
-        seated = subst (λ (us : ByName Seat). AreSeated c.apply-done.new.battles.by_number.entries us) (sym c.in-Err.ensures.err.1)
-            (subst (λ (m : ByNumber Battle). AreSeated m c.self.inside.seats.users.entries) (sym c.in-Err.ensures.err.3) c.self.invariant.1.seated);
-        counted = subst (λ n. n ≤ 2147483647) (sym c.in-Err.ensures.err.4) c.self.invariant.1.counted;
+        seated = subst (λ (us : ByName Seat). AreSeated c.apply-done.new.battles.by_number.entries us) (sym c.in-Err-done.ensures.err.1)
+            (subst (λ (m : ByNumber Battle). AreSeated m c.self.inside.seats.users.entries) (sym c.in-Err-done.ensures.err.3) c.self.invariant.1.seated);
+        counted = subst (λ n. n ≤ 2147483647) (sym c.in-Err-done.ensures.err.4) c.self.invariant.1.counted;
       },
     )
 
-pub returns-in-Ok-clause-ok : goal.returns-in-Ok-clause-ok
-returns-in-Ok-clause-ok c =
+pub returns-in-Ok-done-clause-ok : goal.returns-in-Ok-done-clause-ok
+returns-in-Ok-done-clause-ok c =
     let before : State = lobby_of c.self.inside.settings c.self.inside.accounts (plain c.self.inside.clients.slots)
     (users_of c.self.inside.seats.users.entries) c.self.inside.channels c.self.inside.battles.by_number.entries c.self.inside.last_client c.self.inside.battles.last in
     let room : plain c.make_room.new.clients.slots ≡ before.clients = c.make_room.ensures.clients in
     let limited : c.apply-done.new.clients.limit ≡ c.self.inside.settings.outbox_limit = c.apply-done.ensures.limit ∙ c.make_room.ensures.limit
     ∙ c.self.invariant.1.limited in
-    let users : users_of c.apply-done.new.seats.users.entries ≡ users_after before.users c.args.change = c.in-Ok.ensures.users in
+    let users : users_of c.apply-done.new.seats.users.entries ≡ users_after before.users c.args.change = c.in-Ok-done.ensures.users in
     rw (← c.self.view_is) (λ e is matches.
-    (λ i. record before { users = users i; channels = c.in-Ok.ensures.channels i; battles = c.in-Ok.ensures.battles i; last_battle = c.in-Ok.ensures.last i; clients = plain c.deliver.new.clients.slots })
+    (λ i. record before { users = users i; channels = c.in-Ok-done.ensures.channels i; battles = c.in-Ok-done.ensures.battles i; last_battle = c.in-Ok-done.ensures.last i; clients = plain c.deliver.new.clients.slots })
     ∙ sent_so before (changed before c.args.client c.args.change) e c.args.post.now is matches (plain c.deliver.new.clients.slots)
     (c.deliver.ensures.clients
-    ∙ (λ i. deliver (limited i) c.args.post.now.sent ((c.in-Ok.ensures.clients
+    ∙ (λ i. deliver (limited i) c.args.post.now.sent ((c.in-Ok-done.ensures.clients
     ∙ ap (λ (m : ByNumber Client). clients_after m c.args.client c.args.change) room) i))))
 
-pub returns-in-Ok-clause-wakes : goal.returns-in-Ok-clause-wakes
-returns-in-Ok-clause-wakes c =
+pub returns-in-Ok-done-clause-wakes : goal.returns-in-Ok-done-clause-wakes
+returns-in-Ok-done-clause-wakes c =
     let before : State = lobby_of c.self.inside.settings c.self.inside.accounts (plain c.self.inside.clients.slots)
     (users_of c.self.inside.seats.users.entries) c.self.inside.channels c.self.inside.battles.by_number.entries c.self.inside.last_client c.self.inside.battles.last in
     rw (← c.self.view_is) (λ e is matches.
     woken_so before (changed before c.args.client c.args.change) e c.args.post.now is matches c.deliver.result
     (λ home. c.deliver.ensures.wakes home ∙ ap (λ (m : ByNumber Client). wakes_home c.args.post.now.sent m home)
-    (c.in-Ok.ensures.clients ∙ ap (λ (m : ByNumber Client). clients_after m c.args.client c.args.change) c.make_room.ensures.clients)))
+    (c.in-Ok-done.ensures.clients ∙ ap (λ (m : ByNumber Client). clients_after m c.args.client c.args.change) c.make_room.ensures.clients)))
 
 pub apply-done-requires-clause-can : goal.apply-done-requires-clause-can
 apply-done-requires-clause-can c =

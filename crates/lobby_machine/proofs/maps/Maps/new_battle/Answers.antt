@@ -4,13 +4,12 @@ use Rattle.std.proofs.lemmas.Map.Text.{is_eq-slice_cmp}
 use Rattle.std.specs.Prelude.{Some}
 use Rattle.std.specs.Str.{bytes_eq}
 use Rattle.line_words.specs.Table.{same_name}
-use Rattle.battle_room.specs.Room.{new_room}
 use Rattle.lobby_model.specs.Battles.{no_password, open_battle}
 use Rattle.lobby_model.specs.Commands.{answer}
 use Rattle.lobby_machine.proofs.maps.Maps.new_battle.Goals as goal
 
-pub returns-clause-asked : goal.returns-clause-asked
-returns-clause-asked c =
+pub returns-in-Ok-clause-asked : goal.returns-in-Ok-clause-asked
+returns-in-Ok-clause-asked c =
     let passworded : c.ne.result ≡ not (same_name c.in-OpenBattle.password no_password) = c.ne.ensures
     ∙ ap (λ (bytes : List ℕ). not (bytes_eq bytes no_password)) c.as_slice.ensures.value
     ∙ ap not (sym (is_eq-slice_cmp c.in-OpenBattle.password no_password)) in
@@ -20,21 +19,21 @@ returns-clause-asked c =
         battle_type = c.in-OpenBattle.battle_type;
         nat_type = c.in-OpenBattle.nat_type;
         founder = sym c.copy.ensures i;
-        ip = sym c.in_ok-ip.ensures i;
+        ip = sym c.in_ok-texts.ensures.ip i;
         port = c.in-OpenBattle.port;
         max_players = c.in-OpenBattle.max_players;
         passworded = sym passworded i;
         rank = sym (to_z-of_z w64 c.in-OpenBattle.rank (search rules)) i;
         map_hash = sym (to_z-of_z w64 c.in-OpenBattle.map_hash (search rules)) i;
-        engine_name = sym (c.in_ok-copy_of.ensures ∙ c.as_slice-2.ensures.value) i;
-        engine_version = sym (c.in_ok-copy_of-2.ensures ∙ c.as_slice-3.ensures.value) i;
-        map = sym (c.in_ok-copy_of-3.ensures ∙ c.as_slice-4.ensures.value) i;
-        title = sym (c.in_ok-copy_of-4.ensures ∙ c.as_slice-5.ensures.value) i;
-        game_name = sym (c.in_ok-copy_of-5.ensures ∙ c.as_slice-6.ensures.value) i;
+        engine_name = sym c.in_ok-texts.ensures.engine_name i;
+        engine_version = sym c.in_ok-texts.ensures.engine_version i;
+        map = sym c.in_ok-texts.ensures.map i;
+        title = sym c.in_ok-texts.ensures.title i;
+        game_name = sym c.in_ok-texts.ensures.game_name i;
         spectators = 0;
         locked = false;
       };
-      password = sym (c.in_ok-copy_of-6.ensures ∙ c.as_slice-7.ensures.value) i;
+      password = sym c.in-Ok.ensures.password i;
       game_hash = sym (to_z-of_z w64 c.in-OpenBattle.game_hash (search rules)) i;
-      room = sym (c.in_ok-new.ensures ∙ ap new_room c.copy-2.ensures) i;
+      room = sym c.in-Ok.ensures.room i;
     }))
