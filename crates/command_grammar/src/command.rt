@@ -1,6 +1,7 @@
 //! What a line asks for, with its arguments by name and in their order on the line.
 
 use line_words::{NameBuf, PairList, SentenceBuf, TextBuf, WordBuf, WordList};
+use std::fmt;
 
 /// Why a line could not be read as a command. A CR or LF inside the line comes before any other fault;
 /// of the others the first from the left is the one that is told.
@@ -21,7 +22,7 @@ pub enum ReadFault {
 }
 
 /// What a line asks for: one of the 31 commands, nothing, or a line that could not be read.
-#[derive(Debug, Drop)]
+#[derive(Drop)]
 pub enum Command {
     /// The line has no text.
     Blank,
@@ -187,9 +188,52 @@ pub enum Command {
     },
 }
 
+impl fmt::Debug for Command {
+    /// Shows which command it is, without its arguments: among those is a password.
+    fn fmt<W: fmt::Write>(&self, f: &mut fmt::Formatter<W>) -> fmt::Result {
+        f.write_str(match self {
+            Command::Blank => "Blank",
+            Command::Unread(_) => "Unread",
+            Command::Login { .. } => "Login",
+            Command::Ping => "Ping",
+            Command::Channels => "Channels",
+            Command::LeaveBattle => "LeaveBattle",
+            Command::Exit => "Exit",
+            Command::MyStatus { .. } => "MyStatus",
+            Command::Join { .. } => "Join",
+            Command::Leave { .. } => "Leave",
+            Command::Say { .. } => "Say",
+            Command::SayEx { .. } => "SayEx",
+            Command::SayPrivate { .. } => "SayPrivate",
+            Command::OpenBattle { .. } => "OpenBattle",
+            Command::JoinBattle { .. } => "JoinBattle",
+            Command::UpdateBattleInfo { .. } => "UpdateBattleInfo",
+            Command::MyBattleStatus { .. } => "MyBattleStatus",
+            Command::SayBattle { .. } => "SayBattle",
+            Command::SayBattleEx { .. } => "SayBattleEx",
+            Command::AddBot { .. } => "AddBot",
+            Command::UpdateBot { .. } => "UpdateBot",
+            Command::RemoveBot { .. } => "RemoveBot",
+            Command::AddStartRect { .. } => "AddStartRect",
+            Command::RemoveStartRect { .. } => "RemoveStartRect",
+            Command::SetScriptTags { .. } => "SetScriptTags",
+            Command::RemoveScriptTags { .. } => "RemoveScriptTags",
+            Command::Handicap { .. } => "Handicap",
+            Command::ForceTeamNo { .. } => "ForceTeamNo",
+            Command::ForceAllyNo { .. } => "ForceAllyNo",
+            Command::ForceTeamColor { .. } => "ForceTeamColor",
+            Command::ForceSpectatorMode { .. } => "ForceSpectatorMode",
+            Command::KickFromBattle { .. } => "KickFromBattle",
+            Command::Ring { .. } => "Ring",
+        })
+    }
+}
+
 impl Command {
-    /// Lets the command go. A caller is checked far faster over this call than over a drop of its own.
-    pub fn discard(self) {}
+    /// Lets the command go.
+    pub fn discard(self) {
+        drop(self);
+    }
 }
 
 /// A command with the message id of its line.
@@ -203,7 +247,6 @@ pub struct Request {
 impl Request {
     /// Lets the request go, as `Command::discard` does.
     pub fn discard(self) {
-        let Request { id: _, command } = self;
-        command.discard();
+        drop(self);
     }
 }

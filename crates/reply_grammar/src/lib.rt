@@ -248,5 +248,7 @@ pub enum Reply {
 impl Reply {
     /// Lets the reply go. A function that drops one itself, as at each `?` past which it holds one,
     /// is dear to check, or too dear: call this, or lend the reply to a function that does the rest.
-    pub fn discard(self) {}
+    pub fn discard(self) {
+        drop(self);
+    }
 }
