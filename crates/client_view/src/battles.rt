@@ -170,7 +170,7 @@ impl Battles {
         ensures ok { OnOk result (self.new ≡ put_number self.old number battle) }
         ensures err { OnErr result (self.new ≡ self.old) }
     {
-        self.by_number.insert(number, battle)?;
+        drop(self.by_number.insert(number, battle)?);
         Ok(())
     }
 
@@ -216,6 +216,6 @@ impl Battles {
     {
         // Its contract says that the numbers rise, which the proof wants of the map as it was.
         let _ = self.by_number.len();
-        let _ = self.by_number.remove(&number);
+        drop(self.by_number.remove(&number));
     }
 }

@@ -104,13 +104,11 @@ impl Player {
         if self.labels.contains_key(&label) {
             return Err(LineFault::BadStep);
         }
-        let mut hall = match self.hall.take() {
-            Some(hall) => hall,
-            None => self.setup.open()?,
+        let client = match &mut self.hall {
+            Some(hall) => connect(hall, ip)?,
+            None => connect(self.hall.insert(self.setup.open()?), ip)?,
         };
-        let client = connect(&mut hall, ip)?;
         self.labels.insert(label, Label { client, shown: 0 })?;
-        self.hall = Some(hall);
         Ok(())
     }
 

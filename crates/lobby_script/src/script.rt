@@ -2,6 +2,9 @@
 
 ghost use Rattle.std.specs.Prelude.{◌≡◌, ◌<◌, ◌≤◌, ℕ, List, length, Err, IfOk, IfSome, OnOk};
 ghost use Rattle.std.specs.Io.KnownBytes.{Appends, Keeps};
+ghost use Rattle.lobby_script.specs.Player.{IsAt};
+ghost use Rattle.lobby_script.specs.Prepared.{nothing_set};
+ghost use Rattle.lobby_script.specs.Scene.{unopened};
 ghost use Rattle.lobby_script.specs.Script.{OutputOf, OutputOfFront, StopsAt};
 ghost use Rattle.lobby_script.specs.declared.fault.PlayFault.TheVariants as fault;
 
@@ -50,6 +53,20 @@ fn play_script<W: Write>(alloc: Global, script: &[u8], writer: &mut W) -> Result
     ensures too_long { result ≡ Err fault.TooLong → ⊥ }
 {
     let mut player = Player::new(alloc);
+    let played = play_lines(&mut player, script, writer);
+    drop(player);
+    played
+}
+
+/// Has the player play the lines of a script. It played none before.
+fn play_lines<W: Write>(player: &mut Player, script: &[u8], writer: &mut W) -> Result<(), PlayFault>
+    requires fits { length script.now ≤ SCRIPT_LIMIT }
+    requires fresh { IsAt player.old (unopened nothing_set) }
+    ensures ok { OnOk result ((out : List ℕ) × OutputOf script.now out × Appends (W.contents writer.old) (W.contents writer.new) out) }
+    ensures bad_step { (line : ℕ) → result ≡ Err (fault.BadStep line) → (out : List ℕ) × StopsAt script.now line out × Appends (W.contents writer.old) (W.contents writer.new) out }
+    ensures memory { result ≡ Err fault.Memory → (out : List ℕ) × OutputOfFront script.now out × Appends (W.contents writer.old) (W.contents writer.new) out }
+    ensures too_long { result ≡ Err fault.TooLong → ⊥ }
+{
     let mut number = 0u64;
     for line in Lines::of(script) {
         number += 1;

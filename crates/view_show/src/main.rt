@@ -42,18 +42,29 @@ fn is_one_by_one<R: Env + AllocGlobal>(rt: &R) -> Result<bool, Error> {
     }
 }
 
-fn run<R: Env + Input + Print + AllocGlobal>(rt: &R) -> Result<(), Error> {
-    let mut view = View::new(rt.alloc());
+/// Folds the input, and prints what is known behind it.
+fn follow<R: Env + Input + Print + AllocGlobal>(rt: &R, view: &mut View) -> Result<(), Error> {
     let mut piece = [0; PIECE];
     if is_one_by_one(rt)? {
-        fold(&mut rt.reader(), &mut piece[..1], &mut view)?;
+        fold(&mut rt.reader(), &mut piece[..1], view)?;
     } else {
-        fold(&mut rt.reader(), &mut piece, &mut view)?;
+        fold(&mut rt.reader(), &mut piece, view)?;
     }
+    print(rt, view)
+}
+
+fn print<R: Print + AllocGlobal>(rt: &R, view: &View) -> Result<(), Error> {
     let mut writer = BufWriter::new(rt.alloc(), io::writer(rt))?;
-    show(&view, &mut writer)?;
+    show(view, &mut writer)?;
     writer.flush()?;
     Ok(())
+}
+
+fn run<R: Env + Input + Print + AllocGlobal>(rt: &R) -> Result<(), Error> {
+    let mut view = View::new(rt.alloc());
+    let followed = follow(rt, &mut view);
+    drop(view);
+    followed
 }
 
 fn main(rt: HostRuntime) -> Result<(), Error> {

@@ -71,12 +71,13 @@ pub(super) fn add_bot(own: &mut Option<OwnRoom>, number: u32, bot: Bot) -> Resul
     ensures ok { OnOk result (own.new ≡ in_room_of number (room.with_bot bot) own.old) }
     ensures err { OnErr result (own.new ≡ own.old) }
 {
-    if let Some(room) = own {
-        if room.is_of(number) {
-            room.add_bot(bot)?;
+    match own {
+        Some(room) if room.is_of(number) => room.add_bot(bot),
+        _ => {
+            drop(bot);
+            Ok(())
         }
     }
-    Ok(())
 }
 
 pub(super) fn put_bot_status(

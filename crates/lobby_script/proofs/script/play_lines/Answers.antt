@@ -12,13 +12,13 @@ use Rattle.lobby_script.specs.Lines.{lines_of, lines_left}
 use Rattle.lobby_script.specs.Prepared.{nothing_set}
 use Rattle.lobby_script.specs.Scene.{unopened}
 use Rattle.lobby_script.proofs.LinesPlay.{played_more, one_line_on, counted_on, plays_front, stops_at}
-use Rattle.lobby_script.proofs.script.play_script.Goals as goal
+use Rattle.lobby_script.proofs.script.play_lines.Goals as goal
 
 pub loop-line-init : goal.loop-line-init
 loop-line-init g c = record {
   next = tt;
   ends = tt;
-  played = ([], rw c.into_iter-line-iterator.ensures.into_iter_gives (sym c.of-line-items.ensures), refl, ([], unopened nothing_set, (refl, refl), c.new-player.ensures, Appends-nil _));
+  played = ([], rw c.into_iter-line-iterator.ensures.into_iter_gives (sym c.of-line-items.ensures), refl, ([], unopened nothing_set, (refl, refl), c.requires.fresh, Appends-nil _));
 }
 
 few_lines : (script : List ℕ) (front left : List (List ℕ)) → lines_of script ≡ front ++ left → length front ≤ length script + 1
@@ -33,7 +33,7 @@ overflow_add-number g c =
     let front = c.loop-line.invariant.played.0 in
     let few = few_lines c.args.script.now front (lines_left c.loop-line.line-iterator.rest) c.loop-line.invariant.played.1 in
     let counted = c.loop-line.invariant.played.2 in
-    omega (arith, few, counted, c.requires)
+    omega (arith, few, counted, c.requires.fits)
 
 -- what is told of a line's fault tells which it was
 was_memory : {X : Type 0} (fault : LineFault) (told : PlayFault) (k : ℕ) → told ≡ fault_at fault k → ◌≡◌ {A = Result X PlayFault} (Err told) (Err script.Memory) → fault ≡ line.Memory

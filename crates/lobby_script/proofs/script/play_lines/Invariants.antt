@@ -4,7 +4,7 @@ use Rattle.lobby_script.specs.Lines.{lines_of, lines_left}
 use Rattle.lobby_script.specs.Scene.{Scene}
 use Rattle.lobby_script.specs.Script.{PlaysTo}
 use Rattle.lobby_script.specs.Player.{IsAt}
-use Rattle.lobby_script.proofs.script.play_script.Given as goal
+use Rattle.lobby_script.proofs.script.play_lines.Given as goal
 
 -- the lines so far play, and what they show is written
 abbrev pub invariant-loop-line : goal.invariant-loop-line
