@@ -40,7 +40,10 @@ impl BoxedLobby {
     {
         match Box::new(alloc, lobby) {
             Ok(inner) => Ok(BoxedLobby { inner }),
-            Err(_) => Err(AllocError),
+            Err(failed) => {
+                drop(failed);
+                Err(AllocError)
+            }
         }
     }
 

@@ -1,6 +1,6 @@
 //! The server: a lobby, its workers in threads of their own, and what ends them.
 
-ghost use Rattle.std.specs.Prelude.{◌≡◌, ◌≤◌, [], IfOk, vec_len, vec_capacity};
+ghost use Rattle.std.specs.Prelude.{◌≡◌, ◌≤◌, [], IfOk, OnOk, vec_len, vec_capacity};
 ghost use Rattle.std.specs.List.{All};
 
 use crate::connections::Shared;
@@ -90,29 +90,42 @@ fn serve_until_end<R: Threads + Wait + Net + Sync, I: Read, O: Write, G: Gate + 
         workers,
         stop_at_input_end,
     } = service;
-    let lobby = Lobby::new(alloc, settings, accounts)?;
-    let (desk, pass) = open_desk(rt, alloc, lobby)?;
+    let (desk, pass) = open_desk(rt, alloc, settings, accounts)?;
     let mut crew = Crew::new(alloc);
-    let first = new_station(rt, alloc, &mut crew, Some(listener))?;
-    let (pass, others) = seats(rt, alloc, &desk, pass, workers, &mut crew)?;
-    let first = Seat {
-        station: first,
-        pass,
+    let ended = match seats(rt, alloc, &desk, pass, workers, listener, &mut crew) {
+        Ok((first, others)) => {
+            announce(output);
+            let shared = Shared {
+                desk: &desk,
+                crew: &crew,
+                gate,
+            };
+            let input = if stop_at_input_end { Some(input) } else { None };
+            run_workers(rt, alloc, &shared, first, others, input)
+        }
+        Err(error) => Err(error),
     };
-    let _ = output.write_all(b"listening\n");
-    let _ = output.flush();
-    let shared = Shared {
-        desk: &desk,
-        crew: &crew,
-        gate,
-    };
-    let input = if stop_at_input_end { Some(input) } else { None };
-    run_workers(rt, alloc, &shared, first, others, input)
+    drop(crew);
+    drop(desk);
+    ended
 }
 
-fn open_desk<R: Wait>(rt: &R, alloc: Global, lobby: Lobby) -> Result<(Desk, Pass), ServerError>
+/// Says that the server listens. A print that fails is ignored.
+fn announce<O: Write>(output: &mut O) {
+    let _ = output.write_all(b"listening\n");
+    let _ = output.flush();
+}
+
+/// A desk with a new lobby, and worker 0's pass.
+fn open_desk<R: Wait>(
+    rt: &R,
+    alloc: Global,
+    settings: Settings,
+    accounts: AccountBook,
+) -> Result<(Desk, Pass), ServerError>
     ensures { IfOk result (λ r. (r.1.desk ≡ r.0) × (r.1.worker.number ≡ 0)) }
 {
+    let lobby = Lobby::new(alloc, settings, accounts)?;
     match Desk::open(rt, alloc, lobby) {
         Ok(opened) => Ok(opened),
         Err(_) => Err(ServerError::Memory),
@@ -129,39 +142,110 @@ fn new_station<R: Net>(
     match Station::new(rt, alloc, listener) {
         Ok((station, waker)) => match crew.join(alloc, waker) {
             Ok(()) => Ok(station),
-            Err(_) => Err(ServerError::Memory),
+            Err(_) => {
+                drop(station);
+                Err(ServerError::Memory)
+            }
         },
         Err(error) => Err(error),
     }
 }
 
-/// The seats of all workers but the first, whose pass comes back.
+/// The seats of all workers. The first has the listener.
 fn seats<R: Net>(
     rt: &R,
     alloc: Global,
     desk: &Desk,
     pass: Pass,
     workers: u32,
+    listener: TcpListener,
     crew: &mut Crew,
-) -> Result<(Pass, Vec<Seat>), ServerError>
+) -> Result<(Seat, Vec<Seat>), ServerError>
     requires { (pass.desk ≡ desk.now) × (pass.worker.number ≡ 0) }
-    ensures { IfOk result (λ r. (r.0.desk ≡ desk.now) × (r.0.worker.number ≡ 0) × All (λ seat. seat.pass.desk ≡ desk.now) r.1.items) }
+    ensures first { IfOk result (λ r. (r.0.pass.desk ≡ desk.now) × (r.0.pass.worker.number ≡ 0)) }
+    ensures others { IfOk result (λ r. All (λ seat. seat.pass.desk ≡ desk.now) r.1.items) }
+{
+    let station = match new_station(rt, alloc, crew, Some(listener)) {
+        Ok(station) => station,
+        Err(error) => {
+            drop(pass);
+            return Err(error);
+        }
+    };
+    let mut others = Vec::new(alloc);
+    match add_seats(rt, alloc, desk, pass, workers, crew, &mut others) {
+        Ok(pass) => Ok((Seat { station, pass }, others)),
+        Err(error) => {
+            drop(station);
+            drop(others);
+            Err(error)
+        }
+    }
+}
+
+/// Adds the seats of all workers but the first, whose pass comes back.
+fn add_seats<R: Net>(
+    rt: &R,
+    alloc: Global,
+    desk: &Desk,
+    pass: Pass,
+    workers: u32,
+    crew: &mut Crew,
+    seats: &mut Vec<Seat>,
+) -> Result<Pass, ServerError>
+    requires pass { (pass.desk ≡ desk.now) × (pass.worker.number ≡ 0) }
+    requires seats { All (λ seat. seat.pass.desk ≡ desk.now) seats.old.items }
+    ensures pass { IfOk result (λ mine. (mine.desk ≡ desk.now) × (mine.worker.number ≡ 0)) }
+    ensures seats { OnOk result (All (λ seat. seat.pass.desk ≡ desk.now) seats.new.items) }
 {
     let mut pass = pass;
-    let mut seats = Vec::new(alloc);
     for _ in 1..workers {
-        let station = new_station(rt, alloc, crew, None)?;
-        let (mine, other) = hand_out(desk, alloc, pass)?;
+        let (mine, seat) = next_seat(rt, alloc, desk, pass, crew)?;
         pass = mine;
-        let seat = Seat {
-            station,
-            pass: other,
-        };
-        let Ok(()) = seats.push(seat) else {
-            return Err(ServerError::Memory);
-        };
+        match seats.push(seat) {
+            Ok(()) => {}
+            Err(failed) => {
+                drop(failed);
+                drop(pass);
+                return Err(ServerError::Memory);
+            }
+        }
     }
-    Ok((pass, seats))
+    Ok(pass)
+}
+
+/// The seat of the crew's next worker, and the first worker's pass.
+fn next_seat<R: Net>(
+    rt: &R,
+    alloc: Global,
+    desk: &Desk,
+    pass: Pass,
+    crew: &mut Crew,
+) -> Result<(Pass, Seat), ServerError>
+    requires { (pass.desk ≡ desk.now) × (pass.worker.number ≡ 0) }
+    ensures mine { IfOk result (λ r. (r.0.desk ≡ desk.now) × (r.0.worker.number ≡ 0)) }
+    ensures seat { IfOk result (λ r. r.1.pass.desk ≡ desk.now) }
+{
+    let station = match new_station(rt, alloc, crew, None) {
+        Ok(station) => station,
+        Err(error) => {
+            drop(pass);
+            return Err(error);
+        }
+    };
+    match hand_out(desk, alloc, pass) {
+        Ok((mine, other)) => {
+            let seat = Seat {
+                station,
+                pass: other,
+            };
+            Ok((mine, seat))
+        }
+        Err(error) => {
+            drop(station);
+            Err(error)
+        }
+    }
 }
 
 fn hand_out(desk: &Desk, alloc: Global, pass: Pass) -> Result<(Pass, Pass), ServerError>
@@ -171,9 +255,14 @@ fn hand_out(desk: &Desk, alloc: Global, pass: Pass) -> Result<(Pass, Pass), Serv
 {
     match desk.hand_out(alloc, pass) {
         Ok(passes) => Ok(passes),
-        Err((_, DeskError::Memory)) => Err(ServerError::Memory),
-        // There are 64 workers at most.
-        Err((_, DeskError::TooManyWorkers)) => Err(ServerError::System),
+        Err((pass, error)) => {
+            drop(pass);
+            match error {
+                DeskError::Memory => Err(ServerError::Memory),
+                // There are 64 workers at most.
+                DeskError::TooManyWorkers => Err(ServerError::System),
+            }
+        }
     }
 }
 
@@ -189,7 +278,11 @@ fn run_workers<R: Threads + Wait + Sync, I: Read, G: Gate + Sync>(
     requires first { (first.pass.desk ≡ shared.now.desk.now) × (first.pass.worker.number ≡ 0) }
     requires others { All (λ seat. seat.pass.desk ≡ shared.now.desk.now) others.items }
 {
-    let handles = Vec::with_capacity(alloc, others.len())?;
+    let Ok(handles) = Vec::with_capacity(alloc, others.len()) else {
+        drop(first);
+        drop(others);
+        return Err(ServerError::Memory);
+    };
     thread::scope(
         thread::scope_env(),
         rt,
@@ -247,7 +340,10 @@ fn start<'s, 'e, R: Wait + Sync, G: Gate + Sync>(
     let gate = shared.gate;
     match scope.spawn_with(promise, move || work(rt, desk, crew, gate, seat)) {
         Ok(handle) => Ok(handle),
-        Err(_) => Err(ServerError::System),
+        Err(failed) => {
+            drop(failed);
+            Err(ServerError::System)
+        }
     }
 }
 

@@ -56,32 +56,28 @@ impl Station {
         listener: Option<TcpListener>,
     ) -> Result<(Station, Waker), ServerError> {
         let Ok(events) = Events::with_capacity(alloc, EVENTS) else {
+            drop(listener);
             return Err(ServerError::Memory);
         };
-        let Ok(poll) = Poll::new(rt) else {
-            return Err(ServerError::System);
-        };
-        let Ok(waker) = Waker::new(poll.registry(), WAKER) else {
-            return Err(ServerError::System);
-        };
         let mut listener = listener;
-        if let Some(listener) = &mut listener
-            && poll
-                .registry()
-                .register(listener, LISTENER, Interest::READABLE)
-                .is_err()
-        {
-            return Err(ServerError::System);
+        match new_poll(rt, &mut listener) {
+            Ok((poll, waker)) => {
+                let station = Station {
+                    poll,
+                    events,
+                    listener,
+                    accepted: 0,
+                    goes_on: false,
+                    connections: Connections::new(alloc),
+                };
+                Ok((station, waker))
+            }
+            Err(error) => {
+                drop(events);
+                drop(listener);
+                Err(error)
+            }
         }
-        let station = Station {
-            poll,
-            events,
-            listener,
-            accepted: 0,
-            goes_on: false,
-            connections: Connections::new(alloc),
-        };
-        Ok((station, waker))
     }
 
     /// What the last poll told of the waker and of the listener.
@@ -190,6 +186,40 @@ impl Station {
     }
 }
 
+/// A poll with a waker, which tells of the listener too.
+fn new_poll<R: Net>(
+    rt: &R,
+    listener: &mut Option<TcpListener>,
+) -> Result<(Poll, Waker), ServerError> {
+    let Ok(poll) = Poll::new(rt) else {
+        return Err(ServerError::System);
+    };
+    match register(&poll, listener) {
+        Ok(waker) => Ok((poll, waker)),
+        Err(error) => {
+            drop(poll);
+            Err(error)
+        }
+    }
+}
+
+/// Registers a new waker, and the listener where there is one.
+fn register(poll: &Poll, listener: &mut Option<TcpListener>) -> Result<Waker, ServerError> {
+    let Ok(waker) = Waker::new(poll.registry(), WAKER) else {
+        return Err(ServerError::System);
+    };
+    if let Some(listener) = listener
+        && poll
+            .registry()
+            .register(listener, LISTENER, Interest::READABLE)
+            .is_err()
+    {
+        drop(waker);
+        return Err(ServerError::System);
+    }
+    Ok(waker)
+}
+
 /// The IPv4 address of a peer. A listener at an IPv4 address meets no other.
 fn ip_of(address: SocketAddr) -> [u8; 4] {
     match address {
@@ -218,5 +248,7 @@ pub fn run_worker<R: Wait, G: Gate>(
         }
         pass = station.go_round(rt, shared, pass);
     }
-    station.connections.shut_all(rt, shared, pass)
+    let pass = station.connections.shut_all(rt, shared, pass);
+    drop(station);
+    pass
 }
