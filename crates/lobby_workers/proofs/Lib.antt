@@ -1,13 +1,2 @@
-pub mod Moments
-pub mod Joins
-pub mod Lines
-pub mod Parts
-pub mod Drains
-pub mod Talks
-pub mod Hearings
-pub mod Tellings
-pub mod Turns
-pub mod Moves
 pub mod Logs
-pub mod Kept
 pub mod Seats

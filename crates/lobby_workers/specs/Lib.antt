@@ -1,10 +1,2 @@
-pub mod Wire
-pub mod Moments
-pub mod Seat
-pub mod Went
-pub mod Holds
-pub mod Talk
-pub mod Hearing
-pub mod Telling
-pub mod Turned
 pub mod Gathered
+pub use Rattle.lobby_turns.specs.Wire

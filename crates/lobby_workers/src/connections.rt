@@ -2,16 +2,11 @@
 
 ghost use Rattle.std.specs.Prelude.{◌≡◌, ◌≤◌};
 
-use crate::conn::Conn;
 use crate::crew::{Arrival, Crew};
-use crate::gate::Gate;
-use crate::holds;
-use crate::link::Link;
-use crate::serving::serve;
-use crate::turn::{Turn, TurnState};
 use crate::wire_link::WireLink;
 use lobby_lock::{Desk, Pass};
 use lobby_machine::{OpenError, Wakes};
+use lobby_turns::{Conn, Gate, Link, Turn, TurnState, serve};
 use mio::{Registry, Token};
 use slab::Slab;
 use std::alloc::Global;
@@ -305,7 +300,7 @@ fn shut<R: Wait, G: Gate>(rt: &R, shared: &Shared<'_, G>, pass: Pass, conn: &Con
     requires { pass.desk ≡ shared.now.desk.now }
     ensures { (result.0.desk ≡ pass.desk) × (result.0.worker.number ≡ pass.worker.number) }
 {
-    let (pass, shut) = holds::shut(rt, conn, shared.desk, pass, shared.gate);
+    let (pass, shut) = lobby_turns::shut(rt, conn, shared.desk, pass, shared.gate);
     match shut {
         Ok(wakes) => {
             let turn = Turn {

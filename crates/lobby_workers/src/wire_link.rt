@@ -2,11 +2,10 @@
 
 ghost use Rattle.std.specs.Prelude.{◌≡◌, ◌≤◌, ◌++◌, ℕ, length, take};
 ghost use Rattle.lobby_workers.specs.Gathered.{gathered};
-ghost use Rattle.lobby_workers.specs.Wire.{got_count, sent_count, untouched};
+ghost use Rattle.lobby_turns.specs.Wire.{got_count, sent_count, untouched};
 
-use crate::conn::PIECE;
-use crate::link::{Got, Link, Sent};
 use http_server::Log;
+use lobby_turns::{Got, Link, PIECE, Sent};
 use mio::net::TcpStream;
 use mio::{Interest, Registry, Token};
 use std::io::{self, ErrorKind, Read, Write};

@@ -6,7 +6,7 @@ ghost use Rattle.std.specs.Prelude.{◌≡◌};
 use crate::turns::{GREETING_AND_PONG, new_lobby, serve_client};
 use crate::verdict::same;
 use lobby_lock::Desk;
-use lobby_workers::{Gate, Got, Link, MemoryLink, Sent, Turn, TurnState};
+use lobby_turns::{Gate, Got, Link, MemoryLink, Sent, Turn, TurnState};
 use std::process::Abort;
 use std::sync::atomic::{AtomicBool, Ordering};
 use std::sync::{Arc, Wait};

@@ -8,7 +8,7 @@ use line_words::TextBuf;
 use lobby_lock::{Desk, Pass};
 use lobby_machine::Lobby;
 use lobby_model::Settings;
-use lobby_workers::{Conn, Gate, Link, MemoryLink, Turn, TurnState, serve};
+use lobby_turns::{Conn, Gate, Link, MemoryLink, Turn, TurnState, serve};
 use std::alloc::Global;
 use std::process::Abort;
 use std::sync::Wait;

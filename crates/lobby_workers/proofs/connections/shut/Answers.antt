@@ -1,4 +1,4 @@
-use Rattle.lobby_workers.proofs.Kept.{kept, unused}
+use Rattle.lobby_turns.proofs.Kept.{kept, unused}
 use Rattle.lobby_workers.proofs.connections.shut.Goals as goal
 
 pub returns-in-Ok : goal.returns-in-Ok

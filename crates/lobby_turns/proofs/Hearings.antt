@@ -1,0 +1,265 @@
+-- How hearing a client goes on.
+use Rattle.std.proofs.Common.{◌≡◌, ◌⊎◌, ℕ, ◌+◌, ◌<◌, ◌≤◌, Bool, true, false, List, [], ◌∷◌, ◌++◌, length, refl, sym, ap, ◌∙◌, subst, inl, inr, arith, append-nil, length-append}
+use Rattle.std.specs.Prelude.{◌||◌, Some}
+use Rattle.lobby_model.specs.declared.event.Event.TheVariants as event
+use Rattle.command_grammar.specs.declared.command.Request.{Request}
+use Rattle.lobby_model.specs.State.{State}
+use Rattle.lobby_model.specs.Touched.{touches}
+use Rattle.lobby_post.specs.Mask.{has_home}
+use Rattle.lobby_turns.specs.declared.link.Got.TheVariants as got
+use Rattle.lobby_turns.specs.declared.hearing.Heard.{Heard}
+use Rattle.lobby_turns.specs.declared.hearing.Heard.TheVariants as heard
+use Rattle.lobby_turns.specs.declared.hearing.Step.{Step}
+use Rattle.lobby_turns.specs.declared.hearing.Step.TheVariants as step
+use Rattle.lobby_turns.specs.Moments.{Moment, moment, requests, touched, told_end}
+use Rattle.lobby_turns.specs.Seat.{Carried, Seat}
+use Rattle.lobby_turns.specs.Talk.{AreTalk}
+use Rattle.lobby_turns.specs.Went.{Went}
+use Rattle.lobby_turns.specs.Holds.{Made}
+use Rattle.lobby_hall.specs.declared.session.Next.TheVariants.{Nothing, Spoilt}
+use Rattle.lobby_hall.specs.OneSession.{IsNextOf}
+use Rattle.lobby_turns.specs.Hearing.{OnlyReads, IsAllHeard, IsSaid, StepIs, HearsNext, HeardIs, Hears}
+use Rattle.lobby_turns.proofs.Parts.{requests-append, went_none, went_then}
+use Rattle.lobby_turns.proofs.Talks.{are_talk-append, touched-append, calm-append}
+
+-- so many lines were told the lobby and so many reads were made, and these workers are to be woken
+pub record Hearing (old new : Seat) (lines reads wakes : ℕ) : Type 0 where
+  pub talk : List Moment
+  pub went : Went old new talk
+  pub own : AreTalk old.conn.session.client talk
+  pub calm : told_end talk ≡ false
+  pub lines_are : length (requests talk) ≡ lines
+  pub only : OnlyReads old new reads
+  pub wakes_are : (home : ℕ) → has_home wakes home ≡ touched talk home
+
+pub hearing_none : (a : Seat) (wakes : ℕ) → ((home : ℕ) → has_home wakes home ≡ false) → Hearing a a 0 0 wakes
+hearing_none a wakes none = record {
+  talk = [];
+  went = went_none a;
+  own = tt;
+  calm = refl;
+  lines_are = refl;
+  only = record { reads_are = omega arith; writes = refl; failures = omega arith };
+  wakes_are = none;
+}
+
+only_then : (a b c : Seat) (m n : ℕ) → OnlyReads a b m → OnlyReads b c n → OnlyReads a c (m + n)
+only_then a b c m n h k = record {
+  reads_are = omega (arith, h.reads_are, k.reads_are);
+  writes = k.writes ∙ h.writes;
+  failures = omega (arith, h.failures, k.failures);
+}
+
+-- what came without a line
+quietly : (a b c : Seat) (m k n wakes : ℕ) (u : List Moment) → Hearing a b m k wakes → Went b c u → OnlyReads b c n → u ≡ [] → Hearing a c m (k + n) wakes
+quietly a b c m k n wakes u h went only none = record {
+  talk = h.talk;
+  went = subst (λ (t : List Moment). Went a c t) (ap (λ l. h.talk ++ l) none ∙ append-nil h.talk) (went_then a b c h.talk u h.went went);
+  own = h.own;
+  calm = h.calm;
+  lines_are = h.lines_are;
+  only = only_then a b c k n h.only only;
+  wakes_are = h.wakes_are;
+}
+
+add_none : (n : ℕ) → n + 0 ≡ n
+add_none n = omega arith
+
+none_add : (n : ℕ) → 0 + n ≡ n
+none_add n = omega arith
+
+alone : (b : Bool) → b ≡ (b || false)
+alone true = refl
+alone false = refl
+
+pub hearing_read : (a b c : Seat) (m k wakes : ℕ) → Hearing a b m k wakes → HearsNext b c step.Read → Hearing a c m (k + 1) wakes
+hearing_read a b c m k wakes h s =
+    subst (λ (n : ℕ). Hearing a c m (k + n) wakes) s.step_is.1 (quietly a b c m k s.reads wakes s.talk h s.went s.only s.step_is.0)
+
+pub hearing_said : (a b c : Seat) (m k wakes more all : ℕ) → Hearing a b m k wakes → HearsNext b c (step.Said more)
+    → ((home : ℕ) → has_home all home ≡ (has_home wakes home || has_home more home)) → Hearing a c (m + 1) k all
+hearing_said a b c m k wakes more all h s both =
+    let met : State = s.step_is.1.0 in
+    let request : Request = s.step_is.1.1 in
+    let said : s.talk ≡ moment met (event.Say b.conn.session.client request) ∷ [] = s.step_is.1.2 in
+    record {
+      talk = h.talk ++ s.talk;
+      went = went_then a b c h.talk s.talk h.went s.went;
+      own = are_talk-append a.conn.session.client h.talk s.talk h.own (subst (λ (t : List Moment). AreTalk a.conn.session.client t) (sym said) (h.went.client, tt));
+      calm = calm-append h.talk s.talk h.calm (ap told_end said);
+      lines_are = ap length (requests-append h.talk s.talk) ∙ length-append (requests h.talk) (requests s.talk) ∙ ap (λ n. n + length (requests s.talk)) h.lines_are
+          ∙ ap (λ t. m + length (requests t)) said;
+      only = subst (λ (n : ℕ). OnlyReads a c n) (ap (λ n. k + n) s.step_is.0 ∙ add_none k) (only_then a b c k s.reads h.only s.only);
+      wakes_are = λ home.
+          both home
+          ∙ ap (λ x. x || has_home more home) (h.wakes_are home)
+          ∙ ap (λ x. touched h.talk home || x) (s.step_is.1.3 home ∙ alone (touches met (event.Say b.conn.session.client request) home) ∙ ap (λ t. touched t home) (sym said))
+          ∙ sym (touched-append h.talk s.talk home);
+    }
+
+-- ---- where hearing ends
+
+ended : (a c : Seat) (m k wakes : ℕ) (how : Heard) → m ≤ 64 → k ≤ 16 → (h : Hearing a c m k wakes) → HeardIs a c h.talk how → Hears a c how wakes
+ended a c m k wakes how few_lines few h is = record {
+  talk = h.talk;
+  went = h.went;
+  own = h.own;
+  calm = h.calm;
+  lines = omega (arith, h.lines_are);
+  reads = k;
+  few = few;
+  only = h.only;
+  wakes_are = h.wakes_are;
+  heard_is = is;
+}
+
+since_last : (a b c : Seat) → a.wire.reads ≤ b.wire.reads → (c.wire.last_got ≡ Some got.End) ⊎ ((c.wire.last_got ≡ Some got.Later) × (b.wire.reads < c.wire.reads))
+    → (c.wire.last_got ≡ Some got.End) ⊎ ((c.wire.last_got ≡ Some got.Later) × (a.wire.reads < c.wire.reads))
+since_last a b c rises (inl end) = inl end
+since_last a b c rises (inr later) = inr (later.0, omega (arith, rises, later.1))
+
+-- all is heard since an earlier place too
+since : (a b c : Seat) → a.wire.reads ≤ b.wire.reads → IsAllHeard b c → IsAllHeard a c
+since a b c rises h = record { fed = h.fed; nothing = h.nothing; last = since_last a b c rises h.last }
+
+rises : (a b : Seat) (k : ℕ) → OnlyReads a b k → a.wire.reads ≤ b.wire.reads
+rises a b k only = omega (arith, only.reads_are)
+
+pub hears_all : (a b c : Seat) (m k wakes : ℕ) (how : Step) → how ≡ step.All → m ≤ 64 → k < 16 → Hearing a b m k wakes → HearsNext b c how → Hears a c heard.All wakes
+hears_all a b c m k wakes how is few_lines few h found =
+    let s : HearsNext b c step.All = subst (λ (x : Step). HearsNext b c x) is found in
+    ended a c m (k + s.reads) wakes heard.All few_lines (omega (arith, few, s.few)) (quietly a b c m k s.reads wakes s.talk h s.went s.only s.step_is.0) (since a b c (rises a b k h.only) s.step_is.1)
+
+pub hears_stop : (a b c : Seat) (m k wakes : ℕ) (how : Step) → how ≡ step.Stop → m ≤ 64 → k < 16 → Hearing a b m k wakes → HearsNext b c how → Hears a c heard.Stop wakes
+hears_stop a b c m k wakes how is few_lines few h found =
+    let s : HearsNext b c step.Stop = subst (λ (x : Step). HearsNext b c x) is found in
+    ended a c m (k + s.reads) wakes heard.Stop few_lines (omega (arith, few, s.few)) (quietly a b c m k s.reads wakes s.talk h s.went s.only s.step_is.0) s.step_is.1
+
+pub hears_memory : (a b c : Seat) (m k wakes : ℕ) (how : Step) → how ≡ step.Memory → m ≤ 64 → k < 16 → Hearing a b m k wakes → HearsNext b c how → Hears a c heard.Memory wakes
+hears_memory a b c m k wakes how is few_lines few h found =
+    let s : HearsNext b c step.Memory = subst (λ (x : Step). HearsNext b c x) is found in
+    ended a c m (k + s.reads) wakes heard.Memory few_lines (omega (arith, few, s.few)) (quietly a b c m k s.reads wakes s.talk h s.went s.only s.step_is) tt
+
+-- at a limit
+pub hears_again : (a c : Seat) (m k wakes : ℕ) → m ≤ 64 → k ≤ 16 → (m ≡ 64) ⊎ (k ≡ 16) → Hearing a c m k wakes → Hears a c heard.Again wakes
+hears_again a c m k wakes few_lines few (inl lines) h = ended a c m k wakes heard.Again few_lines few h (inl (h.lines_are ∙ lines))
+hears_again a c m k wakes few_lines few (inr reads) h = ended a c m k wakes heard.Again few_lines few h (inr (h.only.reads_are ∙ ap (λ n. a.wire.reads + n) reads))
+
+-- ---- single steps
+
+pub next_quiet : (a c : Seat) (n : ℕ) (how : Step) → n ≤ 1 → Went a c [] → OnlyReads a c n → StepIs a c [] n how → HearsNext a c how
+next_quiet a c n how few went only is = record { talk = []; went = went; reads = n; few = few; only = only; step_is = is }
+
+pub only_none : (a c : Seat) → c.wire ≡ a.wire → OnlyReads a c 0
+only_none a c same = record {
+  reads_are = ap (λ w. w.reads) same ∙ none a.wire.reads;
+  writes = ap (λ w. w.writes) same;
+  failures = omega (arith, ap (λ w. w.failures) same);
+}
+  where
+    none : (n : ℕ) → n ≡ n + 0
+    none n = omega arith
+
+step_behind : (a b c : Seat) (talk : List Moment) (reads : ℕ) (how : Step) → a.wire.reads ≤ b.wire.reads → b.conn.session.client ≡ a.conn.session.client
+    → StepIs b c talk reads how → StepIs a c talk reads how
+step_behind a b c talk reads (step.Said wakes) rises client is = (is.0, subst (λ (d : ℕ). IsSaid d talk wakes) client is.1)
+step_behind a b c talk reads step.Read rises client is = is
+step_behind a b c talk reads step.All rises client is = (is.0, since a b c rises is.1)
+step_behind a b c talk reads step.Stop rises client is = is
+step_behind a b c talk reads step.Memory rises client is = is
+
+-- a step behind feeding
+pub fed_first : (a b c : Seat) (how : Step) → Went a b [] → b.wire ≡ a.wire → HearsNext b c how → HearsNext a c how
+fed_first a b c how went same s = record {
+  talk = s.talk;
+  went = went_then a b c [] s.talk went s.went;
+  reads = s.reads;
+  few = s.few;
+  only = subst (λ (n : ℕ). OnlyReads a c n) (none_add s.reads) (only_then a b c 0 s.reads (only_none a b same) s.only);
+  step_is = step_behind a b c s.talk s.reads how (rises a b 0 (only_none a b same)) went.client s.step_is;
+}
+
+pub said_next : (a b : Seat) (request : Request) (wakes : ℕ) → b.wire ≡ a.wire → Made a b (event.Say a.conn.session.client request) wakes → HearsNext a b (step.Said wakes)
+said_next a b request wakes same m = record {
+  talk = moment m.met (event.Say a.conn.session.client request) ∷ [];
+  went = m.went;
+  reads = 0;
+  few = omega arith;
+  only = only_none a b same;
+  step_is = (refl, (m.met, request, refl, m.wakes_are));
+}
+
+pub none_done : (a b : Seat) → b.wire ≡ a.wire → Went a b [] → HearsNext a b step.Memory
+none_done a b same went = next_quiet a b 0 step.Memory (omega arith) went (only_none a b same) refl
+
+pub none_left : (a b : Seat) → b.wire ≡ a.wire → Went a b [] → IsNextOf (Some b.conn.session) Spoilt → HearsNext a b step.Stop
+none_left a b same went next = next_quiet a b 0 step.Stop (omega arith) went (only_none a b same) (refl, inl next)
+
+pub only_one : (a b : Seat) → b.wire.reads ≡ a.wire.reads + 1 → b.wire.writes ≡ a.wire.writes → b.wire.failures ≤ a.wire.failures + 1 → OnlyReads a b 1
+only_one a b reads writes failures = record { reads_are = reads; writes = writes; failures = failures }
+
+pub link_read : (a b : Seat) → Went a b [] → OnlyReads a b 1 → HearsNext a b step.Read
+link_read a b went only = next_quiet a b 1 step.Read (omega arith) went only (refl, refl)
+
+pub link_later : (a b : Seat) → Went a b [] → OnlyReads a b 1 → b.conn ≡ a.conn → a.conn.unfed ≡ [] → IsNextOf (Some a.conn.session) Nothing
+    → b.wire.last_got ≡ Some got.Later → HearsNext a b step.All
+link_later a b went only same fed nothing last = next_quiet a b 1 step.All (omega arith) went only (
+  refl,
+  record {
+    fed = ap (λ x. x.unfed) same ∙ fed;
+    nothing = subst (λ (x : Carried). IsNextOf (Some x.session) Nothing) (sym same) nothing;
+    last = inr (last, omega (arith, only.reads_are));
+  },
+)
+
+pub link_end : (a b : Seat) → Went a b [] → OnlyReads a b 1 → b.conn ≡ a.conn → a.conn.unfed ≡ [] → IsNextOf (Some a.conn.session) Nothing
+    → b.wire.last_got ≡ Some got.End → HearsNext a b step.All
+link_end a b went only same fed nothing last = next_quiet a b 1 step.All (omega arith) went only (
+  refl,
+  record {
+    fed = ap (λ x. x.unfed) same ∙ fed;
+    nothing = subst (λ (x : Carried). IsNextOf (Some x.session) Nothing) (sym same) nothing;
+    last = inl last;
+  },
+)
+
+pub link_fault : (a b : Seat) → Went a b [] → OnlyReads a b 1 → b.wire.last_got ≡ Some got.Fault → HearsNext a b step.Stop
+link_fault a b went only last = next_quiet a b 1 step.Stop (omega arith) went only (refl, inr last)
+
+-- ---- the whole of what a round of hearing keeps
+
+pub record IsHearing (old new : Seat) (lines reads wakes rounds : ℕ) : Type 0 where
+  pub hearing : Hearing old new lines reads wakes
+  pub rounds_are : lines + reads ≡ rounds
+  pub few_lines : lines ≤ 64
+  pub few_reads : reads ≤ 16
+
+pub begins : (a : Seat) (wakes : ℕ) → ((home : ℕ) → has_home wakes home ≡ false) → IsHearing a a 0 0 wakes 0
+begins a wakes none = record { hearing = hearing_none a wakes none; rounds_are = refl; few_lines = omega arith; few_reads = omega arith }
+
+pub goes_on_said : (a b c : Seat) (m k wakes rounds more all : ℕ) (how : Step) → how ≡ step.Said more → m + 1 ≤ 64 → IsHearing a b m k wakes rounds → HearsNext b c how
+    → ((home : ℕ) → has_home all home ≡ (has_home wakes home || has_home more home)) → IsHearing a c (m + 1) k all (rounds + 1)
+goes_on_said a b c m k wakes rounds more all how is few h s both = record {
+  hearing = hearing_said a b c m k wakes more all h.hearing (subst (λ (x : Step). HearsNext b c x) is s) both;
+  rounds_are = omega (arith, h.rounds_are);
+  few_lines = few;
+  few_reads = h.few_reads;
+}
+
+pub goes_on_read : (a b c : Seat) (m k wakes rounds : ℕ) (how : Step) → how ≡ step.Read → k + 1 ≤ 16 → IsHearing a b m k wakes rounds → HearsNext b c how
+    → IsHearing a c m (k + 1) wakes (rounds + 1)
+goes_on_read a b c m k wakes rounds how is few h s = record {
+  hearing = hearing_read a b c m k wakes h.hearing (subst (λ (x : Step). HearsNext b c x) is s);
+  rounds_are = omega (arith, h.rounds_are);
+  few_lines = h.few_lines;
+  few_reads = few;
+}
+
+-- the same with its numbers named anew
+pub renamed : (a b : Seat) (m k wakes rounds m' k' wakes' : ℕ) → m' ≡ m → k' ≡ k → wakes' ≡ wakes → IsHearing a b m k wakes rounds → IsHearing a b m' k' wakes' rounds
+renamed a b m k wakes rounds m' k' wakes' p q r h =
+    subst (λ (x : ℕ × (ℕ × ℕ)). IsHearing a b x.0 x.1.0 x.1.1 rounds) (λ i. (sym p i, (sym q i, sym r i))) h
+
+-- so many rounds meet a limit
+pub all_rounds : (a b : Seat) (m k wakes rounds : ℕ) → 80 ≤ rounds → IsHearing a b m k wakes rounds → Hears a b heard.Again wakes
+all_rounds a b m k wakes rounds many h = hears_again a b m k wakes h.few_lines h.few_reads (inl (omega (arith, many, h.rounds_are, h.few_lines, h.few_reads))) h.hearing

@@ -1,0 +1,11 @@
+pub mod Moments
+pub mod Joins
+pub mod Lines
+pub mod Parts
+pub mod Drains
+pub mod Talks
+pub mod Hearings
+pub mod Tellings
+pub mod Turns
+pub mod Moves
+pub mod Kept

@@ -1,0 +1,202 @@
+-- How one part of a turn follows another, and what the smallest parts do.
+use Rattle.std.proofs.Common.{◌≡◌, ℕ, ◌+◌, List, [], ◌∷◌, ◌++◌, length, take, drop, refl, sym, ap, ◌∙◌, subst, arith, append_assoc, append-nil, length-append}
+use Rattle.std.specs.Prelude.{Option, Some, None}
+use Rattle.std.proofs.lemmas.List.{take-append-drop, drop-drop}
+use Rattle.command_grammar.specs.declared.command.Request.{Request}
+use Rattle.lobby_model.specs.declared.event.Event.TheVariants as event
+use Rattle.lobby_model.specs.State.{State}
+use Rattle.lobby_model.specs.Next.{taken_by}
+use Rattle.lobby_lock.specs.Passes.{ShownPass}
+use Rattle.lobby_hall.specs.Serving.{Serving}
+use Rattle.lobby_hall.specs.declared.session.Next.TheVariants.{Line}
+use Rattle.lobby_hall.specs.Sessions.{Heard, IsNext}
+use Rattle.lobby_hall.specs.OneSession.{IsNextOf}
+use Rattle.lobby_turns.specs.declared.link.Sent.{Sent}
+use Rattle.lobby_turns.specs.declared.link.Sent.TheVariants as sent
+use Rattle.lobby_turns.specs.Wire.{Wire, and_more, sent_count}
+use Rattle.lobby_turns.specs.Moments.{Moment, moment, asked, requests, drained_for}
+use Rattle.lobby_turns.specs.Seat.{Carried, Seat, seat, Carries}
+use Rattle.lobby_turns.specs.Went.{Joined, Went, AreNext}
+use Rattle.lobby_turns.proofs.Moments.{flat_map-append}
+use Rattle.lobby_turns.proofs.Joins.{joined_none, joined_then}
+use Rattle.lobby_turns.proofs.Lines.{are_next-more, are_next-append}
+
+same_carries : (at : Seat) (f g : List ℕ) (m n : ℕ) (d e : List ℕ) → f ≡ g → m ≡ n → d ≡ e → Carries at f m d → Carries at g n e
+same_carries at f g m n d e p q r c = subst (λ (x : List ℕ × (ℕ × List ℕ)). Carries at x.0 x.1.0 x.1.1) (λ i. (p i, (q i, r i))) c
+
+pub requests-append : (t u : List Moment) → requests (t ++ u) ≡ requests t ++ requests u
+requests-append t u = flat_map-append (λ (m : Moment). asked m.event) t u
+
+pub drained-append : (c : ℕ) (t u : List Moment) → drained_for c (t ++ u) ≡ drained_for c t ++ drained_for c u
+drained-append c t u = flat_map-append (λ (m : Moment). taken_by m.met m.event c) t u
+
+pub went_then : (a b c : Seat) (t u : List Moment) → Went a b t → Went b c u → Went a c (t ++ u)
+went_then a b c t u h k = record {
+  joined = joined_then a.pass b.pass c.pass t u h.joined k.joined;
+  client = k.client ∙ h.client;
+  moved = λ fed accepted drained x.
+      let m = h.moved fed accepted drained x in
+      let n = k.moved (fed ++ m.more) (accepted + length (requests t)) (drained ++ drained_for b.conn.session.client t) m.carries in
+      let more : (fed ++ m.more) ++ n.more ≡ fed ++ (m.more ++ n.more) = append_assoc fed m.more n.more in
+      record {
+        more = m.more ++ n.more;
+        carries = same_carries c _ _ _ _ _ _ more (counts accepted) (drains drained) n.carries;
+        lines = subst (λ (f : List ℕ). AreNext f accepted (requests (t ++ u))) more (
+            subst (λ (rs : List Request). AreNext ((fed ++ m.more) ++ n.more) accepted rs) (sym (requests-append t u)) (
+            are_next-append ((fed ++ m.more) ++ n.more) accepted (requests t) (requests u) (are_next-more (fed ++ m.more) n.more accepted (requests t) m.lines) n.lines));
+      };
+}
+  where
+    counts : (accepted : ℕ) → (accepted + length (requests t)) + length (requests u) ≡ accepted + length (requests (t ++ u))
+    counts accepted = omega (arith, ap length (requests-append t u), length-append (requests t) (requests u))
+
+    drains : (drained : List ℕ) → (drained ++ drained_for b.conn.session.client t) ++ drained_for c.conn.session.client u ≡ drained ++ drained_for c.conn.session.client (t ++ u)
+    drains drained =
+        append_assoc drained (drained_for b.conn.session.client t) (drained_for c.conn.session.client u)
+        ∙ ap (λ l. drained ++ l) (ap (λ x. drained_for x t ++ drained_for c.conn.session.client u) (sym k.client) ∙ sym (drained-append c.conn.session.client t u))
+
+-- ---- parts without an event
+
+-- the pass is as it was, some more was fed, and nothing was drained
+quiet : (a b : Seat) → b.pass ≡ a.pass → b.conn.session.client ≡ a.conn.session.client
+    → ((fed : List ℕ) (accepted : ℕ) (drained : List ℕ) → Carries a fed accepted drained → (more : List ℕ) × Carries b (fed ++ more) accepted drained)
+    → Went a b []
+quiet a b pass client moves = record {
+  joined = subst (λ (p : ShownPass). Joined a.pass p []) (sym pass) (joined_none a.pass);
+  client = client;
+  moved = λ fed accepted drained x.
+      let m = moves fed accepted drained x in
+      record {
+        more = m.0;
+        carries = same_carries b _ _ _ _ _ _ refl (omega arith) (sym (append-nil drained)) m.1;
+        lines = tt;
+      };
+}
+
+stays : (b : Seat) (fed : List ℕ) (accepted : ℕ) (drained : List ℕ) → Carries b fed accepted drained → (more : List ℕ) × Carries b (fed ++ more) accepted drained
+stays b fed accepted drained x = ([], same_carries b _ _ _ _ _ _ (sym (append-nil fed)) refl refl x)
+
+pub went_none : (a : Seat) → Went a a []
+went_none a = quiet a a refl refl (stays a)
+
+-- what was read and not yet fed is fed
+pub went_fed : (old new : Carried) (wire : Wire) (pass : ShownPass) → new.session.client ≡ old.session.client → new.unfed ≡ [] → new.unwritten ≡ old.unwritten
+    → ((bytes : List ℕ) (accepted : ℕ) → Heard old.session.framed bytes accepted → Heard new.session.framed (bytes ++ old.unfed) accepted)
+    → Went (seat old wire pass) (seat new wire pass) []
+went_fed old new wire pass client fed same heard =
+    quiet _ _ refl client (λ bytes accepted drained x. (
+      old.unfed,
+      record {
+        session = heard bytes accepted x.session;
+        heard = x.heard ∙ ap (λ l. Some l) (sym (append-nil (bytes ++ old.unfed)) ∙ ap (λ l. (bytes ++ old.unfed) ++ l) (sym fed));
+        told = ap (and_more wire.told) same ∙ x.told;
+      },
+    ))
+
+more_twice : (o : Option (List ℕ)) (xs ys : List ℕ) → and_more (and_more o xs) ys ≡ and_more o (xs ++ ys)
+more_twice None xs ys = refl
+more_twice (Some w) xs ys = ap (λ l. Some l) (append_assoc w xs ys)
+
+-- some bytes were read, where all that was read before was fed
+pub went_read : (old new : Carried) (before after : Wire) (pass : ShownPass) (bytes : List ℕ) → new.session ≡ old.session → new.unwritten ≡ old.unwritten
+    → new.unfed ≡ old.unfed ++ bytes → after.heard ≡ and_more before.heard bytes → after.told ≡ before.told
+    → Went (seat old before pass) (seat new after pass) []
+went_read old new before after pass bytes session same got heard told =
+    quiet _ _ refl (ap (λ (s : Serving). s.client) session) (λ fed accepted drained x. stays (seat new after pass) fed accepted drained (record {
+      session = subst (λ (s : Serving). Heard s.framed fed accepted) (sym session) x.session;
+      heard = heard ∙ ap (λ o. and_more o bytes) x.heard ∙ ap (λ l. Some l) (append_assoc fed old.unfed bytes ∙ ap (λ l. fed ++ l) (sym got));
+      told = (λ i. and_more (told i) (same i)) ∙ x.told;
+    }))
+
+-- the first of the bytes to be written were written
+pub went_written : (old new : Carried) (before after : Wire) (pass : ShownPass) (bytes : List ℕ) → new.session ≡ old.session → new.unfed ≡ old.unfed
+    → old.unwritten ≡ bytes ++ new.unwritten → after.told ≡ and_more before.told bytes → after.heard ≡ before.heard
+    → Went (seat old before pass) (seat new after pass) []
+went_written old new before after pass bytes session same gave told heard =
+    quiet _ _ refl (ap (λ (s : Serving). s.client) session) (λ fed accepted drained x. stays (seat new after pass) fed accepted drained (record {
+      session = subst (λ (s : Serving). Heard s.framed fed accepted) (sym session) x.session;
+      heard = heard ∙ x.heard ∙ ap (λ l. Some (fed ++ l)) (sym same);
+      told = ap (λ o. and_more o new.unwritten) told ∙ more_twice before.told bytes new.unwritten ∙ ap (and_more before.told) (sym gave) ∙ x.told;
+    }))
+
+-- ---- parts of a hold
+
+-- the hold made no event
+pub went_held : (conn : Carried) (wire : Wire) (p q : ShownPass) → Joined p q [] → Went (seat conn wire p) (seat conn wire q) []
+went_held conn wire p q joined = record {
+  joined = joined;
+  client = refl;
+  moved = λ fed accepted drained x. record {
+    more = [];
+    carries = same_carries (seat conn wire q) _ _ _ _ _ _ (sym (append-nil fed)) (omega arith) (sym (append-nil drained)) (record { session = x.session; heard = x.heard; told = x.told });
+    lines = tt;
+  };
+}
+
+-- the next line was told the lobby, and accepted
+pub went_said : (old new : Carried) (wire : Wire) (p q : ShownPass) (s : State) (request : Request) → new.session.client ≡ old.session.client
+    → new.unfed ≡ old.unfed → new.unwritten ≡ old.unwritten → IsNextOf (Some old.session) (Line request)
+    → ((bytes : List ℕ) (accepted : ℕ) → Heard old.session.framed bytes accepted → IsNext bytes accepted (Line request) → Heard new.session.framed bytes (accepted + 1))
+    → Joined p q (moment s (event.Say old.session.client request) ∷ [])
+    → Went (seat old wire p) (seat new wire q) (moment s (event.Say old.session.client request) ∷ [])
+went_said old new wire p q s request client unfed unwritten next accepts joined = record {
+  joined = joined;
+  client = client;
+  moved = λ fed accepted drained x. record {
+    more = [];
+    carries = same_carries (seat new wire q) fed (fed ++ []) (accepted + 1) (accepted + 1) drained (drained ++ []) (sym (append-nil fed)) refl (sym (append-nil drained)) (record {
+      session = accepts fed accepted x.session (next fed accepted x.session);
+      heard = x.heard ∙ ap (λ l. Some (fed ++ l)) (sym unfed);
+      told = ap (and_more wire.told) unwritten ∙ x.told;
+    });
+    lines = (subst (λ (f : List ℕ). IsNext f accepted (Line request)) (sym (append-nil fed)) (next fed accepted x.session), tt);
+  };
+}
+
+-- a drain took these bytes, where all that was drained before was written
+pub went_drained : (old new : Carried) (wire : Wire) (p q : ShownPass) (s : State) (n : ℕ) → new.session ≡ old.session → new.unfed ≡ old.unfed
+    → new.unwritten ≡ old.unwritten ++ taken_by s (event.Drain old.session.client n) old.session.client
+    → Joined p q (moment s (event.Drain old.session.client n) ∷ [])
+    → Went (seat old wire p) (seat new wire q) (moment s (event.Drain old.session.client n) ∷ [])
+went_drained old new wire p q s n session unfed drains joined = record {
+  joined = joined;
+  client = ap (λ (x : Serving). x.client) session;
+  moved = λ fed accepted drained x. record {
+    more = [];
+    carries = same_carries (seat new wire q) fed (fed ++ []) accepted (accepted + 0) _ _ (sym (append-nil fed)) (omega arith)
+        (ap (λ l. drained ++ l) (sym (append-nil taken) ∙ ap (λ (y : Serving). taken_by s (event.Drain old.session.client n) y.client ++ []) (sym session))) (record {
+          session = subst (λ (y : Serving). Heard y.framed fed accepted) (sym session) x.session;
+          heard = x.heard ∙ ap (λ l. Some (fed ++ l)) (sym unfed);
+          told = ap (and_more wire.told) drains ∙ sym (more_twice wire.told old.unwritten taken) ∙ ap (λ o. and_more o taken) x.told;
+        });
+    lines = tt;
+  };
+}
+  where
+    taken : List ℕ
+    taken = taken_by s (event.Drain old.session.client n) old.session.client
+
+-- the client was shut
+pub went_shut : (conn : Carried) (wire : Wire) (p q : ShownPass) (s : State) → Joined p q (moment s (event.Shut conn.session.client) ∷ [])
+    → Went (seat conn wire p) (seat conn wire q) (moment s (event.Shut conn.session.client) ∷ [])
+went_shut conn wire p q s joined = record {
+  joined = joined;
+  client = refl;
+  moved = λ fed accepted drained x. record {
+    more = [];
+    carries = same_carries (seat conn wire q) _ _ _ _ _ _ (sym (append-nil fed)) (omega arith) (sym (append-nil drained)) (record { session = x.session; heard = x.heard; told = x.told });
+    lines = tt;
+  };
+}
+
+-- ---- what a write took
+
+pub front_back : (rest xs : List ℕ) (at n : ℕ) → rest ≡ drop at xs → rest ≡ take n rest ++ drop (at + n) xs
+front_back rest xs at n e =
+    let behind : drop n (drop at xs) ≡ drop (at + n) xs = grind (arith, drop-drop) in
+    sym (take-append-drop n rest) ∙ ap (λ l. take n rest ++ l) (ap (drop n) e ∙ behind)
+
+pub nothing_sent : (r : Sent) → ((n : ℕ) → r ≡ sent.Took n → ⊥) → sent_count r ≡ 0
+nothing_sent (sent.Took n) f = absurd (f n refl)
+nothing_sent sent.Later f = refl
+nothing_sent sent.Fault f = refl

@@ -1,0 +1,31 @@
+use Rattle.std.proofs.Common.{arith}
+use Rattle.lobby_turns.proofs.Hearings.{begins, renamed, goes_on_said, goes_on_read, hears_all, hears_stop, hears_memory}
+use Rattle.lobby_turns.proofs.hearing.hear.Goals.{in-Said, in-Read}
+use Rattle.lobby_turns.proofs.hearing.hear.Goals as goal
+
+pub loop-init : goal.loop-init
+loop-init g c = begins _ _ c.none-wakes.ensures
+
+pub returns-in-All : goal.returns-in-All
+returns-in-All g c =
+    let h = c.loop.invariant in
+    hears_all _ _ _ _ _ _ _ c.in-All.is h.few_lines (omega (arith, h.few_reads, c.if-reads-eq-READS.false)) h.hearing c.hear_next-next.ensures
+
+pub returns-in-Stop : goal.returns-in-Stop
+returns-in-Stop g c =
+    let h = c.loop.invariant in
+    hears_stop _ _ _ _ _ _ _ c.in-Stop.is h.few_lines (omega (arith, h.few_reads, c.if-reads-eq-READS.false)) h.hearing c.hear_next-next.ensures
+
+pub returns-in-Memory : goal.returns-in-Memory
+returns-in-Memory g c =
+    let h = c.loop.invariant in
+    hears_memory _ _ _ _ _ _ _ c.in-Memory.is h.few_lines (omega (arith, h.few_reads, c.if-reads-eq-READS.false)) h.hearing c.hear_next-next.ensures
+
+pub loop-preserved : goal.loop-preserved
+loop-preserved g c =
+    elim c.match-step.branch [
+      | in-Said w ↦ renamed _ _ _ _ _ _ _ _ _ w.lines-is w.reads-is w.wakes-is
+          (goes_on_said _ _ _ _ _ _ _ _ _ _ w.in-Said.is (omega (arith, c.loop.invariant.few_lines, c.if-lines-eq-LINES.false)) c.loop.invariant c.hear_next-next.ensures w.union-wakes.ensures)
+      | in-Read w ↦ renamed _ _ _ _ _ _ _ _ _ w.lines-is w.reads-is w.wakes-is
+          (goes_on_read _ _ _ _ _ _ _ _ w.in-Read.is (omega (arith, c.loop.invariant.few_reads, c.if-reads-eq-READS.false)) c.loop.invariant c.hear_next-next.ensures)
+    ]

@@ -1,0 +1,30 @@
+-- What a turn goes on with.
+use Rattle.std.specs.Prelude.{◌≡◌, ℕ, List, ◌++◌, Some}
+use Rattle.lobby_lock.specs.Passes.{ShownPass}
+use Rattle.lobby_hall.specs.Serving.{Serving}
+use Rattle.lobby_hall.specs.Sessions.{Heard}
+use Rattle.lobby_turns.specs.Wire.{Wire, and_more}
+
+-- What contracts see of a connection: its session, the bytes that were read and not yet fed to it, and those that were drained for its
+-- client and not yet written
+pub record Carried : Type 0 where
+  pub session : Serving
+  pub unfed : List ℕ
+  pub unwritten : List ℕ
+
+-- a connection, its link, and the pass of the worker that serves it
+pub record Seat : Type 0 where
+  pub conn : Carried
+  pub wire : Wire
+  pub pass : ShownPass
+
+abbrev pub seat : Carried → Wire → ShownPass → Seat
+seat conn wire pass = record { conn = conn; wire = wire; pass = pass }
+
+-- These bytes were fed to the session, so many of its lines were accepted, and these bytes were drained for its client: what the link
+-- told as read is what was fed and then what is to be fed, and what was drained is what the link told as written and then what is to
+-- be written
+pub record Carries (at : Seat) (fed : List ℕ) (accepted : ℕ) (drained : List ℕ) : Type 0 where
+  pub session : Heard at.conn.session.framed fed accepted
+  pub heard : at.wire.heard ≡ Some (fed ++ at.conn.unfed)
+  pub told : and_more at.wire.told at.conn.unwritten ≡ Some drained

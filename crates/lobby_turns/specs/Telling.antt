@@ -1,0 +1,82 @@
+-- What telling a client did.
+use Rattle.std.specs.Prelude.{◌≡◌, ℕ, ◌+◌, ◌-◌, ◌^◌, ◌<◌, ◌≤◌, true, false, List, [], Some}
+use Rattle.lobby_turns.specs.declared.link.Sent.TheVariants as sent
+use Rattle.lobby_turns.specs.declared.telling.Told.{Told}
+use Rattle.lobby_turns.specs.declared.telling.Told.TheVariants as told
+use Rattle.lobby_turns.specs.declared.telling.Step.{Step}
+use Rattle.lobby_turns.specs.declared.telling.Step.TheVariants as step
+use Rattle.lobby_turns.specs.Wire.{Wire}
+use Rattle.lobby_turns.specs.Moments.{Moment, told_end}
+use Rattle.lobby_turns.specs.Seat.{Seat}
+use Rattle.lobby_turns.specs.Talk.{AreDrains, EndsDry}
+use Rattle.lobby_turns.specs.Went.{Went}
+
+-- so many more writes may be made, each of which may fail
+pub record MayTell (wire : Wire) (writes : ℕ) : Type 0 where
+  pub reads_place : wire.reads < 2 ^ 64 - 1
+  pub writes_place : wire.writes + writes ≤ 2 ^ 64 - 1
+  pub failures_place : wire.failures + writes ≤ 2 ^ 64 - 1
+
+-- So many writes were made and no read, and each failed at most once. What was heard is as it was
+pub record OnlyWrites (old new : Seat) (writes : ℕ) : Type 0 where
+  pub writes_are : new.wire.writes ≡ old.wire.writes + writes
+  pub reads : new.wire.reads ≡ old.wire.reads
+  pub failures : new.wire.failures ≤ old.wire.failures + writes
+  pub last_got : new.wire.last_got ≡ old.wire.last_got
+  pub session : new.conn.session ≡ old.conn.session
+  pub unfed : new.conn.unfed ≡ old.conn.unfed
+
+-- all that was drained was written, and the last piece gave nothing
+pub record IsAllTold (new : Seat) (talk : List Moment) : Type 0 where
+  pub calm : told_end talk ≡ false
+  pub written : new.conn.unwritten ≡ []
+  pub dry : EndsDry new.conn.session.client talk
+
+-- the last write was made just now, and the link took nothing
+pub record MustWait (old new : Seat) (talk : List Moment) : Type 0 where
+  pub calm : told_end talk ≡ false
+  pub last : new.wire.last_sent ≡ Some sent.Later
+  pub made : old.wire.writes < new.wire.writes
+
+-- what a step did, in so many writes
+abbrev pub StepIs : Seat → Seat → List Moment → ℕ → Step → Type 0
+StepIs old new talk writes step.Wrote = (told_end talk ≡ false) × (writes ≡ 1)
+StepIs old new talk writes step.All = IsAllTold new talk
+StepIs old new talk writes step.Later = MustWait old new talk
+StepIs old new talk writes step.Finished = (told_end talk ≡ true) × (writes ≡ 0)
+StepIs old new talk writes step.Fault = new.wire.last_sent ≡ Some sent.Fault
+StepIs old new talk writes step.Memory = Unit {0}
+
+pub record TellsNext (old new : Seat) (step : Step) : Type 0 where
+  pub talk : List Moment
+  pub went : Went old new talk
+  pub own : AreDrains old.conn.session.client talk
+  pub writes : ℕ
+  pub few : writes ≤ 1
+  pub only : OnlyWrites old new writes
+  pub step_is : StepIs old new talk writes step
+
+-- what was drained was written, without an event
+pub record Writes (old new : Seat) (most : ℕ) : Type 0 where
+  pub went : Went old new []
+  pub writes : ℕ
+  pub few : writes ≤ most
+  pub only : OnlyWrites old new writes
+
+-- how far the client was told
+abbrev pub ToldIs : Seat → Seat → List Moment → Told → Type 0
+ToldIs old new talk told.All = IsAllTold new talk
+ToldIs old new talk told.Later = MustWait old new talk
+ToldIs old new talk told.Again = new.wire.writes ≡ old.wire.writes + 16
+ToldIs old new talk told.Finished = told_end talk ≡ true
+ToldIs old new talk told.Fault = new.wire.last_sent ≡ Some sent.Fault
+ToldIs old new talk told.Memory = Unit {0}
+
+pub record Tells (old new : Seat) (told : Told) : Type 0 where
+  pub talk : List Moment
+  pub went : Went old new talk
+  pub own : AreDrains old.conn.session.client talk
+  pub writes : ℕ
+  pub few : writes ≤ 16
+  pub only : OnlyWrites old new writes
+  pub told_is : ToldIs old new talk told

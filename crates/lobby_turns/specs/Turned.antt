@@ -1,0 +1,83 @@
+-- What a turn did.
+use Rattle.std.specs.Prelude.{◌≡◌, ◌≢◌, ◌⊎◌, ℕ, ◌+◌, ◌<◌, ◌≤◌, true, false, ◌||◌, List, [], ◌∷◌, ◌++◌, length, Some}
+use Rattle.lobby_model.specs.declared.event.Event.TheVariants as event
+use Rattle.lobby_model.specs.State.{State}
+use Rattle.lobby_model.specs.Touched.{touches}
+use Rattle.lobby_post.specs.Mask.{has_home}
+use Rattle.lobby_hall.specs.declared.session.Next.TheVariants.{Nothing, Spoilt}
+use Rattle.lobby_hall.specs.OneSession.{IsNextOf}
+use Rattle.lobby_turns.specs.declared.link.Got.TheVariants as got
+use Rattle.lobby_turns.specs.declared.link.Sent.TheVariants as sent
+use Rattle.lobby_turns.specs.declared.turn.Turn.{Turn}
+use Rattle.lobby_turns.specs.declared.turn.TurnState.{TurnState}
+use Rattle.lobby_turns.specs.declared.turn.TurnState.TheVariants as state
+use Rattle.lobby_turns.specs.Moments.{Moment, moment, requests, touched, told_end}
+use Rattle.lobby_turns.specs.Seat.{Seat}
+use Rattle.lobby_turns.specs.Talk.{AreTalk, EndsDry}
+use Rattle.lobby_turns.specs.Went.{Went}
+
+-- all that came was told the lobby, and the link has no more, ever
+pub record HasEnded (at : Seat) : Type 0 where
+  pub fed : at.conn.unfed ≡ []
+  pub nothing : IsNextOf (Some at.conn.session) Nothing
+  pub last : at.wire.last_got ≡ Some got.End
+
+-- all that was drained for the client was written, and a piece that was then drained gave nothing
+pub record IsEmptied (at : Seat) (talk : List Moment) : Type 0 where
+  pub written : at.conn.unwritten ≡ []
+  pub dry : EndsDry at.conn.session.client talk
+
+-- A client is shut where its stream is spoilt at this place, or its link failed, or the lobby said that nothing will ever come of it,
+-- or it has ended and has been told everything
+pub data MayShut (at : Seat) (talk : List Moment) : Type 0 where
+  spoilt : IsNextOf (Some at.conn.session) Spoilt → MayShut at talk
+  unread : at.wire.last_got ≡ Some got.Fault → MayShut at talk
+  unsent : at.wire.last_sent ≡ Some sent.Fault → MayShut at talk
+  finished : told_end talk ≡ true → MayShut at talk
+  ended : HasEnded at → IsEmptied at talk → MayShut at talk
+
+-- Nothing more can be done now: all that came was told the lobby, and the link has no more, or said so in this turn; and the link took
+-- nothing in this turn, or the client has been told everything and may still say more
+pub record IsIdle (old new : Seat) (talk : List Moment) : Type 0 where
+  pub calm : told_end talk ≡ false
+  pub fed : new.conn.unfed ≡ []
+  pub nothing : IsNextOf (Some new.conn.session) Nothing
+  pub heard : (new.wire.last_got ≡ Some got.End) ⊎ ((new.wire.last_got ≡ Some got.Later) × (old.wire.reads < new.wire.reads))
+  pub told : ((new.wire.last_sent ≡ Some sent.Later) × (old.wire.writes < new.wire.writes)) ⊎ (IsEmptied new talk × (new.wire.last_got ≢ Some got.End))
+
+-- 64 lines were told the lobby, or 16 reads or 16 writes were made
+abbrev pub IsAtLimit : Seat → Seat → List Moment → Type 0
+IsAtLimit old new talk = (length (requests talk) ≡ 64) ⊎ ((new.wire.reads ≡ old.wire.reads + 16) ⊎ (new.wire.writes ≡ old.wire.writes + 16))
+
+-- how a turn ended: by shutting its client, or without one event more
+abbrev pub Ends : Seat → Seat → List Moment → List Moment → TurnState → Type 0
+Ends old new talk end state.Idle = (end ≡ []) × IsIdle old new talk
+Ends old new talk end state.Again = (end ≡ []) × IsAtLimit old new talk
+Ends old new talk end state.Closed = (met : State) × (end ≡ moment met (event.Shut new.conn.session.client) ∷ []) × MayShut new talk
+Ends old new talk end state.Memory = end ≡ []
+
+-- A turn: the client's next lines were told the lobby and bytes were drained for it, and then it ended. The woken workers are those
+-- whose clients its events touched
+pub record Turned (old new : Seat) (turn : Turn) : Type 0 where
+  pub talk : List Moment
+  pub end : List Moment
+  pub went : Went old new (talk ++ end)
+  pub own : AreTalk new.conn.session.client talk
+  pub ends : Ends old new talk end turn.state
+  pub lines : length (requests talk) ≤ 64
+  pub reads : new.wire.reads ≤ old.wire.reads + 16
+  pub writes : new.wire.writes ≤ old.wire.writes + 16
+  pub wakes_are : (home : ℕ) → has_home turn.wakes home ≡ touched (talk ++ end) home
+
+-- the client was shut, or memory was refused and nothing was done; the workers are woken that were to be woken before, and those that
+-- the shut touched
+abbrev pub ClosesTo : Seat → Seat → ℕ → ℕ → TurnState → Type 0
+ClosesTo old new wakes more state.Closed =
+    (met : State) × Went old new (moment met (event.Shut old.conn.session.client) ∷ [])
+    × ((home : ℕ) → has_home more home ≡ (has_home wakes home || touches met (event.Shut old.conn.session.client) home))
+ClosesTo old new wakes more state.Memory = Went old new [] × (more ≡ wakes)
+ClosesTo old new wakes more state.Idle = ⊥
+ClosesTo old new wakes more state.Again = ⊥
+
+abbrev pub Closes : Seat → Seat → ℕ → Turn → Type 0
+Closes old new wakes turn = ClosesTo old new wakes turn.wakes turn.state

@@ -1,0 +1,182 @@
+//! The connection of a client.
+
+ghost use Rattle.std.specs.Prelude.{◌≡◌, ◌≢◌, ◌↔◌, ◌+◌, ◌≤◌, ◌<◌, ℕ, List, [], ◌++◌, OnOk, OnErr, IfOk, IsTrue, Some};
+ghost use Rattle.lobby_lock.specs.Passes.{ShownPass};
+ghost use Rattle.lobby_hall.specs.OneSession.{Accepted, IsNextOf};
+ghost use Rattle.lobby_hall.specs.Sessions.{Heard, KeepsKinds};
+ghost use Rattle.lobby_turns.specs.Wire.{Wire, MayGoOn, got_count};
+ghost use Rattle.lobby_turns.specs.Seat.{seat, Carries};
+ghost use Rattle.lobby_turns.specs.Went.{Went};
+
+use crate::gate::Gate;
+use crate::link::{Got, Link, Sent};
+use line_framer::FeedError;
+use lobby_hall::{Next, Session};
+use std::alloc::{AllocError, Global};
+use std::marker::Model;
+
+/// The most bytes that one read, one drain or one write moves.
+pub const PIECE: usize = 4_096;
+
+/// The connection of one client: its session, and the bytes that are on their way. Contracts see
+/// those that were read and not yet fed, and those that were drained and not yet written.
+#[derive(Drop)]
+pub struct Conn {
+    pub(crate) alloc: Global,
+    pub(crate) session: Session,
+    pub(crate) unfed: Vec<u8>,
+    pub(crate) drained: Vec<u8>,
+    // how many of the drained bytes were written
+    pub(crate) written: usize,
+}
+
+impl Model for Conn {
+    ghost use Rattle.std.specs.Prelude.{◌≤◌, drop, vec_len};
+    ghost use Rattle.lobby_turns.specs.Seat.{Carried};
+
+    ghost Value = { Carried };
+
+    ghost view = { λ c. record { session = c.session; unfed = c.unfed.items; unwritten = drop c.written c.drained.items } };
+
+    ghost invariant = { λ c. c.written ≤ vec_len c.drained };
+}
+
+impl Conn {
+    /// The connection of a client from which nothing came yet. It takes no memory.
+    pub fn new(alloc: Global, client: u64) -> Conn
+        ensures client { result.session.client ≡ client }
+        ensures nothing { (wire : Wire) (pass : ShownPass) → wire.heard ≡ Some [] → wire.told ≡ Some [] → Carries (seat result wire pass) [] 0 [] }
+        ensures unfed { result.unfed ≡ [] }
+        ensures unwritten { result.unwritten ≡ [] }
+    {
+        Conn {
+            alloc,
+            session: Session::new(alloc, client),
+            unfed: Vec::new(alloc),
+            drained: Vec::new(alloc),
+            written: 0,
+        }
+    }
+
+    /// The number of its client.
+    pub fn client(&self) -> u64
+        ensures { result ≡ self.now.session.client }
+    {
+        self.session.client()
+    }
+
+    /// What its client asks next, as `Session::next_request` says.
+    pub(crate) fn next_request(&self) -> Result<Next, AllocError>
+        ensures ok { IfOk result (λ next. IsNextOf (Some self.now.session) next) }
+        ensures kinds { IfOk result KeepsKinds }
+    {
+        self.session.next_request()
+    }
+
+    /// What was drained and not yet written.
+    fn rest(&self) -> &[u8]
+        ensures { result.now ≡ self.now.unwritten }
+    {
+        &self.drained[self.written..]
+    }
+
+    /// Whether all that was drained was written.
+    pub(crate) fn is_written(&self) -> bool
+        ensures { IsTrue result ↔ (self.now.unwritten ≡ []) }
+    {
+        self.rest().is_empty()
+    }
+
+    /// Gives the buffer of drained bytes back, once all were written.
+    fn release(&mut self)
+        ensures { self.new ≡ self.old }
+    {
+        if self.written == self.drained.len() {
+            self.drained = Vec::new(self.alloc);
+            self.written = 0;
+        }
+    }
+
+    /// Feeds what was read and not yet fed. Where memory is refused, nothing changes.
+    pub(crate) fn feed(&mut self) -> Result<(), AllocError>
+        ensures went { OnOk result ((wire : Wire) (pass : ShownPass) → Went (seat self.old wire pass) (seat self.new wire pass) []) }
+        ensures fed { OnOk result (self.new.unfed ≡ []) }
+        ensures unwritten { self.new.unwritten ≡ self.old.unwritten }
+        ensures err { OnErr result (self.new ≡ self.old) }
+    {
+        feed_session(&mut self.session, &self.unfed)?;
+        self.unfed = Vec::new(self.alloc);
+        Ok(())
+    }
+
+    /// Reads a piece. All that was read before was fed.
+    pub(crate) fn read<L: Link>(&mut self, link: &mut L) -> Result<Got, AllocError>
+        requires fed { self.old.unfed ≡ [] }
+        requires wire { MayGoOn (L.wire link.old) }
+        ensures went { (pass : ShownPass) → Went (seat self.old (L.wire link.old) pass) (seat self.new (L.wire link.new) pass) [] }
+        ensures session { self.new.session ≡ self.old.session }
+        ensures unwritten { self.new.unwritten ≡ self.old.unwritten }
+        ensures none { IfOk result (λ got. got_count got ≡ 0 → self.new ≡ self.old) }
+        ensures reads { OnOk result ((L.wire link.new).reads ≡ (L.wire link.old).reads + 1) }
+        ensures writes { (L.wire link.new).writes ≡ (L.wire link.old).writes }
+        ensures failures { (L.wire link.new).failures ≤ (L.wire link.old).failures + 1 }
+        ensures last_got { IfOk result (λ got. (L.wire link.new).last_got ≡ Some got) }
+        ensures last_sent { (L.wire link.new).last_sent ≡ (L.wire link.old).last_sent }
+        ensures err { OnErr result ((self.new ≡ self.old) × (L.wire link.new ≡ L.wire link.old)) }
+    {
+        let mut unfed = Vec::with_capacity(self.alloc, PIECE)?;
+        let mut piece = [0u8; PIECE];
+        let got = link.read(&mut piece);
+        if let Got::Bytes(count) = got {
+            let _ = unfed.extend_from_slice(&piece[..count]);
+            self.unfed = unfed;
+        }
+        Ok(got)
+    }
+
+    /// Writes what was drained and not yet written, as much of it as the link takes now.
+    pub(crate) fn write<L: Link, G: Gate>(&mut self, link: &mut L, gate: &G, worker: u64) -> Sent
+        requires { MayGoOn (L.wire link.old) }
+        ensures went { (pass : ShownPass) → Went (seat self.old (L.wire link.old) pass) (seat self.new (L.wire link.new) pass) [] }
+        ensures session { self.new.session ≡ self.old.session }
+        ensures unfed { self.new.unfed ≡ self.old.unfed }
+        ensures reads { (L.wire link.new).reads ≡ (L.wire link.old).reads }
+        ensures writes { (L.wire link.new).writes ≡ (L.wire link.old).writes + 1 }
+        ensures failures { (L.wire link.new).failures ≤ (L.wire link.old).failures + 1 }
+        ensures last_got { (L.wire link.new).last_got ≡ (L.wire link.old).last_got }
+        ensures last_sent { (L.wire link.new).last_sent ≡ Some result }
+    {
+        let rest = self.rest();
+        let sent = link.write(rest);
+        if let Sent::Took(count) = sent {
+            gate.after_write(worker, &rest[..count]);
+            self.written += count;
+            self.release();
+        }
+        sent
+    }
+
+    /// Accepts the next line, where one is there.
+    pub(crate) fn accept(&mut self)
+        ensures session { Accepted (Some self.old.session) (Some self.new.session) }
+        ensures client { self.new.session.client ≡ self.old.session.client }
+        ensures unfed { self.new.unfed ≡ self.old.unfed }
+        ensures unwritten { self.new.unwritten ≡ self.old.unwritten }
+    {
+        if self.session.has_line() {
+            self.session.accept_request();
+        }
+    }
+}
+
+/// Feeds a piece to a session. Where memory is refused, nothing changes.
+fn feed_session(session: &mut Session, piece: &[u8]) -> Result<(), AllocError>
+    ensures client { OnOk result (session.new.client ≡ session.old.client) }
+    ensures heard { OnOk result ((bytes : List ℕ) (accepted : ℕ) → Heard session.old.framed bytes accepted → Heard session.new.framed (bytes ++ piece.now) accepted) }
+    ensures err { OnErr result (session.new ≡ session.old) }
+{
+    match session.feed(piece) {
+        Err(FeedError::Memory) => Err(AllocError),
+        _ => Ok(()),
+    }
+}

@@ -1,0 +1,26 @@
+//! A connection's turn: what comes over a client's link is fed to its session, whole lines become events of the lobby, and what
+//! the lobby has for the client is written.
+//!
+//! A worker serves a connection in turns ([`serve`]). A turn hears the client (`hearing`) and then
+//! tells it (`telling`), in holds of one event each (`holds`). It works over any [`Link`], and its
+//! contract (`specs/Turned.antt`) speaks of all bytes that the link tells: none is lost, doubled or
+//! out of its order, whatever the link does.
+#![tactic(auto)]
+
+mod conn;
+mod gate;
+mod hearing;
+mod holds;
+mod link;
+mod memory;
+mod serving;
+mod telling;
+mod turn;
+
+pub use conn::{Conn, PIECE};
+pub use gate::Gate;
+pub use holds::shut;
+pub use link::{Got, Link, Sent};
+pub use memory::MemoryLink;
+pub use serving::serve;
+pub use turn::{Turn, TurnState};

@@ -1,6 +1,0 @@
-use Rattle.lobby_workers.specs.Seat.{seat}
-use Rattle.lobby_workers.specs.Telling.{Writes}
-use Rattle.lobby_workers.proofs.telling.write_out.Given as goal
-
-abbrev pub invariant-loop : goal.invariant-loop
-invariant-loop g l = Writes (seat l.fn.conn (g.L.Link.wire l.fn.link) l.fn.pass) (seat l.conn (g.L.Link.wire l.link) l.pass) l.counter
