@@ -30,7 +30,7 @@ fn what_is_there_is_read(rt: HostRuntime) -> Result<(), Fail> {
     same(&rt, number_or(&table, "count", 0, 8, 1), Ok(7));
     same(&rt, flag_or(&table, "set", false), Ok(true));
     let values = list_or_empty(&table, "list")?;
-    same(&rt, values.len(), 2);
+    assert_eq!(rt; values.len(), 2);
     same(&rt, text_of(&values[0]), Ok("one"));
     same(&rt, text_of(&values[1]), Err(FieldFault::OtherKind));
     Ok(())

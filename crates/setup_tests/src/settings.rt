@@ -72,7 +72,7 @@ fn shows_all(rt: &impl Abort, setup: &Setup) {
     same(rt, (settings.udp_port(), settings.server_mode()), (0, 1));
     same(rt, settings.outbox_limit(), 65_536);
     let motd = settings.motd().as_slice();
-    same(rt, motd.len(), 3);
+    assert_eq!(rt; motd.len(), 3);
     same(rt, motd[2].as_slice(), b"Gr\xc3\xbc\xc3\x9fe".as_slice());
 }
 
