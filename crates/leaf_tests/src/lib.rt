@@ -20,6 +20,8 @@ mod rooms;
 #[cfg(test)]
 mod settings;
 #[cfg(test)]
+mod shared_pieces;
+#[cfg(test)]
 mod status_words;
 #[cfg(test)]
 mod verdict;

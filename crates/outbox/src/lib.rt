@@ -2,16 +2,35 @@
 //! asked to make room.
 //!
 //! Putting is split in two, so that an event that goes to many clients can fail for want of memory
-//! before it has changed any of them: [`Outbox::reserve`] may fail and changes nothing that a
-//! client sees, and [`Outbox::put`] cannot fail.
+//! before it has changed any of them: [`Outbox::reserve`] and [`Outbox::reserve_shared`] may fail
+//! and change nothing that a client sees, and [`Outbox::put`] and [`Outbox::put_shared`] cannot
+//! fail.
+//!
+//! What is put is copied behind the outbox's own bytes, or shared: a piece that several outboxes
+//! hold lies in memory once. It is for the caller to choose; nobody who reads sees a difference.
 #![tactic(auto)]
 
-ghost use Rattle.std.specs.Prelude.{◌≡◌, ◌≢◌, ◌+◌, ◌-◌, ◌^◌, ◌<◌, ◌≤◌, ◌↔◌, [], ◌++◌, length, take, drop, min, IsTrue, IfSome, IfNone, OnOk, OnErr, true, false};
+ghost use Rattle.std.specs.Prelude.{◌≡◌, ◌≢◌, ◌⊎◌, ◌+◌, ◌-◌, ◌^◌, ◌<◌, ◌≤◌, ◌↔◌, [], ◌++◌, length, take, drop, min, IsTrue, IfSome, IfNone, OnOk, OnErr, true, false};
 ghost use Rattle.outbox.specs.Queue.{room};
 
+use bytes::Bytes;
 use std::alloc::{AllocError, Global};
+use std::collections::VecDeque;
 use std::marker::Model;
 use std::mem;
+
+/// The greatest limit with which pieces are shared: 2^63 - 1 bytes, all of which can be counted.
+const COUNTED: usize = isize::MAX as usize;
+
+/// How many places for shared pieces an outbox keeps at most when it hands its buffer over.
+const KEPT_PLACES: usize = 4;
+
+/// A shared piece of what waits, and how many own bytes stand between it and the one before.
+#[derive(Drop)]
+struct Share {
+    before: usize,
+    bytes: Bytes,
+}
 
 /// The bytes that wait for a client to read them, at most as many as its limit.
 ///
@@ -23,37 +42,56 @@ pub struct Outbox {
     bytes: Vec<u8>,
     /// How many bytes at the front of `bytes` were taken.
     taken: usize,
+    /// How many bytes behind those stand before the last shared piece.
+    ahead: usize,
+    /// How many bytes the shared pieces have.
+    shared: usize,
     cut: bool,
+    shares: VecDeque<Share>,
 }
 
 impl Model for Outbox {
-    ghost use Rattle.std.specs.Prelude.{◌≡◌, ◌-◌, ◌+◌, ◌≤◌, drop, vec_len, vec_capacity, true};
+    ghost use Rattle.std.specs.Prelude.{◌-◌, drop, vec_len, vec_capacity};
+    ghost use Rattle.std.specs.VecDeque.{deque_len, deque_capacity};
     ghost use Rattle.outbox.specs.Queue.{Queue};
+    ghost use Rattle.outbox.specs.Woven.{woven, pieces_for, IsKept};
 
     ghost Value = { Queue };
 
     ghost view = { λ o. record {
       limit = o.limit;
-      unread = drop o.taken o.bytes.items;
+      unread = woven o.shares.items (drop o.taken o.bytes.items);
       cut = o.cut;
       spare = vec_capacity o.bytes - vec_len o.bytes;
+      spare_pieces = pieces_for o.limit (deque_capacity o.shares - deque_len o.shares);
     } };
 
-    ghost invariant = { λ o. (o.taken ≤ vec_len o.bytes)
-        × (vec_len o.bytes ≤ o.taken + o.limit)
-        × (o.cut ≡ true → vec_len o.bytes ≡ 0) };
+    ghost invariant = { λ o. IsKept o.limit o.taken o.ahead o.shared o.bytes.items o.shares.items o.cut };
+}
+
+/// Copies bytes to the front of a slice, as many as there are and fit, and says how many.
+fn copy_front(from: &[u8], into: &mut [u8]) -> usize
+    ensures count { result ≡ min (length from.now) (length into.old) }
+    ensures given { into.new ≡ take result from.now ++ drop result into.old }
+{
+    let count = from.len().min(into.len());
+    into[..count].copy_from_slice(&from[..count]);
+    count
 }
 
 impl Outbox {
     /// An empty outbox in which at most `limit` bytes may stand unread. It takes no memory yet.
     pub fn new(alloc: Global, limit: usize) -> Outbox
-        ensures { result ≡ record { limit = limit; unread = []; cut = false; spare = 0 } }
+        ensures { result ≡ record { limit = limit; unread = []; cut = false; spare = 0; spare_pieces = 0 } }
     {
         Outbox {
             limit,
             bytes: Vec::new(alloc),
             taken: 0,
+            ahead: 0,
+            shared: 0,
             cut: false,
+            shares: VecDeque::from_vec(Vec::new(alloc)),
         }
     }
 
@@ -63,7 +101,7 @@ impl Outbox {
         ensures within_limit { result ≤ self.now.limit }
         ensures small { result < 2 ^ 63 }
     {
-        self.bytes.len() - self.taken
+        self.bytes.len() - self.taken + self.shared
     }
 
     /// Whether the client was cut. Nothing is unread then.
@@ -99,17 +137,17 @@ impl Outbox {
         self.bytes.reserve(n)
     }
 
-    /// Moves the unread bytes to the front of the buffer, if at least as many were taken before
-    /// them. So each byte that moves is paid for by one that was taken, which pays once only: all
-    /// the moves together cost no more than all the bytes that were ever put.
+    /// Moves the own bytes that wait to the front of the buffer, if at least as many were taken
+    /// before them. So each byte that moves is paid for by one that was taken, which pays once only:
+    /// all the moves together cost no more than all the bytes that were ever put.
     fn close_up(&mut self)
         ensures unchanged { self.new ≡ record self.old { spare = self.new.spare } }
         ensures spare_kept { self.old.spare ≤ self.new.spare }
     {
-        let unread = self.unread();
-        if unread <= self.taken {
+        let own = self.bytes.len() - self.taken;
+        if own <= self.taken {
             self.bytes.copy_within(self.taken.., 0);
-            self.bytes.truncate(unread);
+            self.bytes.truncate(own);
             self.taken = 0;
         }
     }
@@ -128,18 +166,85 @@ impl Outbox {
         prove!(done);
     }
 
+    /// Makes room in memory for `bytes` more bytes that are put by copying, and places for `pieces`
+    /// more shared pieces, after which they can be put without fail.
+    ///
+    /// An `AllocError` comes only where memory was asked for and refused, or where a piece is asked
+    /// for and the limit is 2^63 or more, so that the bytes of shared pieces could not be counted.
+    /// The client sees no difference, whatever the answer.
+    pub fn reserve_shared(&mut self, bytes: usize, pieces: usize) -> Result<(), AllocError>
+        requires { bytes ≤ room self.old }
+        ensures unchanged { self.new ≡ record self.old {
+          spare = self.new.spare;
+          spare_pieces = self.new.spare_pieces;
+        } }
+        ensures spare_kept { self.old.spare ≤ self.new.spare }
+        ensures pieces_kept { self.old.spare_pieces ≤ self.new.spare_pieces }
+        ensures ok { OnOk result ((bytes ≤ self.new.spare) × (pieces ≤ self.new.spare_pieces)) }
+        ensures err { OnErr result ((self.old.spare < bytes) ⊎ (self.old.spare_pieces < pieces)) }
+    {
+        self.reserve(bytes)?;
+        self.reserve_pieces(pieces)
+    }
+
+    /// Makes places for so many more shared pieces. An `AllocError` comes as `reserve_shared` says.
+    fn reserve_pieces(&mut self, pieces: usize) -> Result<(), AllocError>
+        ensures unchanged { self.new ≡ record self.old { spare_pieces = self.new.spare_pieces } }
+        ensures pieces_kept { self.old.spare_pieces ≤ self.new.spare_pieces }
+        ensures ok { OnOk result (pieces ≤ self.new.spare_pieces) }
+        ensures err { OnErr result (self.old.spare_pieces < pieces) }
+    {
+        if pieces == 0 {
+            return Ok(());
+        }
+        if self.limit > COUNTED {
+            return Err(AllocError);
+        }
+        self.shares.reserve(pieces)
+    }
+
+    /// Appends a shared piece for which there is room under the limit, and a place. It takes no
+    /// memory and copies no byte, so it asks for no `spare`. An empty piece takes no place.
+    pub fn put_shared(&mut self, piece: Bytes)
+        requires room { length piece ≤ room self.old }
+        requires place { 1 ≤ self.old.spare_pieces }
+        ensures put { self.new ≡ record self.old {
+          unread = self.old.unread ++ piece;
+          spare = self.new.spare;
+          spare_pieces = self.new.spare_pieces;
+        } }
+        ensures spare_kept { self.old.spare ≤ self.new.spare }
+        ensures pieces_left { self.old.spare_pieces ≤ self.new.spare_pieces + 1 }
+    {
+        if piece.is_empty() {
+            return;
+        }
+        let before = self.bytes.len() - self.taken - self.ahead;
+        self.ahead += before;
+        self.shared += piece.len();
+        self.shares.push_back_reserved(Share {
+            before,
+            bytes: piece,
+        });
+    }
+
     /// Cuts the client: gives up what is unread, for good.
     pub fn cut(&mut self)
         ensures cut { self.new ≡ record self.old {
           unread = [];
           cut = true;
           spare = self.new.spare;
+          spare_pieces = self.new.spare_pieces;
         } }
         ensures spare_kept { self.old.spare ≤ self.new.spare }
+        ensures pieces_kept { self.old.spare_pieces ≤ self.new.spare_pieces }
     {
         self.cut = true;
         self.taken = 0;
+        self.ahead = 0;
+        self.shared = 0;
         self.bytes.clear();
+        self.shares.clear();
     }
 
     /// Moves the first unread bytes into a slice, as many as fit, and says how many. The rest of
@@ -150,13 +255,56 @@ impl Outbox {
         ensures left { self.new ≡ record self.old {
           unread = drop result self.old.unread;
           spare = self.new.spare;
+          spare_pieces = self.new.spare_pieces;
         } }
         ensures spare_kept { self.old.spare ≤ self.new.spare }
+        ensures pieces_kept { self.old.spare_pieces ≤ self.new.spare_pieces }
     {
-        let count = self.copy_from(0, into);
-        self.taken += count;
+        let wanted = self.unread().min(into.len());
+        let mut done = 0;
+        while done < wanted {
+            done += self.take_run(&mut into[done..]);
+        }
         if self.unread() == 0 {
             self.close_up();
+        }
+        done
+    }
+
+    /// Moves unread bytes into a slice, as many as lie in a row at the front and fit: own ones, or
+    /// those of one shared piece.
+    fn take_run(&mut self, into: &mut [u8]) -> usize
+        ensures within { (result ≤ length self.old.unread) × (result ≤ length into.old) }
+        ensures some { 0 < length self.old.unread → 0 < length into.old → 0 < result }
+        ensures given { into.new ≡ take result self.old.unread ++ drop result into.old }
+        ensures left { self.new ≡ record self.old {
+          unread = drop result self.old.unread;
+          spare = self.new.spare;
+          spare_pieces = self.new.spare_pieces;
+        } }
+        ensures spare_kept { self.old.spare ≤ self.new.spare }
+        ensures pieces_kept { self.old.spare_pieces ≤ self.new.spare_pieces }
+    {
+        let Some(Share { before, mut bytes }) = self.shares.pop_front() else {
+            let count = copy_front(&self.bytes[self.taken..], into);
+            self.taken += count;
+            return count;
+        };
+        if before > 0 {
+            let count = copy_front(&self.bytes[self.taken..self.taken + before], into);
+            self.taken += count;
+            self.ahead -= count;
+            self.shares.push_front_reserved(Share {
+                before: before - count,
+                bytes,
+            });
+            return count;
+        }
+        let count = copy_front(bytes.as_slice(), into);
+        bytes.advance(count);
+        self.shared -= count;
+        if !bytes.is_empty() {
+            self.shares.push_front_reserved(Share { before, bytes });
         }
         count
     }
@@ -167,11 +315,36 @@ impl Outbox {
         ensures count { result ≡ min (length self.now.unread - from) (length into.old) }
         ensures given { into.new ≡ take result (drop from self.now.unread) ++ drop result into.old }
     {
-        let unread = &self.bytes[self.taken..];
-        let wanted = &unread[from.min(unread.len())..];
-        let count = wanted.len().min(into.len());
-        into[..count].copy_from_slice(&wanted[..count]);
-        count
+        let unread = self.unread();
+        let wanted = (unread - from.min(unread)).min(into.len());
+        let mut done = 0;
+        while done < wanted {
+            done += copy_front(self.run_at(from + done), &mut into[done..]);
+        }
+        done
+    }
+
+    /// The unread bytes from a place on, as many as lie in a row there.
+    fn run_at(&self, from: usize) -> &[u8]
+        ensures run { take (length result.now) (drop from self.now.unread) ≡ result.now }
+        ensures some { from < length self.now.unread → 0 < length result.now }
+    {
+        let mut own = self.taken;
+        let mut left = from;
+        for i in 0..self.shares.len() {
+            let share = &self.shares[i];
+            if left < share.before {
+                return &self.bytes[own + left..own + share.before];
+            }
+            left -= share.before;
+            own += share.before;
+            if left < share.bytes.len() {
+                return &share.bytes.as_slice()[left..];
+            }
+            left -= share.bytes.len();
+        }
+        let rest = &self.bytes[own..];
+        &rest[left.min(rest.len())..]
     }
 
     /// Whether it holds a buffer. Where it does not, `adopt` may save it from asking for memory.
@@ -193,14 +366,19 @@ impl Outbox {
         }
     }
 
-    /// Hands its buffer over where nothing is unread, so that another outbox may adopt it.
+    /// Hands its buffer over where nothing is unread, so that another outbox may adopt it. Many
+    /// places for shared pieces go.
     pub fn hand_over(&mut self) -> Option<Vec<u8>>
-        ensures unchanged { self.new ≡ record self.old { spare = self.new.spare } }
+        ensures unchanged { self.new ≡ record self.old {
+          spare = self.new.spare;
+          spare_pieces = self.new.spare_pieces;
+        } }
         ensures handed { IfSome result (λ _. (self.old.unread ≡ []) × (self.new.spare ≡ 0)) }
         ensures none { IfNone result ((self.new ≡ self.old) × (self.old.unread ≢ [])) }
     {
         if self.unread() == 0 {
             self.taken = 0;
+            self.shares.shrink_to(KEPT_PLACES);
             let none = Vec::new(*self.bytes.allocator());
             Some(mem::replace(&mut self.bytes, none))
         } else {
