@@ -7,8 +7,6 @@ pub mod Lines
 pub mod Whole
 pub mod Slices
 pub mod Checks
-pub mod Keeps
-pub mod KindTables
 pub mod Examples
-pub mod Fits
-pub mod SizeTables
+pub mod Taken
+pub mod Bounds

@@ -13,8 +13,8 @@ use Rattle.command_grammar.specs.declared.command.ReadFault.{ReadFault}
 use Rattle.command_grammar.specs.declared.command.ReadFault.TheVariants as fault
 use Rattle.command_grammar.specs.declared.command.Command.{Command}
 use Rattle.command_grammar.specs.declared.command.Command.TheVariants as command
-use Rattle.command_grammar.specs.Arguments.{IsFault, Text, Sentences, Sentence, IsPair, PairsIn, AtLeastOne, Pairs, AreWords, Words}
-use Rattle.command_grammar.specs.Reading.{without_spaces, ◌>>=◌, text_at, sentences_at, sentence_in, pair, pair_of, pair_in, pairs_in, at_least_one, pairs_of, pairs_at, without_empty, words_in, words_at}
+use Rattle.command_grammar.specs.Arguments.{IsFault, Text, Sentence, IsPair, PairsIn, AtLeastOne, Pairs, AreWords, Words}
+use Rattle.command_grammar.specs.Reading.{without_spaces, ◌>>=◌, text_at, sentence_at, pair, pair_of, pair_in, pairs_in, at_least_one, pairs_of, pairs_at, without_empty, words_in, words_at}
 use Rattle.command_grammar.proofs.Cuts.{Parts, parts_of, and_first, and_second, next_word_made, no_word_left, skipped}
 use Rattle.command_grammar.proofs.Settles.{Settles, fault_made, bind_bind}
 
@@ -24,19 +24,12 @@ unfolding text_at
 Text-settles {K} k each [] = fault_made
 Text-settles {K} k each (space ∷ text) = each text
 
-pub Sentences-settles : {K : List (List ℕ) → Command → Type 0} (k : List (List ℕ) → Result Command ReadFault) → ((sentences : List (List ℕ)) → Settles (K sentences) (k sentences)) → (rest : List ℕ)
-    → Settles (Sentences K rest) (sentences_at rest >>= k)
-unfolding sentences_at
-Sentences-settles {K} k each rest =
-    let after : List ℕ → Result (List (List ℕ)) ReadFault = λ text. Ok (between_tabs text) in
-    subst (λ (q : Result Command ReadFault). Settles (Sentences K rest) q) (sym (bind_bind (text_at rest) after k)) (Text-settles _ (λ text. each (between_tabs text)) rest)
-
-pub Sentence-settles : {K : List ℕ → List (List ℕ) → Command → Type 0} (k : List ℕ × List (List ℕ) → Result Command ReadFault)
-    → ((sentence : List ℕ) (more : List (List ℕ)) → Settles (K sentence more) (k (sentence, more))) → (sentences : List (List ℕ))
-    → Settles (Sentence K sentences) (sentence_in sentences >>= k)
-unfolding sentence_in
+pub Sentence-settles : {K : List ℕ → List ℕ → Command → Type 0} (k : List ℕ × List ℕ → Result Command ReadFault)
+    → ((sentence behind : List ℕ) → Settles (K sentence behind) (k (sentence, behind))) → (rest : List ℕ)
+    → Settles (Sentence K rest) (sentence_at rest >>= k)
+unfolding sentence_at text_at
 Sentence-settles {K} k each [] = fault_made
-Sentence-settles {K} k each (sentence ∷ more) = each sentence more
+Sentence-settles {K} k each (mark ∷ text) = each (before 9 text) (from 9 text)
 
 -- Pairs
 

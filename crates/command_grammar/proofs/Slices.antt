@@ -5,7 +5,7 @@ use Rattle.std.specs.List.{list_all}
 use Rattle.std.proofs.lemmas.Bool.{and_parts, and_from}
 use Rattle.line_words.specs.Bytes.{is_spaces, has_byte, is_text, is_text_byte, is_word, is_word_byte, is_sentence, is_sentence_byte}
 use Rattle.line_words.specs.Sentences.{between_tabs}
-use Rattle.line_words.specs.Parts.{from, between, with_front}
+use Rattle.line_words.specs.Parts.{before, from, between, with_front}
 use Rattle.line_words.specs.Words.{FirstWord}
 use Rattle.command_grammar.specs.declared.command.ReadFault.TheVariants as fault
 use Rattle.command_grammar.specs.Reading.{without_spaces, checked_word, word_at}
@@ -44,8 +44,17 @@ all_from : (test : ℕ → Bool) (stop : ℕ) (bs : List ℕ) → IsTrue (list_a
 all_from test stop [] h = h
 all_from test stop (b ∷ bs) h = all_from_by test stop b bs (b == stop) h (all_from test stop bs (and_parts (test b) (list_all test bs) h).1)
 
-pub text_behind : (text : List ℕ) → IsTrue (is_text text) → IsTrue (is_text (from 32 text))
-text_behind = all_from is_text_byte 32
+pub text_behind : (stop : ℕ) (text : List ℕ) → IsTrue (is_text text) → IsTrue (is_text (from stop text))
+text_behind = all_from is_text_byte
+
+-- What stands before the first tab of a text is a sentence.
+front_by : (b : ℕ) (bs : List ℕ) (t : Bool) → (b == 9) ≡ t → IsTrue (is_text_byte b) → IsTrue (is_sentence (before 9 bs)) → IsTrue (is_sentence (cond t [] (b ∷ before 9 bs)))
+front_by b bs true is h k = refl
+front_by b bs false is h k = and_from (is_sentence_byte b) (is_sentence (before 9 bs)) (and_from (not (b == 9)) (is_text_byte b) (ap not is) h) k
+
+pub sentence_front : (text : List ℕ) → IsTrue (is_text text) → IsTrue (is_sentence (before 9 text))
+sentence_front [] h = refl
+sentence_front (b ∷ bs) h = let both = and_parts (is_text_byte b) (is_text bs) h in front_by b bs (b == 9) refl both.0 (sentence_front bs both.1)
 
 pub sentence_behind : (sentence : List ℕ) → IsTrue (is_sentence sentence) → IsTrue (is_sentence (from 61 sentence))
 sentence_behind = all_from is_sentence_byte 61

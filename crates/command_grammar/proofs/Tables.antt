@@ -1,53 +1,51 @@
 -- Each command's form names one command, the one that reading its arguments gives.
-use Rattle.std.proofs.Common.{ℕ, List}
+use Rattle.std.proofs.Common.{◌≡◌, ℕ, List, [], ◌∷◌, refl, Bool, true, false}
 use Rattle.std.specs.Prelude.{Option, Some, None}
+use Rattle.line_words.specs.Parts.{before, from}
 use Rattle.line_words.specs.Words.{EndsWord}
 use Rattle.command_grammar.specs.declared.command_word.CommandWord.{CommandWord}
 use Rattle.command_grammar.specs.declared.command_word.CommandWord.TheVariants as word
-use Rattle.command_grammar.specs.Forms.{Form}
-use Rattle.command_grammar.specs.Reading.{known_at, named_battle}
+use Rattle.command_grammar.specs.Forms.{Row, Form}
+use Rattle.command_grammar.specs.Reading.{row_at, known_at}
+use Rattle.command_grammar.specs.Table as kind
+use Rattle.command_grammar.specs.Table.{Kind, Maker, entry_of}
 use Rattle.command_grammar.proofs.Settles.{Settles, made, fault_made, Word-settles, Optional-settles, Name-settles, Natural-settles, Wide-settles, Flag-settles}
-use Rattle.command_grammar.proofs.Sequences.{Text-settles, Sentences-settles, Sentence-settles, Pairs-settles, Words-settles}
+use Rattle.command_grammar.proofs.Sequences.{Text-settles, Sentence-settles, Pairs-settles, Words-settles}
+
+-- behind a sentence there are sentences alone, since no word begins with a tab
+abbrev are_sentences : List Kind → Bool
+are_sentences [] = true
+are_sentences (kind.Sentence ∷ ks) = are_sentences ks
+are_sentences (_ ∷ ks) = false
+
+abbrev is_row : List Kind → Bool
+is_row [] = true
+is_row (kind.Sentence ∷ ks) = are_sentences ks
+is_row (_ ∷ ks) = is_row ks
+
+rows : (w : CommandWord) → is_row (entry_of w).kinds ≡ true
+rows word.Ping = refl
+rows _ = refl
+
+sentences_settle : (ks : List Kind) (maker : Maker ks) (rest : List ℕ) → are_sentences ks ≡ true → Settles (Row ks maker rest) (row_at ks maker rest)
+sentences_settle [] maker rest h = made
+sentences_settle (kind.Sentence ∷ ks) maker rest h = Sentence-settles _ (λ s r. sentences_settle ks (maker s) r h) rest
+sentences_settle (_ ∷ ks) maker rest h = absurd (let n : ⊥ = cc in n)
+
+row_settles : (ks : List Kind) (maker : Maker ks) (rest : List ℕ) → EndsWord rest → is_row ks ≡ true → Settles (Row ks maker rest) (row_at ks maker rest)
+row_settles [] maker rest e h = made
+row_settles (kind.Word ∷ ks) maker rest e h = Word-settles _ (λ x r e. row_settles ks (maker x) r e h) rest e
+row_settles (kind.OptionalWord ∷ ks) maker rest e h = Optional-settles _ (λ x r e. row_settles ks (maker x) r e h) rest e
+row_settles (kind.Name ∷ ks) maker rest e h = Name-settles _ (λ x r e. row_settles ks (maker x) r e h) rest e
+row_settles (kind.Natural high ∷ ks) maker rest e h = Natural-settles _ (λ x r e. row_settles ks (maker x) r e h) rest e
+row_settles (kind.Wide ∷ ks) maker rest e h = Wide-settles _ (λ x r e. row_settles ks (maker x) r e h) rest e
+row_settles (kind.Flag ∷ ks) maker rest e h = Flag-settles _ (λ x r e. row_settles ks (maker x) r e h) rest e
+row_settles (kind.Sentence ∷ ks) maker rest e h = Sentence-settles _ (λ x r. sentences_settle ks (maker x) r h) rest
+row_settles (kind.Text ∷ ks) maker rest e h = Text-settles _ (λ x. row_settles ks (maker x) [] tt h) rest
+row_settles (kind.Pairs ∷ ks) maker rest e h = Pairs-settles _ (λ x. row_settles ks (maker x) [] tt h) rest
+row_settles (kind.Words ∷ ks) maker rest e h = Words-settles _ (λ x. row_settles ks (maker x) [] tt h) rest e
 
 pub form_settles : (o : Option CommandWord) (rest : List ℕ) → EndsWord rest → Settles (Form o rest) (known_at o rest)
-unfolding named_battle
 form_settles None rest e = fault_made
 form_settles (Some word.Ping) rest e = made
-form_settles (Some word.Exit) rest e = made
-form_settles (Some word.Login) rest e =
-    Word-settles _ (λ user_name. Word-settles _ (λ password. Wide-settles _ (λ cpu. Word-settles _ (λ local_ip r e. Sentences-settles _ (Sentence-settles _ (λ lobby more. made)) r)))) rest e
-form_settles (Some word.MyStatus) rest e = Natural-settles _ (λ status r e. made) rest e
-form_settles (Some word.Channels) rest e = made
-form_settles (Some word.Join) rest e = Name-settles _ (λ channel. Optional-settles _ (λ key r e. made)) rest e
-form_settles (Some word.Leave) rest e = Name-settles _ (λ channel r e. made) rest e
-form_settles (Some word.Say) rest e = Name-settles _ (λ channel r e. Text-settles _ (λ text. made) r) rest e
-form_settles (Some word.SayEx) rest e = Name-settles _ (λ channel r e. Text-settles _ (λ text. made) r) rest e
-form_settles (Some word.SayPrivate) rest e = Name-settles _ (λ user r e. Text-settles _ (λ text. made) r) rest e
-form_settles (Some word.OpenBattle) rest e =
-    Natural-settles _ (λ battle_type. Natural-settles _ (λ nat_type. Word-settles _ (λ password. Natural-settles _ (λ port. Natural-settles _ (λ max_players.
-    Wide-settles _ (λ game_hash. Wide-settles _ (λ rank. Wide-settles _ (λ map_hash r e.
-    Sentences-settles _ (Sentence-settles _ (λ engine_name. Sentence-settles _ (λ engine_version. Sentence-settles _ (λ map. Sentence-settles _ (λ title.
-    Sentence-settles _ (λ game_name more. made)))))) r)))))))) rest e
-form_settles (Some word.JoinBattle) rest e = Natural-settles _ (λ battle. Optional-settles _ (λ password. Optional-settles _ (λ script_password r e. made))) rest e
-form_settles (Some word.LeaveBattle) rest e = made
-form_settles (Some word.UpdateBattleInfo) rest e =
-    Natural-settles _ (λ spectator_count. Flag-settles _ (λ locked. Wide-settles _ (λ map_hash r e. Sentences-settles _ (Sentence-settles _ (λ map more. made)) r))) rest e
-form_settles (Some word.MyBattleStatus) rest e = Natural-settles _ (λ battle_status. Wide-settles _ (λ team_color r e. made)) rest e
-form_settles (Some word.SayBattle) rest e = Text-settles _ (λ text. made) rest
-form_settles (Some word.SayBattleEx) rest e = Text-settles _ (λ text. made) rest
-form_settles (Some word.AddBot) rest e =
-    Word-settles _ (λ bot. Natural-settles _ (λ battle_status. Wide-settles _ (λ team_color r e. Sentences-settles _ (Sentence-settles _ (λ ai more. made)) r))) rest e
-form_settles (Some word.UpdateBot) rest e = Word-settles _ (λ bot. Natural-settles _ (λ battle_status. Wide-settles _ (λ team_color r e. made))) rest e
-form_settles (Some word.RemoveBot) rest e = Word-settles _ (λ bot r e. made) rest e
-form_settles (Some word.AddStartRect) rest e =
-    Natural-settles _ (λ ally_no. Natural-settles _ (λ left. Natural-settles _ (λ top. Natural-settles _ (λ right. Natural-settles _ (λ bottom r e. made))))) rest e
-form_settles (Some word.RemoveStartRect) rest e = Natural-settles _ (λ ally_no r e. made) rest e
-form_settles (Some word.SetScriptTags) rest e = Pairs-settles _ (λ pairs. made) rest
-form_settles (Some word.RemoveScriptTags) rest e = Words-settles _ (λ keys. made) rest e
-form_settles (Some word.Handicap) rest e = Name-settles _ (λ user. Natural-settles _ (λ value r e. made)) rest e
-form_settles (Some word.ForceTeamNo) rest e = Name-settles _ (λ user. Natural-settles _ (λ number r e. made)) rest e
-form_settles (Some word.ForceAllyNo) rest e = Name-settles _ (λ user. Natural-settles _ (λ number r e. made)) rest e
-form_settles (Some word.ForceTeamColor) rest e = Name-settles _ (λ user. Wide-settles _ (λ team_color r e. made)) rest e
-form_settles (Some word.ForceSpectatorMode) rest e = Name-settles _ (λ user r e. made) rest e
-form_settles (Some word.KickFromBattle) rest e = Name-settles _ (λ user r e. made) rest e
-form_settles (Some word.Ring) rest e = Name-settles _ (λ user r e. made) rest e
+form_settles (Some w) rest e = row_settles (entry_of w).kinds (entry_of w).maker rest e (rows w)

@@ -4,6 +4,7 @@ use Rattle.std.specs.Prelude.{◌≡◌, ℕ, ℤ, pos, negsuc, ◌≤ℤ◌, Bo
 use Rattle.std.specs.List.{list_any}
 use Rattle.line_words.specs.Bytes.{has_byte, is_spaces, is_name, is_key}
 use Rattle.line_words.specs.Numbers.{IsNumeral}
+use Rattle.line_words.specs.Parts.{before, from}
 use Rattle.line_words.specs.Sentences.{between_tabs}
 use Rattle.line_words.specs.Words.{NextWord}
 use Rattle.line_words.specs.declared.lists.Pair.{Pair}
@@ -53,14 +54,10 @@ abbrev pub Text : (List ℕ → Command → Type 0) → List ℕ → Command →
 Text K [] c = IsFault fault.MissingArgument c
 Text K (space ∷ text) c = K text c
 
--- the sentences of a text, which tabs part
-abbrev pub Sentences : (List (List ℕ) → Command → Type 0) → List ℕ → Command → Type 0
-Sentences K = Text (λ text. K (between_tabs text))
-
--- the next of the sentences; too few are a missing argument
-abbrev pub Sentence : (List ℕ → List (List ℕ) → Command → Type 0) → List (List ℕ) → Command → Type 0
+-- a sentence: all behind exactly one byte, the space or the tab before it, up to the next tab; without that byte it is missing
+abbrev pub Sentence : (List ℕ → List ℕ → Command → Type 0) → List ℕ → Command → Type 0
 Sentence K [] c = IsFault fault.MissingArgument c
-Sentence K (sentence ∷ more) c = K sentence more c
+Sentence K (mark ∷ text) c = K (before 9 text) (from 9 text) c
 
 -- `key=value`: the key is a word without `=`, and the value all behind the `=`
 pub record IsPair (sentence : List ℕ) (p : Pair) : Type 0 where
@@ -79,9 +76,9 @@ abbrev pub AtLeastOne : {A : Type 0} → (List A → Command → Type 0) → Lis
 AtLeastOne K [] c = IsFault fault.MissingArgument c
 AtLeastOne K (x ∷ xs) c = K (x ∷ xs) c
 
--- the pairs among the sentences, at least one
+-- the pairs among the sentences of a text, which tabs part, at least one
 abbrev pub Pairs : (List Pair → Command → Type 0) → List ℕ → Command → Type 0
-Pairs K = Sentences (PairsIn (AtLeastOne K))
+Pairs K = Text (λ text. PairsIn (AtLeastOne K) (between_tabs text))
 
 -- rest is these words, each behind one or more spaces, and spaces
 abbrev pub AreWords : List ℕ → List (List ℕ) → Type 0

@@ -1,3 +1,4 @@
+pub mod Table
 pub mod Arguments
 pub mod Forms
 pub mod Owning

@@ -1,40 +1,21 @@
 -- Which commands own bytes, and so take memory.
-use Rattle.std.specs.Prelude.{Bool, true, false, ◌||◌, is_some}
+use Rattle.std.specs.Prelude.{Bool, true, false, ◌||◌, is_some, List, [], ◌∷◌}
 use Rattle.command_grammar.specs.declared.command.Command.{Command}
-use Rattle.command_grammar.specs.declared.command.Command.TheVariants as command
+use Rattle.command_grammar.specs.Table.{Kind, Natural, Wide, Flag, OptionalWord, Value, Values, arguments_of}
 
--- the command has a word, name, sentence, text or list of its own; each command is named, so that none is forgotten
+-- numbers own no bytes; all else does, if it is there
+abbrev pub owns : (k : Kind) → Value k → Bool
+owns (Natural high) n = false
+owns Wide z = false
+owns Flag b = false
+owns OptionalWord o = is_some o
+owns k x = true
+
+-- one of those before does, or one of these
+abbrev pub any_owns : Bool → (ks : List Kind) → Values ks → Bool
+any_owns before [] xs = before
+any_owns before (k ∷ ks) xs = any_owns (before || owns k xs.0) ks xs.1
+
+-- the command has a word, name, sentence, text or list of its own
 abbrev pub owns_bytes : Command → Bool
-owns_bytes command.Blank = false
-owns_bytes (command.Unread fault) = false
-owns_bytes (command.Login user_name password cpu local_ip lobby) = true
-owns_bytes command.Ping = false
-owns_bytes command.Channels = false
-owns_bytes command.LeaveBattle = false
-owns_bytes command.Exit = false
-owns_bytes (command.MyStatus status) = false
-owns_bytes (command.Join channel key) = true
-owns_bytes (command.Leave channel) = true
-owns_bytes (command.Say channel text) = true
-owns_bytes (command.SayEx channel text) = true
-owns_bytes (command.SayPrivate user text) = true
-owns_bytes (command.OpenBattle battle_type nat_type password port max_players game_hash rank map_hash engine_name engine_version map title game_name) = true
-owns_bytes (command.JoinBattle battle password script_password) = is_some password || is_some script_password
-owns_bytes (command.UpdateBattleInfo spectator_count locked map_hash map) = true
-owns_bytes (command.MyBattleStatus battle_status team_color) = false
-owns_bytes (command.SayBattle text) = true
-owns_bytes (command.SayBattleEx text) = true
-owns_bytes (command.AddBot bot battle_status team_color ai) = true
-owns_bytes (command.UpdateBot bot battle_status team_color) = true
-owns_bytes (command.RemoveBot bot) = true
-owns_bytes (command.AddStartRect ally_no left top right bottom) = false
-owns_bytes (command.RemoveStartRect ally_no) = false
-owns_bytes (command.SetScriptTags pairs) = true
-owns_bytes (command.RemoveScriptTags keys) = true
-owns_bytes (command.Handicap user value) = true
-owns_bytes (command.ForceTeamNo user number) = true
-owns_bytes (command.ForceAllyNo user number) = true
-owns_bytes (command.ForceTeamColor user team_color) = true
-owns_bytes (command.ForceSpectatorMode user) = true
-owns_bytes (command.KickFromBattle user) = true
-owns_bytes (command.Ring user) = true
+owns_bytes c = any_owns false (arguments_of c).kinds (arguments_of c).values

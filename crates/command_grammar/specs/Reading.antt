@@ -16,6 +16,8 @@ use Rattle.command_grammar.specs.declared.fault.ReadError.{ReadError}
 use Rattle.command_grammar.specs.declared.fault.ReadError.TheVariants as errors
 use Rattle.command_grammar.specs.Owning.{owns_bytes}
 use Rattle.command_grammar.specs.Forms.{command_named}
+use Rattle.command_grammar.specs.Table as kind
+use Rattle.command_grammar.specs.Table.{Kind, Value, Maker, entry_of}
 use Rattle.command_grammar.specs.Reads.{id_limit}
 
 -- one reading after another: the first fault ends it
@@ -132,16 +134,11 @@ unfoldable pub text_at : List ℕ → Result (List ℕ) ReadFault
 text_at [] = Err fault.MissingArgument
 text_at (space ∷ text) = Ok text
 
--- the sentences of all behind one space
-unfoldable pub sentences_at : List ℕ → Result (List (List ℕ)) ReadFault
-sentences_at rest = do
+-- all behind one byte, up to the next tab, and what stands from there on
+unfoldable pub sentence_at : List ℕ → Result (List ℕ × List ℕ) ReadFault
+sentence_at rest = do
   text ← text_at rest
-  Ok (between_tabs text)
-
--- the next sentence, and those behind it
-unfoldable pub sentence_in : List (List ℕ) → Result (List ℕ × List (List ℕ)) ReadFault
-sentence_in [] = Err fault.MissingArgument
-sentence_in (sentence ∷ more) = Ok (sentence, more)
+  Ok (before 9 text, from 9 text)
 
 -- the pair of a key and a value
 abbrev pub pair : List ℕ → List ℕ → Pair
@@ -204,141 +201,28 @@ words_in rest = without_empty (between 32 rest)
 unfoldable pub words_at : List ℕ → Result (List (List ℕ)) ReadFault
 words_at rest = if has_byte 9 rest then Err fault.BadByte else at_least_one (words_in rest)
 
--- the battle of these arguments, and of the sentences of the rest
-unfoldable pub named_battle : ℕ → ℕ → List ℕ → ℕ → ℕ → ℤ → ℤ → ℤ → List ℕ → Result Command ReadFault
-named_battle battle_type nat_type password port max_players game_hash rank map_hash rest = do
-  sentences ← sentences_at rest
-  engine_name ← sentence_in sentences
-  engine_version ← sentence_in engine_name.1
-  map ← sentence_in engine_version.1
-  title ← sentence_in map.1
-  game_name ← sentence_in title.1
-  Ok (command.OpenBattle battle_type nat_type password port max_players game_hash rank map_hash engine_name.0 engine_version.0 map.0 title.0 game_name.0)
+-- the next argument, of this kind, and what comes of it and its own rest
+abbrev pub argument_at : (k : Kind) → (Value k → List ℕ → Result Command ReadFault) → List ℕ → Result Command ReadFault
+argument_at kind.Word K rest = word_at rest >>= λ x. K x.0 x.1
+argument_at kind.OptionalWord K rest = optional_at rest >>= λ x. K x.0 x.1
+argument_at kind.Name K rest = name_at rest >>= λ x. K x.0 x.1
+argument_at (kind.Natural high) K rest = natural_at high rest >>= λ x. K x.0 x.1
+argument_at kind.Wide K rest = wide_at rest >>= λ x. K x.0 x.1
+argument_at kind.Flag K rest = flag_at rest >>= λ x. K x.0 x.1
+argument_at kind.Sentence K rest = sentence_at rest >>= λ x. K x.0 x.1
+argument_at kind.Text K rest = text_at rest >>= λ text. K text []
+argument_at kind.Pairs K rest = pairs_at rest >>= λ pairs. K pairs []
+argument_at kind.Words K rest = words_at rest >>= λ words. K words []
 
--- what the form of a command makes of the rest of its line
+-- arguments of these kinds one after another, and the command that they make
+abbrev pub row_at : (kinds : List Kind) → Maker kinds → List ℕ → Result Command ReadFault
+row_at [] made rest = Ok made
+row_at (k ∷ ks) maker rest = argument_at k (λ x. row_at ks (maker x)) rest
+
+-- what the form of a command makes of the rest of its line; it goes by cases of the word, as the reader does
 abbrev pub arguments_at : CommandWord → List ℕ → Result Command ReadFault
 arguments_at word.Ping rest = Ok command.Ping
-arguments_at word.Exit rest = Ok command.Exit
-arguments_at word.Login rest = do
-  user_name ← word_at rest
-  password ← word_at user_name.1
-  cpu ← wide_at password.1
-  local_ip ← word_at cpu.1
-  sentences ← sentences_at local_ip.1
-  lobby ← sentence_in sentences
-  Ok (command.Login user_name.0 password.0 cpu.0 local_ip.0 lobby.0)
-arguments_at word.MyStatus rest = do
-  status ← natural_at 4294967295 rest
-  Ok (command.MyStatus status.0)
-arguments_at word.Channels rest = Ok command.Channels
-arguments_at word.Join rest = do
-  channel ← name_at rest
-  key ← optional_at channel.1
-  Ok (command.Join channel.0 key.0)
-arguments_at word.Leave rest = do
-  channel ← name_at rest
-  Ok (command.Leave channel.0)
-arguments_at word.Say rest = do
-  channel ← name_at rest
-  text ← text_at channel.1
-  Ok (command.Say channel.0 text)
-arguments_at word.SayEx rest = do
-  channel ← name_at rest
-  text ← text_at channel.1
-  Ok (command.SayEx channel.0 text)
-arguments_at word.SayPrivate rest = do
-  user ← name_at rest
-  text ← text_at user.1
-  Ok (command.SayPrivate user.0 text)
-arguments_at word.OpenBattle rest = do
-  battle_type ← natural_at 1 rest
-  nat_type ← natural_at 2 battle_type.1
-  password ← word_at nat_type.1
-  port ← natural_at 65535 password.1
-  max_players ← natural_at 65535 port.1
-  game_hash ← wide_at max_players.1
-  rank ← wide_at game_hash.1
-  map_hash ← wide_at rank.1
-  named_battle battle_type.0 nat_type.0 password.0 port.0 max_players.0 game_hash.0 rank.0 map_hash.0 map_hash.1
-arguments_at word.JoinBattle rest = do
-  battle ← natural_at 2147483647 rest
-  password ← optional_at battle.1
-  script_password ← optional_at password.1
-  Ok (command.JoinBattle battle.0 password.0 script_password.0)
-arguments_at word.LeaveBattle rest = Ok command.LeaveBattle
-arguments_at word.UpdateBattleInfo rest = do
-  spectator_count ← natural_at 65535 rest
-  locked ← flag_at spectator_count.1
-  map_hash ← wide_at locked.1
-  sentences ← sentences_at map_hash.1
-  map ← sentence_in sentences
-  Ok (command.UpdateBattleInfo spectator_count.0 locked.0 map_hash.0 map.0)
-arguments_at word.MyBattleStatus rest = do
-  battle_status ← natural_at 4294967295 rest
-  team_color ← wide_at battle_status.1
-  Ok (command.MyBattleStatus battle_status.0 team_color.0)
-arguments_at word.SayBattle rest = do
-  text ← text_at rest
-  Ok (command.SayBattle text)
-arguments_at word.SayBattleEx rest = do
-  text ← text_at rest
-  Ok (command.SayBattleEx text)
-arguments_at word.AddBot rest = do
-  bot ← word_at rest
-  battle_status ← natural_at 4294967295 bot.1
-  team_color ← wide_at battle_status.1
-  sentences ← sentences_at team_color.1
-  ai ← sentence_in sentences
-  Ok (command.AddBot bot.0 battle_status.0 team_color.0 ai.0)
-arguments_at word.UpdateBot rest = do
-  bot ← word_at rest
-  battle_status ← natural_at 4294967295 bot.1
-  team_color ← wide_at battle_status.1
-  Ok (command.UpdateBot bot.0 battle_status.0 team_color.0)
-arguments_at word.RemoveBot rest = do
-  bot ← word_at rest
-  Ok (command.RemoveBot bot.0)
-arguments_at word.AddStartRect rest = do
-  ally_no ← natural_at 15 rest
-  left ← natural_at 200 ally_no.1
-  top ← natural_at 200 left.1
-  right ← natural_at 200 top.1
-  bottom ← natural_at 200 right.1
-  Ok (command.AddStartRect ally_no.0 left.0 top.0 right.0 bottom.0)
-arguments_at word.RemoveStartRect rest = do
-  ally_no ← natural_at 15 rest
-  Ok (command.RemoveStartRect ally_no.0)
-arguments_at word.SetScriptTags rest = do
-  pairs ← pairs_at rest
-  Ok (command.SetScriptTags pairs)
-arguments_at word.RemoveScriptTags rest = do
-  keys ← words_at rest
-  Ok (command.RemoveScriptTags keys)
-arguments_at word.Handicap rest = do
-  user ← name_at rest
-  value ← natural_at 100 user.1
-  Ok (command.Handicap user.0 value.0)
-arguments_at word.ForceTeamNo rest = do
-  user ← name_at rest
-  number ← natural_at 15 user.1
-  Ok (command.ForceTeamNo user.0 number.0)
-arguments_at word.ForceAllyNo rest = do
-  user ← name_at rest
-  number ← natural_at 15 user.1
-  Ok (command.ForceAllyNo user.0 number.0)
-arguments_at word.ForceTeamColor rest = do
-  user ← name_at rest
-  team_color ← wide_at user.1
-  Ok (command.ForceTeamColor user.0 team_color.0)
-arguments_at word.ForceSpectatorMode rest = do
-  user ← name_at rest
-  Ok (command.ForceSpectatorMode user.0)
-arguments_at word.KickFromBattle rest = do
-  user ← name_at rest
-  Ok (command.KickFromBattle user.0)
-arguments_at word.Ring rest = do
-  user ← name_at rest
-  Ok (command.Ring user.0)
+arguments_at w rest = row_at (entry_of w).kinds (entry_of w).maker rest
 
 -- the command of a command word and its rest
 abbrev pub known_at : Option CommandWord → List ℕ → Result Command ReadFault

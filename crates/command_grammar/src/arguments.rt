@@ -3,12 +3,11 @@
 
 ghost use Rattle.std.specs.Prelude.{◌≡◌, ◌≤◌, ℤ, ◌≤ℤ◌, IfOk, IfSome, IsTrue, Some, None, Ok, Err};
 ghost use Rattle.std.specs.Option.{option_map};
-ghost use Rattle.std.specs.List.{list_all};
 ghost use Rattle.line_words.specs.Bytes.{has_byte, is_name, is_sentence, is_text, is_word};
-ghost use Rattle.command_grammar.specs.Reading.{seen, word_at, optional_at, name_at, number_in, number_at, natural_at, wide_at, flag_at, text_at, sentences_at, sentence_in};
+ghost use Rattle.command_grammar.specs.Reading.{seen, word_at, optional_at, name_at, number_in, number_at, natural_at, wide_at, flag_at, text_at, sentence_at};
 
 use crate::command::ReadFault;
-use line_words::{Sentences, Words, is_name, read_number, split_sentences};
+use line_words::{Words, is_name, read_number, split_at_byte};
 
 /// The next word.
 #[tactic(auto, unfolding(crate::specs::Reading::word_at))]
@@ -135,24 +134,14 @@ pub(crate) fn text_at(rest: &[u8]) -> Result<&[u8], ReadFault>
     }
 }
 
-/// The sentences behind one space.
-#[tactic(auto, unfolding(crate::specs::Reading::sentences_at))]
-pub(crate) fn sentences_at(rest: &[u8]) -> Result<Sentences<'_>, ReadFault>
+/// All behind one byte, the space or the tab before it, up to the next tab, and the rest from there on.
+#[tactic(auto, unfolding(crate::specs::Reading::sentence_at), using(crate::proofs::Slices::sentence_front, crate::proofs::Slices::text_behind))]
+pub(crate) fn sentence_at(rest: &[u8]) -> Result<(&[u8], &[u8]), ReadFault>
     requires { IsTrue (is_text rest.now) }
-    ensures value { sentences_at rest.now ≡ seen (λ x. x) result }
-    ensures sentences { IfOk result (λ x. IsTrue (list_all is_sentence x)) }
+    ensures value { sentence_at rest.now ≡ seen (λ x. (x.0.now, x.1.now)) result }
+    ensures sentence { IfOk result (λ x. IsTrue (is_sentence x.0.now)) }
+    ensures text { IfOk result (λ x. IsTrue (is_text x.1.now)) }
 {
     let text = text_at(rest)?;
-    Ok(split_sentences(text))
-}
-
-/// The next sentence.
-#[tactic(auto, unfolding(crate::specs::Reading::sentence_in))]
-pub(crate) fn sentence_in<'a>(sentences: &mut Sentences<'a>) -> Result<&'a [u8], ReadFault>
-    requires { IsTrue (list_all is_sentence sentences.old) }
-    ensures value { sentence_in sentences.old ≡ seen (λ x. (x.now, sentences.new)) result }
-    ensures sentence { IfOk result (λ x. IsTrue (is_sentence x.now)) }
-    ensures sentences { IsTrue (list_all is_sentence sentences.new) }
-{
-    sentences.next().ok_or(ReadFault::MissingArgument)
+    Ok(split_at_byte(text, b'\t'))
 }

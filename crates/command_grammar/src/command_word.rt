@@ -1,7 +1,8 @@
 //! The command words.
 
 ghost use Rattle.std.specs.Prelude.{◌≡◌};
-ghost use Rattle.command_grammar.specs.Forms.{command_named, is_same, word_of};
+ghost use Rattle.command_grammar.specs.Forms.{command_named, is_same};
+ghost use Rattle.command_grammar.specs.Table.{entry_of};
 
 /// The commands by their first word.
 #[derive(Clone, Copy, PartialEq, Eq, Debug)]
@@ -77,7 +78,7 @@ const ALL: [CommandWord; 31] = [
 impl CommandWord {
     /// The word as it is sent.
     fn text(self) -> &'static [u8]
-        ensures { result.now ≡ word_of self }
+        ensures { result.now ≡ (entry_of self).word }
     {
         match self {
             CommandWord::Ping => b"PING",

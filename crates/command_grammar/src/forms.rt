@@ -1,14 +1,16 @@
 //! One reader for each command that has arguments: all arguments are read first, and those that are
 //! kept are copied then, so that a fault takes no memory.
 
-ghost use Rattle.std.specs.Prelude.{◌≡◌, IfOk, IfSome, IsTrue, OnErr, is_some};
+ghost use Rattle.std.specs.Prelude.{◌≡◌, ◌∷◌, IfOk, IfSome, IsTrue, OnErr, is_some};
 ghost use Rattle.std.specs.Option.{option_map};
-ghost use Rattle.line_words.specs.Bytes.{is_text, is_word};
+ghost use Rattle.line_words.specs.Bytes.{is_sentence, is_text, is_word};
+ghost use Rattle.command_grammar.specs.declared.command.Command.TheVariants as command;
 ghost use Rattle.command_grammar.specs.declared.command_word.CommandWord.TheVariants as words;
-ghost use Rattle.command_grammar.specs.Reading.{Gives, arguments_at, named_battle};
+ghost use Rattle.command_grammar.specs.Reading.{Gives, arguments_at, row_at};
+ghost use Rattle.command_grammar.specs.Table.{Wide, battle_titles};
 
 use crate::arguments::{
-    flag_at, name_at, natural_at, optional_at, sentence_in, sentences_at, text_at, wide_at, word_at,
+    flag_at, name_at, natural_at, optional_at, sentence_at, text_at, wide_at, word_at,
 };
 use crate::command::Command;
 use crate::fault::ReadError;
@@ -24,8 +26,26 @@ pub(crate) fn login(alloc: Global, rest: &[u8]) -> Result<Command, ReadError>
     let (password, rest) = word_at(rest)?;
     let (cpu, rest) = wide_at(rest)?;
     let (local_ip, rest) = word_at(rest)?;
-    let mut sentences = sentences_at(rest)?;
-    let lobby = sentence_in(&mut sentences)?;
+    let (lobby, _) = sentence_at(rest)?;
+    Ok(copy_of_login(alloc, user_name, password, cpu, local_ip, lobby)?)
+}
+
+// Copies have functions of their own where there are many: each `?` that can leave a copy behind is
+// proved with what lets it go.
+fn copy_of_login(
+    alloc: Global,
+    user_name: &[u8],
+    password: &[u8],
+    cpu: i64,
+    local_ip: &[u8],
+    lobby: &[u8],
+) -> Result<Command, AllocError>
+    requires user_name { IsTrue (is_word user_name.now) }
+    requires password { IsTrue (is_word password.now) }
+    requires local_ip { IsTrue (is_word local_ip.now) }
+    requires lobby { IsTrue (is_sentence lobby.now) }
+    ensures { IfOk result (λ c. c ≡ command.Login user_name.now password.now cpu local_ip.now lobby.now) }
+{
     Ok(Command::Login {
         user_name: WordBuf::copy_of(alloc, user_name)?,
         password: WordBuf::copy_of(alloc, password)?,
@@ -110,64 +130,139 @@ pub(crate) fn open_battle(alloc: Global, rest: &[u8]) -> Result<Command, ReadErr
     let (password, rest) = word_at(rest)?;
     let (port, rest) = natural_at(rest, 65535)?;
     let (max_players, rest) = natural_at(rest, 65535)?;
-    let (game_hash, rest) = wide_at(rest)?;
-    let (rank, rest) = wide_at(rest)?;
-    let (map_hash, rest) = wide_at(rest)?;
-    let battle = LentBattle {
+    let host = LentHost {
         battle_type: battle_type as u8,
         nat_type: nat_type as u8,
         password,
         port: port as u16,
         max_players: max_players as u16,
-        game_hash,
-        rank,
-        map_hash,
     };
-    named_battle(alloc, &battle, rest)
+    hashed_battle(alloc, &host, rest)
 }
 
-// What stands before the sentences of OPENBATTLE.
+// What stands before the hashes of OPENBATTLE.
 #[derive(Drop)]
-struct LentBattle<'a> {
+struct LentHost<'a> {
     battle_type: u8,
     nat_type: u8,
     password: &'a [u8],
     port: u16,
     max_players: u16,
+}
+
+// The hashes and the rank of OPENBATTLE. They and the sentences have functions of their own, since one
+// over all its arguments is proved far slower.
+fn hashed_battle(alloc: Global, host: &LentHost<'_>, rest: &[u8]) -> Result<Command, ReadError>
+    requires text { IsTrue (is_text rest.now) }
+    requires password { IsTrue (is_word host.now.password.now) }
+    ensures { Gives result (row_at (Wide ∷ Wide ∷ Wide ∷ battle_titles) (command.OpenBattle host.now.battle_type host.now.nat_type host.now.password.now host.now.port host.now.max_players) rest.now) }
+{
+    let (game_hash, rest) = wide_at(rest)?;
+    let (rank, rest) = wide_at(rest)?;
+    let (map_hash, rest) = wide_at(rest)?;
+    let hashes = Hashes {
+        game_hash,
+        rank,
+        map_hash,
+    };
+    named_battle(alloc, host, &hashes, rest)
+}
+
+// The hashes and the rank of OPENBATTLE.
+#[derive(Drop)]
+struct Hashes {
     game_hash: i64,
     rank: i64,
     map_hash: i64,
 }
 
-// The sentences of OPENBATTLE. They have a function of their own, since one over all its arguments is
-// proved far slower.
-#[tactic(auto, unfolding(crate::specs::Reading::named_battle))]
-fn named_battle(alloc: Global, battle: &LentBattle<'_>, rest: &[u8]) -> Result<Command, ReadError>
+// The sentences of OPENBATTLE.
+fn named_battle(
+    alloc: Global,
+    host: &LentHost<'_>,
+    hashes: &Hashes,
+    rest: &[u8],
+) -> Result<Command, ReadError>
     requires text { IsTrue (is_text rest.now) }
-    requires password { IsTrue (is_word battle.now.password.now) }
-    ensures { Gives result (named_battle battle.now.battle_type battle.now.nat_type battle.now.password.now battle.now.port battle.now.max_players battle.now.game_hash battle.now.rank battle.now.map_hash rest.now) }
+    requires password { IsTrue (is_word host.now.password.now) }
+    ensures { Gives result (row_at battle_titles (command.OpenBattle host.now.battle_type host.now.nat_type host.now.password.now host.now.port host.now.max_players hashes.now.game_hash hashes.now.rank hashes.now.map_hash) rest.now) }
 {
-    let mut sentences = sentences_at(rest)?;
-    let engine_name = sentence_in(&mut sentences)?;
-    let engine_version = sentence_in(&mut sentences)?;
-    let map = sentence_in(&mut sentences)?;
-    let title = sentence_in(&mut sentences)?;
-    let game_name = sentence_in(&mut sentences)?;
+    let (engine_name, rest) = sentence_at(rest)?;
+    let (engine_version, rest) = sentence_at(rest)?;
+    let (map, rest) = sentence_at(rest)?;
+    let (title, rest) = sentence_at(rest)?;
+    let (game_name, _) = sentence_at(rest)?;
+    let titles = LentTitles {
+        engine_name,
+        engine_version,
+        map,
+        title,
+        game_name,
+    };
+    Ok(copy_of_battle(alloc, host, hashes, &titles)?)
+}
+
+// The sentences of OPENBATTLE.
+#[derive(Drop)]
+struct LentTitles<'a> {
+    engine_name: &'a [u8],
+    engine_version: &'a [u8],
+    map: &'a [u8],
+    title: &'a [u8],
+    game_name: &'a [u8],
+}
+
+fn copy_of_battle(
+    alloc: Global,
+    host: &LentHost<'_>,
+    hashes: &Hashes,
+    titles: &LentTitles<'_>,
+) -> Result<Command, AllocError>
+    requires password { IsTrue (is_word host.now.password.now) }
+    requires engine_name { IsTrue (is_sentence titles.now.engine_name.now) }
+    requires engine_version { IsTrue (is_sentence titles.now.engine_version.now) }
+    requires map { IsTrue (is_sentence titles.now.map.now) }
+    requires title { IsTrue (is_sentence titles.now.title.now) }
+    requires game_name { IsTrue (is_sentence titles.now.game_name.now) }
+    ensures { IfOk result (λ c. c ≡ command.OpenBattle host.now.battle_type host.now.nat_type host.now.password.now host.now.port host.now.max_players hashes.now.game_hash hashes.now.rank hashes.now.map_hash titles.now.engine_name.now titles.now.engine_version.now titles.now.map.now titles.now.title.now titles.now.game_name.now) }
+{
+    let password = WordBuf::copy_of(alloc, host.password)?;
+    let (engine_name, engine_version) = copy_of_two(
+        alloc,
+        titles.engine_name,
+        titles.engine_version,
+    )?;
+    let (map, title) = copy_of_two(alloc, titles.map, titles.title)?;
     Ok(Command::OpenBattle {
-        battle_type: battle.battle_type,
-        nat_type: battle.nat_type,
-        password: WordBuf::copy_of(alloc, battle.password)?,
-        port: battle.port,
-        max_players: battle.max_players,
-        game_hash: battle.game_hash,
-        rank: battle.rank,
-        map_hash: battle.map_hash,
-        engine_name: SentenceBuf::copy_of(alloc, engine_name)?,
-        engine_version: SentenceBuf::copy_of(alloc, engine_version)?,
-        map: SentenceBuf::copy_of(alloc, map)?,
-        title: SentenceBuf::copy_of(alloc, title)?,
-        game_name: SentenceBuf::copy_of(alloc, game_name)?,
+        battle_type: host.battle_type,
+        nat_type: host.nat_type,
+        password,
+        port: host.port,
+        max_players: host.max_players,
+        game_hash: hashes.game_hash,
+        rank: hashes.rank,
+        map_hash: hashes.map_hash,
+        engine_name,
+        engine_version,
+        map,
+        title,
+        game_name: SentenceBuf::copy_of(alloc, titles.game_name)?,
     })
+}
+
+fn copy_of_two(
+    alloc: Global,
+    first: &[u8],
+    second: &[u8],
+) -> Result<(SentenceBuf, SentenceBuf), AllocError>
+    requires first { IsTrue (is_sentence first.now) }
+    requires second { IsTrue (is_sentence second.now) }
+    ensures first { IfOk result (λ x. x.0 ≡ first.now) }
+    ensures second { IfOk result (λ x. x.1 ≡ second.now) }
+{
+    let first = SentenceBuf::copy_of(alloc, first)?;
+    let second = SentenceBuf::copy_of(alloc, second)?;
+    Ok((first, second))
 }
 
 pub(crate) fn join_battle(alloc: Global, rest: &[u8]) -> Result<Command, ReadError>
@@ -202,8 +297,7 @@ pub(crate) fn update_battle_info(alloc: Global, rest: &[u8]) -> Result<Command, 
     let (spectator_count, rest) = natural_at(rest, 65535)?;
     let (locked, rest) = flag_at(rest)?;
     let (map_hash, rest) = wide_at(rest)?;
-    let mut sentences = sentences_at(rest)?;
-    let map = sentence_in(&mut sentences)?;
+    let (map, _) = sentence_at(rest)?;
     Ok(Command::UpdateBattleInfo {
         spectator_count: spectator_count as u16,
         locked,
@@ -251,8 +345,7 @@ pub(crate) fn add_bot(alloc: Global, rest: &[u8]) -> Result<Command, ReadError>
     let (bot, rest) = word_at(rest)?;
     let (battle_status, rest) = natural_at(rest, 4294967295)?;
     let (team_color, rest) = wide_at(rest)?;
-    let mut sentences = sentences_at(rest)?;
-    let ai = sentence_in(&mut sentences)?;
+    let (ai, _) = sentence_at(rest)?;
     Ok(Command::AddBot {
         bot: WordBuf::copy_of(alloc, bot)?,
         battle_status,

@@ -1,9 +1,9 @@
 //! Requests: what a line of a client asks the lobby for.
 //!
 //! A line is spaces, perhaps a message id (`#7 `), a command word and its arguments. `specs/Reads.antt`
-//! says what a line reads as, `specs/Forms.antt` has the table of commands, and `specs/Arguments.antt`
-//! the kinds of argument. `specs/Reading.antt` says the same as a function, which the readers are proved
-//! by.
+//! says what a line reads as, `specs/Table.antt` has the table of commands, and `specs/Arguments.antt`
+//! says how a line has an argument of each kind. `specs/Reading.antt` says the same as a function, which
+//! the readers are proved by.
 #![tactic(auto)]
 
 mod arguments;

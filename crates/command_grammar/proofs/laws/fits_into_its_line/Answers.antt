@@ -1,4 +1,4 @@
-use Rattle.command_grammar.proofs.SizeTables.{request_fits}
+use Rattle.command_grammar.proofs.Bounds.{request_fits}
 use Rattle.command_grammar.proofs.laws.fits_into_its_line.Goals as goal
 
 pub returns : goal.returns

@@ -1,4 +1,4 @@
-use Rattle.command_grammar.proofs.KindTables.{request_keeps, request_id_keeps}
+use Rattle.command_grammar.proofs.Bounds.{request_keeps, request_id_keeps}
 use Rattle.command_grammar.proofs.laws.keeps_kinds.Goals as goal
 
 pub returns-clause-id : goal.returns-clause-id
