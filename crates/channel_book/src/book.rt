@@ -6,11 +6,11 @@ ghost use Rattle.std.specs.List.Sorted.{IsStrictlySortedBy};
 ghost use Rattle.std.specs.Map.{keys_of};
 ghost use Rattle.std.specs.Map.Iter.{ShowsInOrder, deref_pair};
 ghost use Rattle.line_words.specs.Table.{name_cmp, same_name, is_among};
-ghost use Rattle.channel_book.specs.Channels.{names_in, joined, left, all_left};
+ghost use Rattle.channel_book.specs.Channels.{names_in, names_of, joined, left, all_left};
 ghost use Rattle.channel_book.specs.Book.{AreLively};
 
 use crate::error::ChannelError;
-use crate::members::{Members, is_among};
+use crate::members::Members;
 use line_words::NameBuf;
 use std::alloc::{AllocError, Global};
 use std::collections::BTreeMap;
@@ -20,15 +20,15 @@ use std::marker::Model;
 /// The channels of a lobby by their names, and in each the names of its members in order of
 /// joining. A channel is there while somebody is in it.
 ///
-/// Beside each name the book keeps a mark, a number that the caller gave with it. The book does not
-/// read it, and its contracts say nothing of it: it is for what a caller may look up, and checks.
+/// Beside each name the book keeps a mark, a value of the caller's own. The book does not read it, and
+/// its contracts say nothing of it. A book whose callers have no use for marks keeps none: `M` is `()`.
 #[derive(Drop)]
-pub struct ChannelBook {
+pub struct ChannelBook<M: Copy = ()> {
     alloc: Global,
-    channels: BTreeMap<NameBuf, Members>,
+    channels: BTreeMap<NameBuf, Members<M>>,
 }
 
-impl Model for ChannelBook {
+impl<M: Copy> Model for ChannelBook<M> {
     ghost use Rattle.channel_book.specs.Channels.{Channels};
     ghost use Rattle.channel_book.specs.Book.{AreLively};
 
@@ -40,20 +40,17 @@ impl Model for ChannelBook {
 }
 
 impl ChannelBook {
-    /// A book without channels. It takes no memory yet.
+    /// A book without channels and without marks. It takes no memory yet.
     pub fn new(alloc: Global) -> ChannelBook
         ensures { result ≡ [] }
     {
-        ChannelBook {
-            alloc,
-            channels: BTreeMap::new(alloc),
-        }
+        ChannelBook::with_marks(alloc)
     }
 
     /// A user joins a channel, behind those who are in it. The first who joins makes the channel.
     ///
     /// `AlreadyIn` where the user is in it, else `Memory` where there is none for one name more.
-    /// The names of a refused call are let go, and the book stays as it was. The user's mark is 0.
+    /// The names of a refused call are let go, and the book stays as it was.
     pub fn join(&mut self, channel: NameBuf, user: NameBuf) -> Result<(), ChannelError>
         ensures ok { OnOk result (self.new ≡ joined channel user self.old) }
         ensures already { (result ≡ Err ChannelError.AlreadyIn) ↔ IsTrue (is_among user (names_in self.old channel)) }
@@ -63,19 +60,26 @@ impl ChannelBook {
         if self.has_member(&channel, &user) {
             return Err(ChannelError::AlreadyIn);
         }
-        match self.add_member(channel, user, 0) {
+        match self.add_member(channel, user, ()) {
             Ok(()) => Ok(()),
             Err(AllocError) => Err(ChannelError::Memory),
         }
     }
+}
+
+impl<M: Copy> ChannelBook<M> {
+    /// A book without channels, for members with marks. It takes no memory yet.
+    pub fn with_marks(alloc: Global) -> ChannelBook<M>
+        ensures { result ≡ [] }
+    {
+        ChannelBook {
+            alloc,
+            channels: BTreeMap::new(alloc),
+        }
+    }
 
     /// A user who is not in a channel joins it under a mark. Where memory is refused, nothing changes.
-    pub fn add_member(
-        &mut self,
-        channel: NameBuf,
-        user: NameBuf,
-        mark: usize,
-    ) -> Result<(), AllocError>
+    pub fn add_member(&mut self, channel: NameBuf, user: NameBuf, mark: M) -> Result<(), AllocError>
         requires { is_among user (names_in self.old channel) ≡ false }
         ensures ok { OnOk result (self.new ≡ joined channel user self.old) }
         ensures err { OnErr result (self.new ≡ self.old) }
@@ -134,19 +138,29 @@ impl ChannelBook {
         }
     }
 
-    /// The marks of the members of a channel: hints, of which no contract speaks, their order neither.
-    pub fn marks_in(&self, channel: &NameBuf) -> &[usize] {
+    /// The marks of the members of a channel, in the order of their names.
+    pub fn marks_in(&self, channel: &NameBuf) -> &[M] {
         match self.channels.get(channel) {
             Some(members) => members.marks(),
             None => &[],
         }
     }
 
+    /// The members of a channel, where there is one of that name.
+    pub fn members_in(&self, channel: &NameBuf) -> Option<&Members<M>>
+        ensures { names_of (option_copied result) ≡ names_in self.now channel.now }
+    {
+        self.channels.get(channel)
+    }
+
     /// Whether a user is in a channel.
     pub fn has_member(&self, channel: &NameBuf, user: &NameBuf) -> bool
         ensures { result ≡ is_among user.now (names_in self.now channel.now) }
     {
-        is_among(user, self.names_in(channel))
+        match self.members_in(channel) {
+            Some(members) => members.has_member(user),
+            None => false,
+        }
     }
 
     /// How many are in a channel.
@@ -180,7 +194,7 @@ impl ChannelBook {
     }
 
     /// The channels and their members, in the order of the bytes of the channels' names.
-    pub fn iter(&self) -> Iter<'_, NameBuf, Members>
+    pub fn iter(&self) -> Iter<'_, NameBuf, Members<M>>
         ensures rest { result ≡ self.now }
         ensures runs { ShowsInOrder (deref_pair {K = List ℕ} {X = List (List ℕ)}) }
         ensures ordered { IsStrictlySortedBy name_cmp (keys_of self.now) }
@@ -190,21 +204,21 @@ impl ChannelBook {
     }
 }
 
-impl<'a> IntoIterator for &'a ChannelBook {
+impl<'a, M: Copy> IntoIterator for &'a ChannelBook<M> {
     ghost use Rattle.std.specs.Prelude.{◌≡◌, ◌^◌, ◌<◌, ℕ, List, length};
     ghost use Rattle.std.specs.List.Sorted.{IsStrictlySortedBy};
     ghost use Rattle.std.specs.Map.{keys_of};
     ghost use Rattle.std.specs.Map.Iter.{ShowsInOrder, deref_pair};
     ghost use Rattle.line_words.specs.Table.{name_cmp};
 
-    type Item = (&'a NameBuf, &'a Members);
+    type Item = (&'a NameBuf, &'a Members<M>);
 
-    type IntoIter = Iter<'a, NameBuf, Members>;
+    type IntoIter = Iter<'a, NameBuf, Members<M>>;
 
     ghost into_iter_gives = { λ book r. (r ≡ book.now) × (length book.now < 2 ^ 63)
         × ShowsInOrder (deref_pair {K = List ℕ} {X = List (List ℕ)}) × IsStrictlySortedBy name_cmp (keys_of book.now) };
 
-    fn into_iter(self) -> Iter<'a, NameBuf, Members> {
+    fn into_iter(self) -> Iter<'a, NameBuf, Members<M>> {
         self.iter()
     }
 }

@@ -11,4 +11,4 @@ mod members;
 
 pub use book::ChannelBook;
 pub use error::ChannelError;
-pub use members::{Members, is_among};
+pub use members::Members;

@@ -5,3 +5,4 @@ pub mod Tables
 pub mod Written
 pub mod Once
 pub mod Ties
+pub mod Keyed

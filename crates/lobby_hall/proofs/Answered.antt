@@ -9,10 +9,10 @@ use Rattle.lobby_model.specs.declared.schedule.Step.TheVariants as step
 use Rattle.line_words.specs.Table.{at_number}
 use Rattle.lobby_model.specs.State.{State}
 use Rattle.lobby_model.specs.Next.{next}
-use Rattle.lobby_hall.specs.declared.session.Next.TheVariants.{Line, Spoilt}
+use Rattle.client_session.specs.declared.session.Next.TheVariants.{Line, Spoilt}
 use Rattle.lobby_hall.specs.Record.{Log}
-use Rattle.lobby_hall.specs.Serving.{Serving}
-use Rattle.lobby_hall.specs.OneSession.{Fed, Accepted, IsNextOf}
+use Rattle.client_session.specs.Serving.{Serving}
+use Rattle.client_session.specs.OneSession.{Fed, Accepted, IsNextOf}
 use Rattle.lobby_hall.specs.Standing.{Kept, session_at, TakesStep, StandsAfter}
 use Rattle.lobby_model.specs.declared.event.Event.{Event}
 use Rattle.lobby_model.specs.declared.schedule.Step.{Step}

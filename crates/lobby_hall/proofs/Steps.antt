@@ -24,10 +24,10 @@ use Rattle.lobby_model.proofs.Delivered.{same_itself}
 use Rattle.lobby_model.proofs.Balance.{is_numbered}
 use Rattle.lobby_hall.specs.ByClient.{of_client}
 use Rattle.lobby_hall.specs.Record.{Log, IsRecord}
-use Rattle.lobby_hall.specs.Serving.{Serving}
-use Rattle.lobby_hall.specs.declared.session.Next.TheVariants.{Nothing, Line, Spoilt}
-use Rattle.lobby_hall.specs.Sessions.{Heard, NextAt}
-use Rattle.lobby_hall.specs.OneSession.{Fed, Accepted, IsNextOf}
+use Rattle.client_session.specs.Serving.{Serving}
+use Rattle.client_session.specs.declared.session.Next.TheVariants.{Nothing, Line, Spoilt}
+use Rattle.client_session.specs.Sessions.{Heard, NextAt}
+use Rattle.client_session.specs.OneSession.{Fed, Accepted, IsNextOf}
 use Rattle.lobby_hall.specs.Standing.{Kept, session_of, session_at, SessionOf, Stands, StandsAfter}
 use Rattle.lobby_hall.specs.Copied.{completed, completed_log, IsWithin, changed_at, caught_up, read_on, no_log}
 use Rattle.lobby_hall.proofs.Each.{at_each, not_same}

@@ -10,8 +10,8 @@ use Rattle.lobby_model.specs.History.{after}
 use Rattle.lobby_model.specs.Schedule.{World, Input, input, input_of, is_open, StepGives}
 use Rattle.lobby_hall.specs.ByClient.{of_client}
 use Rattle.lobby_hall.specs.Record.{Log, IsRecord}
-use Rattle.lobby_hall.specs.Serving.{Serving}
-use Rattle.lobby_hall.specs.Sessions.{Heard, has_next}
+use Rattle.client_session.specs.Serving.{Serving}
+use Rattle.client_session.specs.Sessions.{Heard, has_next}
 
 -- What a contract sees of a hall: the plain lobby, what is kept of the bytes of each client that was ever opened (nothing,
 -- once it is removed), and the record of the events so far

@@ -12,14 +12,14 @@ ghost use Rattle.lobby_model.specs.Configuration.{Configuration};
 ghost use Rattle.lobby_model.specs.Next.{next};
 ghost use Rattle.lobby_model.specs.Schedule.{World, new_world};
 ghost use Rattle.lobby_hall.specs.Copied.{IsWithin, changed_at, completed};
-ghost use Rattle.lobby_hall.specs.OneSession.{Accepted};
+ghost use Rattle.client_session.specs.OneSession.{Accepted};
 ghost use Rattle.lobby_hall.specs.Schedules.{IsRecordOf, StandsFor};
 ghost use Rattle.lobby_hall.specs.Standing.{HasHome, Stands, TakesStep, is_ready, session_at};
 
 use crate::record::Record;
-use crate::session::{Next, Session};
 use crate::sessions::{accept, close, feed, is_ready, next_of};
 use account_book::AccountBook;
+use client_session::{Next, Session};
 use command_grammar::Request;
 use lobby_machine::Lobby;
 use lobby_model::{Settings, Step};

@@ -5,10 +5,9 @@
 mod hall;
 mod place;
 mod record;
-mod session;
 mod sessions;
 
+pub use client_session::{Next, Session};
 pub use hall::{Hall, HallError, run};
 pub use lobby_model::Step;
 pub use record::Record;
-pub use session::{Next, Session};

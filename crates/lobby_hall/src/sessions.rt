@@ -5,11 +5,11 @@ ghost use Rattle.std.specs.Prelude.{◌≡◌, ◌≢◌, ℕ, length, IfOk, OnO
 ghost use Rattle.std.specs.Option.{option_copied};
 ghost use Rattle.lobby_hall.specs.Copied.{changed_at};
 ghost use Rattle.lobby_hall.specs.Standing.{session_at};
-ghost use Rattle.lobby_hall.specs.OneSession.{Accepted, Fed, IsNextOf, IsReady};
-ghost use Rattle.lobby_hall.specs.Sessions.{KeepsKinds};
+ghost use Rattle.client_session.specs.OneSession.{Accepted, Fed, IsNextOf, IsReady};
+ghost use Rattle.client_session.specs.Sessions.{KeepsKinds};
 
 use crate::place::place_of;
-use crate::session::{Next, Session};
+use client_session::{Next, Session};
 use line_framer::FeedError;
 use std::alloc::AllocError;
 

@@ -56,7 +56,7 @@ pub enum Change {
 pub fn apply(
     clients: &mut Clients,
     seats: &mut Seats,
-    channels: &mut ChannelBook,
+    channels: &mut ChannelBook<usize>,
     battles: &mut Battles,
     client: u64,
     change: Change,
@@ -106,7 +106,7 @@ pub fn apply(
 
 /// A user, where there is one, leaves all channels, and the battle of this number.
 fn leave_all(
-    channels: &mut ChannelBook,
+    channels: &mut ChannelBook<usize>,
     battles: &mut Battles,
     name: Option<&NameBuf>,
     battle: Option<u32>,

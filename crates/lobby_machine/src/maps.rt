@@ -59,7 +59,7 @@ pub struct Maps {
     greeting_line: Vec<u8>,
     pub(crate) clients: Clients,
     pub(crate) seats: Seats,
-    pub(crate) channels: ChannelBook,
+    pub(crate) channels: ChannelBook<usize>,
     pub(crate) battles: Battles,
     last_client: u64,
 }
@@ -93,7 +93,7 @@ impl Maps {
             accounts,
             greeting_line,
             seats: Seats::new(alloc),
-            channels: ChannelBook::new(alloc),
+            channels: ChannelBook::with_marks(alloc),
             battles: Battles::new(alloc),
             last_client: 0,
         })

@@ -18,7 +18,7 @@ use Rattle.lobby_model.specs.Schedule.{World, Input, input, input_of, is_open, l
 use Rattle.lobby_model.proofs.Delivered.{same_itself}
 use Rattle.lobby_model.proofs.Quiet.{shut_removes}
 use Rattle.lobby_hall.specs.Standing.{Kept, Stands, StandsAfter, SessionOf, is_ready, session_at}
-use Rattle.lobby_hall.specs.Serving.{Serving}
+use Rattle.client_session.specs.Serving.{Serving}
 use Rattle.lobby_script.specs.Acts.{Takes}
 
 -- one take more

@@ -16,8 +16,8 @@ use Rattle.lobby_turns.specs.Seat.{Carried, Seat}
 use Rattle.lobby_turns.specs.Talk.{AreTalk}
 use Rattle.lobby_turns.specs.Went.{Went}
 use Rattle.lobby_turns.specs.Holds.{Made}
-use Rattle.lobby_hall.specs.declared.session.Next.TheVariants.{Nothing, Spoilt}
-use Rattle.lobby_hall.specs.OneSession.{IsNextOf}
+use Rattle.client_session.specs.declared.session.Next.TheVariants.{Nothing, Spoilt}
+use Rattle.client_session.specs.OneSession.{IsNextOf}
 use Rattle.lobby_turns.specs.Hearing.{OnlyReads, IsAllHeard, IsSaid, StepIs, HearsNext, HeardIs, Hears}
 use Rattle.lobby_turns.proofs.Parts.{requests-append, went_none, went_then}
 use Rattle.lobby_turns.proofs.Talks.{are_talk-append, touched-append, calm-append}

@@ -6,10 +6,10 @@ use Rattle.line_framer.specs.Framed.{next_line}
 use Rattle.line_framer.proofs.Stands.{frames-append, spoilt_for_good, next_frame}
 use Rattle.command_grammar.specs.declared.command.Request.{Request}
 use Rattle.lobby_model.specs.Schedule.{line_limit}
-use Rattle.lobby_hall.specs.declared.session.Next.TheVariants.{Line}
-use Rattle.lobby_hall.specs.Serving.{Serving}
-use Rattle.lobby_hall.specs.Sessions.{Heard, IsNext, NextAt}
-use Rattle.lobby_hall.specs.OneSession.{Accepted}
+use Rattle.client_session.specs.declared.session.Next.TheVariants.{Line}
+use Rattle.client_session.specs.Serving.{Serving}
+use Rattle.client_session.specs.Sessions.{Heard, IsNext, NextAt}
+use Rattle.client_session.specs.OneSession.{Accepted}
 use Rattle.lobby_turns.specs.Went.{AreNext}
 
 -- more bytes give more frames, behind those that there were

@@ -7,10 +7,10 @@ use Rattle.lobby_model.specs.declared.event.Event.TheVariants as event
 use Rattle.lobby_model.specs.State.{State}
 use Rattle.lobby_model.specs.Next.{taken_by}
 use Rattle.lobby_lock.specs.Passes.{ShownPass}
-use Rattle.lobby_hall.specs.Serving.{Serving}
-use Rattle.lobby_hall.specs.declared.session.Next.TheVariants.{Line}
-use Rattle.lobby_hall.specs.Sessions.{Heard, IsNext}
-use Rattle.lobby_hall.specs.OneSession.{IsNextOf}
+use Rattle.client_session.specs.Serving.{Serving}
+use Rattle.client_session.specs.declared.session.Next.TheVariants.{Line}
+use Rattle.client_session.specs.Sessions.{Heard, IsNext}
+use Rattle.client_session.specs.OneSession.{IsNextOf}
 use Rattle.lobby_turns.specs.declared.link.Sent.{Sent}
 use Rattle.lobby_turns.specs.declared.link.Sent.TheVariants as sent
 use Rattle.lobby_turns.specs.Wire.{Wire, and_more, sent_count}

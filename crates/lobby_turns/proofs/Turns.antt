@@ -4,9 +4,9 @@ use Rattle.std.specs.Prelude.{◌||◌, Option, Some}
 use Rattle.lobby_model.specs.declared.event.Event.TheVariants as event
 use Rattle.lobby_model.specs.Touched.{touches}
 use Rattle.lobby_post.specs.Mask.{has_home}
-use Rattle.lobby_hall.specs.Serving.{Serving}
-use Rattle.lobby_hall.specs.declared.session.Next.TheVariants.{Nothing, Spoilt}
-use Rattle.lobby_hall.specs.OneSession.{IsNextOf}
+use Rattle.client_session.specs.Serving.{Serving}
+use Rattle.client_session.specs.declared.session.Next.TheVariants.{Nothing, Spoilt}
+use Rattle.client_session.specs.OneSession.{IsNextOf}
 use Rattle.lobby_turns.specs.declared.link.Got.{Got}
 use Rattle.lobby_turns.specs.declared.link.Got.TheVariants as got
 use Rattle.lobby_turns.specs.declared.link.Sent.TheVariants as sent

@@ -1,8 +1,8 @@
 -- What a turn goes on with.
 use Rattle.std.specs.Prelude.{◌≡◌, ℕ, List, ◌++◌, Some}
 use Rattle.lobby_lock.specs.Passes.{ShownPass}
-use Rattle.lobby_hall.specs.Serving.{Serving}
-use Rattle.lobby_hall.specs.Sessions.{Heard}
+use Rattle.client_session.specs.Serving.{Serving}
+use Rattle.client_session.specs.Sessions.{Heard}
 use Rattle.lobby_turns.specs.Wire.{Wire, and_more}
 
 -- What contracts see of a connection: its session, the bytes that were read and not yet fed to it, and those that were drained for its

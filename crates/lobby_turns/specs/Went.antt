@@ -3,8 +3,8 @@ use Rattle.std.specs.Prelude.{◌≡◌, ℕ, ◌+◌, List, [], ◌∷◌, ◌+
 use Rattle.command_grammar.specs.declared.command.Request.{Request}
 use Rattle.lobby_lock.specs.History.{Entry, after_history}
 use Rattle.lobby_lock.specs.Passes.{ShownPass}
-use Rattle.lobby_hall.specs.declared.session.Next.TheVariants.{Line}
-use Rattle.lobby_hall.specs.Sessions.{IsNext}
+use Rattle.client_session.specs.declared.session.Next.TheVariants.{Line}
+use Rattle.client_session.specs.Sessions.{IsNext}
 use Rattle.lobby_turns.specs.Moments.{Moment, moments, requests, drained_for}
 use Rattle.lobby_turns.specs.Seat.{Seat, Carries}
 

@@ -2,16 +2,16 @@
 
 ghost use Rattle.std.specs.Prelude.{◌≡◌, ◌≢◌, ◌↔◌, ◌+◌, ◌≤◌, ◌<◌, ℕ, List, [], ◌++◌, OnOk, OnErr, IfOk, IsTrue, Some};
 ghost use Rattle.lobby_lock.specs.Passes.{ShownPass};
-ghost use Rattle.lobby_hall.specs.OneSession.{Accepted, IsNextOf};
-ghost use Rattle.lobby_hall.specs.Sessions.{Heard, KeepsKinds};
+ghost use Rattle.client_session.specs.OneSession.{Accepted, IsNextOf};
+ghost use Rattle.client_session.specs.Sessions.{Heard, KeepsKinds};
 ghost use Rattle.lobby_turns.specs.Wire.{Wire, MayGoOn, got_count};
 ghost use Rattle.lobby_turns.specs.Seat.{seat, Carries};
 ghost use Rattle.lobby_turns.specs.Went.{Went};
 
 use crate::gate::Gate;
 use crate::link::{Got, Link, Sent};
+use client_session::{Next, Session};
 use line_framer::FeedError;
-use lobby_hall::{Next, Session};
 use std::alloc::{AllocError, Global};
 use std::marker::Model;
 

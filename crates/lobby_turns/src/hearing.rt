@@ -2,9 +2,9 @@
 //! is left, its link is read.
 
 ghost use Rattle.std.specs.Prelude.{◌≡◌, ◌≤◌, Some};
-ghost use Rattle.lobby_hall.specs.declared.session.Next.TheVariants.{Line, Nothing};
+ghost use Rattle.client_session.specs.declared.session.Next.TheVariants.{Line, Nothing};
 ghost use Rattle.command_grammar.specs.Kinds.{keeps_kinds};
-ghost use Rattle.lobby_hall.specs.OneSession.{IsNextOf};
+ghost use Rattle.client_session.specs.OneSession.{IsNextOf};
 ghost use Rattle.std.specs.Prelude.{IsTrue, []};
 ghost use Rattle.lobby_turns.specs.Wire.{MayGoOn, IsFresh};
 ghost use Rattle.lobby_turns.specs.Seat.{seat};
@@ -14,8 +14,8 @@ use crate::conn::Conn;
 use crate::gate::Gate;
 use crate::holds;
 use crate::link::{Got, Link};
+use client_session::Next;
 use command_grammar::Request;
-use lobby_hall::Next;
 use lobby_lock::{Desk, Pass};
 use lobby_machine::Wakes;
 use std::sync::Wait;

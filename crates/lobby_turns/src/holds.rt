@@ -3,8 +3,8 @@
 ghost use Rattle.std.specs.Prelude.{◌≡◌, [], length, OnErr, IfOk, IsTrue, Some};
 ghost use Rattle.command_grammar.specs.Kinds.{keeps_kinds};
 ghost use Rattle.lobby_model.specs.declared.event.Event.TheVariants as event;
-ghost use Rattle.lobby_hall.specs.declared.session.Next.TheVariants.{Line};
-ghost use Rattle.lobby_hall.specs.OneSession.{IsNextOf};
+ghost use Rattle.client_session.specs.declared.session.Next.TheVariants.{Line};
+ghost use Rattle.client_session.specs.OneSession.{IsNextOf};
 ghost use Rattle.lobby_turns.specs.Wire.{Wire};
 ghost use Rattle.lobby_turns.specs.Seat.{seat};
 ghost use Rattle.lobby_turns.specs.Went.{Went};

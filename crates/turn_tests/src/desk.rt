@@ -53,7 +53,7 @@ fn new_lobby(alloc: Global) -> Result<Lobby, Fail> {
 }
 
 // What a line asks for, with arguments of their kinds.
-#[tactic(auto, using(command_grammar::proofs::KindTables::request_keeps))]
+#[tactic(auto, using(command_grammar::proofs::Bounds::request_keeps))]
 fn read(alloc: Global, line: &[u8]) -> Result<Request, AllocError>
     ensures { IfOk result (λ request. IsTrue (keeps_kinds request.command)) }
 {

@@ -48,8 +48,8 @@ impl Maps {
     ) -> Result<Change, Stop>
         ensures { Answers self.now client post.old post.new (leave self.now me.now channel.now) result }
     {
-        let names = self.names_with(me, channel)?;
-        let places = self.channels.marks_in(channel);
+        let members = self.members_with(me, channel)?;
+        let (names, places) = (members.as_slice(), members.marks());
         self.tell_users(names, places, LentReply::Left(channel, me), post)?;
         Ok(Change::Leave {
             channel: channel.copy(),
@@ -68,8 +68,8 @@ impl Maps {
     ) -> Result<Change, Stop>
         ensures { Answers self.now client post.old post.new (say_in_channel self.now me.now channel.now (reply_of line.entry)) result }
     {
-        let names = self.names_with(me, channel)?;
-        let places = self.channels.marks_in(channel);
+        let members = self.members_with(me, channel)?;
+        let (names, places) = (members.as_slice(), members.marks());
         self.tell_users(names, places, line, post)?;
         Ok(Change::Nothing)
     }

@@ -11,7 +11,7 @@ ghost use Rattle.lobby_machine.specs.declared.refusal.Refusal.TheVariants.{LogIn
 use crate::maps::Maps;
 use crate::refusal::{Refusal, Stop};
 use account_book::Account;
-use channel_book::is_among;
+use channel_book::Members;
 use line_words::{NameBuf, WordBuf};
 
 /// The name of one who is logged in.
@@ -64,17 +64,14 @@ impl Maps {
     }
 
     /// Who is in a channel, a user among them.
-    pub fn names_with(&self, me: &NameBuf, channel: &NameBuf) -> Result<&[NameBuf], Stop>
-        ensures names { IfOk result (λ names. names.now ≡ names_in self.now.channels channel.now) }
-        ensures among { IfOk result (λ names. is_among me.now (names_in self.now.channels channel.now) ≡ true) }
-        ensures distinct { IfOk result (λ names. IsDistinct same_name names.now) }
+    pub fn members_with(&self, me: &NameBuf, channel: &NameBuf) -> Result<&Members<usize>, Stop>
+        ensures names { IfOk result (λ members. members.now ≡ names_in self.now.channels channel.now) }
+        ensures among { IfOk result (λ _. is_among me.now (names_in self.now.channels channel.now) ≡ true) }
         ensures err { IfErr result (Refuses NotInChannel (is_among me.now (names_in self.now.channels channel.now) ≡ false)) }
     {
-        let names = self.channels.names_in(channel);
-        if is_among(me, names) {
-            Ok(names)
-        } else {
-            Err(Stop::Refused(Refusal::NotInChannel))
+        match self.channels.members_in(channel) {
+            Some(members) if members.has_member(me) => Ok(members),
+            _ => Err(Stop::Refused(Refusal::NotInChannel)),
         }
     }
 
@@ -85,11 +82,10 @@ impl Maps {
         ensures distinct { IfOk result (λ names. IsDistinct same_name names.now) }
         ensures err { IfErr result (Refuses (AlreadyInChannel channel.now) (is_among me.now (names_in self.now.channels channel.now) ≡ true)) }
     {
-        let names = self.channels.names_in(channel);
-        if is_among(me, names) {
+        if self.channels.has_member(channel, me) {
             Err(Stop::Refused(Refusal::AlreadyInChannel(channel.copy())))
         } else {
-            Ok(names)
+            Ok(self.channels.names_in(channel))
         }
     }
 

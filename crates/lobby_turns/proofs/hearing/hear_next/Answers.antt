@@ -1,7 +1,7 @@
 use Rattle.std.proofs.Common.{refl, sym, subst, Some}
 use Rattle.lobby_turns.specs.declared.hearing.Step.TheVariants as step
-use Rattle.lobby_hall.specs.declared.session.Next.{Next}
-use Rattle.lobby_hall.specs.OneSession.{IsNextOf}
+use Rattle.client_session.specs.declared.session.Next.{Next}
+use Rattle.client_session.specs.OneSession.{IsNextOf}
 use Rattle.lobby_turns.specs.Seat.{Carried, seat}
 use Rattle.lobby_turns.specs.Hearing.{HearsNext}
 use Rattle.lobby_turns.proofs.Parts.{went_none}

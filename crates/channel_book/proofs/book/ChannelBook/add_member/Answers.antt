@@ -12,7 +12,7 @@ use Rattle.channel_book.proofs.Lively.{AreLively-joined, joined_others, joined_f
 use Rattle.channel_book.proofs.book.ChannelBook.add_member.Goals as goal
 
 pub add-requires : goal.add-requires
-add-requires c =
+add-requires g c =
     ap (is_among c.args.user)
     (names_found c.self.inside.channels.entries c.args.channel c.in-Some.members.now c.in-Some.ensures.value
     ∙ ap (λ (channels : Channels). names_in channels c.args.channel) c.self.view_is)
@@ -20,13 +20,13 @@ add-requires c =
 
 -- where memory is refused to a channel that is there
 pub invariant_of-self : goal.invariant_of-self
-invariant_of-self c = subst AreLively (sym (
+invariant_of-self g c = subst AreLively (sym (
     (c.get_mut.follows.holds c.add.new.self).0
     ∙ ap (set_value (is_at (name_cmp c.args.channel)) c.self.inside.channels.entries) c.in_err-add.ensures.err
     ∙ set_value_same (is_at (name_cmp c.args.channel)) c.self.inside.channels.entries c.in-Some.members.now (sym c.in-Some.ensures.value))) c.self.invariant
 
 pub returns-in_err-add-clause-err : goal.returns-in_err-add-clause-err
-returns-in_err-add-clause-err c =
+returns-in_err-add-clause-err g c =
     let p = err_from_is_err_and c.from_residual.result c.from_residual.ensures.1 in rw p.1 (
     (c.get_mut.follows.holds c.add.new.self).0
     ∙ ap (set_value (is_at (name_cmp c.args.channel)) c.self.inside.channels.entries) c.in_err-add.ensures.err
@@ -35,14 +35,14 @@ returns-in_err-add-clause-err c =
 
 -- behind the others
 pub invariant_of-self-in-Some : goal.invariant_of-self-in-Some
-invariant_of-self-in-Some c = subst AreLively (sym (
+invariant_of-self-in-Some g c = subst AreLively (sym (
     (c.get_mut.follows.holds c.add.new.self).0
     ∙ joined_others c.self.inside.channels.entries c.args.channel c.args.user c.in-Some.members.now c.add.new.self
     c.get_mut.ensures.ordered c.in-Some.ensures.value c.in_ok-add.ensures.ok))
     (AreLively-joined c.self.inside.channels.entries c.args.channel c.args.user c.self.invariant)
 
 pub returns-in-Some-clause-ok : goal.returns-in-Some-clause-ok
-returns-in-Some-clause-ok c =
+returns-in-Some-clause-ok g c =
     (c.get_mut.follows.holds c.add.new.self).0
     ∙ joined_others c.self.inside.channels.entries c.args.channel c.args.user c.in-Some.members.now c.add.new.self
     c.get_mut.ensures.ordered c.in-Some.ensures.value c.in_ok-add.ensures.ok
@@ -50,7 +50,7 @@ returns-in-Some-clause-ok c =
 
 -- as the first
 pub invariant_of-self-2 : goal.invariant_of-self-2
-invariant_of-self-2 c = subst AreLively (sym (
+invariant_of-self-2 g c = subst AreLively (sym (
     c.in_ok-insert.ensures.entries
     ∙ (λ i. insert_entry name_cmp (c.get_mut.follows.holds-at-none i).entries c.args.channel c.in_ok-members.members)
     ∙ joined_first c.self.inside.channels.entries c.args.channel c.args.user c.in_ok-members.members
@@ -58,7 +58,7 @@ invariant_of-self-2 c = subst AreLively (sym (
     (AreLively-joined c.self.inside.channels.entries c.args.channel c.args.user c.self.invariant)
 
 pub returns-clause-ok : goal.returns-clause-ok
-returns-clause-ok c =
+returns-clause-ok g c =
     c.in_ok-insert.ensures.entries
     ∙ (λ i. insert_entry name_cmp (c.get_mut.follows.holds-at-none i).entries c.args.channel c.in_ok-members.members)
     ∙ joined_first c.self.inside.channels.entries c.args.channel c.args.user c.in_ok-members.members

@@ -7,11 +7,11 @@ use Rattle.channel_book.proofs.Lively.{AreLively-all_left}
 use Rattle.channel_book.proofs.book.ChannelBook.leave_all.Goals as goal
 
 pub invariant_of-self : goal.invariant_of-self
-invariant_of-self c =
+invariant_of-self g c =
     subst AreLively (sym (retained _ (all_but c.args.user.now) has_names _ (λ k v b w f' t. search rules) _ _ c.retain.ensures.filtered))
     (AreLively-all_left c.args.user.now c.self.inside.channels.entries)
 
 pub returns : goal.returns
-returns c =
+returns g c =
     retained _ (all_but c.args.user.now) has_names _ (λ k v b w f' t. search rules) _ _ c.retain.ensures.filtered
     ∙ ap (all_left c.args.user.now) c.self.view_is

@@ -1,10 +1,14 @@
-use Rattle.std.proofs.Common.{◌∙◌, ap, subst, sym}
-use Rattle.std.specs.List.{IsDistinct}
-use Rattle.line_words.specs.Table.{same_name, is_among}
-use Rattle.line_words.proofs.Once.{once_with}
+use Rattle.std.proofs.Common.{[], ◌∷◌, ◌++◌, ◌∙◌, ap}
+use Rattle.std.specs.Map.{keys_of}
+use Rattle.std.proofs.lemmas.List.{map-id, map-append}
+use Rattle.indexmap.proofs.CallerLemmas.{insert_entry-new}
+use Rattle.line_words.specs.Table.{is_among}
+use Rattle.line_words.proofs.Keyed.{not_there}
 use Rattle.channel_book.proofs.members.Members.add.Goals as goal
 
-pub invariant_of-self-2 : goal.invariant_of-self-2
-invariant_of-self-2 c =
-    subst (IsDistinct same_name) (sym c.in_ok-push.ensures.items)
-    (once_with c.args.name c.self.inside.names.items (ap (is_among c.args.name) c.self.view_is ∙ c.requires) c.self.invariant)
+pub returns-clause-ok : goal.returns-clause-ok
+returns-clause-ok g c =
+    let none = not_there (λ name. name) c.args.name c.self.inside.marks.entries (ap (is_among c.args.name) (map-id _ ∙ c.self.view_is) ∙ c.requires) in
+    ap keys_of (c.in_ok-insert.ensures.entries ∙ insert_entry-new _ c.self.inside.marks c.args.name c.args.mark none)
+    ∙ map-append (λ e. e.0) c.self.inside.marks.entries ((c.args.name, c.args.mark) ∷ [])
+    ∙ ap (λ names. names ++ c.args.name ∷ []) c.self.view_is

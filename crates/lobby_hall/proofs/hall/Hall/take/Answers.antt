@@ -1,6 +1,6 @@
 use Rattle.std.proofs.Common.{◌∙◌, ap, subst}
-use Rattle.lobby_hall.specs.declared.session.Next.TheVariants.{Nothing, Line, Spoilt}
-use Rattle.lobby_hall.specs.OneSession.{IsNextOf}
+use Rattle.client_session.specs.declared.session.Next.TheVariants.{Nothing, Line, Spoilt}
+use Rattle.client_session.specs.OneSession.{IsNextOf}
 use Rattle.lobby_hall.specs.Standing.{Kept, session_at}
 use Rattle.lobby_hall.proofs.Answered.{spoilt_ok, line_ok}
 use Rattle.lobby_hall.proofs.Steps.{took_nothing}

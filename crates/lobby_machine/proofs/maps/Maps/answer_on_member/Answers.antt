@@ -1,4 +1,8 @@
-use Rattle.std.proofs.Common.{◌≡◌, ◌∙◌, ap, subst, sym, Some, rules, w64, to_z, of_z}
+use Rattle.std.proofs.Common.{◌≡◌, ◌∙◌, ℕ, ◌<◌, ◌≤◌, arith, IsTrue, ap, subst, sym, Some, rules, w64, to_z, of_z}
+use Rattle.std.proofs.lemmas.Bool.{and_parts, leb-true}
+use Rattle.line_words.specs.Bytes.{is_name}
+use Rattle.command_grammar.specs.declared.command.Command.{Command}
+use Rattle.command_grammar.specs.Kinds.{is_up_to, keeps_kinds}
 use Rattle.lobby_model.specs.Commands.{answer}
 use Rattle.lobby_model.specs.Outcome.{Outcome}
 use Rattle.lobby_model.specs.Rooms.{force_colour}
@@ -25,3 +29,20 @@ returns-in-ForceTeamColor c =
     let same : to_z w64 (of_z w64 c.in-ForceTeamColor.team_color) ≡ c.in-ForceTeamColor.team_color = search rules in
     subst (λ (outcome : Outcome). Answers c.args.self.now c.args.client c.args.post.now c.force-in-ForceTeamColor.new.post outcome c.force-in-ForceTeamColor.result)
     ((λ i. force_colour c.args.self.now c.args.me.now c.in-ForceTeamColor.user (same i)) ∙ sym (ap (answer c.args.self.now c.args.client (Some c.args.me.now)) c.in-ForceTeamColor.is)) c.force-in-ForceTeamColor.ensures
+
+pub force-requires : goal.force-requires
+force-requires c =
+    let kinds = subst (λ (x : Command). IsTrue (keeps_kinds x)) c.in-Handicap.is c.requires.kinds in
+    leb-true c.in-Handicap.value 100 (and_parts (is_name c.in-Handicap.user) (is_up_to 100 c.in-Handicap.value) kinds).1
+
+pub force-requires-in-ForceTeamNo : goal.force-requires-in-ForceTeamNo
+force-requires-in-ForceTeamNo c =
+    let kinds = subst (λ (x : Command). IsTrue (keeps_kinds x)) c.in-ForceTeamNo.is c.requires.kinds in
+    let small = leb-true c.in-ForceTeamNo.number 15 (and_parts (is_name c.in-ForceTeamNo.user) (is_up_to 15 c.in-ForceTeamNo.number) kinds).1 in
+    omega arith
+
+pub force-requires-in-ForceAllyNo : goal.force-requires-in-ForceAllyNo
+force-requires-in-ForceAllyNo c =
+    let kinds = subst (λ (x : Command). IsTrue (keeps_kinds x)) c.in-ForceAllyNo.is c.requires.kinds in
+    let small = leb-true c.in-ForceAllyNo.number 15 (and_parts (is_name c.in-ForceAllyNo.user) (is_up_to 15 c.in-ForceAllyNo.number) kinds).1 in
+    omega arith

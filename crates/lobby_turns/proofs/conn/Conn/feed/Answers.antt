@@ -1,5 +1,5 @@
 use Rattle.std.proofs.Common.{ℕ, List, [], ◌++◌, drop, refl, subst}
-use Rattle.lobby_hall.specs.Sessions.{Heard}
+use Rattle.client_session.specs.Sessions.{Heard}
 use Rattle.lobby_turns.specs.Seat.{Carried, seat}
 use Rattle.lobby_turns.specs.Went.{Went}
 use Rattle.lobby_turns.proofs.Parts.{went_fed}

@@ -7,8 +7,8 @@ use Rattle.command_grammar.specs.Kinds.{keeps_kinds}
 use Rattle.command_grammar.specs.Owning.{owns_bytes}
 use Rattle.command_grammar.specs.Reads.{Reads}
 use Rattle.lobby_model.specs.Schedule.{line_limit}
-use Rattle.lobby_hall.specs.declared.session.Next.{Next}
-use Rattle.lobby_hall.specs.declared.session.Next.TheVariants.{Nothing, Line, Spoilt}
+use Rattle.client_session.specs.declared.session.Next.{Next}
+use Rattle.client_session.specs.declared.session.Next.TheVariants.{Nothing, Line, Spoilt}
 
 -- these bytes came, and so many of their lines were accepted
 abbrev pub Heard : Framed → List ℕ → ℕ → Type 0

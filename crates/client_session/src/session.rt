@@ -3,7 +3,7 @@
 ghost use Rattle.std.specs.Prelude.{◌≡◌, ℕ, ◌+◌, ◌↔◌, List, [], ◌++◌, IfOk, OnErr, IsSome, IsTrue, true};
 ghost use Rattle.line_framer.specs.Feeding.{IsJudged};
 ghost use Rattle.line_framer.specs.Framed.{next_line};
-ghost use Rattle.lobby_hall.specs.Sessions.{Heard, IsNext, KeepsKinds, NeedsMemory, has_next};
+ghost use Rattle.client_session.specs.Sessions.{Heard, IsNext, KeepsKinds, NeedsMemory, has_next};
 
 use command_grammar::{Request, read_request};
 use line_framer::{FeedError, Framer};
@@ -43,7 +43,7 @@ pub struct Session {
 }
 
 impl Model for Session {
-    ghost use Rattle.lobby_hall.specs.Serving.{Serving};
+    ghost use Rattle.client_session.specs.Serving.{Serving};
 
     ghost Value = { Serving };
 
@@ -85,7 +85,7 @@ impl Session {
     /// What the client asks next: the request of the first line that was not accepted, each of whose
     /// arguments is of its kind. Memory is taken for the bytes that its command owns alone; the error
     /// says that it was refused.
-    #[tactic(auto, using(command_grammar::proofs::KindTables::request_keeps))]
+    #[tactic(auto, using(command_grammar::proofs::Bounds::request_keeps))]
     pub fn next_request(&self) -> Result<Next, AllocError>
         ensures ok { IfOk result (λ next. (bytes : List ℕ) (accepted : ℕ) → Heard self.now.framed bytes accepted → IsNext bytes accepted next) }
         ensures kinds { IfOk result KeepsKinds }

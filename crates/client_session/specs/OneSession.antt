@@ -1,10 +1,10 @@
 -- What becomes of one client's session, if it has one.
 use Rattle.std.specs.Prelude.{◌≡◌, ℕ, ◌+◌, Bool, false, List, ◌++◌, Option, Some, None, IsSome}
 use Rattle.line_framer.specs.Framed.{next_line}
-use Rattle.lobby_hall.specs.declared.session.Next.{Next}
-use Rattle.lobby_hall.specs.declared.session.Next.TheVariants.{Nothing}
-use Rattle.lobby_hall.specs.Serving.{Serving}
-use Rattle.lobby_hall.specs.Sessions.{Heard, IsNext, has_next}
+use Rattle.client_session.specs.declared.session.Next.{Next}
+use Rattle.client_session.specs.declared.session.Next.TheVariants.{Nothing}
+use Rattle.client_session.specs.Serving.{Serving}
+use Rattle.client_session.specs.Sessions.{Heard, IsNext, has_next}
 
 -- it heard the piece too
 abbrev pub Fed : Option Serving → Option Serving → List ℕ → Type 0

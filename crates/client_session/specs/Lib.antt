@@ -1,0 +1,3 @@
+pub mod Serving
+pub mod Sessions
+pub mod OneSession
