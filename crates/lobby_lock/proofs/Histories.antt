@@ -1,9 +1,10 @@
 -- Laws of histories.
 use Rattle.std.proofs.Common.{◌≡◌, ◌≢◌, ℕ, ◌≤◌, ◌<◌, cond, List, [], ◌∷◌, ◌++◌, length, refl, sym, ap, ◌∙◌, inl, inr, arith, append_assoc, append-nil, length-append, eq-eqb, ne_eqb}
 use Rattle.std.specs.Prelude.{filter, ◌==◌}
-use Rattle.std.specs.List.{AllByRecursion}
+use Rattle.std.specs.List.{AllByRecursion, AllPairs}
 use Rattle.std.proofs.lemmas.List.{map-append}
-use Rattle.std.proofs.lemmas.List.Elements.{filter-append}
+use Rattle.std.proofs.lemmas.List.Elements.{filter-append, All-from_recursion}
+use Rattle.std.proofs.lemmas.List.Kept.{AllPairs-cons}
 use mathlib.Core.Logic.{dite}
 use native.Mathlib.Decide.{dec_le}
 use Rattle.lobby_model.specs.declared.event.Event.{Event}
@@ -48,6 +49,10 @@ pub all_both : {A : Type 0} (P Q R : A → Type 0) → ((x : A) → P x → Q x 
 all_both P Q R f [] h k = tt
 all_both P Q R f (x ∷ xs) h k = (f x h.0 k.0, all_both P Q R f xs h.1 k.1)
 
+pub all_of : {A : Type 0} (P : A → Type 0) → ((x : A) → P x) → (xs : List A) → AllByRecursion P xs
+all_of P f [] = tt
+all_of P f (x ∷ xs) = (f x, all_of P f xs)
+
 pub all-append : {A : Type 0} (P : A → Type 0) (xs ys : List A) → AllByRecursion P xs → AllByRecursion P ys → AllByRecursion P (xs ++ ys)
 all-append P [] ys p q = q
 all-append P (x ∷ xs) ys p q = (p.0, all-append P xs ys p.1 q)
@@ -62,6 +67,18 @@ made_by_above most n above [] h = refl
 made_by_above most n above (x ∷ xs) h =
     let apart : x.0 ≢ n = λ e. omega (arith, h.0) in
     ap (λ b. events_of (cond b (x ∷ filter (λ y. y.0 == n) xs) (filter (λ y. y.0 == n) xs))) (ne_eqb x.0 n apart) ∙ made_by_above most n above xs h.1
+
+-- no number is kept twice
+abbrev Once : List Worker → Type 0
+Once workers = AllPairs (λ worker other. worker.number ≢ other.number) workers
+
+pub once-nil : Once []
+once-nil i j d before within = absurd (omega arith)
+
+pub once-cons : (u : Worker) (workers : List Worker) → AllByRecursion (λ worker. worker.number ≢ u.number) workers → Once workers → Once (u ∷ workers)
+once-cons u workers gone once =
+    let others = all_map (λ (worker : Worker). worker.number ≢ u.number) (λ (worker : Worker). u.number ≢ worker.number) (λ worker ne s. ne (sym s)) workers gone in
+    AllPairs-cons (λ worker other. worker.number ≢ other.number) u workers (All-from_recursion (λ worker. u.number ≢ worker.number) workers others) once
 
 -- ---- beginnings
 

@@ -1,5 +1,5 @@
 -- A hold, after one event more.
-use Rattle.std.proofs.Common.{◌≡◌, ℕ, ◌≤◌, List, [], ◌∷◌, ◌++◌, sym, ap, ◌∙◌, subst}
+use Rattle.std.proofs.Common.{◌≡◌, ℕ, ◌≤◌, List, [], ◌∷◌, ◌++◌, Option, sym, ap, ◌∙◌, subst}
 use Rattle.crossbeam_queue.specs.Passes.{Pass, view}
 use Rattle.lobby_model.specs.declared.event.Event.{Event}
 use Rattle.lobby_model.specs.Next.{next}
@@ -8,14 +8,15 @@ use Rattle.lobby_lock.specs.declared.view.View.{View}
 use Rattle.lobby_lock.specs.Passes.{IsHolding, shown_pass, lobby_after}
 use Rattle.lobby_lock.proofs.Histories.{after_history-more}
 
-pub more : (inner : Pass Shown View) (number handed : ℕ) (old : Shown) (es : List Event) (room : ℕ) → IsHolding inner number handed old es room
-    → (now : Shown) (e : Event) (items : List Event) (room' : ℕ) → now.plain ≡ next old.plain e → items ≡ es ++ e ∷ [] → room' ≡ room → IsHolding inner number handed now items room'
-more inner number handed old es room h now e items room' step added same = record {
+pub more : (inner : Pass Shown View) (number handed made : ℕ) (places : List (Option ℕ)) (old : Shown) (es : List Event) (room : ℕ) → IsHolding inner number handed made places old es room
+    → (now : Shown) (e : Event) (items : List Event) (room' : ℕ) → now.plain ≡ next old.plain e → items ≡ es ++ e ∷ [] → room' ≡ room → IsHolding inner number handed made places now items room'
+more inner number handed made places old es room h now e items room' step added same = record {
   slots = h.slots;
   alive = h.alive;
   holds = h.holds;
   numbered = h.numbered;
   counts = h.counts;
+  counted = h.counted;
   stands = step ∙ ap (λ s. next s e) h.stands ∙ sym (after_history-more (view inner).start.plain (view inner).worker.seen (view inner).worker.number es e)
       ∙ ap (lobby_after (shown_pass inner)) (sym added);
   space = subst (λ n. 32 ≤ n) (sym same) h.space;

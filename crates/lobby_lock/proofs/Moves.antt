@@ -1,6 +1,6 @@
 -- Each step keeps the rule of the desk.
 use Rattle.std.proofs.Common.{◌≡◌, ◌≢◌, ◌⊎◌, ℕ, zero, suc, ◌+◌, ◌≤◌, Bool, true, false, true≢false, List, [], ◌∷◌, ◌++◌, length, set, refl, sym, ap, ◌∙◌, subst, inl, inr, ⊎_elim, arith}
-use Rattle.std.specs.List.{AllByRecursion}
+use Rattle.std.specs.List.{AllByRecursion, AllPairs}
 use mathlib.Core.Option.{some, some-ne-none, some-injective}
 use lib.ListN.{get_elem?}
 use Rattle.crossbeam_queue.specs.Fifo.{Pushes, Pops, Forks, Merges, Learns}
@@ -11,8 +11,8 @@ use Rattle.lobby_machine.specs.Shown.{Shown}
 use Rattle.lobby_lock.specs.declared.view.View.{View}
 use Rattle.lobby_lock.specs.declared.view.Worker.{Worker}
 use Rattle.lobby_lock.specs.History.{Entry, after_history, made_by, under}
-use Rattle.lobby_lock.specs.Rule.{IsTold, Fits, Meets, IsAlive, SomeoneHolds, NobodyHolds, IsFull, PlaceIs, OneHistory, first_view, spent_view, new_worker, opened, gave, giver, newcomer, with_taken_back, seen_by, Took, LastEnded}
-use Rattle.lobby_lock.proofs.Histories.{told-other, told-own, all_map, all_both, all-append, begins_self, made_by_above, made_by_none, numbers-under, agree}
+use Rattle.lobby_lock.specs.Rule.{IsTold, Fits, Meets, IsAlive, SomeoneHolds, NobodyHolds, IsFull, PlaceIs, OneHistory, AreApart, first_view, spent_view, new_worker, opened, gave, giver, newcomer, with_taken_back, seen_by, Took, Closed, LastEnded}
+use Rattle.lobby_lock.proofs.Histories.{told-other, told-own, all_map, all_both, all_of, all-append, once-nil, once-cons, begins_self, made_by_above, made_by_none, numbers-under, agree}
 
 at_end : (l : List View) (a b : View) (j : ℕ) → get_elem? (l ++ a ∷ []) j ≡ some b → (get_elem? l j ≡ some b) ⊎ ((j ≡ length l) × (a ≡ b))
 at_end [] a b zero e = inr (refl, some-injective a b e)
@@ -88,12 +88,13 @@ begins =
       counts = λ _. refl;
       saw_all = λ _. refl;
       taken_back = tt;
+      once = once-nil;
     } in record {
       start = first_view.start.plain;
       history = [];
       handed = 0;
       fits = each_end F [] first_view own (λ k v a. absurd (none_there k v a.0));
-      meets = two_end [] first_view (record { apart = λ _. refl; gone = tt; one = λ _ _. refl }) (λ j u a. absurd (none_there j u a.0)) (λ j k u x a b. absurd (none_there j u a.0));
+      meets = two_end [] first_view (record { apart = λ _. refl; gone = tt; kept = λ ne. absurd (ne refl); one = λ _ _. refl }) (λ j u a. absurd (none_there j u a.0)) (λ j k u x a b. absurd (none_there j u a.0));
       numbers = tt;
       place = inl (refl, (0, first_view, (refl, refl), refl));
     }
@@ -120,9 +121,9 @@ opens n k v x live holds fresh none items views room h at =
         history = h.history;
         handed = h.handed;
         fits = each_set (λ (j : ℕ) (u : View). Fits x.plain h.history h.handed u) views k w
-            (λ _. record { starts = refl; told = f.told; numbered = f.numbered; counts = f.counts; saw_all = λ e. absurd (true≢false (sym e)); taken_back = f.taken_back })
+            (λ _. record { starts = refl; told = f.told; numbered = f.numbered; counts = f.counts; saw_all = λ e. absurd (true≢false (sym e)); taken_back = f.taken_back; once = f.once })
             (λ j u ne b. absurd (alone j u ne b));
-        meets = two_set views k w (λ _. record { apart = λ _. refl; gone = m.gone; one = λ _ _. refl })
+        meets = two_set views k w (λ _. record { apart = λ _. refl; gone = m.gone; kept = λ ne. absurd (ne refl); one = λ _ _. refl })
             (λ _ j u ne b. absurd (alone j u ne b))
             (λ i j u y ne ne' b c. absurd (alone i u ne b));
         numbers = h.numbers;
@@ -151,18 +152,33 @@ takes k v live x items views h at =
         history = h.history;
         handed = h.handed;
         fits = each_set (λ (j : ℕ) (u : View). Fits h.start h.history h.handed u) views k w
-            (λ _. record { starts = f.starts; told = record { begins = begins_self h.history; whole = f.told.whole; known = f.told.whole }; numbered = f.numbered; counts = f.counts; saw_all = λ _. refl; taken_back = f.taken_back })
+            (λ _. record { starts = f.starts; told = record { begins = begins_self h.history; whole = f.told.whole; known = f.told.whole }; numbered = f.numbered; counts = f.counts; saw_all = λ _. refl; taken_back = f.taken_back; once = f.once })
             (λ j u ne b. h.fits j u b);
-        meets = two_set views k w (λ _. record { apart = λ _. refl; gone = (h.meets k k v v a a).gone; one = λ _ _. refl })
+        meets = two_set views k w (λ _. record { apart = λ _. refl; gone = (h.meets k k v v a a).gone; kept = λ ne. absurd (ne refl); one = λ _ _. refl })
             (λ _ j u ne b. (
-              record { apart = (h.meets j k u v b a).apart; gone = (h.meets j k u v b a).gone; one = λ p q. off u.holds p (full.1 j u b) },
-              record { apart = (h.meets k j v u a b).apart; gone = (h.meets k j v u a b).gone; one = λ p q. off u.holds q (full.1 j u b) },
+              record { apart = (h.meets j k u v b a).apart; gone = (h.meets j k u v b a).gone; kept = (h.meets j k u v b a).kept; one = λ p q. off u.holds p (full.1 j u b) },
+              record { apart = (h.meets k j v u a b).apart; gone = (h.meets k j v u a b).gone; kept = (h.meets k j v u a b).kept; one = λ p q. off u.holds q (full.1 j u b) },
             ))
             (λ i j u y ne ne' b c. h.meets i j u y b c);
         numbers = h.numbers;
         place = inl (nothing, (k, w, (set_there views k v w at, live), refl));
       },
       record { same = refl; later = f.told.begins; own = f.told.whole; known = f.told.known; stands = stands ∙ ap (λ (s : State). after_history s h.history) (sym f.starts) },
+    )
+
+-- it is taken for good
+pub closes : (k : ℕ) (v : View) → v.alive ≡ true → Pops OneHistory k v (Closed v)
+unfolding takes
+closes k v live x items views h at =
+    let t = takes k v live x items views h at in
+    let f = h.fits k v (at, live) in (
+      t.0,
+      t.1,
+      record {
+        took = t.2;
+        taken_back = all_map (λ worker. IsTold h.history worker × (worker.number ≤ h.handed)) (λ worker. made_by worker.number h.history ≡ worker.mine) (λ worker told. told.0.whole) v.taken_back f.taken_back;
+        numbers = λ zero_is. subst (λ most. AllByRecursion (λ e. e.0 ≤ most) h.history) (sym (f.counts zero_is)) h.numbers;
+      },
     )
 
 -- ---- the lobby is given back
@@ -186,7 +202,7 @@ gives n k v x es live holds stands items views room h at =
         history = history;
         handed = h.handed;
         fits = each_set (λ (j : ℕ) (u : View). Fits h.start history h.handed u) views k w
-            (λ _. record { starts = f.starts; told = told-own h.history v.worker es all f.told; numbered = f.numbered; counts = f.counts; saw_all = λ e. absurd (true≢false (sym e)); taken_back = grows v f.taken_back (h.meets k k v v a a).gone })
+            (λ _. record { starts = f.starts; told = told-own h.history v.worker es all f.told; numbered = f.numbered; counts = f.counts; saw_all = λ e. absurd (true≢false (sym e)); taken_back = grows v f.taken_back (h.meets k k v v a a).gone; once = f.once })
             (λ j u ne b. let g = h.fits j u b in let m = h.meets j k u v b a in record {
               starts = g.starts;
               told = told-other h.history u.worker number es (λ s. ne (m.apart (sym s))) g.told;
@@ -194,11 +210,12 @@ gives n k v x es live holds stands items views room h at =
               counts = g.counts;
               saw_all = λ p. off u.holds p (idle j u ne b);
               taken_back = grows u g.taken_back m.gone;
+              once = g.once;
             });
-        meets = two_set views k w (λ _. record { apart = λ _. refl; gone = (h.meets k k v v a a).gone; one = λ _ _. refl })
+        meets = two_set views k w (λ _. record { apart = λ _. refl; gone = (h.meets k k v v a a).gone; kept = λ ne. absurd (ne refl); one = λ _ _. refl })
             (λ _ j u ne b. (
-              record { apart = (h.meets j k u v b a).apart; gone = (h.meets j k u v b a).gone; one = λ p q. off u.holds p (idle j u ne b) },
-              record { apart = (h.meets k j v u a b).apart; gone = (h.meets k j v u a b).gone; one = λ p q. off u.holds q (idle j u ne b) },
+              record { apart = (h.meets j k u v b a).apart; gone = (h.meets j k u v b a).gone; kept = (h.meets j k u v b a).kept; one = λ p q. off u.holds p (idle j u ne b) },
+              record { apart = (h.meets k j v u a b).apart; gone = (h.meets k j v u a b).gone; kept = (h.meets k j v u a b).kept; one = λ p q. off u.holds q (idle j u ne b) },
             ))
             (λ i j u y ne ne' b c. h.meets i j u y b c);
         numbers = all-append (λ (e : Entry). e.0 ≤ h.handed) h.history (under number es) h.numbers (numbers-under h.handed number f.numbered es);
@@ -231,13 +248,13 @@ forks k v live zero_is idle items views h at =
     let wider : (u : View) → AllByRecursion (KnownUpTo h.handed) u.taken_back → AllByRecursion (KnownUpTo (h.handed + 1)) u.taken_back = λ u. all_map (KnownUpTo h.handed) (KnownUpTo (h.handed + 1)) (λ worker t. (t.0, omega (arith, t.1))) u.taken_back in
     let lows : (u : View) → AllByRecursion (KnownUpTo h.handed) u.taken_back → AllByRecursion (λ worker. worker.number ≤ h.handed) u.taken_back = λ u. all_map (KnownUpTo h.handed) (λ worker. worker.number ≤ h.handed) (λ worker t. t.1) u.taken_back in
     let old : Each G vs = each_set G views k l
-    (λ _. (record { starts = f.starts; told = f.told; numbered = omega (arith, f.numbered); counts = λ _. ap (λ (c : ℕ). c + 1) count; saw_all = λ p. off v.holds p idle; taken_back = wider v f.taken_back }, f.numbered, lows v f.taken_back))
-    (λ j u ne b. let g = h.fits j u b in (record { starts = g.starts; told = g.told; numbered = omega (arith, g.numbered); counts = λ z. absurd (ne ((h.meets j k u v b a).apart (z ∙ sym zero_is))); saw_all = g.saw_all; taken_back = wider u g.taken_back }, g.numbered, lows u g.taken_back)) in
+    (λ _. (record { starts = f.starts; told = f.told; numbered = omega (arith, f.numbered); counts = λ _. ap (λ (c : ℕ). c + 1) count; saw_all = λ p. off v.holds p idle; taken_back = wider v f.taken_back; once = f.once }, f.numbered, lows v f.taken_back))
+    (λ j u ne b. let g = h.fits j u b in (record { starts = g.starts; told = g.told; numbered = omega (arith, g.numbered); counts = λ z. absurd (ne ((h.meets j k u v b a).apart (z ∙ sym zero_is))); saw_all = g.saw_all; taken_back = wider u g.taken_back; once = g.once }, g.numbered, lows u g.taken_back)) in
     let pairs : EachTwo vs = two_set views k l
-    (λ _. record { apart = λ _. refl; gone = (h.meets k k v v a a).gone; one = λ _ _. refl })
+    (λ _. record { apart = λ _. refl; gone = (h.meets k k v v a a).gone; kept = λ ne. absurd (ne refl); one = λ _ _. refl })
     (λ _ j u ne b. (
-      record { apart = (h.meets j k u v b a).apart; gone = (h.meets j k u v b a).gone; one = (h.meets j k u v b a).one },
-      record { apart = (h.meets k j v u a b).apart; gone = (h.meets k j v u a b).gone; one = (h.meets k j v u a b).one },
+      record { apart = (h.meets j k u v b a).apart; gone = (h.meets j k u v b a).gone; kept = (h.meets j k u v b a).kept; one = (h.meets j k u v b a).one },
+      record { apart = (h.meets k j v u a b).apart; gone = (h.meets k j v u a b).gone; kept = (h.meets k j v u a b).kept; one = (h.meets k j v u a b).one },
     ))
     (λ i j u y ne ne' b c. h.meets i j u y b c) in record {
       start = h.start;
@@ -251,12 +268,13 @@ forks k v live zero_is idle items views h at =
             counts = λ z. absurd (omega arith);
             saw_all = λ p. absurd (true≢false (sym p));
             taken_back = tt;
+            once = once-nil;
           })
           (λ j u b. (old j u b).0);
-      meets = two_end vs r (record { apart = λ _. refl; gone = tt; one = λ _ _. refl })
+      meets = two_end vs r (record { apart = λ _. refl; gone = tt; kept = λ _. tt; one = λ _ _. refl })
           (λ j u b. let o = old j u b in let low = o.1 in (
-            record { apart = λ e. absurd (omega (arith, e, low)); gone = all_map (λ worker. worker.number ≤ h.handed) (λ worker. worker.number ≢ number) (λ worker le. λ s. omega (arith, s, le, count)) u.taken_back o.2; one = λ p q. absurd (true≢false (sym q)) },
-            record { apart = λ e. absurd (omega (arith, e, low)); gone = tt; one = λ p q. absurd (true≢false (sym p)) },
+            record { apart = λ e. absurd (omega (arith, e, low)); gone = all_map (λ worker. worker.number ≤ h.handed) (λ worker. worker.number ≢ number) (λ worker le. λ s. omega (arith, s, le, count)) u.taken_back o.2; kept = λ _. all_of (λ (worker : Worker). AllByRecursion {X = Worker} (λ other. worker.number ≢ other.number) []) (λ worker. tt) u.taken_back; one = λ p q. absurd (true≢false (sym q)) },
+            record { apart = λ e. absurd (omega (arith, e, low)); gone = tt; kept = λ _. tt; one = λ p q. absurd (true≢false (sym p)) },
           )) pairs;
       numbers = all_map (λ (e : Entry). e.0 ≤ h.handed) (λ (e : Entry). e.0 ≤ h.handed + 1) (λ e le. omega (arith, le)) h.history h.numbers;
       place = ⊎_elim
@@ -271,6 +289,10 @@ forks k v live zero_is idle items views h at =
 
 -- ---- a pass is taken back
 
+-- no one of these is kept elsewhere, where one more is kept there
+kept_more : (workers : List Worker) (u : Worker) (others : List Worker) → AllByRecursion (λ worker. worker.number ≢ u.number) workers → AreApart workers others → AreApart workers (u ∷ others)
+kept_more workers u others = all_both (λ worker. worker.number ≢ u.number) (λ worker. AllByRecursion (λ other. worker.number ≢ other.number) others) (λ worker. AllByRecursion (λ other. worker.number ≢ other.number) (u ∷ others)) (λ worker here there. (here, there)) workers
+
 pub merges : (k : ℕ) (v : View) (other : ℕ) (u : View) → v.alive ≡ true → u.alive ≡ true → v.holds ≡ false → u.holds ≡ false → Merges OneHistory k v other u (with_taken_back v u) spent_view
 merges k v other u live live' idle idle' items views h at two there =
     let both : View = with_taken_back v u in
@@ -282,19 +304,20 @@ merges k v other u live live' idle idle' items views h at two there =
     let g = h.fits other u b in
     let F : ℕ → View → Type 0 = λ j x. Fits h.start h.history h.handed x in
     let fits : Each F vs = each_set F views k both
-    (λ _. record { starts = f.starts; told = f.told; numbered = f.numbered; counts = f.counts; saw_all = f.saw_all; taken_back = ((g.told, g.numbered), f.taken_back) })
+    (λ _. record { starts = f.starts; told = f.told; numbered = f.numbered; counts = f.counts; saw_all = f.saw_all; taken_back = ((g.told, g.numbered), f.taken_back); once = once-cons u.worker v.taken_back (h.meets k other v u a b).gone f.once })
     (λ j x ne c. h.fits j x c) in
     -- none that is left bears the number of the one that ended
     let gone : (j : ℕ) (x : View) → j ≢ other → IsAlive views j x → AllByRecursion (λ worker. worker.number ≢ x.worker.number) both.taken_back = λ j x ne c.
     ((λ s. ne (sym ((h.meets other j u x b c).apart s))), (h.meets k j v x a c).gone) in
+    let strange : (j : ℕ) (x : View) → IsAlive views j x → AllByRecursion (λ worker. u.worker.number ≢ worker.number) x.taken_back = λ j x c. all_map (λ worker. worker.number ≢ u.worker.number) (λ worker. u.worker.number ≢ worker.number) (λ worker ne s. ne (sym s)) x.taken_back (h.meets j other x u c b).gone in
     let Pair : ℕ → ℕ → View → View → Type 0 = λ i j x y. i ≢ other → j ≢ other → Meets i j x y in
     let pairs : (i j : ℕ) (x y : View) → IsAlive vs i x → IsAlive vs j y → Pair i j x y = λ i j x y c d.
     each_set (λ (i' : ℕ) (x' : View). Pair i' j x' y) views k both
     (λ _. each_set (λ (j' : ℕ) (y' : View). Pair k j' both y') views k both
-    (λ _ no no'. record { apart = λ _. refl; gone = gone k v no a; one = λ _ _. refl })
-    (λ (j' : ℕ) (y' : View) ne c' no no'. record { apart = (h.meets k j' v y' a c').apart; gone = gone j' y' no' c'; one = (h.meets k j' v y' a c').one }) j y d)
+    (λ _ no no'. record { apart = λ _. refl; gone = gone k v no a; kept = λ ne. absurd (ne refl); one = λ _ _. refl })
+    (λ (j' : ℕ) (y' : View) ne c' no no'. record { apart = (h.meets k j' v y' a c').apart; gone = gone j' y' no' c'; kept = λ _. (strange j' y' c', (h.meets k j' v y' a c').kept (λ e. ne (sym e))); one = (h.meets k j' v y' a c').one }) j y d)
     (λ (i' : ℕ) (x' : View) ne c'. each_set (λ (j' : ℕ) (y' : View). Pair i' j' x' y') views k both
-    (λ _ no no'. record { apart = (h.meets i' k x' v c' a).apart; gone = (h.meets i' k x' v c' a).gone; one = (h.meets i' k x' v c' a).one })
+    (λ _ no no'. record { apart = (h.meets i' k x' v c' a).apart; gone = (h.meets i' k x' v c' a).gone; kept = λ _. kept_more x'.taken_back u.worker v.taken_back (h.meets i' other x' u c' b).gone ((h.meets i' k x' v c' a).kept ne); one = (h.meets i' k x' v c' a).one })
     (λ (j' : ℕ) (y' : View) ne' d' no no'. h.meets i' j' x' y' c' d') j y d) i x c in
     let dead : spent_view.alive ≡ true → ⊥ = λ e. true≢false (sym e) in record {
       start = h.start;

@@ -1,5 +1,5 @@
 -- What contracts see of a pass and of a hold.
-use Rattle.std.specs.Prelude.{◌≡◌, ℕ, ◌+◌, ◌≤◌, true, false, List, [], ◌++◌}
+use Rattle.std.specs.Prelude.{◌≡◌, ℕ, ◌+◌, ◌≤◌, true, false, List, [], ◌++◌, Option}
 use Rattle.atomic_table.specs.Seated.{TableId}
 use Rattle.crossbeam_queue.specs.Passes.{Pass, view}
 use Rattle.lobby_model.specs.declared.event.Event.{Event}
@@ -8,6 +8,7 @@ use Rattle.lobby_machine.specs.Shown.{Shown}
 use Rattle.lobby_lock.specs.declared.view.View.{View}
 use Rattle.lobby_lock.specs.declared.view.Worker.{Worker}
 use Rattle.lobby_lock.specs.History.{after_history, under}
+use Rattle.lobby_lock.specs.Counts.{Counts}
 use Rattle.lobby_lock.specs.Rule.{new_worker, with_events}
 
 -- The desk that the pass belongs to; the plain lobby with which that was opened; what the pass's worker has seen and made; how many
@@ -51,21 +52,23 @@ abbrev pub lobby_after : ShownPass → List Event → State
 lobby_after pass events = after_history pass.start (pass.worker.seen ++ under pass.worker.number events)
 
 -- inside a pass: it does not hold, knows its number, counts what its view counts, and has room for the events of a hold
-pub record IsReady (inner : Pass Shown View) (number handed : ℕ) (room : List Event) (capacity : ℕ) : Type 0 where
+pub record IsReady (inner : Pass Shown View) (number handed made : ℕ) (places : List (Option ℕ)) (room : List Event) (capacity : ℕ) : Type 0 where
   pub slots : inner.me.1 ≡ []
   pub alive : (view inner).alive ≡ true
   pub holds : (view inner).holds ≡ false
   pub numbered : number ≡ (view inner).worker.number
   pub counts : handed ≡ (view inner).handed
+  pub counted : Counts (view inner) handed made places
   pub empty : room ≡ []
   pub space : 32 ≤ capacity
 
 -- inside a hold: its lobby stands for the history seen and then the hold's own events
-pub record IsHolding (inner : Pass Shown View) (number handed : ℕ) (lobby : Shown) (events : List Event) (capacity : ℕ) : Type 0 where
+pub record IsHolding (inner : Pass Shown View) (number handed made : ℕ) (places : List (Option ℕ)) (lobby : Shown) (events : List Event) (capacity : ℕ) : Type 0 where
   pub slots : inner.me.1 ≡ []
   pub alive : (view inner).alive ≡ true
   pub holds : (view inner).holds ≡ true
   pub numbered : number ≡ (view inner).worker.number
   pub counts : handed ≡ (view inner).handed
+  pub counted : Counts (view inner) handed made places
   pub stands : lobby.plain ≡ lobby_after (shown_pass inner) events
   pub space : 32 ≤ capacity

@@ -1,6 +1,6 @@
 -- The rule of the desk: there is one history. Each pass has seen a beginning of it, and it has of each worker just the events that the worker made.
 use Rattle.std.specs.Prelude.{◌≡◌, ◌≢◌, ◌⊎◌, ℕ, ◌+◌, ◌≤◌, true, false, List, [], ◌∷◌, ◌++◌}
-use Rattle.std.specs.List.{AllByRecursion}
+use Rattle.std.specs.List.{AllByRecursion, AllPairs}
 use mathlib.Core.Option.{some}
 use lib.ListN.{get_elem?}
 use Rattle.lobby_model.specs.declared.event.Event.{Event}
@@ -17,7 +17,11 @@ pub record IsTold (history : List Entry) (worker : Worker) : Type 0 where
   pub whole : made_by worker.number history ≡ worker.mine
   pub known : made_by worker.number worker.seen ≡ worker.mine
 
--- what is true of one pass, where so many numbers were handed out: one that holds has seen the whole history
+-- no worker of the one list bears the number of one of the other
+abbrev pub AreApart : List Worker → List Worker → Type 0
+AreApart workers others = AllByRecursion (λ worker. AllByRecursion (λ other. worker.number ≢ other.number) others) workers
+
+-- what is true of one pass, where so many numbers were handed out: one that holds has seen the whole history, and none is kept twice
 pub record Fits (start : State) (history : List Entry) (handed : ℕ) (v : View) : Type 0 where
   pub starts : v.start.plain ≡ start
   pub told : IsTold history v.worker
@@ -25,11 +29,13 @@ pub record Fits (start : State) (history : List Entry) (handed : ℕ) (v : View)
   pub counts : v.worker.number ≡ 0 → v.handed ≡ handed
   pub saw_all : v.holds ≡ true → v.worker.seen ≡ history
   pub taken_back : AllByRecursion (λ w. IsTold history w × (w.number ≤ handed)) v.taken_back
+  pub once : AllPairs (λ worker other. worker.number ≢ other.number) v.taken_back
 
--- what is true of two passes: no number is borne twice, nor after its pass was taken back, and at most one holds
+-- what is true of two passes: no number is borne or kept twice, nor borne after its pass was taken back, and at most one holds
 pub record Meets (j k : ℕ) (v w : View) : Type 0 where
   pub apart : v.worker.number ≡ w.worker.number → j ≡ k
   pub gone : AllByRecursion (λ worker. worker.number ≢ w.worker.number) v.taken_back
+  pub kept : j ≢ k → AreApart v.taken_back w.taken_back
   pub one : v.holds ≡ true → w.holds ≡ true → j ≡ k
 
 abbrev pub IsAlive : List View → ℕ → View → Type 0
@@ -108,6 +114,13 @@ pub record Took (v : View) (x : Shown) (w : View) : Type 0 where
   pub own : made_by v.worker.number w.worker.seen ≡ v.worker.mine
   pub known : made_by v.worker.number v.worker.seen ≡ v.worker.mine
   pub stands : x.plain ≡ after_history v.start.plain w.worker.seen
+
+-- The lobby is taken for good: besides, the history has of each worker whose pass was taken back just the events that it made, and none under a
+-- number that was not handed out
+pub record Closed (v : View) (x : Shown) (w : View) : Type 0 where
+  pub took : Took v x w
+  pub taken_back : AllByRecursion (λ worker. made_by worker.number w.worker.seen ≡ worker.mine) v.taken_back
+  pub numbers : v.worker.number ≡ 0 → AllByRecursion (λ e. e.0 ≤ v.handed) w.worker.seen
 
 -- one worker has seen all that the other has, and in it each worker's events are just those that it made
 pub record Covers (longer shorter : Worker) : Type 0 where

@@ -47,6 +47,13 @@ impl BoxedLobby {
         }
     }
 
+    /// The lobby.
+    pub fn as_lobby(&self) -> &Lobby
+        ensures { result.now ≡ self.now }
+    {
+        &self.inner
+    }
+
     /// As `Lobby::open`.
     pub fn open(&mut self, ip: [u8; 4], home: u8) -> Result<u64, OpenError>
         requires { home ≤ 63 }

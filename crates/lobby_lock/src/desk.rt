@@ -1,18 +1,23 @@
 //! The desk on which the lobby lies.
 
 ghost use Rattle.std.specs.Prelude.{◌≡◌, ℕ, ◌+◌, ◌<◌, ◌≤◌, ◌↔◌, [], ◌∷◌, IfOk, IfErr};
+ghost use Rattle.std.specs.List.{AllByRecursion};
 ghost use Rattle.lobby_lock.specs.History.{after_history, made_by, Begins};
 ghost use Rattle.lobby_lock.specs.Rule.{Agree, seen_by};
+ghost use Rattle.lobby_lock.specs.Counts.{PlacesAre};
 ghost use Rattle.lobby_lock.specs.Passes.{first_pass, new_pass};
+ghost use Rattle.lobby_lock.specs.Closing.{IsOut};
+ghost use Rattle.lobby_lock.specs.declared.closing.CloseError.TheVariants.{StillOut};
 
 use crate::bell::Bell;
 use crate::boxed::BoxedLobby;
+use crate::closing::{CloseError, Closing, first_out};
 use crate::held::Held;
-use crate::pass::Pass;
+use crate::pass::{Counts, Pass};
 use crate::place::{begin, fetch};
-use crate::rule::{HandingOut, LastBack, Place, TakingBack};
+use crate::rule::{HandingOut, LastBack, Place, Taking, TakingBack, TakingForGood};
 use lobby_machine::Lobby;
-use std::alloc::Global;
+use std::alloc::{AllocError, Global};
 use std::marker::Model;
 use std::sync::Wait;
 use thiserror::Error;
@@ -24,6 +29,9 @@ pub const MOST_HANDED_OUT: u64 = 63;
 /// How many events a hold has at most. Room for so many is made with each pass, so that no event
 /// needs memory for its entry in the history.
 pub const MOST_EVENTS: usize = 32;
+
+/// How many places for counts worker 0's pass has: one for each number, its own among them.
+const PLACES: usize = 64;
 
 /// Why a desk was not opened, or a pass not handed out.
 #[derive(Clone, Copy, PartialEq, Eq, Debug, Error)]
@@ -68,6 +76,9 @@ impl Desk {
         let Ok(room) = Vec::with_capacity(alloc, MOST_EVENTS) else {
             return Err(DeskError::Memory);
         };
+        let Ok(places) = no_counts(alloc) else {
+            return Err(DeskError::Memory);
+        };
         let Ok((place, mut inner)) = Place::ruled(alloc, 1) else {
             return Err(DeskError::Memory);
         };
@@ -78,6 +89,7 @@ impl Desk {
             number: 0,
             handed: 0,
             room,
+            counts: Counts { made: 0, places },
         };
         Ok((Desk { place, bell }, pass))
     }
@@ -104,6 +116,7 @@ impl Desk {
             number,
             handed,
             room: old_room,
+            counts,
         } = pass;
         let other = self.place.another::<HandingOut>(&mut inner);
         let giver = Pass {
@@ -111,12 +124,17 @@ impl Desk {
             number,
             handed: handed + 1,
             room: old_room,
+            counts,
         };
         let newcomer = Pass {
             inner: other,
             number: handed + 1,
             handed: 0,
             room,
+            counts: Counts {
+                made: 0,
+                places: Vec::new(alloc),
+            },
         };
         Ok((giver, newcomer))
     }
@@ -136,20 +154,24 @@ impl Desk {
             number,
             handed,
             room,
+            counts: Counts { made, mut places },
         } = pass;
         let Pass {
             inner: other,
-            number: _,
+            number: place,
             handed: _,
             room: _,
+            counts: theirs,
         } = ended;
         self.place.absorb::<TakingBack>(&mut inner, other);
         self.place.learn_as::<LastBack>(&mut inner);
+        places[place as usize] = Some(theirs.made);
         Pass {
             inner,
             number,
             handed,
             room,
+            counts: Counts { made, places },
         }
     }
 
@@ -169,14 +191,66 @@ impl Desk {
             number,
             handed,
             room,
+            counts,
         } = pass;
-        let lobby = fetch(rt, &self.place, &self.bell, &mut inner);
+        let lobby = fetch::<Taking, R>(rt, &self.place, &self.bell, &mut inner);
         Held {
             inner,
             number,
             handed,
             lobby,
             events: room,
+            counts,
         }
     }
+
+    /// Closes the desk with worker 0's pass: takes the lobby for good, and waits while another holds
+    /// it. The history has then of each worker just the events that the pass knows as that worker's,
+    /// and no others. It takes no memory. Fails only while a pass that was handed out was not taken
+    /// back, and then gives all back as it was.
+    pub fn close<R: Wait>(self, rt: &R, pass: Pass) -> Result<Closing, (Desk, Pass, CloseError)>
+        requires desk { pass.desk ≡ self }
+        requires first { pass.worker.number ≡ 0 }
+        ensures pass { IfOk result (λ closing. closing.pass ≡ record pass { worker = seen_by pass.worker closing.pass.worker.seen }) }
+        ensures later { IfOk result (λ closing. Begins pass.worker.seen closing.pass.worker.seen) }
+        ensures stands { IfOk result (λ closing. closing.lobby.plain ≡ after_history pass.start closing.pass.worker.seen) }
+        ensures own { IfOk result (λ closing. made_by 0 closing.pass.worker.seen ≡ pass.worker.mine) }
+        ensures taken_back { IfOk result (λ closing. AllByRecursion (λ worker. made_by worker.number closing.pass.worker.seen ≡ worker.mine) pass.taken_back) }
+        ensures all_back { IfOk result (λ closing. (number : ℕ) → IsOut pass number → ⊥) }
+        ensures refused { IfErr result (λ e. (e.0 ≡ self) × (e.1 ≡ pass)) }
+        ensures out { IfErr result (λ e. (number : ℕ) × (e.2 ≡ StillOut number) × IsOut pass number × ((k : ℕ) → IsOut pass k → number ≤ k)) }
+    {
+        if let Some(number) = first_out(pass.counts.places.as_slice(), pass.handed) {
+            return Err((self, pass, CloseError::StillOut(number)));
+        }
+        let Desk { place, bell } = self;
+        let Pass {
+            mut inner,
+            number: _,
+            handed,
+            room,
+            counts,
+        } = pass;
+        let lobby = fetch::<TakingForGood, R>(rt, &place, &bell, &mut inner);
+        drop(room);
+        drop(place);
+        drop(bell);
+        Ok(Closing {
+            inner,
+            handed,
+            lobby,
+            counts,
+        })
+    }
+}
+
+/// A place for each number, of which none has a count. Fails only where memory is refused.
+fn no_counts(alloc: Global) -> Result<Vec<Option<u64>>, AllocError>
+    ensures { IfOk result (λ places. PlacesAre places.items []) }
+{
+    let mut places = Vec::with_capacity(alloc, PLACES)?;
+    for _ in 0..PLACES {
+        places.push_reserved(None);
+    }
+    Ok(places)
 }

@@ -11,7 +11,7 @@ ghost use Rattle.lobby_lock.specs.Passes.{lobby_after, pass_after};
 
 use crate::boxed::BoxedLobby;
 use crate::desk::{Desk, MOST_EVENTS};
-use crate::pass::Pass;
+use crate::pass::{Counts, Pass};
 use crate::place::put_back;
 use crate::rule::PlacePass;
 use command_grammar::Request;
@@ -29,6 +29,7 @@ pub struct Held {
     pub(crate) handed: u64,
     pub(crate) lobby: BoxedLobby,
     pub(crate) events: Vec<Event>,
+    pub(crate) counts: Counts,
 }
 
 impl Model for Held {
@@ -39,7 +40,7 @@ impl Model for Held {
 
     ghost view = { λ h. shown_hold h.inner h.lobby h.events.items };
 
-    ghost invariant = { λ h. IsHolding h.inner h.number h.handed h.lobby h.events.items (vec_capacity h.events) };
+    ghost invariant = { λ h. IsHolding h.inner h.number h.handed h.counts.made h.counts.places.items h.lobby h.events.items (vec_capacity h.events) };
 }
 
 impl Held {
@@ -142,7 +143,9 @@ impl Held {
             handed,
             lobby,
             mut events,
+            counts: Counts { made, places },
         } = self;
+        let made = made.saturating_add(events.len() as u64);
         put_back::<Brand, R>(rt, &desk.place, &mut inner, lobby, events.as_slice());
         desk.bell.ring();
         events.clear();
@@ -151,6 +154,7 @@ impl Held {
             number,
             handed,
             room: events,
+            counts: Counts { made, places },
         }
     }
 }

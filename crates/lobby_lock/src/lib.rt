@@ -10,11 +10,13 @@
 //! - the place is made, and the lobby is put in (`Desk::open`);
 //! - a pass is handed out (`Desk::hand_out`), or taken back (`Desk::take_back`);
 //! - a worker looks for the lobby, and finds it or not (`Desk::take`);
-//! - a hold ends, after events or after none (`Held::give`).
+//! - a hold ends, after events or after none (`Held::give`);
+//! - worker 0 takes the lobby for good (`Desk::close`), once the passes of all others came back.
 #![tactic(auto)]
 
 mod bell;
 mod boxed;
+mod closing;
 mod desk;
 mod held;
 mod pass;
@@ -23,6 +25,7 @@ mod rule;
 mod view;
 
 pub use boxed::HANDED_OVER;
+pub use closing::{CloseError, Closing, Count};
 pub use desk::{Desk, DeskError, MOST_EVENTS, MOST_HANDED_OUT};
 pub use held::Held;
 pub use pass::Pass;

@@ -6,6 +6,15 @@ use crate::rule::PlacePass;
 use lobby_model::Event;
 use std::marker::Model;
 
+/// How many events were made. A count stays at the last value of its type.
+#[derive(Drop)]
+pub(crate) struct Counts {
+    // by the pass's worker
+    pub(crate) made: u64,
+    // worker 0's pass has a place for each number: by its worker, once the pass of that came back
+    pub(crate) places: Vec<Option<u64>>,
+}
+
 /// A worker's pass to a desk. Contracts see the desk, the plain lobby with which it was opened, and
 /// what the pass knows: its worker's number, the beginning of the history that the worker has seen,
 /// and the events that it made.
@@ -17,6 +26,7 @@ pub struct Pass {
     pub(crate) handed: u64,
     // empty, with room for the events of a hold
     pub(crate) room: Vec<Event>,
+    pub(crate) counts: Counts,
 }
 
 impl Model for Pass {
@@ -27,7 +37,7 @@ impl Model for Pass {
 
     ghost view = { λ p. shown_pass p.inner };
 
-    ghost invariant = { λ p. IsReady p.inner p.number p.handed p.room.items (vec_capacity p.room) };
+    ghost invariant = { λ p. IsReady p.inner p.number p.handed p.counts.made p.counts.places.items p.room.items (vec_capacity p.room) };
 }
 
 impl Pass {

@@ -2,12 +2,15 @@
 
 ghost use Rattle.std.specs.Prelude.{◌≡◌, ℕ, true, false, []};
 ghost use Rattle.crossbeam_queue.specs.Passes.{view, IsSamePass, IsPassOf, ruled_capacity};
-ghost use Rattle.lobby_lock.specs.Rule.{new_worker, opened, gave, Took};
+ghost use Rattle.crossbeam_queue.specs.Fifo.{Pops};
+ghost use Rattle.lobby_lock.specs.Rule.{OneHistory, new_worker, opened, gave};
 ghost use Rattle.lobby_lock.specs.Passes.{shown_pass, lobby_after};
 
 use crate::bell::Bell;
 use crate::boxed::BoxedLobby;
-use crate::rule::{Giving, Happened, Opening, Place, PlacePass, Taking};
+use crate::rule::{Giving, Happened, Opening, Place, PlacePass};
+use crate::view::View;
+use crossbeam_queue::protocol::Outcome;
 use lobby_model::Event;
 use std::sync::Wait;
 
@@ -45,17 +48,22 @@ pub fn put_back<E: Happened, R: Wait>(
     }
 }
 
-/// Waits for the lobby.
-pub fn fetch<R: Wait>(rt: &R, place: &Place, bell: &Bell, pass: &mut PlacePass) -> BoxedLobby
+/// Waits for the lobby, and takes it by a step of this kind.
+pub fn fetch<M: Outcome<BoxedLobby, View>, R: Wait>(
+    rt: &R,
+    place: &Place,
+    bell: &Bell,
+    pass: &mut PlacePass,
+) -> BoxedLobby
     requires queue { IsPassOf place.now pass.old }
-    requires alive { (view pass.old).alive ≡ true }
+    requires rule { (place : ℕ) → Pops OneHistory place (view pass.old) (M.then (view pass.old)) }
     ensures queue { IsSamePass pass.old pass.new }
-    ensures took { Took (view pass.old) result (view pass.new) }
+    ensures rule { M.then (view pass.old) result (view pass.new) }
 {
     let mut rounds = 0u64;
     for _ in rt.forever() {
         let rings = bell.rings();
-        if let Some(lobby) = place.try_pop_as::<Taking>(pass) {
+        if let Some(lobby) = place.try_pop_as::<M>(pass) {
             return lobby;
         }
         bell.wait(rt, rounds, rings);

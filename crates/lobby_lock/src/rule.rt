@@ -74,6 +74,15 @@ impl Outcome<BoxedLobby, View> for Taking {
     ghost then = { Took };
 }
 
+/// The lobby is taken for good.
+pub struct TakingForGood;
+
+impl Outcome<BoxedLobby, View> for TakingForGood {
+    ghost use Rattle.lobby_lock.specs.Rule.{Closed};
+
+    ghost then = { Closed };
+}
+
 /// A worker more gets a pass.
 pub struct HandingOut;
 
