@@ -8,11 +8,12 @@ use Rattle.client_view.specs.declared.error.ViewError.{ViewError}
 use Rattle.client_view.specs.declared.error.ViewError.TheVariants.{Memory}
 use Rattle.std.proofs.Math.Seq.{take-add}
 use Rattle.std.proofs.lemmas.List.{take_more, take-append-drop, get_or-take}
-use Rattle.line_framer.specs.Frames.{without_cr}
+use Rattle.line_framer.specs.Frames.{without_cr, rest_of}
 use Rattle.line_framer.specs.Buffered.{HasNoEnd, FirstEndAt}
+use Rattle.line_framer.proofs.Parts.{rest-end}
 use Rattle.lobby_view.specs.View.{View, shown_all}
 use Rattle.lobby_view.specs.Bytes.{frame_limit, one_read}
-use Rattle.client_view.specs.Following.{Following, Followed, TookIn, HasNew, count_read}
+use Rattle.client_view.specs.Following.{Following, Followed, TookIn, HasNew, Stopped, count_read}
 use Rattle.client_view.proofs.Follows.{read_of, line_followed, line_counted, rest_followed, rest_counted, long_followed}
 
 -- whether a line is too long, by the lengths of its two parts
@@ -37,14 +38,19 @@ read_size frame = one_read_size (read_line frame)
 abbrev pub folded : ℕ → Result ℕ ViewError
 folded count = Ok count
 
-abbrev pub failed : ℕ → Result ℕ ViewError
-failed taken = Err (Memory taken)
+abbrev pub failed : ℕ → ℕ → Result ℕ ViewError
+failed taken count = Err (Memory taken count)
 
-pub taken_is : (a b : ℕ) → failed a ≡ failed b → a ≡ b
-taken_is a b e = cc
+-- a feed that stopped tells where, and how many lines it folded
+pub stopped_as : (old : Following) (piece : List ℕ) (new : Following) (taken count : ℕ) → Stopped old piece taken count new
+    → (told_taken told_count : ℕ) → failed taken count ≡ failed told_taken told_count → Stopped old piece told_taken told_count new
+stopped_as old piece new taken count stopped told_taken told_count e =
+    let same_taken : taken ≡ told_taken = cc in
+    let same_count : count ≡ told_count = cc in
+    subst (λ (n : ℕ). Stopped old piece told_taken n new) same_count (subst (λ (n : ℕ). Stopped old piece n count new) same_taken stopped)
 
-pub not_failed : (count taken : ℕ) → folded count ≡ failed taken → ⊥
-not_failed count taken e = cc
+pub not_failed : (count told_taken told_count : ℕ) → folded count ≡ failed told_taken told_count → ⊥
+not_failed count told_taken told_count e = cc
 
 -- a view of these parts
 abbrev pub following : View → List ℕ → Bool → Following
@@ -63,6 +69,11 @@ module _ (piece : List ℕ) (taken end : ℕ) (first : FirstEndAt (drop taken pi
   up_to_end =
       take-add taken (end + 1) piece
       ∙ ap (λ xs. take taken piece ++ xs) (take_more (drop taken piece) end 0 first.within ∙ ap (λ b. take end (drop taken piece) ++ b ∷ []) first.is_end)
+
+  pub ends_there : rest_of (take (taken + (end + 1)) piece) ≡ []
+  ends_there =
+      ap rest_of (up_to_end ∙ sym (append_assoc (take taken piece) (take end (drop taken piece)) (10 ∷ [])))
+      ∙ rest-end (take taken piece ++ take end (drop taken piece))
 
   none_before : HasNoEnd (take end (drop taken piece))
   none_before k lt is =

@@ -6,10 +6,10 @@ use thiserror::Error;
 #[derive(Clone, Copy, PartialEq, Eq, Debug, Error)]
 pub enum ViewError {
     /// There was no memory for the line that begins behind `taken` bytes of the piece. The lines
-    /// before it are folded, and the view is that of all bytes before it: where `taken` is 0,
-    /// nothing has changed. The rest of the piece may be fed again.
+    /// before it are taken in, `folded` of which a reply printed, and nothing of what stands behind them:
+    /// where `taken` is 0, nothing has changed. The rest of the piece may be fed again.
     #[error("no memory for more lines")]
-    Memory { taken: usize },
+    Memory { taken: usize, folded: usize },
     /// A line has more than 20,479 bytes before its LF. The feed that meets it folds the lines before
     /// it, and each later feed answers the same and changes nothing.
     #[error("a line is too long")]

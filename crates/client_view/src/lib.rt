@@ -22,8 +22,9 @@
 //! ```
 //!
 //! A line that no reply prints is skipped, so a later server may send kinds of line that this crate
-//! does not know. Where memory is refused, `feed` says how many bytes it took in: the rest of the
-//! piece may be fed again. A view takes no byte from the network and sends none.
+//! does not know. Where memory is refused to a line, `feed` stops at the end of the line before and
+//! says how many bytes it took in: the rest of the piece may be fed again. A view takes no byte from
+//! the network and sends none.
 #![tactic(auto)]
 
 mod battles;

@@ -6,7 +6,7 @@ ghost use Rattle.line_framer.specs.Buffered.{IsFirstEnd};
 ghost use Rattle.reply_reader.specs.Lines.{read_line};
 ghost use Rattle.lobby_view.specs.View.{shown_all};
 ghost use Rattle.lobby_view.specs.Bytes.{one_read, frame_limit};
-ghost use Rattle.client_view.specs.Following.{Following, Followed, TookIn, HasNew};
+ghost use Rattle.client_view.specs.Following.{Following, Followed, TookIn, HasNew, Stopped};
 
 use crate::battles::Battles;
 use crate::channels::Channels;
@@ -64,13 +64,14 @@ impl View {
     ///
     /// `LineTooLong` where a line of the bytes so far has more than 20,479 bytes before its LF, whether
     /// it has ended or not: the lines before it are folded, and then nothing changes any more.
-    /// `Memory` where there was none for a line: the bytes before that line are taken in.
+    /// `Memory` where there was none for a line, which stops the feed at the end of the line before: it
+    /// says how many bytes it took in, all of them of whole lines, and how many lines it folded. Nothing
+    /// behind them was taken in. Who feeds a line at a time so finds nothing changed.
     pub fn feed(&mut self, piece: &[u8]) -> Result<usize, ViewError>
         ensures ok { IfOk result (λ count. TookIn self.old piece.now self.new × (self.new.spoilt ≡ false) × HasNew self.old piece.now count) }
         ensures too_long { result ≡ Err ViewError.LineTooLong → TookIn self.old piece.now self.new × (self.new.spoilt ≡ true) }
         ensures later { self.old.spoilt ≡ true → (result ≡ Err ViewError.LineTooLong) × (self.new ≡ self.old) }
-        ensures memory { (taken : ℕ) → result ≡ Err (ViewError.Memory taken) → (taken ≤ length piece.now) × TookIn self.old (take taken piece.now) self.new × (self.new.spoilt ≡ false) }
-        ensures unchanged { result ≡ Err (ViewError.Memory 0) → self.new ≡ self.old }
+        ensures memory { (taken folded : ℕ) → result ≡ Err (ViewError.Memory taken folded) → Stopped self.old piece.now taken folded self.new }
     {
         if self.spoilt {
             return Err(ViewError::LineTooLong);
@@ -85,7 +86,10 @@ impl View {
             }
             match self.end_line(line) {
                 Ok(folded) => count += folded,
-                Err(AllocError) => return Err(ViewError::Memory { taken }),
+                Err(AllocError) => return Err(ViewError::Memory {
+                    taken,
+                    folded: count,
+                }),
             }
             taken += end + 1;
         }
@@ -96,7 +100,10 @@ impl View {
         }
         match self.rest.extend_from_slice(tail) {
             Ok(()) => Ok(count),
-            Err(AllocError) => Err(ViewError::Memory { taken }),
+            Err(AllocError) => Err(ViewError::Memory {
+                taken,
+                folded: count,
+            }),
         }
     }
 

@@ -120,10 +120,11 @@ module _ (s : State) (k : Kinds s) (me : List ℕ) (n : IsName me) (c : ℕ) (co
   update_battle : (spectators : ℕ) (locked : Bool) (map_hash : ℤ) (map_name : List ℕ)
       → Answers (command.UpdateBattleInfo spectators locked map_hash map_name)
   update_battle spectators locked map_hash map_name kinds short =
-      let p = and_parts (is_up_to 65535 spectators && is_wide map_hash) (is_sentence map_name) kinds in
-      let q = and_parts (is_up_to 65535 spectators) (is_wide map_hash) p.0 in
+      let p = and_parts (is_up_to 65535 spectators && true && is_wide map_hash) (is_sentence map_name) kinds in
+      let q = and_parts (is_up_to 65535 spectators && true) (is_wide map_hash) p.0 in
+      let r = and_parts (is_up_to 65535 spectators) true q.0 in
       checked.as_its_founder s k me n _
-      (λ id b was. info_clean s k id b was spectators locked map_hash map_name (up 65535 spectators q.0) q.1 p.1 (omega arith))
+      (λ id b was. info_clean s k id b was spectators locked map_hash map_name (up 65535 spectators r.0) q.1 p.1 (omega arith))
 
   my_battle_status : (asked : ℕ) (colour : ℤ) → Answers (command.MyBattleStatus asked colour)
   my_battle_status asked colour kinds short =
@@ -195,7 +196,7 @@ module _ (s : State) (k : Kinds s) (me : List ℕ) (n : IsName me) (c : ℕ) (co
       let parts = and_parts (nat_le 1 (length pairs)) (list_all is_pair pairs) kinds in
       checked.as_its_founder s k me n _
       (λ id b was. checked.demand s k me n (has_too_many_tags (with_tags b.room.tags pairs)) too_many_tags _ refl (omega arith)
-      (room_clean s k id b (set_tags pairs) (reply.SetScriptTags pairs ∷ []) (λ room h. tags_kinds room h pairs (pairs_kinds pairs parts.1 short))
+      (room_clean s k id b (set_tags pairs) (reply.SetScriptTags pairs ∷ []) (λ room h. tags_kinds room h pairs (pairs_kinds pairs parts.1 (omega arith)))
       (record { fits = λ i. (parts.1 i && parts.0 i) && true; short = (let r = pairs_room 32 pairs in omega arith) }, tt)))
 
   remove_script_tags : (keys : List (List ℕ)) → Answers (command.RemoveScriptTags keys)

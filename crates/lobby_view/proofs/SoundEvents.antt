@@ -10,8 +10,7 @@ use Rattle.reply_grammar.proofs.Bytes.{all_append}
 use Rattle.reply_grammar.proofs.Decimals.{signed_words}
 use Rattle.command_grammar.specs.Kinds.{keeps_kinds}
 use Rattle.command_grammar.specs.Sizes.{argument_bytes}
-use Rattle.command_grammar.proofs.KindTables.{request_keeps, request_id_keeps}
-use Rattle.command_grammar.proofs.SizeTables.{request_fits}
+use Rattle.command_grammar.proofs.Bounds.{request_fits, request_id_keeps, request_keeps}
 use Rattle.lobby_model.specs.declared.event.Event.{Event}
 use Rattle.lobby_model.specs.declared.event.Event.TheVariants as event
 use Rattle.lobby_model.specs.Battles.{ip_text}

@@ -1,8 +1,9 @@
 //! Laws of the printed lines.
 
-ghost use Rattle.std.specs.Prelude.{◌≡◌, ◌↔◌, ℕ, Option};
+ghost use Rattle.std.specs.Prelude.{◌≡◌, ◌↔◌, ℕ, List, Option, Some};
 ghost use Rattle.reply_grammar.specs.declared.Reply.{Reply};
 ghost use Rattle.reply_grammar.specs.Replies.{Fits, IsId, Line, ReadsAs, line_text};
+ghost use Rattle.reply_reader.specs.Lines.{read_line};
 
 /// Two different pairs of a message id and a reply never print alike.
 pub fn no_two_alike()
@@ -14,4 +15,10 @@ pub fn no_two_alike()
 pub fn each_reads_alone()
     ensures { (id : Option ℕ) (reply : Reply) → IsId id → Fits reply
         → (other : Line) → ReadsAs (line_text id reply) other ↔ (other ≡ (id, reply)) }
+{}
+
+/// Any line, without its LF, is read as a pair of an id and a reply exactly where that pair keeps its
+/// kinds and prints as the line. So who folds what is read of lines folds the replies that print so.
+pub fn reads_what_prints()
+    ensures { (line : List ℕ) (pair : Line) → (read_line line ≡ Some pair) ↔ ReadsAs line pair }
 {}

@@ -176,3 +176,51 @@ fn a_line_of_20479_bytes_is_a_line_and_a_longer_one_ends_all(rt: HostRuntime) {
     see_longest(&rt, &mut view);
     drop(view);
 }
+
+/// Feeds a piece, and after each refusal of memory what was not taken in. Gives how many lines were
+/// folded, and sees that each refusal stopped at the start or behind an LF, before the end.
+fn feed_on(rt: &impl Abort, view: &mut View, piece: &[u8]) -> Result<usize, Fail> {
+    let mut rest = piece;
+    let mut before: usize = 0;
+    for _ in 0..piece.len() {
+        match view.feed(rest) {
+            Ok(count) => return Ok(before.saturating_add(count)),
+            Err(ViewError::Memory { taken, folded }) => {
+                let (taken_in, left) = rest.split_at_checked(taken).ok_or("more than all")?;
+                assert!(rt; taken_in.is_empty() || taken_in.ends_with(b"\n"));
+                assert!(rt; !left.is_empty());
+                before = before.saturating_add(folded);
+                rest = left;
+            }
+            Err(ViewError::LineTooLong) => return Err("a line is too long".into()),
+        }
+    }
+    Err("no end".into())
+}
+
+fn see_fed_on(rt: &impl Abort, view: &mut View) -> Result<(), Fail> {
+    same(rt, feed_on(rt, view, SENT)?, 24);
+    same(rt, feed_on(rt, view, b"ADDBOT 1 Rex")?, 0);
+    same(rt, feed_on(rt, view, b" Bert 0 0 E323\n")?, 1);
+    let room = view.room().ok_or("no room")?;
+    same(
+        rt,
+        (
+            view.users().len(),
+            view.battles().len(),
+            room.members().len(),
+            room.bots().len(),
+            room.tags().len(),
+        ),
+        (2, 1, 2, 2, 1),
+    );
+    Ok(())
+}
+
+#[test]
+fn a_feed_that_memory_refused_goes_on_where_it_stopped(rt: HostRuntime) -> Result<(), Fail> {
+    let mut view = View::new(rt.alloc());
+    let seen = see_fed_on(&rt, &mut view);
+    drop(view);
+    seen
+}

@@ -2,9 +2,9 @@ use Rattle.std.proofs.Common.{◌≡◌, ◌∙◌, ap, sym, subst, true, arith,
 use Rattle.std.proofs.lemmas.List.{take_rest}
 use Rattle.line_framer.specs.Frames.{without_cr}
 use Rattle.lobby_view.specs.View.{shown_all}
-use Rattle.client_view.specs.Following.{Following}
+use Rattle.client_view.specs.Following.{Following, Stopped}
 use Rattle.client_view.proofs.Follows.{spoilt_follows, read_of}
-use Rattle.client_view.proofs.Feeding.{is_long, is_short, read_size, taken_is, not_failed, following, line_taken, line_counts, line_long, rest_taken, rest_counts, rest_long}
+use Rattle.client_view.proofs.Feeding.{is_long, is_short, read_size, stopped_as, ends_there, not_failed, following, line_taken, line_counts, line_long, rest_taken, rest_counts, rest_long}
 use Rattle.client_view.proofs.view.View.feed.Goals as goal
 use Rattle.client_view.proofs.view.View.feed.Goals.{in-Ok-extend_from_slice, in-Err-extend_from_slice}
 
@@ -25,8 +25,14 @@ returns-then-is_too_long-clause-too_long c = λ _.
       refl,
     )
 
-pub returns-in-Err-clause-unchanged : goal.returns-in-Err-clause-unchanged
-returns-in-Err-clause-unchanged c = λ e. c.in-Err.ensures.err ∙ c.loop-end.invariant.at_start (taken_is c.loop-end.taken 0 e)
+pub returns-in-Err-clause-memory : goal.returns-in-Err-clause-memory
+returns-in-Err-clause-memory c =
+    let so_far = c.loop-end.invariant in
+    let inside = c.in-Some.ensures.within in
+    let size = length-drop c.loop-end.taken c.args.piece.now in
+    stopped_as c.args.self.now c.args.piece.now c.end_line.new.self c.loop-end.taken c.loop-end.count
+    (subst (Stopped c.args.self.now c.args.piece.now c.loop-end.taken c.loop-end.count) (sym c.in-Err.ensures.err)
+    (record { left = omega arith; at_end = so_far.at_end; took = so_far.took; counts = so_far.counts; sound = so_far.live; at_start = so_far.at_start }))
 
 -- one line more
 pub loop-end-preserved : goal.loop-end-preserved
@@ -44,6 +50,7 @@ loop-end-preserved c =
     let inside = c.in-Some.ensures.within in
     record {
       within = omega (arith, so_far.within);
+      at_end = ends_there c.args.piece.now c.loop-end.taken c.in-Some.end c.in-Some.ensures;
       live = c.end_line.ensures.spoilt ∙ so_far.live;
       took = line_taken c.args.piece.now c.loop-end.taken c.in-Some.end c.in-Some.ensures c.args.self.now c.loop-end.self so_far.took so_far.live
           small c.end_line.new.self (c.in-Ok.ensures.known ∙ ap (shown_all c.loop-end.self.known) frame_is) c.in-Ok.ensures.rest c.end_line.ensures.spoilt;
@@ -84,11 +91,17 @@ returns-clause-ok c =
       | in-Err-extend_from_slice w ↦ rw w.result-is tt
     ]
 
-pub returns-clause-unchanged : goal.returns-clause-unchanged
-returns-clause-unchanged c =
+pub returns-clause-memory : goal.returns-clause-memory
+returns-clause-memory c =
+    let so_far = c.loop-end.invariant in
     elim c.match-extend_from_slice.branch [
-      | in-Ok-extend_from_slice w ↦ λ e. absurd (not_failed c.loop-end.count 0 (sym w.result-is ∙ e))
-      | in-Err-extend_from_slice w ↦ λ e.
-          ap (λ (rest : List ℕ). following c.self-2.inside.known rest c.self-2.inside.spoilt) w.in-Err-extend_from_slice.ensures.items
-          ∙ c.self-2.view_is ∙ c.loop-end.invariant.at_start (taken_is c.loop-end.taken 0 (sym w.result-is ∙ e))
+      | in-Ok-extend_from_slice w ↦ λ taken count e. absurd (not_failed c.loop-end.count taken count (sym w.result-is ∙ e))
+      | in-Err-extend_from_slice w ↦ λ taken count e.
+          let same = ap (λ (rest : List ℕ). following c.self-2.inside.known rest c.self-2.inside.spoilt) w.in-Err-extend_from_slice.ensures.items ∙ c.self-2.view_is in
+          let size = length-drop c.loop-end.taken c.args.piece.now in
+          let full = w.in-Err-extend_from_slice.ensures.full in
+          stopped_as c.args.self.now c.args.piece.now _ c.loop-end.taken c.loop-end.count
+          (subst (Stopped c.args.self.now c.args.piece.now c.loop-end.taken c.loop-end.count) (sym same)
+          (record { left = omega arith; at_end = so_far.at_end; took = so_far.took; counts = so_far.counts; sound = so_far.live; at_start = so_far.at_start }))
+          taken count (sym w.result-is ∙ e)
     ]
