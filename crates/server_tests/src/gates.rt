@@ -186,3 +186,39 @@ impl Gate for Greeters {
 
     fn woken(&self, _worker: u64) {}
 }
+
+/// A gate that keeps worker 1 from its inbox where it was woken, until it may go on.
+#[derive(Drop)]
+pub struct Busy {
+    clock: HostRuntime,
+    may_go: AtomicBool,
+    is_missed: AtomicBool,
+}
+
+impl Busy {
+    pub fn new(clock: HostRuntime) -> Busy {
+        Busy {
+            clock,
+            may_go: AtomicBool::new(false),
+            is_missed: AtomicBool::new(false),
+        }
+    }
+
+    /// Lets the worker go on. Whether it was kept until now.
+    pub fn let_go(&self) -> bool {
+        self.may_go.store(true, Ordering::SeqCst);
+        !self.is_missed.load(Ordering::SeqCst)
+    }
+}
+
+impl Gate for Busy {
+    fn before_take(&self, _worker: u64) {}
+
+    fn after_write(&self, _worker: u64, _bytes: &[u8]) {}
+
+    fn woken(&self, worker: u64) {
+        if worker == 1 && !is_set_soon(&self.clock, &self.may_go) {
+            self.is_missed.store(true, Ordering::SeqCst);
+        }
+    }
+}

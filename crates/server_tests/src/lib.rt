@@ -7,6 +7,8 @@ mod clients;
 #[cfg(test)]
 mod gates;
 #[cfg(test)]
+mod hostile;
+#[cfg(test)]
 mod running;
 #[cfg(test)]
 mod server;

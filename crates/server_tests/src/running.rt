@@ -2,6 +2,7 @@
 
 ghost use Rattle.std.specs.Prelude.{◌≡◌, ◌≤◌, IfOk};
 
+use crate::gates::is_set_soon;
 use account_book::AccountBook;
 use line_words::TextBuf;
 use lobby_model::Settings;
@@ -55,6 +56,9 @@ LOGININFOEND
 /// So often an input looks whether it is to end: for longer than any test takes.
 const INPUT_LOOKS: u32 = 50_000;
 
+/// What a test has in place of a status where the server does not end. No server ends with it.
+const NO_END: u8 = 255;
+
 /// The port of this machine.
 pub fn loopback(port: u16) -> SocketAddr {
     SocketAddr::new(IpAddr::V4(Ipv4Addr::new(127, 0, 0, 1)), port)
@@ -102,6 +106,8 @@ pub struct Server {
     service: Service,
     listener: TcpListener,
     input: UntilSet,
+    // set when the server has ended
+    ended: Arc<AtomicBool>,
     ghost within: { (1 ≤ service.workers) × (service.workers ≤ 64) },
 }
 
@@ -112,10 +118,13 @@ impl Server {
             service,
             listener,
             mut input,
+            ended,
         } = self;
         let alloc = input.clock.alloc();
         let mut output = Vec::new(alloc);
-        run_server(rt, alloc, service, listener, &mut input, &mut output, gate)
+        let status = run_server(rt, alloc, service, listener, &mut input, &mut output, gate);
+        ended.store(true, Ordering::SeqCst);
+        status
     }
 }
 
@@ -124,14 +133,21 @@ impl Server {
 pub struct Running {
     /// Where it listens.
     pub address: SocketAddr,
+    clock: HostRuntime,
     flag: Arc<AtomicBool>,
+    ended: Arc<AtomicBool>,
 }
 
 impl Running {
-    /// Ends the server's input, and gives its status. Its thread is this one.
+    /// Ends the server's input, and gives its status. Its thread is this one. A server that does not end within so many looks is
+    /// not waited for, and has a status that none ends with.
     pub fn end<R: Threads>(self, rt: &R, thread: JoinHandle<u8>) -> u8 {
         self.flag.store(true, Ordering::SeqCst);
-        thread.join(rt)
+        if is_set_soon(&self.clock, &self.ended) {
+            thread.join(rt)
+        } else {
+            NO_END
+        }
     }
 }
 
@@ -148,7 +164,8 @@ pub fn new_server<R: Net>(
     let listener = TcpListener::bind(rt, loopback(0))?;
     let address = listener.local_addr()?;
     let flag = Arc::new(alloc, AtomicBool::new(false))?;
-    let theirs = flag.clone()?;
+    let ended = Arc::new(alloc, AtomicBool::new(false))?;
+    let (theirs, their_end) = (flag.clone()?, ended.clone()?);
     let service = service(alloc, workers)?;
     let server = Server {
         service,
@@ -157,6 +174,13 @@ pub fn new_server<R: Net>(
             clock,
             flag: theirs,
         },
+        ended: their_end,
     };
-    Ok((server, Running { address, flag }))
+    let running = Running {
+        address,
+        clock,
+        flag,
+        ended,
+    };
+    Ok((server, running))
 }

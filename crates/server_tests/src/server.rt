@@ -65,7 +65,7 @@ fn an_input_that_fails_ends_the_server_too(rt: HostRuntime) -> Result<(), Fail> 
 }
 
 /// A text so many times over.
-fn times_over(alloc: Global, text: &[u8], times: usize) -> Result<Vec<u8>, AllocError> {
+pub fn times_over(alloc: Global, text: &[u8], times: usize) -> Result<Vec<u8>, AllocError> {
     let mut all = Vec::new(alloc);
     for _ in 0..times {
         all.extend_from_slice(text)?;
