@@ -2,7 +2,8 @@
 """The merge gate: `rt ci` and then the checks of the built programs, and at the end where the processor's time went.
 
 Says for each crate the seconds of a processor of its proof, its tests, its programs and its edits, for each edit its own, and
-which crates take more than they may. The same goes to out/gate.txt. The status is that of the first part that failed."""
+which crates take more than they may. The same goes to out/gate.txt. Behind it stands again what passed and failed. The status is
+that of the first part that failed."""
 import collections
 import os
 import re
@@ -133,16 +134,29 @@ def table(sums, whole, minutes):
     yield f"gate: {whole / 60:.1f} minutes of a processor, {minutes:.1f} minutes on {lanes} processors"
 
 
+def shown(words, environment, told):
+    """The status of a part of the gate, which shows what it prints. Told gets its lines of what passed and failed."""
+    part = subprocess.Popen(words, cwd=ROOT, env=environment, stdout=subprocess.PIPE, stderr=subprocess.STDOUT, text=True, errors="replace")
+    for line in part.stdout:
+        print(line, end="", flush=True)
+        if re.search(r"\b(FAILED|NOT PROVED|passed, \d+ failed)\b", line):
+            told.append(line.rstrip("\n"))
+    if part.wait():
+        told.append(f"{Path(words[0]).name} ends with status {part.returncode}")
+    return part.returncode
+
+
 def main():
     begun = time.monotonic()
     watch = Watch()
     looking = threading.Thread(target=watch.run)
     looking.start()
     lanes = subprocess.run([ROOT / "tools/lanes.sh"], stdout=subprocess.PIPE, text=True, check=True).stdout.strip()
+    told = []
     try:
-        status = subprocess.run(["rt", "ci"], cwd=ROOT, env={**os.environ, "RT_JOBS": lanes}).returncode
+        status = shown(["rt", "ci"], {**os.environ, "RT_JOBS": lanes}, told)
         for it in CHECKS:
-            status = status or subprocess.run([ROOT / "checks" / it], cwd=ROOT).returncode
+            status = status or shown([ROOT / "checks" / it], os.environ, told)
     finally:
         watch.over.set()
         looking.join()
@@ -150,7 +164,8 @@ def main():
     lines = [*table(watch.sums(), times.children_user + times.children_system, (time.monotonic() - begun) / 60)]
     (ROOT / "out").mkdir(exist_ok=True)
     (ROOT / "out/gate.txt").write_text("\n".join(lines) + "\n")
-    print("\n".join(["", *lines]), flush=True)
+    # What failed stands last, where whoever sees only the end finds it.
+    print("\n".join(["", *lines, "", *told]), flush=True)
     return status
 
 
