@@ -351,7 +351,7 @@ fn run_workers<R: Threads + Wait + Sync, I: Read, G: Gate + Sync>(
         rt,
         move |scope| -> Ended
             requires { (first.pass.desk ≡ shared.now.desk.now) × (first.pass.worker.number ≡ 0) × All (λ seat. seat.pass.desk ≡ shared.now.desk.now) others.items × (handles.items ≡ []) × (vec_len others ≤ vec_capacity handles) }
-            ensures { (result.pass.desk ≡ shared.now.desk.now) × (result.pass.worker.number ≡ 0) }
+            ensures { (result.pass.desk ≡ shared.entry.now.desk.now) × (result.pass.worker.number ≡ 0) }
         { run_threads(scope, rt, shared, first, others, handles, input) },
     );
     Ok(ended)
