@@ -3,7 +3,7 @@ SCRIPT ?= examples/ping.play
 SETTINGS ?= examples/lobby.toml
 ACCOUNTS ?= examples/accounts.toml
 
-.PHONY: play serve hash view build test check bench memory soak connections
+.PHONY: play serve hash view build test check bench memory soak connections counts
 
 play:
 	@tools/run.sh lobby_play < $(SCRIPT)
@@ -34,6 +34,9 @@ memory:
 
 soak:
 	@checks/soak.sh
+
+counts:
+	@checks/counts.py
 
 connections:
 	@for workers in 1 4; do checks/connections.py $$workers && checks/played.py $$workers && checks/mixed.py $$workers && checks/crowd.py $$workers || exit 1; done

@@ -6,6 +6,7 @@ longer than a given time."""
 import contextlib
 import os
 import random
+import re
 import resource
 import select
 import socket
@@ -74,7 +75,7 @@ class Server:
 
     def __init__(self, workers, accounts, settings="", port=0, files=0):
         self.folder = tempfile.TemporaryDirectory(prefix="lobby-check-")
-        self.port, self.is_stopped = port or free_port(), False
+        self.port, self.is_stopped, self.workers, self.counts = port or free_port(), False, workers, []
         room = Path(self.folder.name)
         head = f'address = "{ADDRESS}:{self.port}"\nworkers = {workers}\nstop_at_input_end = true\n'
         (room / "settings.toml").write_text(head + settings)
@@ -105,7 +106,7 @@ class Server:
             self.folder.cleanup()
 
     def stop(self):
-        """Ends the server by the end of its input, and gives how long that took."""
+        """Ends the server by the end of its input, and gives how long that took. `counts` has then the events of each worker."""
         begun = time.monotonic()
         self.check_runs()
         self.is_stopped = True
@@ -114,8 +115,11 @@ class Server:
             status = self.process.wait(PATIENCE)
         except subprocess.TimeoutExpired:
             raise Difference("the server does not end with its input") from None
-        if status != 0 or self.process.stdout.read() or self.told():
-            raise Difference(f"the server ends with status {status}, or told something: {self.told()}")
+        lines = self.process.stdout.read().decode().splitlines()
+        told = [re.fullmatch(f"worker {worker}: ([0-9]+) events", line) for worker, line in enumerate(lines)]
+        if status != 0 or not all(told) or len(told) != self.workers or self.told():
+            raise Difference(f"the server ends with status {status}, and told: {lines} {self.told()}")
+        self.counts = [int(it[1]) for it in told]
         return time.monotonic() - begun
 
     def check_runs(self):

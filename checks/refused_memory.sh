@@ -42,7 +42,7 @@ for ((number = 1; number <= 1000; number++)); do
     said=$(start "$number")
     case $said in
         '4 no memory' | '4 listening no memory' | '3 listening cannot listen') ;;
-        '0 listening') break ;;
+        '0 listening worker 0: 0 events worker 1: 0 events') break ;;
         *) echo "allocation $number refused to a server that starts: $said"; failed=$((failed + 1)) ;;
     esac
 done

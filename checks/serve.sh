@@ -32,8 +32,9 @@ expect() {
     failed=$((failed + 1))
 }
 
-expect 0 'listening\n' '' /dev/null serve "$settings" "$accounts"
-expect 0 'listening\n' '' "$settings" serve "$settings" examples/accounts.toml
+idle='listening\nworker 0: 0 events\nworker 1: 0 events\n'
+expect 0 "$idle" '' /dev/null serve "$settings" "$accounts"
+expect 0 "$idle" '' "$settings" serve "$settings" examples/accounts.toml
 expect 1 '' "$usage\n" /dev/null serve
 expect 1 '' "$usage\n" /dev/null serve "$settings"
 expect 1 '' "$usage\n" /dev/null serve "$settings" "$accounts" more
@@ -46,7 +47,7 @@ expect 2 '' 'cannot use accounts\n' /dev/null serve "$settings" "$room/none"
 expect 2 '' 'cannot use accounts\n' /dev/null serve "$room/elsewhere" "$room/broken"
 expect 2 '' 'cannot use accounts\n' /dev/null serve "$settings" "$room/no_name"
 expect 3 '' 'cannot listen\n' /dev/null serve "$room/elsewhere" "$accounts"
-expect 2 'listening\n' 'cannot read input\n' . serve "$settings" "$accounts"
+expect 2 "$idle" 'cannot read input\n' . serve "$settings" "$accounts"
 
 # port_of PROCESS : the port at which it listens, which the system chose.
 port_of() {

@@ -1,6 +1,6 @@
 //! The server: a lobby, its workers in threads of their own, and what ends them.
 
-ghost use Rattle.std.specs.Prelude.{◌≡◌, ◌≤◌, [], IfOk, OnOk, vec_len, vec_capacity};
+ghost use Rattle.std.specs.Prelude.{◌≡◌, ◌≤◌, [], IfOk, IfErr, OnOk, vec_len, vec_capacity};
 ghost use Rattle.std.specs.List.{All};
 
 use crate::connections::Shared;
@@ -8,7 +8,7 @@ use crate::crew::Crew;
 use crate::error::ServerError;
 use crate::worker::{Station, run_worker};
 use account_book::AccountBook;
-use lobby_lock::{Desk, DeskError, Pass};
+use lobby_lock::{Closing, Count, Desk, DeskError, Pass};
 use lobby_machine::Lobby;
 use lobby_model::Settings;
 use lobby_turns::Gate;
@@ -50,14 +50,27 @@ impl Promise<Pass> for SamePass {
 
 type Handle = PromisedHandle<Pass, SamePass>;
 
+/// How the workers ended.
+#[derive(Drop)]
+struct Ended {
+    /// Worker 0's pass, which has taken back those of the others.
+    pass: Pass,
+    /// Nothing where the input came to its end.
+    reason: Result<(), ServerError>,
+}
+
+/// More workers than there are.
+const MOST_WORKERS: u64 = 64;
+
 /// Runs a server on a listener, and gives the exit status of its program.
 ///
 /// It makes what its workers need, prints `listening`, and starts them, each in a thread of its own.
 /// The status is 3 where a poll, a waker, a registration or a thread cannot be made, and 4 where
-/// memory is refused while starting; workers that had started are stopped. With `stop_at_input_end`
+/// memory is refused while starting; workers that had started are stopped, and nothing more is printed. With `stop_at_input_end`
 /// the first thread reads the input to its end and then stops the workers: the status is 0, or 2
-/// where a read failed. A worker that is stopped shuts its clients, and its pass is taken back. A
-/// print that fails is ignored.
+/// where a read failed. A worker that is stopped shuts its clients, and its pass is taken back. Then
+/// the desk is closed, and for each worker a line is printed: `worker W: N events`, or `worker W: full`
+/// for 18446744073709551615 and more. A print that fails is ignored.
 pub fn run_server<R: Threads + Wait + Net + Sync, I: Read, O: Write, G: Gate + Sync>(
     rt: &R,
     alloc: Global,
@@ -106,8 +119,56 @@ fn serve_until_end<R: Threads + Wait + Net + Sync, I: Read, O: Write, G: Gate + 
         Err(error) => Err(error),
     };
     drop(crew);
-    drop(desk);
-    ended
+    match ended {
+        Ok(Ended { pass, reason }) => {
+            close(rt, desk, pass, reason, output);
+            reason
+        }
+        Err(error) => {
+            drop(desk);
+            Err(error)
+        }
+    }
+}
+
+/// Closes a desk, and where its server was stopped by its input says what each worker did.
+fn close<R: Wait, O: Write>(
+    rt: &R,
+    desk: Desk,
+    pass: Pass,
+    reason: Result<(), ServerError>,
+    output: &mut O,
+)
+    requires { (pass.desk ≡ desk) × (pass.worker.number ≡ 0) }
+{
+    match desk.close(rt, pass) {
+        Ok(closing) => {
+            if reason != Err(ServerError::System) {
+                tell_counts(&closing, output);
+            }
+            drop(closing);
+        }
+        Err((desk, pass, _)) => {
+            drop(pass);
+            drop(desk);
+        }
+    }
+}
+
+/// Says how many events each worker made, in rising order. A print that fails is ignored.
+fn tell_counts<O: Write>(closing: &Closing, output: &mut O) {
+    for worker in 0..MOST_WORKERS {
+        match closing.events(worker) {
+            Count::Made(events) => {
+                let _ = writeln!(output, "worker {worker}: {events} events");
+            }
+            Count::Full => {
+                let _ = writeln!(output, "worker {worker}: full");
+            }
+            Count::Never => {}
+        }
+    }
+    let _ = output.flush();
 }
 
 /// Says that the server listens. A print that fails is ignored.
@@ -266,7 +327,8 @@ fn hand_out(desk: &Desk, alloc: Global, pass: Pass) -> Result<(Pass, Pass), Serv
     }
 }
 
-/// Runs the workers until the input ends, where there is one.
+/// Runs the workers until the input ends, where there is one. Fails only where memory is refused, and
+/// then none was started.
 fn run_workers<R: Threads + Wait + Sync, I: Read, G: Gate + Sync>(
     rt: &R,
     alloc: Global,
@@ -274,22 +336,25 @@ fn run_workers<R: Threads + Wait + Sync, I: Read, G: Gate + Sync>(
     first: Seat,
     others: Vec<Seat>,
     input: Option<&mut I>,
-) -> Result<(), ServerError>
+) -> Result<Ended, ServerError>
     requires first { (first.pass.desk ≡ shared.now.desk.now) × (first.pass.worker.number ≡ 0) }
     requires others { All (λ seat. seat.pass.desk ≡ shared.now.desk.now) others.items }
+    ensures { IfOk result (λ ended. (ended.pass.desk ≡ shared.now.desk.now) × (ended.pass.worker.number ≡ 0)) }
 {
     let Ok(handles) = Vec::with_capacity(alloc, others.len()) else {
         drop(first);
         drop(others);
         return Err(ServerError::Memory);
     };
-    thread::scope(
+    let ended = thread::scope(
         thread::scope_env(),
         rt,
-        move |scope| -> Result<(), ServerError>
+        move |scope| -> Ended
             requires { (first.pass.desk ≡ shared.now.desk.now) × (first.pass.worker.number ≡ 0) × All (λ seat. seat.pass.desk ≡ shared.now.desk.now) others.items × (handles.items ≡ []) × (vec_len others ≤ vec_capacity handles) }
+            ensures { (result.pass.desk ≡ shared.entry.now.desk.now) × (result.pass.worker.number ≡ 0) }
         { run_threads(scope, rt, shared, first, others, handles, input) },
-    )
+    );
+    Ok(ended)
 }
 
 /// Runs the workers in threads of a scope. There is room for the handles of all.
@@ -301,38 +366,53 @@ fn run_threads<'s, 'e, R: Threads + Wait + Sync, I: Read, G: Gate + Sync>(
     others: Vec<Seat>,
     handles: Vec<Handle>,
     input: Option<&mut I>,
-) -> Result<(), ServerError>
+) -> Ended
     requires first { (first.pass.desk ≡ shared.now.desk.now) × (first.pass.worker.number ≡ 0) }
     requires others { All (λ seat. seat.pass.desk ≡ shared.now.desk.now) others.items }
     requires none { handles.items ≡ [] }
     requires room { vec_len others ≤ vec_capacity handles }
+    ensures { (result.pass.desk ≡ shared.now.desk.now) × (result.pass.worker.number ≡ 0) }
 {
-    let first = start(scope, rt, shared, first)?;
-    let (handles, started) = start_all(scope, rt, shared, others, handles);
-    let ended = match (started, input) {
-        (Err(error), _) => Err(error),
-        (Ok(()), Some(input)) => read_to_end(input),
-        // The workers run until the program is killed.
-        (Ok(()), None) => {
-            take_back(rt, shared.desk, first, handles);
-            return Ok(());
-        }
+    let Seat { station, pass } = first;
+    let (pass, handles) = start_all(scope, rt, shared, pass, others, handles);
+    let first = start(scope, rt, shared, Seat { station, pass });
+    let reason = wait_for_end(shared.crew, input);
+    let pass = match first {
+        Ok(handle) => handle.join(rt),
+        Err(pass) => pass,
     };
-    shared.crew.stop();
-    take_back(rt, shared.desk, first, handles);
-    ended
+    let pass = take_back(rt, shared.desk, pass, handles);
+    Ended { pass, reason }
 }
 
-/// Starts a worker's thread.
+/// Waits until the input ends, where there is one, and stops the workers. Does not wait where a worker got no thread.
+fn wait_for_end<I: Read>(crew: &Crew, input: Option<&mut I>) -> Result<(), ServerError> {
+    if crew.is_stopped() {
+        return Err(ServerError::System);
+    }
+    match input {
+        Some(input) => {
+            let reason = read_to_end(input);
+            crew.stop();
+            reason
+        }
+        // The workers run until the program is killed.
+        None => Ok(()),
+    }
+}
+
+/// Starts a worker's thread. Where none can be made all workers are stopped, and what the thread would
+/// do is done here, which then ends at once and gives the pass back.
 fn start<'s, 'e, R: Wait + Sync, G: Gate + Sync>(
     scope: &Scope<'s, &'e ()>,
     rt: &'e R,
     shared: &Shared<'e, G>,
     seat: Seat,
-) -> Result<Handle, ServerError>
+) -> Result<Handle, Pass>
     requires { seat.pass.desk ≡ shared.now.desk.now }
     ensures desk { IfOk result (λ handle. handle.promise.0.value.desk ≡ shared.now.desk.now) }
     ensures number { IfOk result (λ handle. handle.promise.0.value.worker.number ≡ seat.pass.worker.number) }
+    ensures back { IfErr result (λ pass. (pass.desk ≡ shared.now.desk.now) × (pass.worker.number ≡ seat.pass.worker.number)) }
 {
     let promise = SamePass(Snapshot::of(&seat.pass));
     let desk = shared.desk;
@@ -340,9 +420,9 @@ fn start<'s, 'e, R: Wait + Sync, G: Gate + Sync>(
     let gate = shared.gate;
     match scope.spawn_with(promise, move || work(rt, desk, crew, gate, seat)) {
         Ok(handle) => Ok(handle),
-        Err(failed) => {
-            drop(failed);
-            Err(ServerError::System)
+        Err(refused) => {
+            crew.stop();
+            Err((refused.value)())
         }
     }
 }
@@ -358,40 +438,46 @@ fn work<R: Wait, G: Gate>(rt: &R, desk: &Desk, crew: &Crew, gate: &G, seat: Seat
     run_worker(rt, &Shared { desk, crew, gate }, station, pass)
 }
 
-/// Starts the workers' threads one after another, up to the first that cannot be made.
+/// Starts the workers' threads one after another. The passes of those that got none are taken back.
 fn start_all<'s, 'e, R: Wait + Sync, G: Gate + Sync>(
     scope: &Scope<'s, &'e ()>,
     rt: &'e R,
     shared: &'e Shared<'e, G>,
+    pass: Pass,
     seats: Vec<Seat>,
     handles: Vec<Handle>,
-) -> (Vec<Handle>, Result<(), ServerError>)
+) -> (Pass, Vec<Handle>)
+    requires pass { (pass.desk ≡ shared.now.desk.now) × (pass.worker.number ≡ 0) }
     requires seats { All (λ seat. seat.pass.desk ≡ shared.now.desk.now) seats.items }
     requires none { handles.items ≡ [] }
     requires room { vec_len seats ≤ vec_capacity handles }
-    ensures { All (λ handle. handle.promise.0.value.desk ≡ shared.now.desk.now) result.0.items }
+    ensures pass { (result.0.desk ≡ shared.now.desk.now) × (result.0.worker.number ≡ 0) }
+    ensures handles { All (λ handle. handle.promise.0.value.desk ≡ shared.now.desk.now) result.1.items }
 {
+    let mut pass = pass;
     let mut seats = seats;
     let mut handles = handles;
     while let Some(seat) = seats.pop() {
         match start(scope, rt, shared, seat) {
             Ok(handle) => handles.push_reserved(handle),
-            Err(error) => return (handles, Err(error)),
+            Err(ended) => pass = shared.desk.take_back(pass, ended),
         }
     }
-    (handles, Ok(()))
+    (pass, handles)
 }
 
-/// Waits for all workers, and takes their passes back.
-fn take_back<R: Threads>(rt: &R, desk: &Desk, first: Handle, others: Vec<Handle>)
-    requires first { (first.promise.0.value.desk ≡ desk.now) × (first.promise.0.value.worker.number ≡ 0) }
-    requires others { All (λ handle. handle.promise.0.value.desk ≡ desk.now) others.items }
+/// Waits for all workers but the first, and takes their passes back.
+fn take_back<R: Threads>(rt: &R, desk: &Desk, pass: Pass, handles: Vec<Handle>) -> Pass
+    requires pass { (pass.desk ≡ desk.now) × (pass.worker.number ≡ 0) }
+    requires handles { All (λ handle. handle.promise.0.value.desk ≡ desk.now) handles.items }
+    ensures { (result.desk ≡ desk.now) × (result.worker.number ≡ 0) }
 {
-    let mut pass = first.join(rt);
-    let mut others = others;
-    while let Some(handle) = others.pop() {
+    let mut pass = pass;
+    let mut handles = handles;
+    while let Some(handle) = handles.pop() {
         pass = desk.take_back(pass, handle.join(rt));
     }
+    pass
 }
 
 /// Reads an input to its end.

@@ -187,10 +187,12 @@ impl Gate for Greeters {
     fn woken(&self, _worker: u64) {}
 }
 
-/// A gate that keeps worker 1 from its inbox where it was woken, until it may go on.
+/// A gate that keeps worker 1, once it is shut, where it was woken and before it looks into its inbox, until it may go on.
 #[derive(Drop)]
 pub struct Busy {
     clock: HostRuntime,
+    is_shut: AtomicBool,
+    is_there: AtomicBool,
     may_go: AtomicBool,
     is_missed: AtomicBool,
 }
@@ -199,9 +201,21 @@ impl Busy {
     pub fn new(clock: HostRuntime) -> Busy {
         Busy {
             clock,
+            is_shut: AtomicBool::new(false),
+            is_there: AtomicBool::new(false),
             may_go: AtomicBool::new(false),
             is_missed: AtomicBool::new(false),
         }
+    }
+
+    /// Keeps the worker from now on.
+    pub fn shut(&self) {
+        self.is_shut.store(true, Ordering::SeqCst);
+    }
+
+    /// Whether the worker comes there, within so many looks.
+    pub fn is_reached(&self) -> bool {
+        is_set_soon(&self.clock, &self.is_there)
     }
 
     /// Lets the worker go on. Whether it was kept until now.
@@ -217,7 +231,11 @@ impl Gate for Busy {
     fn after_write(&self, _worker: u64, _bytes: &[u8]) {}
 
     fn woken(&self, worker: u64) {
-        if worker == 1 && !is_set_soon(&self.clock, &self.may_go) {
+        if worker != 1 || !self.is_shut.load(Ordering::SeqCst) {
+            return;
+        }
+        self.is_there.store(true, Ordering::SeqCst);
+        if !is_set_soon(&self.clock, &self.may_go) {
             self.is_missed.store(true, Ordering::SeqCst);
         }
     }

@@ -50,7 +50,7 @@ fn a_burst_of_connections_is_accepted_whole(rt: HostRuntime) -> Result<(), Fail>
 }
 
 /// A client that was greeted.
-fn greeted<R: Net, C: Clock>(rt: &R, clock: &C, running: &Running) -> Result<Client, Fail> {
+pub fn greeted<R: Net, C: Clock>(rt: &R, clock: &C, running: &Running) -> Result<Client, Fail> {
     let mut client = Client::connect(rt, running.address)?;
     if client.reads(clock, GREETING) {
         Ok(client)
@@ -64,6 +64,7 @@ fn greeted<R: Net, C: Clock>(rt: &R, clock: &C, running: &Running) -> Result<Cli
 #[test]
 fn who_meets_a_full_inbox_is_closed_and_counted(rt: HostRuntime) -> Result<(), Fail> {
     let gate = Arc::new(rt.alloc(), Busy::new(rt))?;
+    gate.shut();
     let (theirs, (server, running)) = (gate.clone()?, new_server(&rt, rt, 2)?);
     let thread = thread::spawn(&rt, move || server.run(&rt, &*theirs))?;
     let mut waiting = Vec::new(rt.alloc());

@@ -100,6 +100,13 @@ impl Read for UntilSet {
     }
 }
 
+/// What a server ended with.
+#[derive(Drop)]
+pub struct Told {
+    pub status: u8,
+    pub output: Vec<u8>,
+}
+
 /// A server that is about to run.
 #[derive(Drop)]
 pub struct Server {
@@ -114,6 +121,17 @@ pub struct Server {
 impl Server {
     /// Runs until its test ends its input, and gives its status.
     pub fn run<R: Threads + Wait + Net + Sync, G: Gate + Sync>(self, rt: &R, gate: &G) -> u8 {
+        let Told { status, output } = self.run_telling(rt, gate);
+        drop(output);
+        status
+    }
+
+    /// Runs until its test ends its input, and gives what it printed too.
+    pub fn run_telling<R: Threads + Wait + Net + Sync, G: Gate + Sync>(
+        self,
+        rt: &R,
+        gate: &G,
+    ) -> Told {
         let Server {
             service,
             listener,
@@ -124,7 +142,7 @@ impl Server {
         let mut output = Vec::new(alloc);
         let status = run_server(rt, alloc, service, listener, &mut input, &mut output, gate);
         ended.store(true, Ordering::SeqCst);
-        status
+        Told { status, output }
     }
 }
 
@@ -142,12 +160,27 @@ impl Running {
     /// Ends the server's input, and gives its status. Its thread is this one. A server that does not end within so many looks is
     /// not waited for, and has a status that none ends with.
     pub fn end<R: Threads>(self, rt: &R, thread: JoinHandle<u8>) -> u8 {
-        self.flag.store(true, Ordering::SeqCst);
+        self.end_input();
         if is_set_soon(&self.clock, &self.ended) {
             thread.join(rt)
         } else {
             NO_END
         }
+    }
+
+    /// As `end`, of a server that gives what it printed too. None where it does not end within so many looks.
+    pub fn end_telling<R: Threads>(self, rt: &R, thread: JoinHandle<Told>) -> Option<Told> {
+        self.end_input();
+        if is_set_soon(&self.clock, &self.ended) {
+            Some(thread.join(rt))
+        } else {
+            None
+        }
+    }
+
+    /// Ends the server's input.
+    pub fn end_input(&self) {
+        self.flag.store(true, Ordering::SeqCst);
     }
 }
 

@@ -2,6 +2,7 @@
 
 use crate::clients::Client;
 use crate::gates::OpenGate;
+use crate::hostile::greeted;
 use crate::running::{
     ANNA_IS_IN, ANNA_LOGS_IN, BERT_COMES, BERT_IS_IN, BERT_LOGS_IN, GREETING, loopback, new_server,
     service,
@@ -10,9 +11,18 @@ use crate::verdict::same;
 use lobby_workers::run_server;
 use mio::net::TcpListener;
 use std::alloc::{AllocError, Global};
-use std::io::{self, Read};
+use std::io::{self, Read, Write};
 use std::test::Fail;
-use std::thread;
+use std::{str, thread};
+
+/// What a server prints whose so many workers had no client.
+fn idle_output(alloc: Global, workers: u32) -> Result<Vec<u8>, Fail> {
+    let mut output = Vec::from_slice(alloc, b"listening\n")?;
+    for worker in 0..workers {
+        writeln!(output, "worker {worker}: 0 events")?;
+    }
+    Ok(output)
+}
 
 #[test]
 fn an_input_that_is_empty_ends_the_server(rt: HostRuntime) -> Result<(), Fail> {
@@ -31,7 +41,7 @@ fn an_input_that_is_empty_ends_the_server(rt: HostRuntime) -> Result<(), Fail> {
             &OpenGate,
         );
         same(&rt, status, 0);
-        same(&rt, output.as_slice(), b"listening\n".as_slice());
+        same(&rt, output, idle_output(rt.alloc(), workers)?);
     }
     Ok(())
 }
@@ -61,6 +71,46 @@ fn an_input_that_fails_ends_the_server_too(rt: HostRuntime) -> Result<(), Fail> 
         &OpenGate,
     );
     same(&rt, status, 2);
+    same(&rt, output, idle_output(rt.alloc(), 2)?);
+    Ok(())
+}
+
+/// The number of events that is printed of a worker. None where no line has this form.
+fn events_of(output: &str, worker: &str) -> Option<u64> {
+    let line = output.lines().find(|line| line.starts_with(worker))?;
+    line.strip_prefix(worker)?
+        .strip_suffix(" events")?
+        .parse()
+        .ok()
+}
+
+/// Anna's worker opens her, answers a hundred lines and shuts her; Bert's opens and shuts him. Drains are events too, a few a turn.
+#[test]
+fn each_worker_is_told_with_its_own_events(rt: HostRuntime) -> Result<(), Fail> {
+    let (server, running) = new_server(&rt, rt, 3)?;
+    let thread = thread::spawn(&rt, move || server.run_telling(&rt, &OpenGate))?;
+    let mut anna = greeted(&rt, &rt, &running)?;
+    let bert = greeted(&rt, &rt, &running)?;
+    for _ in 0..100 {
+        assert!(rt; anna.send(&rt, b"PING\n") && anna.reads(&rt, b"PONG\n"));
+    }
+    let Some(told) = running.end_telling(&rt, thread) else {
+        return Err(Fail::new("the server does not end"));
+    };
+    let output = str::from_utf8(&told.output)?;
+    let anna_and_drains = events_of(output, "worker 0: ").unwrap_or(0);
+    let bert_and_drains = events_of(output, "worker 1: ").unwrap_or(0);
+    assert!(rt;
+        anna_and_drains >= 1 + 1 + 100 + 100 + 1,
+        "Anna's worker: {anna_and_drains}"
+    );
+    assert!(rt;
+        (3..100).contains(&bert_and_drains),
+        "Bert's worker: {bert_and_drains}"
+    );
+    same(&rt, events_of(output, "worker 2: "), Some(0));
+    drop(anna);
+    drop(bert);
     Ok(())
 }
 

@@ -1,8 +1,11 @@
 //! What two workers do side by side.
 
 use crate::clients::Client;
-use crate::gates::{Greeters, Meeting, OpenGate, Stop};
-use crate::running::{ANNA_IS_IN, ANNA_LOGS_IN, BERT_COMES, BERT_LOGS_IN, GREETING, new_server};
+use crate::gates::{Busy, Greeters, Meeting, OpenGate, Stop};
+use crate::hostile::greeted;
+use crate::running::{
+    ANNA_IS_IN, ANNA_LOGS_IN, BERT_COMES, BERT_IS_IN, BERT_LOGS_IN, GREETING, new_server,
+};
 use crate::verdict::same;
 use std::sync::Arc;
 use std::test::Fail;
@@ -98,5 +101,29 @@ fn a_reset_in_mid_line_logs_out_its_own_user_alone(rt: HostRuntime) -> Result<()
     }
     same(&rt, running.end(&rt, thread), 0);
     same(&rt, anna.ends(&rt), Some(0));
+    Ok(())
+}
+
+/// Worker 1 stands still while worker 0 ends. Whose connection is closed by then was logged out, and worker 1's client is told.
+#[test]
+fn who_is_connected_at_a_stop_is_logged_out(rt: HostRuntime) -> Result<(), Fail> {
+    let gate = Arc::new(rt.alloc(), Busy::new(rt))?;
+    let (theirs, (server, running)) = (gate.clone()?, new_server(&rt, rt, 2)?);
+    let thread = thread::spawn(&rt, move || server.run(&rt, &*theirs))?;
+    let mut anna = greeted(&rt, &rt, &running)?;
+    assert!(rt; anna.send(&rt, ANNA_LOGS_IN) && anna.reads(&rt, ANNA_IS_IN));
+    let mut bert = greeted(&rt, &rt, &running)?;
+    assert!(rt; bert.send(&rt, BERT_LOGS_IN) && bert.reads(&rt, BERT_IS_IN));
+    assert!(rt; anna.reads(&rt, BERT_COMES));
+    gate.shut();
+    assert!(rt;
+        anna.send(&rt, b"SAYPRIVATE Bert on\n") && anna.reads(&rt, b"SAYPRIVATE Bert on\n")
+    );
+    assert!(rt; gate.is_reached(), "worker 1 is woken");
+    running.end_input();
+    same(&rt, anna.ends(&rt), Some(0));
+    assert!(rt; gate.let_go(), "worker 1 stood still all the while");
+    assert!(rt; bert.reads(&rt, b"SAIDPRIVATE Anna on\nREMOVEUSER Anna\n"));
+    same(&rt, running.end(&rt, thread), 0);
     Ok(())
 }

@@ -5,7 +5,8 @@ use Rattle.lobby_workers.proofs.server.start_all.Given as goal
 
 abbrev pub invariant-loop-seat : goal.invariant-loop-seat
 invariant-loop-seat g l =
-    All (λ seat. seat.pass.desk ≡ l.shared.desk.now) l.seats.items
+    (l.pass.desk ≡ l.shared.desk.now) × (l.pass.worker.number ≡ 0)
+    × All (λ seat. seat.pass.desk ≡ l.shared.desk.now) l.seats.items
     × All (λ handle. handle.promise.0.value.desk ≡ l.shared.desk.now) l.handles.items
     × (vec_len l.seats + vec_len l.handles ≤ vec_capacity l.handles)
 
