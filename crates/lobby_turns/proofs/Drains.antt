@@ -1,19 +1,24 @@
 -- What a drain takes.
-use Rattle.std.proofs.Common.{◌≡◌, ℕ, zero, suc, ◌≤◌, Bool, List, [], ◌∷◌, ◌++◌, length, take, min, refl, sym, ap, ◌∙◌, arith, append-nil, length-append, subst, true≢false}
-use Rattle.std.specs.Prelude.{Option, Some, None, Result, Ok, Err, is_ok, if◌then◌else◌}
-use Rattle.std.proofs.lemmas.List.{take_at, length-take-le}
+use Rattle.std.proofs.Common.{◌≡◌, ℕ, zero, suc, ◌+◌, ◌-◌, ◌<◌, ◌≤◌, true, false, List, [], ◌∷◌, ◌++◌, length, take, drop, min, refl, sym, ap, ◌∙◌, arith, append-nil, length-append, subst, true≢false}
+use Rattle.std.specs.Prelude.{◌||◌, Option, Some, None, Result, Ok, Err, is_ok, if◌then◌else◌}
+use Rattle.std.proofs.Math.Seq.{take-append-add}
+use Rattle.std.proofs.lemmas.List.{length-drop, take_at, take-append-le, length-take-le}
 use Rattle.std.specs.Result.{IsOk}
 use Rattle.line_words.specs.Table.{at_number}
 use Rattle.lobby_model.specs.declared.event.Event.TheVariants as event
 use Rattle.lobby_model.specs.State.{State, Client}
-use Rattle.lobby_model.specs.Next.{taken_by, taken_from}
+use Rattle.lobby_model.specs.Next.{next, taken_by, taken_from}
 use Rattle.lobby_model.proofs.Delivered.{same_itself}
-use Rattle.lobby_machine.specs.Shown.{unread_of, unread_in}
-use Rattle.lobby_lock.specs.Passes.{ShownPass}
+use Rattle.lobby_machine.specs.Shown.{unread_of, unread_in, is_finished}
+use Rattle.lobby_lock.specs.Passes.{ShownPass, ShownHold, pass_after}
+use Rattle.lobby_turns.specs.declared.holds.Piece.{Piece}
 use Rattle.lobby_turns.specs.Wire.{Wire}
+use Rattle.lobby_turns.specs.Moments.{moment, drained_for, tells_end, told_end}
 use Rattle.lobby_turns.specs.Seat.{Carried, seat}
-use Rattle.lobby_turns.specs.Holds.{Drains, DrainedInto}
-use Rattle.lobby_turns.proofs.Parts.{went_drained}
+use Rattle.lobby_turns.specs.Holds.{Stands, Drains, DrainedInto}
+use Rattle.lobby_turns.proofs.Joins.{IsTaken, held_none, joined_then, joined_more}
+use Rattle.lobby_turns.proofs.Parts.{drained-append, went_drains}
+use Rattle.lobby_turns.proofs.Talks.{are_drains-append, told_end-append, dry_behind, or_false}
 
 from_one : (n : ℕ) (o : Option Client) → taken_from n o ≡ take n (unread_in o)
 from_one zero None = refl
@@ -51,33 +56,100 @@ few_came s c n count into rest count_is given =
     let few : count ≤ length u = omega (arith, count_is) in
     omega (arith, ap length given, length-append (take count u) rest, length-take-le count u few)
 
-pub drained_piece : (old new : Carried) (wire : Wire) (p q : ShownPass) (c n : ℕ) (into : List ℕ) (count : ℕ) (finished : Bool) → c ≡ old.session.client
-    → DrainedInto p q c n into count finished → new.session ≡ old.session → new.unfed ≡ old.unfed → old.unwritten ≡ [] → new.unwritten ≡ take count into
-    → Drains (seat old wire p) (seat new wire q) old.session.client n count finished
-drained_piece old new wire p q c n into count finished same d session unfed none unwritten =
-    let e : DrainedInto p q old.session.client n into count finished = subst (λ (x : ℕ). DrainedInto p q x n into count finished) same d in
+pub drained_piece : (old new : Carried) (wire : Wire) (p q : ShownPass) (c n : ℕ) (into : List ℕ) (piece : Piece) → 0 < n → c ≡ old.session.client
+    → DrainedInto p q c n into piece → new.session ≡ old.session → new.unfed ≡ old.unfed → old.unwritten ≡ [] → new.unwritten ≡ take piece.count into
+    → Drains (seat old wire p) (seat new wire q) piece.finished piece.dry
+drained_piece old new wire p q c n into piece some same d session unfed none unwritten =
+    let e : DrainedInto p q old.session.client n into piece = subst (λ (x : ℕ). DrainedInto p q x n into piece) same d in
     record {
-      met = e.met;
-      went = went_drained old new wire p q e.met n session unfed (unwritten ∙ e.bytes ∙ ap (λ l. l ++ taken_by e.met (event.Drain old.session.client n) old.session.client) (sym none)) e.joined;
-      dry = λ z. sym e.bytes ∙ ap (λ k. take k into) z;
+      talk = e.talk;
+      went = went_drains old new wire p q e.talk e.own session unfed (unwritten ∙ e.bytes ∙ ap (λ l. l ++ drained_for old.session.client e.talk) (sym none)) e.joined;
+      own = e.own;
       finished_is = e.finished_is;
+      dry_is = λ dry. e.dry_is dry some;
     }
+
+take_none : (n : ℕ) (xs : List ℕ) → n ≤ 0 → take n xs ≡ []
+take_none n xs few =
+    let none : n ≡ 0 = omega (arith, few) in
+    ap (λ k. take k xs) none
 
 -- asked with an empty slice
-pub drained_none : (conn : Carried) (wire : Wire) (p q : ShownPass) (c : ℕ) (into : List ℕ) (count : ℕ) (finished : Bool) → c ≡ conn.session.client
-    → DrainedInto p q c 0 into count finished → Drains (seat conn wire p) (seat conn wire q) conn.session.client 0 0 finished
-drained_none conn wire p q c into count finished same d =
-    let e : DrainedInto p q conn.session.client 0 into count finished = subst (λ (x : ℕ). DrainedInto p q x 0 into count finished) same d in
-    let nothing : taken_by e.met (event.Drain conn.session.client 0) conn.session.client ≡ [] = taken_is e.met conn.session.client 0 in
+pub drained_none : (conn : Carried) (wire : Wire) (p q : ShownPass) (c : ℕ) (into : List ℕ) (piece : Piece) → c ≡ conn.session.client
+    → DrainedInto p q c 0 into piece → Drains (seat conn wire p) (seat conn wire q) piece.finished false
+drained_none conn wire p q c into piece same d =
+    let e : DrainedInto p q conn.session.client 0 into piece = subst (λ (x : ℕ). DrainedInto p q x 0 into piece) same d in
+    let nothing : drained_for conn.session.client e.talk ≡ [] = sym e.bytes ∙ take_none piece.count into e.within in
     record {
-      met = e.met;
-      went = went_drained conn conn wire p q e.met 0 refl refl (sym (append-nil conn.unwritten) ∙ ap (λ l. conn.unwritten ++ l) (sym nothing)) e.joined;
-      dry = λ _. nothing;
+      talk = e.talk;
+      went = went_drains conn conn wire p q e.talk e.own refl refl (sym (append-nil conn.unwritten) ∙ ap (λ l. conn.unwritten ++ l) (sym nothing)) e.joined;
+      own = e.own;
       finished_is = e.finished_is;
+      dry_is = λ e. absurd (true≢false (sym e));
     }
 
-pub within_asked : (s : State) (c n count : ℕ) → count ≡ min (length (unread_of s c)) n → count ≤ n
-within_asked s c n count count_is = omega (arith, count_is)
+-- a drain of a hold that goes on
+pub drained_once : (h k : ShownHold) (c n : ℕ) (into rest : List ℕ) (piece : Piece) → Stands h → k ≡ record h { lobby = k.lobby; events = h.events ++ event.Drain c n ∷ [] }
+    → k.lobby.plain ≡ next h.lobby.plain (event.Drain c n) → piece.count ≡ min (length (unread_of h.lobby.plain c)) n
+    → into ≡ take piece.count (unread_of h.lobby.plain c) ++ rest → piece.finished ≡ is_finished k.lobby.plain c → (piece.dry ≡ true → piece.count ≡ 0)
+    → DrainedInto (pass_after h) (pass_after k) c n into piece
+drained_once h k c n into rest piece stands one goes count given finished dry = record {
+  talk = moment h.lobby.plain (event.Drain c n) ∷ [];
+  joined = joined_more h k (event.Drain c n) stands one;
+  own = (refl, tt);
+  within = omega (arith, count);
+  few = few_came h.lobby.plain c n piece.count into rest count given;
+  bytes = bytes ∙ sym (append-nil (taken_by h.lobby.plain (event.Drain c n) c));
+  finished_is = or_false (tells_end h.lobby.plain (event.Drain c n)) ∙ ap (λ s. is_finished s c) (sym goes) ∙ sym finished;
+  dry_is = λ e some. ([], h.lobby.plain, n, refl, some, sym bytes ∙ ap (λ x. take x into) (dry e));
+}
+  where
+    bytes : take piece.count into ≡ taken_by h.lobby.plain (event.Drain c n) c
+    bytes = at_front h.lobby.plain c n piece.count into rest count given
+
+-- the rest of a slice behind so many bytes
+pub rest_length : (n : ℕ) (xs : List ℕ) → n ≤ length xs → n + length (take (length xs - n) (drop n xs)) ≡ length xs
+rest_length n xs few =
+    let behind : length (drop n xs) ≡ length xs - n = length-drop n xs in
+    let all : length xs - n ≤ length (drop n xs) = omega (arith, behind) in
+    omega (arith, length-take-le (length xs - n) (drop n xs) all, few)
+
+-- and another behind it, into the rest of the slice
+pub drained_twice : (p q r : ShownPass) (c n m : ℕ) (front back tail : List ℕ) (first rest both : Piece) → DrainedInto p q c n front first → DrainedInto q r c m back rest
+    → first.finished ≡ false → 0 < m → first.count + m ≡ n
+    → both.count ≡ first.count + rest.count → both.finished ≡ rest.finished → both.dry ≡ rest.dry → DrainedInto p r c n (take first.count front ++ (back ++ tail)) both
+drained_twice p q r c n m front back tail first rest both h k goes_on some lengths count finished dry = record {
+  talk = h.talk ++ k.talk;
+  joined = joined_then p q r h.talk k.talk h.joined k.joined;
+  own = are_drains-append c h.talk k.talk h.own k.own;
+  within = omega (arith, count, k.within, lengths);
+  few = omega (arith, count, k.few, length-append (take first.count front) (back ++ tail), length-append back tail, long);
+  bytes = ap (λ x. take x (take first.count front ++ (back ++ tail))) count
+      ∙ ap (λ x. take (x + rest.count) (take first.count front ++ (back ++ tail))) (sym long)
+      ∙ take-append-add (take first.count front) (back ++ tail) rest.count
+      ∙ (λ i. h.bytes i ++ (take-append-le rest.count back tail k.few ∙ k.bytes) i)
+      ∙ sym (drained-append c h.talk k.talk);
+  finished_is = told_end-append h.talk k.talk ∙ ap (λ b. b || told_end k.talk) (h.finished_is ∙ goes_on) ∙ k.finished_is ∙ sym finished;
+  dry_is = λ e _. dry_behind c h.talk k.talk (k.dry_is (sym dry ∙ e) some);
+}
+  where
+    long : length (take first.count front) ≡ first.count
+    long = length-take-le first.count front h.few
+
+-- the whole hold, from the take to the give
+pub drained_held : (p q : ShownPass) (h k : ShownHold) (c n : ℕ) (into : List ℕ) (piece : Piece) → IsTaken p h → q ≡ pass_after k
+    → DrainedInto (pass_after h) (pass_after k) c n into piece → DrainedInto p q c n into piece
+drained_held p q h k c n into piece taken is d =
+    subst (λ (x : ShownPass). DrainedInto p x c n into piece) (sym is) (record {
+      talk = d.talk;
+      joined = joined_then p (pass_after h) (pass_after k) [] d.talk (held_none p (pass_after h) h h taken refl refl) d.joined;
+      own = d.own;
+      within = d.within;
+      few = d.few;
+      bytes = d.bytes;
+      finished_is = d.finished_is;
+      dry_is = d.dry_is;
+    })
 
 -- what was copied behind nothing
 pub copied : {A B : Type 0} (r : Result A B) (new old piece : List ℕ) → IsOk r → new ≡ (if is_ok r then old ++ piece else old) → old ≡ [] → new ≡ piece

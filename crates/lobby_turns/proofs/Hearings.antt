@@ -1,46 +1,32 @@
 -- How hearing a client goes on.
-use Rattle.std.proofs.Common.{◌≡◌, ◌⊎◌, ℕ, ◌+◌, ◌<◌, ◌≤◌, Bool, true, false, List, [], ◌∷◌, ◌++◌, length, refl, sym, ap, ◌∙◌, subst, inl, inr, arith, append-nil, length-append}
+use Rattle.std.proofs.Common.{◌≡◌, ◌⊎◌, ℕ, ◌+◌, ◌-◌, ◌<◌, ◌≤◌, false, List, [], ◌++◌, refl, sym, ap, ◌∙◌, subst, inl, inr, arith, append-nil}
 use Rattle.std.specs.Prelude.{◌||◌, Some}
-use Rattle.lobby_model.specs.declared.event.Event.TheVariants as event
-use Rattle.command_grammar.specs.declared.command.Request.{Request}
-use Rattle.lobby_model.specs.State.{State}
-use Rattle.lobby_model.specs.Touched.{touches}
 use Rattle.lobby_post.specs.Mask.{has_home}
 use Rattle.lobby_turns.specs.declared.link.Got.TheVariants as got
+use Rattle.lobby_turns.specs.declared.holds.Said.{Said}
 use Rattle.lobby_turns.specs.declared.hearing.Heard.{Heard}
 use Rattle.lobby_turns.specs.declared.hearing.Heard.TheVariants as heard
 use Rattle.lobby_turns.specs.declared.hearing.Step.{Step}
 use Rattle.lobby_turns.specs.declared.hearing.Step.TheVariants as step
-use Rattle.lobby_turns.specs.Moments.{Moment, moment, requests, touched, told_end}
+use Rattle.lobby_turns.specs.Moments.{Moment}
 use Rattle.lobby_turns.specs.Seat.{Carried, Seat}
-use Rattle.lobby_turns.specs.Talk.{AreTalk}
 use Rattle.lobby_turns.specs.Went.{Went}
-use Rattle.lobby_turns.specs.Holds.{Made}
+use Rattle.lobby_turns.specs.Holds.{AreSaid, SaysLines, IsWithin}
 use Rattle.client_session.specs.declared.session.Next.TheVariants.{Nothing, Spoilt}
 use Rattle.client_session.specs.OneSession.{IsNextOf}
-use Rattle.lobby_turns.specs.Hearing.{OnlyReads, IsAllHeard, IsSaid, StepIs, HearsNext, HeardIs, Hears}
-use Rattle.lobby_turns.proofs.Parts.{requests-append, went_none, went_then}
-use Rattle.lobby_turns.proofs.Talks.{are_talk-append, touched-append, calm-append}
+use Rattle.lobby_turns.specs.Hearing.{OnlyReads, IsAllHeard, SaysWithin, StepIs, HearsNext, HeardIs, Hears}
+use Rattle.lobby_turns.proofs.Parts.{went_then}
+use Rattle.lobby_turns.proofs.Sayings.{says_none, says_then}
 
 -- so many lines were told the lobby and so many reads were made, and these workers are to be woken
 pub record Hearing (old new : Seat) (lines reads wakes : ℕ) : Type 0 where
-  pub talk : List Moment
-  pub went : Went old new talk
-  pub own : AreTalk old.conn.session.client talk
-  pub calm : told_end talk ≡ false
-  pub lines_are : length (requests talk) ≡ lines
+  pub says : SaysLines old new lines wakes
   pub only : OnlyReads old new reads
-  pub wakes_are : (home : ℕ) → has_home wakes home ≡ touched talk home
 
 pub hearing_none : (a : Seat) (wakes : ℕ) → ((home : ℕ) → has_home wakes home ≡ false) → Hearing a a 0 0 wakes
 hearing_none a wakes none = record {
-  talk = [];
-  went = went_none a;
-  own = tt;
-  calm = refl;
-  lines_are = refl;
+  says = says_none a wakes none;
   only = record { reads_are = omega arith; writes = refl; failures = omega arith };
-  wakes_are = none;
 }
 
 only_then : (a b c : Seat) (m n : ℕ) → OnlyReads a b m → OnlyReads b c n → OnlyReads a c (m + n)
@@ -52,15 +38,16 @@ only_then a b c m n h k = record {
 
 -- what came without a line
 quietly : (a b c : Seat) (m k n wakes : ℕ) (u : List Moment) → Hearing a b m k wakes → Went b c u → OnlyReads b c n → u ≡ [] → Hearing a c m (k + n) wakes
-quietly a b c m k n wakes u h went only none = record {
-  talk = h.talk;
-  went = subst (λ (t : List Moment). Went a c t) (ap (λ l. h.talk ++ l) none ∙ append-nil h.talk) (went_then a b c h.talk u h.went went);
-  own = h.own;
-  calm = h.calm;
-  lines_are = h.lines_are;
-  only = only_then a b c k n h.only only;
-  wakes_are = h.wakes_are;
-}
+quietly a b c m k n wakes u h went only none =
+    let t : List Moment = h.says.talk in
+    record {
+      says = record {
+        talk = t;
+        went = subst (λ (l : List Moment). Went a c l) (ap (λ l. t ++ l) none ∙ append-nil t) (went_then a b c t u h.says.went went);
+        said = h.says.said;
+      };
+      only = only_then a b c k n h.only only;
+    }
 
 add_none : (n : ℕ) → n + 0 ≡ n
 add_none n = omega arith
@@ -68,48 +55,30 @@ add_none n = omega arith
 none_add : (n : ℕ) → 0 + n ≡ n
 none_add n = omega arith
 
-alone : (b : Bool) → b ≡ (b || false)
-alone true = refl
-alone false = refl
-
 pub hearing_read : (a b c : Seat) (m k wakes : ℕ) → Hearing a b m k wakes → HearsNext b c step.Read → Hearing a c m (k + 1) wakes
 hearing_read a b c m k wakes h s =
     subst (λ (n : ℕ). Hearing a c m (k + n) wakes) s.step_is.1 (quietly a b c m k s.reads wakes s.talk h s.went s.only s.step_is.0)
 
-pub hearing_said : (a b c : Seat) (m k wakes more all : ℕ) → Hearing a b m k wakes → HearsNext b c (step.Said more)
-    → ((home : ℕ) → has_home all home ≡ (has_home wakes home || has_home more home)) → Hearing a c (m + 1) k all
-hearing_said a b c m k wakes more all h s both =
-    let met : State = s.step_is.1.0 in
-    let request : Request = s.step_is.1.1 in
-    let said : s.talk ≡ moment met (event.Say b.conn.session.client request) ∷ [] = s.step_is.1.2 in
-    record {
-      talk = h.talk ++ s.talk;
-      went = went_then a b c h.talk s.talk h.went s.went;
-      own = are_talk-append a.conn.session.client h.talk s.talk h.own (subst (λ (t : List Moment). AreTalk a.conn.session.client t) (sym said) (h.went.client, tt));
-      calm = calm-append h.talk s.talk h.calm (ap told_end said);
-      lines_are = ap length (requests-append h.talk s.talk) ∙ length-append (requests h.talk) (requests s.talk) ∙ ap (λ n. n + length (requests s.talk)) h.lines_are
-          ∙ ap (λ t. m + length (requests t)) said;
-      only = subst (λ (n : ℕ). OnlyReads a c n) (ap (λ n. k + n) s.step_is.0 ∙ add_none k) (only_then a b c k s.reads h.only s.only);
-      wakes_are = λ home.
-          both home
-          ∙ ap (λ x. x || has_home more home) (h.wakes_are home)
-          ∙ ap (λ x. touched h.talk home || x) (s.step_is.1.3 home ∙ alone (touches met (event.Say b.conn.session.client request) home) ∙ ap (λ t. touched t home) (sym said))
-          ∙ sym (touched-append h.talk s.talk home);
-    }
+pub hearing_said : (a b c : Seat) (m k wakes : ℕ) (said : Said) (all : ℕ) → Hearing a b m k wakes → HearsNext b c (step.Said said)
+    → ((home : ℕ) → has_home all home ≡ (has_home wakes home || has_home said.wakes home)) → Hearing a c (m + said.lines) k all
+hearing_said a b c m k wakes said all h s both = record {
+  says = says_then a b c m said.lines wakes said.wakes all h.says (record { talk = s.talk; went = s.went; said = s.step_is.1 }) both;
+  only = subst (λ (n : ℕ). OnlyReads a c n) (ap (λ n. k + n) s.step_is.0 ∙ add_none k) (only_then a b c k s.reads h.only s.only);
+}
 
 -- ---- where hearing ends
 
-ended : (a c : Seat) (m k wakes : ℕ) (how : Heard) → m ≤ 64 → k ≤ 16 → (h : Hearing a c m k wakes) → HeardIs a c h.talk how → Hears a c how wakes
+ended : (a c : Seat) (m k wakes : ℕ) (how : Heard) → m ≤ 64 → k ≤ 16 → (h : Hearing a c m k wakes) → HeardIs a c h.says.talk how → Hears a c how wakes
 ended a c m k wakes how few_lines few h is = record {
-  talk = h.talk;
-  went = h.went;
-  own = h.own;
-  calm = h.calm;
-  lines = omega (arith, h.lines_are);
+  talk = h.says.talk;
+  went = h.says.went;
+  own = h.says.said.own;
+  calm = h.says.said.calm;
+  lines = omega (arith, h.says.said.lines_are, few_lines);
   reads = k;
   few = few;
   only = h.only;
-  wakes_are = h.wakes_are;
+  wakes_are = h.says.said.wakes_are;
   heard_is = is;
 }
 
@@ -121,6 +90,16 @@ since_last a b c rises (inr later) = inr (later.0, omega (arith, rises, later.1)
 -- all is heard since an earlier place too
 since : (a b c : Seat) → a.wire.reads ≤ b.wire.reads → IsAllHeard b c → IsAllHeard a c
 since a b c rises h = record { fed = h.fed; nothing = h.nothing; last = since_last a b c rises h.last }
+
+pub lines_fit : (m : ℕ) (how : Step) (said : Said) → how ≡ step.Said said → m ≤ 64 → SaysWithin (64 - m) how → m + said.lines ≤ 64
+lines_fit m how said is few within =
+    let fits : IsWithin (64 - m) said = subst (λ (x : Step). SaysWithin (64 - m) x) is within in
+    omega (arith, few, fits.0)
+
+said_some : (m : ℕ) (how : Step) (said : Said) → how ≡ step.Said said → SaysWithin (64 - m) how → said.refused ≡ false → 1 ≤ said.lines
+said_some m how said is within accepted =
+    let fits : IsWithin (64 - m) said = subst (λ (x : Step). SaysWithin (64 - m) x) is within in
+    fits.1 accepted
 
 rises : (a b : Seat) (k : ℕ) → OnlyReads a b k → a.wire.reads ≤ b.wire.reads
 rises a b k only = omega (arith, only.reads_are)
@@ -140,9 +119,16 @@ hears_memory a b c m k wakes how is few_lines few h found =
     let s : HearsNext b c step.Memory = subst (λ (x : Step). HearsNext b c x) is found in
     ended a c m (k + s.reads) wakes heard.Memory few_lines (omega (arith, few, s.few)) (quietly a b c m k s.reads wakes s.talk h s.went s.only s.step_is) tt
 
+-- where memory was refused behind some lines
+pub hears_refused : (a b c : Seat) (m k wakes : ℕ) (said : Said) (all : ℕ) (how : Step) → how ≡ step.Said said → m ≤ 64 → k ≤ 16 → SaysWithin (64 - m) how → Hearing a b m k wakes → HearsNext b c how
+    → ((home : ℕ) → has_home all home ≡ (has_home wakes home || has_home said.wakes home)) → Hears a c heard.Memory all
+hears_refused a b c m k wakes said all how is few_lines few within h found both =
+    let s : HearsNext b c (step.Said said) = subst (λ (x : Step). HearsNext b c x) is found in
+    ended a c (m + said.lines) k all heard.Memory (lines_fit m how said is few_lines within) few (hearing_said a b c m k wakes said all h s both) tt
+
 -- at a limit
 pub hears_again : (a c : Seat) (m k wakes : ℕ) → m ≤ 64 → k ≤ 16 → (m ≡ 64) ⊎ (k ≡ 16) → Hearing a c m k wakes → Hears a c heard.Again wakes
-hears_again a c m k wakes few_lines few (inl lines) h = ended a c m k wakes heard.Again few_lines few h (inl (h.lines_are ∙ lines))
+hears_again a c m k wakes few_lines few (inl lines) h = ended a c m k wakes heard.Again few_lines few h (inl (h.says.said.lines_are ∙ lines))
 hears_again a c m k wakes few_lines few (inr reads) h = ended a c m k wakes heard.Again few_lines few h (inr (h.only.reads_are ∙ ap (λ n. a.wire.reads + n) reads))
 
 -- ---- single steps
@@ -162,7 +148,7 @@ only_none a c same = record {
 
 step_behind : (a b c : Seat) (talk : List Moment) (reads : ℕ) (how : Step) → a.wire.reads ≤ b.wire.reads → b.conn.session.client ≡ a.conn.session.client
     → StepIs b c talk reads how → StepIs a c talk reads how
-step_behind a b c talk reads (step.Said wakes) rises client is = (is.0, subst (λ (d : ℕ). IsSaid d talk wakes) client is.1)
+step_behind a b c talk reads (step.Said said) rises client is = (is.0, subst (λ (d : ℕ). AreSaid d talk said.lines said.wakes) client is.1)
 step_behind a b c talk reads step.Read rises client is = is
 step_behind a b c talk reads step.All rises client is = (is.0, since a b c rises is.1)
 step_behind a b c talk reads step.Stop rises client is = is
@@ -179,14 +165,14 @@ fed_first a b c how went same s = record {
   step_is = step_behind a b c s.talk s.reads how (rises a b 0 (only_none a b same)) went.client s.step_is;
 }
 
-pub said_next : (a b : Seat) (request : Request) (wakes : ℕ) → b.wire ≡ a.wire → Made a b (event.Say a.conn.session.client request) wakes → HearsNext a b (step.Said wakes)
-said_next a b request wakes same m = record {
-  talk = moment m.met (event.Say a.conn.session.client request) ∷ [];
-  went = m.went;
+pub said_next : (a b : Seat) (said : Said) → b.wire ≡ a.wire → SaysLines a b said.lines said.wakes → HearsNext a b (step.Said said)
+said_next a b said same s = record {
+  talk = s.talk;
+  went = s.went;
   reads = 0;
   few = omega arith;
   only = only_none a b same;
-  step_is = (refl, (m.met, request, refl, m.wakes_are));
+  step_is = (refl, s.said);
 }
 
 pub none_done : (a b : Seat) → b.wire ≡ a.wire → Went a b [] → HearsNext a b step.Memory
@@ -230,19 +216,20 @@ link_fault a b went only last = next_quiet a b 1 step.Stop (omega arith) went on
 
 pub record IsHearing (old new : Seat) (lines reads wakes rounds : ℕ) : Type 0 where
   pub hearing : Hearing old new lines reads wakes
-  pub rounds_are : lines + reads ≡ rounds
+  pub rounds_are : rounds ≤ lines + reads
   pub few_lines : lines ≤ 64
   pub few_reads : reads ≤ 16
 
 pub begins : (a : Seat) (wakes : ℕ) → ((home : ℕ) → has_home wakes home ≡ false) → IsHearing a a 0 0 wakes 0
-begins a wakes none = record { hearing = hearing_none a wakes none; rounds_are = refl; few_lines = omega arith; few_reads = omega arith }
+begins a wakes none = record { hearing = hearing_none a wakes none; rounds_are = omega arith; few_lines = omega arith; few_reads = omega arith }
 
-pub goes_on_said : (a b c : Seat) (m k wakes rounds more all : ℕ) (how : Step) → how ≡ step.Said more → m + 1 ≤ 64 → IsHearing a b m k wakes rounds → HearsNext b c how
-    → ((home : ℕ) → has_home all home ≡ (has_home wakes home || has_home more home)) → IsHearing a c (m + 1) k all (rounds + 1)
-goes_on_said a b c m k wakes rounds more all how is few h s both = record {
-  hearing = hearing_said a b c m k wakes more all h.hearing (subst (λ (x : Step). HearsNext b c x) is s) both;
-  rounds_are = omega (arith, h.rounds_are);
-  few_lines = few;
+pub goes_on_said : (a b c : Seat) (m k wakes rounds : ℕ) (said : Said) (all : ℕ) (how : Step) → how ≡ step.Said said → said.refused ≡ false → SaysWithin (64 - m) how
+    → IsHearing a b m k wakes rounds → HearsNext b c how
+    → ((home : ℕ) → has_home all home ≡ (has_home wakes home || has_home said.wakes home)) → IsHearing a c (m + said.lines) k all (rounds + 1)
+goes_on_said a b c m k wakes rounds said all how is accepted within h s both = record {
+  hearing = hearing_said a b c m k wakes said all h.hearing (subst (λ (x : Step). HearsNext b c x) is s) both;
+  rounds_are = omega (arith, h.rounds_are, said_some m how said is within accepted);
+  few_lines = lines_fit m how said is h.few_lines within;
   few_reads = h.few_reads;
 }
 

@@ -6,10 +6,12 @@ use Rattle.lobby_model.specs.declared.event.Event.{Event}
 use Rattle.lobby_model.specs.State.{State}
 use Rattle.lobby_lock.specs.History.{Entry, after_history, made_by, under, Begins}
 use Rattle.lobby_lock.specs.Rule.{seen_by}
-use Rattle.lobby_lock.specs.Passes.{ShownPass, ShownHold, pass_after}
-use Rattle.lobby_lock.proofs.Histories.{after_history-append, made_by-append}
+use Rattle.lobby_lock.specs.Passes.{ShownPass, ShownHold, pass_after, lobby_after}
+use Rattle.lobby_lock.proofs.Histories.{after_history-append, after_history-more, made_by-append}
+use Rattle.lobby_model.specs.Next.{next}
 use Rattle.lobby_turns.specs.Moments.{Moment, moment, moments}
 use Rattle.lobby_turns.specs.Went.{Joined}
+use Rattle.lobby_turns.specs.Holds.{Stands}
 use Rattle.lobby_turns.proofs.Moments.{moments-append, moments-none, moments-own}
 
 pub joined_none : (p : ShownPass) → Joined p p []
@@ -98,3 +100,36 @@ held_one p q h k e t one is =
     is ∙ ap pass_after one
     ∙ ap (λ es. pass_after (record { pass = h.pass; lobby = k.lobby; events = es ++ e ∷ [] })) t.fresh
     ∙ ap (λ (x : ShownPass). pass_after (record { pass = x; lobby = k.lobby; events = e ∷ [] })) t.pass)
+
+-- ---- a hold that goes on, seen as the pass that it would leave if it were given back now
+
+-- a hold goes on by one event, as if it were given back before and after it
+pub joined_more : (h k : ShownHold) (e : Event) → Stands h → k ≡ record h { lobby = k.lobby; events = h.events ++ e ∷ [] }
+    → Joined (pass_after h) (pass_after k) (moment h.lobby.plain e ∷ [])
+joined_more h k e stands one = record {
+  later = under n (e ∷ []);
+  pass = ap pass_after one ∙ (λ i. record h.pass { worker = record { number = n; seen = seen i; mine = sym (append_assoc h.pass.worker.mine h.events (e ∷ [])) i } });
+  made = moments-own n (lobby_after h.pass h.events) e ∙ ap (λ s. moment s e ∷ []) (sym stands);
+}
+  where
+    n : ℕ
+    n = h.pass.worker.number
+
+    seen : h.pass.worker.seen ++ under n (h.events ++ e ∷ []) ≡ (h.pass.worker.seen ++ under n h.events) ++ under n (e ∷ [])
+    seen = ap (λ l. h.pass.worker.seen ++ l) (map-append (λ (x : Event). (n, x)) h.events (e ∷ [])) ∙ sym (append_assoc h.pass.worker.seen (under n h.events) (under n (e ∷ [])))
+
+-- a lobby that was just taken
+pub stands_taken : (p : ShownPass) (h : ShownHold) → IsTaken p h → Stands h
+stands_taken p h t =
+    t.stands
+    ∙ ap (after_history p.start) (sym (append-nil h.pass.worker.seen))
+    ∙ ap (λ es. after_history p.start (h.pass.worker.seen ++ under h.pass.worker.number es)) (sym t.fresh)
+    ∙ ap (λ (x : ShownPass). after_history x.start (h.pass.worker.seen ++ under h.pass.worker.number h.events)) (sym t.pass)
+
+-- and after one event more
+pub stands_more : (h k : ShownHold) (e : Event) → Stands h → k ≡ record h { lobby = k.lobby; events = h.events ++ e ∷ [] } → k.lobby.plain ≡ next h.lobby.plain e → Stands k
+stands_more h k e stands one goes =
+    goes
+    ∙ ap (λ s. next s e) stands
+    ∙ sym (after_history-more h.pass.start h.pass.worker.seen h.pass.worker.number h.events e)
+    ∙ ap (λ (x : ShownHold). lobby_after x.pass x.events) (sym one)

@@ -4,6 +4,7 @@ pub mod Lines
 pub mod Parts
 pub mod Drains
 pub mod Talks
+pub mod Sayings
 pub mod Hearings
 pub mod Tellings
 pub mod Turns

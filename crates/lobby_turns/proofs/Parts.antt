@@ -16,10 +16,12 @@ use Rattle.lobby_turns.specs.declared.link.Sent.TheVariants as sent
 use Rattle.lobby_turns.specs.Wire.{Wire, and_more, sent_count}
 use Rattle.lobby_turns.specs.Moments.{Moment, moment, asked, requests, drained_for}
 use Rattle.lobby_turns.specs.Seat.{Carried, Seat, seat, Carries}
+use Rattle.lobby_turns.specs.Talk.{AreDrains}
 use Rattle.lobby_turns.specs.Went.{Joined, Went, AreNext}
 use Rattle.lobby_turns.proofs.Moments.{flat_map-append}
 use Rattle.lobby_turns.proofs.Joins.{joined_none, joined_then}
 use Rattle.lobby_turns.proofs.Lines.{are_next-more, are_next-append}
+use Rattle.lobby_turns.proofs.Talks.{drains_ask}
 
 same_carries : (at : Seat) (f g : List ℕ) (m n : ℕ) (d e : List ℕ) → f ≡ g → m ≡ n → d ≡ e → Carries at f m d → Carries at g n e
 same_carries at f g m n d e p q r c = subst (λ (x : List ℕ × (ℕ × List ℕ)). Carries at x.0 x.1.0 x.1.1) (λ i. (p i, (q i, r i))) c
@@ -153,28 +155,33 @@ went_said old new wire p q s request client unfed unwritten next accepts joined 
   };
 }
 
--- a drain took these bytes, where all that was drained before was written
-pub went_drained : (old new : Carried) (wire : Wire) (p q : ShownPass) (s : State) (n : ℕ) → new.session ≡ old.session → new.unfed ≡ old.unfed
-    → new.unwritten ≡ old.unwritten ++ taken_by s (event.Drain old.session.client n) old.session.client
-    → Joined p q (moment s (event.Drain old.session.client n) ∷ [])
-    → Went (seat old wire p) (seat new wire q) (moment s (event.Drain old.session.client n) ∷ [])
-went_drained old new wire p q s n session unfed drains joined = record {
+-- drains took these bytes
+pub went_drains : (old new : Carried) (wire : Wire) (p q : ShownPass) (talk : List Moment) → AreDrains old.session.client talk → new.session ≡ old.session → new.unfed ≡ old.unfed
+    → new.unwritten ≡ old.unwritten ++ drained_for old.session.client talk → Joined p q talk
+    → Went (seat old wire p) (seat new wire q) talk
+went_drains old new wire p q talk own session unfed drains joined = record {
   joined = joined;
   client = ap (λ (x : Serving). x.client) session;
   moved = λ fed accepted drained x. record {
     more = [];
-    carries = same_carries (seat new wire q) fed (fed ++ []) accepted (accepted + 0) _ _ (sym (append-nil fed)) (omega arith)
-        (ap (λ l. drained ++ l) (sym (append-nil taken) ∙ ap (λ (y : Serving). taken_by s (event.Drain old.session.client n) y.client ++ []) (sym session))) (record {
+    carries = same_carries (seat new wire q) fed (fed ++ []) accepted (accepted + length (requests talk)) _ _ (sym (append-nil fed)) (none accepted)
+        (ap (λ (y : Serving). drained ++ drained_for y.client talk) (sym session)) (record {
           session = subst (λ (y : Serving). Heard y.framed fed accepted) (sym session) x.session;
           heard = x.heard ∙ ap (λ l. Some (fed ++ l)) (sym unfed);
           told = ap (and_more wire.told) drains ∙ sym (more_twice wire.told old.unwritten taken) ∙ ap (λ o. and_more o taken) x.told;
         });
-    lines = tt;
+    lines = subst (λ (rs : List Request). AreNext (fed ++ []) accepted rs) (sym asks) tt;
   };
 }
   where
     taken : List ℕ
-    taken = taken_by s (event.Drain old.session.client n) old.session.client
+    taken = drained_for old.session.client talk
+
+    asks : requests talk ≡ []
+    asks = drains_ask old.session.client talk own
+
+    none : (accepted : ℕ) → accepted ≡ accepted + length (requests talk)
+    none accepted = omega (arith, ap length asks)
 
 -- the client was shut
 pub went_shut : (conn : Carried) (wire : Wire) (p q : ShownPass) (s : State) → Joined p q (moment s (event.Shut conn.session.client) ∷ [])

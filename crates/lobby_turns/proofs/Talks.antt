@@ -69,7 +69,7 @@ or_true false = refl
 pub finished-append : (t u : List Moment) → told_end u ≡ true → told_end (t ++ u) ≡ true
 finished-append t u k = told_end-append t u ∙ ap (λ b. told_end t || b) k ∙ or_true (told_end t)
 
-or_false : (b : Bool) → (b || false) ≡ b
+pub or_false : (b : Bool) → (b || false) ≡ b
 or_false true = refl
 or_false false = refl
 

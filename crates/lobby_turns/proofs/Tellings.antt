@@ -1,19 +1,18 @@
 -- How telling a client goes on.
-use Rattle.std.proofs.Common.{◌≡◌, ℕ, ◌+◌, ◌<◌, ◌≤◌, Bool, true, false, List, [], ◌∷◌, ◌++◌, refl, sym, ap, ◌∙◌, subst, arith, append-nil}
-use Rattle.std.specs.Prelude.{◌||◌, Some}
-use Rattle.lobby_model.specs.declared.event.Event.TheVariants as event
+use Rattle.std.proofs.Common.{◌≡◌, ℕ, ◌+◌, ◌<◌, ◌≤◌, Bool, true, false, List, [], ◌++◌, refl, sym, ap, ◌∙◌, subst, arith, append-nil, true≢false}
+use Rattle.std.specs.Prelude.{Some}
 use Rattle.lobby_turns.specs.declared.link.Sent.TheVariants as sent
 use Rattle.lobby_turns.specs.declared.telling.Told.{Told}
 use Rattle.lobby_turns.specs.declared.telling.Told.TheVariants as told
 use Rattle.lobby_turns.specs.declared.telling.Step.{Step}
 use Rattle.lobby_turns.specs.declared.telling.Step.TheVariants as step
 use Rattle.lobby_turns.specs.Wire.{MayGoOn}
-use Rattle.lobby_turns.specs.Moments.{Moment, moment, tells_end, told_end}
+use Rattle.lobby_turns.specs.Moments.{Moment, told_end}
 use Rattle.lobby_turns.specs.Seat.{Seat}
 use Rattle.lobby_turns.specs.Talk.{AreDrains, EndsDry}
 use Rattle.lobby_turns.specs.Went.{Went}
 use Rattle.lobby_turns.specs.Holds.{Drains}
-use Rattle.lobby_turns.specs.Telling.{MayTell, OnlyWrites, StepIs, TellsNext, Writes, ToldIs, Tells}
+use Rattle.lobby_turns.specs.Telling.{MayTell, OnlyWrites, IsAllTold, StepIs, TellsNext, Writes, ToldIs, Tells}
 use Rattle.lobby_turns.proofs.Parts.{went_none, went_then}
 use Rattle.lobby_turns.proofs.Talks.{are_drains-append, calm-append, finished-append, dry_behind}
 
@@ -157,90 +156,80 @@ may_tell a b c k n most few may only more = record {
 pub next_memory : (a : Seat) → TellsNext a a step.Memory
 next_memory a = record { talk = []; went = went_none a; own = tt; writes = 0; few = omega arith; only = only_same a; step_is = tt }
 
-quiet_write : (a b : Seat) (how : Step) → Went a b [] → OnlyWrites a b 1 → StepIs a b [] 1 how → TellsNext a b how
-quiet_write a b how went only is = record { talk = []; went = went; own = tt; writes = 1; few = omega arith; only = only; step_is = is }
+-- ---- behind drains
 
-pub next_wrote : (a b : Seat) → Went a b [] → OnlyWrites a b 1 → TellsNext a b step.Wrote
-next_wrote a b went only = quiet_write a b step.Wrote went only (refl, refl)
+-- drains that did not say that nothing will come
+pub drains_on : (a b : Seat) (finished dry : Bool) → finished ≡ false → Drains a b finished dry → Drains a b false dry
+drains_on a b finished dry goes_on d = subst (λ (x : Bool). Drains a b x dry) goes_on d
 
-pub next_later : (a b : Seat) → Went a b [] → OnlyWrites a b 1 → b.wire.last_sent ≡ Some sent.Later → TellsNext a b step.Later
-next_later a b went only last = quiet_write a b step.Later went only (record { calm = refl; last = last; made = omega (arith, only.writes_are) })
+-- what was drained was then written, as much of it as the link took
+wrote_behind : (a b c : Seat) (dry : Bool) (how : Step) → (d : Drains a b false dry) → OnlyWrites a b 0 → Went b c [] → OnlyWrites b c 1 → StepIs a c d.talk 1 how → TellsNext a c how
+wrote_behind a b c dry how d before went only is = record {
+  talk = d.talk;
+  went = subst (λ (t : List Moment). Went a c t) (append-nil d.talk) (went_then a b c d.talk [] d.went went);
+  own = d.own;
+  writes = 1;
+  few = omega arith;
+  only = only_then a b c 0 1 before only;
+  step_is = is;
+}
 
-pub next_fault : (a b : Seat) → Went a b [] → OnlyWrites a b 1 → b.wire.last_sent ≡ Some sent.Fault → TellsNext a b step.Fault
-next_fault a b went only last = quiet_write a b step.Fault went only last
+pub next_wrote : (a b c : Seat) (dry : Bool) → Drains a b false dry → OnlyWrites a b 0 → Went b c [] → OnlyWrites b c 1 → TellsNext a c step.Wrote
+next_wrote a b c dry d before went only = wrote_behind a b c dry step.Wrote d before went only (d.finished_is, refl)
 
--- ---- behind a drain
+pub next_later : (a b c : Seat) (dry : Bool) → Drains a b false dry → OnlyWrites a b 0 → Went b c [] → OnlyWrites b c 1 → c.wire.last_sent ≡ Some sent.Later → TellsNext a c step.Later
+next_later a b c dry d before went only last =
+    wrote_behind a b c dry step.Later d before went only (record { calm = d.finished_is; last = last; made = omega (arith, before.writes_are, only.writes_are) })
 
-abbrev pub drain_talk : (a b : Seat) (n count : ℕ) (finished : Bool) → Drains a b a.conn.session.client n count finished → List Moment
-drain_talk a b n count finished d = moment d.met (event.Drain a.conn.session.client n) ∷ []
+pub next_fault : (a b c : Seat) (dry : Bool) → Drains a b false dry → OnlyWrites a b 0 → Went b c [] → OnlyWrites b c 1 → c.wire.last_sent ≡ Some sent.Fault → TellsNext a c step.Fault
+next_fault a b c dry d before went only last = wrote_behind a b c dry step.Fault d before went only last
 
-or_false : (x : Bool) → (x || false) ≡ x
-or_false true = refl
-or_false false = refl
+-- all is told
+told_all : (a b c : Seat) (dry : Bool) → (d : Drains a b false dry) → dry ≡ true → c.conn.session.client ≡ a.conn.session.client → c.conn.unwritten ≡ [] → IsAllTold c d.talk
+told_all a b c dry d is_dry client written =
+    record { calm = d.finished_is; written = written; dry = subst (λ (n : ℕ). EndsDry n d.talk) (sym client) (d.dry_is is_dry) }
 
-told_by : (a b : Seat) (n count : ℕ) (finished : Bool) → (d : Drains a b a.conn.session.client n count finished) → told_end (drain_talk a b n count finished d) ≡ finished
-told_by a b n count finished d = or_false (tells_end d.met (event.Drain a.conn.session.client n)) ∙ sym d.finished_is
+pub next_told : (a b c : Seat) (dry : Bool) → Drains a b false dry → OnlyWrites a b 0 → Went b c [] → OnlyWrites b c 1 → dry ≡ true → c.conn.unwritten ≡ [] → TellsNext a c step.All
+next_told a b c dry d before went only is_dry written =
+    wrote_behind a b c dry step.All d before went only (told_all a b c dry d is_dry (went.client ∙ d.went.client) written)
 
-pub next_finished : (a b : Seat) (n count : ℕ) (finished : Bool) → finished ≡ true → OnlyWrites a b 0 → Drains a b a.conn.session.client n count finished → TellsNext a b step.Finished
-next_finished a b n count finished is_so only d = record {
-  talk = drain_talk a b n count finished d;
+pub next_all : (a b : Seat) (finished dry : Bool) → finished ≡ false → dry ≡ true → OnlyWrites a b 0 → b.conn.unwritten ≡ [] → Drains a b finished dry → TellsNext a b step.All
+next_all a b finished dry goes_on is_dry only written found =
+    let d : Drains a b false dry = drains_on a b finished dry goes_on found in
+    record {
+      talk = d.talk;
+      went = d.went;
+      own = d.own;
+      writes = 0;
+      few = omega arith;
+      only = only;
+      step_is = told_all a b b dry d is_dry d.went.client written;
+    }
+
+pub next_finished : (a b : Seat) (finished dry : Bool) → finished ≡ true → OnlyWrites a b 0 → Drains a b finished dry → TellsNext a b step.Finished
+next_finished a b finished dry is_so only d = record {
+  talk = d.talk;
   went = d.went;
-  own = (refl, tt);
+  own = d.own;
   writes = 0;
   few = omega arith;
   only = only;
-  step_is = (told_by a b n count finished d ∙ is_so, refl);
+  step_is = (d.finished_is ∙ is_so, refl);
 }
 
-pub next_all : (a b : Seat) (n count : ℕ) (finished : Bool) → 0 < n → finished ≡ false → count ≡ 0 → OnlyWrites a b 0 → b.conn.unwritten ≡ []
-    → Drains a b a.conn.session.client n count finished → TellsNext a b step.All
-next_all a b n count finished some goes_on none only written d = record {
-  talk = drain_talk a b n count finished d;
-  went = d.went;
-  own = (refl, tt);
-  writes = 0;
-  few = omega arith;
-  only = only;
-  step_is = record {
-    calm = told_by a b n count finished d ∙ goes_on;
-    written = written;
-    dry = subst (λ (c : ℕ). EndsDry c (drain_talk a b n count finished d)) (sym d.went.client) ([], d.met, n, refl, some, d.dry none);
-  };
-}
+-- nothing was drained
+pub drains_none : (a : Seat) → Drains a a false false
+drains_none a = record { talk = []; went = went_none a; own = tt; finished_is = refl; dry_is = λ e. absurd (true≢false (sym e)) }
 
 -- the loop begins behind the question whether the client is finished
-pub telling_asked : (a b : Seat) (n count : ℕ) (finished : Bool) → finished ≡ false → OnlyWrites a b 0 → Drains a b a.conn.session.client n count finished → Telling a b 0
-telling_asked a b n count finished goes_on only d = record {
-  talk = drain_talk a b n count finished d;
+pub telling_asked : (a b : Seat) (finished dry : Bool) → finished ≡ false → OnlyWrites a b 0 → Drains a b finished dry → Telling a b 0
+telling_asked a b finished dry goes_on only d = record {
+  talk = d.talk;
   went = d.went;
-  own = (refl, tt);
-  calm = told_by a b n count finished d ∙ goes_on;
+  own = d.own;
+  calm = d.finished_is ∙ goes_on;
   only = only;
 }
-
-step_behind : (a b c : Seat) (t u : List Moment) (writes : ℕ) (how : Step) → told_end t ≡ false → OnlyWrites a b 0 → StepIs b c u writes how → StepIs a c (t ++ u) writes how
-step_behind a b c t u writes step.Wrote calm only is = (calm-append t u calm is.0, is.1)
-step_behind a b c t u writes step.All calm only is =
-    record { calm = calm-append t u calm is.calm; written = is.written; dry = dry_behind c.conn.session.client t u is.dry }
-step_behind a b c t u writes step.Later calm only is =
-    record { calm = calm-append t u calm is.calm; last = is.last; made = omega (arith, only.writes_are, is.made) }
-step_behind a b c t u writes step.Finished calm only is = (finished-append t u is.0, is.1)
-step_behind a b c t u writes step.Fault calm only is = is
-step_behind a b c t u writes step.Memory calm only is = tt
-
-pub drained_first : (a b c : Seat) (n count : ℕ) (finished : Bool) (how : Step) → finished ≡ false → OnlyWrites a b 0 → Drains a b a.conn.session.client n count finished
-    → TellsNext b c how → TellsNext a c how
-drained_first a b c n count finished how goes_on only d s =
-    let t : List Moment = drain_talk a b n count finished d in
-    record {
-      talk = t ++ s.talk;
-      went = went_then a b c t s.talk d.went s.went;
-      own = their_drains a b t s.talk d.went (refl, tt) s.own;
-      writes = s.writes;
-      few = s.few;
-      only = subst (λ (n : ℕ). OnlyWrites a c n) (none_add s.writes) (only_then a b c 0 s.writes only s.only);
-      step_is = step_behind a b c t s.talk s.writes how (told_by a b n count finished d ∙ goes_on) only s.step_is;
-    }
 
 -- ---- writing out
 

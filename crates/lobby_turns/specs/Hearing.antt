@@ -1,10 +1,6 @@
 -- What hearing a client did.
-use Rattle.std.specs.Prelude.{◌≡◌, ◌⊎◌, ℕ, ◌+◌, ◌<◌, ◌≤◌, false, List, [], ◌∷◌, length, Some}
-use Rattle.command_grammar.specs.declared.command.Request.{Request}
-use Rattle.lobby_model.specs.declared.event.Event.TheVariants as event
-use Rattle.lobby_model.specs.State.{State}
+use Rattle.std.specs.Prelude.{◌≡◌, ◌⊎◌, ℕ, ◌+◌, ◌<◌, ◌≤◌, false, List, [], length, Some}
 use Rattle.lobby_post.specs.Mask.{has_home}
-use Rattle.lobby_post.specs.Mail.{IsWakes}
 use Rattle.client_session.specs.declared.session.Next.TheVariants.{Nothing, Spoilt}
 use Rattle.client_session.specs.OneSession.{IsNextOf}
 use Rattle.lobby_turns.specs.declared.link.Got.TheVariants as got
@@ -12,10 +8,11 @@ use Rattle.lobby_turns.specs.declared.hearing.Heard.{Heard}
 use Rattle.lobby_turns.specs.declared.hearing.Heard.TheVariants as heard
 use Rattle.lobby_turns.specs.declared.hearing.Step.{Step}
 use Rattle.lobby_turns.specs.declared.hearing.Step.TheVariants as step
-use Rattle.lobby_turns.specs.Moments.{Moment, moment, requests, touched, told_end}
+use Rattle.lobby_turns.specs.Moments.{Moment, requests, touched, told_end}
 use Rattle.lobby_turns.specs.Seat.{Seat}
 use Rattle.lobby_turns.specs.Talk.{AreTalk}
 use Rattle.lobby_turns.specs.Went.{Went}
+use Rattle.lobby_turns.specs.Holds.{AreSaid, IsWithin}
 
 -- so many reads were made and no write, and each failed at most once
 pub record OnlyReads (old new : Seat) (reads : ℕ) : Type 0 where
@@ -33,13 +30,17 @@ pub record IsAllHeard (old new : Seat) : Type 0 where
 abbrev pub IsOver : Seat → Type 0
 IsOver new = IsNextOf (Some new.conn.session) Spoilt ⊎ (new.wire.last_got ≡ Some got.Fault)
 
--- a request of client c was told the lobby, and touched clients of these workers
-abbrev pub IsSaid : ℕ → List Moment → ℕ → Type 0
-IsSaid c talk wakes = (met : State) × (request : Request) × (talk ≡ moment met (event.Say c request) ∷ []) × IsWakes met (event.Say c request) wakes
+-- a step that told lines told so many at most, and one at least unless memory was refused
+abbrev pub SaysWithin : ℕ → Step → Type 0
+SaysWithin most (step.Said said) = IsWithin most said
+SaysWithin most step.Read = Unit {0}
+SaysWithin most step.All = Unit {0}
+SaysWithin most step.Stop = Unit {0}
+SaysWithin most step.Memory = Unit {0}
 
 -- what a step did, in so many reads
 abbrev pub StepIs : Seat → Seat → List Moment → ℕ → Step → Type 0
-StepIs old new talk reads (step.Said wakes) = (reads ≡ 0) × IsSaid old.conn.session.client talk wakes
+StepIs old new talk reads (step.Said said) = (reads ≡ 0) × AreSaid old.conn.session.client talk said.lines said.wakes
 StepIs old new talk reads step.Read = (talk ≡ []) × (reads ≡ 1)
 StepIs old new talk reads step.All = (talk ≡ []) × IsAllHeard old new
 StepIs old new talk reads step.Stop = (talk ≡ []) × IsOver new

@@ -1,14 +1,20 @@
 -- What a hold of a turn did.
-use Rattle.std.specs.Prelude.{◌≡◌, ℕ, ◌≤◌, Bool, List, [], ◌∷◌, length, take}
+use Rattle.std.specs.Prelude.{◌≡◌, ℕ, ◌<◌, ◌≤◌, Bool, true, false, List, [], ◌∷◌, length, take}
 use Rattle.lobby_model.specs.declared.event.Event.{Event}
-use Rattle.lobby_model.specs.declared.event.Event.TheVariants as event
 use Rattle.lobby_model.specs.State.{State}
-use Rattle.lobby_model.specs.Next.{taken_by}
+use Rattle.lobby_post.specs.Mask.{has_home}
 use Rattle.lobby_post.specs.Mail.{IsWakes}
-use Rattle.lobby_lock.specs.Passes.{ShownPass}
-use Rattle.lobby_turns.specs.Moments.{moment, tells_end}
+use Rattle.lobby_lock.specs.Passes.{ShownPass, ShownHold, lobby_after}
+use Rattle.lobby_turns.specs.declared.holds.Said.{Said}
+use Rattle.lobby_turns.specs.declared.holds.Piece.{Piece}
+use Rattle.lobby_turns.specs.Moments.{Moment, moment, requests, drained_for, touched, told_end}
 use Rattle.lobby_turns.specs.Seat.{Seat}
+use Rattle.lobby_turns.specs.Talk.{AreDrains, AreTalk, EndsDry}
 use Rattle.lobby_turns.specs.Went.{Joined, Went}
+
+-- its lobby is the plain lobby after what its worker has seen and its events so far
+abbrev pub Stands : ShownHold → Type 0
+Stands held = held.lobby.plain ≡ lobby_after held.pass held.events
 
 -- it made this event, which touched the clients of these workers
 pub record Made (old new : Seat) (e : Event) (wakes : ℕ) : Type 0 where
@@ -16,18 +22,38 @@ pub record Made (old new : Seat) (e : Event) (wakes : ℕ) : Type 0 where
   pub went : Went old new (moment met e ∷ [])
   pub wakes_are : IsWakes met e wakes
 
--- it drained up to n bytes for client c: so many came, and whether nothing will ever come of it
-pub record Drains (old new : Seat) (c n count : ℕ) (finished : Bool) : Type 0 where
-  pub met : State
-  pub went : Went old new (moment met (event.Drain c n) ∷ [])
-  pub dry : count ≡ 0 → taken_by met (event.Drain c n) c ≡ []
-  pub finished_is : finished ≡ tells_end met (event.Drain c n)
+-- so many lines of client c were told the lobby, and they touched the clients of these workers
+pub record AreSaid (c : ℕ) (talk : List Moment) (lines wakes : ℕ) : Type 0 where
+  pub own : AreTalk c talk
+  pub calm : told_end talk ≡ false
+  pub lines_are : length (requests talk) ≡ lines
+  pub wakes_are : (home : ℕ) → has_home wakes home ≡ touched talk home
 
--- the same of a pass alone: the bytes stand at the front of the slice
-pub record DrainedInto (old new : ShownPass) (c n : ℕ) (into : List ℕ) (count : ℕ) (finished : Bool) : Type 0 where
-  pub met : State
-  pub joined : Joined old new (moment met (event.Drain c n) ∷ [])
-  pub within : count ≤ n
-  pub few : count ≤ length into
-  pub bytes : take count into ≡ taken_by met (event.Drain c n) c
-  pub finished_is : finished ≡ tells_end met (event.Drain c n)
+-- it told the lobby so many of the next lines
+pub record SaysLines (old new : Seat) (lines wakes : ℕ) : Type 0 where
+  pub talk : List Moment
+  pub went : Went old new talk
+  pub said : AreSaid old.conn.session.client talk lines wakes
+
+-- at most so many lines, and one at least unless memory was refused
+abbrev pub IsWithin : ℕ → Said → Type 0
+IsWithin most said = (said.lines ≤ most) × (said.refused ≡ false → 1 ≤ said.lines)
+
+-- it drained for its client: whether nothing will ever come of it; where it is dry, the last drain asked for some bytes and gave none
+pub record Drains (old new : Seat) (finished dry : Bool) : Type 0 where
+  pub talk : List Moment
+  pub went : Went old new talk
+  pub own : AreDrains old.conn.session.client talk
+  pub finished_is : told_end talk ≡ finished
+  pub dry_is : dry ≡ true → EndsDry old.conn.session.client talk
+
+-- the same of a pass alone, for client c into a slice of n bytes: those that came stand at its front
+pub record DrainedInto (old new : ShownPass) (c n : ℕ) (into : List ℕ) (piece : Piece) : Type 0 where
+  pub talk : List Moment
+  pub joined : Joined old new talk
+  pub own : AreDrains c talk
+  pub within : piece.count ≤ n
+  pub few : piece.count ≤ length into
+  pub bytes : take piece.count into ≡ drained_for c talk
+  pub finished_is : told_end talk ≡ piece.finished
+  pub dry_is : piece.dry ≡ true → 0 < n → EndsDry c talk

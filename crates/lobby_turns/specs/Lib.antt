@@ -2,8 +2,8 @@ pub mod Wire
 pub mod Moments
 pub mod Seat
 pub mod Went
-pub mod Holds
 pub mod Talk
+pub mod Holds
 pub mod Hearing
 pub mod Telling
 pub mod Turned

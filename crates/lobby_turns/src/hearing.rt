@@ -1,21 +1,18 @@
 //! The half of a turn that hears the client: its lines are told the lobby, and where no whole line
 //! is left, its link is read.
 
-ghost use Rattle.std.specs.Prelude.{◌≡◌, ◌≤◌, Some};
-ghost use Rattle.client_session.specs.declared.session.Next.TheVariants.{Line, Nothing};
-ghost use Rattle.command_grammar.specs.Kinds.{keeps_kinds};
+ghost use Rattle.std.specs.Prelude.{◌≡◌, ℕ, ◌≤◌, [], Some};
+ghost use Rattle.client_session.specs.declared.session.Next.TheVariants.{Nothing};
 ghost use Rattle.client_session.specs.OneSession.{IsNextOf};
-ghost use Rattle.std.specs.Prelude.{IsTrue, []};
 ghost use Rattle.lobby_turns.specs.Wire.{MayGoOn, IsFresh};
 ghost use Rattle.lobby_turns.specs.Seat.{seat};
-ghost use Rattle.lobby_turns.specs.Hearing.{HearsNext, Hears};
+ghost use Rattle.lobby_turns.specs.Hearing.{SaysWithin, HearsNext, Hears};
 
 use crate::conn::Conn;
 use crate::gate::Gate;
-use crate::holds;
+use crate::holds::{self, Said};
 use crate::link::{Got, Link};
 use client_session::Next;
-use command_grammar::Request;
 use lobby_lock::{Desk, Pass};
 use lobby_machine::Wakes;
 use std::sync::Wait;
@@ -43,8 +40,8 @@ pub(crate) enum Heard {
 /// One step of hearing a client.
 #[derive(Clone, Copy)]
 pub(crate) enum Step {
-    /// A line was told the lobby.
-    Said(Wakes),
+    /// Lines were told the lobby, until a hold was over or memory was refused.
+    Said(Said),
     /// Bytes were read.
     Read,
     /// There is nothing more now.
@@ -55,35 +52,13 @@ pub(crate) enum Step {
     Memory,
 }
 
-/// Tells the lobby the next line.
-fn hear_line<R: Wait, L: Link, G: Gate>(
-    rt: &R,
-    conn: &mut Conn,
-    link: &L,
-    desk: &Desk,
-    pass: Pass,
-    gate: &G,
-    request: Request,
-) -> (Pass, Step)
-    requires desk { pass.desk ≡ desk.now }
-    requires fed { conn.old.unfed ≡ [] }
-    requires kinds { IsTrue (keeps_kinds request.command) }
-    requires next { IsNextOf (Some conn.old.session) (Line request) }
-    ensures { HearsNext (seat conn.old (L.wire link.now) pass) (seat conn.new (L.wire link.now) result.0) result.1 }
-{
-    let (pass, said) = holds::say(rt, conn, desk, pass, gate, request);
-    match said {
-        Ok(wakes) => (pass, Step::Said(wakes)),
-        Err(_) => (pass, Step::Memory),
-    }
-}
-
 /// Reads the link, where it may have more.
 fn hear_link<L: Link>(conn: &mut Conn, link: &mut L, pass: Pass) -> (Pass, Step)
     requires fed { conn.old.unfed ≡ [] }
     requires wire { MayGoOn (L.wire link.old) }
     requires next { IsNextOf (Some conn.old.session) Nothing }
-    ensures { HearsNext (seat conn.old (L.wire link.old) pass) (seat conn.new (L.wire link.new) result.0) result.1 }
+    ensures heard { HearsNext (seat conn.old (L.wire link.old) pass) (seat conn.new (L.wire link.new) result.0) result.1 }
+    ensures within { (most : ℕ) → SaysWithin most result.1 }
 {
     match link.last_got() {
         Some(Got::End) => return (pass, Step::All),
@@ -99,7 +74,8 @@ fn hear_link<L: Link>(conn: &mut Conn, link: &mut L, pass: Pass) -> (Pass, Step)
     }
 }
 
-/// Feeds what was read, and then tells the lobby the next line; where none is left, reads the link.
+/// Feeds what was read, and then tells the lobby the next lines, so many at most; where none is left,
+/// reads the link.
 fn hear_next<R: Wait, L: Link, G: Gate>(
     rt: &R,
     conn: &mut Conn,
@@ -107,17 +83,23 @@ fn hear_next<R: Wait, L: Link, G: Gate>(
     desk: &Desk,
     pass: Pass,
     gate: &G,
+    most: usize,
 ) -> (Pass, Step)
     requires desk { pass.desk ≡ desk.now }
     requires wire { MayGoOn (L.wire link.old) }
-    ensures { HearsNext (seat conn.old (L.wire link.old) pass) (seat conn.new (L.wire link.new) result.0) result.1 }
+    requires some { 1 ≤ most }
+    ensures heard { HearsNext (seat conn.old (L.wire link.old) pass) (seat conn.new (L.wire link.new) result.0) result.1 }
+    ensures within { SaysWithin most result.1 }
 {
     match conn.feed() {
         Ok(()) => {}
         Err(_) => return (pass, Step::Memory),
     }
     match conn.next_request() {
-        Ok(Next::Line(request)) => hear_line(rt, conn, link, desk, pass, gate, request),
+        Ok(Next::Line(request)) => {
+            let (pass, said) = holds::say(rt, conn, desk, pass, gate, request, most);
+            (pass, Step::Said(said))
+        }
         Ok(Next::Nothing) => hear_link(conn, link, pass),
         Ok(Next::Spoilt) => (pass, Step::Stop),
         Err(_) => (pass, Step::Memory),
@@ -145,12 +127,15 @@ pub(crate) fn hear<R: Wait, L: Link, G: Gate>(
         if lines == LINES || reads == READS {
             return (pass, Heard::Again, wakes);
         }
-        let (next, step) = hear_next(rt, conn, link, desk, pass, gate);
+        let (next, step) = hear_next(rt, conn, link, desk, pass, gate, LINES - lines);
         pass = next;
         match step {
-            Step::Said(more) => {
-                wakes = wakes.union(more);
-                lines += 1;
+            Step::Said(said) => {
+                wakes = wakes.union(said.wakes);
+                lines += said.lines;
+                if said.refused {
+                    return (pass, Heard::Memory, wakes);
+                }
             }
             Step::Read => reads += 1,
             Step::All => return (pass, Heard::All, wakes),

@@ -1,25 +1,137 @@
-//! The holds of a turn. Each makes one event at most, and no link is read or written in it.
+//! The holds of a turn. Each says the next lines, or drains, or shuts the client, and no link is read
+//! or written in it.
 
-ghost use Rattle.std.specs.Prelude.{◌≡◌, [], length, OnErr, IfOk, IsTrue, Some};
+ghost use Rattle.std.specs.Prelude.{◌≡◌, ◌+◌, ◌<◌, ◌≤◌, [], length, OnErr, IfOk, IfSome, IsTrue, Some, None, false};
 ghost use Rattle.command_grammar.specs.Kinds.{keeps_kinds};
 ghost use Rattle.lobby_model.specs.declared.event.Event.TheVariants as event;
+ghost use Rattle.lobby_lock.specs.Passes.{pass_after};
 ghost use Rattle.client_session.specs.declared.session.Next.TheVariants.{Line};
 ghost use Rattle.client_session.specs.OneSession.{IsNextOf};
 ghost use Rattle.lobby_turns.specs.Wire.{Wire};
 ghost use Rattle.lobby_turns.specs.Seat.{seat};
 ghost use Rattle.lobby_turns.specs.Went.{Went};
-ghost use Rattle.lobby_turns.specs.Holds.{Made, Drains, DrainedInto};
+ghost use Rattle.lobby_turns.specs.Holds.{Stands, Made, SaysLines, IsWithin, Drains, DrainedInto};
 
 use crate::conn::{Conn, PIECE};
 use crate::gate::Gate;
+use client_session::Next;
 use command_grammar::Request;
-use lobby_lock::{Desk, Pass};
-use lobby_machine::{Drained, Wakes};
+use lobby_lock::{Desk, Held, MOST_EVENTS, Pass};
+use lobby_machine::Wakes;
 use std::alloc::AllocError;
 use std::sync::Wait;
 
-/// Tells the lobby what the next line asks for, and accepts the line. Where memory is refused, the
-/// line stays next.
+/// What was said in a hold.
+#[derive(Clone, Copy)]
+pub(crate) struct Said {
+    /// How many lines were told the lobby.
+    pub(crate) lines: usize,
+    /// The workers whose clients they touched.
+    pub(crate) wakes: Wakes,
+    /// Whether memory was refused behind them. The line that it was refused for stays next.
+    pub(crate) refused: bool,
+}
+
+/// What was drained in a hold.
+#[derive(Clone, Copy)]
+pub(crate) struct Piece {
+    /// How many bytes came.
+    pub(crate) count: usize,
+    /// Whether nothing will ever come of the client.
+    pub(crate) finished: bool,
+    /// Whether the last drain gave nothing.
+    pub(crate) dry: bool,
+}
+
+/// Tells the lobby what the next line asks for, in a hold that goes on, and accepts the line. Contracts
+/// see the hold as the pass that it would leave if it were given back now.
+fn say_line(conn: &mut Conn, held: &mut Held, request: Request) -> Result<Wakes, AllocError>
+    requires few { length held.old.events < MOST_EVENTS }
+    requires stands { Stands held.old }
+    requires kinds { IsTrue (keeps_kinds request.command) }
+    requires next { IsNextOf (Some conn.old.session) (Line request) }
+    ensures ok { IfOk result (λ wakes. (wire : Wire) → Made (seat conn.old wire (pass_after held.old)) (seat conn.new wire (pass_after held.new)) (event.Say conn.old.session.client request) wakes) }
+    ensures err { OnErr result ((conn.new ≡ conn.old) × (held.new ≡ held.old)) }
+    ensures pass { held.new.pass ≡ held.old.pass }
+{
+    match held.say(conn.client(), request) {
+        Ok(wakes) => {
+            conn.accept();
+            Ok(wakes)
+        }
+        Err(error) => Err(error),
+    }
+}
+
+/// Reads the next line and tells it the lobby, where one is there and the hold has place for it.
+fn say_next(conn: &mut Conn, held: &mut Held) -> Result<Option<Wakes>, AllocError>
+    ensures says { IfOk result (λ said. IfSome said (λ wakes. (wire : Wire) → SaysLines (seat conn.old wire (pass_after held.old)) (seat conn.new wire (pass_after held.new)) 1 wakes)) }
+    ensures none { IfOk result (λ said. said ≡ None → (conn.new ≡ conn.old) × (held.new ≡ held.old)) }
+    ensures err { OnErr result ((conn.new ≡ conn.old) × (held.new ≡ held.old)) }
+    ensures pass { held.new.pass ≡ held.old.pass }
+{
+    if held.count() >= MOST_EVENTS {
+        return Ok(None);
+    }
+    match conn.next_request() {
+        Ok(Next::Line(request)) => match say_line(conn, held, request) {
+            Ok(wakes) => Ok(Some(wakes)),
+            Err(error) => Err(error),
+        },
+        Ok(Next::Nothing) | Ok(Next::Spoilt) => Ok(None),
+        Err(error) => Err(error),
+    }
+}
+
+/// Tells the lobby the next lines in a hold that goes on, of which the first was read as this request.
+fn say_lines(conn: &mut Conn, held: &mut Held, request: Request, most: usize) -> Said
+    requires few { length held.old.events < MOST_EVENTS }
+    requires stands { Stands held.old }
+    requires kinds { IsTrue (keeps_kinds request.command) }
+    requires next { IsNextOf (Some conn.old.session) (Line request) }
+    requires some { 1 ≤ most }
+    ensures says { (wire : Wire) → SaysLines (seat conn.old wire (pass_after held.old)) (seat conn.new wire (pass_after held.new)) result.lines result.wakes }
+    ensures within { IsWithin most result }
+    ensures pass { held.new.pass ≡ held.old.pass }
+{
+    let mut wakes = match say_line(conn, held, request) {
+        Ok(wakes) => wakes,
+        Err(_) => {
+            return Said {
+                lines: 0,
+                wakes: Wakes::none(),
+                refused: true,
+            };
+        }
+    };
+    for lines in 1..most {
+        match say_next(conn, held) {
+            Ok(Some(more)) => wakes = wakes.union(more),
+            Ok(None) => {
+                return Said {
+                    lines,
+                    wakes,
+                    refused: false,
+                };
+            }
+            Err(_) => {
+                return Said {
+                    lines,
+                    wakes,
+                    refused: true,
+                };
+            }
+        }
+    }
+    Said {
+        lines: most,
+        wakes,
+        refused: false,
+    }
+}
+
+/// Tells the lobby the next lines in one hold, so many at most, of which the first was read as this
+/// request. The others are read in the hold.
 pub(crate) fn say<R: Wait, G: Gate>(
     rt: &R,
     conn: &mut Conn,
@@ -27,30 +139,40 @@ pub(crate) fn say<R: Wait, G: Gate>(
     pass: Pass,
     gate: &G,
     request: Request,
-) -> (Pass, Result<Wakes, AllocError>)
+    most: usize,
+) -> (Pass, Said)
     requires desk { pass.desk ≡ desk.now }
     requires kinds { IsTrue (keeps_kinds request.command) }
     requires next { IsNextOf (Some conn.old.session) (Line request) }
-    ensures ok { IfOk result.1 (λ wakes. (wire : Wire) → Made (seat conn.old wire pass) (seat conn.new wire result.0) (event.Say conn.old.session.client request) wakes) }
-    ensures refused { OnErr result.1 ((wire : Wire) → Went (seat conn.old wire pass) (seat conn.old wire result.0) []) }
-    ensures err { OnErr result.1 (conn.new ≡ conn.old) }
-    ensures unfed { conn.new.unfed ≡ conn.old.unfed }
-    ensures unwritten { conn.new.unwritten ≡ conn.old.unwritten }
+    requires some { 1 ≤ most }
+    ensures says { (wire : Wire) → SaysLines (seat conn.old wire pass) (seat conn.new wire result.0) result.1.lines result.1.wakes }
+    ensures within { IsWithin most result.1 }
 {
     gate.before_take(pass.number());
     let mut held = desk.take(rt, pass);
-    let said = held.say(conn.client(), request);
-    let pass = held.give(rt, desk);
-    match said {
-        Ok(wakes) => {
-            conn.accept();
-            (pass, Ok(wakes))
-        }
-        Err(error) => (pass, Err(error)),
+    let said = say_lines(conn, &mut held, request, most);
+    (held.give(rt, desk), said)
+}
+
+/// Drains into a slice, in a hold that goes on.
+fn drain_once(held: &mut Held, client: u64, into: &mut [u8]) -> Piece
+    requires few { length held.old.events < MOST_EVENTS }
+    requires stands { Stands held.old }
+    ensures drained { DrainedInto (pass_after held.old) (pass_after held.new) client (length into.old) into.new result }
+    ensures stands { Stands held.new }
+    ensures count { length held.new.events ≡ length held.old.events + 1 }
+    ensures pass { held.new.pass ≡ held.old.pass }
+{
+    let drained = held.drain(client, into);
+    Piece {
+        count: drained.count,
+        finished: drained.finished,
+        dry: drained.count == 0,
     }
 }
 
-/// Drains into a slice.
+/// Drains into a slice, and where less came than it has room for, once more into the rest of it: a
+/// client that has been told everything is known by a drain that gives nothing.
 fn drain_into<R: Wait, G: Gate>(
     rt: &R,
     client: u64,
@@ -58,14 +180,23 @@ fn drain_into<R: Wait, G: Gate>(
     pass: Pass,
     gate: &G,
     into: &mut [u8],
-) -> (Pass, Drained)
+) -> (Pass, Piece)
     requires { pass.desk ≡ desk.now }
-    ensures { DrainedInto pass result.0 client (length into.old) into.new result.1.count result.1.finished }
+    ensures { DrainedInto pass result.0 client (length into.old) into.new result.1 }
 {
     gate.before_take(pass.number());
     let mut held = desk.take(rt, pass);
-    let drained = held.drain(client, into);
-    (held.give(rt, desk), drained)
+    let first = drain_once(&mut held, client, into);
+    if first.finished || first.count == 0 || first.count == into.len() {
+        return (held.give(rt, desk), first);
+    }
+    let rest = drain_once(&mut held, client, &mut into[first.count..]);
+    let piece = Piece {
+        count: first.count + rest.count,
+        finished: rest.finished,
+        dry: rest.dry,
+    };
+    (held.give(rt, desk), piece)
 }
 
 /// Drains a piece for the client. All that was drained before was written.
@@ -75,24 +206,23 @@ pub(crate) fn drain<R: Wait, G: Gate>(
     desk: &Desk,
     pass: Pass,
     gate: &G,
-) -> (Pass, Result<Drained, AllocError>)
+) -> (Pass, Result<Piece, AllocError>)
     requires desk { pass.desk ≡ desk.now }
     requires written { conn.old.unwritten ≡ [] }
-    ensures ok { IfOk result.1 (λ drained. (wire : Wire) → Drains (seat conn.old wire pass) (seat conn.new wire result.0) conn.old.session.client 4096 drained.count drained.finished) }
+    ensures ok { IfOk result.1 (λ piece. (wire : Wire) → Drains (seat conn.old wire pass) (seat conn.new wire result.0) piece.finished piece.dry) }
     ensures session { conn.new.session ≡ conn.old.session }
     ensures unfed { conn.new.unfed ≡ conn.old.unfed }
-    ensures none { IfOk result.1 (λ drained. drained.count ≡ 0 → conn.new.unwritten ≡ []) }
     ensures err { OnErr result.1 ((conn.new ≡ conn.old) × (result.0 ≡ pass)) }
 {
     let Ok(mut unwritten) = Vec::with_capacity(conn.alloc, PIECE) else {
         return (pass, Err(AllocError));
     };
-    let mut piece = [0u8; PIECE];
-    let (pass, drained) = drain_into(rt, conn.client(), desk, pass, gate, &mut piece);
-    let _ = unwritten.extend_from_slice(&piece[..drained.count]);
+    let mut bytes = [0u8; PIECE];
+    let (pass, piece) = drain_into(rt, conn.client(), desk, pass, gate, &mut bytes);
+    let _ = unwritten.extend_from_slice(&bytes[..piece.count]);
     conn.drained = unwritten;
     conn.written = 0;
-    (pass, Ok(drained))
+    (pass, Ok(piece))
 }
 
 /// Asks whether nothing will ever come of the client, without draining a byte.
@@ -104,10 +234,10 @@ pub(crate) fn is_finished<R: Wait, G: Gate>(
     gate: &G,
 ) -> (Pass, bool)
     requires { pass.desk ≡ desk.now }
-    ensures { (wire : Wire) → Drains (seat conn.now wire pass) (seat conn.now wire result.0) conn.now.session.client 0 0 result.1 }
+    ensures { (wire : Wire) → Drains (seat conn.now wire pass) (seat conn.now wire result.0) result.1 false }
 {
-    let (pass, drained) = drain_into(rt, conn.client(), desk, pass, gate, &mut []);
-    (pass, drained.finished)
+    let (pass, piece) = drain_into(rt, conn.client(), desk, pass, gate, &mut []);
+    (pass, piece.finished)
 }
 
 /// Shuts the client.

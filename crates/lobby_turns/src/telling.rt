@@ -1,10 +1,11 @@
 //! The half of a turn that tells the client: what the lobby has for it is drained, a piece at a time,
 //! and written.
 
-ghost use Rattle.std.specs.Prelude.{◌≡◌, ◌≤◌, []};
+ghost use Rattle.std.specs.Prelude.{◌≡◌, ◌≤◌, [], false};
 ghost use Rattle.lobby_turns.specs.Wire.{MayGoOn};
-ghost use Rattle.lobby_turns.specs.Seat.{seat};
-ghost use Rattle.lobby_turns.specs.Telling.{TellsNext, Tells, Writes, MayTell};
+ghost use Rattle.lobby_turns.specs.Seat.{Seat, seat};
+ghost use Rattle.lobby_turns.specs.Holds.{Drains};
+ghost use Rattle.lobby_turns.specs.Telling.{OnlyWrites, TellsNext, Tells, Writes, MayTell};
 
 use crate::conn::Conn;
 use crate::gate::Gate;
@@ -50,13 +51,25 @@ pub(crate) enum Step {
     Memory,
 }
 
-/// Writes what was drained, as much of it as the link takes now.
-fn tell_link<L: Link, G: Gate>(conn: &mut Conn, link: &mut L, pass: Pass, gate: &G) -> (Pass, Step)
+/// Writes what was drained, as much of it as the link takes now. Where the last drain was dry, which
+/// gave nothing, the client has been told everything once all is written.
+fn tell_link<L: Link, G: Gate>(
+    conn: &mut Conn,
+    link: &mut L,
+    pass: Pass,
+    gate: &G,
+    dry: bool,
+) -> (Pass, Step)
     requires { MayGoOn (L.wire link.old) }
-    ensures { TellsNext (seat conn.old (L.wire link.old) pass) (seat conn.new (L.wire link.new) result.0) result.1 }
+    ensures { (before : Seat) → Drains before (seat conn.old (L.wire link.old) pass) false dry → OnlyWrites before (seat conn.old (L.wire link.old) pass) 0 → TellsNext before (seat conn.new (L.wire link.new) result.0) result.1 }
 {
     match conn.write(link, gate, pass.number()) {
-        Sent::Took(_) => (pass, Step::Wrote),
+        Sent::Took(_) => {
+            if dry && conn.is_written() {
+                return (pass, Step::All);
+            }
+            (pass, Step::Wrote)
+        }
         Sent::Later => (pass, Step::Later),
         Sent::Fault => (pass, Step::Fault),
     }
@@ -76,19 +89,19 @@ fn tell_next<R: Wait, L: Link, G: Gate>(
     ensures { TellsNext (seat conn.old (L.wire link.old) pass) (seat conn.new (L.wire link.new) result.0) result.1 }
 {
     if !conn.is_written() {
-        return tell_link(conn, link, pass, gate);
+        return tell_link(conn, link, pass, gate, false);
     }
     let (pass, drained) = holds::drain(rt, conn, desk, pass, gate);
     match drained {
         Err(_) => (pass, Step::Memory),
-        Ok(drained) => {
-            if drained.finished {
+        Ok(piece) => {
+            if piece.finished {
                 return (pass, Step::Finished);
             }
-            if drained.count == 0 {
+            if piece.dry && conn.is_written() {
                 return (pass, Step::All);
             }
-            tell_link(conn, link, pass, gate)
+            tell_link(conn, link, pass, gate, piece.dry)
         }
     }
 }

@@ -12,6 +12,7 @@ use lobby_turns::{Conn, Gate, Link, MemoryLink, Turn, TurnState, serve};
 use std::alloc::Global;
 use std::process::Abort;
 use std::sync::Wait;
+use std::sync::atomic::{AtomicU64, Ordering};
 use std::test::*;
 
 const GREETING: &[u8] = b"TASSERVER 0.38 * 8201 0\n";
@@ -25,6 +26,27 @@ struct Open;
 impl Gate for Open {
     fn before_take(&self, worker: u64) {
         let _ = worker;
+    }
+
+    fn after_write(&self, worker: u64, bytes: &[u8]) {
+        let _ = (worker, bytes.len());
+    }
+
+    fn woken(&self, worker: u64) {
+        let _ = worker;
+    }
+}
+
+// A gate that counts how often the lobby is taken.
+#[derive(Drop)]
+struct Counting {
+    takes: AtomicU64,
+}
+
+impl Gate for Counting {
+    fn before_take(&self, worker: u64) {
+        let _ = worker;
+        self.takes.fetch_add(1, Ordering::SeqCst);
     }
 
     fn after_write(&self, worker: u64, bytes: &[u8]) {
@@ -99,17 +121,18 @@ fn take_turns<R: Wait, L: Link, G: Gate>(
     (pass, last)
 }
 
-// Serves one client alone over a link: what its last turn came to.
-fn serve_alone<R: Wait>(
+// Serves one client alone over a link and past a gate: what its last turn came to.
+fn serve_alone<R: Wait, G: Gate>(
     rt: &R,
     alloc: Global,
     link: &mut MemoryLink,
+    gate: &G,
     turns: u64,
 ) -> Result<Option<Turn>, Fail> {
     let lobby = new_lobby(alloc)?;
     match Desk::open(rt, alloc, lobby) {
         Ok((desk, pass)) => {
-            let (pass, turn) = serve_client(rt, alloc, &desk, pass, link, &Open, turns);
+            let (pass, turn) = serve_client(rt, alloc, &desk, pass, link, gate, turns);
             drop(pass);
             drop(desk);
             Ok(turn)
@@ -128,7 +151,7 @@ fn check<R: Wait + Abort>(
     output: &[u8],
 ) -> Result<(), Fail> {
     let mut link = link;
-    let served = serve_alone(rt, alloc, &mut link, turns);
+    let served = serve_alone(rt, alloc, &mut link, &Open, turns);
     same(rt, link.output(), output);
     drop(link);
     same(rt, served?.map(|turn| turn.state), Some(state));
@@ -224,4 +247,31 @@ fn a_line_that_is_too_long_shuts_its_client(rt: HostRuntime) -> Result<(), Fail>
         TurnState::Closed,
         GREETING_AND_PONG,
     )
+}
+
+// How often a turn takes the lobby whose client sent so many lines at once.
+fn takes_of<R: Wait + Abort>(rt: &R, alloc: Global, lines: u64) -> Result<u64, Fail> {
+    let mut input = Vec::new(alloc);
+    for _ in 0..lines {
+        input.extend_from_slice(b"PING\n")?;
+    }
+    let mut link = MemoryLink::new(alloc, input, 4_096, 4_096);
+    let gate = Counting {
+        takes: AtomicU64::new(0),
+    };
+    let served = serve_alone(rt, alloc, &mut link, &gate, 1);
+    drop(link);
+    same(rt, served?.map(|turn| turn.state), Some(TurnState::Idle));
+    Ok(gate.takes.load(Ordering::SeqCst))
+}
+
+#[test]
+fn a_hold_says_up_to_32_lines(rt: HostRuntime) -> Result<(), Fail> {
+    let alloc = rt.alloc();
+    // the greeting alone, which is drained in a hold that also sees that nothing is left
+    same(&rt, takes_of(&rt, alloc, 0)?, 1);
+    same(&rt, takes_of(&rt, alloc, 1)?, 2);
+    same(&rt, takes_of(&rt, alloc, 32)?, 2);
+    same(&rt, takes_of(&rt, alloc, 33)?, 3);
+    Ok(())
 }

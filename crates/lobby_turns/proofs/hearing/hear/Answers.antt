@@ -1,6 +1,6 @@
 use Rattle.std.proofs.Common.{arith}
-use Rattle.lobby_turns.proofs.Hearings.{begins, renamed, goes_on_said, goes_on_read, hears_all, hears_stop, hears_memory}
-use Rattle.lobby_turns.proofs.hearing.hear.Goals.{in-Said, in-Read}
+use Rattle.lobby_turns.proofs.Hearings.{begins, renamed, goes_on_said, goes_on_read, hears_all, hears_stop, hears_memory, hears_refused}
+use Rattle.lobby_turns.proofs.hearing.hear.Goals.{in-Said+else-said, in-Read}
 use Rattle.lobby_turns.proofs.hearing.hear.Goals as goal
 
 pub loop-init : goal.loop-init
@@ -9,23 +9,35 @@ loop-init g c = begins _ _ c.none-wakes.ensures
 pub returns-in-All : goal.returns-in-All
 returns-in-All g c =
     let h = c.loop.invariant in
-    hears_all _ _ _ _ _ _ _ c.in-All.is h.few_lines (omega (arith, h.few_reads, c.if-reads-eq-READS.false)) h.hearing c.hear_next-next.ensures
+    hears_all _ _ _ _ _ _ _ c.in-All.is h.few_lines (omega (arith, h.few_reads, c.if-reads-eq-READS.false)) h.hearing c.hear_next-next.ensures.heard
 
 pub returns-in-Stop : goal.returns-in-Stop
 returns-in-Stop g c =
     let h = c.loop.invariant in
-    hears_stop _ _ _ _ _ _ _ c.in-Stop.is h.few_lines (omega (arith, h.few_reads, c.if-reads-eq-READS.false)) h.hearing c.hear_next-next.ensures
+    hears_stop _ _ _ _ _ _ _ c.in-Stop.is h.few_lines (omega (arith, h.few_reads, c.if-reads-eq-READS.false)) h.hearing c.hear_next-next.ensures.heard
 
 pub returns-in-Memory : goal.returns-in-Memory
 returns-in-Memory g c =
     let h = c.loop.invariant in
-    hears_memory _ _ _ _ _ _ _ c.in-Memory.is h.few_lines (omega (arith, h.few_reads, c.if-reads-eq-READS.false)) h.hearing c.hear_next-next.ensures
+    hears_memory _ _ _ _ _ _ _ c.in-Memory.is h.few_lines (omega (arith, h.few_reads, c.if-reads-eq-READS.false)) h.hearing c.hear_next-next.ensures.heard
+
+pub overflow_sub-lines : goal.overflow_sub-lines
+overflow_sub-lines g c = omega (arith, c.loop.invariant.few_lines)
+
+pub hear_next-next-requires-clause-some : goal.hear_next-next-requires-clause-some
+hear_next-next-requires-clause-some g c = omega (arith, c.loop.invariant.few_lines, c.if-lines-eq-LINES.false)
+
+pub returns-then-said : goal.returns-then-said
+returns-then-said g c =
+    let h = c.loop.invariant in
+    hears_refused _ _ _ _ _ _ _ _ _ c.in-Said.is h.few_lines h.few_reads c.hear_next-next.ensures.within h.hearing c.hear_next-next.ensures.heard c.union-wakes.ensures
 
 pub loop-preserved : goal.loop-preserved
 loop-preserved g c =
+    let s = c.hear_next-next.ensures in
     elim c.match-step.branch [
-      | in-Said w ↦ renamed _ _ _ _ _ _ _ _ _ w.lines-is w.reads-is w.wakes-is
-          (goes_on_said _ _ _ _ _ _ _ _ _ _ w.in-Said.is (omega (arith, c.loop.invariant.few_lines, c.if-lines-eq-LINES.false)) c.loop.invariant c.hear_next-next.ensures w.union-wakes.ensures)
+      | in-Said+else-said w ↦ renamed _ _ _ _ _ _ _ _ _ w.lines-is w.reads-is w.wakes-is
+          (goes_on_said _ _ _ _ _ _ _ _ _ _ w.in-Said.is w.if-said.false s.within c.loop.invariant s.heard w.union-wakes.ensures)
       | in-Read w ↦ renamed _ _ _ _ _ _ _ _ _ w.lines-is w.reads-is w.wakes-is
-          (goes_on_read _ _ _ _ _ _ _ _ w.in-Read.is (omega (arith, c.loop.invariant.few_reads, c.if-reads-eq-READS.false)) c.loop.invariant c.hear_next-next.ensures)
+          (goes_on_read _ _ _ _ _ _ _ _ w.in-Read.is (omega (arith, c.loop.invariant.few_reads, c.if-reads-eq-READS.false)) c.loop.invariant s.heard)
     ]

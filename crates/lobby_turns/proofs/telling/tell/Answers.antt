@@ -8,7 +8,7 @@ use Rattle.lobby_turns.proofs.telling.tell.Goals as goal
 pub returns-then-finished : goal.returns-then-finished
 returns-then-finished g c =
     let wire = g.L.Link.wire c.args.link.now in
-    tells_asked _ _ _ _ (omega arith) (next_finished _ _ _ _ _ c.if-finished.true (no_write _ _ refl refl refl) (c.is_finished-next.ensures wire)) c.write_out.ensures
+    tells_asked _ _ _ _ (omega arith) (next_finished _ _ _ _ c.if-finished.true (no_write _ _ refl refl refl) (c.is_finished-next.ensures wire)) c.write_out.ensures
 
 pub loop-writes-init : goal.loop-writes-init
 loop-writes-init g c =
@@ -16,7 +16,7 @@ loop-writes-init g c =
     let before = seat c.args.conn.now wire c.args.pass in
     elim c.if-not-is_written.branch [
       | then-not-is_written+else-finished w ↦ subst (λ (p : ShownPass). Telling before (seat c.args.conn.now wire p) 0) (sym w.pass-is)
-          (telling_asked _ _ _ _ _ w.if-finished.false (no_write _ _ refl refl refl) (w.is_finished-next.ensures wire))
+          (telling_asked _ _ _ _ w.if-finished.false (no_write _ _ refl refl refl) (w.is_finished-next.ensures wire))
       | else-not-is_written w ↦ subst (λ (p : ShownPass). Telling before (seat c.args.conn.now wire p) 0) (sym w.pass-is) (telling_none before)
     ]
 

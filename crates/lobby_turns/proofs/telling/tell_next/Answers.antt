@@ -1,24 +1,20 @@
-use Rattle.std.proofs.Common.{refl, sym, subst, arith}
+use Rattle.std.proofs.Common.{refl, sym, subst}
 use Rattle.lobby_turns.specs.declared.telling.Step.TheVariants as step
 use Rattle.lobby_turns.specs.Seat.{Carried, seat}
 use Rattle.lobby_turns.specs.Telling.{TellsNext}
 use Rattle.lobby_lock.specs.Passes.{ShownPass}
 use Rattle.lobby_turns.proofs.Talks.{from_ok, from_err}
-use Rattle.lobby_turns.proofs.Tellings.{no_write, next_memory, next_finished, next_all, drained_first}
+use Rattle.lobby_turns.proofs.Tellings.{no_write, only_same, drains_none, drains_on, next_memory, next_finished, next_all}
 use Rattle.lobby_turns.proofs.telling.tell_next.Goals as goal
 
-pub returns-then-drained : goal.returns-then-drained
-returns-then-drained g c =
-    let wire = g.L.Link.wire c.args.link.now in
-    let e = c.drain-pass.ensures in
-    next_finished _ _ _ _ _ c.if-drained.true (no_write _ _ refl e.session e.unfed) (from_ok _ _ _ c.in-Ok.is e.ok wire)
+pub returns-then-not-is_written : goal.returns-then-not-is_written
+returns-then-not-is_written g c = c.tell_link.ensures _ (drains_none _) (only_same _)
 
-pub returns-then-drained-eq0 : goal.returns-then-drained-eq0
-returns-then-drained-eq0 g c =
+pub returns-then-piece : goal.returns-then-piece
+returns-then-piece g c =
     let wire = g.L.Link.wire c.args.link.now in
     let e = c.drain-pass.ensures in
-    next_all _ _ _ _ _ (omega arith) c.if-drained.false c.if-drained-eq0.true (no_write _ _ refl e.session e.unfed) (from_ok _ _ _ c.in-Ok.is e.none c.if-drained-eq0.true)
-    (from_ok _ _ _ c.in-Ok.is e.ok wire)
+    next_finished _ _ _ _ c.if-piece.true (no_write _ _ refl e.session e.unfed) (from_ok _ _ _ c.in-Ok.is e.ok wire)
 
 pub returns-in-Err : goal.returns-in-Err
 returns-in-Err g c =
@@ -27,8 +23,14 @@ returns-in-Err g c =
     let before = seat c.args.conn.now wire c.args.pass in
     subst (λ (x : Carried × ShownPass). TellsNext before (seat x.0 wire x.1) step.Memory) (λ i. (sym err.0 i, sym err.1 i)) (next_memory before)
 
-pub returns-else-drained-eq0 : goal.returns-else-drained-eq0
-returns-else-drained-eq0 g c =
+pub returns-then-is_written : goal.returns-then-is_written
+returns-then-is_written g c =
     let wire = g.L.Link.wire c.args.link.now in
     let e = c.drain-pass.ensures in
-    drained_first _ _ _ _ _ _ _ c.if-drained.false (no_write _ _ refl e.session e.unfed) (from_ok _ _ _ c.in-Ok.is e.ok wire) c.tell_link-in-Ok.ensures
+    next_all _ _ _ _ c.if-piece.false c.if-piece-2.true (no_write _ _ refl e.session e.unfed) (c.is_written-then-piece-2.ensures.0 c.if-is_written.true) (from_ok _ _ _ c.in-Ok.is e.ok wire)
+
+pub returns-else-piece-2 : goal.returns-else-piece-2
+returns-else-piece-2 g c =
+    let wire = g.L.Link.wire c.args.link.now in
+    let e = c.drain-pass.ensures in
+    c.tell_link-in-Ok.ensures _ (drains_on _ _ _ _ c.if-piece.false (from_ok _ _ _ c.in-Ok.is e.ok wire)) (no_write _ _ refl e.session e.unfed)
