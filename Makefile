@@ -3,13 +3,16 @@ SCRIPT ?= examples/ping.play
 SETTINGS ?= examples/lobby.toml
 ACCOUNTS ?= examples/accounts.toml
 
-.PHONY: play serve hash view build test check bench memory soak connections counts
+.PHONY: play serve setup hash view build test check bench memory soak connections counts
 
 play:
 	@tools/run.sh lobby_play < $(SCRIPT)
 
 serve:
 	@tools/run.sh lobby_main serve $(abspath $(SETTINGS)) $(abspath $(ACCOUNTS))
+
+setup:
+	@tools/run.sh lobby_check $(abspath $(SETTINGS)) $(abspath $(ACCOUNTS))
 
 hash:
 	@tools/run.sh lobby_main hash

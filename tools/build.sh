@@ -41,4 +41,5 @@ prove lobby_script
 prove client_view
 build lobby_play rt run
 build lobby_main rt run -- hash
+build lobby_check rt run -- "$PWD/examples/lobby.toml" "$PWD/examples/accounts.toml"
 build view_show rt run

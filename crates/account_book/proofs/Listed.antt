@@ -1,60 +1,170 @@
--- What a list comes to that is not refused.
-use Rattle.std.proofs.Common.{◌≡◌, ℕ, ◌+◌, true, false, List, [], ◌∷◌, ◌++◌, map, Some, None, Ok, Err, is_some, refl, ap, sym, ◌∙◌, append_assoc, append-nil, if◌then◌else◌, subst}
+-- What the entries of a list come to.
+use Rattle.std.proofs.Common.{◌≡◌, ℕ, ◌+◌, Bool, true, false, not, ◌||◌, List, [], ◌∷◌, ◌++◌, map, filter, Option, Some, None, Result, Ok, Err, is_some, refl, ap, sym, ◌∙◌, append_assoc, append-nil, arith, if◌then◌else◌, subst}
 use Rattle.std.specs.List.{IsDistinct}
-use Rattle.std.specs.Option.{option_map_or}
+use Rattle.std.specs.Str.{bytes_eq}
 use Rattle.std.proofs.lemmas.List.{map-append}
-use Rattle.toml.specs.Data.{Data, Items, no_items, item}
+use Rattle.toml_fields.specs.Fields.{◌>>=◌}
 use Rattle.account_book.specs.Account.{Account}
 use Rattle.account_book.specs.Book.{account_of, HasDistinctNames}
-use Rattle.account_book.specs.File.{described, with_entries, descriptions, Lists}
+use Rattle.account_book.specs.File.{accounts_in, enabled, with_entries, listed_accounts, Lists}
+use Rattle.account_book.specs.declared.listing.Listing.{Listing}
+use Rattle.account_book.specs.declared.error.AccountsError.{AccountsError}
 use Rattle.account_book.specs.declared.error.AccountsError.TheVariants.{BadField, DuplicateName}
 use Rattle.account_book.proofs.Entries.{HasDistinctNames-push, none_from_is_some}
 
--- the accounts are those before and then one for each entry, and all names are distinct
-abbrev pub Joins : List Account → Items → List Account → Type 0
-Joins before entries after =
-    (map Some before ++ descriptions entries ≡ map Some after) × HasDistinctNames after
+-- the accounts that are disabled
+abbrev pub disabled_in : List Listing → List Account
+disabled_in listings = accounts_in (filter (λ listing. listing.disabled) listings)
 
--- one more account in front of the rest
-joins_next : (before : List Account) (account : Account) (entry : Data) (entries : Items)
-    (after : List Account)
-    → described entry ≡ Some account → Joins (before ++ account ∷ []) entries after
-    → Joins before (item entry entries) after
-joins_next before account entry entries after is joins = (
-  rw is (sym (ap (λ front. front ++ descriptions entries) (map-append Some before (account ∷ []))
-      ∙ append_assoc (map Some before) (Some account ∷ []) (descriptions entries))
-      ∙ joins.0),
+-- whether one of either list has a name
+abbrev pub is_known : List ℕ → List Account → List Account → Bool
+is_known name book disabled = is_some (account_of name book) || is_some (account_of name disabled)
+
+-- a name is known where an account has it, disabled or not
+is_known-split : (name : List ℕ) (listings : List Listing)
+    → is_some (account_of name (accounts_in listings))
+    ≡ is_known name (enabled listings) (disabled_in listings)
+is_known-split name [] = refl
+is_known-split name (l ∷ ls) =
+    let rest = is_known-split name ls in
+    grind (arith, rest)
+
+enabled-push : (listings : List Listing) (listing : Listing)
+    → enabled (listings ++ listing ∷ [])
+    ≡ (if listing.disabled then enabled listings else enabled listings ++ listing.account ∷ [])
+enabled-push [] listing = grind arith
+enabled-push (l ∷ ls) listing =
+    let rest = enabled-push ls listing in
+    grind (arith, rest)
+
+disabled_in-push : (listings : List Listing) (listing : Listing)
+    → disabled_in (listings ++ listing ∷ [])
+    ≡ (if listing.disabled then disabled_in listings ++ listing.account ∷ [] else disabled_in listings)
+disabled_in-push [] listing = grind arith
+disabled_in-push (l ∷ ls) listing =
+    let rest = disabled_in-push ls listing in
+    grind (arith, rest)
+
+-- the listings are those before and then one for each entry, and all names are distinct
+abbrev pub Joins : List Listing → List (Option Listing) → List Listing → Type 0
+Joins before entries after =
+    (map Some before ++ entries ≡ map Some after) × HasDistinctNames (accounts_in after)
+
+-- one more listing in front of the rest
+joins_next : (before : List Listing) (listing : Listing) (entries : List (Option Listing))
+    (after : List Listing) → Joins (before ++ listing ∷ []) entries after
+    → Joins before (Some listing ∷ entries) after
+joins_next before listing entries after joins = (
+  sym (ap (λ front. front ++ entries) (map-append Some before (listing ∷ []))
+      ∙ append_assoc (map Some before) (Some listing ∷ []) entries)
+      ∙ joins.0,
   joins.1,
 )
 
-pub with_entries-ok : (place : ℕ) (before : List Account) (entries : Items) (after : List Account)
-    → with_entries place before entries ≡ Ok after → HasDistinctNames before
-    → Joins before entries after
-with_entries-ok place before no_items after ok distinct =
-    let same : before ≡ after = cc in
-    (append-nil (map Some before) ∙ ap (map Some) same, subst HasDistinctNames same distinct)
-with_entries-ok place before (item entry entries) after ok distinct =
-    let rest = λ (account : Account). with_entries (place + 1) (before ++ account ∷ []) entries in
-    elim (described entry) as (λ o. described entry ≡ o
-    → option_map_or (λ account. if is_some
-    (account_of account.name before) then Err DuplicateName else rest account) o (Err
-    (BadField place)) ≡ Ok after
-    → Joins before (item entry entries) after) [
-      | None ↦ λ is refused. absurd cc
-      | Some account ↦ λ is accepted.
-          elim (is_some (account_of account.name before)) as (λ b. is_some
-          (account_of account.name before) ≡ b
-          → (if b then Err DuplicateName else rest account) ≡ Ok after
-          → Joins before (item entry entries) after) [
-            | true ↦ λ known refused. absurd cc
-            | false ↦ λ new goes_on. joins_next before account entry entries after is
-                (with_entries-ok (place + 1) (before ++ account ∷ []) entries after goes_on
-                (HasDistinctNames-push before account distinct (none_from_is_some _ new)))
-          ] refl accepted
+-- names stay distinct where the new one is not known
+distinct-push : (listings : List Listing) (listing : Listing)
+    → HasDistinctNames (accounts_in listings)
+    → is_some (account_of listing.account.name (accounts_in listings)) ≡ false
+    → HasDistinctNames (accounts_in (listings ++ listing ∷ []))
+distinct-push listings listing distinct new =
+    subst HasDistinctNames (sym (map-append (λ (l : Listing). l.account) listings (listing ∷ [])))
+    (HasDistinctNames-push (accounts_in listings) listing.account distinct (none_from_is_some _ new))
+
+pub with_entries-ok : (place : ℕ) (before : List Listing) (entries : List (Option Listing))
+    (after : List Listing) → with_entries place before entries ≡ Ok after
+    → HasDistinctNames (accounts_in before) → Joins before entries after
+with_entries-ok place before [] after ok distinct =
+    let same : before ≡ after = cc in (
+      append-nil (map Some before) ∙ ap (map Some) same,
+      subst (λ listings. HasDistinctNames (accounts_in listings)) same distinct,
+    )
+with_entries-ok place before (None ∷ entries) after refused distinct = absurd cc
+with_entries-ok place before (Some listing ∷ entries) after ok distinct =
+    let rest = with_entries (place + 1) (before ++ listing ∷ []) entries in
+    elim (is_some (account_of listing.account.name (accounts_in before))) as (λ b.
+    is_some (account_of listing.account.name (accounts_in before)) ≡ b
+    → (if b then Err DuplicateName else rest) ≡ Ok after
+    → Joins before (Some listing ∷ entries) after) [
+      | true ↦ λ known refused. absurd cc
+      | false ↦ λ new goes_on. joins_next before listing entries after
+          (with_entries-ok (place + 1) (before ++ listing ∷ []) entries after goes_on
+          (distinct-push before listing distinct new))
     ] refl ok
 
--- a whole list that is not refused
-pub Lists-ok : (entries : Items) (accounts : List Account)
-    → with_entries 1 [] entries ≡ Ok accounts → Lists entries accounts
+-- what a reader has done so far: listings stand in its two books, and the whole list comes to what
+-- the entries that are left come to behind them
+pub record SoFar (entries left : List (Option Listing)) (place : ℕ) (book disabled : List Account) : Type 0 where
+  pub listings : List Listing
+  pub in_book : book ≡ enabled listings
+  pub in_disabled : disabled ≡ disabled_in listings
+  pub goes_on : with_entries 1 [] entries ≡ with_entries place listings left
+
+pub SoFar-start : (entries : List (Option Listing)) (book disabled : List Account) → book ≡ []
+    → disabled ≡ [] → SoFar entries entries 1 book disabled
+SoFar-start entries book disabled no_book no_disabled =
+    record { listings = []; in_book = no_book; in_disabled = no_disabled; goes_on = refl }
+
+-- what is known to the books is known to the listings
+known : (entries left : List (Option Listing)) (place : ℕ) (book disabled : List Account)
+    (name : List ℕ) (so_far : SoFar entries left place book disabled)
+    → is_some (account_of name (accounts_in so_far.listings)) ≡ is_known name book disabled
+known entries left place book disabled name so_far =
+    is_known-split name so_far.listings
+    ∙ sym (ap (λ b. is_known name b disabled) so_far.in_book
+    ∙ ap (is_known name (enabled so_far.listings)) so_far.in_disabled)
+
+pub SoFar-next : (entries left : List (Option Listing)) (place : ℕ)
+    (book disabled book_after disabled_after : List Account) (listing : Listing)
+    → SoFar entries (Some listing ∷ left) place book disabled
+    → is_known listing.account.name book disabled ≡ false
+    → book_after ≡ (if listing.disabled then book else book ++ listing.account ∷ [])
+    → disabled_after ≡ (if listing.disabled then disabled ++ listing.account ∷ [] else disabled)
+    → SoFar entries left (place + 1) book_after disabled_after
+SoFar-next entries left place book disabled book_after disabled_after listing so_far new to_book to_disabled =
+    let unknown = known entries (Some listing ∷ left) place book disabled listing.account.name so_far ∙ new in
+    record {
+      listings = so_far.listings ++ listing ∷ [];
+      in_book = to_book
+          ∙ ap (λ b. if listing.disabled then b else b ++ listing.account ∷ []) so_far.in_book
+          ∙ sym (enabled-push so_far.listings listing);
+      in_disabled = to_disabled
+          ∙ ap (λ d. if listing.disabled then d ++ listing.account ∷ [] else d) so_far.in_disabled
+          ∙ sym (disabled_in-push so_far.listings listing);
+      goes_on = so_far.goes_on
+          ∙ ap (λ b. if b then Err DuplicateName else with_entries (place + 1)
+          (so_far.listings ++ listing ∷ []) left) unknown;
+    }
+
+-- what an answer for the whole list is, from the one for its listings
+come_to : (entries : List (Option Listing)) (answer : Result (List Listing) AccountsError)
+    → with_entries 1 [] entries ≡ answer
+    → listed_accounts entries ≡ answer >>= (λ listings. Ok (enabled listings))
+come_to entries answer is = ap (λ a. a >>= (λ listings. Ok (enabled listings))) is
+
+pub SoFar-refused : (entries left : List (Option Listing)) (place : ℕ) (book disabled : List Account)
+    → SoFar entries (None ∷ left) place book disabled
+    → listed_accounts entries ≡ Err (BadField place)
+SoFar-refused entries left place book disabled so_far =
+    come_to entries (Err (BadField place)) so_far.goes_on
+
+pub SoFar-duplicate : (entries left : List (Option Listing)) (place : ℕ) (book disabled : List Account)
+    (listing : Listing) → SoFar entries (Some listing ∷ left) place book disabled
+    → is_known listing.account.name book disabled ≡ true
+    → listed_accounts entries ≡ Err DuplicateName
+SoFar-duplicate entries left place book disabled listing so_far old =
+    let again = known entries (Some listing ∷ left) place book disabled listing.account.name so_far ∙ old in
+    come_to entries (Err DuplicateName) (so_far.goes_on
+    ∙ ap (λ b. if b then Err DuplicateName else with_entries (place + 1)
+    (so_far.listings ++ listing ∷ []) left) again)
+
+pub SoFar-whole : (entries : List (Option Listing)) (place : ℕ) (book disabled : List Account)
+    → SoFar entries [] place book disabled → listed_accounts entries ≡ Ok book
+SoFar-whole entries place book disabled so_far =
+    come_to entries (Ok so_far.listings) so_far.goes_on ∙ sym (ap Ok so_far.in_book)
+
+pub SoFar-lists : (entries : List (Option Listing)) (place : ℕ) (book disabled : List Account)
+    → SoFar entries [] place book disabled → Lists entries book
 unfolding IsDistinct
-Lists-ok entries accounts ok = with_entries-ok 1 [] entries accounts ok tt
+SoFar-lists entries place book disabled so_far =
+    let joins = with_entries-ok 1 [] entries so_far.listings so_far.goes_on tt in
+    (so_far.listings, joins.0, joins.1, so_far.in_book)

@@ -158,7 +158,7 @@ fn is_password_word(word: &[u8]) -> bool
 }
 
 /// Whether these bytes name a country.
-fn is_country(bytes: &[u8]) -> bool
+pub(crate) fn is_country(bytes: &[u8]) -> bool
     ensures { result ≡ is_country bytes.now }
 {
     bytes == b"??".as_slice() || bytes.len() == 2 && bytes.iter().all(|b| b.is_ascii_uppercase())

@@ -4,8 +4,11 @@
 mod account;
 mod book;
 mod error;
+mod fields;
 mod file;
+mod listing;
 mod password;
+mod profile;
 
 pub use account::Account;
 pub use book::AccountBook;

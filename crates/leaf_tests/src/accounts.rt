@@ -199,15 +199,24 @@ const NO_LIST: Option<AccountsError> = Some(AccountsError::BadField(0));
 
 const BAD_FIRST: Option<AccountsError> = Some(AccountsError::BadField(1));
 
-const FILES: [(&[u8], Option<AccountsError>); 10] = [
+const FILES: [(&[u8], Option<AccountsError>); 19] = [
     (b"", None),
     (b"[[account", Some(AccountsError::NotToml)),
     (b"key = '\xff'", Some(AccountsError::NotToml)),
-    (b"format = 2", NO_LIST),
+    (b"format = 2", None),
+    (b"format = 3", NO_LIST),
     (b"format = 1.0", NO_LIST),
     (b"format = true", NO_LIST),
     (b"account = 1", NO_LIST),
     (b"[account]\nname = 'Anna'", NO_LIST),
+    (b"format = 1\ndefault = 1", None),
+    (b"format = 2\ndefault = 1", NO_LIST),
+    (b"format = 2\n[default]\nrank = 8", NO_LIST),
+    (b"format = 2\n[default]\naccess = 1", NO_LIST),
+    (b"format = 2\n[default]\nbot = 'no'", NO_LIST),
+    (b"format = 2\n[default]\ncountry = 'se'", NO_LIST),
+    (b"format = 2\n[default]\ncountry = 1", NO_LIST),
+    (b"format = 2\n[default]\nname = 1", None),
     (b"account = [1]", BAD_FIRST),
     (
         b"[[account]]\nname = 'A b'\npassword = 'X03MO1qnZdYdgyfeuILPmQ=='\nid = 1\n",
@@ -219,6 +228,85 @@ const FILES: [(&[u8], Option<AccountsError>); 10] = [
 fn refuses_files(rt: HostRuntime) {
     for (file, told) in FILES {
         same_for(&rt, &file, refusal(rt.alloc(), file), told);
+    }
+}
+
+/// A file of the second format: Dora leaves out what `default` says, Fred does not, and Emil cannot log in.
+const SECOND_FORMAT: &[u8] = b"
+format = 2
+
+[default]
+rank = 2
+country = 'SE'
+
+[[account]]
+name = 'Dora'
+password = 'X03MO1qnZdYdgyfeuILPmQ=='
+id = 4
+
+[[account]]
+name = 'Emil'
+password = 'X03MO1qnZdYdgyfeuILPmQ=='
+id = 5
+disabled = true
+
+[[account]]
+name = 'Fred'
+password = 'X03MO1qnZdYdgyfeuILPmQ=='
+id = 6
+rank = 0
+bot = true
+country = '??'
+disabled = false
+";
+
+// As `shows_bert`, beside the function that owns the book.
+fn shows_defaults(rt: &impl Abort, book: &AccountBook) -> Result<(), LoginFault> {
+    let dora = book.check(b"Dora", WORD)?;
+    same(rt, (dora.id(), dora.rank()), (4, 2));
+    same(rt, dora.country(), b"SE".as_slice());
+    assert!(rt; !dora.access() && !dora.bot());
+    let fred = book.check(b"Fred", WORD)?;
+    same(rt, (fred.id(), fred.rank()), (6, 0));
+    same(rt, fred.country(), b"??".as_slice());
+    assert!(rt; !fred.access() && fred.bot());
+    Ok(())
+}
+
+#[test]
+fn reads_the_second_format(rt: HostRuntime) {
+    let Ok(book) = AccountBook::from_toml(rt.alloc(), SECOND_FORMAT) else {
+        assert!(rt; false, "the file is good");
+        return;
+    };
+    same(&rt, book.len(), 2);
+    same(&rt, shows_defaults(&rt, &book), Ok(()));
+    let disabled = book.check(b"Emil", WORD);
+    same(&rt, disabled.err(), Some(LoginFault::NoAccount));
+}
+
+/// Lines behind those of a good account, and why the file is refused in the first format and in the second.
+const DISABLED_LINES: [(&str, Option<AccountsError>, Option<AccountsError>); 5] = [
+    ("disabled = true", None, None),
+    ("disabled = 1", None, BAD_FIRST),
+    ("disabled = true\nrank = 8", BAD_FIRST, BAD_FIRST),
+    (
+        "disabled = true\n[[account]]\nname = 'Anna'\npassword = '1B2M2Y8AsgTpgAmY7PhCfg=='\nid = 2",
+        Some(AccountsError::DuplicateName),
+        Some(AccountsError::DuplicateName),
+    ),
+    (
+        "[[account]]\nname = 'Anna'\npassword = '1B2M2Y8AsgTpgAmY7PhCfg=='\nid = 2\ndisabled = true",
+        Some(AccountsError::DuplicateName),
+        Some(AccountsError::DuplicateName),
+    ),
+];
+
+#[test]
+fn counts_disabled_accounts(rt: HostRuntime) {
+    for (lines, first, second) in DISABLED_LINES {
+        same_for(&rt, &lines, refusal_with(rt.alloc(), "1", lines), first);
+        same_for(&rt, &lines, refusal_with(rt.alloc(), "2", lines), second);
     }
 }
 
@@ -239,10 +327,11 @@ const MORE_LINES: [(&str, Option<AccountsError>); 7] = [
     ),
 ];
 
-/// Why a file whose first account has these lines is refused; `Memory` too where there is none to write the file in.
-fn refusal_with(alloc: Global, lines: &str) -> Option<AccountsError> {
+/// Why a file of this format whose first account has these lines is refused; `Memory` too where there is none to write the
+/// file in.
+fn refusal_with(alloc: Global, format: &str, lines: &str) -> Option<AccountsError> {
     match format!(in alloc;
-        "[[account]]\nname = 'Anna'\npassword = 'X03MO1qnZdYdgyfeuILPmQ=='\nid = 1\n{lines}"
+        "format = {format}\n[[account]]\nname = 'Anna'\npassword = 'X03MO1qnZdYdgyfeuILPmQ=='\nid = 1\n{lines}"
     ) {
         Ok(file) => refusal(alloc, file.as_bytes()),
         Err(_) => Some(AccountsError::Memory),
@@ -252,6 +341,6 @@ fn refusal_with(alloc: Global, lines: &str) -> Option<AccountsError> {
 #[test]
 fn refuses_accounts_of_a_file(rt: HostRuntime) {
     for (lines, told) in MORE_LINES {
-        same_for(&rt, &lines, refusal_with(rt.alloc(), lines), told);
+        same_for(&rt, &lines, refusal_with(rt.alloc(), "1", lines), told);
     }
 }

@@ -2,15 +2,16 @@
 
 ghost use Rattle.std.specs.Prelude.{◌≤◌, IfOk};
 
-use account_book::{AccountBook, AccountsError};
-use lobby_setup::{Setup, SetupError, read_setup};
+use account_book::AccountBook;
+use lobby_files::{FileError, accounts_at, settings_at};
+use lobby_setup::Setup;
 use lobby_workers::{Gate, Service, run_server};
 use mio::net::TcpListener;
+use std::io;
 use std::net::{Net, SocketAddr};
 use std::rt::Files;
 use std::sync::Wait;
 use std::thread::Threads;
-use std::{fs, io};
 use thiserror::Error;
 
 /// Why no server starts.
@@ -52,38 +53,23 @@ impl Gate for OpenGate {
     fn woken(&self, _worker: u64) {}
 }
 
-/// Reads a file whole. A file that cannot be read is this fault, but for want of memory.
-fn read_file<R: Files + AllocGlobal>(
-    rt: &R,
-    path: &str,
-    fault: ServeError,
-) -> Result<Vec<u8>, ServeError> {
-    match fs::read(rt, path) {
-        Ok(bytes) => Ok(bytes),
-        Err(error) if error.kind() == io::ErrorKind::OutOfMemory => Err(ServeError::Memory),
-        Err(_) => Err(fault),
-    }
-}
-
-fn settings_at<R: Files + AllocGlobal>(rt: &R, path: &str) -> Result<Setup, ServeError>
+/// What a server is set up to by its file of settings.
+fn setup_at<R: Files + AllocGlobal>(rt: &R, path: &str) -> Result<Setup, ServeError>
     ensures { IfOk result (λ setup. (1 ≤ setup.workers) × (setup.workers ≤ 64)) }
 {
-    let bytes = read_file(rt, path, ServeError::Settings)?;
-    match read_setup(rt.alloc(), &bytes) {
+    match settings_at(rt, path) {
         Ok(setup) => Ok(setup),
-        Err(SetupError::Unusable(_)) => Err(ServeError::Settings),
-        Err(SetupError::Memory) => Err(ServeError::Memory),
+        Err(FileError::Memory) => Err(ServeError::Memory),
+        Err(_) => Err(ServeError::Settings),
     }
 }
 
-fn accounts_at<R: Files + AllocGlobal>(rt: &R, path: &str) -> Result<AccountBook, ServeError> {
-    let bytes = read_file(rt, path, ServeError::Accounts)?;
-    match AccountBook::from_toml(rt.alloc(), &bytes) {
+/// The accounts of a server.
+fn book_at<R: Files + AllocGlobal>(rt: &R, path: &str) -> Result<AccountBook, ServeError> {
+    match accounts_at(rt, path) {
         Ok(accounts) => Ok(accounts),
-        Err(AccountsError::NotToml | AccountsError::BadField(_) | AccountsError::DuplicateName) => {
-            Err(ServeError::Accounts)
-        }
-        Err(AccountsError::Memory) => Err(ServeError::Memory),
+        Err(FileError::Memory) => Err(ServeError::Memory),
+        Err(_) => Err(ServeError::Accounts),
     }
 }
 
@@ -98,10 +84,10 @@ where
         address,
         workers,
         stop_at_input_end,
-    } = settings_at(rt, settings)?;
+    } = setup_at(rt, settings)?;
     let service = Service {
         settings,
-        accounts: accounts_at(rt, accounts)?,
+        accounts: book_at(rt, accounts)?,
         workers,
         stop_at_input_end,
     };

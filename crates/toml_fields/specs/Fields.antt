@@ -1,9 +1,11 @@
 -- What the keys of a table say.
-use Rattle.std.specs.Prelude.{ℕ, pos, negsuc, ℤ, Bool, ◌&&◌, nat_le, List, Option, Result, Ok, Err, if◌then◌else◌}
+use Rattle.std.specs.Prelude.{ℕ, pos, negsuc, ℤ, Bool, ◌&&◌, nat_le, List, String, Option, Some, option_map, Result, Ok, Err, if◌then◌else◌}
 use Rattle.std.specs.Option.{option_map_or}
 use Rattle.std.specs.Borrow.{Bor}
-use Rattle.toml.specs.Data.{Data, Items, Members, get_member, as_integer, as_bool, as_str, as_array}
-use Rattle.toml.specs.View.{items_view}
+use Rattle.std.specs.BTreeMap.{BTreeMap}
+use Rattle.std.specs.declared.alloc.Global.{Global}
+use Rattle.toml.specs.Data.{Data, Items, Members, get_member, as_integer, as_bool, as_str, as_array, as_table}
+use Rattle.toml.specs.View.{items_view, table_view}
 use Rattle.toml.specs.declared.value.Value.{Value}
 use Rattle.toml_fields.specs.declared.fault.FieldFault.{FieldFault}
 use Rattle.toml_fields.specs.declared.fault.FieldFault.TheVariants.{Missing, OtherKind, NotAllowed}
@@ -29,6 +31,10 @@ flag value = of_kind (as_bool value)
 abbrev pub list : Data → Result Items FieldFault
 list value = of_kind (as_array value)
 
+-- a table, which is there
+abbrev pub section : Data → Result (Option Members) FieldFault
+section value = of_kind (option_map Some (as_table value))
+
 abbrev pub within : ℕ → ℕ → ℤ → Result ℕ FieldFault
 within low high (pos n) = if nat_le low n && nat_le n high then Ok n else Err NotAllowed
 within low high (negsuc n) = Err NotAllowed
@@ -52,3 +58,8 @@ lent (Err fault) = Err fault
 abbrev pub seen_list : {E : Type 0} → Result (Bor (List Value)) E → Result Items E
 seen_list (Ok values) = Ok (items_view values.now)
 seen_list (Err fault) = Err fault
+
+abbrev pub seen_section : {E : Type 0} → Result (Option (Bor (BTreeMap (String Global) Value))) E
+    → Result (Option Members) E
+seen_section (Ok found) = Ok (option_map (λ table. table_view table.now) found)
+seen_section (Err fault) = Err fault

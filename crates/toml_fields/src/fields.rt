@@ -1,9 +1,9 @@
 //! What the keys of a table say.
 
-ghost use Rattle.std.specs.Prelude.{◌≡◌, ◌≤◌, IfOk, option_map};
+ghost use Rattle.std.specs.Prelude.{◌≡◌, ◌≤◌, None, IfOk, option_map};
 ghost use Rattle.toml.specs.Data.{get_member, no_items};
 ghost use Rattle.toml.specs.View.{view, table_view, items_view};
-ghost use Rattle.toml_fields.specs.Fields.{flag, list, lent, number, optional, required, seen_list, text};
+ghost use Rattle.toml_fields.specs.Fields.{flag, list, lent, number, optional, required, section, seen_list, seen_section, text};
 
 use crate::fault::FieldFault;
 use toml::{Table, Value};
@@ -111,6 +111,19 @@ pub fn list_or_empty<'a>(table: &'a Table, key: &str) -> Result<&'a [Value], Fie
     };
     match value.as_array() {
         Some(values) => Ok(values),
+        None => Err(FieldFault::OtherKind),
+    }
+}
+
+/// The table at a key, `None` where the key is missing: `OtherKind` where its value is no table.
+pub fn table_or_none<'a>(table: &'a Table, key: &str) -> Result<Option<&'a Table>, FieldFault>
+    ensures { seen_section result ≡ optional section None key.now (table_view table.now) }
+{
+    let Some(value) = value_at(table, key) else {
+        return Ok(None);
+    };
+    match value.as_table() {
+        Some(table) => Ok(Some(table)),
         None => Err(FieldFault::OtherKind),
     }
 }

@@ -7,4 +7,6 @@ mod fields;
 
 pub use document::{DocumentError, read_document};
 pub use fault::FieldFault;
-pub use fields::{flag_or, list_or_empty, number_at, number_or, text_at, text_of, text_or};
+pub use fields::{
+    flag_or, list_or_empty, number_at, number_or, table_or_none, text_at, text_of, text_or,
+};

@@ -1,0 +1,39 @@
+//! What stands in the files.
+
+ghost use Rattle.std.specs.Prelude.{◌≤◌, IfOk};
+
+use crate::error::{FileError, refused};
+use account_book::AccountBook;
+use lobby_setup::{Setup, SetupError, read_setup};
+use std::rt::Files;
+use std::{fs, io};
+
+/// Reads a file whole.
+fn read_file<R: Files + AllocGlobal>(rt: &R, path: &str) -> Result<Vec<u8>, FileError> {
+    match fs::read(rt, path) {
+        Ok(bytes) => Ok(bytes),
+        Err(error) if error.kind() == io::ErrorKind::OutOfMemory => Err(FileError::Memory),
+        Err(error) => Err(FileError::Unreadable(error.kind())),
+    }
+}
+
+/// What the file of settings at a path sets the server up to: as [`read_setup`] says of its bytes.
+pub fn settings_at<R: Files + AllocGlobal>(rt: &R, path: &str) -> Result<Setup, FileError>
+    ensures { IfOk result (λ setup. (1 ≤ setup.workers) × (setup.workers ≤ 64)) }
+{
+    let bytes = read_file(rt, path)?;
+    match read_setup(rt.alloc(), &bytes) {
+        Ok(setup) => Ok(setup),
+        Err(SetupError::Unusable(refusal)) => Err(FileError::Settings(refusal)),
+        Err(SetupError::Memory) => Err(FileError::Memory),
+    }
+}
+
+/// The accounts of the file of accounts at a path: as [`AccountBook::from_toml`] says of its bytes.
+pub fn accounts_at<R: Files + AllocGlobal>(rt: &R, path: &str) -> Result<AccountBook, FileError> {
+    let bytes = read_file(rt, path)?;
+    match AccountBook::from_toml(rt.alloc(), &bytes) {
+        Ok(accounts) => Ok(accounts),
+        Err(error) => Err(refused(error)),
+    }
+}
