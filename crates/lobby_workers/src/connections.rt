@@ -317,8 +317,8 @@ impl Connections {
         pass
     }
 
-    /// Shuts the clients of all connections and closes these. A client whose shut is refused memory
-    /// is left out.
+    /// Shuts the clients of all connections and closes these. That of one that lingers was shut
+    /// before. A client whose shut is refused memory is left out.
     pub fn shut_all<R: Wait, G: Gate>(&mut self, rt: &R, shared: &Shared<'_, G>, pass: Pass) -> Pass
         requires { pass.desk ≡ shared.now.desk.now }
         ensures desk { result.desk ≡ pass.desk }
@@ -326,7 +326,9 @@ impl Connections {
     {
         let mut pass = pass;
         for key in 0..self.slab.capacity() {
-            if let Some(connection) = self.slab.try_remove(key) {
+            if let Some(connection) = self.slab.try_remove(key)
+                && !connection.lingers()
+            {
                 let (after, turn) = shut(rt, shared, pass, &connection.conn);
                 pass = after;
                 shared.crew.wake(turn.wakes);
