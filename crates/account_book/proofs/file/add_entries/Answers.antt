@@ -1,15 +1,15 @@
-use Rattle.std.proofs.Common.{◌≡◌, ◌≢◌, ◌↔◌, ℕ, ◌+◌, ◌<◌, Bool, true, false, IsTrue, List, [], ◌∷◌, Option, drop, get_or, length, Some, Result, Ok, Err, IfErr, IsErrAnd, ap, sym, ◌∙◌, subst, arith, rules}
+use Rattle.std.proofs.Common.{◌≡◌, ◌↔◌, ℕ, ◌+◌, ◌<◌, Bool, true, false, IsTrue, List, [], ◌∷◌, Option, drop, get_or, length, Some, Result, Ok, Err, IfErr, IsErrAnd, ap, sym, ◌∙◌, subst, arith}
 use Rattle.std.proofs.lemmas.Grind.{common_steps}
-use Rattle.std.proofs.lemmas.List.{at_drop_more, drop_all}
+use Rattle.std.proofs.lemmas.List.{at_drop_more}
 use Rattle.toml.specs.View.{view, items_view}
 use Rattle.toml.specs.declared.value.Value.{Value}
 use Rattle.account_book.specs.Account.{Account}
-use Rattle.account_book.specs.File.{Profile, described, descriptions, entries_in, listed_accounts}
+use Rattle.account_book.specs.File.{Profile, described, descriptions, entries_in}
 use Rattle.account_book.specs.Fields.{shown, shown_contents}
 use Rattle.account_book.specs.declared.error.AccountsError.{AccountsError}
-use Rattle.account_book.specs.declared.error.AccountsError.TheVariants.{Memory, DuplicateName}
+use Rattle.account_book.specs.declared.error.AccountsError.TheVariants.{DuplicateName}
 use Rattle.account_book.specs.declared.listing.Listing.{Listing}
-use Rattle.account_book.proofs.Listed.{SoFar, SoFar-next, SoFar-duplicate, SoFar-lists, is_known}
+use Rattle.account_book.proofs.Listed.{SoFar, SoFar-next, SoFar-duplicate, SoFar-lists}
 use Rattle.account_book.proofs.file.add_entries.Goals as goal
 
 -- what the entries from one on describe, where that one describes a listing

@@ -1,4 +1,4 @@
-use Rattle.std.proofs.Common.{◌≡◌, ◌+◌, drop, List}
+use Rattle.std.proofs.Common.{◌+◌, drop}
 use Rattle.toml.specs.View.{items_view}
 use Rattle.account_book.specs.File.{descriptions}
 use Rattle.account_book.specs.Fields.{shown}
