@@ -7,7 +7,7 @@ use crate::verdict::same;
 use account_book::AccountBook;
 use command_grammar::{Request, read_request};
 use line_words::TextBuf;
-use lobby_lock::{Desk, DeskError, Pass};
+use lobby_lock::{CloseError, Count, Desk, DeskError, Pass};
 use lobby_machine::{Lobby, Wakes};
 use lobby_model::Settings;
 use std::alloc::{AllocError, Global};
@@ -231,5 +231,42 @@ fn sixty_three_passes_are_handed_out(rt: HostRuntime) -> Result<(), Fail> {
     let mut held = desk.take(&rt, pass);
     same(&rt, held.open([10, 0, 0, 1], 63), Ok(1));
     let _pass = held.give(&rt, &desk);
+    Ok(())
+}
+
+// A hold in which a client is opened.
+fn open_one<R: Wait>(rt: &R, desk: &Desk, pass: Pass) -> Pass
+    requires { pass.desk ≡ desk.now }
+    ensures desk { result.desk ≡ desk.now }
+    ensures number { result.worker.number ≡ pass.worker.number }
+{
+    let mut held = desk.take(rt, pass);
+    let _ = held.open([10, 0, 0, 1], 0);
+    held.give(rt, desk)
+}
+
+// Worker 0 makes an event, worker 1 two.
+#[test]
+fn a_desk_is_closed_once_all_passes_are_back(rt: HostRuntime) -> Result<(), Fail> {
+    let Ok((desk, pass)) = Desk::open(&rt, rt.alloc(), new_lobby(rt.alloc())?) else {
+        return Err(Fail::new("no desk was opened"));
+    };
+    let Ok((pass, other)) = desk.hand_out(rt.alloc(), pass) else {
+        return Err(Fail::new("no pass was handed out"));
+    };
+    let pass = open_one(&rt, &desk, pass);
+    let other = open_one(&rt, &desk, other);
+    let other = open_one(&rt, &desk, other);
+    let Err((desk, pass, error)) = desk.close(&rt, pass) else {
+        return Err(Fail::new("the desk was closed while a pass was out"));
+    };
+    same(&rt, error, CloseError::StillOut(1));
+    let pass = desk.take_back(pass, other);
+    let Ok(closing) = desk.close(&rt, pass) else {
+        return Err(Fail::new("the desk was not closed"));
+    };
+    same(&rt, closing.events(0), Count::Made(1));
+    same(&rt, closing.events(1), Count::Made(2));
+    same(&rt, closing.events(2), Count::Never);
     Ok(())
 }
