@@ -1,4 +1,2 @@
 pub mod Gathered
 pub use Rattle.lobby_turns.specs.Wire
-pub mod Left
-pub mod Lingering

@@ -1,11 +1,8 @@
 //! The connections of a worker, and who gets the next turn.
 
-ghost use Rattle.std.specs.Prelude.{◌≡◌, ◌≤◌, [], ◌∷◌, ◌++◌, min, OnOk, OnErr};
-ghost use Rattle.lobby_model.specs.declared.event.Event.TheVariants as event;
-ghost use Rattle.lobby_workers.specs.Left.{IsLeft};
+ghost use Rattle.std.specs.Prelude.{◌≡◌, ◌≤◌};
 
 use crate::crew::{Arrival, Crew};
-use crate::lingering::Lingering;
 use crate::wire_link::WireLink;
 use lobby_lock::{Desk, Pass};
 use lobby_machine::{OpenError, Wakes};
@@ -28,10 +25,6 @@ pub struct Shared<'a, G> {
     pub crew: &'a Crew,
     pub gate: &'a G,
 }
-
-/// The most connections of a worker that linger at once. Where so many do, a further one is closed at
-/// once.
-const MOST_LINGERING: usize = 256;
 
 /// How long a worker may wait when it has gone round.
 #[derive(Clone, Copy, PartialEq, Eq, Debug)]
@@ -64,62 +57,13 @@ impl Pause {
     }
 }
 
-/// What a connection is there for.
-#[derive(Clone, Copy)]
-enum Stage {
-    /// Its client is served.
-    Served,
-    /// Its client was shut.
-    Lingering(Lingering),
-}
-
 /// A client and its link.
 #[derive(Drop)]
 struct Connection {
     conn: Conn,
     link: WireLink,
-    stage: Stage,
     // the last round in which it got a turn
     round: u64,
-}
-
-impl Connection {
-    /// One turn: its client is served. Of one that lingers, input is let go.
-    fn turn<R: Wait, G: Gate>(&mut self, rt: &R, shared: &Shared<'_, G>, pass: Pass) -> (Pass, Turn)
-        requires { pass.desk ≡ shared.now.desk.now }
-        ensures desk { result.0.desk ≡ pass.desk }
-        ensures number { result.0.worker.number ≡ pass.worker.number }
-    {
-        match &mut self.stage {
-            Stage::Served => serve_or_shut(rt, shared, pass, &mut self.conn, &mut self.link),
-            Stage::Lingering(lingering) => {
-                let turn = Turn {
-                    state: lingering.turn(&mut self.link),
-                    wakes: Wakes::none(),
-                };
-                (pass, turn)
-            }
-        }
-    }
-
-    /// Whether it lingers.
-    fn lingers(&self) -> bool {
-        match self.stage {
-            Stage::Served => false,
-            Stage::Lingering(_) => true,
-        }
-    }
-
-    /// Has the connection linger, whose client was shut, and gives its buffers back. Whether it does:
-    /// not if it lingers already, nor where its other side sends no more or did not take all.
-    fn begin_to_linger(&mut self, alloc: Global) -> bool {
-        if self.lingers() || !self.link.may_linger() || self.link.end_writing().is_err() {
-            return false;
-        }
-        self.conn = Conn::new(alloc, self.conn.client());
-        self.stage = Stage::Lingering(Lingering::new());
-        true
-    }
 }
 
 /// The connections of a worker, each under the key that its events bear. A worker goes round again
@@ -135,8 +79,6 @@ pub struct Connections {
     spare: Vec<usize>,
     // whether someone found no place in that list
     is_someone_missed: bool,
-    // how many linger
-    lingering: usize,
     pause: Pause,
 }
 
@@ -150,7 +92,6 @@ impl Connections {
             left: Vec::new(alloc),
             spare: Vec::new(alloc),
             is_someone_missed: false,
-            lingering: 0,
             pause: Pause::Long,
         }
     }
@@ -201,7 +142,6 @@ impl Connections {
             self.slab.insert_reserved(Connection {
                 conn: Conn::new(self.alloc, client),
                 link,
-                stage: Stage::Served,
                 round: self.round.wrapping_sub(1),
             });
         }
@@ -227,45 +167,27 @@ impl Connections {
             return pass;
         }
         connection.round = self.round;
-        let (pass, turn) = connection.turn(rt, shared, pass);
+        let (conn, link) = (&mut connection.conn, &mut connection.link);
+        let (pass, turn) = serve_or_shut(rt, shared, pass, conn, link);
         shared.crew.wake(turn.wakes);
         self.end_turn(key, turn.state);
         pass
     }
 
     /// Sees to it that a connection goes on as its turn ended.
-    fn end_turn(&mut self, key: usize, state: TurnState)
-        ensures again { state ≡ TurnState.Again → IsLeft self.new.left.items self.new.is_someone_missed key }
-        ensures memory { state ≡ TurnState.Memory → IsLeft self.new.left.items self.new.is_someone_missed key }
-    {
+    fn end_turn(&mut self, key: usize, state: TurnState) {
         match state {
             TurnState::Idle => {}
             TurnState::Again => self.leave(key, Pause::None),
             TurnState::Memory => self.leave(key, Pause::Short),
-            TurnState::Closed => self.close(key),
-        }
-    }
-
-    /// A connection whose client was shut goes on as one that lingers, or else is closed. Of input
-    /// that came before no poll need tell again, so it gets a turn.
-    fn close(&mut self, key: usize) {
-        if self.lingering < MOST_LINGERING
-            && let Some(connection) = self.slab.get_mut(key)
-            && connection.begin_to_linger(self.alloc)
-        {
-            self.lingering += 1;
-            self.leave(key, Pause::None);
-        } else if let Some(connection) = self.slab.try_remove(key)
-            && connection.lingers()
-        {
-            self.lingering = self.lingering.saturating_sub(1);
+            TurnState::Closed => {
+                self.slab.try_remove(key);
+            }
         }
     }
 
     /// A connection is left for the next round.
-    fn leave(&mut self, key: usize, pause: Pause)
-        ensures { IsLeft self.new.left.items self.new.is_someone_missed key }
-    {
+    fn leave(&mut self, key: usize, pause: Pause) {
         self.hurry(pause);
         if self.left.push(key).is_err() {
             self.is_someone_missed = true;
@@ -317,8 +239,8 @@ impl Connections {
         pass
     }
 
-    /// Shuts the clients of all connections and closes these. That of one that lingers was shut
-    /// before. A client whose shut is refused memory is left out.
+    /// Shuts the clients of all connections and closes these. A client whose shut is refused memory
+    /// is left out.
     pub fn shut_all<R: Wait, G: Gate>(&mut self, rt: &R, shared: &Shared<'_, G>, pass: Pass) -> Pass
         requires { pass.desk ≡ shared.now.desk.now }
         ensures desk { result.desk ≡ pass.desk }
@@ -326,9 +248,7 @@ impl Connections {
     {
         let mut pass = pass;
         for key in 0..self.slab.capacity() {
-            if let Some(connection) = self.slab.try_remove(key)
-                && !connection.lingers()
-            {
+            if let Some(connection) = self.slab.try_remove(key) {
                 let (after, turn) = shut(rt, shared, pass, &connection.conn);
                 pass = after;
                 shared.crew.wake(turn.wakes);
@@ -338,7 +258,7 @@ impl Connections {
     }
 }
 
-/// Opens a client, with its worker's number as home. No desk hands out a greater one than 63.
+/// Opens a client.
 fn open<R: Wait, G: Gate>(
     rt: &R,
     shared: &Shared<'_, G>,
@@ -348,8 +268,6 @@ fn open<R: Wait, G: Gate>(
     requires { pass.desk ≡ shared.now.desk.now }
     ensures desk { result.0.desk ≡ pass.desk }
     ensures number { result.0.worker.number ≡ pass.worker.number }
-    ensures home { OnOk result.1 (result.0.worker.mine ≡ pass.worker.mine ++ event.Open ip (min pass.worker.number 63) ∷ []) }
-    ensures refused { OnErr result.1 (result.0.worker.mine ≡ pass.worker.mine) }
 {
     let worker = pass.number();
     shared.gate.before_take(worker);

@@ -7,7 +7,6 @@
 mod connections;
 mod crew;
 mod error;
-mod lingering;
 mod server;
 mod wire_link;
 mod worker;
