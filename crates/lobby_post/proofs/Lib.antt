@@ -1,4 +1,6 @@
 pub mod Masks
+pub mod Filtered
+pub mod Listed
 pub mod Crowds
 pub mod Places
 pub mod Parcels

@@ -12,6 +12,7 @@ ghost use Rattle.lobby_model.specs.Next.{with_batch};
 ghost use Rattle.lobby_post.specs.Mail.{AreDue, AreReady, bytes_for, parted, plain};
 ghost use Rattle.lobby_post.specs.Unread.{is_over, unread_in};
 
+use crate::dirty::DirtyLists;
 use crate::slot::Slot;
 use crate::slots::Slots;
 use crate::spares::Spares;
@@ -38,14 +39,16 @@ pub struct Clients {
     limit: usize,
     pub(crate) slots: Slots,
     pub(crate) spares: Spares,
+    pub(crate) dirty: DirtyLists,
 }
 
 impl Model for Clients {
     ghost use Rattle.lobby_post.specs.Mail.{Crowd, HaveLimit};
+    ghost use Rattle.lobby_post.specs.Dirty.{lines_of};
 
     ghost Value = { Crowd };
 
-    ghost view = { λ c. record { limit = c.limit; slots = c.slots } };
+    ghost view = { λ c. record { limit = c.limit; slots = c.slots; lines = lines_of c.dirty } };
 
     ghost invariant = { λ c. HaveLimit c.limit c.slots };
 }
@@ -61,6 +64,7 @@ impl Clients {
             limit,
             slots: Slots::new(alloc),
             spares: Spares::new(alloc),
+            dirty: DirtyLists::new(alloc),
         }
     }
 
@@ -155,6 +159,7 @@ impl Clients {
         ensures err { OnErr result (self.new ≡ self.old) }
     {
         self.spares.make_places(self.slots.len().saturating_add(1))?;
+        self.dirty.make_room(home)?;
         let slot = Slot::with_greeting(
             self.alloc,
             self.limit,
@@ -164,6 +169,7 @@ impl Clients {
             &mut self.spares,
         )?;
         self.slots.insert(client, slot)?;
+        self.dirty.add(home, client);
         Ok(())
     }
 
@@ -200,7 +206,11 @@ impl Clients {
         ensures due { (pieces : ByNumber (List ℕ)) → AreDue pieces self.old.slots → AreDue pieces self.new.slots }
         ensures ready { AreReady self.old.slots → AreReady self.new.slots }
     {
+        let listing = self.slots.listing_of(client);
         self.slots.remove(client);
+        if let Some((home, listed)) = listing {
+            self.dirty.leave(home, listed, &self.slots);
+        }
     }
 
     /// A client goes: it ends, or, where it does not stay, is removed.
@@ -215,6 +225,21 @@ impl Clients {
         } else {
             self.remove(client);
         }
+    }
+
+    /// Takes the first client of a worker's list out. Of the worker's clients that are there, those wait
+    /// in it that were inserted or touched since they were taken out. It takes no memory.
+    pub fn next_dirty(&mut self, home: u8) -> Option<u64>
+        requires { home < 64 }
+        ensures limit { self.new.limit ≡ self.old.limit }
+        ensures clients { plain self.new.slots ≡ plain self.old.slots }
+        ensures due { (pieces : ByNumber (List ℕ)) → AreDue pieces self.old.slots → AreDue pieces self.new.slots }
+    {
+        let client = self.dirty.next(home, &self.slots)?;
+        if let Some(slot) = self.slots.get_mut(client) {
+            slot.unlist();
+        }
+        Some(client)
     }
 
     /// Takes bytes that a client has not read into a slice, as many as fit, and tells whether nothing

@@ -208,6 +208,11 @@ impl Post {
         ensures due { AreDue [] clients.new.slots }
         ensures wakes { (home : ℕ) → has_home result home ≡ wakes_home self.now.sent (plain clients.old.slots) home }
     {
-        delivery::deliver(&mut clients.slots, &self.text, &self.pieces)
+        delivery::deliver(
+            &mut clients.slots,
+            &mut clients.dirty,
+            &self.text,
+            &self.pieces,
+        )
     }
 }

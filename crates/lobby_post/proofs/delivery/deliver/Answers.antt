@@ -22,14 +22,14 @@ loop-piece-preserved c =
     (pieces_is c.args.text.now c.args.pieces.now c.loop-piece.piece-index c.loop-piece-test.true) inv.due in
     elim c.match-get_mut_at.branch [
       | in-Some w ↦
-          let written = written_through _ w.in-Some.slot.now w.put.new.self c.loop-piece.clients w.in-Some.ensures.value in
+          let written = written_through _ w.in-Some.slot.now w.put.new.slot c.loop-piece.clients w.in-Some.ensures.value in
           rw (w.clients-is, w.wakes-is) (record {
             inside = inside_next c.args.text.now c.args.pieces.now c.loop-piece.piece-index c.loop-piece-test.true inv.inside;
-            due = less_due _ _ _ w.in-Some.slot.now w.put.new.self c.loop-piece.clients _ written w.in-Some.ensures.value w.put.ensures.due first;
-            ready = ready_next _ w.in-Some.slot.now w.put.new.self c.loop-piece.clients _ written w.in-Some.ensures.value w.put.ensures.ready inv.ready;
-            limits = λ limit all. limits_next limit _ w.in-Some.slot.now w.put.new.self c.loop-piece.clients _ written w.in-Some.ensures.value w.put.ensures.limit (inv.limits limit all);
-            clients = λ limit all. clients_next c.args.text.now c.args.pieces.now c.loop-piece.piece-index c.loop-piece-test.true w.in-Some.slot.now w.put.new.self c.loop-piece.clients _ refl w.in-Some.ensures.value w.put.ensures.client c.get_mut_at.ensures.ordered inv.due limit (inv.limits limit all) ∙ inv.clients limit all;
-            wakes = λ home. wakes_next c.args.text.now c.args.pieces.now c.loop-piece.piece-index c.loop-piece-test.true w.in-Some.slot.now w.put.new.self c.loop-piece.clients _ refl w.in-Some.ensures.value w.put.ensures.client c.get_mut_at.ensures.ordered inv.due
+            due = less_due _ _ _ w.in-Some.slot.now w.put.new.slot c.loop-piece.clients _ written w.in-Some.ensures.value w.put.ensures.due first;
+            ready = ready_next _ w.in-Some.slot.now w.put.new.slot c.loop-piece.clients _ written w.in-Some.ensures.value w.put.ensures.ready inv.ready;
+            limits = λ limit all. limits_next limit _ w.in-Some.slot.now w.put.new.slot c.loop-piece.clients _ written w.in-Some.ensures.value w.put.ensures.limit (inv.limits limit all);
+            clients = λ limit all. clients_next c.args.text.now c.args.pieces.now c.loop-piece.piece-index c.loop-piece-test.true w.in-Some.slot.now w.put.new.slot c.loop-piece.clients _ refl w.in-Some.ensures.value w.put.ensures.client c.get_mut_at.ensures.ordered inv.due limit (inv.limits limit all) ∙ inv.clients limit all;
+            wakes = λ home. wakes_next c.args.text.now c.args.pieces.now c.loop-piece.piece-index c.loop-piece-test.true w.in-Some.slot.now w.put.new.slot c.loop-piece.clients _ refl w.in-Some.ensures.value w.put.ensures.client c.get_mut_at.ensures.ordered inv.due
                 c.loop-piece.wakes w.put.result _ home (w.union-wakes.ensures home) (w.put.ensures.home home) ∙ inv.wakes home;
           })
       | in_default w ↦
