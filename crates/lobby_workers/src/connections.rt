@@ -1,8 +1,11 @@
 //! The connections of a worker, and who gets the next turn.
 
-ghost use Rattle.std.specs.Prelude.{◌≡◌, ◌≤◌};
+ghost use Rattle.std.specs.Prelude.{◌≡◌, ◌≤◌, [], ◌∷◌, ◌++◌, min, OnOk, OnErr};
+ghost use Rattle.lobby_model.specs.declared.event.Event.TheVariants as event;
+ghost use Rattle.lobby_workers.specs.Left.{IsLeft};
 
 use crate::crew::{Arrival, Crew};
+use crate::lingering::Lingering;
 use crate::wire_link::WireLink;
 use lobby_lock::{Desk, Pass};
 use lobby_machine::{OpenError, Wakes};
@@ -25,6 +28,10 @@ pub struct Shared<'a, G> {
     pub crew: &'a Crew,
     pub gate: &'a G,
 }
+
+/// The most connections of a worker that linger at once. Where so many do, a further one is closed at
+/// once.
+const MOST_LINGERING: usize = 256;
 
 /// How long a worker may wait when it has gone round.
 #[derive(Clone, Copy, PartialEq, Eq, Debug)]
@@ -57,13 +64,62 @@ impl Pause {
     }
 }
 
+/// What a connection is there for.
+#[derive(Clone, Copy)]
+enum Stage {
+    /// Its client is served.
+    Served,
+    /// Its client was shut.
+    Lingering(Lingering),
+}
+
 /// A client and its link.
 #[derive(Drop)]
 struct Connection {
     conn: Conn,
     link: WireLink,
+    stage: Stage,
     // the last round in which it got a turn
     round: u64,
+}
+
+impl Connection {
+    /// One turn: its client is served. Of one that lingers, input is let go.
+    fn turn<R: Wait, G: Gate>(&mut self, rt: &R, shared: &Shared<'_, G>, pass: Pass) -> (Pass, Turn)
+        requires { pass.desk ≡ shared.now.desk.now }
+        ensures desk { result.0.desk ≡ pass.desk }
+        ensures number { result.0.worker.number ≡ pass.worker.number }
+    {
+        match &mut self.stage {
+            Stage::Served => serve_or_shut(rt, shared, pass, &mut self.conn, &mut self.link),
+            Stage::Lingering(lingering) => {
+                let turn = Turn {
+                    state: lingering.turn(&mut self.link),
+                    wakes: Wakes::none(),
+                };
+                (pass, turn)
+            }
+        }
+    }
+
+    /// Whether it lingers.
+    fn lingers(&self) -> bool {
+        match self.stage {
+            Stage::Served => false,
+            Stage::Lingering(_) => true,
+        }
+    }
+
+    /// Has the connection linger, whose client was shut, and gives its buffers back. Whether it does:
+    /// not if it lingers already, nor where its other side sends no more or did not take all.
+    fn begin_to_linger(&mut self, alloc: Global) -> bool {
+        if self.lingers() || !self.link.may_linger() || self.link.end_writing().is_err() {
+            return false;
+        }
+        self.conn = Conn::new(alloc, self.conn.client());
+        self.stage = Stage::Lingering(Lingering::new());
+        true
+    }
 }
 
 /// The connections of a worker, each under the key that its events bear. A worker goes round again
@@ -79,6 +135,8 @@ pub struct Connections {
     spare: Vec<usize>,
     // whether someone found no place in that list
     is_someone_missed: bool,
+    // how many linger
+    lingering: usize,
     pause: Pause,
 }
 
@@ -92,6 +150,7 @@ impl Connections {
             left: Vec::new(alloc),
             spare: Vec::new(alloc),
             is_someone_missed: false,
+            lingering: 0,
             pause: Pause::Long,
         }
     }
@@ -142,6 +201,7 @@ impl Connections {
             self.slab.insert_reserved(Connection {
                 conn: Conn::new(self.alloc, client),
                 link,
+                stage: Stage::Served,
                 round: self.round.wrapping_sub(1),
             });
         }
@@ -167,27 +227,45 @@ impl Connections {
             return pass;
         }
         connection.round = self.round;
-        let (conn, link) = (&mut connection.conn, &mut connection.link);
-        let (pass, turn) = serve_or_shut(rt, shared, pass, conn, link);
+        let (pass, turn) = connection.turn(rt, shared, pass);
         shared.crew.wake(turn.wakes);
         self.end_turn(key, turn.state);
         pass
     }
 
     /// Sees to it that a connection goes on as its turn ended.
-    fn end_turn(&mut self, key: usize, state: TurnState) {
+    fn end_turn(&mut self, key: usize, state: TurnState)
+        ensures again { state ≡ TurnState.Again → IsLeft self.new.left.items self.new.is_someone_missed key }
+        ensures memory { state ≡ TurnState.Memory → IsLeft self.new.left.items self.new.is_someone_missed key }
+    {
         match state {
             TurnState::Idle => {}
             TurnState::Again => self.leave(key, Pause::None),
             TurnState::Memory => self.leave(key, Pause::Short),
-            TurnState::Closed => {
-                self.slab.try_remove(key);
-            }
+            TurnState::Closed => self.close(key),
+        }
+    }
+
+    /// A connection whose client was shut goes on as one that lingers, or else is closed. Of input
+    /// that came before no poll need tell again, so it gets a turn.
+    fn close(&mut self, key: usize) {
+        if self.lingering < MOST_LINGERING
+            && let Some(connection) = self.slab.get_mut(key)
+            && connection.begin_to_linger(self.alloc)
+        {
+            self.lingering += 1;
+            self.leave(key, Pause::None);
+        } else if let Some(connection) = self.slab.try_remove(key)
+            && connection.lingers()
+        {
+            self.lingering = self.lingering.saturating_sub(1);
         }
     }
 
     /// A connection is left for the next round.
-    fn leave(&mut self, key: usize, pause: Pause) {
+    fn leave(&mut self, key: usize, pause: Pause)
+        ensures { IsLeft self.new.left.items self.new.is_someone_missed key }
+    {
         self.hurry(pause);
         if self.left.push(key).is_err() {
             self.is_someone_missed = true;
@@ -258,7 +336,7 @@ impl Connections {
     }
 }
 
-/// Opens a client.
+/// Opens a client, with its worker's number as home. No desk hands out a greater one than 63.
 fn open<R: Wait, G: Gate>(
     rt: &R,
     shared: &Shared<'_, G>,
@@ -268,6 +346,8 @@ fn open<R: Wait, G: Gate>(
     requires { pass.desk ≡ shared.now.desk.now }
     ensures desk { result.0.desk ≡ pass.desk }
     ensures number { result.0.worker.number ≡ pass.worker.number }
+    ensures home { OnOk result.1 (result.0.worker.mine ≡ pass.worker.mine ++ event.Open ip (min pass.worker.number 63) ∷ []) }
+    ensures refused { OnErr result.1 (result.0.worker.mine ≡ pass.worker.mine) }
 {
     let worker = pass.number();
     shared.gate.before_take(worker);

@@ -7,6 +7,7 @@
 mod connections;
 mod crew;
 mod error;
+mod lingering;
 mod server;
 mod wire_link;
 mod worker;

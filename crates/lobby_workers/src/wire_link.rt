@@ -2,6 +2,7 @@
 
 ghost use Rattle.std.specs.Prelude.{◌≡◌, ◌≤◌, ◌++◌, ℕ, length, take};
 ghost use Rattle.lobby_workers.specs.Gathered.{gathered};
+ghost use Rattle.lobby_workers.specs.Lingering.{may_linger};
 ghost use Rattle.lobby_turns.specs.Wire.{got_count, sent_count, untouched};
 
 use http_server::Log;
@@ -9,6 +10,7 @@ use lobby_turns::{Got, Link, PIECE, Sent};
 use mio::net::TcpStream;
 use mio::{Interest, Registry, Token};
 use std::io::{self, ErrorKind, Read, Write};
+use std::net::Shutdown;
 
 /// So often a call that a signal broke off is tried before it counts as a failure.
 const TRIES: u32 = 16;
@@ -57,6 +59,28 @@ impl WireLink {
             token,
             Interest::READABLE | Interest::WRITABLE,
         )
+    }
+
+    /// Tells the other side that nothing follows what was written. Fails where the system refuses it.
+    pub fn end_writing(&mut self) -> io::Result<()>
+        ensures { ⟦<WireLink as Link>⟧.wire self.new ≡ ⟦<WireLink as Link>⟧.wire self.old }
+    {
+        self.stream.shutdown(Shutdown::Write)
+    }
+
+    /// Whether the other side may send more, and took all that was written.
+    pub fn may_linger(&self) -> bool
+        ensures { result ≡ may_linger (⟦<WireLink as Link>⟧.wire self.now) }
+    {
+        let may_send = match self.last_got {
+            None | Some(Got::Bytes(_)) | Some(Got::Later) => true,
+            Some(Got::End) | Some(Got::Fault) => false,
+        };
+        let takes_all = match self.last_sent {
+            None | Some(Sent::Took(_)) => true,
+            Some(Sent::Later) | Some(Sent::Fault) => false,
+        };
+        may_send && takes_all
     }
 }
 

@@ -126,6 +126,31 @@ impl Client {
         None
     }
 
+    /// Whether the system takes no more, where these bytes are sent again and again.
+    pub fn fills(&mut self, bytes: &[u8]) -> bool {
+        for _ in 0..LOOKS {
+            match outcome(self.stream.write(bytes)) {
+                Moved::Some(_) => {}
+                Moved::Nothing => return true,
+                Moved::Ended | Moved::Broken => return false,
+            }
+        }
+        false
+    }
+
+    /// Whether the other side breaks the connection while these bytes are sent again and again, within so
+    /// many looks.
+    pub fn is_broken_off<C: Clock>(&mut self, clock: &C, bytes: &[u8]) -> bool {
+        for _ in 0..LOOKS {
+            match outcome(self.stream.write(bytes)) {
+                Moved::Some(_) => {}
+                Moved::Nothing => thread::sleep(clock, Duration::from_millis(1)),
+                Moved::Ended | Moved::Broken => return true,
+            }
+        }
+        false
+    }
+
     /// Breaks the connection off. What came and was not read makes the system send a reset and no end.
     pub fn break_off(self) {}
 }

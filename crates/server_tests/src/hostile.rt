@@ -50,7 +50,7 @@ fn a_burst_of_connections_is_accepted_whole(rt: HostRuntime) -> Result<(), Fail>
 }
 
 /// A client that was greeted.
-fn greeted<R: Net, C: Clock>(rt: &R, clock: &C, running: &Running) -> Result<Client, Fail> {
+pub fn greeted<R: Net, C: Clock>(rt: &R, clock: &C, running: &Running) -> Result<Client, Fail> {
     let mut client = Client::connect(rt, running.address)?;
     if client.reads(clock, GREETING) {
         Ok(client)

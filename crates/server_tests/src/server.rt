@@ -74,7 +74,7 @@ pub fn times_over(alloc: Global, text: &[u8], times: usize) -> Result<Vec<u8>, A
 }
 
 /// A line of these two parts.
-fn talk(alloc: Global, front: &[u8], text: &[u8]) -> Result<Vec<u8>, AllocError> {
+pub fn talk(alloc: Global, front: &[u8], text: &[u8]) -> Result<Vec<u8>, AllocError> {
     let mut line = Vec::from_slice(alloc, front)?;
     line.extend_from_slice(text)?;
     line.push(b'\n')?;

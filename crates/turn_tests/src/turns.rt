@@ -225,3 +225,23 @@ fn a_line_that_is_too_long_shuts_its_client(rt: HostRuntime) -> Result<(), Fail>
         GREETING_AND_PONG,
     )
 }
+
+// What is drained in the turn that hears EXIT is written in it too, also where the link takes little at
+// a time, and what an earlier turn drained and did not write.
+#[test]
+fn who_exits_is_told_what_its_link_takes(rt: HostRuntime) -> Result<(), Fail> {
+    let alloc = rt.alloc();
+    let link = MemoryLink::new(alloc, Vec::from_slice(alloc, b"PING\nEXIT\n")?, 99, 2);
+    check(&rt, alloc, link, 1, TurnState::Closed, GREETING_AND_PONG)?;
+    // a first turn reads 16 blanks and writes 16 bytes
+    let link = MemoryLink::new(
+        alloc,
+        Vec::from_slice(alloc, b"                EXIT\n")?,
+        1,
+        1,
+    );
+    check(&rt, alloc, link, 2, TurnState::Closed, GREETING)?;
+    // a link that takes a byte a write is given 16 of them in its last turn
+    let link = MemoryLink::new(alloc, Vec::from_slice(alloc, b"EXIT\n")?, 99, 1);
+    check(&rt, alloc, link, 1, TurnState::Closed, b"TASSERVER 0.38 *")
+}
