@@ -59,7 +59,7 @@ struct Ended {
     reason: Result<(), ServerError>,
 }
 
-/// More workers than there are.
+/// The most workers of a server.
 const MOST_WORKERS: u64 = 64;
 
 /// Runs a server on a listener, and gives the exit status of its program.
