@@ -1,2 +1,1 @@
-pub mod Gathered
 pub use Rattle.lobby_turns.specs.Wire

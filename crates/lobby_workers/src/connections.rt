@@ -3,7 +3,6 @@
 ghost use Rattle.std.specs.Prelude.{◌≡◌, ◌≤◌};
 
 use crate::crew::{Arrival, Crew};
-use crate::wire_link::WireLink;
 use lobby_lock::{Desk, Pass};
 use lobby_machine::{OpenError, Wakes};
 use lobby_turns::{Conn, Gate, Link, Turn, TurnState, serve};
@@ -13,6 +12,7 @@ use std::alloc::Global;
 use std::mem;
 use std::sync::Wait;
 use std::time::Duration;
+use wire_link::WireLink;
 
 /// The greatest number of a worker.
 const LAST_WORKER: u64 = 63;

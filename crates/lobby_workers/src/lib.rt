@@ -1,4 +1,4 @@
-//! The server over sockets: its workers in threads of their own, each with its connections, and the link over a socket.
+//! The server over sockets: its workers in threads of their own, each with its connections.
 //!
 //! A worker serves its connections in turns (`lobby_turns`). Of sockets, of what a poll
 //! tells and of who is woken when nothing is proved but that it is safe.
@@ -8,10 +8,8 @@ mod connections;
 mod crew;
 mod error;
 mod server;
-mod wire_link;
 mod worker;
 
 pub use error::ServerError;
 pub use lobby_turns::{Conn, Gate, Got, Link, Sent, Turn, TurnState, serve};
 pub use server::{Service, run_server};
-pub use wire_link::WireLink;

@@ -1,7 +1,7 @@
 -- What one more piece adds, and what a copy put in front.
 use Rattle.std.proofs.Common.{◌≡◌, ℕ, ◌≤◌, List, [], ◌∷◌, ◌++◌, take, length, ap, ◌∙◌, sym, arith}
 use Rattle.std.proofs.lemmas.List.{append_assoc, append-nil, take_at, length-take-le, take-append-le, take-take}
-use Rattle.lobby_workers.specs.Gathered.{gathered}
+use Rattle.wire_link.specs.Gathered.{gathered}
 
 pub gathered_more : (ps : List (List ℕ × ℕ)) (piece : List ℕ) (n : ℕ) → gathered (ps ++ (piece, n) ∷ []) ≡ gathered ps ++ take n piece
 gathered_more [] piece n = append-nil (take n piece)

@@ -1,7 +1,11 @@
 //! The link over a socket that never waits.
+//!
+//! It tells proofs which bytes the system said that its calls moved, so what is proved of a connection's turn is no empty
+//! promise for a server over sockets. That a socket delivers is not proved.
+#![tactic(auto)]
 
 ghost use Rattle.std.specs.Prelude.{◌≡◌, ◌≤◌, ◌++◌, ℕ, length, take};
-ghost use Rattle.lobby_workers.specs.Gathered.{gathered};
+ghost use Rattle.wire_link.specs.Gathered.{gathered};
 ghost use Rattle.lobby_turns.specs.Wire.{got_count, sent_count, untouched};
 
 use http_server::Log;
@@ -132,7 +136,7 @@ fn note(log: &Log<[u8; PIECE], usize>, piece: &[u8; PIECE], count: usize) -> Log
 
 impl Link for WireLink {
     ghost use Rattle.std.specs.Prelude.{Some};
-    ghost use Rattle.lobby_workers.specs.Gathered.{gathered};
+    ghost use Rattle.wire_link.specs.Gathered.{gathered};
 
     ghost wire = { λ l. record { reads = l.reads; writes = l.writes; failures = l.failures; heard = Some (gathered l.heard.items); told = Some (gathered l.told.items); last_got = l.last_got; last_sent = l.last_sent } };
 
