@@ -1,16 +1,49 @@
 -- Keys among tags after some were set or removed, and how many tags there are.
-use Rattle.std.proofs.Common.{◌≡◌, ◌<◌, ◌≤◌, ◌+◌, ℕ, zero, suc, List, [], ◌∷◌, ◌++◌, refl, sym, ap, ◌∙◌, Bool, true, false, cond, not, length, take, drop, arith, get_or}
+use Rattle.std.proofs.Common.{◌≡◌, ◌<◌, ◌≤◌, ◌+◌, ℕ, zero, suc, List, [], ◌∷◌, ◌++◌, refl, sym, ap, subst, ◌∙◌, Bool, true, false, cond, not, length, take, drop, map, arith, get_or, Vec, Global}
 use Rattle.std.specs.Prelude.{◌||◌, ◌&&◌, if◌then◌else◌, nat_lt, Some, None}
+use Rattle.std.specs.Cmp.Lexicographic.{texts_ties}
 use Rattle.std.specs.List.{position, position_or_len}
+use Rattle.std.specs.Map.{values_of}
 use Rattle.std.proofs.lemmas.Bool.Decides.{nat_tests}
 use Rattle.std.proofs.lemmas.List.Recursion.{or_is}
 use Rattle.std.proofs.lemmas.List.Sums.{fails_before_first}
-use Rattle.std.proofs.lemmas.List.{take_more, take-append-drop, append_assoc, at_drop_more}
+use Rattle.std.proofs.lemmas.List.{take_more, take-append-drop, append_assoc, at_drop_more, map-append}
 use Rattle.line_words.specs.declared.lists.Pair.{Pair}
 use Rattle.line_words.specs.Table.{same_name, is_among}
 use Rattle.line_words.proofs.Tables.{same_name_is}
 use Rattle.line_words.proofs.Once.{apart_either_way}
+use Rattle.line_words.proofs.Keyed.{same_key}
+use Rattle.indexmap.specs.IndexMap.{insert_entry}
+use Rattle.battle_room.specs.Index.{IsIndex}
+use Rattle.battle_room.proofs.Indexed.{index_inserted}
 use Rattle.battle_room.specs.Tags.{has_tag, with_tag, with_tags, without_tag, without_tags, keys_there}
+
+-- tags behind copies of their keys
+abbrev pub key_bytes : Vec ℕ Global → List ℕ
+key_bytes key = key.items
+
+abbrev pub tag_key : Pair → List ℕ
+tag_key tag = tag.key
+
+abbrev pub AreKeyed : List (Vec ℕ Global × Pair) → Type 0
+AreKeyed = IsIndex key_bytes tag_key
+
+pub tag_inserted : (es : List (Vec ℕ Global × Pair)) (k : Vec ℕ Global) (p : Pair) → AreKeyed es → k.items ≡ p.key
+    → values_of (insert_entry (same_key key_bytes) es k p) ≡ with_tag (values_of es) p
+tag_inserted [] k p each is = refl
+tag_inserted (e ∷ es) k p each is =
+    ap (λ b. values_of (if b then (e.0, p) ∷ es else e ∷ insert_entry (same_key key_bytes) es k p))
+    (texts_ties k.items e.0.items ∙ ap (λ ks. same_name ks e.0.items) is ∙ ap (same_name p.key) each.0)
+    ∙ elim (same_name p.key e.1.key) as (λ b. values_of (if b then (e.0, p) ∷ es else e ∷ insert_entry (same_key key_bytes) es k p)
+    ≡ (if b then p ∷ values_of es else e.1 ∷ with_tag (values_of es) p)) [
+      | true ↦ refl
+      | false ↦ ap (λ ts. e.1 ∷ ts) (tag_inserted es k p each.1 is)
+    ]
+
+-- a tag is there where its key is among those of the tags
+pub has_tag_is : (key : List ℕ) (tags : List Pair) → is_among key (map tag_key tags) ≡ has_tag key tags
+has_tag_is key [] = refl
+has_tag_is key (t ∷ tags) = ap (λ b. same_name key t.key || b) (has_tag_is key tags)
 
 or_none : (a : Bool) → (a || false) ≡ a
 or_none true = refl
@@ -42,6 +75,22 @@ or_again false false = refl
 pub with_more : (tags ps : List Pair) (p : Pair) → with_tags tags (ps ++ p ∷ []) ≡ with_tag (with_tags tags ps) p
 with_more tags [] p = refl
 with_more tags (q ∷ ps) p = with_more (with_tag tags q) ps p
+
+-- the next of some entries is put among those that stand in an index
+module _ (tags : List Pair) (es done rest left new : List (Vec ℕ Global × Pair)) (k : Vec ℕ Global) (p : Pair) (spare now : ℕ)
+    (keys : AreKeyed es) (rest_keys : AreKeyed rest) (said : values_of es ≡ with_tags tags (values_of done)) (fits : length rest ≤ spare)
+    (next : rest ≡ (k, p) ∷ left) (is : new ≡ insert_entry (same_key key_bytes) es k p) (room : spare ≤ now + 1) where
+  of_next : AreKeyed ((k, p) ∷ left)
+  of_next = subst AreKeyed next rest_keys
+
+  pub put_next : AreKeyed new × AreKeyed left × (values_of new ≡ with_tags tags (values_of (done ++ (k, p) ∷ []))) × (length left ≤ now)
+  put_next = (
+    subst AreKeyed (sym is) (index_inserted key_bytes tag_key es k p keys of_next.0),
+    of_next.1,
+    ap values_of is ∙ tag_inserted es k p keys of_next.0 ∙ ap (λ ts. with_tag ts p) said
+        ∙ sym (with_more tags (values_of done) p) ∙ ap (with_tags tags) (sym (map-append (λ e. e.1) done ((k, p) ∷ []))),
+    (let one : length rest ≡ suc (length left) = ap length next in omega arith),
+  )
 
 with_both : (tags ps qs : List Pair) → with_tags tags (ps ++ qs) ≡ with_tags (with_tags tags ps) qs
 with_both tags [] qs = refl
@@ -97,6 +146,22 @@ counted tags ps k p h is =
     ap (λ qs. length (with_tags tags qs)) (take_more ps k p h ∙ ap (λ q. take k ps ++ q ∷ []) (sym is)) ∙ ap length (with_more tags (take k ps) p)
     ∙ length_with before p
     ∙ ap (λ b. cond b (length before) (length before + 1)) (has_with_all p.key tags (take k ps))
+
+-- where each pair whose key is not there yet counts
+module _ (tags ps : List Pair) (k : ℕ) (p : Pair) (inside : k < length ps) (is : p ≡ get_or ps k p) (n : ℕ) (within : length (with_tags tags (take k ps)) ≤ n) where
+  at_most_more : (b : Bool) (m : ℕ) → m ≡ cond b (length (with_tags tags (take k ps))) (length (with_tags tags (take k ps)) + 1) → m ≤ n + 1
+  at_most_more true m e = omega arith
+  at_most_more false m e = omega arith
+
+  pub within_more : length (with_tags tags (take (k + 1) ps)) ≤ n + 1
+  within_more = at_most_more (has_tag p.key tags || has_tag p.key (take k ps)) _ (counted tags ps k p inside is)
+
+  pub within_same : has_tag p.key tags ≡ true → length (with_tags tags (take (k + 1) ps)) ≤ n
+  within_same there =
+      let size = length (with_tags tags (take k ps)) in
+      let same : length (with_tags tags (take (k + 1) ps)) ≡ size =
+      counted tags ps k p inside is ∙ ap (λ b. cond (b || has_tag p.key (take k ps)) size (size + 1)) there in
+      omega arith
 
 pub over_limit : (n : ℕ) → 512 < n → false ≡ not (nat_lt 512 n)
 over_limit n h = grind (arith, nat_tests)

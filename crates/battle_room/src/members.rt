@@ -6,6 +6,7 @@ ghost use Rattle.line_words.specs.Table.{same_name, is_among};
 ghost use Rattle.battle_room.specs.Room as room;
 ghost use Rattle.battle_room.specs.Refusals.{first_name, is_first};
 
+use indexmap::IndexMap;
 use line_words::NameBuf;
 use status_bits::BattleStatus;
 use std::alloc::{AllocError, Global};
@@ -70,34 +71,35 @@ impl Member {
         self.colour
     }
 
-    /// A status and a colour for the member, if it has this name.
-    fn put_status(&mut self, name: &NameBuf, status: BattleStatus, colour: i64)
-        ensures { self.new ≡ (if same_name name.now self.old.name then room.member_with status colour self.old else self.old) }
+    /// A status and a colour for the member.
+    fn put_status(&mut self, status: BattleStatus, colour: i64)
+        ensures { self.new ≡ room.member_with status colour self.old }
     {
-        if name.cmp(&self.name).is_eq() {
-            self.status = status;
-            self.colour = colour;
-        }
+        self.status = status;
+        self.colour = colour;
     }
 }
 
 /// Members in order of joining, none of them twice.
+///
+/// A look-up by name takes the same time however many there are. The index has each name once more as
+/// its key, which takes no memory of its own.
 #[derive(Drop)]
 pub(crate) struct Members {
-    members: Vec<Member>,
+    by_name: IndexMap<NameBuf, Member>,
 }
 
 impl Model for Members {
-    ghost use Rattle.std.specs.Prelude.{List, map};
-    ghost use Rattle.std.specs.List.{IsDistinct};
-    ghost use Rattle.line_words.specs.Table.{same_name};
+    ghost use Rattle.std.specs.Prelude.{List, ℕ};
+    ghost use Rattle.indexmap.specs.IndexMap.{values};
     ghost use Rattle.battle_room.specs.Room as room;
+    ghost use Rattle.battle_room.specs.Index.{IsIndex};
 
     ghost Value = { List room.Member };
 
-    ghost view = { λ m. m.members.items };
+    ghost view = { λ m. values m.by_name };
 
-    ghost invariant = { λ m. IsDistinct same_name (map (λ x. x.name) m.members.items) };
+    ghost invariant = { λ m. IsIndex (λ (name : List ℕ). name) (λ (member : room.Member). member.name) m.by_name.entries };
 }
 
 impl Members {
@@ -105,9 +107,11 @@ impl Members {
     pub(crate) fn one(alloc: Global, founder: NameBuf, mark: usize) -> Result<Members, AllocError>
         ensures { IfOk result (λ members. members ≡ room.new_member founder ∷ []) }
     {
-        let mut members = Vec::new(alloc);
-        members.push(Member::new(founder, mark))?;
-        Ok(Members { members })
+        let mut members = Members {
+            by_name: IndexMap::new(alloc),
+        };
+        members.add(founder, mark)?;
+        Ok(members)
     }
 
     /// The members.
@@ -115,28 +119,28 @@ impl Members {
         ensures members { result.now ≡ self.now }
         ensures distinct { IsDistinct same_name (map (λ m. m.name) result.now) }
     {
-        self.members.as_slice()
+        self.by_name.as_slice().values().as_slice()
     }
 
     /// The member of a name.
     pub(crate) fn member(&self, name: &NameBuf) -> Option<&Member>
         ensures { option_copied result ≡ find (λ m. same_name name.now m.name) self.now }
     {
-        self.members.iter().find(|m| name.cmp(m.name()).is_eq())
+        self.by_name.get(name)
     }
 
     /// Whether one of this name is there.
     pub(crate) fn has(&self, name: &NameBuf) -> bool
         ensures { result ≡ is_among name.now (map (λ m. m.name) self.now) }
     {
-        self.member(name).is_some()
+        self.by_name.contains_key(name)
     }
 
     /// The name of the first.
     pub(crate) fn first(&self) -> Option<&NameBuf>
         ensures { option_copied result ≡ first_name self.now }
     {
-        match self.members.first() {
+        match self.as_slice().first() {
             Some(founder) => Some(founder.name()),
             None => None,
         }
@@ -146,7 +150,7 @@ impl Members {
     pub(crate) fn is_first(&self, name: &NameBuf) -> bool
         ensures { result ≡ is_first name.now self.now }
     {
-        match self.members.first() {
+        match self.as_slice().first() {
             Some(founder) => name.cmp(founder.name()).is_eq(),
             None => false,
         }
@@ -158,7 +162,7 @@ impl Members {
         ensures ok { OnOk result (self.new ≡ self.old ++ room.new_member name ∷ []) }
         ensures err { OnErr result (self.new ≡ self.old) }
     {
-        self.members.push(Member::new(name, mark))?;
+        self.by_name.insert(name.copy(), Member::new(name, mark))?;
         Ok(())
     }
 
@@ -166,15 +170,17 @@ impl Members {
     pub(crate) fn remove(&mut self, name: &NameBuf)
         ensures { self.new ≡ filter (λ m. not (same_name name.now m.name)) self.old }
     {
-        self.members.retain(|m| !name.cmp(m.name()).is_eq());
+        // Its contract says that no name stands twice, which the proof wants of the names as they were.
+        let _ = self.by_name.len();
+        let _ = self.by_name.shift_remove(name);
     }
 
     /// A status and a colour for the member of a name.
     pub(crate) fn put_status(&mut self, name: &NameBuf, status: BattleStatus, colour: i64)
         ensures { self.new ≡ map (λ m. if same_name name.now m.name then room.member_with status colour m else m) self.old }
     {
-        for member in self.members.iter_mut() {
-            member.put_status(name, status, colour);
+        if let Some(member) = self.by_name.get_mut(name) {
+            member.put_status(status, colour);
         }
     }
 }

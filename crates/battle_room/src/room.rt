@@ -220,7 +220,7 @@ impl Room {
         ensures ok { OnOk result (self.new ≡ room.set_tags pairs self.old) }
         ensures err { OnErr result (self.new ≡ self.old) }
     {
-        self.tags.put(pairs)
+        self.tags.put(self.alloc, pairs)
     }
 
     /// Tags of these keys go. Keys that are not set change nothing.

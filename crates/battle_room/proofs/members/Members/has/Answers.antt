@@ -1,8 +1,12 @@
 use Rattle.std.proofs.Common.{◌∙◌, ap}
-use Rattle.std.specs.Prelude.{is_some}
-use Rattle.battle_room.proofs.Named.{found_is_among, is_some-copied}
+use Rattle.std.specs.Prelude.{ℕ, List, map}
+use Rattle.line_words.specs.Table.{is_among}
+use Rattle.battle_room.specs.Room as room
+use Rattle.battle_room.proofs.Indexed.{has_value}
 use Rattle.battle_room.proofs.members.Members.has.Goals as goal
 
 pub returns : goal.returns
 returns c =
-    c.is_some.ensures ∙ is_some-copied c.member.result ∙ ap is_some c.member.ensures ∙ found_is_among c.args.name.now c.args.self.now
+    c.contains_key.ensures
+    ∙ has_value (λ (name : List ℕ). name) (λ (m : room.Member). m.name) c.args.name.now c.self.inside.by_name.entries c.self.invariant
+    ∙ ap (λ (ms : List room.Member). is_among c.args.name.now (map (λ m. m.name) ms)) c.self.view_is

@@ -1,25 +1,44 @@
-use Rattle.std.proofs.Common.{to_z, of_z, w64, ◌≡◌, ◌∙◌, ap, sym, subst, rules}
+use Rattle.std.proofs.Common.{ℤ, w64, ◌∙◌, ap, sym, subst, refl}
 use Rattle.std.specs.Prelude.{ℕ, List, map, if◌then◌else◌}
-use Rattle.std.specs.List.{IsDistinct, slice_set}
-use Rattle.std.proofs.lemmas.List.{with_items_is}
-use Rattle.std.proofs.lemmas.List.Edits.{map_over_more}
+use Rattle.std.specs.Map.{values_of, set_value}
+use Rattle.std.proofs.lemmas.Int.{to_z-of_z}
 use Rattle.line_words.specs.Table.{same_name}
+use Rattle.line_words.proofs.Keyed.{stands_for}
+use Rattle.line_words.proofs.Ties.{none_of}
 use Rattle.battle_room.specs.Room as room
-use Rattle.battle_room.proofs.Named.{names_stay, all_mapped}
+use Rattle.battle_room.specs.Index.{IsIndex}
+use Rattle.battle_room.proofs.Indexed.{index_written, values_written, values_unwritten}
 use Rattle.battle_room.proofs.members.Members.put_status.Goals as goal
-
-pub loop-member-preserved : goal.loop-member-preserved
-loop-member-preserved c =
-    let f = λ (m : room.Member). if same_name c.args.name.now m.name then room.member_with c.args.status (to_z w64 (of_z w64 c.args.colour)) m else m in
-    ap (slice_set c.loop-member.member-items c.loop-member.member-index) (c.put_status.ensures ∙ ap f (sym c.member-item.is))
-    ∙ map_over_more f c.deref_mut-member-items.result.now c.loop-member.member-items c.loop-member.member-index c.member-item.result (search rules) c.loop-member.invariant c.member-item.is
+use Rattle.battle_room.proofs.members.Members.put_status.Goals.{in-Some, in_default}
 
 pub invariant_of-self : goal.invariant_of-self
 invariant_of-self c =
-    let all : c.loop-member.member-items ≡ map (λ m. if same_name c.args.name.now m.name then room.member_with c.args.status (to_z w64 (of_z w64 c.args.colour)) m else m) c.self.inside.members.items =
-    c.loop-member.invariant
-    ∙ all_mapped (λ m. if same_name c.args.name.now m.name then room.member_with c.args.status (to_z w64 (of_z w64 c.args.colour)) m else m) c.deref_mut-member-items.result.now c.loop-member.member-index (search rules)
-    ∙ ap (map (λ m. if same_name c.args.name.now m.name then room.member_with c.args.status (to_z w64 (of_z w64 c.args.colour)) m else m)) c.deref_mut-member-items.ensures.value in
-    let held = with_items_is c.self.inside.members c.loop-member.member-items (search rules) in
-    subst (λ (ms : List room.Member). IsDistinct same_name (map (λ m. m.name) ms)) (sym (held ∙ all))
-    (subst (λ (ns : List (List ℕ)). IsDistinct same_name ns) (sym (names_stay c.args.name.now c.args.status (to_z w64 (of_z w64 c.args.colour)) c.self.inside.members.items)) c.self.invariant)
+    let change = room.member_with c.args.status c.args.colour in
+    let test = stands_for (λ (name : List ℕ). name) c.args.name.now in
+    let old = c.self.inside.by_name.entries in
+    elim c.match-get_mut.branch [
+      | in-Some w ↦ rw w.self-inside-is (
+          let written = (c.get_mut.follows.holds w.put_status.new.self).0 ∙ ap (set_value test old) (w.put_status.ensures ∙ ap (λ (z : ℤ). room.member_with c.args.status z w.in-Some.member.now) (to_z-of_z w64 c.args.colour c.ranges.colour)) in
+          subst (IsIndex (λ (name : List ℕ). name) (λ (m : room.Member). m.name)) (sym written)
+          (index_written (λ (name : List ℕ). name) (λ (m : room.Member). m.name) c.args.name.now change (λ m. refl) w.in-Some.member.now old c.self.invariant w.in-Some.ensures.value))
+      | in_default w ↦ rw w.self-inside-is (
+          subst (IsIndex (λ (name : List ℕ). name) (λ (m : room.Member). m.name)) (sym (λ i. (c.get_mut.follows.holds-at-none i).entries)) c.self.invariant)
+    ]
+
+pub returns : goal.returns
+returns c =
+    let change = room.member_with c.args.status c.args.colour in
+    let test = stands_for (λ (name : List ℕ). name) c.args.name.now in
+    let old = c.self.inside.by_name.entries in
+    let all = λ (ms : List room.Member). map (λ m. if same_name c.args.name.now m.name then change m else m) ms in
+    elim c.match-get_mut.branch [
+      | in-Some w ↦ rw w.self-inside-is (
+          ap values_of ((c.get_mut.follows.holds w.put_status.new.self).0 ∙ ap (set_value test old) (w.put_status.ensures ∙ ap (λ (z : ℤ). room.member_with c.args.status z w.in-Some.member.now) (to_z-of_z w64 c.args.colour c.ranges.colour)))
+          ∙ values_written (λ (name : List ℕ). name) (λ (m : room.Member). m.name) c.args.name.now change w.in-Some.member.now old c.self.invariant c.get_mut.ensures.unique w.in-Some.ensures.value
+          ∙ ap all c.self.view_is)
+      | in_default w ↦ rw w.self-inside-is (
+          ap values_of (λ i. (c.get_mut.follows.holds-at-none i).entries)
+          ∙ values_unwritten (λ (name : List ℕ). name) (λ (m : room.Member). m.name) c.args.name.now change old c.self.invariant
+          (none_of c.get_mut.result w.in_default.not-Some ∙ c.get_mut.ensures.value)
+          ∙ ap all c.self.view_is)
+    ]

@@ -1,13 +1,21 @@
-use Rattle.std.proofs.Common.{◌∙◌, ap, sym, arith}
-use Rattle.std.specs.Prelude.{List}
-use Rattle.line_words.specs.declared.lists.Pair.{Pair}
-use Rattle.battle_room.specs.Tags.{with_tag}
-use Rattle.battle_room.proofs.Tagged.{with_more}
+use Rattle.std.specs.Map.{values_of}
+use Rattle.std.specs.Vec.Iter.{into_iter_items}
+use Rattle.indexmap.specs.IndexMap.{spare}
+use Rattle.battle_room.proofs.Tagged.{put_next}
 use Rattle.battle_room.proofs.tags.Tags.put.Goals as goal
 
-pub loop-pair-preserved : goal.loop-pair-preserved
-loop-pair-preserved c = record {
-  said = c.in_ok-put_pair.ensures.ok ∙ ap (λ (ts : List Pair). with_tag ts c.in-Some.pair) c.loop-pair.invariant.said
-      ∙ sym (with_more c.reserve.new.self.items c.loop-pair.yielded c.in-Some.pair);
-  fits = omega (arith, c.in-Some.ensures.steps.1, c.put_pair.ensures.len, c.put_pair.ensures.capacity, c.loop-pair.invariant.fits);
-}
+pub loop-key-preserved : goal.loop-key-preserved
+loop-key-preserved c =
+    let put = put_next (values_of c.reserve.new.self.entries) c.loop-key.self-inside.by_key.entries c.loop-key.yielded (into_iter_items c.loop-key.key-iterator)
+    (into_iter_items c.next.new.self) c.insert.new.self.entries c.in-Some.key c.in-Some.pair (spare c.loop-key.self-inside.by_key) (spare c.insert.new.self)
+    c.loop-key.invariant.keys c.loop-key.invariant.left c.loop-key.invariant.said c.loop-key.invariant.fits
+    c.in-Some.ensures.steps.0 c.in_ok-insert.ensures.entries c.insert.ensures.spare in
+    record { keys = put.0; left = put.1; said = put.2; fits = put.3 }
+
+pub loop-key-preserved-in_ok-insert : goal.loop-key-preserved-in_ok-insert
+loop-key-preserved-in_ok-insert c =
+    let put = put_next (values_of c.reserve.new.self.entries) c.loop-key.self-inside.by_key.entries c.loop-key.yielded (into_iter_items c.loop-key.key-iterator)
+    (into_iter_items c.next.new.self) c.insert.new.self.entries c.in-Some.key c.in-Some.pair (spare c.loop-key.self-inside.by_key) (spare c.insert.new.self)
+    c.loop-key.invariant.keys c.loop-key.invariant.left c.loop-key.invariant.said c.loop-key.invariant.fits
+    c.in-Some.ensures.steps.0 c.in_ok-insert.ensures.entries c.insert.ensures.spare in
+    record { keys = put.0; left = put.1; said = put.2; fits = put.3 }

@@ -1,11 +1,15 @@
-use Rattle.std.proofs.Common.{◌≡◌, ◌≤◌, ◌+◌}
-use Rattle.std.specs.Vec.{vec_len, vec_capacity}
-use Rattle.std.specs.Vec.Iter.{into_iter_len}
+use Rattle.std.proofs.Common.{◌≡◌, ◌≤◌, length}
+use Rattle.std.specs.Map.{values_of}
+use Rattle.std.specs.Vec.Iter.{into_iter_items}
+use Rattle.indexmap.specs.IndexMap.{spare}
 use Rattle.battle_room.specs.Tags.{with_tags}
+use Rattle.battle_room.proofs.Tagged.{AreKeyed}
 use Rattle.battle_room.proofs.tags.Tags.put.Given as goal
 
-abbrev pub invariant-loop-pair : goal.invariant-loop-pair
-invariant-loop-pair l = record {
-  said : l.self-inside.tags.items ≡ with_tags l.initial.self-inside.tags.items l.yielded;
-  fits : vec_len l.self-inside.tags + into_iter_len l.pair-iterator ≤ vec_capacity l.self-inside.tags;
+abbrev pub invariant-loop-key : goal.invariant-loop-key
+invariant-loop-key l = record {
+  keys : AreKeyed l.self-inside.by_key.entries;
+  left : AreKeyed (into_iter_items l.key-iterator);
+  said : values_of l.self-inside.by_key.entries ≡ with_tags (values_of l.initial.self-inside.by_key.entries) (values_of l.yielded);
+  fits : length (into_iter_items l.key-iterator) ≤ spare l.self-inside.by_key;
 }

@@ -1,6 +1,11 @@
 use Rattle.std.proofs.Common.{◌≡◌, drop}
+use Rattle.std.specs.Map.{values_of}
 use Rattle.battle_room.specs.Tags.{without_tags}
+use Rattle.battle_room.proofs.Tagged.{AreKeyed}
 use Rattle.battle_room.proofs.tags.Tags.remove.Given as goal
 
 abbrev pub invariant-loop-key : goal.invariant-loop-key
-invariant-loop-key l = without_tags l.self-inside.tags.items (drop l.key-index l.keys) ≡ without_tags l.initial.self-inside.tags.items l.keys
+invariant-loop-key l = record {
+  keys : AreKeyed l.self-inside.by_key.entries;
+  said : without_tags (values_of l.self-inside.by_key.entries) (drop l.key-index l.keys) ≡ without_tags (values_of l.initial.self-inside.by_key.entries) l.keys;
+}
