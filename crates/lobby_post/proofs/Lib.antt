@@ -1,7 +1,17 @@
 pub mod Masks
+pub mod Filtered
+pub mod Listed
+pub mod Homes
+pub mod Idle
+pub mod Counts
 pub mod Crowds
+pub mod Marks
+pub mod Waiting
 pub mod Places
 pub mod Parcels
 pub mod Rounds
+pub mod Newly
+pub mod Newcomers
+pub mod Underway
 pub mod Lines
 pub mod Telling

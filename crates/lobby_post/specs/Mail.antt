@@ -12,17 +12,27 @@ use Rattle.lobby_model.specs.State.{State, Client, is_live, set_phase}
 use Rattle.lobby_model.specs.Next.{with_batch, is_empty}
 use Rattle.lobby_model.specs.Touched.{touches}
 
--- a client, the limit of its outbox, how many bytes may be put to it without memory, and how many are still due to it
+-- a client, the limit of its outbox, how many bytes may be put to it without memory, how many are still due to it, and whether it
+-- stands in its worker's list of those that were touched
 pub record Held : Type 0 where
   pub client : Client
   pub limit : ℕ
   pub spare : ℕ
   pub due : ℕ
+  pub listed : Bool
 
--- All clients by their numbers, and the limit that each outbox has
+-- The clients of one worker: those that wait, in their order; those that the event at hand touched and that did not wait; how many
+-- do neither
+pub record Line : Type 0 where
+  pub waiting : List ℕ
+  pub fresh : List ℕ
+  pub idle : ℕ
+
+-- All clients by their numbers, the limit that each outbox has, and the lines of the 64 workers
 pub record Crowd : Type 0 where
   pub limit : ℕ
   pub slots : ByNumber Held
+  pub lines : List Line
 
 -- the clients alone
 abbrev pub plain : ByNumber Held → ByNumber Client

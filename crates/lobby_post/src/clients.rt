@@ -1,17 +1,19 @@
 //! All clients by their numbers.
 
-ghost use Rattle.std.specs.Prelude.{◌≡◌, ℕ, ◌+◌, ◌-◌, ◌^◌, ◌<◌, [], ◌++◌, List, length, take, drop, min, map, OnOk, OnErr, IfSome, Some, true, is_some, option_copied};
-ghost use Rattle.std.specs.Option.{option_map};
+ghost use Rattle.std.specs.Prelude.{◌≡◌, ℕ, ◌+◌, ◌-◌, ◌^◌, ◌<◌, [], ◌∷◌, ◌++◌, List, length, take, drop, min, map, if◌then◌else◌, OnOk, OnErr, IfSome, IfNone, Some, true, false, is_some, option_copied};
+ghost use Rattle.std.specs.Option.{option_map, option_to_list};
 ghost use Rattle.std.specs.Ordering.{nat_cmp};
 ghost use Rattle.std.specs.List.Sorted.{IsStrictlySortedBy};
-ghost use Rattle.line_words.specs.Table.{ByNumber, at_number, put_number, without_number, change_number};
+ghost use Rattle.line_words.specs.Table.{ByNumber, at_number, put_number, same_number, without_number, change_number};
 ghost use Rattle.lobby_model.specs.declared.event.Phase.TheVariants.{Ended, In};
 ghost use Rattle.lobby_model.specs.State.{is_live_client, name_at, set_phase};
 ghost use Rattle.lobby_model.specs.Sessions.{greeted, drained};
 ghost use Rattle.lobby_model.specs.Next.{with_batch};
+ghost use Rattle.lobby_post.specs.Dirty.{all_but_client, marks_of, waits, Known};
 ghost use Rattle.lobby_post.specs.Mail.{AreDue, AreReady, bytes_for, parted, plain};
 ghost use Rattle.lobby_post.specs.Unread.{is_over, unread_in};
 
+use crate::dirty::DirtyLists;
 use crate::slot::Slot;
 use crate::slots::Slots;
 use crate::spares::Spares;
@@ -38,14 +40,16 @@ pub struct Clients {
     limit: usize,
     pub(crate) slots: Slots,
     pub(crate) spares: Spares,
+    pub(crate) dirty: DirtyLists,
 }
 
 impl Model for Clients {
     ghost use Rattle.lobby_post.specs.Mail.{Crowd, HaveLimit};
+    ghost use Rattle.lobby_post.specs.Dirty.{lines_of};
 
     ghost Value = { Crowd };
 
-    ghost view = { λ c. record { limit = c.limit; slots = c.slots } };
+    ghost view = { λ c. record { limit = c.limit; slots = c.slots; lines = lines_of c.dirty } };
 
     ghost invariant = { λ c. HaveLimit c.limit c.slots };
 }
@@ -55,12 +59,15 @@ impl Clients {
     pub fn new(alloc: Global, limit: usize) -> Clients
         ensures limit { result.limit ≡ limit }
         ensures nobody { result.slots ≡ [] }
+        ensures known { Known result 0 }
+        ensures waits { (h : ℕ) → waits result h ≡ [] }
     {
         Clients {
             alloc,
             limit,
             slots: Slots::new(alloc),
             spares: Spares::new(alloc),
+            dirty: DirtyLists::new(alloc),
         }
     }
 
@@ -152,9 +159,12 @@ impl Clients {
         ensures ok { OnOk result (plain self.new.slots ≡ put_number (plain self.old.slots) client (with_batch self.old.limit greeting.now (greeted ip home))) }
         ensures due { OnOk result ((pieces : ByNumber (List ℕ)) → bytes_for pieces client ≡ [] → AreDue pieces self.old.slots → AreDue pieces self.new.slots) }
         ensures was_ordered { OnOk result (IsStrictlySortedBy nat_cmp (map (λ e. e.0) self.old.slots)) }
+        ensures known { OnOk result ((last : ℕ) → last < client → Known self.old last → Known self.new client) }
+        ensures waits { OnOk result ((last h : ℕ) → last < client → Known self.old last → h < 64 → waits self.new h ≡ waits self.old h ++ (if same_number home h then client ∷ [] else [])) }
         ensures err { OnErr result (self.new ≡ self.old) }
     {
         self.spares.make_places(self.slots.len().saturating_add(1))?;
+        self.dirty.make_room(home)?;
         let slot = Slot::with_greeting(
             self.alloc,
             self.limit,
@@ -164,6 +174,7 @@ impl Clients {
             &mut self.spares,
         )?;
         self.slots.insert(client, slot)?;
+        self.dirty.add(home, client);
         Ok(())
     }
 
@@ -174,6 +185,8 @@ impl Clients {
         ensures clients { plain self.new.slots ≡ set_phase (plain self.old.slots) client (In name) }
         ensures due { (pieces : ByNumber (List ℕ)) → AreDue pieces self.old.slots → AreDue pieces self.new.slots }
         ensures ready { AreReady self.old.slots → AreReady self.new.slots }
+        ensures marks { marks_of self.new.slots ≡ marks_of self.old.slots }
+        ensures lines { self.new.lines ≡ self.old.lines }
     {
         if let Some(slot) = self.slots.get_mut(client) {
             slot.log_in(name);
@@ -187,6 +200,8 @@ impl Clients {
         ensures clients { plain self.new.slots ≡ set_phase (plain self.old.slots) client Ended }
         ensures due { (pieces : ByNumber (List ℕ)) → AreDue pieces self.old.slots → AreDue pieces self.new.slots }
         ensures ready { AreReady self.old.slots → AreReady self.new.slots }
+        ensures marks { marks_of self.new.slots ≡ marks_of self.old.slots }
+        ensures lines { self.new.lines ≡ self.old.lines }
     {
         if let Some(slot) = self.slots.get_mut(client) {
             slot.end();
@@ -199,8 +214,14 @@ impl Clients {
         ensures clients { plain self.new.slots ≡ without_number (plain self.old.slots) client }
         ensures due { (pieces : ByNumber (List ℕ)) → AreDue pieces self.old.slots → AreDue pieces self.new.slots }
         ensures ready { AreReady self.old.slots → AreReady self.new.slots }
+        ensures known { (last : ℕ) → Known self.old last → Known self.new last }
+        ensures waits { (h : ℕ) → h < 64 → waits self.new h ≡ all_but_client client (waits self.old h) }
     {
+        let listing = self.slots.listing_of(client);
         self.slots.remove(client);
+        if let Some((home, listed)) = listing {
+            self.dirty.leave(home, listed, &self.slots);
+        }
     }
 
     /// A client goes: it ends, or, where it does not stay, is removed.
@@ -209,12 +230,34 @@ impl Clients {
         ensures clients { plain self.new.slots ≡ parted (plain self.old.slots) client stays }
         ensures due { (pieces : ByNumber (List ℕ)) → AreDue pieces self.old.slots → AreDue pieces self.new.slots }
         ensures ready { AreReady self.old.slots → AreReady self.new.slots }
+        ensures known { (last : ℕ) → Known self.old last → Known self.new last }
+        ensures waits { (h : ℕ) → h < 64 → waits self.new h ≡ (if stays then waits self.old h else all_but_client client (waits self.old h)) }
     {
         if stays {
             self.end(client);
         } else {
             self.remove(client);
         }
+    }
+
+    /// Takes the first client of a worker's list out. Of the worker's clients that are there, those wait
+    /// in it that were inserted or touched since they were taken out. It takes no memory.
+    pub fn next_dirty(&mut self, home: u8) -> Option<u64>
+        requires { home < 64 }
+        ensures limit { self.new.limit ≡ self.old.limit }
+        ensures clients { plain self.new.slots ≡ plain self.old.slots }
+        ensures due { (pieces : ByNumber (List ℕ)) → AreDue pieces self.old.slots → AreDue pieces self.new.slots }
+        ensures ready { AreReady self.old.slots → AreReady self.new.slots }
+        ensures known { (last : ℕ) → Known self.old last → Known self.new last }
+        ensures first { waits self.old home ≡ option_to_list result ++ waits self.new home }
+        ensures nobody { IfNone result (waits self.old home ≡ []) }
+        ensures others { (h : ℕ) → h < 64 → same_number home h ≡ false → waits self.new h ≡ waits self.old h }
+    {
+        let client = self.dirty.next(home, &self.slots)?;
+        if let Some(slot) = self.slots.get_mut(client) {
+            slot.unlist();
+        }
+        Some(client)
     }
 
     /// Takes bytes that a client has not read into a slice, as many as fit, and tells whether nothing
@@ -227,6 +270,8 @@ impl Clients {
         ensures limit { self.new.limit ≡ self.old.limit }
         ensures clients { plain self.new.slots ≡ change_number (plain self.old.slots) client (drained (length into.old)) }
         ensures due { (pieces : ByNumber (List ℕ)) → AreDue pieces self.old.slots → AreDue pieces self.new.slots }
+        ensures marks { marks_of self.new.slots ≡ marks_of self.old.slots }
+        ensures lines { self.new.lines ≡ self.old.lines }
     {
         match self.slots.get_mut(client) {
             Some(slot) => {

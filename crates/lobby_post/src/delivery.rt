@@ -1,11 +1,15 @@
 //! The pieces of an event, and their delivery.
 
-ghost use Rattle.std.specs.Prelude.{◌≡◌, ℕ, ◌-◌, ◌<◌, [], OnOk, OnErr};
+ghost use Rattle.std.specs.Prelude.{◌≡◌, ℕ, ◌-◌, ◌<◌, ◌≤◌, [], ◌&&◌, ◌||◌, true, not, length, if◌then◌else◌, OnOk, OnErr};
 ghost use Rattle.std.specs.List.{AllByRecursion};
 ghost use Rattle.lobby_post.specs.Mask.{has_home};
-ghost use Rattle.lobby_post.specs.Mail.{AreDue, AreReady, HaveLimit, plain, deliver, wakes_home};
+ghost use Rattle.line_words.specs.Table.{same_number};
+ghost use Rattle.lobby_post.specs.Mail.{AreDue, AreReady, HaveLimit, IsReady, plain, deliver, put_first, touched, wakes_home, wakes_one};
+ghost use Rattle.lobby_post.specs.Dirty.{line_of, marks_of, pushed, stands, AreKnown, IsNewly};
 ghost use Rattle.lobby_post.specs.Pieces.{LiesIn, pieces_of};
 
+use crate::dirty::DirtyLists;
+use crate::slot::Slot;
 use crate::slots::Slots;
 use crate::spares::Spares;
 use crate::wakes::Wakes;
@@ -37,6 +41,7 @@ pub fn make_room(
     ensures limits { (limit : ℕ) → HaveLimit limit clients.old → HaveLimit limit clients.new }
     ensures due { OnOk result (AreDue (pieces_of text.now pieces.now) clients.new) }
     ensures ready { OnOk result (AreReady clients.new) }
+    ensures same_marks { marks_of clients.new ≡ marks_of clients.old }
     ensures err { OnErr result (AreDue [] clients.new) }
 {
     for i in 0..pieces.len() {
@@ -61,6 +66,7 @@ pub fn forget(clients: &mut Slots, text: &[u8], pieces: &[Piece])
     ensures clients { plain clients.new ≡ plain clients.old }
     ensures limits { (limit : ℕ) → HaveLimit limit clients.old → HaveLimit limit clients.new }
     ensures due { AreDue [] clients.new }
+    ensures same_marks { marks_of clients.new ≡ marks_of clients.old }
 {
     for piece in pieces {
         if let Some(slot) = clients.get_mut_at(piece.client, piece.place) {
@@ -69,9 +75,33 @@ pub fn forget(clients: &mut Slots, text: &[u8], pieces: &[Piece])
     }
 }
 
-/// Puts each piece, or cuts its client where not all its pieces fit. Gives the workers of those that
-/// it touched.
-pub fn deliver(clients: &mut Slots, text: &[u8], pieces: &[Piece]) -> Wakes
+/// Puts the next piece of what is due to a client, or cuts it. Where that touched the client, it stands
+/// in its worker's list from then on. Gives its worker where that touched it.
+#[inline(always)]
+fn put(slot: &mut Slot, dirty: &mut DirtyLists, client: u64, bytes: &[u8]) -> Wakes
+    requires due { length bytes.now ≤ slot.old.due }
+    requires ready { IsReady slot.old }
+    ensures client { slot.new.client ≡ put_first slot.old.limit slot.old.due bytes.now slot.old.client }
+    ensures limit { slot.new.limit ≡ slot.old.limit }
+    ensures due { slot.new.due ≡ slot.old.due - length bytes.now }
+    ensures ready { IsReady slot.new }
+    ensures home { (home : ℕ) → has_home result home ≡ wakes_one home bytes.now slot.old.client }
+    ensures listed { slot.new.listed ≡ (slot.old.listed || touched bytes.now slot.old.client) }
+    ensures lines { (h : ℕ) → line_of dirty.new h ≡ (if same_number slot.old.client.home h && (not slot.old.listed && touched bytes.now slot.old.client) then pushed client (line_of dirty.old h) else line_of dirty.old h) }
+{
+    if !slot.put(bytes) {
+        return Wakes::none();
+    }
+    let home = slot.home();
+    if slot.list() {
+        dirty.push(home, client);
+    }
+    Wakes::one(home)
+}
+
+/// Puts each piece, or cuts its client where not all its pieces fit. Those that it touched and that did
+/// not wait do so from then on. Gives the workers of those that it touched.
+pub fn deliver(clients: &mut Slots, dirty: &mut DirtyLists, text: &[u8], pieces: &[Piece]) -> Wakes
     requires inside { AllByRecursion (LiesIn text.now) pieces.now }
     requires due { AreDue (pieces_of text.now pieces.now) clients.old }
     requires ready { AreReady clients.old }
@@ -79,13 +109,17 @@ pub fn deliver(clients: &mut Slots, text: &[u8], pieces: &[Piece]) -> Wakes
     ensures limits { (limit : ℕ) → HaveLimit limit clients.old → HaveLimit limit clients.new }
     ensures due { AreDue [] clients.new }
     ensures wakes { (home : ℕ) → has_home result home ≡ wakes_home (pieces_of text.now pieces.now) (plain clients.old) home }
+    ensures homes { (home c : ℕ) → stands (marks_of clients.new) home c ≡ stands (marks_of clients.old) home c }
+    ensures known { (n : ℕ) → AreKnown (marks_of clients.old) (line_of dirty.old) n → AreKnown (marks_of clients.new) (line_of dirty.new) n }
+    ensures newly { (n home : ℕ) → AreKnown (marks_of clients.old) (line_of dirty.old) n → home < 64 → IsNewly (pieces_of text.now pieces.now) clients.old home (line_of dirty.old home).waiting (line_of dirty.new home).waiting }
 {
     let mut wakes = Wakes::none();
     for piece in pieces {
         let bytes = &text[piece.from..piece.to];
         if let Some(slot) = clients.get_mut_at(piece.client, piece.place) {
-            wakes = wakes.union(slot.put(bytes));
+            wakes = wakes.union(put(slot, dirty, piece.client, bytes));
         }
     }
+    dirty.settle();
     wakes
 }

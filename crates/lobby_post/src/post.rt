@@ -1,10 +1,11 @@
 //! What an event sends: lines, each printed once, and who gets them, in the order of telling.
 
-ghost use Rattle.std.specs.Prelude.{◌≡◌, ℕ, ◌≤◌, [], ◌∷◌, ◌++◌, OnOk, OnErr};
+ghost use Rattle.std.specs.Prelude.{◌≡◌, ℕ, ◌<◌, ◌≤◌, [], ◌∷◌, ◌++◌, OnOk, OnErr};
 ghost use Rattle.reply_grammar.specs.Replies.{printed_line};
 ghost use Rattle.reply_grammar.specs.Lent.{reply_of};
 ghost use Rattle.lobby_post.specs.Mask.{has_home};
 ghost use Rattle.lobby_post.specs.Mail.{AreDue, AreReady, plain, deliver, wakes_home};
+ghost use Rattle.lobby_post.specs.Dirty.{marks_of, waits, IsNewly, Known};
 ghost use Rattle.lobby_post.specs.Posted.{begun, blank, with_own, with_others, copy_to, addressed, Told};
 ghost use Rattle.lobby_model.specs.State.{State};
 ghost use Rattle.lobby_model.specs.Outcome.{tell, issuer};
@@ -179,6 +180,8 @@ impl Post {
         ensures due { OnOk result (AreDue self.now.sent clients.new.slots) }
         ensures ready { OnOk result (AreReady clients.new.slots) }
         ensures err { OnErr result (AreDue [] clients.new.slots) }
+        ensures same_marks { marks_of clients.new.slots ≡ marks_of clients.old.slots }
+        ensures same_lines { clients.new.lines ≡ clients.old.lines }
     {
         delivery::make_room(
             &mut clients.slots,
@@ -194,6 +197,8 @@ impl Post {
         ensures limit { clients.new.limit ≡ clients.old.limit }
         ensures clients { plain clients.new.slots ≡ plain clients.old.slots }
         ensures due { AreDue [] clients.new.slots }
+        ensures same_marks { marks_of clients.new.slots ≡ marks_of clients.old.slots }
+        ensures same_lines { clients.new.lines ≡ clients.old.lines }
     {
         delivery::forget(&mut clients.slots, &self.text, &self.pieces);
     }
@@ -207,7 +212,14 @@ impl Post {
         ensures clients { plain clients.new.slots ≡ deliver clients.old.limit self.now.sent (plain clients.old.slots) }
         ensures due { AreDue [] clients.new.slots }
         ensures wakes { (home : ℕ) → has_home result home ≡ wakes_home self.now.sent (plain clients.old.slots) home }
+        ensures known { (n : ℕ) → Known clients.old n → Known clients.new n }
+        ensures newly { (n home : ℕ) → Known clients.old n → home < 64 → IsNewly self.now.sent clients.old.slots home (waits clients.old home) (waits clients.new home) }
     {
-        delivery::deliver(&mut clients.slots, &self.text, &self.pieces)
+        delivery::deliver(
+            &mut clients.slots,
+            &mut clients.dirty,
+            &self.text,
+            &self.pieces,
+        )
     }
 }

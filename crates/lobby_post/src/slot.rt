@@ -1,16 +1,14 @@
 //! A client with its outbox.
 
-ghost use Rattle.std.specs.Prelude.{◌≡◌, ℕ, ◌+◌, ◌-◌, ◌^◌, ◌<◌, ◌≤◌, ◌++◌, length, take, drop, min, OnOk, OnErr, IfOk, IfSome, Some, true, is_some, option_copied};
+ghost use Rattle.std.specs.Prelude.{◌≡◌, ℕ, ◌+◌, ◌-◌, ◌^◌, ◌<◌, ◌≤◌, ◌++◌, length, take, drop, min, OnOk, OnErr, IfOk, IfSome, Some, true, false, not, is_some, option_copied};
 ghost use Rattle.lobby_model.specs.declared.event.Phase.TheVariants.{Ended, In};
 ghost use Rattle.lobby_model.specs.State.{is_live, in_phase, name_in};
 ghost use Rattle.lobby_model.specs.Sessions.{greeted, drained};
 ghost use Rattle.lobby_model.specs.Next.{with_batch};
-ghost use Rattle.lobby_post.specs.Mask.{has_home};
-ghost use Rattle.lobby_post.specs.Mail.{IsReady, put_first, wakes_one};
+ghost use Rattle.lobby_post.specs.Mail.{IsReady, put_first, touched};
 ghost use Rattle.lobby_post.specs.Unread.{is_over};
 
 use crate::spares::Spares;
-use crate::wakes::Wakes;
 use line_words::NameBuf;
 use lobby_model::Phase;
 use outbox::Outbox;
@@ -26,6 +24,8 @@ pub struct Slot {
     outbox: Outbox,
     /// How many bytes of the event at hand are still to be put.
     due: usize,
+    /// Whether it stands in its worker's list of those that were touched.
+    listed: bool,
 }
 
 impl Model for Slot {
@@ -34,7 +34,7 @@ impl Model for Slot {
 
     ghost Value = { Held };
 
-    ghost view = { λ s. record { client = record { ip = s.ip; home = s.home; phase = s.phase; cut = s.outbox.cut; unread = s.outbox.unread }; limit = s.outbox.limit; spare = s.outbox.spare; due = s.due } };
+    ghost view = { λ s. record { client = record { ip = s.ip; home = s.home; phase = s.phase; cut = s.outbox.cut; unread = s.outbox.unread }; limit = s.outbox.limit; spare = s.outbox.spare; due = s.due; listed = s.listed } };
 
     ghost invariant = { λ s. s.home < 64 };
 }
@@ -46,6 +46,7 @@ impl Slot {
         ensures client { result.client ≡ greeted ip home }
         ensures limit { result.limit ≡ limit }
         ensures due { result.due ≡ 0 }
+        ensures listed { result.listed ≡ true }
     {
         Slot {
             ip,
@@ -53,6 +54,7 @@ impl Slot {
             phase: Phase::Greeted,
             outbox: Outbox::new(alloc, limit),
             due: 0,
+            listed: true,
         }
     }
 
@@ -69,6 +71,7 @@ impl Slot {
         ensures client { IfOk result (λ slot. slot.client ≡ with_batch limit greeting.now (greeted ip home)) }
         ensures limit { IfOk result (λ slot. slot.limit ≡ limit) }
         ensures due { IfOk result (λ slot. slot.due ≡ 0) }
+        ensures listed { IfOk result (λ slot. slot.listed ≡ true) }
     {
         let mut slot = Slot::new(alloc, limit, ip, home);
         slot.make_room(greeting.len(), spares)?;
@@ -91,6 +94,7 @@ impl Slot {
     pub fn make_room(&mut self, more: usize, spares: &mut Spares) -> Result<(), AllocError>
         ensures client { self.new.client ≡ self.old.client }
         ensures limit { self.new.limit ≡ self.old.limit }
+        ensures listed { self.new.listed ≡ self.old.listed }
         ensures due { OnOk result (self.new.due ≡ self.old.due + more) }
         ensures ready { OnOk result (IsReady self.new) }
         ensures err { OnErr result (self.new.due ≡ self.old.due) }
@@ -111,37 +115,70 @@ impl Slot {
         requires { less ≤ self.old.due }
         ensures client { self.new.client ≡ self.old.client }
         ensures limit { self.new.limit ≡ self.old.limit }
+        ensures listed { self.new.listed ≡ self.old.listed }
         ensures due { self.new.due ≡ self.old.due - less }
     {
         self.due -= less;
     }
 
-    /// Puts the next piece of what is due, or cuts the client where not all that is due fits. Gives
-    /// its worker where that touched it. It stands in the loop that delivers, since the pushes of a call
+    /// Puts the next piece of what is due, or cuts the client where not all that is due fits. Tells
+    /// whether that touched it. It stands in the loop that delivers, since the pushes of a call
     /// would wait behind the bytes of the calls before it.
     #[inline(always)]
-    pub fn put(&mut self, piece: &[u8]) -> Wakes
+    pub fn put(&mut self, piece: &[u8]) -> bool
         requires due { length piece.now ≤ self.old.due }
         requires ready { IsReady self.old }
         ensures client { self.new.client ≡ put_first self.old.limit self.old.due piece.now self.old.client }
         ensures limit { self.new.limit ≡ self.old.limit }
+        ensures listed { self.new.listed ≡ self.old.listed }
         ensures due { self.new.due ≡ self.old.due - length piece.now }
         ensures ready { IsReady self.new }
-        ensures home { (home : ℕ) → has_home result home ≡ wakes_one home piece.now self.old.client }
+        ensures touched { result ≡ touched piece.now self.old.client }
     {
         let due = self.due;
         self.due = due - piece.len();
         if !self.is_live() || piece.is_empty() {
-            return Wakes::none();
+            return false;
         }
-        let home = Wakes::one(self.home);
         if self.outbox.room_for(due) {
             self.outbox.put(piece);
         } else {
             self.outbox.cut();
             self.outbox.release(0);
         }
-        home
+        true
+    }
+
+    /// The worker that serves it, 0 to 63.
+    pub fn home(&self) -> u8
+        ensures home { result ≡ self.now.client.home }
+        ensures small { result < 64 }
+    {
+        self.home
+    }
+
+    /// Whether it stands in its worker's list.
+    pub fn is_listed(&self) -> bool
+        ensures { result ≡ self.now.listed }
+    {
+        self.listed
+    }
+
+    /// It stands in its worker's list from now on. Tells whether it did not before.
+    pub fn list(&mut self) -> bool
+        ensures slot { self.new ≡ record self.old { listed = true } }
+        ensures was { result ≡ not self.old.listed }
+    {
+        let was = self.listed;
+        self.listed = true;
+        !was
+    }
+
+    /// It does not stand in its worker's list any more.
+    pub fn unlist(&mut self)
+        ensures { self.new ≡ record self.old { listed = false } }
+    {
+        self.listed = false;
     }
 
     /// The IPv4 address from which it connected.
@@ -177,6 +214,7 @@ impl Slot {
     pub fn end(&mut self)
         ensures client { self.new.client ≡ in_phase Ended self.old.client }
         ensures limit { self.new.limit ≡ self.old.limit }
+        ensures listed { self.new.listed ≡ self.old.listed }
         ensures due { self.new.due ≡ self.old.due }
         ensures ready { IsReady self.new }
     {
@@ -188,6 +226,7 @@ impl Slot {
         requires { is_live self.old.client ≡ true }
         ensures client { self.new.client ≡ in_phase (In name) self.old.client }
         ensures limit { self.new.limit ≡ self.old.limit }
+        ensures listed { self.new.listed ≡ self.old.listed }
         ensures due { self.new.due ≡ self.old.due }
         ensures ready { IsReady self.old → IsReady self.new }
     {
@@ -200,6 +239,7 @@ impl Slot {
         ensures given { into.new ≡ take result self.old.client.unread ++ drop result into.old }
         ensures client { self.new.client ≡ drained (length into.old) self.old.client }
         ensures limit { self.new.limit ≡ self.old.limit }
+        ensures listed { self.new.listed ≡ self.old.listed }
         ensures due { self.new.due ≡ self.old.due }
     {
         let count = self.outbox.take(into);

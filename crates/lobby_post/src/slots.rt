@@ -1,7 +1,7 @@
 //! The slots of all clients, by the clients' numbers.
 
 ghost use Rattle.std.specs.Prelude.{◌≡◌, ℕ, [], length, map, Some, None, is_some, OnOk, OnErr, IfSome, option_copied};
-ghost use Rattle.std.specs.Option.{option_copied_mut};
+ghost use Rattle.std.specs.Option.{option_copied_mut, option_map};
 ghost use Rattle.std.specs.Ordering.{nat_cmp};
 ghost use Rattle.std.specs.List.Sorted.{IsStrictlySortedBy};
 ghost use Rattle.std.specs.Borrow.{sem};
@@ -49,6 +49,7 @@ impl Model for Slots {
 }
 
 impl Slots {
+    ghost use Rattle.lobby_post.specs.Dirty.{marks_of, stands};
     ghost use Rattle.lobby_post.specs.Lending.{lends_slot};
     ghost use Rattle.lobby_post.specs.Places.{AreTied};
 
@@ -91,6 +92,26 @@ impl Slots {
         ensures { result ≡ is_some (lookup (is_at (nat_cmp client)) self.now) }
     {
         self.places.contains_key(&client)
+    }
+
+    /// The worker of a client that is there, and whether it stands in that worker's list.
+    pub fn listing_of(&self, client: u64) -> Option<(u8, bool)>
+        ensures { result ≡ option_map (λ held. (held.client.home, held.listed)) (lookup (is_at (nat_cmp client)) self.now) }
+    {
+        match self.get(client) {
+            Some(slot) => Some((slot.home(), slot.is_listed())),
+            None => None,
+        }
+    }
+
+    /// Whether a client is there and served by this worker.
+    pub fn is_of(&self, client: u64, home: u8) -> bool
+        ensures { result ≡ stands (marks_of self.now) home client }
+    {
+        match self.get(client) {
+            Some(slot) => slot.home() == home,
+            None => false,
+        }
     }
 
     /// A client's slot.

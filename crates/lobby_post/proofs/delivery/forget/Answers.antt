@@ -3,6 +3,7 @@ use Rattle.lobby_post.specs.Mail.{AreDue}
 use Rattle.line_words.proofs.Ties.{none_of}
 use Rattle.lobby_post.proofs.Crowds.{written_through}
 use Rattle.lobby_post.proofs.Rounds.{inside_next, inside_here, bytes_long, pieces_is, less_due, less_past, due_here, limits_next, plain_same, none_left}
+use Rattle.lobby_post.proofs.Listed.{marks_same}
 use Rattle.lobby_post.proofs.delivery.forget.Goals as goal
 use Rattle.lobby_post.proofs.delivery.forget.Goals.{in-Some, in_default}
 
@@ -30,6 +31,7 @@ loop-piece-preserved c =
                 (w.forget.ensures.due ∙ ap (λ n. w.in-Some.slot.now.due - n) (sym long)) first;
             limits = λ limit all. limits_next limit _ w.in-Some.slot.now w.forget.new.self c.loop-piece.clients _ written w.in-Some.ensures.value w.forget.ensures.limit (inv.limits limit all);
             clients = plain_same _ w.in-Some.slot.now w.forget.new.self c.loop-piece.clients _ refl w.in-Some.ensures.value w.forget.ensures.client ∙ inv.clients;
+            marks = marks_same _ w.in-Some.slot.now w.forget.new.self c.loop-piece.clients _ refl w.in-Some.ensures.value w.forget.ensures.client w.forget.ensures.listed ∙ inv.marks;
           })
       | in_default w ↦
           let none = sym (none_of c.get_mut_at.result w.in_default.not-Some ∙ c.get_mut_at.ensures.value) in
@@ -38,6 +40,7 @@ loop-piece-preserved c =
             due = less_past _ _ _ c.loop-piece.clients none first;
             limits = inv.limits;
             clients = inv.clients;
+            marks = inv.marks;
           })
     ]
 

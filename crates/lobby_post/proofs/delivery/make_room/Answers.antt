@@ -4,6 +4,7 @@ use Rattle.lobby_post.specs.Pieces.{pieces_of}
 use Rattle.line_words.proofs.Ties.{none_of}
 use Rattle.lobby_post.proofs.Crowds.{written_through, due_kept}
 use Rattle.lobby_post.proofs.Rounds.{inside_next, inside_here, bytes_long, pieces_done, due_more, grown_past, ready_next, limits_next, plain_same}
+use Rattle.lobby_post.proofs.Listed.{marks_same}
 use Rattle.lobby_post.proofs.delivery.make_room.Goals as goal
 use Rattle.lobby_post.proofs.delivery.make_room.Goals.{in-Some+in-Ok, in_default}
 
@@ -11,6 +12,11 @@ pub returns-in-Err-clause-clients : goal.returns-in-Err-clause-clients
 returns-in-Err-clause-clients c =
     c.forget.ensures.clients ∙ plain_same _ c.in-Some.slot.now c.make_room.new.self c.loop-i.clients _
     refl c.in-Some.ensures.value c.make_room.ensures.client ∙ c.loop-i.invariant.clients
+
+pub returns-in-Err-clause-same_marks : goal.returns-in-Err-clause-same_marks
+returns-in-Err-clause-same_marks c =
+    c.forget.ensures.same_marks ∙ marks_same _ c.in-Some.slot.now c.make_room.new.self c.loop-i.clients _
+    refl c.in-Some.ensures.value c.make_room.ensures.client c.make_room.ensures.listed ∙ c.loop-i.invariant.marks
 
 pub returns-in-Err-clause-limits : goal.returns-in-Err-clause-limits
 returns-in-Err-clause-limits c = λ limit all.
@@ -40,6 +46,7 @@ loop-i-preserved c =
             ready = ready_next _ w.in-Some.slot.now w.make_room.new.self c.loop-i.clients _ written w.in-Some.ensures.value w.in-Ok.ensures.ready inv.ready;
             limits = λ limit all. limits_next limit _ w.in-Some.slot.now w.make_room.new.self c.loop-i.clients _ written w.in-Some.ensures.value w.make_room.ensures.limit (inv.limits limit all);
             clients = plain_same _ w.in-Some.slot.now w.make_room.new.self c.loop-i.clients _ refl w.in-Some.ensures.value w.make_room.ensures.client ∙ inv.clients;
+            marks = marks_same _ w.in-Some.slot.now w.make_room.new.self c.loop-i.clients _ refl w.in-Some.ensures.value w.make_room.ensures.client w.make_room.ensures.listed ∙ inv.marks;
           })
       | in_default w ↦
           let none = sym (none_of c.get_mut_at.result w.in_default.not-Some ∙ c.get_mut_at.ensures.value) in
@@ -49,5 +56,6 @@ loop-i-preserved c =
             ready = inv.ready;
             limits = inv.limits;
             clients = inv.clients;
+            marks = inv.marks;
           })
     ]

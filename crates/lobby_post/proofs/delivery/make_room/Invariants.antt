@@ -2,6 +2,7 @@ use Rattle.std.proofs.Common.{◌≡◌, ℕ, take, drop}
 use Rattle.std.specs.List.{AllByRecursion}
 use Rattle.lobby_post.specs.Pieces.{LiesIn, pieces_of}
 use Rattle.lobby_post.specs.Mail.{AreDue, AreReady, HaveLimit, plain}
+use Rattle.lobby_post.specs.Dirty.{marks_of}
 use Rattle.lobby_post.proofs.delivery.make_room.Given as goal
 
 abbrev pub invariant-loop-i : goal.invariant-loop-i
@@ -11,4 +12,5 @@ invariant-loop-i l = record {
   ready : AreReady l.clients;
   limits : (limit : ℕ) → HaveLimit limit l.initial.clients → HaveLimit limit l.clients;
   clients : plain l.clients ≡ plain l.initial.clients;
+  marks : marks_of l.clients ≡ marks_of l.initial.clients;
 }

@@ -1,7 +1,9 @@
 use Rattle.std.proofs.Common.{◌∙◌, ◌++◌, ap, sym, refl, length, min, take, drop, arith}
+use Rattle.lobby_model.specs.State.{Client}
 use Rattle.lobby_model.specs.Sessions.{drained}
 use Rattle.lobby_post.specs.Unread.{unread_in, is_over}
 use Rattle.lobby_post.proofs.Crowds.{written_through, plain-at, plain-none, plain-at-written, plain_changed, plain_unchanged, due_kept}
+use Rattle.lobby_post.proofs.Listed.{marks_kept}
 use Rattle.lobby_post.proofs.Rounds.{limits_next}
 use Rattle.lobby_post.proofs.clients.Clients.drain.Goals as goal
 
@@ -53,3 +55,18 @@ invariant_of-self c =
     limits_next c.self.inside.limit c.args.client c.in-Some.slot.now c.drain-count.new.self c.self.inside.slots _
     (written_through c.args.client c.in-Some.slot.now c.drain-count.new.self c.self.inside.slots c.in-Some.ensures.value)
     c.in-Some.ensures.value c.drain-count.ensures.limit c.self.invariant
+
+pub returns-in-Some-clause-marks : goal.returns-in-Some-clause-marks
+returns-in-Some-clause-marks c =
+    rw (← c.self.view_is)
+    (marks_kept c.args.client c.in-Some.slot.now c.drain-count.new.self c.self.inside.slots _ refl c.in-Some.ensures.value
+    (ap (λ (client : Client). client.home) c.drain-count.ensures.client) c.drain-count.ensures.listed)
+
+pub returns-in-Some-clause-lines : goal.returns-in-Some-clause-lines
+returns-in-Some-clause-lines c = rw (← c.self.view_is) refl
+
+pub returns-in-None-clause-marks : goal.returns-in-None-clause-marks
+returns-in-None-clause-marks c = rw (← c.self.view_is) refl
+
+pub returns-in-None-clause-lines : goal.returns-in-None-clause-lines
+returns-in-None-clause-lines c = rw (← c.self.view_is) refl

@@ -1,8 +1,9 @@
-use Rattle.std.proofs.Common.{◌∙◌, refl}
+use Rattle.std.proofs.Common.{◌∙◌, ap, refl}
 use Rattle.lobby_model.specs.declared.event.Phase.TheVariants.{Ended}
-use Rattle.lobby_model.specs.State.{in_phase}
+use Rattle.lobby_model.specs.State.{Client, in_phase}
 use Rattle.line_words.proofs.Ties.{none_of}
 use Rattle.lobby_post.proofs.Crowds.{written_through, due_kept, plain_changed, plain_unchanged}
+use Rattle.lobby_post.proofs.Listed.{marks_kept}
 use Rattle.lobby_post.proofs.Rounds.{ready_next, limits_next}
 use Rattle.lobby_post.proofs.clients.Clients.end.Goals as goal
 use Rattle.lobby_post.proofs.clients.Clients.end.Goals.{in-Some, in_default}
@@ -45,3 +46,19 @@ invariant_of-self c =
           w.in-Some.ensures.value w.end.ensures.limit c.self.invariant)
       | in_default w ↦ rw w.self-inside-is c.self.invariant
     ]
+
+pub returns-clause-marks : goal.returns-clause-marks
+returns-clause-marks c =
+    rw (← c.self.view_is) (elim c.match-get_mut.branch [
+      | in-Some w ↦ rw w.self-inside-is
+          (marks_kept c.args.client w.in-Some.slot.now w.end.new.self c.self.inside.slots _ refl w.in-Some.ensures.value
+          (ap (λ (client : Client). client.home) w.end.ensures.client) w.end.ensures.listed)
+      | in_default w ↦ rw w.self-inside-is refl
+    ])
+
+pub returns-clause-lines : goal.returns-clause-lines
+returns-clause-lines c =
+    rw (← c.self.view_is) (elim c.match-get_mut.branch [
+      | in-Some w ↦ rw w.self-inside-is refl
+      | in_default w ↦ rw w.self-inside-is refl
+    ])

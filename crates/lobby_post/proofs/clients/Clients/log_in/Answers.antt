@@ -1,10 +1,11 @@
 use Rattle.std.proofs.Common.{◌∙◌, ap, sym, refl}
 use Rattle.line_words.specs.Table.{at_number}
 use Rattle.lobby_model.specs.declared.event.Phase.TheVariants.{In}
-use Rattle.lobby_model.specs.State.{in_phase, is_live_client}
+use Rattle.lobby_model.specs.State.{Client, in_phase, is_live_client}
 use Rattle.lobby_post.specs.Mail.{Crowd, plain}
 use Rattle.line_words.proofs.Ties.{none_of}
 use Rattle.lobby_post.proofs.Crowds.{written_through, due_kept, plain-at, plain_changed, plain_unchanged}
+use Rattle.lobby_post.proofs.Listed.{marks_kept}
 use Rattle.lobby_post.proofs.Rounds.{ready_next, limits_next}
 use Rattle.lobby_post.proofs.clients.Clients.log_in.Goals as goal
 use Rattle.lobby_post.proofs.clients.Clients.log_in.Goals.{in-Some, in_default}
@@ -54,4 +55,20 @@ returns-clause-due c =
           (written_through c.args.client w.in-Some.slot.now w.log_in.new.self c.self.inside.slots w.in-Some.ensures.value)
           w.in-Some.ensures.value w.log_in.ensures.due all)
       | in_default w ↦ rw w.self-inside-is all
+    ])
+
+pub returns-clause-marks : goal.returns-clause-marks
+returns-clause-marks c =
+    rw (← c.self.view_is) (elim c.match-get_mut.branch [
+      | in-Some w ↦ rw w.self-inside-is
+          (marks_kept c.args.client w.in-Some.slot.now w.log_in.new.self c.self.inside.slots _ refl w.in-Some.ensures.value
+          (ap (λ (client : Client). client.home) w.log_in.ensures.client) w.log_in.ensures.listed)
+      | in_default w ↦ rw w.self-inside-is refl
+    ])
+
+pub returns-clause-lines : goal.returns-clause-lines
+returns-clause-lines c =
+    rw (← c.self.view_is) (elim c.match-get_mut.branch [
+      | in-Some w ↦ rw w.self-inside-is refl
+      | in_default w ↦ rw w.self-inside-is refl
     ])

@@ -2,6 +2,9 @@ use Rattle.std.proofs.Common.{◌∙◌, ap, sym, subst}
 use Rattle.lobby_post.specs.Mail.{Crowd, AreDue, AreReady, deliver, plain}
 use Rattle.lobby_post.specs.Pieces.{pieces_of}
 use Rattle.lobby_post.specs.Posted.{Posted}
+use Rattle.lobby_post.specs.Dirty.{IsNewly, Known, lines_of, marks_of, waits}
+use Rattle.lobby_post.proofs.Homes.{known_of_lines, known_of_lists}
+use Rattle.lobby_post.proofs.Newcomers.{newly_waits}
 use Rattle.lobby_post.proofs.post.Post.deliver.Goals as goal
 
 pub deliver-requires-clause-due : goal.deliver-requires-clause-due
@@ -22,3 +25,19 @@ returns-clause-clients c =
 
 pub invariant_of-clients : goal.invariant_of-clients
 invariant_of-clients c = c.deliver.ensures.limits c.clients.inside.limit c.clients.invariant
+
+pub returns-clause-known : goal.returns-clause-known
+returns-clause-known c = λ n known.
+    known_of_lines (marks_of c.deliver.new.clients) c.deliver.new.dirty n
+    (c.deliver.ensures.known n (known_of_lists (marks_of c.clients.inside.slots) c.clients.inside.dirty n
+    (subst (λ (m : Crowd). Known m n) (sym c.clients.view_is) known)))
+
+pub returns-clause-newly : goal.returns-clause-newly
+returns-clause-newly c = λ n home known small.
+    let inside = known_of_lists (marks_of c.clients.inside.slots) c.clients.inside.dirty n (subst (λ (m : Crowd). Known m n) (sym c.clients.view_is) known) in
+    let after : Crowd = record { limit = c.clients.inside.limit; slots = c.deliver.new.clients; lines = lines_of c.deliver.new.dirty } in
+    subst (λ (m : Crowd). IsNewly c.args.self.now.sent m.slots home (waits m home) (waits after home)) c.clients.view_is
+    (subst (λ ps. IsNewly ps c.clients.inside.slots home (waits (record { limit = c.clients.inside.limit; slots = c.clients.inside.slots; lines = lines_of c.clients.inside.dirty }) home) (waits after home))
+    ((λ i. pieces_of (c.deref.ensures.value i) (c.deref-2.ensures.value i)) ∙ ap (λ (p : Posted). p.sent) c.self.view_is)
+    (newly_waits _ c.clients.inside.slots home c.deliver.new.clients (c.deliver.ensures.homes home) c.clients.inside.dirty c.deliver.new.dirty small
+    (c.deliver.ensures.newly n home inside small)))

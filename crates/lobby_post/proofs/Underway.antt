@@ -1,0 +1,238 @@
+-- Delivery under way: those that it has touched stand apart, and the others are still to come.
+use Rattle.std.proofs.Common.{◌≡◌, ℕ, zero, suc, ◌+◌, ◌<◌, ◌≤◌, List, [], ◌∷◌, ◌++◌, length, refl, sym, ap, subst, ◌∙◌, Bool, true, false, not, cond, arith}
+use Rattle.std.specs.Prelude.{Some, None, ◌&&◌, ◌||◌, nat_le, if◌then◌else◌}
+use Rattle.std.specs.Ordering.{nat_cmp}
+use Rattle.std.specs.BTreeMap.{is_at}
+use Rattle.std.specs.Map.{lookup, set_value}
+use Rattle.line_words.specs.Table.{ByNumber, same_number}
+use Rattle.lobby_model.specs.State.{Client, is_live}
+use Rattle.lobby_model.specs.Next.{is_empty}
+use Rattle.lobby_model.proofs.Delivered.{same_number_is, same_itself}
+use Rattle.lobby_model.proofs.Splits.{same_either_way, lookup-values}
+use Rattle.lobby_post.specs.Mail.{Held, Line, bytes_for, put_first, touched}
+use Rattle.lobby_post.specs.Dirty.{AllMarks, AreKnown, IsNewly, IsSettled, idle_of, mark_of, marks_of, news, news_of, pushed, stands, times}
+use Rattle.lobby_post.proofs.Counts.{times-append}
+use Rattle.lobby_post.proofs.Crowds.{IsWritten, written_through}
+use Rattle.lobby_post.proofs.Idle.{idle_one, idle_written}
+use Rattle.lobby_post.proofs.Marks.{IsPut, marks_put, stands_same}
+use Rattle.lobby_post.proofs.Parcels.{own_piece, wake_first}
+use Rattle.lobby_post.proofs.Newly.{IsNext, first_of_and, less_idle, marks_next, more_listed, never_both, news_other, news_past, next_line, no_news, once, times_ordered}
+
+-- what holds between two pieces: all that are told, and those that are left
+pub record IsUnderway (whole rest : ByNumber (List ℕ)) (first slots : ByNumber Held) (before lines : ℕ → Line) (last : ℕ) : Type 0 where
+  pub homes : AllMarks (λ c mark. mark.home < 64) (marks_of slots)
+  pub marked : AllMarks (λ c mark. times c (lines mark.home).waiting + times c (lines mark.home).fresh ≡ (if mark.listed then 1 else 0)) (marks_of slots)
+  pub counted : (home : ℕ) → home < 64 → (lines home).idle ≡ idle_of home (marks_of slots)
+  pub waiting : (home : ℕ) → home < 64 → (lines home).waiting ≡ (before home).waiting
+  pub exact : (home c : ℕ) → home < 64 → times c (lines home).fresh + news rest slots home c ≡ news whole first home c
+  pub numbered : AllMarks (λ c mark. c ≤ last) (marks_of slots)
+
+-- before the first piece
+pub underway_first : (whole : ByNumber (List ℕ)) (first : ByNumber Held) (before : ℕ → Line) (last : ℕ) → AreKnown (marks_of first) before last
+    → IsUnderway whole whole first first before before last
+underway_first whole first before last known = record {
+  homes = known.homes;
+  marked = λ c mark found.
+      let none = ap (times c) (known.settled mark.home (known.homes c mark found)) in
+      let one = known.marked c mark found in
+      omega (arith, none, one);
+  counted = known.counted;
+  waiting = λ home small. refl;
+  exact = λ home c small. let none = ap (times c) (known.settled home small) in omega (arith, none);
+  numbered = known.numbered;
+}
+
+home_kept : (limit due : ℕ) (bytes : List ℕ) (client : Client) → (put_first limit due bytes client).home ≡ client.home
+home_kept limit due bytes client =
+    elim (is_live client && not (is_empty bytes)) as (λ b. (if b then (if nat_le (length client.unread + due) limit then record client { unread = client.unread ++ bytes } else record client { cut = true; unread = [] }) else client).home ≡ client.home) [
+      | true ↦ elim (nat_le (length client.unread + due) limit) as (λ b. (if b then record client { unread = client.unread ++ bytes } else record client { cut = true; unread = [] }).home ≡ client.home) [
+        | true ↦ refl
+        | false ↦ refl
+      ]
+      | false ↦ refl
+    ]
+
+-- one piece put to its client
+module _ (c : ℕ) (bytes : List ℕ) (x w : Held) (es : ByNumber Held) (found : Some x ≡ lookup (is_at (nat_cmp c)) es)
+    (made : w.client ≡ put_first x.limit x.due bytes x.client) (listed : w.listed ≡ (x.listed || touched bytes x.client)) where
+  abbrev es_next : ByNumber Held
+  es_next = set_value (is_at (nat_cmp c)) es w
+
+  abbrev now_fresh : ℕ → Bool
+  now_fresh home = same_number x.client.home home && (not x.listed && touched bytes x.client)
+
+  same_home : w.client.home ≡ x.client.home
+  same_home = ap (λ (k : Client). k.home) made ∙ home_kept x.limit x.due bytes x.client
+
+  mark_found : lookup (is_at (nat_cmp c)) (marks_of es) ≡ Some (mark_of x)
+  mark_found = lookup-values mark_of (is_at (nat_cmp c)) x es (sym found)
+
+  written : IsWritten c w es es_next
+  written = written_through c x w es found
+
+  put_mark : IsPut c (mark_of w) (marks_of es) (marks_of es_next)
+  put_mark = marks_put c w es es_next written
+
+  -- each client stays at its worker
+  pub stands_next : (home q : ℕ) → stands (marks_of es_next) home q ≡ stands (marks_of es) home q
+  stands_next home q = stands_same c (marks_of es) (marks_of es_next) home (mark_of x) (mark_of w) mark_found same_home put_mark q
+
+  module _ (rest : ByNumber (List ℕ)) where
+    -- the news of the piece's own client
+    news_own : (home : ℕ) → (if now_fresh home then 1 else 0) + news_of rest home c (Some w) ≡ news_of ((c, bytes) ∷ rest) home c (Some x)
+    news_own home =
+        let both = ap (λ k. (same_number x.client.home home && touched bytes x.client) || (same_number k.home home && touched (bytes_for rest c) k)) made
+        ∙ wake_first home x.limit x.due x.client bytes (bytes_for rest c) in
+        ap (λ l. (if now_fresh home then 1 else 0) + (if same_number w.client.home home && (not l && touched (bytes_for rest c) w.client) then 1 else 0)) listed
+        ∙ once (same_number x.client.home home) x.listed (touched bytes x.client) (same_number w.client.home home) (touched (bytes_for rest c) w.client)
+        (touched (bytes ++ bytes_for rest c) x.client) both
+        ∙ ap (λ b. if same_number x.client.home home && (not x.listed && touched b x.client) then 1 else 0) (sym (own_piece c bytes rest))
+
+    news_next : (home q : ℕ) → (if same_number q c && now_fresh home then 1 else 0) + news rest es_next home q ≡ news ((c, bytes) ∷ rest) es home q
+    news_next home q =
+        elim (same_number c q) as (λ b. same_number c q ≡ b → (if same_number q c && now_fresh home then 1 else 0) + news rest es_next home q
+        ≡ news ((c, bytes) ∷ rest) es home q) [
+          | true ↦ λ t. subst (λ k. (if same_number k c && now_fresh home then 1 else 0) + news rest es_next home k ≡ news ((c, bytes) ∷ rest) es home k)
+              (same_number_is c q t)
+              ((λ i. (if same_itself c i && now_fresh home then 1 else 0)
+              + news_of rest home c ((written c ∙ ap (λ b. cond b (Some w) (lookup (is_at (nat_cmp c)) es)) (same_itself c)) i))
+              ∙ news_own home ∙ ap (news_of ((c, bytes) ∷ rest) home c) found)
+          | false ↦ λ t.
+              let apart : same_number q c ≡ false = same_either_way q c ∙ t in
+              let none = never_both (now_fresh home) (same_number q c) apart in
+              let same = ap (news_of rest home q) (written q ∙ ap (λ b. cond b (Some w) (lookup (is_at (nat_cmp q)) es)) t)
+              ∙ news_other c bytes rest home q apart (lookup (is_at (nat_cmp q)) es) in
+              omega (arith, none, same)
+        ] refl
+
+    module _ (whole : ByNumber (List ℕ)) (first : ByNumber Held) (before lines lines_next : ℕ → Line) (last : ℕ)
+        (put : (h : ℕ) → lines_next h ≡ (if now_fresh h then pushed c (lines h) else lines h))
+        (now : IsUnderway whole ((c, bytes) ∷ rest) first es before lines last) where
+      idle_next : (home : ℕ) → idle_of home (marks_of es_next) + (if now_fresh home then 1 else 0) ≡ idle_of home (marks_of es)
+      idle_next home =
+          let both = idle_written home c es es_next x w refl (sym found) in
+          let own : idle_one home w ≡ (if same_number x.client.home home && not (x.listed || touched bytes x.client) then 1 else 0) =
+          λ i. if same_number (same_home i) home && not (listed i) then 1 else 0 in
+          let less = less_idle (same_number x.client.home home) x.listed (touched bytes x.client) in
+          omega (arith, both, own, less)
+
+      small_home : x.client.home < 64
+      small_home = now.homes c (mark_of x) mark_found
+
+      has_idle : (home : ℕ) → now_fresh home ≡ true → 1 ≤ (lines home).idle
+      has_idle home t =
+          let same : x.client.home ≡ home = same_number_is x.client.home home (first_of_and (same_number x.client.home home) _ t) in
+          let small : home < 64 = subst (λ h. h < 64) same small_home in
+          let more = idle_next home in
+          let one : ◌≡◌ {A = ℕ} (if now_fresh home then 1 else 0) 1 = ap (λ b. if b then 1 else 0) t in
+          let all = now.counted home small in
+          omega (arith, more, one, all)
+
+      next : (home : ℕ) → IsNext (now_fresh home) c (lines home) (lines_next home)
+      next home = subst (IsNext (now_fresh home) c (lines home)) (sym (put home)) (next_line (now_fresh home) c (lines home) (has_idle home))
+
+      pub underway_next : IsUnderway whole rest first es_next before lines_next last
+      underway_next = record {
+        homes = marks_next (λ q mark. mark.home < 64) (λ q mark. mark.home < 64) c (mark_of x) (mark_of w) (marks_of es) (marks_of es_next) mark_found put_mark
+            (λ q mark apart h. h) (λ h. subst (λ n. n < 64) (sym same_home) h) now.homes;
+        marked = marks_next (λ q mark. times q (lines mark.home).waiting + times q (lines mark.home).fresh ≡ (if mark.listed then 1 else 0))
+            (λ q mark. times q (lines_next mark.home).waiting + times q (lines_next mark.home).fresh ≡ (if mark.listed then 1 else 0))
+            c (mark_of x) (mark_of w) (marks_of es) (marks_of es_next) mark_found put_mark
+            (λ q mark apart h.
+            let n = next mark.home in
+            let a = ap (times q) n.waiting in
+            let b = n.fresh q in
+            let none = never_both (now_fresh mark.home) (same_number q c) apart in
+            omega (arith, h, a, b, none))
+            (λ h.
+            let n = next x.client.home in
+            let a = ap (times c) n.waiting in
+            let b = n.fresh c in
+            let own : ◌≡◌ {A = ℕ} (if same_number c c && now_fresh x.client.home then 1 else 0) (if not x.listed && touched bytes x.client then 1 else 0) =
+            λ i. if same_itself c i && (same_itself x.client.home i && (not x.listed && touched bytes x.client)) then 1 else 0 in
+            let more = more_listed x.listed (touched bytes x.client) in
+            let all : times c (lines_next x.client.home).waiting + times c (lines_next x.client.home).fresh
+            ≡ (if x.listed || touched bytes x.client then 1 else 0) = omega (arith, h, a, b, own, more) in
+            ap (λ k. times c (lines_next k).waiting + times c (lines_next k).fresh) same_home ∙ all ∙ ap (λ l. if l then 1 else 0) (sym listed))
+            now.marked;
+        counted = λ home small.
+            let n = (next home).idle in
+            let i = idle_next home in
+            let all = now.counted home small in
+            omega (arith, n, i, all);
+        waiting = λ home small. (next home).waiting ∙ now.waiting home small;
+        exact = λ home q small.
+            let n = (next home).fresh q in
+            let k = news_next home q in
+            let e = now.exact home q small in
+            omega (arith, n, k, e);
+        numbered = marks_next (λ q mark. q ≤ last) (λ q mark. q ≤ last) c (mark_of x) (mark_of w) (marks_of es) (marks_of es_next) mark_found put_mark
+            (λ q mark apart h. h) (λ h. h) now.numbered;
+      }
+
+-- a piece for nobody
+pub underway_past : (c : ℕ) (bytes : List ℕ) (rest whole : ByNumber (List ℕ)) (first es : ByNumber Held) (before lines : ℕ → Line) (last : ℕ)
+    → lookup (is_at (nat_cmp c)) es ≡ None → IsUnderway whole ((c, bytes) ∷ rest) first es before lines last → IsUnderway whole rest first es before lines last
+underway_past c bytes rest whole first es before lines last none now = record {
+  homes = now.homes;
+  marked = now.marked;
+  counted = now.counted;
+  waiting = now.waiting;
+  exact = λ home q small. ap (λ n. times q (lines home).fresh + n) (news_past c bytes rest es none home q) ∙ now.exact home q small;
+  numbered = now.numbered;
+}
+
+-- at the end
+nothing_new : (es : ByNumber Held) (home q : ℕ) → news [] es home q ≡ 0
+nothing_new es home q = elim (lookup (is_at (nat_cmp q)) es) as (λ o. news_of [] home q o ≡ 0) [
+  | None ↦ refl
+  | Some held ↦ no_news (same_number held.client.home home) held.listed (is_live held.client)
+]
+
+news_numbered : (pieces : ByNumber (List ℕ)) (es : ByNumber Held) (last home q : ℕ) → AllMarks (λ c mark. c ≤ last) (marks_of es) → 0 < news pieces es home q → q ≤ last
+news_numbered pieces es last home q all more =
+    elim (lookup (is_at (nat_cmp q)) es) as (λ o. lookup (is_at (nat_cmp q)) es ≡ o → 0 < news_of pieces home q o → q ≤ last) [
+      | None ↦ λ e m. absurd (omega (arith, m))
+      | Some held ↦ λ e m. all q (mark_of held) (lookup-values mark_of (is_at (nat_cmp q)) held es e)
+    ] refl more
+
+module _ (whole : ByNumber (List ℕ)) (first es : ByNumber Held) (before lines settled : ℕ → Line) (last : ℕ) (known : AreKnown (marks_of first) before last)
+    (now : IsUnderway whole [] first es before lines last) (ends : (h : ℕ) → IsSettled (lines h) (settled h)) where
+  exact_end : (home q : ℕ) → home < 64 → times q (ends home).behind ≡ news whole first home q
+  exact_end home q small =
+      let a = times_ordered q (lines home).fresh (ends home).behind (ends home).same in
+      let b = now.exact home q small in
+      let c = nothing_new es home q in
+      omega (arith, a, b, c)
+
+  all_waiting : (home q : ℕ) → times q (settled home).waiting ≡ times q (lines home).waiting + times q (ends home).behind
+  all_waiting home q = ap (times q) (ends home).waiting ∙ times-append q (lines home).waiting (ends home).behind
+
+  pub newly_end : (home : ℕ) → home < 64 → IsNewly whole first home (before home).waiting (settled home).waiting
+  newly_end home small = record {
+    behind = (ends home).behind;
+    waiting = (ends home).waiting ∙ ap (λ ws. ws ++ (ends home).behind) (now.waiting home small);
+    rising = (ends home).rising;
+    exact = λ q. exact_end home q small;
+  }
+
+  pub known_end : AreKnown (marks_of es) settled last
+  known_end = record {
+    homes = now.homes;
+    marked = λ q mark found.
+        let a = all_waiting mark.home q in
+        let b = times_ordered q (lines mark.home).fresh (ends mark.home).behind (ends mark.home).same in
+        let c = now.marked q mark found in
+        omega (arith, a, b, c);
+    counted = λ home small. (ends home).idle ∙ now.counted home small;
+    settled = λ home small. (ends home).fresh;
+    numbered = now.numbered;
+    past = λ home q small more.
+        let a = all_waiting home q in
+        let b = ap (times q) (now.waiting home small) in
+        let e = exact_end home q small in
+        elim (times q (before home).waiting) as (λ n. times q (before home).waiting ≡ n → q ≤ last) [
+          | zero ↦ λ t. news_numbered whole first last home q known.numbered (omega (arith, more, a, b, e, t))
+          | suc n ↦ λ t. known.past home q small (omega (arith, t))
+        ] refl;
+  }

@@ -1,0 +1,148 @@
+-- Which clients were touched and wait to be looked after.
+use Rattle.std.specs.Prelude.{◌≡◌, ℕ, zero, suc, ◌+◌, ◌-◌, ◌≤◌, ◌<◌, Bool, true, false, not, ◌&&◌, nat_le, if◌then◌else◌, List, [], ◌∷◌, ◌++◌, filter, length, slice_index_or, IfSome, IfNone, Option, Some, None}
+use Rattle.std.specs.List.Sorted.{IsSorted, IsPermutation}
+use Rattle.std.specs.Option.{option_to_list}
+use Rattle.std.specs.Ordering.{nat_cmp}
+use Rattle.std.specs.BTreeMap.{is_at}
+use Rattle.std.specs.Map.{lookup}
+use Rattle.line_words.specs.Table.{ByNumber, map_values, same_number}
+use Rattle.lobby_post.specs.Mail.{Held, Line, Crowd, bytes_for, touched}
+
+-- a line, and for how many more clients there is room in it
+pub record Roomy : Type 0 where
+  pub line : Line
+  pub room : ℕ
+
+abbrev pub none_waits : Line
+none_waits = record { waiting = []; fresh = []; idle = 0 }
+
+abbrev pub no_list : Roomy
+no_list = record { line = none_waits; room = 0 }
+
+-- the list of a worker, and its line
+abbrev pub list_of : List Roomy → ℕ → Roomy
+list_of lists home = slice_index_or lists home no_list
+
+abbrev pub line_of : List Roomy → ℕ → Line
+line_of lists home = (list_of lists home).line
+
+-- a client is new, behind the others
+abbrev pub added : ℕ → Line → Line
+added client line = record line { waiting = line.waiting ++ client ∷ [] }
+
+-- the event at hand touches a client that does not wait
+abbrev pub pushed : ℕ → Line → Line
+pushed client line = if nat_le 1 line.idle then record line { fresh = line.fresh ++ client ∷ []; idle = line.idle - 1 } else line
+
+-- those that an event touched stand behind the others, in rising order
+pub record IsSettled (old new : Line) : Type 0 where
+  pub behind : List ℕ
+  pub waiting : new.waiting ≡ old.waiting ++ behind
+  pub same : IsPermutation old.fresh behind
+  pub rising : IsSorted nat_cmp behind
+  pub fresh : new.fresh ≡ []
+  pub idle : new.idle ≡ old.idle
+
+-- how often a number stands in a list
+abbrev pub times : ℕ → List ℕ → ℕ
+times c [] = 0
+times c (d ∷ ds) = (if same_number c d then 1 else 0) + times c ds
+
+-- numbers that do not pass a test may have been left out
+pub record IsTrimmed (p : ℕ → Bool) (old new : List ℕ) : Type 0 where
+  pub kept : filter p new ≡ filter p old
+  pub counted : (c : ℕ) → p c ≡ true → times c new ≡ times c old
+  pub fewer : (c : ℕ) → times c new ≤ times c old
+
+-- a client that waited, or did not, is gone
+pub record IsLeft (listed : Bool) (p : ℕ → Bool) (old new : Line) : Type 0 where
+  pub waiting : IsTrimmed p old.waiting new.waiting
+  pub fresh : new.fresh ≡ old.fresh
+  pub idle : new.idle ≡ (if listed then old.idle else old.idle - 1)
+
+-- the first that passes a test is taken out, and does not wait any more; there is none only where nobody is left
+pub record IsServed (p : ℕ → Bool) (result : Option ℕ) (old new : Line) : Type 0 where
+  pub first : IsTrimmed p old.waiting (option_to_list result ++ new.waiting)
+  pub passes : IfSome result (λ c. p c ≡ true)
+  pub nobody : IfNone result (new.waiting ≡ [])
+  pub fresh : new.fresh ≡ old.fresh
+  pub idle : new.idle ≡ length (option_to_list result) + old.idle
+
+-- what the lists say of a client: its worker, and whether it stands in that worker's list
+pub record Mark : Type 0 where
+  pub home : ℕ
+  pub listed : Bool
+
+abbrev pub mark_of : Held → Mark
+mark_of held = record { home = held.client.home; listed = held.listed }
+
+abbrev pub marks_of : ByNumber Held → ByNumber Mark
+marks_of slots = map_values (λ c held. mark_of held) slots
+
+-- a client is there and this worker's
+abbrev pub is_of : ℕ → Option Mark → Bool
+is_of home None = false
+is_of home (Some mark) = same_number mark.home home
+
+abbrev pub stands : ByNumber Mark → ℕ → ℕ → Bool
+stands marks home c = is_of home (lookup (is_at (nat_cmp c)) marks)
+
+-- a client of this worker stands in no list
+abbrev pub is_idle : ℕ → Mark → Bool
+is_idle home mark = same_number mark.home home && not mark.listed
+
+abbrev pub idle_of : ℕ → ByNumber Mark → ℕ
+idle_of home marks = length (filter (λ e. is_idle home e.1) marks)
+
+-- something holds of the mark of each client
+abbrev pub AllMarks : (ℕ → Mark → Type 0) → ByNumber Mark → Type 0
+AllMarks P marks = (c : ℕ) (mark : Mark) → lookup (is_at (nat_cmp c)) marks ≡ Some mark → P c mark
+
+-- Between two events: each client waits in its worker's line once where its mark says so, and else not; it is known how many of a
+-- worker's clients do not; and no number beyond the last was given to a client or stands in a line, so that none comes back
+pub record AreKnown (marks : ByNumber Mark) (lines : ℕ → Line) (last : ℕ) : Type 0 where
+  pub homes : AllMarks (λ c mark. mark.home < 64) marks
+  pub marked : AllMarks (λ c mark. times c (lines mark.home).waiting ≡ (if mark.listed then 1 else 0)) marks
+  pub counted : (home : ℕ) → home < 64 → (lines home).idle ≡ idle_of home marks
+  pub settled : (home : ℕ) → home < 64 → (lines home).fresh ≡ []
+  pub numbered : AllMarks (λ c mark. c ≤ last) marks
+  pub past : (home c : ℕ) → home < 64 → 0 < times c (lines home).waiting → c ≤ last
+
+-- a thing for each of the first n workers
+abbrev pub for_homes : {X : Type 0} → ℕ → (ℕ → X) → List X
+for_homes zero f = []
+for_homes (suc n) f = for_homes n f ++ f n ∷ []
+
+-- the lines of the 64 workers, and the line of one
+unfoldable pub lines_of : List Roomy → List Line
+lines_of lists = for_homes 64 (line_of lists)
+
+abbrev pub line_at : List Line → ℕ → Line
+line_at lines home = slice_index_or lines home none_waits
+
+-- 1 for a client of a worker that these pieces touch and that does not wait yet, else 0
+abbrev pub news_of : ByNumber (List ℕ) → ℕ → ℕ → Option Held → ℕ
+news_of pieces home c None = 0
+news_of pieces home c (Some held) = if same_number held.client.home home && (not held.listed && touched (bytes_for pieces c) held.client) then 1 else 0
+
+abbrev pub news : ByNumber (List ℕ) → ByNumber Held → ℕ → ℕ → ℕ
+news pieces slots home c = news_of pieces home c (lookup (is_at (nat_cmp c)) slots)
+
+-- Behind those that wait stand the clients of a worker that these pieces touch and that did not wait yet, each once, in rising numbers
+pub record IsNewly (pieces : ByNumber (List ℕ)) (slots : ByNumber Held) (home : ℕ) (old new : List ℕ) : Type 0 where
+  pub behind : List ℕ
+  pub waiting : new ≡ old ++ behind
+  pub rising : IsSorted nat_cmp behind
+  pub exact : (c : ℕ) → times c behind ≡ news pieces slots home c
+
+-- the same of all clients
+abbrev pub Known : Crowd → ℕ → Type 0
+Known crowd last = AreKnown (marks_of crowd.slots) (line_at crowd.lines) last
+
+-- the clients of a worker that wait and are there
+abbrev pub waits : Crowd → ℕ → List ℕ
+waits crowd home = filter (stands (marks_of crowd.slots) home) (line_at crowd.lines home).waiting
+
+-- those of a list but this one
+abbrev pub all_but_client : ℕ → List ℕ → List ℕ
+all_but_client client clients = filter (λ c. not (same_number client c)) clients
