@@ -38,3 +38,8 @@ module _ {X : Type 0} (r : Result ℕ X) (s t n : State) (e : Event) (post : Pos
   pub on_wakes : IfOk r (λ wakes. (e : Event) → effect s e ≡ t → Matches s e post → IsWakes s e wakes) → IfOk r (λ wakes. IsWakes s e wakes)
   on_wakes h = elim r as (λ r. IfOk r (λ wakes. (e : Event) → effect s e ≡ t → Matches s e post → IsWakes s e wakes)
       → IfOk r (λ wakes. IsWakes s e wakes)) [ Ok w ↦ λ f. f e is matches | Err x ↦ λ f. tt ] h
+
+pub on_dirty : {X : Type 0} (r : Result ℕ X) (s t : State) (e : Event) (post : Posted) (P : Event → Type 0) → effect s e ≡ t → Matches s e post
+    → OnOk r ((e : Event) → effect s e ≡ t → Matches s e post → P e) → OnOk r (P e)
+on_dirty r s t e post P is matches h = elim r as (λ r. OnOk r ((e : Event) → effect s e ≡ t → Matches s e post → P e)
+    → OnOk r (P e)) [ Ok w ↦ λ f. f e is matches | Err x ↦ λ f. tt ] h

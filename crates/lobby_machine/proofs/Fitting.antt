@@ -9,6 +9,7 @@ use Rattle.lobby_machine.specs.declared.change.Change.TheVariants.{Nothing, Stat
 use Rattle.lobby_machine.specs.declared.battles.BattleChange.TheVariants as battle
 use Rattle.lobby_machine.specs.declared.battles.BattleChange.TheVariants.{Open, Update, InRoom}
 use Rattle.lobby_machine.specs.Changes.{CanBe, last_after}
+use Rattle.lobby_post.specs.Dirty.{Known}
 use Rattle.lobby_post.specs.Mail.{Crowd, AreDue, plain, deliver}
 use Rattle.lobby_machine.specs.Seats.{Agree, IsListed, Numbered, Fit}
 use Rattle.lobby_machine.specs.Battles.{AreSeated}
@@ -16,29 +17,31 @@ use Rattle.lobby_machine.proofs.Agreed.{agree_kept, listed_kept, name_delivered,
 
 -- clients that are as they were
 pub fit_same : (limit : ℕ) (es fs : Crowd) (seats : ByName Seat) (numbers : List ℕ) (last : ℕ) (battles : ByNumber Battle) (last_battle : ℕ) → plain fs.slots ≡ plain es.slots
-    → fs.limit ≡ es.limit → AreDue [] fs.slots → Fit limit es seats numbers last battles last_battle
+    → fs.limit ≡ es.limit → AreDue [] fs.slots → Known fs last → Fit limit es seats numbers last battles last_battle
     → Fit limit fs seats numbers last battles last_battle
-fit_same limit es fs seats numbers last battles last_battle same limits rest fit = record {
+fit_same limit es fs seats numbers last battles last_battle same limits rest known fit = record {
   limited = limits ∙ fit.limited;
   rest = rest;
   agree = subst (λ (m : ByNumber Client). Agree m seats) (sym same) fit.agree;
   listed = subst (λ (m : ByNumber Client). IsListed numbers m) (sym same) fit.listed;
   numbered = subst (λ (m : ByNumber Client). Numbered last m) (sym same) fit.numbered;
+  known = known;
   seated = fit.seated;
   counted = fit.counted;
 }
 
 -- clients to whom something was delivered
 pub fit_delivered : (limit : ℕ) (pieces : ByNumber (List ℕ)) (es fs : Crowd) (seats : ByName Seat) (numbers : List ℕ) (last : ℕ) (battles : ByNumber Battle) (last_battle : ℕ) → fs.limit ≡ limit
-    → plain fs.slots ≡ deliver es.limit pieces (plain es.slots) → AreDue [] fs.slots
+    → plain fs.slots ≡ deliver es.limit pieces (plain es.slots) → AreDue [] fs.slots → Known fs last
     → Agree (plain es.slots) seats → IsListed numbers (plain es.slots) → Numbered last (plain es.slots) → AreSeated battles seats → last_battle ≤ 2147483647
     → Fit limit fs seats numbers last battles last_battle
-fit_delivered limit pieces es fs seats numbers last battles last_battle limited is rest agree listed numbered seated counted = record {
+fit_delivered limit pieces es fs seats numbers last battles last_battle limited is rest known agree listed numbered seated counted = record {
   limited = limited;
   rest = rest;
   agree = agree_kept (plain es.slots) (plain fs.slots) seats (name_delivered es.limit pieces (plain es.slots) (plain fs.slots) is) agree;
   listed = listed_kept (plain es.slots) (plain fs.slots) numbers (name_delivered es.limit pieces (plain es.slots) (plain fs.slots) is) listed;
   numbered = numbered_delivered es.limit pieces last (plain es.slots) (plain fs.slots) is numbered;
+  known = known;
   seated = seated;
   counted = counted;
 }

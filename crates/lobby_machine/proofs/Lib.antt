@@ -1,4 +1,7 @@
 pub mod Sorted
+pub mod Plain
+pub mod Lists
+pub mod Dirtied
 pub mod Countries
 pub mod Walks
 pub mod Applied

@@ -3,6 +3,7 @@ pub mod Battles
 pub mod Seats
 pub mod Parts
 pub mod Shown
+pub mod Dirty
 pub mod Subjects
 pub mod Talk
 pub mod Changes

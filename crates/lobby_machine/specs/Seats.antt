@@ -6,6 +6,7 @@ use Rattle.lobby_model.specs.Outcome.{is_named}
 use Rattle.lobby_machine.specs.declared.seats.Seat.{Seat}
 use Rattle.lobby_machine.specs.Battles.{AreSeated}
 use Rattle.lobby_post.specs.Posted.{has_number}
+use Rattle.lobby_post.specs.Dirty.{Known}
 use Rattle.lobby_post.specs.Mail.{Crowd, AreDue, plain}
 
 -- a seat as the plain lobby has it
@@ -63,13 +64,14 @@ IsSet c there was now = (d : ℕ) → has_number now d ≡ (if same_number c d t
 abbrev pub Numbered : ℕ → ByNumber Client → Type 0
 Numbered last clients = (c : ℕ) → is_some (at_number clients c) ≡ true → c ≤ last
 
--- How the maps fit together: outboxes have one limit and wait for nothing, users and clients agree, numbers are given once, and
--- users sit in their battles
+-- How the maps fit together: outboxes have one limit and wait for nothing, users and clients agree, numbers are given once, it is
+-- known who waits, and users sit in their battles
 pub record Fit (limit : ℕ) (clients : Crowd) (seats : ByName Seat) (numbers : List ℕ) (last : ℕ) (battles : ByNumber Battle) (last_battle : ℕ) : Type 0 where
   pub limited : clients.limit ≡ limit
   pub rest : AreDue [] clients.slots
   pub agree : Agree (plain clients.slots) seats
   pub listed : IsListed numbers (plain clients.slots)
   pub numbered : Numbered last (plain clients.slots)
+  pub known : Known clients last
   pub seated : AreSeated battles seats
   pub counted : last_battle ≤ 2147483647

@@ -1,5 +1,5 @@
 -- What contracts see of a lobby.
-use Rattle.std.specs.Prelude.{ℕ, Bool, List}
+use Rattle.std.specs.Prelude.{ℕ, Bool, List, [], slice_index_or}
 use Rattle.account_book.specs.Account.{Account}
 use Rattle.line_words.specs.Table.{ByName, ByNumber, at_number}
 use Rattle.channel_book.specs.Channels.{Channels}
@@ -20,9 +20,14 @@ lobby_of settings accounts clients users channels battles last_client last_battl
   last_battle = last_battle;
 }
 
--- the plain lobby that it stands for
+-- The plain lobby that it stands for, and for each of the 64 workers which of its clients changed and wait to be looked after
 pub record Shown : Type 0 where
   pub plain : State
+  pub dirty : List (List ℕ)
+
+-- those of one worker, the first first
+abbrev pub dirty_at : Shown → ℕ → List ℕ
+dirty_at lobby home = slice_index_or lobby.dirty home []
 
 -- what a client has not read; nothing, where there is no such client
 abbrev pub unread_of : State → ℕ → List ℕ

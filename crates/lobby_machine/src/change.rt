@@ -1,10 +1,12 @@
 //! What an event changes, once there is room for all that is told.
 
-ghost use Rattle.std.specs.Prelude.{◌≡◌, ℕ, List, OnOk, OnErr, option_copied};
+ghost use Rattle.std.specs.Prelude.{◌≡◌, ℕ, ◌≤◌, List, OnOk, OnErr, option_copied};
 ghost use Rattle.line_words.specs.Table.{ByNumber};
 ghost use Rattle.channel_book.specs.Channels.{all_left};
+ghost use Rattle.lobby_post.specs.Dirty.{waits, Known};
 ghost use Rattle.lobby_post.specs.Mail.{AreDue, AreReady, plain};
 ghost use Rattle.lobby_machine.specs.Battles.{AreSeated};
+ghost use Rattle.lobby_machine.specs.Dirty.{those_there};
 ghost use Rattle.lobby_machine.specs.Seats.{Agree, IsListed, users_of, where_some};
 ghost use Rattle.lobby_machine.specs.Changes.{CanBe, clients_after, users_after, channels_after, battles_after, last_after, left_own};
 
@@ -75,6 +77,8 @@ pub fn apply(
     ensures limit { clients.new.limit ≡ clients.old.limit }
     ensures due { (pieces : ByNumber (List ℕ)) → AreDue pieces clients.old.slots → AreDue pieces clients.new.slots }
     ensures ready { AreReady clients.old.slots → AreReady clients.new.slots }
+    ensures known { (last : ℕ) → Known clients.old last → Known clients.new last }
+    ensures waits { OnOk result ((home : ℕ) → home ≤ 63 → waits clients.new home ≡ those_there (plain clients.new.slots) (waits clients.old home)) }
     ensures err { OnErr result ((clients.new ≡ clients.old) × (seats.new.users.entries ≡ seats.old.users.entries) × (channels.new ≡ channels.old)
         × (battles.new.by_number.entries ≡ battles.old.by_number.entries) × (battles.new.last ≡ battles.old.last)) }
 {

@@ -1,14 +1,16 @@
 //! The lobby and its events.
 
-ghost use Rattle.std.specs.Prelude.{◌≡◌, ℕ, ◌+◌, ◌-◌, ◌^◌, ◌<◌, ◌≤◌, ◌↔◌, ◌++◌, length, take, drop, min, OnOk, OnErr, IfOk, IsTrue, true, false, is_some};
+ghost use Rattle.std.specs.Prelude.{◌≡◌, ℕ, ◌+◌, ◌-◌, ◌^◌, ◌<◌, ◌≤◌, ◌↔◌, [], ◌∷◌, ◌++◌, if◌then◌else◌, length, take, drop, min, OnOk, OnErr, IfNone, IfOk, IsTrue, true, false, is_some};
 ghost use Rattle.command_grammar.specs.Kinds.{keeps_kinds};
 ghost use Rattle.lobby_model.specs.declared.event.Event.TheVariants as event;
-ghost use Rattle.line_words.specs.Table.{at_number};
+ghost use Rattle.std.specs.Option.{option_to_list};
+ghost use Rattle.line_words.specs.Table.{at_number, same_number};
 ghost use Rattle.lobby_model.specs.State.{empty_lobby};
 ghost use Rattle.lobby_model.specs.Sessions.{has_place};
 ghost use Rattle.lobby_model.specs.Next.{next};
 ghost use Rattle.lobby_post.specs.Mail.{IsWakes};
-ghost use Rattle.lobby_machine.specs.Shown.{unread_of, is_finished};
+ghost use Rattle.lobby_machine.specs.Dirty.{DirtyAfter};
+ghost use Rattle.lobby_machine.specs.Shown.{dirty_at, unread_of, is_finished};
 
 use crate::maps::{Maps, Place};
 use account_book::AccountBook;
@@ -33,7 +35,8 @@ pub enum OpenError {
     Memory,
 }
 
-/// The lobby. Contracts see the plain lobby that it stands for.
+/// The lobby. Contracts see the plain lobby that it stands for, and for each worker which of its clients
+/// changed and wait to be looked after.
 #[derive(Drop)]
 pub struct Lobby {
     maps: Maps,
@@ -46,7 +49,7 @@ impl Model for Lobby {
 
     ghost Value = { Shown };
 
-    ghost view = { λ l. record { plain = l.maps } };
+    ghost view = { λ l. l.maps };
 }
 
 impl Lobby {
@@ -56,7 +59,8 @@ impl Lobby {
         settings: Settings,
         accounts: AccountBook,
     ) -> Result<Lobby, AllocError>
-        ensures { IfOk result (λ lobby. lobby.plain ≡ empty_lobby settings accounts) }
+        ensures plain { IfOk result (λ lobby. lobby.plain ≡ empty_lobby settings accounts) }
+        ensures dirty { IfOk result (λ lobby. (home : ℕ) → home ≤ 63 → dirty_at lobby home ≡ []) }
     {
         Ok(Lobby {
             maps: Maps::new(alloc, settings, accounts)?,
@@ -70,6 +74,7 @@ impl Lobby {
         requires { home ≤ 63 }
         ensures number { IfOk result (λ number. number ≡ self.old.plain.last_client + 1) }
         ensures ok { OnOk result ((has_place self.old.plain ≡ true) × (self.new.plain ≡ next self.old.plain (event.Open ip home))) }
+        ensures dirty { IfOk result (λ number. (worker : ℕ) → worker ≤ 63 → dirty_at self.new worker ≡ dirty_at self.old worker ++ (if same_number home worker then number ∷ [] else [])) }
         ensures full { (result ≡ Err OpenError.Full) ↔ (10000 ≤ length self.old.plain.clients) }
         ensures no_number { result ≡ Err OpenError.NoNumber → self.old.plain.last_client ≡ 18446744073709551615 }
         ensures no_place { has_place self.old.plain ≡ false → result ≡ Err OpenError.Memory → ⊥ }
@@ -90,6 +95,7 @@ impl Lobby {
         requires { IsTrue (keeps_kinds request.now.command) }
         ensures ok { OnOk result (self.new.plain ≡ next self.old.plain (event.Say client request.now)) }
         ensures wakes { IfOk result (λ wakes. IsWakes self.old.plain (event.Say client request.now) wakes) }
+        ensures dirty { OnOk result ((home : ℕ) → home ≤ 63 → DirtyAfter self.old.plain (event.Say client request.now) home (dirty_at self.old home) (dirty_at self.new home)) }
         ensures err { OnErr result (self.new ≡ self.old) }
     {
         let Some(me) = self.maps.issuer(client) else {
@@ -107,6 +113,7 @@ impl Lobby {
     pub fn shut(&mut self, client: u64) -> Result<Wakes, AllocError>
         ensures ok { OnOk result (self.new.plain ≡ next self.old.plain (event.Shut client)) }
         ensures wakes { IfOk result (λ wakes. IsWakes self.old.plain (event.Shut client) wakes) }
+        ensures dirty { OnOk result ((home : ℕ) → home ≤ 63 → DirtyAfter self.old.plain (event.Shut client) home (dirty_at self.old home) (dirty_at self.new home)) }
         ensures err { OnErr result (self.new ≡ self.old) }
     {
         let change = self.maps.close(client, &mut self.post)?;
@@ -120,8 +127,22 @@ impl Lobby {
         ensures given { into.new ≡ take result.count (unread_of self.old.plain client) ++ drop result.count into.old }
         ensures finished { result.finished ≡ is_finished self.new.plain client }
         ensures next { self.new.plain ≡ next self.old.plain (event.Drain client (length into.old)) }
+        ensures dirty { self.new.dirty ≡ self.old.dirty }
     {
         self.maps.drain(client, into)
+    }
+
+    /// Takes the first client out of the list of those clients of a worker that changed: that were
+    /// opened, gained bytes or were cut since they were last taken out, and are there. It takes no
+    /// memory, and is no event.
+    pub fn next_dirty(&mut self, home: u8) -> Option<u64>
+        requires { home ≤ 63 }
+        ensures plain { self.new.plain ≡ self.old.plain }
+        ensures first { dirty_at self.old home ≡ option_to_list result ++ dirty_at self.new home }
+        ensures nobody { IfNone result (dirty_at self.old home ≡ []) }
+        ensures others { (worker : ℕ) → worker ≤ 63 → same_number home worker ≡ false → dirty_at self.new worker ≡ dirty_at self.old worker }
+    {
+        self.maps.next_dirty(home)
     }
 
     /// Whether an open would get a number.

@@ -1,8 +1,9 @@
 //! The lobby's maps: how each audience is told, and how an event is carried out.
 
-ghost use Rattle.std.specs.Prelude.{◌≡◌, ℕ, ◌+◌, ◌-◌, ◌^◌, ◌<◌, ◌≤◌, ◌↔◌, [], ◌∷◌, ◌++◌, length, take, drop, min, OnOk, OnErr, IfOk, IfSome, true, is_some, Some, None, option_copied};
+ghost use Rattle.std.specs.Prelude.{◌≡◌, ℕ, ◌+◌, ◌-◌, ◌^◌, ◌<◌, ◌≤◌, ◌↔◌, [], ◌∷◌, ◌++◌, if◌then◌else◌, length, take, drop, min, OnOk, OnErr, IfNone, IfOk, IfSome, true, false, is_some, Some, None, option_copied};
 ghost use Rattle.std.specs.List.{IsDistinct};
-ghost use Rattle.line_words.specs.Table.{at_number, same_name};
+ghost use Rattle.std.specs.Option.{option_to_list};
+ghost use Rattle.line_words.specs.Table.{at_number, same_name, same_number};
 ghost use Rattle.reply_grammar.specs.Lent.{reply_of};
 ghost use Rattle.battle_room.specs.Room.{member_names};
 ghost use Rattle.lobby_model.specs.declared.event.Event.{Event};
@@ -17,7 +18,8 @@ ghost use Rattle.lobby_post.specs.Posted.{Told, but_issuer};
 ghost use Rattle.lobby_machine.specs.Answers.{Matches};
 ghost use Rattle.lobby_machine.specs.Battles.{IsOnly};
 ghost use Rattle.lobby_machine.specs.Changes.{CanBe, changed};
-ghost use Rattle.lobby_machine.specs.Shown.{unread_of, is_finished};
+ghost use Rattle.lobby_machine.specs.Dirty.{DirtyAfter, those_there};
+ghost use Rattle.lobby_machine.specs.Shown.{dirty_at, unread_of, is_finished};
 
 use crate::battle::Battle;
 use crate::battles::Battles;
@@ -49,7 +51,7 @@ pub enum Place {
     NoNumber,
 }
 
-/// The maps. Contracts see the plain lobby.
+/// The maps. Contracts see the plain lobby, and the lists of changed clients.
 #[derive(Drop)]
 pub struct Maps {
     pub(crate) alloc: Global,
@@ -67,15 +69,18 @@ pub struct Maps {
 impl Model for Maps {
     ghost use Rattle.std.specs.Prelude.{◌≡◌, None};
     ghost use Rattle.reply_grammar.specs.Replies.{printed_line};
-    ghost use Rattle.lobby_model.specs.State.{State};
     ghost use Rattle.lobby_model.specs.Sessions.{greeting};
     ghost use Rattle.lobby_post.specs.Mail.{plain};
+    ghost use Rattle.lobby_machine.specs.Dirty.{lists_of};
     ghost use Rattle.lobby_machine.specs.Seats.{users_of, Fit};
-    ghost use Rattle.lobby_machine.specs.Shown.{lobby_of};
+    ghost use Rattle.lobby_machine.specs.Shown.{lobby_of, Shown};
 
-    ghost Value = { State };
+    ghost Value = { Shown };
 
-    ghost view = { λ m. lobby_of m.settings m.accounts (plain m.clients.slots) (users_of m.seats.users.entries) m.channels m.battles.by_number.entries m.last_client m.battles.last };
+    ghost view = { λ m. record {
+      plain = lobby_of m.settings m.accounts (plain m.clients.slots) (users_of m.seats.users.entries) m.channels m.battles.by_number.entries m.last_client m.battles.last;
+      dirty = lists_of m.clients;
+    } };
 
     ghost invariant = { λ m. (m.greeting_line.items ≡ printed_line None (greeting m.settings)) × Fit m.settings.outbox_limit m.clients m.seats.users.entries m.seats.clients.keys m.last_client m.battles.by_number.entries m.battles.last };
 }
@@ -83,7 +88,8 @@ impl Model for Maps {
 impl Maps {
     /// The empty lobby.
     pub fn new(alloc: Global, settings: Settings, accounts: AccountBook) -> Result<Maps, AllocError>
-        ensures { IfOk result (λ maps. maps ≡ empty_lobby settings accounts) }
+        ensures plain { IfOk result (λ maps. maps.plain ≡ empty_lobby settings accounts) }
+        ensures dirty { IfOk result (λ maps. (home : ℕ) → home ≤ 63 → dirty_at maps home ≡ []) }
     {
         let greeting_line = greeting_of(alloc, &settings)?;
         Ok(Maps {
@@ -101,9 +107,9 @@ impl Maps {
 
     /// Whether an open would get a number.
     pub fn place(&self) -> Place
-        ensures full { (result ≡ Place.Full) ↔ (CLIENT_LIMIT ≤ length self.now.clients) }
-        ensures no_number { result ≡ Place.NoNumber → self.now.last_client ≡ 18446744073709551615 }
-        ensures free { (result ≡ Place.Free) ↔ (has_place self.now ≡ true) }
+        ensures full { (result ≡ Place.Full) ↔ (CLIENT_LIMIT ≤ length self.now.plain.clients) }
+        ensures no_number { result ≡ Place.NoNumber → self.now.plain.last_client ≡ 18446744073709551615 }
+        ensures free { (result ≡ Place.Free) ↔ (has_place self.now.plain ≡ true) }
     {
         if self.clients.len() >= CLIENT_LIMIT {
             Place::Full
@@ -117,9 +123,10 @@ impl Maps {
     /// Adds a client under the next number, with its greeting.
     pub fn open(&mut self, ip: [u8; 4], home: u8) -> Result<u64, AllocError>
         requires home { home < 64 }
-        requires place { has_place self.old ≡ true }
-        ensures number { IfOk result (λ number. number ≡ self.old.last_client + 1) }
-        ensures ok { OnOk result (self.new ≡ next self.old (event.Open ip home)) }
+        requires place { has_place self.old.plain ≡ true }
+        ensures number { IfOk result (λ number. number ≡ self.old.plain.last_client + 1) }
+        ensures ok { OnOk result (self.new.plain ≡ next self.old.plain (event.Open ip home)) }
+        ensures dirty { IfOk result (λ number. (worker : ℕ) → worker ≤ 63 → dirty_at self.new worker ≡ dirty_at self.old worker ++ (if same_number home worker then number ∷ [] else [])) }
         ensures err { OnErr result (self.new ≡ self.old) }
     {
         let number = self.last_client + 1;
@@ -130,8 +137,9 @@ impl Maps {
 
     /// A client that may give commands and get bytes: the name under which it is logged in, if it is.
     pub fn issuer(&self, client: u64) -> Option<Option<&NameBuf>>
-        ensures hears { is_some result ≡ hears self.now client }
-        ensures name { IfSome result (λ me. option_copied me ≡ name_of self.now client) }
+        ensures hears { is_some result ≡ hears self.now.plain client }
+        ensures name { IfSome result (λ me. option_copied me ≡ name_of self.now.plain client) }
+        ensures waiting { (home : ℕ) → home ≤ 63 → those_there self.now.plain.clients (dirty_at self.now home) ≡ dirty_at self.now home }
     {
         self.clients.heard(client)
     }
@@ -144,9 +152,10 @@ impl Maps {
         change: Change,
         post: &Post,
     ) -> Result<Wakes, AllocError>
-        requires { CanBe self.old.clients self.old.users self.old.channels self.old.battles client change }
-        ensures ok { OnOk result ((e : Event) → effect self.old e ≡ changed self.old client change → Matches self.old e post.now → self.new ≡ next self.old e) }
-        ensures wakes { IfOk result (λ wakes. (e : Event) → effect self.old e ≡ changed self.old client change → Matches self.old e post.now → IsWakes self.old e wakes) }
+        requires { CanBe self.old.plain.clients self.old.plain.users self.old.plain.channels self.old.plain.battles client change }
+        ensures ok { OnOk result ((e : Event) → effect self.old.plain e ≡ changed self.old.plain client change → Matches self.old.plain e post.now → self.new.plain ≡ next self.old.plain e) }
+        ensures wakes { IfOk result (λ wakes. (e : Event) → effect self.old.plain e ≡ changed self.old.plain client change → Matches self.old.plain e post.now → IsWakes self.old.plain e wakes) }
+        ensures dirty { OnOk result ((e : Event) → effect self.old.plain e ≡ changed self.old.plain client change → Matches self.old.plain e post.now → (home : ℕ) → home ≤ 63 → DirtyAfter self.old.plain e home (dirty_at self.old home) (dirty_at self.new home)) }
         ensures err { OnErr result (self.new ≡ self.old) }
     {
         match post.make_room(&mut self.clients) {
@@ -175,7 +184,7 @@ impl Maps {
 
     /// Tells all users.
     pub fn tell_all(&self, line: LentReply, post: &mut Post) -> Result<(), AllocError>
-        ensures { OnOk result (Told self.now post.old post.new (tell everyone (reply_of line.entry ∷ []) ∷ [])) }
+        ensures { OnOk result (Told self.now.plain post.old post.new (tell everyone (reply_of line.entry ∷ []) ∷ [])) }
     {
         post.write(line)?;
         self.seats.address_all(&self.clients, post)?;
@@ -184,7 +193,7 @@ impl Maps {
 
     /// Tells all users but the issuer.
     pub fn tell_others(&self, line: LentReply, post: &mut Post) -> Result<(), AllocError>
-        ensures { OnOk result (Told self.now post.old post.new (tell others (reply_of line.entry ∷ []) ∷ [])) }
+        ensures { OnOk result (Told self.now.plain post.old post.new (tell others (reply_of line.entry ∷ []) ∷ [])) }
     {
         post.write_for_others(line)?;
         self.seats.address_all(&self.clients, post)?;
@@ -200,7 +209,7 @@ impl Maps {
         post: &mut Post,
     ) -> Result<(), AllocError>
         requires { IsDistinct same_name names.now }
-        ensures { OnOk result (Told self.now post.old post.new (tell (users names.now) (reply_of line.entry ∷ []) ∷ [])) }
+        ensures { OnOk result (Told self.now.plain post.old post.new (tell (users names.now) (reply_of line.entry ∷ []) ∷ [])) }
     {
         post.write(line)?;
         self.seats
@@ -217,7 +226,7 @@ impl Maps {
         post: &mut Post,
     ) -> Result<(), AllocError>
         requires { IsDistinct same_name names.now }
-        ensures { OnOk result (Told self.now post.old post.new (tell (but_issuer (users names.now)) (reply_of line.entry ∷ []) ∷ [])) }
+        ensures { OnOk result (Told self.now.plain post.old post.new (tell (but_issuer (users names.now)) (reply_of line.entry ∷ []) ∷ [])) }
     {
         post.write_for_others(line)?;
         self.seats
@@ -233,7 +242,7 @@ impl Maps {
         line: LentReply,
         post: &mut Post,
     ) -> Result<(), AllocError>
-        ensures { OnOk result (Told self.now post.old post.new (tell (everyone_but (first.now ∷ second.now ∷ [])) (reply_of line.entry ∷ []) ∷ [])) }
+        ensures { OnOk result (Told self.now.plain post.old post.new (tell (everyone_but (first.now ∷ second.now ∷ [])) (reply_of line.entry ∷ []) ∷ [])) }
     {
         post.write(line)?;
         self.seats
@@ -243,7 +252,7 @@ impl Maps {
 
     /// Tells the members of a battle.
     pub fn tell_room(&self, room: &Room, line: LentReply, post: &mut Post) -> Result<(), AllocError>
-        ensures { OnOk result (Told self.now post.old post.new (tell (users (member_names room.now)) (reply_of line.entry ∷ []) ∷ [])) }
+        ensures { OnOk result (Told self.now.plain post.old post.new (tell (users (member_names room.now)) (reply_of line.entry ∷ []) ∷ [])) }
     {
         post.write(line)?;
         self.seats
@@ -258,7 +267,7 @@ impl Maps {
         line: LentReply,
         post: &mut Post,
     ) -> Result<(), AllocError>
-        ensures { OnOk result (Told self.now post.old post.new (tell (but_issuer (users (member_names room.now))) (reply_of line.entry ∷ []) ∷ [])) }
+        ensures { OnOk result (Told self.now.plain post.old post.new (tell (but_issuer (users (member_names room.now))) (reply_of line.entry ∷ []) ∷ [])) }
     {
         post.write_for_others(line)?;
         self.seats
@@ -268,10 +277,10 @@ impl Maps {
 
     /// The battle that a user is in, with its number.
     pub fn battle_of(&self, name: &NameBuf) -> Option<(u32, &Battle)>
-        ensures some { IfSome result (λ own. battle_of self.now name.now ≡ Some (own.0, own.1.now)) }
-        ensures only { IfSome result (λ own. IsOnly self.now.battles (Some own.0) name.now) }
-        ensures there { IfSome result (λ own. at_number self.now.battles own.0 ≡ Some own.1.now) }
-        ensures none { result ≡ None → battle_of self.now name.now ≡ None }
+        ensures some { IfSome result (λ own. battle_of self.now.plain name.now ≡ Some (own.0, own.1.now)) }
+        ensures only { IfSome result (λ own. IsOnly self.now.plain.battles (Some own.0) name.now) }
+        ensures there { IfSome result (λ own. at_number self.now.plain.battles own.0 ≡ Some own.1.now) }
+        ensures none { result ≡ None → battle_of self.now.plain name.now ≡ None }
     {
         // Its contract says that the numbers rise, which the proof wants.
         let _ = self.battles.by_number.len();
@@ -284,10 +293,10 @@ impl Maps {
 
     /// The same, by the number that the user's seat has.
     fn battle_by_seat(&self, name: &NameBuf) -> Option<(u32, &Battle)>
-        ensures some { IfSome result (λ own. battle_of self.now name.now ≡ Some (own.0, own.1.now)) }
-        ensures only { IfSome result (λ own. IsOnly self.now.battles (Some own.0) name.now) }
-        ensures there { IfSome result (λ own. at_number self.now.battles own.0 ≡ Some own.1.now) }
-        ensures none { result ≡ None → battle_of self.now name.now ≡ None }
+        ensures some { IfSome result (λ own. battle_of self.now.plain name.now ≡ Some (own.0, own.1.now)) }
+        ensures only { IfSome result (λ own. IsOnly self.now.plain.battles (Some own.0) name.now) }
+        ensures there { IfSome result (λ own. at_number self.now.plain.battles own.0 ≡ Some own.1.now) }
+        ensures none { result ≡ None → battle_of self.now.plain name.now ≡ None }
     {
         // Its contract says that the numbers rise, which the proof wants however this ends.
         let _ = self.battles.by_number.len();
@@ -303,7 +312,7 @@ impl Maps {
         line: LentReply,
         post: &mut Post,
     ) -> Result<(), AllocError>
-        ensures { OnOk result (Told self.now post.old post.new (tell (user name.now) (reply_of line.entry ∷ []) ∷ [])) }
+        ensures { OnOk result (Told self.now.plain post.old post.new (tell (user name.now) (reply_of line.entry ∷ []) ∷ [])) }
     {
         post.write(line)?;
         self.seats.address_user(name, post)?;
@@ -312,31 +321,43 @@ impl Maps {
 
     /// Takes bytes that a client has not read.
     pub fn drain(&mut self, client: u64, into: &mut [u8]) -> Drained
-        ensures count { result.count ≡ min (length (unread_of self.old client)) (length into.old) }
-        ensures given { into.new ≡ take result.count (unread_of self.old client) ++ drop result.count into.old }
-        ensures finished { result.finished ≡ is_finished self.new client }
-        ensures next { self.new ≡ next self.old (event.Drain client (length into.old)) }
+        ensures count { result.count ≡ min (length (unread_of self.old.plain client)) (length into.old) }
+        ensures given { into.new ≡ take result.count (unread_of self.old.plain client) ++ drop result.count into.old }
+        ensures finished { result.finished ≡ is_finished self.new.plain client }
+        ensures next { self.new.plain ≡ next self.old.plain (event.Drain client (length into.old)) }
+        ensures dirty { self.new.dirty ≡ self.old.dirty }
     {
         self.clients.drain(client, into)
     }
 
+    /// Takes the first client out of a worker's list of those that changed.
+    pub fn next_dirty(&mut self, home: u8) -> Option<u64>
+        requires { home < 64 }
+        ensures plain { self.new.plain ≡ self.old.plain }
+        ensures first { dirty_at self.old home ≡ option_to_list result ++ dirty_at self.new home }
+        ensures nobody { IfNone result (dirty_at self.old home ≡ []) }
+        ensures others { (worker : ℕ) → worker ≤ 63 → same_number home worker ≡ false → dirty_at self.new worker ≡ dirty_at self.old worker }
+    {
+        self.clients.next_dirty(home)
+    }
+
     /// The last client number given, 0 at first.
     pub fn last_client(&self) -> u64
-        ensures { result ≡ self.now.last_client }
+        ensures { result ≡ self.now.plain.last_client }
     {
         self.last_client
     }
 
     /// Whether a client is there.
     pub fn has_client(&self, client: u64) -> bool
-        ensures { result ≡ is_some (at_number self.now.clients client) }
+        ensures { result ≡ is_some (at_number self.now.plain.clients client) }
     {
         self.clients.contains(client)
     }
 
     /// How many bytes a client has not read.
     pub fn unread(&self, client: u64) -> usize
-        ensures count { result ≡ length (unread_of self.now client) }
+        ensures count { result ≡ length (unread_of self.now.plain client) }
         ensures small { result < 2 ^ 63 }
     {
         self.clients.unread(client)
@@ -344,8 +365,8 @@ impl Maps {
 
     /// Copies bytes that a client has not read into a slice, beginning `from` bytes behind the first.
     pub fn copy_unread(&self, client: u64, from: usize, into: &mut [u8]) -> usize
-        ensures count { result ≡ min (length (unread_of self.now client) - from) (length into.old) }
-        ensures given { into.new ≡ take result (drop from (unread_of self.now client)) ++ drop result into.old }
+        ensures count { result ≡ min (length (unread_of self.now.plain client) - from) (length into.old) }
+        ensures given { into.new ≡ take result (drop from (unread_of self.now.plain client)) ++ drop result into.old }
     {
         self.clients.copy_unread(client, from, into)
     }

@@ -40,10 +40,10 @@ impl Maps {
         command: &Command,
         post: &mut Post,
     ) -> Result<Change, AllocError>
-        requires hears { hears self.now client ≡ true }
-        requires me { option_copied me ≡ name_of self.now client }
+        requires hears { hears self.now.plain client ≡ true }
+        requires me { option_copied me ≡ name_of self.now.plain client }
         requires kinds { IsTrue (keeps_kinds command.now) }
-        ensures { IfOk result (λ change. Obeyed self.now client (begun client id) post.new change (answer self.now client (name_of self.now client) command.now)) }
+        ensures { IfOk result (λ change. Obeyed self.now.plain client (begun client id) post.new change (answer self.now.plain client (name_of self.now.plain client) command.now)) }
     {
         post.begin(client, id);
         match self.answer(client, me, command, post) {
@@ -64,11 +64,11 @@ impl Maps {
         command: &Command,
         post: &mut Post,
     ) -> Result<Change, Stop>
-        requires hears { hears self.now client ≡ true }
-        requires me { option_copied me ≡ name_of self.now client }
+        requires hears { hears self.now.plain client ≡ true }
+        requires me { option_copied me ≡ name_of self.now.plain client }
         requires kinds { IsTrue (keeps_kinds command.now) }
         requires issuer { post.old.issuer ≡ client }
-        ensures { Answers self.now client post.old post.new (answer self.now client (name_of self.now client) command.now) result }
+        ensures { Answers self.now.plain client post.old post.new (answer self.now.plain client (name_of self.now.plain client) command.now) result }
     {
         match command {
             Command::Blank
@@ -119,10 +119,10 @@ impl Maps {
         command: &Command,
         post: &mut Post,
     ) -> Result<Change, Stop>
-        requires hears { hears self.now client ≡ true }
-        requires me { option_copied me ≡ name_of self.now client }
+        requires hears { hears self.now.plain client ≡ true }
+        requires me { option_copied me ≡ name_of self.now.plain client }
         requires subject { subject_of command.now ≡ Session }
-        ensures { Answers self.now client post.old post.new (answer self.now client (name_of self.now client) command.now) result }
+        ensures { Answers self.now.plain client post.old post.new (answer self.now.plain client (name_of self.now.plain client) command.now) result }
     {
         match command {
             Command::Blank => Ok(Change::Nothing),
@@ -149,7 +149,7 @@ impl Maps {
         post: &mut Post,
     ) -> Result<Change, Stop>
         requires subject { subject_of command.now ≡ Channels }
-        ensures { Answers self.now client post.old post.new (answer self.now client (Some me.now) command.now) result }
+        ensures { Answers self.now.plain client post.old post.new (answer self.now.plain client (Some me.now) command.now) result }
     {
         match command {
             Command::Join { channel, .. } => self.join(client, me, channel, post),
@@ -176,10 +176,10 @@ impl Maps {
         command: &Command,
         post: &mut Post,
     ) -> Result<Change, Stop>
-        requires me { name_of self.now client ≡ Some me.now }
+        requires me { name_of self.now.plain client ≡ Some me.now }
         requires issuer { post.old.issuer ≡ client }
         requires subject { subject_of command.now ≡ Battles }
-        ensures { Answers self.now client post.old post.new (answer self.now client (Some me.now) command.now) result }
+        ensures { Answers self.now.plain client post.old post.new (answer self.now.plain client (Some me.now) command.now) result }
     {
         match command {
             Command::OpenBattle { .. } => self.open_battle(client, me, command, post),
@@ -226,7 +226,7 @@ impl Maps {
     ) -> Result<Change, Stop>
         requires kinds { IsTrue (keeps_kinds command.now) }
         requires subject { subject_of command.now ≡ Rooms }
-        ensures { Answers self.now client post.old post.new (answer self.now client (Some me.now) command.now) result }
+        ensures { Answers self.now.plain client post.old post.new (answer self.now.plain client (Some me.now) command.now) result }
     {
         match command {
             Command::AddBot {
@@ -273,7 +273,7 @@ impl Maps {
     ) -> Result<Change, Stop>
         requires kinds { IsTrue (keeps_kinds command.now) }
         requires subject { subject_of command.now ≡ Members }
-        ensures { Answers self.now client post.old post.new (answer self.now client (Some me.now) command.now) result }
+        ensures { Answers self.now.plain client post.old post.new (answer self.now.plain client (Some me.now) command.now) result }
     {
         match command {
             Command::Handicap { user, value } => {

@@ -20,8 +20,8 @@ use line_words::{NameBuf, Pair, WordBuf};
 impl Maps {
     /// A user who opens a battle is in none.
     pub fn may_open(&self, me: &NameBuf) -> Result<(), Stop>
-        ensures ok { IfOk result (λ _. battle_of self.now me.now ≡ None) }
-        ensures err { IfErr result (Refuses OpensInBattle (is_some (battle_of self.now me.now) ≡ true)) }
+        ensures ok { IfOk result (λ _. battle_of self.now.plain me.now ≡ None) }
+        ensures err { IfErr result (Refuses OpensInBattle (is_some (battle_of self.now.plain me.now) ≡ true)) }
     {
         match self.battle_of(me) {
             Some(_) => Err(Stop::Refused(Refusal::OpensInBattle)),
@@ -31,10 +31,10 @@ impl Maps {
 
     /// The number of the battle that is opened next.
     pub fn next_number(&self) -> Result<u32, Stop>
-        ensures ok { IfOk result (λ number. (self.now.last_battle == 2147483647) ≡ false) }
-        ensures number { IfOk result (λ number. number ≡ self.now.last_battle + 1) }
+        ensures ok { IfOk result (λ number. (self.now.plain.last_battle == 2147483647) ≡ false) }
+        ensures number { IfOk result (λ number. number ≡ self.now.plain.last_battle + 1) }
         ensures last { IfOk result (λ number. number ≤ 2147483647) }
-        ensures err { IfErr result (Refuses NoNumberLeft ((self.now.last_battle == 2147483647) ≡ true)) }
+        ensures err { IfErr result (Refuses NoNumberLeft ((self.now.plain.last_battle == 2147483647) ≡ true)) }
     {
         if self.battles.last >= LAST_NUMBER {
             Err(Stop::Refused(Refusal::NoNumberLeft))
@@ -45,8 +45,8 @@ impl Maps {
 
     /// A user who joins a battle is in none.
     pub fn may_join(&self, me: &NameBuf) -> Result<(), Stop>
-        ensures ok { IfOk result (λ _. battle_of self.now me.now ≡ None) }
-        ensures err { IfErr result (Refuses JoinsInBattle (is_some (battle_of self.now me.now) ≡ true)) }
+        ensures ok { IfOk result (λ _. battle_of self.now.plain me.now ≡ None) }
+        ensures err { IfErr result (Refuses JoinsInBattle (is_some (battle_of self.now.plain me.now) ≡ true)) }
     {
         match self.battle_of(me) {
             Some(_) => Err(Stop::Refused(Refusal::JoinsInBattle)),
@@ -56,8 +56,8 @@ impl Maps {
 
     /// The battle of a number.
     pub fn battle_numbered(&self, number: u32) -> Result<&Battle, Stop>
-        ensures ok { IfOk result (λ battle. at_number self.now.battles number ≡ Some battle.now) }
-        ensures err { IfErr result (Refuses NoSuchBattle (at_number self.now.battles number ≡ None)) }
+        ensures ok { IfOk result (λ battle. at_number self.now.plain.battles number ≡ Some battle.now) }
+        ensures err { IfErr result (Refuses NoSuchBattle (at_number self.now.plain.battles number ≡ None)) }
     {
         match self.battles.by_number.get(&number) {
             Some(battle) => Ok(battle),
@@ -67,9 +67,9 @@ impl Maps {
 
     /// The battle that a user is in, with its number.
     pub fn own_battle(&self, me: &NameBuf) -> Result<(u32, &Battle), Stop>
-        ensures ok { IfOk result (λ own. battle_of self.now me.now ≡ Some (own.0, own.1.now)) }
-        ensures there { IfOk result (λ own. at_number self.now.battles own.0 ≡ Some own.1.now) }
-        ensures err { IfErr result (Refuses NotInBattle (battle_of self.now me.now ≡ None)) }
+        ensures ok { IfOk result (λ own. battle_of self.now.plain me.now ≡ Some (own.0, own.1.now)) }
+        ensures there { IfOk result (λ own. at_number self.now.plain.battles own.0 ≡ Some own.1.now) }
+        ensures err { IfErr result (Refuses NotInBattle (battle_of self.now.plain me.now ≡ None)) }
     {
         match self.battle_of(me) {
             Some(own) => Ok(own),

@@ -79,10 +79,10 @@ impl Maps {
         command: &Command,
         post: &mut Post,
     ) -> Result<Change, Stop>
-        requires me { name_of self.now client ≡ Some me.now }
+        requires me { name_of self.now.plain client ≡ Some me.now }
         requires issuer { post.old.issuer ≡ client }
         requires opens { opens_one command.now ≡ true }
-        ensures { Answers self.now client post.old post.new (answer self.now client (Some me.now) command.now) result }
+        ensures { Answers self.now.plain client post.old post.new (answer self.now.plain client (Some me.now) command.now) result }
     {
         self.may_open(me)?;
         let number = self.next_number()?;
@@ -108,8 +108,8 @@ impl Maps {
         battle: &Battle,
         post: &mut Post,
     ) -> Result<(), AllocError>
-        requires { name_of self.now post.old.issuer ≡ Some me.now }
-        ensures { OnOk result (Told self.now post.old post.new (tell everyone (opened_line number battle.now.info ∷ []) ∷ tell (user me.now) (reply.OpenBattle number ∷ reply.RequestBattleStatus ∷ []) ∷ [])) }
+        requires { name_of self.now.plain post.old.issuer ≡ Some me.now }
+        ensures { OnOk result (Told self.now.plain post.old post.new (tell everyone (opened_line number battle.now.info ∷ []) ∷ tell (user me.now) (reply.OpenBattle number ∷ reply.RequestBattleStatus ∷ []) ∷ [])) }
     {
         self.tell_all(LentReply::BattleOpened(number, &battle.opened), post)?;
         self.tell_opener(me, number, post)?;
@@ -118,9 +118,9 @@ impl Maps {
 
     /// The battle that a user opens by a command.
     fn new_battle(&self, client: u64, me: &NameBuf, command: &Command) -> Result<Battle, AllocError>
-        requires me { name_of self.now client ≡ Some me.now }
+        requires me { name_of self.now.plain client ≡ Some me.now }
         requires opens { opens_one command.now ≡ true }
-        ensures asked { IfOk result (λ battle. answer self.now client (Some me.now) command.now ≡ open_battle self.now me.now battle) }
+        ensures asked { IfOk result (λ battle. answer self.now.plain client (Some me.now) command.now ≡ open_battle self.now.plain me.now battle) }
         ensures members { IfOk result (λ battle. member_names battle.room ≡ me.now ∷ []) }
     {
         let Command::OpenBattle {
@@ -193,8 +193,8 @@ impl Maps {
         title: &SentenceBuf,
         game_name: &SentenceBuf,
     ) -> Result<Texts, AllocError>
-        requires { is_some (at_number self.now.clients client) ≡ true }
-        ensures ip { IfOk result (λ texts. texts.ip ≡ address (at_number self.now.clients client)) }
+        requires { is_some (at_number self.now.plain.clients client) ≡ true }
+        ensures ip { IfOk result (λ texts. texts.ip ≡ address (at_number self.now.plain.clients client)) }
         ensures engine_name { IfOk result (λ texts. texts.engine.name ≡ engine_name.now) }
         ensures engine_version { IfOk result (λ texts. texts.engine.version ≡ engine_version.now) }
         ensures map { IfOk result (λ texts. texts.labels.map ≡ map.now) }
@@ -215,8 +215,8 @@ impl Maps {
 
     /// The address of a client that is there, as it is printed.
     fn address_of(&self, client: u64) -> Result<WordBuf, AllocError>
-        requires { is_some (at_number self.now.clients client) ≡ true }
-        ensures { IfOk result (λ word. word ≡ address (at_number self.now.clients client)) }
+        requires { is_some (at_number self.now.plain.clients client) ≡ true }
+        ensures { IfOk result (λ word. word ≡ address (at_number self.now.plain.clients client)) }
     {
         match self.clients.ip_of(client) {
             Some(ip) => ip_word(self.alloc, ip),
@@ -226,8 +226,8 @@ impl Maps {
 
     /// Tells one who opens a battle its number, and asks for its status.
     fn tell_opener(&self, me: &NameBuf, number: u32, post: &mut Post) -> Result<(), AllocError>
-        requires { name_of self.now post.old.issuer ≡ Some me.now }
-        ensures { OnOk result (Told self.now post.old post.new (tell (user me.now) (reply.OpenBattle number ∷ reply.RequestBattleStatus ∷ []) ∷ [])) }
+        requires { name_of self.now.plain post.old.issuer ≡ Some me.now }
+        ensures { OnOk result (Told self.now.plain post.old post.new (tell (user me.now) (reply.OpenBattle number ∷ reply.RequestBattleStatus ∷ []) ∷ [])) }
     {
         post.begin_own();
         post.write_own(LentReply::OpenBattle(number))?;
@@ -247,9 +247,9 @@ impl Maps {
         script_password: Option<&'a WordBuf>,
         post: &mut Post,
     ) -> Result<Change, Stop>
-        requires me { name_of self.now client ≡ Some me.now }
+        requires me { name_of self.now.plain client ≡ Some me.now }
         requires issuer { post.old.issuer ≡ client }
-        ensures { Answers self.now client post.old post.new (join_battle self.now me.now number (option_copied password.entry) (option_copied script_password.entry)) result }
+        ensures { Answers self.now.plain client post.old post.new (join_battle self.now.plain me.now number (option_copied password.entry) (option_copied script_password.entry)) result }
     {
         self.may_join(me)?;
         let battle = self.battle_numbered(number)?;
@@ -277,8 +277,8 @@ impl Maps {
         battle: &Battle,
         post: &mut Post,
     ) -> Result<(), AllocError>
-        requires { name_of self.now post.old.issuer ≡ Some me.now }
-        ensures { OnOk result (Told self.now post.old post.new (tell (user me.now) (reply.JoinBattle number battle.now.game_hash ∷ reply.JoinedBattle number me.now None ∷ (room_lines number battle.now.room ++ reply.RequestBattleStatus ∷ [])) ∷ [])) }
+        requires { name_of self.now.plain post.old.issuer ≡ Some me.now }
+        ensures { OnOk result (Told self.now.plain post.old post.new (tell (user me.now) (reply.JoinBattle number battle.now.game_hash ∷ reply.JoinedBattle number me.now None ∷ (room_lines number battle.now.room ++ reply.RequestBattleStatus ∷ [])) ∷ [])) }
     {
         post.begin_own();
         post.write_own(LentReply::JoinBattle(number, battle.game_hash))?;
@@ -294,7 +294,7 @@ impl Maps {
 
     /// `LEAVEBATTLE`: the user is in a battle.
     pub fn leave_battle(&self, client: u64, me: &NameBuf, post: &mut Post) -> Result<Change, Stop>
-        ensures { Answers self.now client post.old post.new (leave_battle self.now me.now) result }
+        ensures { Answers self.now.plain client post.old post.new (leave_battle self.now.plain me.now) result }
     {
         let (number, battle) = self.own_battle(me)?;
         self.tell_leaving(me, number, battle, Leaving::Seen, post)?;
@@ -314,7 +314,7 @@ impl Maps {
         leaving: Leaving,
         post: &mut Post,
     ) -> Result<(), AllocError>
-        ensures { OnOk result (Told self.now post.old post.new (shown leaving (leaves_battle name.now number battle.now)).told) }
+        ensures { OnOk result (Told self.now.plain post.old post.new (shown leaving (leaves_battle name.now number battle.now)).told) }
     {
         if battle.is_founder(name) {
             return self.tell_leaving_all(LentReply::BattleClosed(number), leaving, post);
@@ -332,7 +332,7 @@ impl Maps {
         leaving: Leaving,
         post: &mut Post,
     ) -> Result<(), AllocError>
-        ensures { OnOk result (Told self.now post.old post.new (bots_gone leaving number owner.now room.now)) }
+        ensures { OnOk result (Told self.now.plain post.old post.new (bots_gone leaving number owner.now room.now)) }
     {
         for bot in room.bots() {
             if owner.cmp(bot.owner()).is_eq() {
@@ -353,7 +353,7 @@ impl Maps {
         leaving: Leaving,
         post: &mut Post,
     ) -> Result<(), AllocError>
-        ensures { OnOk result (Told self.now post.old post.new (shown_to leaving (tell everyone (reply_of line.entry ∷ [])) ∷ [])) }
+        ensures { OnOk result (Told self.now.plain post.old post.new (shown_to leaving (tell everyone (reply_of line.entry ∷ [])) ∷ [])) }
     {
         match leaving {
             Leaving::Seen => self.tell_all(line, post),
@@ -372,7 +372,7 @@ impl Maps {
         map: &SentenceBuf,
         post: &mut Post,
     ) -> Result<Change, Stop>
-        ensures { Answers self.now client post.old post.new (update_battle self.now me.now (updated spectators locked map_hash map.now)) result }
+        ensures { Answers self.now.plain client post.old post.new (update_battle self.now.plain me.now (updated spectators locked map_hash map.now)) result }
     {
         let (number, battle) = self.own_battle(me)?;
         founded_by(battle, me)?;
@@ -396,7 +396,7 @@ impl Maps {
         colour: i64,
         post: &mut Post,
     ) -> Result<Change, Stop>
-        ensures { Answers self.now client post.old post.new (set_own_status self.now me.now asked colour) result }
+        ensures { Answers self.now.plain client post.old post.new (set_own_status self.now.plain me.now asked colour) result }
     {
         let (number, battle) = self.own_battle(me)?;
         let status = match battle.room.member(me) {
@@ -416,7 +416,7 @@ impl Maps {
         colour: i64,
         post: &mut Post,
     ) -> Result<Change, AllocError>
-        ensures told { IfOk result (λ _. Told self.now post.old post.new (member_has name.now status colour number battle.now).told) }
+        ensures told { IfOk result (λ _. Told self.now.plain post.old post.new (member_has name.now status colour number battle.now).told) }
         ensures change { IfOk result (λ change. change ≡ status_change number name.now status colour) }
     {
         let line = LentReply::ClientBattleStatus(name, status.word(), colour);
@@ -439,7 +439,7 @@ impl Maps {
         line: LentReply,
         post: &mut Post,
     ) -> Result<Change, Stop>
-        ensures { Answers self.now client post.old post.new (say_in_battle self.now me.now (reply_of line.entry)) result }
+        ensures { Answers self.now.plain client post.old post.new (say_in_battle self.now.plain me.now (reply_of line.entry)) result }
     {
         let (_, battle) = self.own_battle(me)?;
         self.tell_room(&battle.room, line, post)?;

@@ -23,7 +23,7 @@ use std::collections::BTreeMap;
 impl Maps {
     /// Tells the issuer, who logs in under a name, who is there, itself among them.
     pub fn tell_burst(&self, name: &NameBuf, seat: &Seat, post: &mut Post) -> Result<(), AllocError>
-        ensures { OnOk result (Told self.now post.old post.new (tell issuer (burst self.now.settings.motd name.now (put_name self.now.users name.now (user_in seat.now)) self.now.battles) ∷ [])) }
+        ensures { OnOk result (Told self.now.plain post.old post.new (tell issuer (burst self.now.plain.settings.motd name.now (put_name self.now.plain.users name.now (user_in seat.now)) self.now.plain.battles) ∷ [])) }
     {
         post.begin_own();
         post.write_own(LentReply::Accepted(name))?;
@@ -38,7 +38,7 @@ impl Maps {
 
     /// Writes the battles, in the order of their numbers.
     fn write_battles(&self, post: &mut Post) -> Result<(), AllocError>
-        ensures { OnOk result (post.new ≡ with_own post.old (flat_map (λ e. battle_lines e.0 e.1) self.now.battles)) }
+        ensures { OnOk result (post.new ≡ with_own post.old (flat_map (λ e. battle_lines e.0 e.1) self.now.plain.battles)) }
     {
         for (number, battle) in &self.battles.by_number {
             write_battle(*number, battle, post)?;

@@ -25,7 +25,7 @@ impl Maps {
         channel: &NameBuf,
         post: &mut Post,
     ) -> Result<Change, Stop>
-        ensures { Answers self.now client post.old post.new (join self.now me.now channel.now) result }
+        ensures { Answers self.now.plain client post.old post.new (join self.now.plain me.now channel.now) result }
     {
         let names = self.names_without(me, channel)?;
         let places = self.channels.marks_in(channel);
@@ -46,7 +46,7 @@ impl Maps {
         channel: &NameBuf,
         post: &mut Post,
     ) -> Result<Change, Stop>
-        ensures { Answers self.now client post.old post.new (leave self.now me.now channel.now) result }
+        ensures { Answers self.now.plain client post.old post.new (leave self.now.plain me.now channel.now) result }
     {
         let members = self.members_with(me, channel)?;
         let (names, places) = (members.as_slice(), members.marks());
@@ -66,7 +66,7 @@ impl Maps {
         line: LentReply,
         post: &mut Post,
     ) -> Result<Change, Stop>
-        ensures { Answers self.now client post.old post.new (say_in_channel self.now me.now channel.now (reply_of line.entry)) result }
+        ensures { Answers self.now.plain client post.old post.new (say_in_channel self.now.plain me.now channel.now (reply_of line.entry)) result }
     {
         let members = self.members_with(me, channel)?;
         let (names, places) = (members.as_slice(), members.marks());
@@ -83,7 +83,7 @@ impl Maps {
         text: &TextBuf,
         post: &mut Post,
     ) -> Result<Change, Stop>
-        ensures { Answers self.now client post.old post.new (say_private self.now me.now target.now text.now) result }
+        ensures { Answers self.now.plain client post.old post.new (say_private self.now.plain me.now target.now text.now) result }
     {
         self.user_named(target)?;
         post.tell_issuer(LentReply::SayPrivate(target, text))?;
@@ -93,7 +93,7 @@ impl Maps {
 
     /// `CHANNELS`.
     pub fn list_channels(&self, client: u64, post: &mut Post) -> Result<Change, Stop>
-        ensures { Answers self.now client post.old post.new (list_channels self.now) result }
+        ensures { Answers self.now.plain client post.old post.new (list_channels self.now.plain) result }
     {
         post.begin_own();
         self.write_channels(post)?;
@@ -104,7 +104,7 @@ impl Maps {
 
     /// Writes a line for each channel, with how many are in it.
     fn write_channels(&self, post: &mut Post) -> Result<(), AllocError>
-        ensures { OnOk result (post.new ≡ with_own post.old (channel_lines self.now.channels)) }
+        ensures { OnOk result (post.new ≡ with_own post.old (channel_lines self.now.plain.channels)) }
     {
         for (channel, members) in &self.channels {
             post.write_own(LentReply::Channel(channel, members.as_slice().len()))?;
@@ -114,7 +114,7 @@ impl Maps {
 
     /// Tells the others of each channel that a user is in, channel by channel, that it leaves.
     pub fn tell_left(&self, me: &NameBuf, post: &mut Post) -> Result<(), AllocError>
-        ensures { OnOk result (Told self.now post.old post.new (left_letters me.now self.now.channels)) }
+        ensures { OnOk result (Told self.now.plain post.old post.new (left_letters me.now self.now.plain.channels)) }
     {
         for (channel, members) in &self.channels {
             if members.has_member(me) {
@@ -133,7 +133,7 @@ impl Maps {
         me: &NameBuf,
         post: &mut Post,
     ) -> Result<(), AllocError>
-        ensures { OnOk result (Told self.now post.old post.new (tell (user me.now) (name_lines channel.now (names.now ++ me.now ∷ [])) ∷ [])) }
+        ensures { OnOk result (Told self.now.plain post.old post.new (tell (user me.now) (name_lines channel.now (names.now ++ me.now ∷ [])) ∷ [])) }
     {
         let mut rest = names;
         while rest.len() >= 32 {

@@ -39,8 +39,8 @@ pub fn not_logged_in(me: Option<&NameBuf>) -> Result<(), Stop>
 impl Maps {
     /// The account that a login is for.
     pub fn account_for(&self, user_name: &WordBuf, password: &WordBuf) -> Result<&Account, Stop>
-        ensures ok { IfOk result (λ account. login self.now.accounts user_name.now password.now ≡ Ok account.now) }
-        ensures err { IfErr result (Refuses InvalidLogin (is_ok (login self.now.accounts user_name.now password.now) ≡ false)) }
+        ensures ok { IfOk result (λ account. login self.now.plain.accounts user_name.now password.now ≡ Ok account.now) }
+        ensures err { IfErr result (Refuses InvalidLogin (is_ok (login self.now.plain.accounts user_name.now password.now) ≡ false)) }
     {
         match self
             .accounts
@@ -53,8 +53,8 @@ impl Maps {
 
     /// The name of an account, under which nobody is logged in.
     pub fn free_name(&self, account: &Account) -> Result<NameBuf, Stop>
-        ensures ok { IfOk result (λ name. (name ≡ account.now.name) × (is_some (at_name self.now.users account.now.name) ≡ false)) }
-        ensures err { IfErr result (Refuses UserIsIn (is_some (at_name self.now.users account.now.name) ≡ true)) }
+        ensures ok { IfOk result (λ name. (name ≡ account.now.name) × (is_some (at_name self.now.plain.users account.now.name) ≡ false)) }
+        ensures err { IfErr result (Refuses UserIsIn (is_some (at_name self.now.plain.users account.now.name) ≡ true)) }
     {
         let name = NameBuf::copy_of(self.alloc, account.name())?;
         if self.seats.users.contains_key(&name) {
@@ -65,9 +65,9 @@ impl Maps {
 
     /// Who is in a channel, a user among them.
     pub fn members_with(&self, me: &NameBuf, channel: &NameBuf) -> Result<&Members<usize>, Stop>
-        ensures names { IfOk result (λ members. members.now ≡ names_in self.now.channels channel.now) }
-        ensures among { IfOk result (λ _. is_among me.now (names_in self.now.channels channel.now) ≡ true) }
-        ensures err { IfErr result (Refuses NotInChannel (is_among me.now (names_in self.now.channels channel.now) ≡ false)) }
+        ensures names { IfOk result (λ members. members.now ≡ names_in self.now.plain.channels channel.now) }
+        ensures among { IfOk result (λ _. is_among me.now (names_in self.now.plain.channels channel.now) ≡ true) }
+        ensures err { IfErr result (Refuses NotInChannel (is_among me.now (names_in self.now.plain.channels channel.now) ≡ false)) }
     {
         match self.channels.members_in(channel) {
             Some(members) if members.has_member(me) => Ok(members),
@@ -77,10 +77,10 @@ impl Maps {
 
     /// Who is in a channel, a user not among them.
     pub fn names_without(&self, me: &NameBuf, channel: &NameBuf) -> Result<&[NameBuf], Stop>
-        ensures names { IfOk result (λ names. names.now ≡ names_in self.now.channels channel.now) }
-        ensures among { IfOk result (λ names. is_among me.now (names_in self.now.channels channel.now) ≡ false) }
+        ensures names { IfOk result (λ names. names.now ≡ names_in self.now.plain.channels channel.now) }
+        ensures among { IfOk result (λ names. is_among me.now (names_in self.now.plain.channels channel.now) ≡ false) }
         ensures distinct { IfOk result (λ names. IsDistinct same_name names.now) }
-        ensures err { IfErr result (Refuses (AlreadyInChannel channel.now) (is_among me.now (names_in self.now.channels channel.now) ≡ true)) }
+        ensures err { IfErr result (Refuses (AlreadyInChannel channel.now) (is_among me.now (names_in self.now.plain.channels channel.now) ≡ true)) }
     {
         if self.channels.has_member(channel, me) {
             Err(Stop::Refused(Refusal::AlreadyInChannel(channel.copy())))
@@ -91,8 +91,8 @@ impl Maps {
 
     /// Somebody of this name is logged in.
     pub fn user_named(&self, name: &NameBuf) -> Result<(), Stop>
-        ensures ok { IfOk result (λ _. is_some (at_name self.now.users name.now) ≡ true) }
-        ensures err { IfErr result (Refuses NoSuchUser (is_some (at_name self.now.users name.now) ≡ false)) }
+        ensures ok { IfOk result (λ _. is_some (at_name self.now.plain.users name.now) ≡ true) }
+        ensures err { IfErr result (Refuses NoSuchUser (is_some (at_name self.now.plain.users name.now) ≡ false)) }
     {
         if self.seats.users.contains_key(name) {
             Ok(())

@@ -82,7 +82,7 @@ impl Maps {
         ai: &SentenceBuf,
         post: &mut Post,
     ) -> Result<Change, Stop>
-        ensures { Answers self.now client post.old post.new (add_bot self.now me.now (new_bot name.now me.now asked colour ai.now)) result }
+        ensures { Answers self.now.plain client post.old post.new (add_bot self.now.plain me.now (new_bot name.now me.now asked colour ai.now)) result }
     {
         let (number, battle) = self.own_battle(me)?;
         free_bot_name(battle, name)?;
@@ -107,7 +107,7 @@ impl Maps {
         colour: i64,
         post: &mut Post,
     ) -> Result<Change, Stop>
-        ensures { Answers self.now client post.old post.new (update_bot self.now me.now name.now asked colour) result }
+        ensures { Answers self.now.plain client post.old post.new (update_bot self.now.plain me.now name.now asked colour) result }
     {
         let (number, battle) = self.own_battle(me)?;
         let bot = bot_named(battle, name)?;
@@ -132,7 +132,7 @@ impl Maps {
         name: &WordBuf,
         post: &mut Post,
     ) -> Result<Change, Stop>
-        ensures { Answers self.now client post.old post.new (remove_bot self.now me.now name.now) result }
+        ensures { Answers self.now.plain client post.old post.new (remove_bot self.now.plain me.now name.now) result }
     {
         let (number, battle) = self.own_battle(me)?;
         let bot = bot_named(battle, name)?;
@@ -152,7 +152,7 @@ impl Maps {
         post: &mut Post,
     ) -> Result<Change, Stop>
         requires { ally < 16 }
-        ensures { Answers self.now client post.old post.new (add_rect self.now me.now ally rect) result }
+        ensures { Answers self.now.plain client post.old post.new (add_rect self.now.plain me.now ally rect) result }
     {
         let (number, battle) = self.own_battle(me)?;
         founded_by(battle, me)?;
@@ -170,7 +170,7 @@ impl Maps {
         post: &mut Post,
     ) -> Result<Change, Stop>
         requires { ally < 16 }
-        ensures { Answers self.now client post.old post.new (remove_rect self.now me.now ally) result }
+        ensures { Answers self.now.plain client post.old post.new (remove_rect self.now.plain me.now ally) result }
     {
         let (number, battle) = self.own_battle(me)?;
         founded_by(battle, me)?;
@@ -186,7 +186,7 @@ impl Maps {
         pairs: &PairList,
         post: &mut Post,
     ) -> Result<Change, Stop>
-        ensures { Answers self.now client post.old post.new (set_script_tags self.now me.now pairs.now) result }
+        ensures { Answers self.now.plain client post.old post.new (set_script_tags self.now.plain me.now pairs.now) result }
     {
         let (number, battle) = self.own_battle(me)?;
         founded_by(battle, me)?;
@@ -209,7 +209,7 @@ impl Maps {
         keys: &WordList,
         post: &mut Post,
     ) -> Result<Change, Stop>
-        ensures { Answers self.now client post.old post.new (remove_script_tags self.now me.now keys.now) result }
+        ensures { Answers self.now.plain client post.old post.new (remove_script_tags self.now.plain me.now keys.now) result }
     {
         let (number, battle) = self.own_battle(me)?;
         founded_by(battle, me)?;
@@ -226,7 +226,7 @@ impl Maps {
         keys: &[WordBuf],
         post: &mut Post,
     ) -> Result<(), AllocError>
-        ensures { OnOk result (Told self.now post.old post.new (tell (users (member_names room.now)) (removed_line (keys_there room.now.tags keys.now)) ∷ [])) }
+        ensures { OnOk result (Told self.now.plain post.old post.new (tell (users (member_names room.now)) (removed_line (keys_there room.now.tags keys.now)) ∷ [])) }
     {
         let there = room.keys_there(self.alloc, keys)?;
         let there = there.as_slice();
@@ -247,7 +247,7 @@ impl Maps {
         post: &mut Post,
     ) -> Result<Change, Stop>
         requires { FitsForce force }
-        ensures { Answers self.now client post.old post.new (forced self.now me.now name.now force) result }
+        ensures { Answers self.now.plain client post.old post.new (forced self.now.plain me.now name.now force) result }
     {
         let (number, battle) = self.own_battle(me)?;
         founded_by(battle, me)?;
@@ -265,7 +265,7 @@ impl Maps {
         name: &NameBuf,
         post: &mut Post,
     ) -> Result<Change, Stop>
-        ensures { Answers self.now client post.old post.new (kick self.now me.now name.now) result }
+        ensures { Answers self.now.plain client post.old post.new (kick self.now.plain me.now name.now) result }
     {
         let (number, battle) = self.own_battle(me)?;
         founded_by(battle, me)?;
@@ -287,7 +287,7 @@ impl Maps {
         name: &NameBuf,
         post: &mut Post,
     ) -> Result<Change, Stop>
-        ensures { Answers self.now client post.old post.new (ring self.now me.now name.now) result }
+        ensures { Answers self.now.plain client post.old post.new (ring self.now.plain me.now name.now) result }
     {
         let (_, battle) = self.own_battle(me)?;
         founded_by(battle, me)?;

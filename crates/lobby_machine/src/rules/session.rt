@@ -31,7 +31,7 @@ use std::alloc::{AllocError, Global};
 impl Maps {
     /// `PING`.
     pub fn ping(&self, client: u64, post: &mut Post) -> Result<Change, Stop>
-        ensures { Answers self.now client post.old post.new (done (only_told (tell issuer (reply.Pong ∷ []) ∷ []))) result }
+        ensures { Answers self.now.plain client post.old post.new (done (only_told (tell issuer (reply.Pong ∷ []) ∷ []))) result }
     {
         post.tell_issuer(LentReply::Pong)?;
         Ok(Change::Nothing)
@@ -47,9 +47,9 @@ impl Maps {
         cpu: i64,
         post: &mut Post,
     ) -> Result<Change, Stop>
-        requires hears { hears self.now client ≡ true }
-        requires me { option_copied me ≡ name_of self.now client }
-        ensures { (local_ip lobby : List ℕ) → Answers self.now client post.old post.new (answer self.now client (option_copied me.entry) (command.Login user_name.now password.now cpu local_ip lobby)) result }
+        requires hears { hears self.now.plain client ≡ true }
+        requires me { option_copied me ≡ name_of self.now.plain client }
+        ensures { (local_ip lobby : List ℕ) → Answers self.now.plain client post.old post.new (answer self.now.plain client (option_copied me.entry) (command.Login user_name.now password.now cpu local_ip lobby)) result }
     {
         not_logged_in(me)?;
         let account = self.account_for(user_name, password)?;
@@ -63,7 +63,7 @@ impl Maps {
 
     /// Tells the others that a user is there.
     fn tell_arrival(&self, name: &NameBuf, seat: &Seat, post: &mut Post) -> Result<(), AllocError>
-        ensures { OnOk result (Told self.now post.old post.new (tell others (arrival name.now (user_in seat.now)) ∷ [])) }
+        ensures { OnOk result (Told self.now.plain post.old post.new (tell others (arrival name.now (user_in seat.now)) ∷ [])) }
     {
         post.write_for_others(LentReply::AddUser(name, &seat.country, seat.cpu, seat.account))?;
         let status = seat.status.word();
@@ -82,8 +82,8 @@ impl Maps {
         asked: u32,
         post: &mut Post,
     ) -> Result<Change, Stop>
-        requires { name_of self.now client ≡ Some me.now }
-        ensures { Answers self.now client post.old post.new (set_user_status self.now me.now asked) result }
+        requires { name_of self.now.plain client ≡ Some me.now }
+        ensures { Answers self.now.plain client post.old post.new (set_user_status self.now.plain me.now asked) result }
     {
         let status = match self.seats.users.get(me) {
             Some(seat) => merge_user(seat.status, asked),
@@ -105,8 +105,8 @@ impl Maps {
         stays: bool,
         post: &mut Post,
     ) -> Result<Change, AllocError>
-        requires { option_copied me ≡ name_of self.now client }
-        ensures { IfOk result (λ change. Obeyed self.now client post.old post.new change (departs self.now (option_copied me.entry) (parts client stays))) }
+        requires { option_copied me ≡ name_of self.now.plain client }
+        ensures { IfOk result (λ change. Obeyed self.now.plain client post.old post.new change (departs self.now.plain (option_copied me.entry) (parts client stays))) }
     {
         let Some(me) = me else {
             return Ok(Change::LogOut {
@@ -128,10 +128,10 @@ impl Maps {
     /// Tells that one who logs out leaves its battle, where it is in one, and gives that battle's
     /// number.
     fn tell_battle_left(&self, me: &NameBuf, post: &mut Post) -> Result<Option<u32>, AllocError>
-        ensures told { OnOk result (Told self.now post.old post.new (left_battle_letters me.now (battle_of self.now me.now))) }
-        ensures number { IfOk result (λ number. number ≡ number_of (Some me.now) self.now.battles) }
-        ensures only { IfOk result (λ number. IsOnly self.now.battles number me.now) }
-        ensures there { (own : ℕ × Battle) → battle_of self.now me.now ≡ Some own → at_number self.now.battles own.0 ≡ Some own.1 }
+        ensures told { OnOk result (Told self.now.plain post.old post.new (left_battle_letters me.now (battle_of self.now.plain me.now))) }
+        ensures number { IfOk result (λ number. number ≡ number_of (Some me.now) self.now.plain.battles) }
+        ensures only { IfOk result (λ number. IsOnly self.now.plain.battles number me.now) }
+        ensures there { (own : ℕ × Battle) → battle_of self.now.plain me.now ≡ Some own → at_number self.now.plain.battles own.0 ≡ Some own.1 }
     {
         let Some((number, battle)) = self.battle_of(me) else {
             return Ok(None);
@@ -142,7 +142,7 @@ impl Maps {
 
     /// What the end of a client's connection comes to.
     pub fn close(&self, client: u64, post: &mut Post) -> Result<Change, AllocError>
-        ensures { IfOk result (λ change. Obeyed self.now client (begun client None) post.new change (departs self.now (name_of self.now client) (parts client false))) }
+        ensures { IfOk result (λ change. Obeyed self.now.plain client (begun client None) post.new change (departs self.now.plain (name_of self.now.plain client) (parts client false))) }
     {
         post.begin(client, None);
         let me = self.clients.name_of(client);

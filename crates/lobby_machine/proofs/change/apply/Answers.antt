@@ -1,4 +1,4 @@
-use Rattle.std.proofs.Common.{◌≡◌, ◌∙◌, ℕ, List, Bool, ap, sym, subst, refl, true, false}
+use Rattle.std.proofs.Common.{◌≡◌, ◌∙◌, ℕ, List, Bool, ap, sym, subst, refl, true, false, arith}
 use Rattle.std.specs.Prelude.{Option}
 use Rattle.channel_book.specs.Channels.{Channels}
 use Rattle.line_words.specs.Table.{ByName, ByNumber, put_name}
@@ -13,6 +13,7 @@ use Rattle.lobby_post.specs.Mail.{plain, parted}
 use Rattle.lobby_machine.specs.Changes.{CanBe, IsFresh, left_own}
 use Rattle.lobby_machine.specs.Seats.{Agree, IsListed, IsSet, seat_with, user_in, users_of, where_some, without_one}
 use Rattle.lobby_machine.proofs.Agreed.{agree_changed, agree_log_in, users_changed, users_added, no_seat, agree_parted, listed_log_in, listed_undone, listed_parted, users_left}
+use Rattle.lobby_machine.proofs.Lists.{known_same, left_parted, left_same, waits_same}
 use Rattle.lobby_machine.proofs.change.apply.Goals as goal
 
 pub returns-in-Status-clause-users : goal.returns-in-Status-clause-users
@@ -115,3 +116,30 @@ apply-requires c = (
   c.requires.agree,
   subst (λ (x : Change). CanBe (plain c.args.clients.now.slots) (users_of c.args.seats.now.users.entries) c.args.channels.now c.args.battles.now.by_number.entries c.args.client x) c.in-InBattles.is c.requires.can,
 )
+
+pub returns-in-Nothing-clause-waits : goal.returns-in-Nothing-clause-waits
+returns-in-Nothing-clause-waits c = λ home within. left_same c.args.clients.now home _ refl
+
+pub returns-in-Status-clause-waits : goal.returns-in-Status-clause-waits
+returns-in-Status-clause-waits c = λ home within. left_same c.args.clients.now home _ refl
+
+pub returns-in_ok-add_member-in-Join-clause-waits : goal.returns-in_ok-add_member-in-Join-clause-waits
+returns-in_ok-add_member-in-Join-clause-waits c = λ home within. left_same c.args.clients.now home _ refl
+
+pub returns-in-Leave-clause-waits : goal.returns-in-Leave-clause-waits
+returns-in-Leave-clause-waits c = λ home within. left_same c.args.clients.now home _ refl
+
+pub returns-in_ok-apply-in-InBattles-clause-waits : goal.returns-in_ok-apply-in-InBattles-clause-waits
+returns-in_ok-apply-in-InBattles-clause-waits c = λ home within. left_same c.args.clients.now home _ refl
+
+pub returns-in_ok-add-in-LogIn-clause-waits : goal.returns-in_ok-add-in-LogIn-clause-waits
+returns-in_ok-add-in-LogIn-clause-waits c = λ home within.
+    left_same c.log_in.new.self home _ (waits_same c.args.clients.now c.log_in.new.self c.log_in.ensures.marks c.log_in.ensures.lines home)
+
+pub returns-in_ok-add-in-LogIn-clause-known : goal.returns-in_ok-add-in-LogIn-clause-known
+returns-in_ok-add-in-LogIn-clause-known c = known_same c.args.clients.now c.log_in.new.self c.log_in.ensures.marks c.log_in.ensures.lines
+
+pub returns-in-LogOut-clause-waits : goal.returns-in-LogOut-clause-waits
+returns-in-LogOut-clause-waits c = λ home within.
+    left_parted c.part.new.self (plain c.args.clients.now.slots) c.args.client c.in-LogOut.stays home _ c.part.ensures.clients
+    (c.part.ensures.waits home (omega (arith, within)))

@@ -1,17 +1,19 @@
-use Rattle.std.proofs.Common.{◌≡◌, ◌∙◌, ap, sym, true, false}
+use Rattle.std.proofs.Common.{◌≡◌, ℕ, ◌≤◌, ◌∙◌, ap, sym, true, false}
 use Rattle.std.specs.Prelude.{is_some}
 use Rattle.lobby_model.specs.declared.event.Event.TheVariants as event
 use Rattle.lobby_model.specs.State.{State, hears}
-use Rattle.lobby_model.proofs.Quiet.{next_unheard, quiet_touches, unheard_sends}
+use Rattle.lobby_model.proofs.Quiet.{effect_unheard, next_unheard, quiet_touches, unheard_sends}
 use Rattle.lobby_machine.specs.Changes.{changed}
-use Rattle.lobby_machine.specs.Shown.{Shown}
-use Rattle.lobby_machine.proofs.Events.{on_ok, on_wakes, said_effect, said_matches}
+use Rattle.lobby_machine.specs.Dirty.{DirtyAfter}
+use Rattle.lobby_machine.specs.Shown.{Shown, dirty_at}
+use Rattle.lobby_machine.proofs.Dirtied.{dirty_quiet}
+use Rattle.lobby_machine.proofs.Events.{on_dirty, on_ok, on_wakes, said_effect, said_matches}
 use Rattle.lobby_machine.proofs.lobby.Lobby.say.Goals as goal
 
 pub returns-in_default-clause-ok : goal.returns-in_default-clause-ok
 returns-in_default-clause-ok c =
-    let deaf : hears c.self.inside.maps c.args.client ≡ false = sym c.issuer.ensures.hears ∙ ap is_some c.in_default.is in
-    rw (← c.self.view_is) (sym (next_unheard c.self.inside.maps c.args.client c.args.request.now deaf))
+    let deaf : hears c.self.inside.maps.plain c.args.client ≡ false = sym c.issuer.ensures.hears ∙ ap is_some c.in_default.is in
+    rw (← c.self.view_is) (sym (next_unheard c.self.inside.maps.plain c.args.client c.args.request.now deaf))
 
 pub returns-in_default-clause-wakes : goal.returns-in_default-clause-wakes
 returns-in_default-clause-wakes c = λ home.
@@ -23,20 +25,39 @@ returns-in_default-clause-wakes c = λ home.
 
 pub returns-clause-ok : goal.returns-clause-ok
 returns-clause-ok c =
-    let s : State = c.self.inside.maps in
+    let s : State = c.self.inside.maps.plain in
     let live : hears s c.args.client ≡ true = sym c.issuer.ensures.hears ∙ ap is_some c.in-Some.is in
     rw (← c.self.view_is)
-    (on_ok c.carry_out.result s (changed s c.args.client c.in_ok-change.change) c.carry_out.new.self
+    (on_ok c.carry_out.result s (changed s c.args.client c.in_ok-change.change) c.carry_out.new.self.plain
     (event.Say c.args.client c.args.request.now) c.decide.new.post
     (said_effect s c.args.client c.args.request.now live _ _ c.in_ok-change.ensures)
     (said_matches s c.args.client c.args.request.now live _ _ c.in_ok-change.ensures) c.carry_out.ensures.ok)
 
 pub returns-clause-wakes : goal.returns-clause-wakes
 returns-clause-wakes c =
-    let s : State = c.self.inside.maps in
+    let s : State = c.self.inside.maps.plain in
     let live : hears s c.args.client ≡ true = sym c.issuer.ensures.hears ∙ ap is_some c.in-Some.is in
     rw (← c.self.view_is)
-    (on_wakes c.carry_out.result s (changed s c.args.client c.in_ok-change.change) c.carry_out.new.self
+    (on_wakes c.carry_out.result s (changed s c.args.client c.in_ok-change.change) c.carry_out.new.self.plain
     (event.Say c.args.client c.args.request.now) c.decide.new.post
     (said_effect s c.args.client c.args.request.now live _ _ c.in_ok-change.ensures)
     (said_matches s c.args.client c.args.request.now live _ _ c.in_ok-change.ensures) c.carry_out.ensures.wakes)
+
+pub returns-in_default-clause-dirty : goal.returns-in_default-clause-dirty
+returns-in_default-clause-dirty c = λ home within.
+    let s : State = c.self.inside.maps.plain in
+    let deaf : hears s c.args.client ≡ false = sym c.issuer.ensures.hears ∙ ap is_some c.in_default.is in
+    rw (← c.self.view_is)
+    (dirty_quiet s (event.Say c.args.client c.args.request.now) (λ d. unheard_sends s c.args.client c.args.request.now d deaf) home
+    (dirty_at c.self.inside.maps home) (effect_unheard s c.args.client c.args.request.now deaf) (c.issuer.ensures.waiting home within))
+
+pub returns-clause-dirty : goal.returns-clause-dirty
+returns-clause-dirty c =
+    let s : State = c.self.inside.maps.plain in
+    let live : hears s c.args.client ≡ true = sym c.issuer.ensures.hears ∙ ap is_some c.in-Some.is in
+    rw (← c.self.view_is)
+    (on_dirty c.carry_out.result s (changed s c.args.client c.in_ok-change.change)
+    (event.Say c.args.client c.args.request.now) c.decide.new.post
+    (λ e. (home : ℕ) → home ≤ 63 → DirtyAfter s e home (dirty_at c.self.inside.maps home) (dirty_at c.carry_out.new.self home))
+    (said_effect s c.args.client c.args.request.now live _ _ c.in_ok-change.ensures)
+    (said_matches s c.args.client c.args.request.now live _ _ c.in_ok-change.ensures) c.carry_out.ensures.dirty)

@@ -1,19 +1,30 @@
+use Rattle.std.proofs.Common.{ℕ, ◌≤◌}
 use Rattle.lobby_model.specs.declared.event.Event.TheVariants as event
 use Rattle.lobby_model.specs.State.{State}
 use Rattle.lobby_machine.specs.Changes.{changed}
-use Rattle.lobby_machine.proofs.Events.{on_ok, on_wakes}
+use Rattle.lobby_machine.specs.Dirty.{DirtyAfter}
+use Rattle.lobby_machine.specs.Shown.{dirty_at}
+use Rattle.lobby_machine.proofs.Events.{on_dirty, on_ok, on_wakes}
 use Rattle.lobby_machine.proofs.lobby.Lobby.shut.Goals as goal
 
 pub returns-clause-ok : goal.returns-clause-ok
 returns-clause-ok c =
-    let s : State = c.self.inside.maps in
+    let s : State = c.self.inside.maps.plain in
     rw (← c.self.view_is)
-    (on_ok c.carry_out.result s (changed s c.args.client c.in_ok-change.change) c.carry_out.new.self
+    (on_ok c.carry_out.result s (changed s c.args.client c.in_ok-change.change) c.carry_out.new.self.plain
     (event.Shut c.args.client) c.close.new.post c.in_ok-change.ensures.effect c.in_ok-change.ensures.told.bytes c.carry_out.ensures.ok)
 
 pub returns-clause-wakes : goal.returns-clause-wakes
 returns-clause-wakes c =
-    let s : State = c.self.inside.maps in
+    let s : State = c.self.inside.maps.plain in
     rw (← c.self.view_is)
-    (on_wakes c.carry_out.result s (changed s c.args.client c.in_ok-change.change) c.carry_out.new.self
+    (on_wakes c.carry_out.result s (changed s c.args.client c.in_ok-change.change) c.carry_out.new.self.plain
     (event.Shut c.args.client) c.close.new.post c.in_ok-change.ensures.effect c.in_ok-change.ensures.told.bytes c.carry_out.ensures.wakes)
+
+pub returns-clause-dirty : goal.returns-clause-dirty
+returns-clause-dirty c =
+    let s : State = c.self.inside.maps.plain in
+    rw (← c.self.view_is)
+    (on_dirty c.carry_out.result s (changed s c.args.client c.in_ok-change.change) (event.Shut c.args.client) c.close.new.post
+    (λ e. (home : ℕ) → home ≤ 63 → DirtyAfter s e home (dirty_at c.self.inside.maps home) (dirty_at c.carry_out.new.self home))
+    c.in_ok-change.ensures.effect c.in_ok-change.ensures.told.bytes c.carry_out.ensures.dirty)

@@ -9,7 +9,7 @@ use Rattle.lobby_machine.proofs.maps.Maps.answer_in_battle.Goals as goal
 pub returns-in-UpdateBattleInfo : goal.returns-in-UpdateBattleInfo
 returns-in-UpdateBattleInfo c =
     let same : to_z w64 (of_z w64 c.in-UpdateBattleInfo.map_hash) ≡ c.in-UpdateBattleInfo.map_hash = search rules in
-    subst (λ (outcome : Outcome). Answers c.args.self.now c.args.client c.args.post.now c.update_battle.new.post outcome c.update_battle.result)
-    ((λ i. update_battle c.args.self.now c.args.me.now (updated c.in-UpdateBattleInfo.spectator_count c.in-UpdateBattleInfo.locked (same i) c.in-UpdateBattleInfo.map))
-    ∙ sym (ap (answer c.args.self.now c.args.client (Some c.args.me.now)) c.in-UpdateBattleInfo.is))
+    subst (λ (outcome : Outcome). Answers c.args.self.now.plain c.args.client c.args.post.now c.update_battle.new.post outcome c.update_battle.result)
+    ((λ i. update_battle c.args.self.now.plain c.args.me.now (updated c.in-UpdateBattleInfo.spectator_count c.in-UpdateBattleInfo.locked (same i) c.in-UpdateBattleInfo.map))
+    ∙ sym (ap (answer c.args.self.now.plain c.args.client (Some c.args.me.now)) c.in-UpdateBattleInfo.is))
     c.update_battle.ensures

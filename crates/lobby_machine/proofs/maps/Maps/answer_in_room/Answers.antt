@@ -1,4 +1,4 @@
-use Rattle.std.proofs.Common.{◌≡◌, ◌∙◌, ℕ, ◌<◌, ◌≤◌, arith, IsTrue, ap, subst, sym, Some, rules, w64, to_z, of_z}
+use Rattle.std.proofs.Common.{◌≡◌, ◌∙◌, arith, IsTrue, ap, subst, sym, Some, rules, w64, to_z, of_z}
 use Rattle.std.proofs.lemmas.Bool.{and_parts, leb-true}
 use Rattle.std.specs.Prelude.{◌&&◌}
 use Rattle.command_grammar.specs.declared.command.Command.{Command}
@@ -12,8 +12,8 @@ use Rattle.lobby_machine.proofs.maps.Maps.answer_in_room.Goals as goal
 pub returns-in-UpdateBot : goal.returns-in-UpdateBot
 returns-in-UpdateBot c =
     let same : to_z w64 (of_z w64 c.in-UpdateBot.team_color) ≡ c.in-UpdateBot.team_color = search rules in
-    subst (λ (outcome : Outcome). Answers c.args.self.now c.args.client c.args.post.now c.update_bot.new.post outcome c.update_bot.result)
-    ((λ i. update_bot c.args.self.now c.args.me.now c.in-UpdateBot.bot c.in-UpdateBot.battle_status (same i)) ∙ sym (ap (answer c.args.self.now c.args.client (Some c.args.me.now)) c.in-UpdateBot.is)) c.update_bot.ensures
+    subst (λ (outcome : Outcome). Answers c.args.self.now.plain c.args.client c.args.post.now c.update_bot.new.post outcome c.update_bot.result)
+    ((λ i. update_bot c.args.self.now.plain c.args.me.now c.in-UpdateBot.bot c.in-UpdateBot.battle_status (same i)) ∙ sym (ap (answer c.args.self.now.plain c.args.client (Some c.args.me.now)) c.in-UpdateBot.is)) c.update_bot.ensures
 
 pub add_rect-requires : goal.add_rect-requires
 add_rect-requires c =

@@ -7,8 +7,8 @@ use Rattle.lobby_machine.proofs.maps.Maps.answer_in_session.Goals as goal
 
 pub returns-in-Login : goal.returns-in-Login
 returns-in-Login c =
-    let told : Answers c.args.self.now c.args.client c.args.post.now c.log_in.new.post
-    (answer c.args.self.now c.args.client (option_copied c.args.me) c.args.command.now) c.log_in.result = search
+    let told : Answers c.args.self.now.plain c.args.client c.args.post.now c.log_in.new.post
+    (answer c.args.self.now.plain c.args.client (option_copied c.args.me) c.args.command.now) c.log_in.result = search
     (rules, c.log_in.ensures c.in-Login.local_ip c.in-Login.lobby) in
-    subst (λ (o : Outcome). Answers c.args.self.now c.args.client c.args.post.now c.log_in.new.post o c.log_in.result)
-    (ap (λ me. answer c.args.self.now c.args.client me c.args.command.now) c.requires.me) told
+    subst (λ (o : Outcome). Answers c.args.self.now.plain c.args.client c.args.post.now c.log_in.new.post o c.log_in.result)
+    (ap (λ me. answer c.args.self.now.plain c.args.client me c.args.command.now) c.requires.me) told

@@ -11,10 +11,10 @@ use Rattle.lobby_machine.proofs.maps.Maps.decide.Goals as goal
 
 pub returns-in_ok-refuse-in-Err-Refused : goal.returns-in_ok-refuse-in-Err-Refused
 returns-in_ok-refuse-in-Err-Refused c =
-    let outcome : Outcome = answer c.args.self.now c.args.client (name_of c.args.self.now c.args.client) c.args.command.now in
+    let outcome : Outcome = answer c.args.self.now.plain c.args.client (name_of c.args.self.now.plain c.args.client) c.args.command.now in
     let d : Denied c.begin.new.self c.answer.new.post c.in-Err-Refused.refusal outcome =
-    subst (λ (why : Stop). Answers c.args.self.now c.args.client c.begin.new.self c.answer.new.post outcome (Err why)) c.in-Err-Refused.field-0-is
+    subst (λ (why : Stop). Answers c.args.self.now.plain c.args.client c.begin.new.self c.answer.new.post outcome (Err why)) c.in-Err-Refused.field-0-is
     c.in-Err-Refused.ensures in
-    refused c.args.self.now c.args.client (begun c.args.client c.args.id) c.answer.new.post c.refuse.new.post
+    refused c.args.self.now.plain c.args.client (begun c.args.client c.args.id) c.answer.new.post c.refuse.new.post
     (refusal_reply c.in-Err-Refused.refusal) outcome
     d.is (d.kept ∙ c.begin.ensures) c.in_ok-refuse-in-Err-Refused.ensures

@@ -7,6 +7,7 @@ use Rattle.lobby_post.specs.Mail.{plain}
 use Rattle.lobby_machine.specs.Seats.{Agree, IsListed, Numbered, users_of}
 use Rattle.lobby_machine.specs.Shown.{lobby_of}
 use Rattle.lobby_machine.proofs.Agreed.{agree_kept, listed_kept, name_drained, numbered_changed}
+use Rattle.lobby_machine.proofs.Lists.{known_same, lists_same}
 use Rattle.lobby_machine.proofs.maps.Maps.drain.Goals as goal
 
 pub invariant_of-self : goal.invariant_of-self
@@ -22,6 +23,7 @@ invariant_of-self c =
             (listed_kept m _ c.self.inside.seats.clients.keys (name_drained m c.args.client (length c.args.into.now)) c.self.invariant.1.listed);
         numbered = subst (λ (n : ByNumber Client). Numbered c.self.inside.last_client n) (sym c.drain.ensures.clients)
             (numbered_changed c.self.inside.last_client m c.args.client (drained (length c.args.into.now)) c.self.invariant.1.numbered);
+        known = known_same c.self.inside.clients c.drain.new.self c.drain.ensures.marks c.drain.ensures.lines _ c.self.invariant.1.known;
         seated = c.self.invariant.1.seated;
         counted = c.self.invariant.1.counted;
       },
@@ -33,3 +35,6 @@ returns-clause-next c =
     (users_of c.self.inside.seats.users.entries) c.self.inside.channels c.self.inside.battles.by_number.entries c.self.inside.last_client c.self.inside.battles.last in
     rw (← c.self.view_is) (ap (λ (m : ByNumber Client). record before { clients = m }) c.drain.ensures.clients
     ∙ sym (next_drain before c.args.client (length c.args.into.now)))
+
+pub returns-clause-dirty : goal.returns-clause-dirty
+returns-clause-dirty c = rw (← c.self.view_is) (lists_same c.self.inside.clients c.drain.new.self c.drain.ensures.marks c.drain.ensures.lines)

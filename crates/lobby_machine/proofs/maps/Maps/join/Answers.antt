@@ -3,7 +3,7 @@ use Rattle.lobby_machine.proofs.maps.Maps.join.Goals as goal
 
 pub returns : goal.returns
 returns c =
-    joins_so c.args.self.now c.args.client c.args.post.now c.tell_user.new.post c.tell_members.new.post c.tell_users.new.post
+    joins_so c.args.self.now.plain c.args.client c.args.post.now c.tell_user.new.post c.tell_members.new.post c.tell_users.new.post
     c.args.me.now c.args.channel.now
     c.in_ok-names.names.now c.copy-2.result c.copy.result
     c.in_ok-names.ensures.names c.in_ok-names.ensures.among c.copy.ensures c.copy-2.ensures

@@ -15,14 +15,14 @@ pub unreachable-requires : goal.unreachable-requires
 unreachable-requires c =
     let no : false ≡ true = ap is_some c.in-None.ensures ∙ found_is_among c.args.me.now c.battle.inside.room.members
     ∙ ap (λ (b : Battle). has_member c.args.me.now b.room) c.battle.view_is
-    ∙ is_member c.args.self.now c.args.me.now c.in_ok-number.number c.in_ok-number.battle.now c.in_ok-number.ensures.ok in
+    ∙ is_member c.args.self.now.plain c.args.me.now c.in_ok-number.number c.in_ok-number.battle.now c.in_ok-number.ensures.ok in
     absurd (cc)
 
 pub returns : goal.returns
 returns c =
-    subst (λ (z : ℤ). Obeyed c.args.self.now c.args.client c.args.post.now c.give_status.new.post c.in_ok-give_status.field-0
-    (set_own_status c.args.self.now c.args.me.now c.args.asked z)) (to_z-of_z w64 c.args.colour c.ranges.colour)
-    (has_so c.args.self.now c.args.client c.args.post.now c.give_status.new.post c.args.me.now c.in_ok-number.number c.in_ok-number.battle.now
+    subst (λ (z : ℤ). Obeyed c.args.self.now.plain c.args.client c.args.post.now c.give_status.new.post c.in_ok-give_status.field-0
+    (set_own_status c.args.self.now.plain c.args.me.now c.args.asked z)) (to_z-of_z w64 c.args.colour c.ranges.colour)
+    (has_so c.args.self.now.plain c.args.client c.args.post.now c.give_status.new.post c.args.me.now c.in_ok-number.number c.in_ok-number.battle.now
     c.args.asked c.merge_battle-status.result _ c.in_ok-give_status.field-0 c.in_ok-number.ensures.ok
     (c.merge_battle-status.ensures.word
     ∙ ap (λ w. merge battle_table w c.args.asked) (c.status.ensures ∙ ap status_in c.in-Some.ensures

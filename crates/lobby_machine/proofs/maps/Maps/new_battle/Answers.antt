@@ -13,8 +13,8 @@ returns-in-Ok-clause-asked c =
     let passworded : c.ne.result ≡ not (same_name c.in-OpenBattle.password no_password) = c.ne.ensures
     ∙ ap (λ (bytes : List ℕ). not (bytes_eq bytes no_password)) c.as_slice.ensures.value
     ∙ ap not (sym (is_eq-slice_cmp c.in-OpenBattle.password no_password)) in
-    ap (answer c.args.self.now c.args.client (Some c.args.me.now)) c.in-OpenBattle.is
-    ∙ (λ i. open_battle c.args.self.now c.args.me.now (record {
+    ap (answer c.args.self.now.plain c.args.client (Some c.args.me.now)) c.in-OpenBattle.is
+    ∙ (λ i. open_battle c.args.self.now.plain c.args.me.now (record {
       info = record {
         battle_type = c.in-OpenBattle.battle_type;
         nat_type = c.in-OpenBattle.nat_type;

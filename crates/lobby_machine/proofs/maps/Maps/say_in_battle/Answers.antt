@@ -9,7 +9,7 @@ use Rattle.lobby_machine.proofs.maps.Maps.say_in_battle.Goals as goal
 
 pub returns : goal.returns
 returns c =
-    said_so c.args.self.now c.args.client c.args.post.now c.tell_room.new.post c.args.me.now _ c.in_ok-battle.battle.now (reply_of c.args.line)
+    said_so c.args.self.now.plain c.args.client c.args.post.now c.tell_room.new.post c.args.me.now _ c.in_ok-battle.battle.now (reply_of c.args.line)
     c.in_ok-battle.ensures.ok
-    (subst (λ (b : Battle). Told c.args.self.now c.args.post.now c.tell_room.new.post (tell (users (member_names b.room)) (reply_of c.args.line ∷ [])
+    (subst (λ (b : Battle). Told c.args.self.now.plain c.args.post.now c.tell_room.new.post (tell (users (member_names b.room)) (reply_of c.args.line ∷ [])
     ∷ [])) c.battle.view_is c.in_ok-tell_room.ensures)

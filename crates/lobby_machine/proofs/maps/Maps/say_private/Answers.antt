@@ -6,6 +6,6 @@ use Rattle.lobby_machine.proofs.maps.Maps.say_private.Goals as goal
 
 pub returns : goal.returns
 returns c =
-    passes c.args.self.now c.args.client c.args.post.now c.tell_user.new.post _ _ _ _ (ap not c.in_ok-user_named.ensures.ok)
-    (told_then c.args.self.now c.args.post.now c.tell_issuer.new.self c.tell_user.new.post _ _
-    (c.in_ok-tell_issuer.ensures c.args.self.now) c.in_ok-tell_user.ensures) refl tt
+    passes c.args.self.now.plain c.args.client c.args.post.now c.tell_user.new.post _ _ _ _ (ap not c.in_ok-user_named.ensures.ok)
+    (told_then c.args.self.now.plain c.args.post.now c.tell_issuer.new.self c.tell_user.new.post _ _
+    (c.in_ok-tell_issuer.ensures c.args.self.now.plain) c.in_ok-tell_user.ensures) refl tt

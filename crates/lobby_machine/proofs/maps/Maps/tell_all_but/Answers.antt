@@ -5,12 +5,13 @@ use Rattle.lobby_model.specs.Outcome.{tell, everyone_but}
 use Rattle.lobby_post.specs.Posted.{Told}
 use Rattle.lobby_post.proofs.Telling.{told_all}
 use Rattle.lobby_machine.proofs.Base.{reaches_all_but}
+use Rattle.lobby_machine.proofs.Plain.{plainly}
 use Rattle.lobby_machine.proofs.maps.Maps.tell_all_but.Goals as goal
 
 pub returns : goal.returns
 returns c =
     subst (λ (s : State). Told s c.args.post.now c.address_all_but.new.post
-    (tell (everyone_but (c.args.first.now ∷ c.args.second.now ∷ [])) (reply_of c.args.line ∷ []) ∷ [])) c.self.view_is
+    (tell (everyone_but (c.args.first.now ∷ c.args.second.now ∷ [])) (reply_of c.args.line ∷ []) ∷ [])) (plainly c.self.view_is)
     (told_all _ c.args.post.now c.write.new.self c.address_all_but.new.post (reply_of c.args.line)
     (everyone_but (c.args.first.now ∷ c.args.second.now ∷ []))
     (record {

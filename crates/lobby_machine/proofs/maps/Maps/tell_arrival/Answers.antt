@@ -9,6 +9,7 @@ use Rattle.lobby_post.specs.Posted.{Told, with_others}
 use Rattle.lobby_machine.specs.Seats.{user_in}
 use Rattle.lobby_machine.proofs.Spoken.{arrival_told, not_zero}
 use Rattle.lobby_machine.proofs.Walks.{reaches_everyone}
+use Rattle.lobby_machine.proofs.Plain.{plainly}
 use Rattle.lobby_machine.proofs.maps.Maps.tell_arrival.Goals as goal
 use Rattle.lobby_machine.proofs.maps.Maps.tell_arrival.Goals.{then-status-ne0+in_ok-write_more_for_others, else-status-ne0}
 
@@ -26,7 +27,7 @@ returns c =
     let first : c.write_for_others.new.self ≡ record c.args.post.now
     { own = []; shared = printed_line None (added c.args.name.now (user_in c.args.seat.now)) } = search rules in
     subst (λ (s : State). Told s c.args.post.now c.address_all.new.post (tell others (arrival c.args.name.now (user_in c.args.seat.now)) ∷ []))
-    c.self.view_is
+    (plainly c.self.view_is)
     (arrival_told _ c.args.post.now c.write_for_others.new.self c.if-status-ne0.post c.address_all.new.post c.args.name.now
     (user_in c.args.seat.now) c.word-status.result c.word-status.ensures.same
     first is (record {

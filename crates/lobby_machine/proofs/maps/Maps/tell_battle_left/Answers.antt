@@ -8,4 +8,4 @@ use Rattle.lobby_machine.proofs.maps.Maps.tell_battle_left.Goals as goal
 pub returns-in_default-clause-only : goal.returns-in_default-clause-only
 returns-in_default-clause-only c = λ number b there in_it.
     contradiction (has_member c.args.me.now b.room) in_it
-    (none_at nat_cmp (λ (x : Battle). has_member c.args.me.now x.room) c.args.self.now.battles (c.battle_of.ensures.none c.in_default.is) number b there)
+    (none_at nat_cmp (λ (x : Battle). has_member c.args.me.now x.room) c.args.self.now.plain.battles (c.battle_of.ensures.none c.in_default.is) number b there)

@@ -19,32 +19,32 @@ loop-bot-preserved c =
     let bot : Bot = c.bot-item.result in
     let same : same_name c.args.owner.now bot.owner ≡ c.is_eq.result =
     sym (c.is_eq.ensures ∙ ap is_eq c.cmp.ensures ∙ ap (same_name c.args.owner.now) c.owner.ensures) in
-    let told : Told c.args.self.now c.loop-bot.post c.if-is_eq.post
+    let told : Told c.args.self.now.plain c.loop-bot.post c.if-is_eq.post
     (if same_name c.args.owner.now bot.owner then gone c.args.leaving c.args.number names (bot ∷ []) else []) =
     elim c.if-is_eq.branch [
       | then-is_eq+in-Seen+in_ok-tell_room-in-Seen w ↦
-          subst (λ (b : Bool). Told c.args.self.now c.loop-bot.post c.if-is_eq.post
+          subst (λ (b : Bool). Told c.args.self.now.plain c.loop-bot.post c.if-is_eq.post
           (if b then gone c.args.leaving c.args.number names (bot ∷ []) else [])) (sym (same ∙ w.if-is_eq.true))
-          (subst (λ (l : Leaving). Told c.args.self.now c.loop-bot.post c.if-is_eq.post (gone l c.args.number names (bot ∷ []))) (sym w.in-Seen.is)
-          (subst (λ (p : Posted). Told c.args.self.now c.loop-bot.post p (tell (users names) (reply.RemoveBot c.args.number bot.name ∷ []) ∷ []))
+          (subst (λ (l : Leaving). Told c.args.self.now.plain c.loop-bot.post c.if-is_eq.post (gone l c.args.number names (bot ∷ []))) (sym w.in-Seen.is)
+          (subst (λ (p : Posted). Told c.args.self.now.plain c.loop-bot.post p (tell (users names) (reply.RemoveBot c.args.number bot.name ∷ []) ∷ []))
           (sym w.post-is)
-          (subst (λ (n : List ℕ). Told c.args.self.now c.loop-bot.post w.tell_room.new.post
+          (subst (λ (n : List ℕ). Told c.args.self.now.plain c.loop-bot.post w.tell_room.new.post
           (tell (users names) (reply.RemoveBot c.args.number n ∷ []) ∷ [])) w.name.ensures w.in_ok-tell_room-in-Seen.ensures)))
       | then-is_eq+in-Unseen+in_ok-tell_others_in_room-in-Unseen w ↦
-          subst (λ (b : Bool). Told c.args.self.now c.loop-bot.post c.if-is_eq.post
+          subst (λ (b : Bool). Told c.args.self.now.plain c.loop-bot.post c.if-is_eq.post
           (if b then gone c.args.leaving c.args.number names (bot ∷ []) else [])) (sym (same ∙ w.if-is_eq.true))
-          (subst (λ (l : Leaving). Told c.args.self.now c.loop-bot.post c.if-is_eq.post (gone l c.args.number names (bot ∷ []))) (sym w.in-Unseen.is)
-          (subst (λ (p : Posted). Told c.args.self.now c.loop-bot.post p
+          (subst (λ (l : Leaving). Told c.args.self.now.plain c.loop-bot.post c.if-is_eq.post (gone l c.args.number names (bot ∷ []))) (sym w.in-Unseen.is)
+          (subst (λ (p : Posted). Told c.args.self.now.plain c.loop-bot.post p
           (to_others (tell (users names) (reply.RemoveBot c.args.number bot.name ∷ [])) ∷ [])) (sym w.post-is)
-          (subst (λ (n : List ℕ). Told c.args.self.now c.loop-bot.post w.tell_others_in_room.new.post
+          (subst (λ (n : List ℕ). Told c.args.self.now.plain c.loop-bot.post w.tell_others_in_room.new.post
           (to_others (tell (users names) (reply.RemoveBot c.args.number n ∷ [])) ∷ [])) w.name.ensures
           w.in_ok-tell_others_in_room-in-Unseen.ensures)))
       | else-is_eq w ↦
-          subst (λ (b : Bool). Told c.args.self.now c.loop-bot.post c.if-is_eq.post
+          subst (λ (b : Bool). Told c.args.self.now.plain c.loop-bot.post c.if-is_eq.post
           (if b then gone c.args.leaving c.args.number names (bot ∷ []) else [])) (sym (same ∙ w.if-is_eq.false))
-          (subst (λ (p : Posted). Told c.args.self.now c.loop-bot.post p []) (sym w.post-is) (told_nothing c.args.self.now c.loop-bot.post))
+          (subst (λ (p : Posted). Told c.args.self.now.plain c.loop-bot.post p []) (sym w.post-is) (told_nothing c.args.self.now.plain c.loop-bot.post))
     ] in
-    bot_told c.args.self.now c.args.post.now c.loop-bot.post c.if-is_eq.post c.args.leaving c.args.number names c.args.owner.now
+    bot_told c.args.self.now.plain c.args.post.now c.loop-bot.post c.if-is_eq.post c.args.leaving c.args.number names c.args.owner.now
     c.args.room.now.bots c.loop-bot.bot-index bot bot
     (subst (λ (xs : List Bot). c.loop-bot.bot-index < length xs) c.bots-bot-items.ensures c.loop-bot-test.true)
     (c.bot-item.is ∙ ap (λ (xs : List Bot). slice_index_or xs c.loop-bot.bot-index bot) c.bots-bot-items.ensures)

@@ -7,5 +7,5 @@ use Rattle.lobby_machine.proofs.InBattles.{gone}
 use Rattle.lobby_machine.proofs.maps.Maps.tell_bots_gone.Given as goal
 
 abbrev pub invariant-loop-bot : goal.invariant-loop-bot
-invariant-loop-bot l = Told l.self l.initial.post l.post (gone l.leaving l.number (member_names l.room)
+invariant-loop-bot l = Told l.self.plain l.initial.post l.post (gone l.leaving l.number (member_names l.room)
     (filter (λ b. same_name l.owner b.owner) (take l.bot-index l.room.bots)))

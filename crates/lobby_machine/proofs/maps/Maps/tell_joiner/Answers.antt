@@ -7,18 +7,19 @@ use Rattle.lobby_model.specs.Outcome.{tell, user}
 use Rattle.lobby_model.specs.Battles.{room_lines}
 use Rattle.lobby_post.specs.Posted.{Told, blank, with_own}
 use Rattle.lobby_machine.proofs.InBattles.{own_then, room_written, told_own_user}
+use Rattle.lobby_machine.proofs.Plain.{plainly}
 use Rattle.lobby_machine.proofs.maps.Maps.tell_joiner.Goals as goal
 
 pub returns : goal.returns
 returns c =
-    subst (λ (b : Battle). Told c.args.self.now c.args.post.now c.address_user.new.post (tell (user c.args.me.now)
+    subst (λ (b : Battle). Told c.args.self.now.plain c.args.post.now c.address_user.new.post (tell (user c.args.me.now)
     (reply.JoinBattle c.args.number b.game_hash ∷ reply.JoinedBattle c.args.number c.args.me.now None
     ∷ (room_lines c.args.number b.room ++ reply.RequestBattleStatus ∷ [])) ∷ [])) c.battle.view_is
     (subst (λ (s : State). Told s c.args.post.now c.address_user.new.post (tell (user c.args.me.now)
     (reply.JoinBattle c.args.number c.battle.inside.game_hash ∷ reply.JoinedBattle c.args.number c.args.me.now None
-    ∷ (room_lines c.args.number c.battle.inside.room ++ reply.RequestBattleStatus ∷ [])) ∷ [])) c.self.view_is
+    ∷ (room_lines c.args.number c.battle.inside.room ++ reply.RequestBattleStatus ∷ [])) ∷ [])) (plainly c.self.view_is)
     (told_own_user _ c.self.inside.seats.users.entries c.args.post.now c.write_own-3.new.self c.address_user.new.post c.args.me.now _
-    c.self.invariant.1.agree (ap (λ (s : State). name_of s c.args.post.now.issuer) c.self.view_is ∙ c.requires)
+    c.self.invariant.1.agree (ap (λ (s : State). name_of s c.args.post.now.issuer) (plainly c.self.view_is) ∙ c.requires)
     (own_then (blank c.args.post.now) c.write_own.new.self c.write_own-3.new.self (reply.JoinBattle c.args.number c.battle.inside.game_hash ∷ [])
     (reply.JoinedBattle c.args.number c.args.me.now None ∷ (room_lines c.args.number c.battle.inside.room ++ reply.RequestBattleStatus ∷ []))
     (c.in_ok-write_own.ensures

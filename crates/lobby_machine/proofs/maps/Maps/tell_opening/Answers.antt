@@ -8,9 +8,9 @@ use Rattle.lobby_machine.proofs.maps.Maps.tell_opening.Goals as goal
 
 pub tell_opener-requires : goal.tell_opener-requires
 tell_opener-requires c =
-    ap (name_of c.args.self.now) c.in_ok-tell_all.ensures.issuer ∙ c.requires
+    ap (name_of c.args.self.now.plain) c.in_ok-tell_all.ensures.issuer ∙ c.requires
 
 pub returns : goal.returns
-returns c = told_then c.args.self.now c.args.post.now c.tell_all.new.post c.tell_opener.new.post _ _
-    (subst (λ (b : Battle). Told c.args.self.now c.args.post.now c.tell_all.new.post (tell everyone (opened_line c.args.number b.info ∷ []) ∷ []))
+returns c = told_then c.args.self.now.plain c.args.post.now c.tell_all.new.post c.tell_opener.new.post _ _
+    (subst (λ (b : Battle). Told c.args.self.now.plain c.args.post.now c.tell_all.new.post (tell everyone (opened_line c.args.number b.info ∷ []) ∷ []))
     c.battle.view_is c.in_ok-tell_all.ensures) c.in_ok-tell_opener.ensures

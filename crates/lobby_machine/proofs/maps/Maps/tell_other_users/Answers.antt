@@ -5,12 +5,13 @@ use Rattle.lobby_model.specs.Outcome.{tell, users}
 use Rattle.lobby_post.specs.Posted.{Told, but_issuer}
 use Rattle.lobby_post.proofs.Telling.{told_others}
 use Rattle.lobby_machine.proofs.Walks.{reaches_users}
+use Rattle.lobby_machine.proofs.Plain.{plainly}
 use Rattle.lobby_machine.proofs.maps.Maps.tell_other_users.Goals as goal
 
 pub returns : goal.returns
 returns c =
     subst (λ (s : State). Told s c.args.post.now c.address_names.new.post (tell (but_issuer (users c.args.names.now)) (reply_of c.args.line ∷ [])
-    ∷ [])) c.self.view_is
+    ∷ [])) (plainly c.self.view_is)
     (told_others _ c.args.post.now c.write_for_others.new.self c.address_names.new.post (reply_of c.args.line) (users c.args.names.now)
     (record {
       clients = _;

@@ -5,11 +5,12 @@ use Rattle.lobby_model.specs.Outcome.{tell, everyone, others}
 use Rattle.lobby_post.specs.Posted.{Told}
 use Rattle.lobby_post.proofs.Telling.{told_others}
 use Rattle.lobby_machine.proofs.Walks.{reaches_everyone}
+use Rattle.lobby_machine.proofs.Plain.{plainly}
 use Rattle.lobby_machine.proofs.maps.Maps.tell_others.Goals as goal
 
 pub returns : goal.returns
 returns c =
-    subst (λ (s : State). Told s c.args.post.now c.address_all.new.post (tell others (reply_of c.args.line ∷ []) ∷ [])) c.self.view_is
+    subst (λ (s : State). Told s c.args.post.now c.address_all.new.post (tell others (reply_of c.args.line ∷ []) ∷ [])) (plainly c.self.view_is)
     (told_others _ c.args.post.now c.write_for_others.new.self c.address_all.new.post (reply_of c.args.line) everyone
     (record {
       clients = _;

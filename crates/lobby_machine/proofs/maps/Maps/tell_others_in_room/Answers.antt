@@ -7,12 +7,13 @@ use Rattle.lobby_post.specs.Posted.{Told, addressed, but_issuer}
 use Rattle.lobby_post.proofs.Telling.{told_others}
 use Rattle.lobby_machine.specs.Seats.{clients_of}
 use Rattle.lobby_machine.proofs.Walks.{reaches_users}
+use Rattle.lobby_machine.proofs.Plain.{plainly}
 use Rattle.lobby_machine.proofs.maps.Maps.tell_others_in_room.Goals as goal
 
 pub returns : goal.returns
 returns c =
     subst (λ (s : State). Told s c.args.post.now c.address_members.new.post (tell (but_issuer (users (member_names c.args.room.now))) (reply_of c.args.line ∷ [])
-    ∷ [])) c.self.view_is
+    ∷ [])) (plainly c.self.view_is)
     (told_others _ c.args.post.now c.write_for_others.new.self c.address_members.new.post (reply_of c.args.line) (users (member_names c.args.room.now))
     (record {
       clients = _;

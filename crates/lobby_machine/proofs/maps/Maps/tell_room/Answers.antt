@@ -7,12 +7,13 @@ use Rattle.lobby_post.specs.Posted.{Told, addressed}
 use Rattle.lobby_post.proofs.Telling.{told_all}
 use Rattle.lobby_machine.specs.Seats.{clients_of}
 use Rattle.lobby_machine.proofs.Walks.{reaches_users}
+use Rattle.lobby_machine.proofs.Plain.{plainly}
 use Rattle.lobby_machine.proofs.maps.Maps.tell_room.Goals as goal
 
 pub returns : goal.returns
 returns c =
     subst (λ (s : State). Told s c.args.post.now c.address_members.new.post (tell (users (member_names c.args.room.now)) (reply_of c.args.line ∷ [])
-    ∷ [])) c.self.view_is
+    ∷ [])) (plainly c.self.view_is)
     (told_all _ c.args.post.now c.write.new.self c.address_members.new.post (reply_of c.args.line) (users (member_names c.args.room.now))
     (record {
       clients = _;

@@ -5,12 +5,13 @@ use Rattle.lobby_model.specs.Outcome.{tell, user}
 use Rattle.lobby_post.specs.Posted.{Told}
 use Rattle.lobby_post.proofs.Telling.{told_all}
 use Rattle.lobby_machine.proofs.Walks.{reaches_user}
+use Rattle.lobby_machine.proofs.Plain.{plainly}
 use Rattle.lobby_machine.proofs.maps.Maps.tell_user.Goals as goal
 
 pub returns : goal.returns
 returns c =
     subst (λ (s : State). Told s c.args.post.now c.address_user.new.post (tell (user c.args.name.now) (reply_of c.args.line ∷ [])
-    ∷ [])) c.self.view_is
+    ∷ [])) (plainly c.self.view_is)
     (told_all _ c.args.post.now c.write.new.self c.address_user.new.post (reply_of c.args.line) (user c.args.name.now)
     (record {
       clients = _;
