@@ -1,5 +1,5 @@
 -- A list with one value changed.
-use Rattle.std.proofs.Common.{◌≡◌, ◌≢◌, ℕ, zero, suc, ◌<◌, ◌≤◌, List, [], ◌∷◌, ◌++◌, length, refl, sym, ap, ◌∙◌, arith, slice_index_or, slice_set}
+use Rattle.std.proofs.Common.{◌≡◌, ◌≢◌, ℕ, zero, suc, ◌<◌, ◌≤◌, List, [], ◌∷◌, length, refl, sym, ap, ◌∙◌, arith, slice_index_or, slice_set}
 use Rattle.std.specs.Prelude.{Some, None, Bool, true, false, if◌then◌else◌, slice_get}
 use Rattle.std.specs.Option.{option_map}
 use Rattle.lobby_hall.specs.ByClient.{of_client}
@@ -21,13 +21,6 @@ module _ {X : Type 0} (f : X → X) where
   length-changed [] k = refl
   length-changed (y ∷ xs) zero = refl
   length-changed (y ∷ xs) (suc k) = ap suc (length-changed xs k)
-
-  -- the first value behind a front
-  pub changed-front : (front : List X) (x : X) (rest : List X) (k : ℕ) → k ≡ length front → changed f (front ++ x ∷ rest) k ≡ front ++ f x ∷ rest
-  changed-front [] x rest zero h = refl
-  changed-front [] x rest (suc k) h = absurd (omega arith)
-  changed-front (y ∷ front) x rest zero h = absurd (omega arith)
-  changed-front (y ∷ front) x rest (suc k) h = ap (λ zs. y ∷ zs) (changed-front front x rest k (omega arith))
 
   pub get-changed_same : (xs : List X) (k : ℕ) → slice_get (changed f xs k) k ≡ option_map f (slice_get xs k)
   get-changed_same [] k = refl

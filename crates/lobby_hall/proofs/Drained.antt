@@ -65,19 +65,19 @@ same_drain s c n in_order =
         ap (λ (u : List ℕ). record x { unread = u }) (ap (λ u. drop (min n (length u)) x.unread) (unread_there s c x found) ∙ drop_min n x.unread)
 
 -- only the client that reads has less to read
-drained_at : (s : State) (c n q : ℕ)
+pub drained_at : (s : State) (c n q : ℕ)
     → at_number (next s (event.Drain c n)).clients q ≡ option_map (λ x. if same_number c q then drained n x else x) (at_number s.clients q)
 drained_at s c n q =
     ap (λ (t : State). at_number t.clients q) (next_drain s c n) ∙ at-change nat_cmp nat_cmp-IsAntisymmetric (drained n) s.clients c q
 
-drained_other : (s : State) (c n q : ℕ) → same_number q c ≡ false → unread_of (next s (event.Drain c n)) q ≡ unread_of s q
+pub drained_other : (s : State) (c n q : ℕ) → same_number q c ≡ false → unread_of (next s (event.Drain c n)) q ≡ unread_of s q
 drained_other s c n q other =
     unread_same s (next s (event.Drain c n)) q
     (drained_at s c n q
     ∙ ap (λ b. option_map (λ x. if b then drained n x else x) (at_number s.clients q)) (same_either_way c q ∙ other)
     ∙ option_map_id (at_number s.clients q))
 
-drained_same : (s : State) (c n : ℕ) (x : Client) → at_number s.clients c ≡ Some x → unread_of (next s (event.Drain c n)) c ≡ drop n x.unread
+pub drained_same : (s : State) (c n : ℕ) (x : Client) → at_number s.clients c ≡ Some x → unread_of (next s (event.Drain c n)) c ≡ drop n x.unread
 drained_same s c n x found =
     unread_there (next s (event.Drain c n)) c (drained n x)
     (drained_at s c n c ∙ (λ i. option_map (λ x. if same_itself c i then drained n x else x) (found i)))

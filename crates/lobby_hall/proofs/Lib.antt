@@ -8,3 +8,4 @@ pub mod Drained
 pub mod Opened
 pub mod Steps
 pub mod Answered
+pub mod Following

@@ -3,3 +3,4 @@ pub mod Record
 pub mod Copied
 pub mod Standing
 pub mod Schedules
+pub mod Following

@@ -53,19 +53,26 @@ pub struct Hall {
     lobby: Lobby,
     // of client 1, 2, 3 and so on; none of a client that is removed
     sessions: Vec<Option<Session>>,
-    // may lack bytes that still wait in the lobby
+    // may lack bytes that still wait in the lobby, those of clients in its lists of changed ones
     logs: Record,
+    // taken out of its list, but its log may lack bytes as well, since memory was refused
+    behind: Option<u64>,
+    // all clients are served by the first workers, so many
+    homes: u8,
     // where the bytes that a client reads go
     drained: Vec<u8>,
 }
 
 impl Model for Hall {
     ghost use Rattle.lobby_hall.specs.Copied.{completed};
+    ghost use Rattle.lobby_hall.specs.Following.{Follows};
     ghost use Rattle.lobby_hall.specs.Standing.{Kept};
 
     ghost Value = { Kept };
 
     ghost view = { λ h. record { lobby = h.lobby.plain; sessions = h.sessions.items; record_so_far = completed h.logs h.lobby.plain } };
+
+    ghost invariant = { λ h. Follows h.homes h.lobby h.behind h.logs };
 }
 
 impl Hall {
@@ -84,6 +91,8 @@ impl Hall {
             lobby: Lobby::new(alloc, settings, accounts)?,
             sessions: Vec::new(alloc),
             logs: Record::new(alloc),
+            behind: None,
+            homes: 0,
             drained: Vec::new(alloc),
         })
     }
@@ -107,7 +116,10 @@ impl Hall {
             }
         }
         match self.lobby.open(ip, home) {
-            Ok(_) => Ok(()),
+            Ok(_) => {
+                self.homes = self.homes.max(home + 1);
+                Ok(())
+            }
             Err(_) => {
                 let _ = self.sessions.pop();
                 self.logs.take_back();
@@ -151,7 +163,8 @@ impl Hall {
         ensures within { OnOk result (AllByRecursion IsWithin self.old.record_so_far) }
         ensures err { OnErr result (self.new ≡ self.old) }
     {
-        self.logs.catch_up_all(&self.lobby)?;
+        self.logs
+            .catch_up_changed(&mut self.lobby, &mut self.behind, self.homes)?;
         let _ = self.lobby.say(client, request)?;
         accept(&mut self.sessions, client);
         Ok(())
@@ -165,7 +178,8 @@ impl Hall {
         ensures within { OnOk result (AllByRecursion IsWithin self.old.record_so_far) }
         ensures err { OnErr result (self.new ≡ self.old) }
     {
-        self.logs.catch_up_all(&self.lobby)?;
+        self.logs
+            .catch_up_changed(&mut self.lobby, &mut self.behind, self.homes)?;
         let _ = self.lobby.shut(client)?;
         close(&mut self.sessions, client);
         Ok(())
@@ -244,7 +258,8 @@ impl Hall {
         ensures* stays { sem 𝓛 (Rests the_row self.entry (λ hall. hall ≡ self.old)) }
         ensures value { IfOk result (λ logs. logs.now ≡ self.old.record_so_far) }
     {
-        self.logs.catch_up_all(&self.lobby)?;
+        self.logs
+            .catch_up_changed(&mut self.lobby, &mut self.behind, self.homes)?;
         Ok(&self.logs)
     }
 
@@ -253,12 +268,16 @@ impl Hall {
     pub fn into_record(mut self) -> Result<Record, HallError>
         ensures { IfOk result (λ logs. logs ≡ self.record_so_far) }
     {
-        let caught_up = self.logs.catch_up_all(&self.lobby);
+        let caught_up = self
+            .logs
+            .catch_up_changed(&mut self.lobby, &mut self.behind, self.homes);
         let Hall {
             alloc: _,
             lobby,
             sessions,
             logs,
+            behind: _,
+            homes: _,
             drained: _,
         } = self;
         drop(lobby);

@@ -1,12 +1,12 @@
 //! What a schedule leaves of each client.
 
-ghost use Rattle.std.specs.Prelude.{◌≡◌, ◌+◌, ◌-◌, ◌≤◌, [], ◌∷◌, ◌++◌, length, take, OnOk, IfSome, is_ok, if◌then◌else◌};
+ghost use Rattle.std.specs.Prelude.{◌≡◌, ℕ, ◌+◌, ◌-◌, ◌<◌, ◌≤◌, [], ◌∷◌, ◌++◌, length, take, OnOk, IfSome, None, is_ok, if◌then◌else◌};
 ghost use Rattle.std.specs.Option.{option_copied};
-ghost use Rattle.std.specs.List.{AllByRecursion};
-ghost use Rattle.lobby_machine.specs.Shown.{unread_of};
+ghost use Rattle.lobby_machine.specs.Shown.{dirty_at, unread_of};
 ghost use Rattle.lobby_hall.specs.ByClient.{of_client};
 ghost use Rattle.lobby_hall.specs.Record.{log_at};
 ghost use Rattle.lobby_hall.specs.Copied.{IsWithin, caught_up, changed_at, completed, completed_log, no_log, read_on};
+ghost use Rattle.lobby_hall.specs.Following.{Follows, IsFull, StillFollows};
 
 use crate::place::place_of;
 use lobby_machine::Lobby;
@@ -144,14 +144,58 @@ impl Record {
         log.catch_up(lobby, client)
     }
 
-    /// Copies the unread bytes of all clients that their logs lack.
-    pub(crate) fn catch_up_all(&mut self, lobby: &Lobby) -> Result<(), AllocError>
-        ensures kept { completed self.new lobby.now.plain ≡ completed self.old lobby.now.plain }
-        ensures all { OnOk result (self.new ≡ completed self.old lobby.now.plain) }
-        ensures within { OnOk result (AllByRecursion IsWithin self.old) }
+    /// Copies the unread bytes that the log of the client lacks that is behind, if one is.
+    fn catch_up_behind(&mut self, lobby: &Lobby, behind: &mut Option<u64>) -> Result<(), AllocError>
+        ensures follows { StillFollows lobby.now behind.old self.old lobby.now behind.new self.new }
+        ensures none { OnOk result (behind.new ≡ None) }
     {
-        for place in 0..self.logs.len() {
-            self.catch_up(lobby, place as u64 + 1)?;
+        if let Some(client) = *behind {
+            self.catch_up(lobby, client)?;
+            *behind = None;
+        }
+        Ok(())
+    }
+
+    /// Copies the unread bytes of the changed clients of one worker that their logs lack.
+    fn catch_up_home(
+        &mut self,
+        lobby: &mut Lobby,
+        behind: &mut Option<u64>,
+        home: u8,
+    ) -> Result<(), AllocError>
+        requires home { home ≤ 63 }
+        requires none { behind.old ≡ None }
+        ensures plain { lobby.new.plain ≡ lobby.old.plain }
+        ensures follows { StillFollows lobby.old behind.old self.old lobby.new behind.new self.new }
+        ensures none { OnOk result (behind.new ≡ None) }
+        ensures served { OnOk result (dirty_at lobby.new home ≡ []) }
+        ensures others { OnOk result ((worker : ℕ) → worker ≤ 63 → dirty_at lobby.old worker ≡ [] → dirty_at lobby.new worker ≡ []) }
+    {
+        while let Some(client) = lobby.next_dirty(home) {
+            *behind = Some(client);
+            self.catch_up_behind(lobby, behind)?;
+        }
+        Ok(())
+    }
+
+    /// Copies the unread bytes that logs lack: those of the client that is behind, and of the changed
+    /// clients of the first workers, so many. Where memory is refused, the rest stays as it was.
+    pub(crate) fn catch_up_changed(
+        &mut self,
+        lobby: &mut Lobby,
+        behind: &mut Option<u64>,
+        homes: u8,
+    ) -> Result<(), AllocError>
+        requires { Follows homes lobby.old behind.old self.old }
+        ensures plain { lobby.new.plain ≡ lobby.old.plain }
+        ensures follows { Follows homes lobby.new behind.new self.new }
+        ensures kept { completed self.new lobby.old.plain ≡ completed self.old lobby.old.plain }
+        ensures all { OnOk result (self.new ≡ completed self.old lobby.old.plain) }
+        ensures full { OnOk result ((c : ℕ) → IsFull self.new lobby.new.plain c) }
+    {
+        self.catch_up_behind(lobby, behind)?;
+        for home in 0..homes {
+            self.catch_up_home(lobby, behind, home)?;
         }
         Ok(())
     }

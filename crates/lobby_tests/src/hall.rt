@@ -1,5 +1,6 @@
 //! Halls and sessions with memory at hand, and a step that memory refused.
 
+ghost use Rattle.std.specs.Prelude.{◌≤◌};
 ghost use Rattle.std.specs.List.{AllByRecursion};
 ghost use Rattle.lobby_hall.specs.Standing.{HasHome};
 
@@ -127,6 +128,60 @@ fn a_step_that_memory_refused_leaves_no_trace(rt: HostRuntime) -> Result<(), Fai
     let mut hall = new_hall(rt.alloc())?;
     go_on(&rt, rt.alloc(), &mut hall);
     same(&rt, has_read(hall), Ok(true));
+    Ok(())
+}
+
+const GREETING_AND_PONGS: &[u8] = b"TASSERVER 0.38 * 8201 0\nPONG\nPONG\n";
+
+fn open_at(hall: &mut Hall, home: u8) -> Result<(), HallError>
+    requires { home ≤ 63 }
+{
+    takes(
+        hall,
+        &Step::Open {
+            ip: [192, 168, 0, 1],
+            home,
+        },
+    )
+}
+
+fn ping(hall: &mut Hall, alloc: Global, client: u64) -> Result<(), HallError> {
+    let bytes = piece(alloc, b"PING\n")?;
+    takes(hall, &Step::Arrive { client, bytes })?;
+    takes(hall, &Step::Take { client })
+}
+
+// The first client is closed before it reads, and the second reads in between.
+fn serve_workers(hall: &mut Hall, alloc: Global) -> Result<(), HallError> {
+    open_at(hall, 63)?;
+    open_at(hall, 5)?;
+    ping(hall, alloc, 1)?;
+    ping(hall, alloc, 2)?;
+    takes(
+        hall,
+        &Step::Read {
+            client: 2,
+            count: 26,
+        },
+    )?;
+    takes(hall, &Step::Shut { client: 1 })?;
+    ping(hall, alloc, 2)
+}
+
+fn compare_workers(rt: &impl Abort, record: &Record) {
+    same(rt, record.put(1), GREETING_AND_PONG);
+    assert!(rt; record.read(1).is_empty());
+    same(rt, record.put(2), GREETING_AND_PONGS);
+    same(rt, record.read(2), &GREETING_AND_PONGS[..26]);
+}
+
+#[test]
+fn clients_of_several_workers_leave_their_records(rt: HostRuntime) -> Result<(), Fail> {
+    let mut hall = new_hall(rt.alloc())?;
+    same(&rt, serve_workers(&mut hall, rt.alloc()), Ok(()));
+    let record = hall.into_record()?;
+    compare_workers(&rt, &record);
+    drop(record);
     Ok(())
 }
 

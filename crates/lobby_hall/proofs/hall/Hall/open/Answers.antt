@@ -1,7 +1,9 @@
-use Rattle.std.proofs.Common.{sym, subst}
+use Rattle.std.proofs.Common.{sym, subst, arith}
 use Rattle.lobby_model.specs.declared.schedule.Step.TheVariants as step
 use Rattle.lobby_hall.specs.Copied.{completed}
+use Rattle.lobby_hall.specs.Following.{Follows}
 use Rattle.lobby_hall.specs.Standing.{Kept, Stands, StandsAfter}
+use Rattle.lobby_hall.proofs.Following.{follows_open}
 use Rattle.lobby_hall.proofs.Steps.{was_opened}
 use Rattle.lobby_hall.proofs.hall.Hall.open.Goals as goal
 
@@ -16,3 +18,11 @@ returns-in-Ok-open-clause-ok c = λ settings accounts events w st.
     (was_opened settings accounts events w c.self.inside.lobby.plain c.self.inside.sessions.items c.self.inside.logs
     (subst (λ (h : Kept). Stands h settings accounts events w) (sym c.self.view_is) st)
     c.args.ip c.args.home c.new-session.result c.new-session.ensures.heard c.in-Ok-open.ensures.ok.0)
+
+pub invariant_of-self-in-Ok-open : goal.invariant_of-self-in-Ok-open
+invariant_of-self-in-Ok-open c =
+    subst (Follows c.max-self-inside.result c.open.new.self c.self.inside.behind) (sym c.in_ok-begin.ensures)
+    (follows_open c.self.inside.homes c.self.inside.lobby c.self.inside.behind c.self.inside.logs c.self.invariant c.args.ip c.args.home
+    c.max-self-inside.result c.in-Ok-open.field-0 c.open.new.self c.in-Ok-open.ensures.ok.0 c.in-Ok-open.ensures.ok.1
+    (omega (arith, c.max-self-inside.ensures)) (omega (arith, c.max-self-inside.ensures)) (omega (arith, c.max-self-inside.ensures, c.self.invariant.few, c.requires))
+    c.in-Ok-open.ensures.number c.in-Ok-open.ensures.dirty)

@@ -2,9 +2,10 @@ use Rattle.std.proofs.Common.{◌≡◌, ◌∙◌, ap, sym, subst, length, arit
 use Rattle.lobby_model.specs.declared.event.Event.TheVariants as event
 use Rattle.lobby_model.specs.declared.schedule.Step.TheVariants as step
 use Rattle.lobby_model.specs.Next.{next}
-use Rattle.lobby_hall.specs.Copied.{completed}
+use Rattle.lobby_hall.specs.Copied.{changed_at, completed, read_on}
 use Rattle.lobby_hall.specs.Standing.{TakesStep}
 use Rattle.lobby_hall.proofs.Answered.{read_ok}
+use Rattle.lobby_hall.proofs.Following.{follows_drain}
 use Rattle.lobby_hall.proofs.hall.Hall.read.Goals as goal
 
 pub returns-clause-ok : goal.returns-clause-ok
@@ -15,3 +16,9 @@ returns-clause-ok c =
     c.drain-drained.new.self.plain c.catch_up.new.self c.note_read.new.self (sym c.if-not-has_client.ensures)
     (omega (arith, c.min-wanted.ensures, c.unread.ensures.count)) (omega (arith, c.drain-drained.ensures.count, place))
     (c.drain-drained.ensures.next ∙ ap (λ n. next c.self.inside.lobby.plain (event.Drain c.args.client n)) place) c.in_ok-catch_up.ensures.log c.note_read.ensures.log c.note_read.ensures.none)
+
+pub invariant_of-self-2 : goal.invariant_of-self-2
+invariant_of-self-2 c =
+    follows_drain c.self.inside.homes c.self.inside.lobby c.self.inside.behind c.self.inside.logs c.self.invariant c.args.client (length c.deref_mut.result.now)
+    c.drain-drained.result.count c.drain-drained.new.self c.note_read.new.self c.drain-drained.ensures.next c.drain-drained.ensures.dirty c.drain-drained.ensures.count
+    (c.note_read.ensures.log ∙ ap (λ ls. changed_at (read_on c.drain-drained.result.count) ls c.args.client) c.in_ok-catch_up.ensures.log)
