@@ -1,6 +1,7 @@
 //! Events in a battle that are refused memory.
 
 use crate::machine::{EVENTS, drains, lobby_of_three, only_if, serve_all, serve_and_see};
+use crate::plays::{self, Part};
 use crate::verdict::same;
 use lobby_machine::Lobby;
 use std::alloc::Global;
@@ -70,28 +71,23 @@ fn lobby_of_users(alloc: Global) -> Option<Lobby> {
 
 #[test]
 fn three_users_are_in_no_battle(rt: HostRuntime) {
-    let made = lobby_of_users(rt.alloc());
-    match &made {
-        Some(lobby) => same(&rt, lobby.last_client(), 3),
-        None => assert!(rt; false, "no lobby"),
-    }
-    drop(made);
+    plays::play(
+        &rt,
+        rt.alloc(),
+        lobby_of_users(rt.alloc()),
+        Part::LastClient(3),
+    );
 }
 
-fn play(rt: &impl Abort, alloc: Global, lobby: &mut Lobby) {
+pub fn play(rt: &impl Abort, alloc: Global, lobby: &mut Lobby) {
     serve_and_see(rt, alloc, lobby, &OPENING, &OPENED);
     serve_and_see(rt, alloc, lobby, &FURNISHING, &TAGGED);
     serve_and_see(rt, alloc, lobby, &JOINING, &JOINED);
     serve_and_see(rt, alloc, lobby, &LEAVING, &LEFT);
-    assert!(rt; drains(lobby, 3, &mut [0; 8], b"", true));
+    same(rt, drains(lobby, 3, &mut [0; 8], b"", true), true);
 }
 
 #[test]
 fn a_battle_event_that_memory_refused_leaves_no_trace(rt: HostRuntime) {
-    let mut made = lobby_of_users(rt.alloc());
-    match &mut made {
-        Some(lobby) => play(&rt, rt.alloc(), lobby),
-        None => assert!(rt; false, "no lobby"),
-    }
-    drop(made);
+    plays::play(&rt, rt.alloc(), lobby_of_users(rt.alloc()), Part::Battling);
 }

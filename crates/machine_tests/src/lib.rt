@@ -7,6 +7,8 @@ mod battles;
 #[cfg(test)]
 mod machine;
 #[cfg(test)]
+mod plays;
+#[cfg(test)]
 mod talk;
 #[cfg(test)]
 mod verdict;

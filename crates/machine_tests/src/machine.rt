@@ -3,7 +3,8 @@
 ghost use Rattle.std.specs.Prelude.{◌<◌, IfOk, IsTrue};
 ghost use Rattle.command_grammar.specs.Kinds.{keeps_kinds};
 
-use crate::verdict::same;
+use crate::plays::{Part, play};
+use crate::verdict::{fail, holds, same};
 use account_book::{Account, AccountBook};
 use command_grammar::{Request, read_request};
 use line_words::TextBuf;
@@ -12,6 +13,7 @@ use lobby_model::Settings;
 use lobby_model::settings::LEAST_OUTBOX_LIMIT;
 use std::alloc::{AllocError, Global};
 use std::process::Abort;
+use std::slice;
 
 const WORD: &[u8] = b"X03MO1qnZdYdgyfeuILPmQ==";
 
@@ -63,8 +65,11 @@ fn new_accounts(alloc: Global) -> Option<AccountBook> {
 
 // The default settings, but for the least limit of an outbox and a message of the day.
 fn new_settings(alloc: Global) -> Option<Settings> {
-    let motd = [TextBuf::copy_of(alloc, b"Welcome").ok()?];
-    Settings::new(alloc, b"0.38", b"*", 8201, 0, &motd, LEAST_OUTBOX_LIMIT).ok()
+    let motd = TextBuf::copy_of(alloc, b"Welcome").ok()?;
+    let lines = slice::from_ref(&motd);
+    let settings = Settings::new(alloc, b"0.38", b"*", 8201, 0, lines, LEAST_OUTBOX_LIMIT);
+    drop(motd);
+    settings.ok()
 }
 
 // A lobby of these accounts.
@@ -125,7 +130,7 @@ fn reads(lobby: &mut Lobby, client: u64, want: &[u8]) -> bool {
 // Each of these clients reads this and no more.
 pub fn see(rt: &impl Abort, lobby: &mut Lobby, seen: &[(u64, &[u8])]) {
     for (client, want) in seen {
-        assert!(rt; reads(lobby, *client, *want), "{client}");
+        holds(rt, reads(lobby, *client, *want), *client);
     }
 }
 
@@ -145,7 +150,7 @@ fn wakes_nobody(lobby: &mut Lobby, alloc: Global, client: u64, line: &[u8]) -> b
 }
 
 fn open_two(rt: &impl Abort, lobby: &mut Lobby) {
-    assert!(rt; lobby.has_place());
+    same(rt, lobby.has_place(), true);
     same(rt, lobby.open([10, 0, 0, 1], 5), Ok(1));
     same(rt, lobby.open([10, 0, 0, 2], 63), Ok(2));
     same(rt, lobby.last_client(), 2);
@@ -164,62 +169,62 @@ const ANSWERED: [&[u8]; 9] = [
     b"LOGIN Anna 1B2M2Y8AsgTpgAmY7PhCfg== 0 * TestLobby 1.0",
 ];
 
-fn wake(rt: &impl Abort, alloc: Global, lobby: &mut Lobby) {
+// The first line of these with which one of the clients wakes others than its own worker.
+fn misses(lobby: &mut Lobby, alloc: Global) -> Option<&'static [u8]> {
     for line in ANSWERED {
-        assert!(rt; wakes_alone(lobby, alloc, 1, line, 5), "{line:?}");
-        assert!(rt; wakes_alone(lobby, alloc, 2, line, 63), "{line:?}");
+        if !wakes_alone(lobby, alloc, 1, line, 5) || !wakes_alone(lobby, alloc, 2, line, 63) {
+            return Some(line);
+        }
     }
-    for line in [b"   ".as_slice(), b"#9 "] {
-        assert!(rt; wakes_nobody(lobby, alloc, 1, line), "{line:?}");
-    }
+    None
+}
+
+pub fn wake(rt: &impl Abort, alloc: Global, lobby: &mut Lobby) {
+    open_two(rt, lobby);
+    same(rt, misses(lobby, alloc), None);
+    same(rt, wakes_nobody(lobby, alloc, 1, b"   "), true);
+    same(rt, wakes_nobody(lobby, alloc, 1, b"#9 "), true);
 }
 
 #[test]
 fn an_answer_wakes_the_worker_of_its_client(rt: HostRuntime) {
-    let mut made = new_lobby(rt.alloc());
-    match &mut made {
-        Some(lobby) => {
-            open_two(&rt, lobby);
-            wake(&rt, rt.alloc(), lobby);
-        }
-        None => assert!(rt; false, "no lobby"),
-    }
-    drop(made);
+    play(&rt, rt.alloc(), new_lobby(rt.alloc()), Part::Waking);
 }
 
 fn exit(rt: &impl Abort, alloc: Global, lobby: &mut Lobby) {
     same(rt, lobby.open([10, 0, 0, 1], 0), Ok(1));
-    assert!(rt; wakes_nobody(lobby, alloc, 1, b"EXIT bye"));
-    assert!(rt; wakes_nobody(lobby, alloc, 1, b"PING"));
+    same(rt, wakes_nobody(lobby, alloc, 1, b"EXIT bye"), true);
+    same(rt, wakes_nobody(lobby, alloc, 1, b"PING"), true);
 }
 
 fn read_on(rt: &impl Abort, lobby: &mut Lobby) {
     let mut piece = [b'.'; 16];
     same(rt, lobby.copy_unread(1, 19, &mut piece), 5);
-    assert!(rt; piece.starts_with(b"01 0\n..........."));
-    assert!(rt; drains(lobby, 1, &mut piece, b"TASSERVER 0.38 *", false));
-    assert!(rt; drains(lobby, 1, &mut piece, b" 8201 0\n", true));
-    assert!(rt; piece.starts_with(b" 8201 0\nR 0.38 *"));
+    same(rt, piece, *b"01 0\n...........");
+    same(
+        rt,
+        drains(lobby, 1, &mut piece, b"TASSERVER 0.38 *", false),
+        true,
+    );
+    same(rt, drains(lobby, 1, &mut piece, b" 8201 0\n", true), true);
+    same(rt, piece, *b" 8201 0\nR 0.38 *");
 }
 
 fn leave(rt: &impl Abort, lobby: &mut Lobby) {
-    assert!(rt; lobby.has_client(1));
+    same(rt, lobby.has_client(1), true);
     same(rt, lobby.shut(1), Ok(Wakes::none()));
-    assert!(rt; !lobby.has_client(1));
+    same(rt, lobby.has_client(1), false);
+}
+
+pub fn exit_and_read_on(rt: &impl Abort, alloc: Global, lobby: &mut Lobby) {
+    exit(rt, alloc, lobby);
+    read_on(rt, lobby);
+    leave(rt, lobby);
 }
 
 #[test]
 fn a_client_that_exits_may_read_on(rt: HostRuntime) {
-    let mut made = new_lobby(rt.alloc());
-    match &mut made {
-        Some(lobby) => {
-            exit(&rt, rt.alloc(), lobby);
-            read_on(&rt, lobby);
-            leave(&rt, lobby);
-        }
-        None => assert!(rt; false, "no lobby"),
-    }
-    drop(made);
+    play(&rt, rt.alloc(), new_lobby(rt.alloc()), Part::ReadingOn);
 }
 
 fn ping_often(lobby: &mut Lobby, alloc: Global, client: u64, times: u32) -> bool {
@@ -234,27 +239,28 @@ fn ping_often(lobby: &mut Lobby, alloc: Global, client: u64, times: u32) -> bool
 // A greeting takes 24 bytes, and each answer 17.
 fn fill(rt: &impl Abort, alloc: Global, lobby: &mut Lobby) {
     same(rt, lobby.open([10, 0, 0, 1], 0), Ok(1));
-    assert!(rt; ping_often(lobby, alloc, 1, 3853));
+    same(rt, ping_often(lobby, alloc, 1, 3853), true);
     same(rt, lobby.unread(1), 65_525);
 }
 
 fn cut(rt: &impl Abort, alloc: Global, lobby: &mut Lobby) {
-    assert!(rt; wakes_alone(lobby, alloc, 1, b"#2147483647 PING", 0));
+    same(
+        rt,
+        wakes_alone(lobby, alloc, 1, b"#2147483647 PING", 0),
+        true,
+    );
     same(rt, lobby.unread(1), 0);
-    assert!(rt; drains(lobby, 1, &mut [0; 8], b"", true));
+    same(rt, drains(lobby, 1, &mut [0; 8], b"", true), true);
+}
+
+pub fn fill_and_cut(rt: &impl Abort, alloc: Global, lobby: &mut Lobby) {
+    fill(rt, alloc, lobby);
+    cut(rt, alloc, lobby);
 }
 
 #[test]
 fn a_client_that_reads_nothing_is_cut_at_the_limit(rt: HostRuntime) {
-    let mut made = new_lobby(rt.alloc());
-    match &mut made {
-        Some(lobby) => {
-            fill(&rt, rt.alloc(), lobby);
-            cut(&rt, rt.alloc(), lobby);
-        }
-        None => assert!(rt; false, "no lobby"),
-    }
-    drop(made);
+    play(&rt, rt.alloc(), new_lobby(rt.alloc()), Part::Cutting);
 }
 
 fn read_all(lobby: &mut Lobby, client: u64) {
@@ -278,12 +284,12 @@ pub fn lobby_of_three(alloc: Global) -> Option<Lobby> {
 
 #[test]
 fn three_clients_are_numbered_in_order(rt: HostRuntime) {
-    let made = lobby_of_three(rt.alloc());
-    match &made {
-        Some(lobby) => same(&rt, lobby.last_client(), 3),
-        None => assert!(rt; false, "no lobby"),
-    }
-    drop(made);
+    play(
+        &rt,
+        rt.alloc(),
+        lobby_of_three(rt.alloc()),
+        Part::LastClient(3),
+    );
 }
 
 // Reads a line, once more where memory was refused.
@@ -335,9 +341,11 @@ pub fn serve_all(lobby: &mut Lobby, alloc: Global, events: &[(u64, &[u8])]) -> b
     true
 }
 
+const ANNA_LOGS_IN: &[u8] = b"LOGIN Anna X03MO1qnZdYdgyfeuILPmQ== 0 * TestLobby 1.0";
+
 // Logs three users in, one after another, and sets the status of one; all read in between.
 pub const EVENTS: [(u64, &[u8]); 4] = [
-    (1, b"LOGIN Anna X03MO1qnZdYdgyfeuILPmQ== 0 * TestLobby 1.0"),
+    (1, ANNA_LOGS_IN),
     (2, b"LOGIN Bert X03MO1qnZdYdgyfeuILPmQ== 0 * TestLobby 1.0"),
     (1, b"MYSTATUS 1"),
     (3, b"LOGIN Cleo X03MO1qnZdYdgyfeuILPmQ== 0 * TestLobby 1.0"),
@@ -383,45 +391,36 @@ pub fn serve_and_see(
     events: &[(u64, &[u8])],
     seen: &[(u64, &[u8])],
 ) {
-    assert!(rt;
-        serve_all(lobby, alloc, events),
-        "memory is refused for ever, or left a trace"
-    );
+    if !serve_all(lobby, alloc, events) {
+        fail(rt, "memory is refused for ever, or left a trace");
+    }
     see(rt, lobby, seen);
+}
+
+pub fn serve_refused(rt: &impl Abort, alloc: Global, lobby: &mut Lobby) {
+    serve_and_see(rt, alloc, lobby, &EVENTS, &SEEN);
+    serve_and_see(rt, alloc, lobby, &TALK, &HEARD);
+    serve_and_see(rt, alloc, lobby, &[(1, b"EXIT")], &LEFT);
 }
 
 #[test]
 fn an_event_that_memory_refused_leaves_no_trace(rt: HostRuntime) {
-    let mut made = lobby_of_three(rt.alloc());
-    match &mut made {
-        Some(lobby) => {
-            serve_and_see(&rt, rt.alloc(), lobby, &EVENTS, &SEEN);
-            serve_and_see(&rt, rt.alloc(), lobby, &TALK, &HEARD);
-            serve_and_see(&rt, rt.alloc(), lobby, &[(1, b"EXIT")], &LEFT);
-        }
-        None => assert!(rt; false, "no lobby"),
-    }
-    drop(made);
+    play(&rt, rt.alloc(), lobby_of_three(rt.alloc()), Part::Refusing);
 }
 
 // Anna logs in and out again, and reads what she got.
-fn log_in_and_out(rt: &impl Abort, alloc: Global, lobby: &mut Lobby) {
-    let (client, line) = EVENTS[0];
-    assert!(rt; wakes_alone(lobby, alloc, client, line, 1));
-    assert!(rt; wakes_nobody(lobby, alloc, client, b"#5 EXIT bye"));
-    assert!(rt; wakes_nobody(lobby, alloc, client, b"PING"));
+pub fn log_in_and_out(rt: &impl Abort, alloc: Global, lobby: &mut Lobby) {
+    let client = 1;
+    same(rt, wakes_alone(lobby, alloc, client, ANNA_LOGS_IN, 1), true);
+    same(rt, wakes_nobody(lobby, alloc, client, b"#5 EXIT bye"), true);
+    same(rt, wakes_nobody(lobby, alloc, client, b"PING"), true);
     let got = b"ACCEPTED Anna\nMOTD Welcome\nADDUSER Anna DE 0 1\nLOGININFOEND\n";
-    assert!(rt; drains(lobby, client, &mut [0; 256], got, true));
+    same(rt, drains(lobby, client, &mut [0; 256], got, true), true);
 }
 
 #[test]
 fn a_user_that_exits_is_finished_when_all_is_read(rt: HostRuntime) {
-    let mut made = lobby_of_three(rt.alloc());
-    match &mut made {
-        Some(lobby) => log_in_and_out(&rt, rt.alloc(), lobby),
-        None => assert!(rt; false, "no lobby"),
-    }
-    drop(made);
+    play(&rt, rt.alloc(), lobby_of_three(rt.alloc()), Part::Leaving);
 }
 
 fn open_often(lobby: &mut Lobby, times: u32) -> Result<(), OpenError> {
@@ -434,19 +433,16 @@ fn open_often(lobby: &mut Lobby, times: u32) -> Result<(), OpenError> {
 fn find_it_full(rt: &impl Abort, lobby: &mut Lobby) {
     same(rt, lobby.open([10, 0, 0, 1], 0), Err(OpenError::Full));
     same(rt, lobby.last_client(), 10_000);
-    assert!(rt; lobby.shut(7).is_ok());
+    same(rt, lobby.shut(7).is_ok(), true);
     same(rt, lobby.open([10, 0, 0, 1], 0), Ok(10_001));
+}
+
+pub fn open_to_the_last(rt: &impl Abort, lobby: &mut Lobby) {
+    same(rt, open_often(lobby, 10_000), Ok(()));
+    find_it_full(rt, lobby);
 }
 
 #[test]
 fn ten_thousand_clients_are_full(rt: HostRuntime) {
-    let mut made = new_lobby(rt.alloc());
-    match &mut made {
-        Some(lobby) => {
-            same(&rt, open_often(lobby, 10_000), Ok(()));
-            find_it_full(&rt, lobby);
-        }
-        None => assert!(rt; false, "no lobby"),
-    }
-    drop(made);
+    play(&rt, rt.alloc(), new_lobby(rt.alloc()), Part::Filling);
 }

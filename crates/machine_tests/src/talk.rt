@@ -4,7 +4,8 @@ ghost use Rattle.std.specs.Prelude.{IsTrue};
 ghost use Rattle.command_grammar.specs.Kinds.{keeps_kinds};
 
 use crate::machine::{add_account, drains, lobby_of, only_if, read, say};
-use crate::verdict::same;
+use crate::plays::{Part, play};
+use crate::verdict::{fail, holds};
 use account_book::AccountBook;
 use command_grammar::Request;
 use lobby_machine::Lobby;
@@ -92,12 +93,7 @@ fn gathered(alloc: Global) -> Option<Lobby> {
 
 #[test]
 fn all_but_one_are_in_a_channel(rt: HostRuntime) {
-    let made = gathered(rt.alloc());
-    match &made {
-        Some(lobby) => same(&rt, lobby.last_client(), 33),
-        None => assert!(rt; false, "no lobby"),
-    }
-    drop(made);
+    play(&rt, rt.alloc(), gathered(rt.alloc()), Part::LastClient(33));
 }
 
 // Whether nobody has a byte to read.
@@ -132,37 +128,35 @@ fn join_last(lobby: &mut Lobby, alloc: Global) -> bool {
     }
 }
 
-// The newcomer sees 32 names in a line and itself in a second one; the others see it join, once.
+// What the newcomer reads: 32 names in a line and itself in a second one.
+const READ_BY_THE_LAST: &[u8] =
+    b"JOIN main\nCLIENTS main u01 u02 u03 u04 u05 u06 u07 u08 u09 u10 u11 u12 u13 u14 u15 u16 u17 u18 u19 u20 u21 u22 u23 u24 u25 u26 u27 u28 u29 u30 u31 u32\nCLIENTS main u33\n";
+
+// The others see it join, once.
 fn see_the_last(rt: &impl Abort, lobby: &mut Lobby) {
     let mut into = [0; 256];
     for client in 1..u64::from(USERS) {
-        assert!(rt; drains(lobby, client, &mut into, b"JOINED main u33\n", false));
+        holds(
+            rt,
+            drains(lobby, client, &mut into, b"JOINED main u33\n", false),
+            client,
+        );
     }
-    assert!(rt;
-        drains(
-            lobby,
-            33,
-            &mut into,
-            b"JOIN main\nCLIENTS main u01 u02 u03 u04 u05 u06 u07 u08 u09 u10 u11 u12 u13 u14 u15 u16 u17 u18 u19 u20 u21 u22 u23 u24 u25 u26 u27 u28 u29 u30 u31 u32\nCLIENTS main u33\n",
-            false,
-        )
+    holds(
+        rt,
+        drains(lobby, 33, &mut into, READ_BY_THE_LAST, false),
+        33,
     );
 }
 
-fn join_and_see(rt: &impl Abort, lobby: &mut Lobby, alloc: Global) {
-    assert!(rt;
-        join_last(lobby, alloc),
-        "memory is refused for ever, or left a trace"
-    );
+pub fn join_and_see(rt: &impl Abort, alloc: Global, lobby: &mut Lobby) {
+    if !join_last(lobby, alloc) {
+        fail(rt, "memory is refused for ever, or left a trace");
+    }
     see_the_last(rt, lobby);
 }
 
 #[test]
 fn a_join_that_memory_refused_leaves_no_trace(rt: HostRuntime) {
-    let mut made = gathered(rt.alloc());
-    match &mut made {
-        Some(lobby) => join_and_see(&rt, lobby, rt.alloc()),
-        None => assert!(rt; false, "no lobby"),
-    }
-    drop(made);
+    play(&rt, rt.alloc(), gathered(rt.alloc()), Part::Joining);
 }

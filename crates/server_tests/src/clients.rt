@@ -13,7 +13,7 @@ pub const LOOKS: u32 = 10_000;
 const PIECE: usize = 4_096;
 
 /// What one turn at the socket came to.
-#[derive(Clone, Copy, PartialEq, Eq, Debug)]
+#[derive(Clone, Copy)]
 enum Moved {
     Some(usize),
     Nothing,
@@ -40,14 +40,16 @@ pub struct Client {
 }
 
 impl Client {
-    /// Connects, and does not wait for it.
-    pub fn connect<R: Net>(rt: &R, address: SocketAddr) -> io::Result<Client> {
-        let stream = TcpStream::connect(rt, address)?;
-        Ok(Client { stream })
+    /// Connects, and does not wait for it. None where the system refuses it.
+    pub fn connect<R: Net>(rt: &R, address: SocketAddr) -> Option<Client> {
+        match TcpStream::connect(rt, address) {
+            Ok(stream) => Some(Client { stream }),
+            Err(_) => None,
+        }
     }
 
     /// Whether these bytes can be sent, within so many looks. Nothing is read meanwhile.
-    pub fn send<C: Clock>(&mut self, clock: &C, bytes: &[u8]) -> bool {
+    pub fn sends<C: Clock>(&mut self, clock: &C, bytes: &[u8]) -> bool {
         let mut rest = bytes;
         for _ in 0..LOOKS {
             if rest.is_empty() {
@@ -85,28 +87,8 @@ impl Client {
         false
     }
 
-    /// Whether these bytes can be sent so many times over. Nothing is read meanwhile.
-    pub fn send_times<C: Clock>(&mut self, clock: &C, bytes: &[u8], times: usize) -> bool {
-        for _ in 0..times {
-            if !self.send(clock, bytes) {
-                return false;
-            }
-        }
-        true
-    }
-
-    /// Whether exactly these bytes come, so many times over.
-    pub fn reads_times<C: Clock>(&mut self, clock: &C, want: &[u8], times: usize) -> bool {
-        for _ in 0..times {
-            if !self.reads(clock, want) {
-                return false;
-            }
-        }
-        true
-    }
-
     /// Ends what is sent, and goes on reading. Whether the system allowed it.
-    pub fn finish(&mut self) -> bool {
+    pub fn finishes(&mut self) -> bool {
         self.stream.shutdown(Shutdown::Write).is_ok()
     }
 
@@ -125,7 +107,4 @@ impl Client {
         }
         None
     }
-
-    /// Breaks the connection off. What came and was not read makes the system send a reset and no end.
-    pub fn break_off(self) {}
 }

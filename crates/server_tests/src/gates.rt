@@ -1,14 +1,11 @@
-//! Gates at which tests look at the workers of a server, and hold them up.
+//! A gate at which tests look at the workers of a server, and hold them up.
 
 use crate::clients::LOOKS;
-use crate::running::GREETING;
+use crate::running::{GREETING, PONG};
 use lobby_workers::Gate;
 use std::sync::atomic::{AtomicBool, AtomicU64, Ordering};
 use std::thread;
 use std::time::{Clock, Duration};
-
-/// An answer to PING.
-const PONG: &[u8] = b"PONG\n";
 
 /// Whether a flag is set, within so many looks.
 pub fn is_set_soon<C: Clock>(clock: &C, flag: &AtomicBool) -> bool {
@@ -21,222 +18,137 @@ pub fn is_set_soon<C: Clock>(clock: &C, flag: &AtomicBool) -> bool {
     false
 }
 
-/// A gate at which nobody stops.
+/// Where a gate keeps workers, or the server.
 #[derive(Clone, Copy)]
-pub struct OpenGate;
-
-impl Gate for OpenGate {
-    fn before_take(&self, _worker: u64) {}
-
-    fn after_write(&self, _worker: u64, _bytes: &[u8]) {}
-
-    fn woken(&self, _worker: u64) {}
+pub enum Hold {
+    /// Nowhere.
+    Open,
+    /// The server before it starts, until it may go on.
+    Start,
+    /// Each of two workers, once the gate is shut, at its next take, until the other comes there too.
+    Takes,
+    /// Worker 0 where it has written an answer to PING, until it may go on.
+    Write,
+    /// Worker 1, once the gate is shut, where it was woken and before it looks into its inbox, until it may go on.
+    Wake,
 }
 
-/// A gate at which each of two workers, once it is shut, waits for the other at its next take.
+/// A gate that keeps workers at one place, and sees who greets and who is woken.
 #[derive(Drop)]
-pub struct Meeting {
+pub struct Watch {
     clock: HostRuntime,
+    hold: Hold,
     is_shut: AtomicBool,
-    first_came: AtomicBool,
-    second_came: AtomicBool,
+    // who is kept came, or worker 0 did
+    is_there: AtomicBool,
+    // it may go on, or worker 1 came
+    may_go: AtomicBool,
     is_missed: AtomicBool,
-    // how often worker 1 was woken
-    woken: AtomicU64,
+    // worker 1 was woken
+    is_woken: AtomicBool,
+    greetings: AtomicU64,
+    last_greeter: AtomicU64,
 }
 
-impl Meeting {
-    pub fn new(clock: HostRuntime) -> Meeting {
-        Meeting {
+impl Watch {
+    pub fn new(clock: HostRuntime, hold: Hold) -> Watch {
+        Watch {
             clock,
+            hold,
             is_shut: AtomicBool::new(false),
-            first_came: AtomicBool::new(false),
-            second_came: AtomicBool::new(false),
+            is_there: AtomicBool::new(false),
+            may_go: AtomicBool::new(false),
             is_missed: AtomicBool::new(false),
-            woken: AtomicU64::new(0),
+            is_woken: AtomicBool::new(false),
+            greetings: AtomicU64::new(0),
+            last_greeter: AtomicU64::new(0),
         }
     }
 
-    /// Has both workers wait for each other from now on.
-    pub fn shut(&self) {
-        self.is_shut.store(true, Ordering::SeqCst);
+    /// A server is about to start.
+    pub fn before_start(&self) {
+        if matches!(self.hold, Hold::Start) {
+            self.keep(&self.is_there, &self.may_go);
+        }
     }
 
-    /// How often worker 1 was woken.
-    pub fn woken(&self) -> u64 {
-        self.woken.load(Ordering::SeqCst)
+    /// Keeps workers from now on, and answers that it does.
+    pub fn shut(&self) -> bool {
+        self.is_shut.store(true, Ordering::SeqCst);
+        true
+    }
+
+    /// Whether who is kept comes there, within so many looks.
+    pub fn is_reached(&self) -> bool {
+        is_set_soon(&self.clock, &self.is_there)
+    }
+
+    /// Lets who is kept go on. Whether it was kept until now.
+    pub fn lets_go(&self) -> bool {
+        self.may_go.store(true, Ordering::SeqCst);
+        !self.is_missed.load(Ordering::SeqCst)
     }
 
     /// Whether each worker found the other there.
     pub fn did_meet(&self) -> bool {
-        self.first_came.load(Ordering::SeqCst)
-            && self.second_came.load(Ordering::SeqCst)
+        self.is_there.load(Ordering::SeqCst)
+            && self.may_go.load(Ordering::SeqCst)
             && !self.is_missed.load(Ordering::SeqCst)
     }
-}
 
-impl Gate for Meeting {
-    fn before_take(&self, worker: u64) {
-        if !self.is_shut.load(Ordering::SeqCst) {
-            return;
+    /// Whether worker 1 was ever woken.
+    pub fn was_woken(&self) -> bool {
+        self.is_woken.load(Ordering::SeqCst)
+    }
+
+    /// Whether the last greeting is this worker's, once there were so many. False where there are not, within so many looks.
+    pub fn is_greeter(&self, greetings: u64, worker: u64) -> bool {
+        for _ in 0..LOOKS {
+            if self.greetings.load(Ordering::SeqCst) == greetings {
+                return self.last_greeter.load(Ordering::SeqCst) == worker;
+            }
+            thread::sleep(&self.clock, Duration::from_millis(1));
         }
-        let (own, other) = if worker == 0 {
-            (&self.first_came, &self.second_came)
-        } else {
-            (&self.second_came, &self.first_came)
-        };
+        false
+    }
+
+    /// At its first call, says that someone came, and looks for what it waits for.
+    fn keep(&self, own: &AtomicBool, other: &AtomicBool) {
         if !own.swap(true, Ordering::SeqCst) && !is_set_soon(&self.clock, other) {
             self.is_missed.store(true, Ordering::SeqCst);
         }
     }
+}
 
-    fn after_write(&self, _worker: u64, _bytes: &[u8]) {}
-
-    fn woken(&self, worker: u64) {
-        if worker == 1 {
-            self.woken.fetch_add(1, Ordering::SeqCst);
+impl Gate for Watch {
+    fn before_take(&self, worker: u64) {
+        if !matches!(self.hold, Hold::Takes) || !self.is_shut.load(Ordering::SeqCst) {
+            return;
+        }
+        if worker == 0 {
+            self.keep(&self.is_there, &self.may_go);
+        } else {
+            self.keep(&self.may_go, &self.is_there);
         }
     }
-}
-
-/// A gate that keeps worker 0 where it has written an answer, until it may go on.
-#[derive(Drop)]
-pub struct Stop {
-    clock: HostRuntime,
-    is_there: AtomicBool,
-    may_go: AtomicBool,
-    is_missed: AtomicBool,
-}
-
-impl Stop {
-    pub fn new(clock: HostRuntime) -> Stop {
-        Stop {
-            clock,
-            is_there: AtomicBool::new(false),
-            may_go: AtomicBool::new(false),
-            is_missed: AtomicBool::new(false),
-        }
-    }
-
-    /// Whether the worker comes there, within so many looks.
-    pub fn is_reached(&self) -> bool {
-        is_set_soon(&self.clock, &self.is_there)
-    }
-
-    /// Lets the worker go on. Whether it was still there.
-    pub fn let_go(&self) -> bool {
-        self.may_go.store(true, Ordering::SeqCst);
-        !self.is_missed.load(Ordering::SeqCst)
-    }
-}
-
-impl Gate for Stop {
-    fn before_take(&self, _worker: u64) {}
-
-    fn after_write(&self, worker: u64, bytes: &[u8]) {
-        if worker == 0 && bytes == PONG {
-            self.is_there.store(true, Ordering::SeqCst);
-            if !is_set_soon(&self.clock, &self.may_go) {
-                self.is_missed.store(true, Ordering::SeqCst);
-            }
-        }
-    }
-
-    fn woken(&self, _worker: u64) {}
-}
-
-/// A gate that sees who greets.
-#[derive(Drop)]
-pub struct Greeters {
-    clock: HostRuntime,
-    last: AtomicU64,
-    count: AtomicU64,
-}
-
-impl Greeters {
-    pub fn new(clock: HostRuntime) -> Greeters {
-        Greeters {
-            clock,
-            last: AtomicU64::new(0),
-            count: AtomicU64::new(0),
-        }
-    }
-
-    /// The worker of the last greeting, once there were so many. None where there are not, within so many looks.
-    pub fn last_of(&self, count: u64) -> Option<u64> {
-        for _ in 0..LOOKS {
-            if self.count.load(Ordering::SeqCst) == count {
-                return Some(self.last.load(Ordering::SeqCst));
-            }
-            thread::sleep(&self.clock, Duration::from_millis(1));
-        }
-        None
-    }
-}
-
-impl Gate for Greeters {
-    fn before_take(&self, _worker: u64) {}
 
     fn after_write(&self, worker: u64, bytes: &[u8]) {
         if bytes == GREETING {
-            self.last.store(worker, Ordering::SeqCst);
-            self.count.fetch_add(1, Ordering::SeqCst);
+            self.last_greeter.store(worker, Ordering::SeqCst);
+            self.greetings.fetch_add(1, Ordering::SeqCst);
+        }
+        if matches!(self.hold, Hold::Write) && worker == 0 && bytes == PONG {
+            self.keep(&self.is_there, &self.may_go);
         }
     }
-
-    fn woken(&self, _worker: u64) {}
-}
-
-/// A gate that keeps worker 1, once it is shut, where it was woken and before it looks into its inbox, until it may go on.
-#[derive(Drop)]
-pub struct Busy {
-    clock: HostRuntime,
-    is_shut: AtomicBool,
-    is_there: AtomicBool,
-    may_go: AtomicBool,
-    is_missed: AtomicBool,
-}
-
-impl Busy {
-    pub fn new(clock: HostRuntime) -> Busy {
-        Busy {
-            clock,
-            is_shut: AtomicBool::new(false),
-            is_there: AtomicBool::new(false),
-            may_go: AtomicBool::new(false),
-            is_missed: AtomicBool::new(false),
-        }
-    }
-
-    /// Keeps the worker from now on.
-    pub fn shut(&self) {
-        self.is_shut.store(true, Ordering::SeqCst);
-    }
-
-    /// Whether the worker comes there, within so many looks.
-    pub fn is_reached(&self) -> bool {
-        is_set_soon(&self.clock, &self.is_there)
-    }
-
-    /// Lets the worker go on. Whether it was kept until now.
-    pub fn let_go(&self) -> bool {
-        self.may_go.store(true, Ordering::SeqCst);
-        !self.is_missed.load(Ordering::SeqCst)
-    }
-}
-
-impl Gate for Busy {
-    fn before_take(&self, _worker: u64) {}
-
-    fn after_write(&self, _worker: u64, _bytes: &[u8]) {}
 
     fn woken(&self, worker: u64) {
-        if worker != 1 || !self.is_shut.load(Ordering::SeqCst) {
+        if worker != 1 {
             return;
         }
-        self.is_there.store(true, Ordering::SeqCst);
-        if !is_set_soon(&self.clock, &self.may_go) {
-            self.is_missed.store(true, Ordering::SeqCst);
+        self.is_woken.store(true, Ordering::SeqCst);
+        if matches!(self.hold, Hold::Wake) && self.is_shut.load(Ordering::SeqCst) {
+            self.keep(&self.is_there, &self.may_go);
         }
     }
 }

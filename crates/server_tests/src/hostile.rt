@@ -1,124 +1,145 @@
 //! What comes to the edge of a server: many connections at once, full inboxes, clients that keep a worker busy, and homes.
 
-use crate::clients::Client;
-use crate::gates::{Busy, OpenGate, Stop};
+use crate::gates::Hold;
+use crate::plays::Step::*;
+use crate::plays::{Act, play};
 use crate::running::{
-    ANNA_IS_IN, ANNA_LOGS_IN, BERT_COMES, BERT_IS_IN, BERT_LOGS_IN, GREETING, Running, new_server,
+    ANNA, ANNA_IS_IN, ANNA_LOGS_IN, BERT, BERT_COMES, BERT_IS_IN, BERT_LOGS_IN, PING, PONG,
 };
-use crate::server::times_over;
-use crate::verdict::same;
-use std::alloc::Global;
-use std::net::Net;
-use std::sync::Arc;
-use std::test::Fail;
-use std::thread;
-use std::time::Clock;
 
-/// So many clients that connect and read nothing yet.
-fn connect_all<R: Net>(
-    rt: &R,
-    alloc: Global,
-    running: &Running,
-    count: usize,
-) -> Result<Vec<Client>, Fail> {
-    let mut clients = Vec::new(alloc);
-    for _ in 0..count {
-        clients.push(Client::connect(rt, running.address)?)?;
-    }
-    Ok(clients)
-}
-
-/// Whether each of these clients is greeted.
-fn are_greeted<C: Clock>(clock: &C, clients: &mut [Client]) -> bool {
-    for client in clients {
-        if !client.reads(clock, GREETING) {
-            return false;
-        }
-    }
-    true
-}
+const BURST: [Act; 2] = [
+    Act {
+        times: 100,
+        steps: &[JoinsCrowd],
+    },
+    Act {
+        times: 1,
+        steps: &[GoesOn, CrowdIsGreeted],
+    },
+];
 
 /// More connections than a round accepts, all of which wait before the server starts. No further one comes to recall them.
 #[test]
-fn a_burst_of_connections_is_accepted_whole(rt: HostRuntime) -> Result<(), Fail> {
-    let (server, running) = new_server(&rt, rt, 1)?;
-    let mut clients = connect_all(&rt, rt.alloc(), &running, 100)?;
-    let thread = thread::spawn(&rt, move || server.run(&rt, &OpenGate))?;
-    assert!(rt; are_greeted(&rt, &mut clients), "all are greeted");
-    same(&rt, running.end(&rt, thread), 0);
-    Ok(())
+fn a_burst_of_connections_is_accepted_whole(rt: HostRuntime) {
+    drop(play(&rt, rt, 1, Hold::Start, &BURST));
 }
 
-/// A client that was greeted.
-pub fn greeted<R: Net, C: Clock>(rt: &R, clock: &C, running: &Running) -> Result<Client, Fail> {
-    let mut client = Client::connect(rt, running.address)?;
-    if client.reads(clock, GREETING) {
-        Ok(client)
-    } else {
-        Err(Fail::new("a client is not greeted"))
-    }
-}
+/// Who passes through.
+const PASSER: usize = 0;
+
+/// Who meets a full inbox.
+const REFUSED: usize = 1;
+
+const FULL_INBOX: [Act; 3] = [
+    Act {
+        times: 1,
+        steps: &[GateShuts],
+    },
+    Act {
+        times: 256,
+        steps: &[Enters(PASSER), JoinsCrowd],
+    },
+    Act {
+        times: 1,
+        steps: &[
+            Enters(PASSER),
+            Connects(REFUSED),
+            Ends(REFUSED),
+            Enters(PASSER),
+            GoesOn,
+            CrowdIsGreeted,
+        ],
+    },
+];
 
 /// Worker 1 stands still while connections come, of which each second one is its own. Its inbox takes 256; one more is closed, and
 /// counted all the same. Who was greeted at worker 0 shows that the one before it was handed over.
 #[test]
-fn who_meets_a_full_inbox_is_closed_and_counted(rt: HostRuntime) -> Result<(), Fail> {
-    let gate = Arc::new(rt.alloc(), Busy::new(rt))?;
-    gate.shut();
-    let (theirs, (server, running)) = (gate.clone()?, new_server(&rt, rt, 2)?);
-    let thread = thread::spawn(&rt, move || server.run(&rt, &*theirs))?;
-    let mut waiting = Vec::new(rt.alloc());
-    for _ in 0..256u32 {
-        let _ = greeted(&rt, &rt, &running)?;
-        waiting.push(Client::connect(&rt, running.address)?)?;
-    }
-    let _ = greeted(&rt, &rt, &running)?;
-    let mut refused = Client::connect(&rt, running.address)?;
-    same(&rt, refused.ends(&rt), Some(0));
-    let _ = greeted(&rt, &rt, &running)?;
-    assert!(rt; gate.let_go(), "worker 1 stood still all the while");
-    assert!(rt; are_greeted(&rt, &mut waiting), "the others are served");
-    same(&rt, running.end(&rt, thread), 0);
-    Ok(())
+fn who_meets_a_full_inbox_is_closed_and_counted(rt: HostRuntime) {
+    drop(play(&rt, rt, 2, Hold::Wake, &FULL_INBOX));
 }
+
+const LEFT_OVER: [Act; 1] = [Act {
+    times: 1,
+    steps: &[
+        Enters(0),
+        Enters(1),
+        Enters(2),
+        Sends(0, PING),
+        IsKept,
+        SendsOften(0, b"\n", 14_000),
+        SendsOften(2, b"\n", 14_000),
+        SendsOften(1, b"\n", 14_000),
+        Sends(1, PING),
+        GoesOn,
+        Reads(1, PONG),
+    ],
+}];
 
 /// Three clients send far more lines than a turn takes, of which nobody is told anything: so nothing but the list of those left over
 /// gives them turns. Only the one in the middle ends with a line that is answered.
 #[test]
-fn all_who_are_left_over_get_their_turns(rt: HostRuntime) -> Result<(), Fail> {
-    let gate = Arc::new(rt.alloc(), Stop::new(rt))?;
-    let (theirs, (server, running)) = (gate.clone()?, new_server(&rt, rt, 1)?);
-    let thread = thread::spawn(&rt, move || server.run(&rt, &*theirs))?;
-    let blank = times_over(rt.alloc(), b"\n", 14_000)?;
-    let mut first = greeted(&rt, &rt, &running)?;
-    let mut middle = greeted(&rt, &rt, &running)?;
-    let mut last = greeted(&rt, &rt, &running)?;
-    assert!(rt; first.send(&rt, b"PING\n"));
-    assert!(rt; gate.is_reached(), "the worker stands at its write");
-    assert!(rt; first.send(&rt, &blank) && last.send(&rt, &blank));
-    assert!(rt; middle.send(&rt, &blank) && middle.send(&rt, b"PING\n"));
-    assert!(rt; gate.let_go(), "the worker stood there all the while");
-    assert!(rt; middle.reads(&rt, b"PONG\n"), "all its lines were read");
-    same(&rt, running.end(&rt, thread), 0);
-    Ok(())
+fn all_who_are_left_over_get_their_turns(rt: HostRuntime) {
+    drop(play(&rt, rt, 1, Hold::Write, &LEFT_OVER));
 }
+
+/// Who comes only to turn the order of workers.
+const THIRD: usize = 2;
+
+const HOMES: [Act; 1] = [Act {
+    times: 1,
+    steps: &[
+        Enters(ANNA),
+        Sends(ANNA, ANNA_LOGS_IN),
+        Reads(ANNA, ANNA_IS_IN),
+        Enters(BERT),
+        Sends(BERT, BERT_LOGS_IN),
+        Reads(BERT, BERT_IS_IN),
+        Reads(ANNA, BERT_COMES),
+        Sends(BERT, b"EXIT\n"),
+        Reads(ANNA, b"REMOVEUSER Bert\n"),
+        Enters(THIRD),
+        Enters(BERT),
+        Sends(BERT, BERT_LOGS_IN),
+        Reads(BERT, BERT_IS_IN),
+        Reads(ANNA, BERT_COMES),
+        Sends(ANNA, b"EXIT\n"),
+        Reads(BERT, b"REMOVEUSER Anna\n"),
+    ],
+}];
 
 /// A log out is told to the others alone. So who is told of one was woken for it, by the home of its own client.
 #[test]
-fn each_client_is_at_home_at_its_worker(rt: HostRuntime) -> Result<(), Fail> {
-    let (server, running) = new_server(&rt, rt, 2)?;
-    let thread = thread::spawn(&rt, move || server.run(&rt, &OpenGate))?;
-    let mut anna = greeted(&rt, &rt, &running)?;
-    assert!(rt; anna.send(&rt, ANNA_LOGS_IN) && anna.reads(&rt, ANNA_IS_IN));
-    let mut bert = greeted(&rt, &rt, &running)?;
-    assert!(rt; bert.send(&rt, BERT_LOGS_IN) && bert.reads(&rt, BERT_IS_IN));
-    assert!(rt; anna.reads(&rt, BERT_COMES) && bert.send(&rt, b"EXIT\n"));
-    assert!(rt; anna.reads(&rt, b"REMOVEUSER Bert\n"), "worker 0 is woken");
-    let _ = greeted(&rt, &rt, &running)?;
-    let mut bert = greeted(&rt, &rt, &running)?;
-    assert!(rt; bert.send(&rt, BERT_LOGS_IN) && bert.reads(&rt, BERT_IS_IN));
-    assert!(rt; anna.reads(&rt, BERT_COMES) && anna.send(&rt, b"EXIT\n"));
-    assert!(rt; bert.reads(&rt, b"REMOVEUSER Anna\n"), "worker 1 is woken");
-    same(&rt, running.end(&rt, thread), 0);
-    Ok(())
+fn each_client_is_at_home_at_its_worker(rt: HostRuntime) {
+    drop(play(&rt, rt, 2, Hold::Open, &HOMES));
+}
+
+const BYTES: [Act; 1] = [Act {
+    times: 1,
+    steps: &[
+        Enters(ANNA),
+        Sends(ANNA, ANNA_LOGS_IN),
+        Reads(ANNA, ANNA_IS_IN),
+        Enters(BERT),
+        Sends(BERT, BERT_LOGS_IN),
+        Reads(BERT, BERT_IS_IN),
+        Reads(ANNA, BERT_COMES),
+        Sends(ANNA, b"JOIN main\n"),
+        Reads(ANNA, b"JOIN main\nCLIENTS main Anna\n"),
+        Sends(BERT, b"JOIN main\n"),
+        Reads(BERT, b"JOIN main\nCLIENTS main Anna Bert\n"),
+        Reads(ANNA, b"JOINED main Bert\n"),
+        Sends(ANNA, b"#7 SAY main a\rADDUSER Eve DE 0 9\n"),
+        Reads(ANNA, b"#7 SERVERMSG Bad byte in line\n"),
+        Sends(ANNA, b"SAY main \xC3\xA4\xFF\x00\n"),
+        Reads(ANNA, b"SAID main Anna \xC3\xA4\xFF\x00\n"),
+        Reads(BERT, b"SAID main Anna \xC3\xA4\xFF\x00\n"),
+    ],
+}];
+
+/// A line with a CR in it is answered to its client alone, as the next line for the other shows. All other bytes of a text are told
+/// as they came.
+#[test]
+fn a_text_is_told_byte_for_byte_and_has_no_line_ends(rt: HostRuntime) {
+    drop(play(&rt, rt, 2, Hold::Open, &BYTES));
 }

@@ -1,20 +1,20 @@
-//! A server that runs in a thread of its own, until the test ends its input.
+//! A server for Anna and Bert, which runs until its input ends, and what they and it say.
 
-ghost use Rattle.std.specs.Prelude.{◌≡◌, ◌≤◌, IfOk};
+ghost use Rattle.std.specs.Prelude.{◌≡◌, ◌≤◌, IfSome};
 
-use crate::gates::is_set_soon;
+use crate::gates::Watch;
 use account_book::AccountBook;
 use line_words::TextBuf;
 use lobby_model::Settings;
-use lobby_workers::{Gate, Service, run_server};
+use lobby_workers::{Service, run_server};
 use mio::net::TcpListener;
 use std::alloc::Global;
 use std::io::{self, Read};
 use std::net::{IpAddr, Ipv4Addr, Net, SocketAddr};
+use std::slice;
+use std::sync::Wait;
 use std::sync::atomic::{AtomicBool, Ordering};
-use std::sync::{Arc, Wait};
-use std::test::Fail;
-use std::thread::{self, JoinHandle, Threads};
+use std::thread::{self, Threads};
 use std::time::Duration;
 
 const ACCOUNTS: &[u8] = b"[[account]]
@@ -29,8 +29,20 @@ id = 2
 rank = 3
 ";
 
+/// Anna's number in a play.
+pub const ANNA: usize = 0;
+
+/// Bert's number in a play.
+pub const BERT: usize = 1;
+
 /// What a server says to whom it accepts.
 pub const GREETING: &[u8] = b"TASSERVER 0.38 * 8201 0\n";
+
+/// A line that is answered at any time.
+pub const PING: &[u8] = b"PING\n";
+
+/// The answer to it.
+pub const PONG: &[u8] = b"PONG\n";
 
 /// What a client says that logs in as Anna.
 pub const ANNA_LOGS_IN: &[u8] = b"LOGIN Anna X03MO1qnZdYdgyfeuILPmQ== 0 * TestLobby 1.0\n";
@@ -53,44 +65,62 @@ CLIENTSTATUS Bert 12
 LOGININFOEND
 ";
 
-/// So often an input looks whether it is to end: for longer than any test takes.
-const INPUT_LOOKS: u32 = 50_000;
+/// For how many looks, of a millisecond each, an input waits for its end: for longer than any test takes.
+pub const PATIENCE: u32 = 50_000;
 
-/// What a test has in place of a status where the server does not end. No server ends with it.
-const NO_END: u8 = 255;
-
-/// The port of this machine.
-pub fn loopback(port: u16) -> SocketAddr {
-    SocketAddr::new(IpAddr::V4(Ipv4Addr::new(127, 0, 0, 1)), port)
+/// A listener at a free port of this machine, and its address. None where the system gives none.
+pub fn listen<R: Net>(rt: &R) -> Option<(TcpListener, SocketAddr)> {
+    let any = SocketAddr::new(IpAddr::V4(Ipv4Addr::new(127, 0, 0, 1)), 0);
+    let listener = TcpListener::bind(rt, any).ok()?;
+    match listener.local_addr() {
+        Ok(address) => Some((listener, address)),
+        Err(_) => {
+            drop(listener);
+            None
+        }
+    }
 }
 
-/// A service for Anna and Bert, with so many workers.
-pub fn service(alloc: Global, workers: u32) -> Result<Service, Fail>
-    ensures { IfOk result (λ service. service.workers ≡ workers) }
+/// The default settings, but for a large limit of an outbox and a message of the day.
+fn settings(alloc: Global) -> Option<Settings> {
+    let motd = TextBuf::copy_of(alloc, b"Welcome").ok()?;
+    let lines = slice::from_ref(&motd);
+    let settings = Settings::new(alloc, b"0.38", b"*", 8201, 0, lines, 8_388_608);
+    drop(motd);
+    settings.ok()
+}
+
+/// A service for Anna and Bert, with so many workers. None where memory is refused.
+pub fn service(alloc: Global, workers: u32) -> Option<Service>
+    ensures { IfSome result (λ service. service.workers ≡ workers) }
 {
-    let motd = [TextBuf::copy_of(alloc, b"Welcome")?];
-    let settings = Settings::new(alloc, b"0.38", b"*", 8201, 0, &motd, 8_388_608)?;
-    match AccountBook::from_toml(alloc, ACCOUNTS) {
-        Ok(accounts) => Ok(Service {
+    let accounts = AccountBook::from_toml(alloc, ACCOUNTS).ok()?;
+    match settings(alloc) {
+        Some(settings) => Some(Service {
             settings,
             accounts,
             workers,
             stop_at_input_end: true,
         }),
-        Err(error) => Err(Fail::from(error)),
+        None => {
+            drop(accounts);
+            None
+        }
     }
 }
 
-/// An input that ends once its flag is set. One whose flag is never set fails, so that no test passes because its server ended by itself.
+/// An input that ends once its flag is set. One whose flag is not set within so many looks fails, so that no test passes because
+/// its server ended by itself.
 #[derive(Drop)]
-struct UntilSet {
-    clock: HostRuntime,
-    flag: Arc<AtomicBool>,
+pub struct Input<'a> {
+    pub clock: HostRuntime,
+    pub flag: &'a AtomicBool,
+    pub looks: u32,
 }
 
-impl Read for UntilSet {
+impl Read for Input<'_> {
     fn read(&mut self, _into: &mut [u8]) -> io::Result<usize> {
-        for _ in 0..INPUT_LOOKS {
+        for _ in 0..self.looks {
             if self.flag.load(Ordering::SeqCst) {
                 return Ok(0);
             }
@@ -107,113 +137,19 @@ pub struct Told {
     pub output: Vec<u8>,
 }
 
-/// A server that is about to run.
-#[derive(Drop)]
-pub struct Server {
+/// Runs a server until its input ends.
+pub fn run<R: Threads + Wait + Net + Sync>(
+    rt: &R,
     service: Service,
     listener: TcpListener,
-    input: UntilSet,
-    // set when the server has ended
-    ended: Arc<AtomicBool>,
-    ghost within: { (1 ≤ service.workers) × (service.workers ≤ 64) },
-}
-
-impl Server {
-    /// Runs until its test ends its input, and gives its status.
-    pub fn run<R: Threads + Wait + Net + Sync, G: Gate + Sync>(self, rt: &R, gate: &G) -> u8 {
-        let Told { status, output } = self.run_telling(rt, gate);
-        drop(output);
-        status
-    }
-
-    /// Runs until its test ends its input, and gives what it printed too.
-    pub fn run_telling<R: Threads + Wait + Net + Sync, G: Gate + Sync>(
-        self,
-        rt: &R,
-        gate: &G,
-    ) -> Told {
-        let Server {
-            service,
-            listener,
-            mut input,
-            ended,
-        } = self;
-        let alloc = input.clock.alloc();
-        let mut output = Vec::new(alloc);
-        let status = run_server(rt, alloc, service, listener, &mut input, &mut output, gate);
-        ended.store(true, Ordering::SeqCst);
-        Told { status, output }
-    }
-}
-
-/// What a test has of a server that runs in a thread of its own.
-#[derive(Drop)]
-pub struct Running {
-    /// Where it listens.
-    pub address: SocketAddr,
-    clock: HostRuntime,
-    flag: Arc<AtomicBool>,
-    ended: Arc<AtomicBool>,
-}
-
-impl Running {
-    /// Ends the server's input, and gives its status. Its thread is this one. A server that does not end within so many looks is
-    /// not waited for, and has a status that none ends with.
-    pub fn end<R: Threads>(self, rt: &R, thread: JoinHandle<u8>) -> u8 {
-        self.end_input();
-        if is_set_soon(&self.clock, &self.ended) {
-            thread.join(rt)
-        } else {
-            NO_END
-        }
-    }
-
-    /// As `end`, of a server that gives what it printed too. None where it does not end within so many looks.
-    pub fn end_telling<R: Threads>(self, rt: &R, thread: JoinHandle<Told>) -> Option<Told> {
-        self.end_input();
-        if is_set_soon(&self.clock, &self.ended) {
-            Some(thread.join(rt))
-        } else {
-            None
-        }
-    }
-
-    /// Ends the server's input.
-    pub fn end_input(&self) {
-        self.flag.store(true, Ordering::SeqCst);
-    }
-}
-
-/// A server for Anna and Bert, with so many workers, and what a test has of it. A test starts the thread itself, since nothing
-/// but a test may give its runtime to one.
-pub fn new_server<R: Net>(
-    rt: &R,
-    clock: HostRuntime,
-    workers: u32,
-) -> Result<(Server, Running), Fail>
-    requires { (1 ≤ workers) × (workers ≤ 64) }
+    input: Input<'_>,
+    gate: &Watch,
+) -> Told
+    requires { (1 ≤ service.workers) × (service.workers ≤ 64) }
 {
-    let alloc = clock.alloc();
-    let listener = TcpListener::bind(rt, loopback(0))?;
-    let address = listener.local_addr()?;
-    let flag = Arc::new(alloc, AtomicBool::new(false))?;
-    let ended = Arc::new(alloc, AtomicBool::new(false))?;
-    let (theirs, their_end) = (flag.clone()?, ended.clone()?);
-    let service = service(alloc, workers)?;
-    let server = Server {
-        service,
-        listener,
-        input: UntilSet {
-            clock,
-            flag: theirs,
-        },
-        ended: their_end,
-    };
-    let running = Running {
-        address,
-        clock,
-        flag,
-        ended,
-    };
-    Ok((server, running))
+    let alloc = input.clock.alloc();
+    let mut input = input;
+    let mut output = Vec::new(alloc);
+    let status = run_server(rt, alloc, service, listener, &mut input, &mut output, gate);
+    Told { status, output }
 }

@@ -1,202 +1,273 @@
 //! How a server starts and ends, and what one client gets that sends much, reads late or stops sending.
 
-use crate::clients::Client;
-use crate::gates::OpenGate;
-use crate::hostile::greeted;
+ghost use Rattle.std.specs.Prelude.{◌≡◌, ◌≤◌};
+
+use crate::gates::{Hold, Watch};
+use crate::plays::Step::*;
+use crate::plays::{Act, play};
 use crate::running::{
-    ANNA_IS_IN, ANNA_LOGS_IN, BERT_COMES, BERT_IS_IN, BERT_LOGS_IN, GREETING, loopback, new_server,
-    service,
+    ANNA, ANNA_IS_IN, ANNA_LOGS_IN, BERT, BERT_COMES, BERT_IS_IN, BERT_LOGS_IN, Input, PING, PONG,
+    Told, listen, run, service,
 };
-use crate::verdict::same;
-use lobby_workers::run_server;
+use crate::verdict::{fail, same};
+use lobby_workers::Service;
 use mio::net::TcpListener;
-use std::alloc::{AllocError, Global};
-use std::io::{self, Read, Write};
-use std::test::Fail;
-use std::{str, thread};
+use std::alloc::Global;
+use std::io::Write;
+use std::net::Net;
+use std::process::Abort;
+use std::str;
+use std::sync::Wait;
+use std::sync::atomic::AtomicBool;
+use std::thread::Threads;
 
 /// What a server prints whose so many workers had no client.
-fn idle_output(alloc: Global, workers: u32) -> Result<Vec<u8>, Fail> {
-    let mut output = Vec::from_slice(alloc, b"listening\n")?;
+fn idle_output(alloc: Global, workers: u32) -> Option<Vec<u8>> {
+    let mut output = Vec::from_slice(alloc, b"listening\n").ok()?;
     for worker in 0..workers {
-        writeln!(output, "worker {worker}: 0 events")?;
+        if writeln!(output, "worker {worker}: 0 events").is_err() {
+            return None;
+        }
     }
-    Ok(output)
+    Some(output)
+}
+
+/// Runs a server on an input that ends at once, or with no patience fails at once, and compares its status and what it prints.
+fn end_at_once<R: Threads + Wait + Net + Abort + Sync>(
+    rt: &R,
+    clock: HostRuntime,
+    service: Service,
+    listener: TcpListener,
+    looks: u32,
+    status: u8,
+)
+    requires { (1 ≤ service.workers) × (service.workers ≤ 64) }
+{
+    let workers = service.workers;
+    let flag = AtomicBool::new(true);
+    let input = Input {
+        clock,
+        flag: &flag,
+        looks,
+    };
+    let gate = Watch::new(clock, Hold::Open);
+    let Told {
+        status: told,
+        output,
+    } = run(rt, service, listener, input, &gate);
+    drop(gate);
+    same(rt, told, status);
+    same(rt, Some(output), idle_output(clock.alloc(), workers));
+}
+
+/// As `end_at_once`, with so many workers.
+fn start_and_end<R: Threads + Wait + Net + Abort + Sync>(
+    rt: &R,
+    clock: HostRuntime,
+    workers: u32,
+    looks: u32,
+    status: u8,
+)
+    requires { (1 ≤ workers) × (workers ≤ 64) }
+{
+    match (listen(rt), service(clock.alloc(), workers)) {
+        (Some((listener, _)), Some(service)) => {
+            end_at_once(rt, clock, service, listener, looks, status);
+        }
+        (listener, service) => {
+            drop(listener);
+            drop(service);
+            fail(rt, "no server");
+        }
+    }
 }
 
 #[test]
-fn an_input_that_is_empty_ends_the_server(rt: HostRuntime) -> Result<(), Fail> {
+fn an_input_that_is_empty_ends_the_server(rt: HostRuntime) {
     for workers in [1u32, 2, 64] {
-        let listener = TcpListener::bind(&rt, loopback(0))?;
-        let mut input = b"".as_slice();
-        let mut output = Vec::new(rt.alloc());
-        let service = service(rt.alloc(), workers)?;
-        let status = run_server(
-            &rt,
-            rt.alloc(),
-            service,
-            listener,
-            &mut input,
-            &mut output,
-            &OpenGate,
-        );
-        same(&rt, status, 0);
-        same(&rt, output, idle_output(rt.alloc(), workers)?);
-    }
-    Ok(())
-}
-
-/// An input that fails.
-#[derive(Drop)]
-struct Broken;
-
-impl Read for Broken {
-    fn read(&mut self, _into: &mut [u8]) -> io::Result<usize> {
-        Err(io::Error::from(io::ErrorKind::Other))
+        start_and_end(&rt, rt, workers, 1, 0);
     }
 }
 
 #[test]
-fn an_input_that_fails_ends_the_server_too(rt: HostRuntime) -> Result<(), Fail> {
-    let listener = TcpListener::bind(&rt, loopback(0))?;
-    let mut output = Vec::new(rt.alloc());
-    let service = service(rt.alloc(), 2)?;
-    let status = run_server(
-        &rt,
-        rt.alloc(),
-        service,
-        listener,
-        &mut Broken,
-        &mut output,
-        &OpenGate,
-    );
-    same(&rt, status, 2);
-    same(&rt, output, idle_output(rt.alloc(), 2)?);
-    Ok(())
+fn an_input_that_fails_ends_the_server_too(rt: HostRuntime) {
+    start_and_end(&rt, rt, 2, 0, 2);
+}
+
+/// The number before a word of events. None where the text has no such form.
+fn events_in(text: &str) -> Option<u64> {
+    text.strip_suffix(" events")?.parse().ok()
 }
 
 /// The number of events that is printed of a worker. None where no line has this form.
 fn events_of(output: &str, worker: &str) -> Option<u64> {
-    let line = output.lines().find(|line| line.starts_with(worker))?;
-    line.strip_prefix(worker)?
-        .strip_suffix(" events")?
-        .parse()
-        .ok()
+    for line in output.lines() {
+        if let Some(rest) = line.strip_prefix(worker) {
+            return events_in(rest);
+        }
+    }
+    None
 }
+
+fn compare_events(rt: &impl Abort, output: &str) {
+    let anna = events_of(output, "worker 0: ").unwrap_or(0);
+    let bert = events_of(output, "worker 1: ").unwrap_or(0);
+    let nobody = events_of(output, "worker 2: ").unwrap_or(1);
+    let are_so = anna >= 1 + 1 + 100 + 100 + 1 && 3 <= bert && bert < 100 && nobody == 0;
+    assert!(rt; are_so, "{output}");
+}
+
+const EVENTS: [Act; 2] = [
+    Act {
+        times: 1,
+        steps: &[Enters(ANNA), Enters(BERT)],
+    },
+    Act {
+        times: 100,
+        steps: &[Sends(ANNA, PING), Reads(ANNA, PONG)],
+    },
+];
 
 /// Anna's worker opens her, answers a hundred lines and shuts her; Bert's opens and shuts him. Drains are events too, a few a turn.
 #[test]
-fn each_worker_is_told_with_its_own_events(rt: HostRuntime) -> Result<(), Fail> {
-    let (server, running) = new_server(&rt, rt, 3)?;
-    let thread = thread::spawn(&rt, move || server.run_telling(&rt, &OpenGate))?;
-    let mut anna = greeted(&rt, &rt, &running)?;
-    let bert = greeted(&rt, &rt, &running)?;
-    for _ in 0..100 {
-        assert!(rt; anna.send(&rt, b"PING\n") && anna.reads(&rt, b"PONG\n"));
-    }
-    let Some(told) = running.end_telling(&rt, thread) else {
-        return Err(Fail::new("the server does not end"));
-    };
-    let output = str::from_utf8(&told.output)?;
-    let anna_and_drains = events_of(output, "worker 0: ").unwrap_or(0);
-    let bert_and_drains = events_of(output, "worker 1: ").unwrap_or(0);
-    assert!(rt;
-        anna_and_drains >= 1 + 1 + 100 + 100 + 1,
-        "Anna's worker: {anna_and_drains}"
-    );
-    assert!(rt;
-        (3..100).contains(&bert_and_drains),
-        "Bert's worker: {bert_and_drains}"
-    );
-    same(&rt, events_of(output, "worker 2: "), Some(0));
-    drop(anna);
-    drop(bert);
-    Ok(())
+fn each_worker_is_told_with_its_own_events(rt: HostRuntime) {
+    let output = play(&rt, rt, 3, Hold::Open, &EVENTS);
+    compare_events(&rt, str::from_utf8(&output).unwrap_or(""));
+    drop(output);
 }
 
-/// A text so many times over.
-pub fn times_over(alloc: Global, text: &[u8], times: usize) -> Result<Vec<u8>, AllocError> {
-    let mut all = Vec::new(alloc);
-    for _ in 0..times {
-        all.extend_from_slice(text)?;
-    }
-    Ok(all)
-}
-
-/// A line of these two parts.
-fn talk(alloc: Global, front: &[u8], text: &[u8]) -> Result<Vec<u8>, AllocError> {
-    let mut line = Vec::from_slice(alloc, front)?;
-    line.extend_from_slice(text)?;
-    line.push(b'\n')?;
-    Ok(line)
-}
+const BURST: [Act; 1] = [Act {
+    times: 1,
+    steps: &[
+        Enters(ANNA),
+        SendsOften(ANNA, PING, 14_000),
+        ReadsOften(ANNA, PONG, 14_000),
+        Sends(ANNA, b"EXIT\n"),
+        Ends(ANNA),
+    ],
+}];
 
 /// Far more lines than a turn takes, which the client sends before it reads.
 #[test]
-fn a_burst_is_answered_whole(rt: HostRuntime) -> Result<(), Fail> {
-    let lines = times_over(rt.alloc(), b"PING\n", 1_000)?;
-    let answers = times_over(rt.alloc(), b"PONG\n", 1_000)?;
+fn a_burst_is_answered_whole(rt: HostRuntime) {
     for workers in [1u32, 3] {
-        let (server, running) = new_server(&rt, rt, workers)?;
-        let thread = thread::spawn(&rt, move || server.run(&rt, &OpenGate))?;
-        let mut client = Client::connect(&rt, running.address)?;
-        assert!(rt; client.reads(&rt, GREETING));
-        assert!(rt; client.send_times(&rt, &lines, 14));
-        assert!(rt; client.reads_times(&rt, &answers, 14), "all are answered");
-        assert!(rt; client.send(&rt, b"EXIT\n"));
-        same(&rt, client.ends(&rt), Some(0));
-        same(&rt, running.end(&rt, thread), 0);
+        drop(play(&rt, rt, workers, Hold::Open, &BURST));
     }
-    Ok(())
 }
+
+const BOTH_LOG_IN: Act = Act {
+    times: 1,
+    steps: &[
+        Enters(ANNA),
+        Sends(ANNA, ANNA_LOGS_IN),
+        Reads(ANNA, ANNA_IS_IN),
+        Enters(BERT),
+        Sends(BERT, BERT_LOGS_IN),
+        Reads(BERT, BERT_IS_IN),
+        Reads(ANNA, BERT_COMES),
+    ],
+};
+
+/// Sixteen bytes of a long text.
+const TEXT: &[u8] = b"0123456789abcdef";
+
+const ANNA_SAYS: Act = Act {
+    times: 100,
+    steps: &[
+        Sends(ANNA, b"SAYPRIVATE Anna "),
+        SendsOften(ANNA, TEXT, 250),
+        Sends(ANNA, b"\n"),
+    ],
+};
+
+const ANNA_HEARS: Act = Act {
+    times: 100,
+    steps: &[
+        Reads(ANNA, b"SAYPRIVATE Anna "),
+        ReadsOften(ANNA, TEXT, 250),
+        Reads(ANNA, b"\nSAIDPRIVATE Anna "),
+        ReadsOften(ANNA, TEXT, 250),
+        Reads(ANNA, b"\n"),
+    ],
+};
+
+const BERT_IS_TOLD: Act = Act {
+    times: 1,
+    steps: &[Sends(ANNA, b"SAYPRIVATE Bert on\n")],
+};
+
+const BERT_HEARS: Act = Act {
+    times: 7,
+    steps: &[Reads(BERT, b"SAIDPRIVATE Anna on\n")],
+};
+
+const ANNA_HEARS_ON: Act = Act {
+    times: 1,
+    steps: &[Reads(ANNA, b"SAYPRIVATE Bert on\n")],
+};
+
+const LATE: [Act; 30] = [
+    BOTH_LOG_IN,
+    ANNA_SAYS,
+    BERT_IS_TOLD,
+    ANNA_SAYS,
+    BERT_IS_TOLD,
+    ANNA_SAYS,
+    BERT_IS_TOLD,
+    ANNA_SAYS,
+    BERT_IS_TOLD,
+    ANNA_SAYS,
+    BERT_IS_TOLD,
+    ANNA_SAYS,
+    BERT_IS_TOLD,
+    ANNA_SAYS,
+    BERT_IS_TOLD,
+    BERT_HEARS,
+    ANNA_HEARS,
+    ANNA_HEARS_ON,
+    ANNA_HEARS,
+    ANNA_HEARS_ON,
+    ANNA_HEARS,
+    ANNA_HEARS_ON,
+    ANNA_HEARS,
+    ANNA_HEARS_ON,
+    ANNA_HEARS,
+    ANNA_HEARS_ON,
+    ANNA_HEARS,
+    ANNA_HEARS_ON,
+    ANNA_HEARS,
+    ANNA_HEARS_ON,
+];
 
 /// Longer lines than a turn reads, more answers than it writes, and more than most systems keep for a client that does not read: Anna
 /// reads once Bert was told all.
 #[test]
-fn a_client_that_reads_late_gets_all(rt: HostRuntime) -> Result<(), Fail> {
-    let (server, running) = new_server(&rt, rt, 1)?;
-    let thread = thread::spawn(&rt, move || server.run(&rt, &OpenGate))?;
-    let mut anna = Client::connect(&rt, running.address)?;
-    assert!(rt; anna.reads(&rt, GREETING) && anna.send(&rt, ANNA_LOGS_IN));
-    assert!(rt; anna.reads(&rt, ANNA_IS_IN));
-    let mut bert = Client::connect(&rt, running.address)?;
-    assert!(rt; bert.reads(&rt, GREETING) && bert.send(&rt, BERT_LOGS_IN));
-    assert!(rt; bert.reads(&rt, BERT_IS_IN) && anna.reads(&rt, BERT_COMES));
-    let text = times_over(rt.alloc(), b"0123456789abcdef", 250)?;
-    let line = talk(rt.alloc(), b"SAYPRIVATE Anna ", &text)?;
-    let echo = talk(rt.alloc(), b"SAIDPRIVATE Anna ", &text)?;
-    for _ in 0..7 {
-        assert!(rt; anna.send_times(&rt, &line, 100));
-        assert!(rt; anna.send(&rt, b"SAYPRIVATE Bert on\n"));
-    }
-    assert!(rt;
-        bert.reads_times(&rt, b"SAIDPRIVATE Anna on\n", 7),
-        "Bert is told"
-    );
-    for _ in 0..7 {
-        for _ in 0..100 {
-            assert!(rt;
-                anna.reads(&rt, &line) && anna.reads(&rt, &echo),
-                "Anna is told"
-            );
-        }
-        assert!(rt; anna.reads(&rt, b"SAYPRIVATE Bert on\n"));
-    }
-    same(&rt, running.end(&rt, thread), 0);
-    Ok(())
+fn a_client_that_reads_late_gets_all(rt: HostRuntime) {
+    drop(play(&rt, rt, 1, Hold::Open, &LATE));
 }
 
+const NO_MORE: [Act; 1] = [Act {
+    times: 1,
+    steps: &[
+        Connects(0),
+        Sends(0, PING),
+        Finishes(0),
+        Reads(0, b"TASSERVER 0.38 * 8201 0\nPONG\n"),
+        Ends(0),
+        Connects(1),
+        Sends(1, b"PING\nPING"),
+        Finishes(1),
+        Reads(1, b"TASSERVER 0.38 * 8201 0\nPONG\n"),
+        Ends(1),
+        Connects(2),
+        Sends(2, b"PING\nEXIT\nPING\n"),
+        Finishes(2),
+        Reads(2, b"TASSERVER 0.38 * 8201 0\nPONG\n"),
+        Ends(2),
+    ],
+}];
+
 #[test]
-fn who_sends_no_more_gets_all_answers(rt: HostRuntime) -> Result<(), Fail> {
-    let (server, running) = new_server(&rt, rt, 2)?;
-    let thread = thread::spawn(&rt, move || server.run(&rt, &OpenGate))?;
-    for lines in [b"PING\n".as_slice(), b"PING\nPING", b"PING\nEXIT\nPING\n"] {
-        let mut client = Client::connect(&rt, running.address)?;
-        assert!(rt; client.send(&rt, lines) && client.finish());
-        assert!(rt; client.reads(&rt, GREETING), "the greeting");
-        assert!(rt; client.reads(&rt, b"PONG\n"), "the answer");
-        same(&rt, client.ends(&rt), Some(0));
-    }
-    same(&rt, running.end(&rt, thread), 0);
-    Ok(())
+fn who_sends_no_more_gets_all_answers(rt: HostRuntime) {
+    drop(play(&rt, rt, 2, Hold::Open, &NO_MORE));
 }
