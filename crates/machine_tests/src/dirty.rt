@@ -1,5 +1,7 @@
 //! The lists of changed clients: who comes out of them, and in which order.
 
+ghost use Rattle.std.specs.Prelude.{◌<◌};
+
 use crate::machine::{cut, drains, fill, new_lobby, say};
 use crate::plays::{Part, play};
 use crate::verdict::{holds, same};
