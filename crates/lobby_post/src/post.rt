@@ -30,7 +30,8 @@ const KEPT_TEXT: usize = 262_144;
 const KEPT_SHARES: usize = 1_024;
 
 /// The lines of the event at hand, and which client gets which of them. Its buffers are kept from
-/// event to event, so that a recipient costs no print, and no memory once they have grown.
+/// event to event, so that a recipient costs no print, and no memory once they have grown. A long
+/// line takes a block of its own, which all who get it share.
 ///
 /// What tells fails only where memory is refused. What was told of the event is then given up: the
 /// next thing to do is to begin another one.
