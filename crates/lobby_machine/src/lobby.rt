@@ -104,7 +104,7 @@ impl Lobby {
         let change = self
             .maps
             .decide(client, me, request.id, &request.command, &mut self.post)?;
-        self.maps.carry_out(client, change, &self.post)
+        self.maps.carry_out(client, change, &mut self.post)
     }
 
     /// A client's connection is closed: it is removed, and its user, if it was logged in, is logged
@@ -117,7 +117,7 @@ impl Lobby {
         ensures err { OnErr result (self.new ≡ self.old) }
     {
         let change = self.maps.close(client, &mut self.post)?;
-        self.maps.carry_out(client, change, &self.post)
+        self.maps.carry_out(client, change, &mut self.post)
     }
 
     /// Takes bytes that a client has not read into a slice, as many as fit, and tells whether

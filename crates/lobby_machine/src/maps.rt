@@ -150,12 +150,12 @@ impl Maps {
         &mut self,
         client: u64,
         change: Change,
-        post: &Post,
+        post: &mut Post,
     ) -> Result<Wakes, AllocError>
         requires { CanBe self.old.plain.clients self.old.plain.users self.old.plain.channels self.old.plain.battles client change }
-        ensures ok { OnOk result ((e : Event) → effect self.old.plain e ≡ changed self.old.plain client change → Matches self.old.plain e post.now → self.new.plain ≡ next self.old.plain e) }
-        ensures wakes { IfOk result (λ wakes. (e : Event) → effect self.old.plain e ≡ changed self.old.plain client change → Matches self.old.plain e post.now → IsWakes self.old.plain e wakes) }
-        ensures dirty { OnOk result ((e : Event) → effect self.old.plain e ≡ changed self.old.plain client change → Matches self.old.plain e post.now → (home : ℕ) → home ≤ 63 → DirtyAfter self.old.plain e home (dirty_at self.old home) (dirty_at self.new home)) }
+        ensures ok { OnOk result ((e : Event) → effect self.old.plain e ≡ changed self.old.plain client change → Matches self.old.plain e post.old → self.new.plain ≡ next self.old.plain e) }
+        ensures wakes { IfOk result (λ wakes. (e : Event) → effect self.old.plain e ≡ changed self.old.plain client change → Matches self.old.plain e post.old → IsWakes self.old.plain e wakes) }
+        ensures dirty { OnOk result ((e : Event) → effect self.old.plain e ≡ changed self.old.plain client change → Matches self.old.plain e post.old → (home : ℕ) → home ≤ 63 → DirtyAfter self.old.plain e home (dirty_at self.old home) (dirty_at self.new home)) }
         ensures err { OnErr result (self.new ≡ self.old) }
     {
         match post.make_room(&mut self.clients) {

@@ -1,5 +1,5 @@
 -- The slots of all clients, before and after one of them is written, inserted or removed.
-use Rattle.std.proofs.Common.{◌≡◌, ℕ, List, [], ◌∷◌, length, refl, sym, ap, subst, ◌∙◌, true, false, cond, map}
+use Rattle.std.proofs.Common.{◌≡◌, ℕ, List, [], ◌∷◌, refl, sym, ap, subst, ◌∙◌, true, false, cond, map}
 use Rattle.std.specs.Prelude.{Some, None, is_some, IsSome}
 use Rattle.std.specs.declared.cmp.Ordering.TheVariants.{Less, Equal, Greater}
 use Rattle.std.specs.Cmp.{nat_cmp_total, eq_by_cmp_equiv}
@@ -17,7 +17,7 @@ use Rattle.line_words.proofs.Tables.{lookup_is_find, insert_is_put, map_values-w
 use Rattle.line_words.proofs.Written.{remove_is_without}
 use Rattle.lobby_model.proofs.Delivered.{same_number_is, same_itself, find-values}
 use Rattle.lobby_model.proofs.Splits.{same_either_way, at_of_lookup, at_of_none, keys-values, lookup-values, lookup-values-none, set_value-values}
-use Rattle.lobby_post.specs.Mail.{Held, AllSlots, AreDue, bytes_for, plain}
+use Rattle.lobby_post.specs.Mail.{Held, AllSlots, AreDue, due_for, plain}
 use Rattle.line_words.proofs.Written.{set_is_change, none_is_change}
 
 -- What look-ups say of a map in which w was written at c
@@ -66,7 +66,7 @@ module _ (P Q : ℕ → Held → Type 0) (c : ℕ) (others : (q : ℕ) (held : H
 pub due_kept : (pieces : ByNumber (List ℕ)) (c : ℕ) (x w : Held) (es fs : ByNumber Held) → IsWritten c w es fs → Some x
     ≡ lookup (is_at (nat_cmp c)) es → w.due ≡ x.due → AreDue pieces es → AreDue pieces fs
 due_kept pieces c x w es fs written found same =
-    all_written (λ q held. held.due ≡ length (bytes_for pieces q)) (λ q held. held.due ≡ length (bytes_for pieces q)) c
+    all_written (λ q held. held.due ≡ due_for pieces q) (λ q held. held.due ≡ due_for pieces q) c
     (λ q held e h. h) x w es fs written found (λ h. same ∙ h)
 
 -- one slot inserted, or removed

@@ -9,6 +9,7 @@ pub mod Marks
 pub mod Waiting
 pub mod Places
 pub mod Parcels
+pub mod Dues
 pub mod Rounds
 pub mod Newly
 pub mod Newcomers

@@ -1,12 +1,14 @@
 -- The line that is being told, at the end of the text.
-use Rattle.std.proofs.Common.{◌≡◌, ℕ, ◌-◌, ◌≤◌, List, [], ◌∷◌, ◌++◌, length, take, drop, refl, sym, ap, ◌∙◌, append_assoc, arith}
-use Rattle.std.specs.Prelude.{Option, None}
+use Rattle.std.proofs.Common.{◌≡◌, ℕ, ◌-◌, ◌≤◌, List, [], ◌∷◌, ◌++◌, length, take, drop, refl, sym, ap, subst, ◌∙◌, true, false, append_assoc, arith, length-append}
+use Rattle.std.specs.Prelude.{Option, None, if◌then◌else◌}
 use Rattle.std.specs.List.{AllByRecursion}
 use Rattle.std.proofs.Math.Seq.{drop-append_seam, drop-length}
-use Rattle.std.proofs.lemmas.List.{drop-append-le, take-append-le, length-drop}
+use Rattle.std.proofs.lemmas.List.{drop-append-le, take-append-le, length-drop, map-append, take_all}
 use Rattle.reply_grammar.specs.declared.Reply.{Reply}
 use Rattle.reply_grammar.specs.Replies.{id_text, body, printed_line}
 use Rattle.lobby_post.specs.declared.delivery.Piece.{Piece}
+use Rattle.line_words.specs.Table.{ByNumber}
+use Rattle.lobby_post.specs.Dues.{is_long, shares_of, with_share}
 use Rattle.lobby_post.specs.Pieces.{LiesIn, bytes_of, pieces_of}
 use Rattle.lobby_post.specs.Posted.{Posted}
 
@@ -21,6 +23,47 @@ bytes_same text more p h =
 pub pieces_same : (text more : List ℕ) (ps : List Piece) → AllByRecursion (LiesIn text) ps → pieces_of (text ++ more) ps ≡ pieces_of text ps
 pieces_same text more [] h = refl
 pieces_same text more (p ∷ ps) h = λ i. (p.client, bytes_same text more p h.0 i) ∷ pieces_same text more ps h.1 i
+
+inside_more : (text more : List ℕ) (ps : List Piece) → AllByRecursion (LiesIn text) ps → AllByRecursion (LiesIn (text ++ more)) ps
+inside_more text more [] h = tt
+inside_more text more (p ∷ ps) h =
+    let ends : p.to ≤ length text = h.0.1 in
+    let long = length-append text more in
+    ((h.0.0, omega (arith, ends, long)), inside_more text more ps h.1)
+
+pub inside_and : (text : List ℕ) (ps : List Piece) (p : Piece) → AllByRecursion (LiesIn text) ps → LiesIn text p → AllByRecursion (LiesIn text) (ps ++ p ∷ [])
+inside_and text [] p h here = (here, tt)
+inside_and text (q ∷ ps) p h here = (h.0, inside_and text ps p h.1 here)
+
+-- the pieces and their shares, where more is printed
+pub parts_more : (text more out : List ℕ) (ps : List Piece) (shares : List (List ℕ)) → out ≡ text ++ more → AllByRecursion (LiesIn text) ps
+    → shares ≡ shares_of (pieces_of text ps) → AllByRecursion (LiesIn out) ps × (shares ≡ shares_of (pieces_of out ps))
+parts_more text more out ps shares is inside all =
+    subst (λ t. AllByRecursion (LiesIn t) ps × (shares ≡ shares_of (pieces_of t ps))) (sym is)
+    (inside_more text more ps inside, all ∙ ap shares_of (sym (pieces_same text more ps inside)))
+
+-- what is left of the text from a place on
+pub whole_part : (text seen : List ℕ) (from to starts : ℕ) → seen ≡ text → to ≡ length text → from ≡ starts → take (to - from) (drop from seen)
+    ≡ drop starts text
+whole_part text seen from to starts same ends begins =
+    let long : length (drop starts text) ≡ length text - starts = length-drop starts text in
+    (λ i. take (ends i - begins i) (drop (begins i) (same i))) ∙ take_all (length text - starts) (drop starts text) (omega (arith, long))
+
+shares-append : (sent : ByNumber (List ℕ)) (c : ℕ) (bytes : List ℕ) → shares_of (sent ++ (c, bytes) ∷ []) ≡ shares_of sent ++ with_share bytes []
+shares-append [] c bytes = refl
+shares-append (p ∷ sent) c bytes =
+    elim (is_long (length p.1)) as (λ b. (if b then p.1 ∷ shares_of (sent ++ (c, bytes) ∷ []) else shares_of (sent ++ (c, bytes) ∷ []))
+    ≡ (if b then p.1 ∷ shares_of sent else shares_of sent) ++ with_share bytes []) [
+      | true ↦ ap (λ rest. p.1 ∷ rest) (shares-append sent c bytes)
+      | false ↦ shares-append sent c bytes
+    ]
+
+-- one more piece with its share
+pub shares_more : (text : List ℕ) (ps : List Piece) (p : Piece) (old new : List (List ℕ)) → old ≡ shares_of (pieces_of text ps)
+    → new ≡ old ++ with_share (bytes_of text p) [] → new ≡ shares_of (pieces_of text (ps ++ p ∷ []))
+shares_more text ps p old new all added =
+    added ∙ ap (λ rest. rest ++ with_share (bytes_of text p) []) all ∙ sym (shares-append (pieces_of text ps) p.client (bytes_of text p))
+    ∙ ap shares_of (sym (map-append _ ps (p ∷ [])))
 
 whole_line : (id : Option ℕ) (r : Reply) → id_text id ++ printed_line None r ≡ printed_line id r
 whole_line id r = sym (append_assoc (id_text id) (body r) (10 ∷ []))

@@ -1,6 +1,6 @@
 -- One round of the loops over the pieces.
-use Rattle.std.proofs.Common.{◌≡◌, ℕ, ◌+◌, ◌-◌, ◌<◌, ◌≤◌, List, [], ◌∷◌, ◌++◌, length, take, drop, refl, sym, ap, subst, ◌∙◌, Bool, true, false, map, slice_index_or, drop-cons, add-one, arith, length-append}
-use Rattle.std.specs.Prelude.{Some, None, ◌||◌, if◌then◌else◌}
+use Rattle.std.proofs.Common.{◌≡◌, ℕ, ◌+◌, ◌-◌, ◌<◌, ◌≤◌, List, [], ◌∷◌, ◌++◌, length, take, drop, refl, sym, ap, subst, ◌∙◌, Bool, true, false, map, slice_index_or, drop-cons, add-one, arith}
+use Rattle.std.specs.Prelude.{Some, None, ◌||◌}
 use Rattle.std.specs.Ordering.{nat_cmp}
 use Rattle.std.specs.List.{AllByRecursion}
 use Rattle.std.specs.List.Sorted.{IsStrictlySortedBy}
@@ -11,14 +11,16 @@ use Rattle.std.proofs.lemmas.List.{map-append, drop_all, take_all, length-take-l
 use Rattle.std.proofs.lemmas.Map.Steps.{set_value_same}
 use Rattle.line_words.specs.Table.{ByNumber}
 use Rattle.lobby_model.specs.State.{Client}
-use Rattle.lobby_model.proofs.Delivered.{same_itself}
 use Rattle.lobby_model.proofs.Splits.{keys-values, lookup-values, lookup-values-none, set_value-values}
 use Rattle.lobby_post.specs.Mask.{has_home}
 use Rattle.lobby_post.specs.declared.delivery.Piece.{Piece}
+use Rattle.lobby_post.specs.declared.due.Due.{Due}
+use Rattle.lobby_post.specs.Dues.{due_and, due_but, shares_of, Covers}
 use Rattle.lobby_post.specs.Pieces.{LiesIn, bytes_of, pieces_of}
-use Rattle.lobby_post.specs.Mail.{Held, plain, bytes_for, deliver, wakes_one, wakes_home, put_first, HaveLimit, AreDue, IsReady, AreReady}
+use Rattle.lobby_post.specs.Mail.{Held, plain, bytes_for, due_for, deliver, wakes_one, wakes_home, put_first, HaveLimit, AreDue, IsReady, AreReady}
 use Rattle.lobby_post.proofs.Crowds.{IsWritten, all_written, all_past}
-use Rattle.lobby_post.proofs.Parcels.{other_piece, own_piece, more_due, deliver_step, deliver_past, deliver_nil, wakes_step, wakes_past, wakes_nil}
+use Rattle.lobby_post.proofs.Dues.{copied_within, due_covers, due_grown, due_left, due_other, due_same}
+use Rattle.lobby_post.proofs.Parcels.{deliver_step, deliver_past, deliver_nil, wakes_step, wakes_past, wakes_nil}
 
 abbrev pub blank : Piece
 blank = record { client = 0; place = 0; from = 0; to = 0 }
@@ -52,39 +54,40 @@ ready_next c x w es fs written found ready = all_written (λ q held. IsReady hel
 
 -- the piece begins a list of pieces: it is put or given up
 module _ (c : ℕ) (bytes : List ℕ) (rest : ByNumber (List ℕ)) where
-  long : length (bytes_for ((c, bytes) ∷ rest) c) ≡ length bytes + length (bytes_for rest c)
-  long = ap length (own_piece c bytes rest) ∙ length-append bytes (bytes_for rest c)
-
-  pub less_due : (x w : Held) (es fs : ByNumber Held) → IsWritten c w es fs → Some x ≡ lookup (is_at (nat_cmp c)) es → w.due ≡ x.due - length bytes
-      → AreDue ((c, bytes) ∷ rest) es → AreDue rest fs
+  pub less_due : (x w : Held) (es fs : ByNumber Held) → IsWritten c w es fs → Some x ≡ lookup (is_at (nat_cmp c)) es
+      → w.due ≡ due_but x.due (length bytes) → AreDue ((c, bytes) ∷ rest) es → AreDue rest fs
   less_due x w es fs written found less =
-      all_written (λ q held. held.due ≡ length (bytes_for ((c, bytes) ∷ rest) q)) (λ q held. held.due ≡ length (bytes_for rest q)) c
-      (λ q held e h. h ∙ ap length (sym (other_piece c bytes rest q e))) x w es fs written found (λ h. let l = long in omega (arith, less, h, l))
+      all_written (λ q held. held.due ≡ due_for ((c, bytes) ∷ rest) q) (λ q held. held.due ≡ due_for rest q) c
+      (λ q held e h. h ∙ due_other c bytes rest q e) x w es fs written found
+      (λ h. less ∙ ap (λ d. due_but d (length bytes)) h ∙ due_left c bytes rest)
 
   pub less_past : (es : ByNumber Held) → lookup (is_at (nat_cmp c)) es ≡ None → AreDue ((c, bytes) ∷ rest) es → AreDue rest es
   less_past es none =
-      all_past (λ q held. held.due ≡ length (bytes_for ((c, bytes) ∷ rest) q)) (λ q held. held.due ≡ length (bytes_for rest q)) c
-      (λ q held e h. h ∙ ap length (sym (other_piece c bytes rest q e))) es none
+      all_past (λ q held. held.due ≡ due_for ((c, bytes) ∷ rest) q) (λ q held. held.due ≡ due_for rest q) c
+      (λ q held e h. h ∙ due_other c bytes rest q e) es none
 
-  pub due_here : (x : Held) (es : ByNumber Held) → Some x ≡ lookup (is_at (nat_cmp c)) es → AreDue ((c, bytes) ∷ rest) es → length bytes ≤ x.due
-  due_here x es found due = let l = long in let h = due c x (sym found) in omega (arith, l, h)
+  pub due_here : (x : Held) (es : ByNumber Held) → Some x ≡ lookup (is_at (nat_cmp c)) es → AreDue ((c, bytes) ∷ rest) es
+      → Covers x.due (length bytes)
+  due_here x es found due = subst (λ d. Covers d (length bytes)) (sym (due c x (sym found))) (due_covers c bytes rest)
+
+-- fewer bytes are copied than are due
+pub copied_few : (pieces : ByNumber (List ℕ)) (c : ℕ) (x : Held) (es : ByNumber Held) → Some x ≡ lookup (is_at (nat_cmp c)) es → AreDue pieces es
+    → x.due.copied ≤ x.due.bytes
+copied_few pieces c x es found due = subst (λ (d : Due). d.copied ≤ d.bytes) (sym (due c x (sym found))) (copied_within pieces c)
 
 -- one more piece
 module _ (c : ℕ) (bytes : List ℕ) (done : ByNumber (List ℕ)) where
-  pub grown_due : (x w : Held) (es fs : ByNumber Held) → IsWritten c w es fs → Some x ≡ lookup (is_at (nat_cmp c)) es → w.due ≡ x.due + length bytes
-      → AreDue done es → AreDue (done ++ (c, bytes) ∷ []) fs
+  pub grown_due : (x w : Held) (es fs : ByNumber Held) → IsWritten c w es fs → Some x ≡ lookup (is_at (nat_cmp c)) es
+      → w.due ≡ due_and x.due (length bytes) → AreDue done es → AreDue (done ++ (c, bytes) ∷ []) fs
   grown_due x w es fs written found more =
-      all_written (λ q held. held.due ≡ length (bytes_for done q)) (λ q held. held.due ≡ length (bytes_for (done ++ (c, bytes) ∷ []) q)) c
-      (λ q held e h. h ∙ ap length (sym (more_due done c bytes q
-      ∙ ap (λ b. if b then bytes_for done q ++ bytes else bytes_for done q) e))) x w es fs written found
-      (λ h. let l : length (bytes_for (done ++ (c, bytes) ∷ []) c) ≡ length (bytes_for done c) + length bytes =
-      ap length (more_due done c bytes c ∙ ap (λ b. if b then bytes_for done c ++ bytes else bytes_for done c) (same_itself c))
-      ∙ length-append (bytes_for done c) bytes in omega (arith, more, h, l))
+      all_written (λ q held. held.due ≡ due_for done q) (λ q held. held.due ≡ due_for (done ++ (c, bytes) ∷ []) q) c
+      (λ q held e h. h ∙ due_same c bytes done q e) x w es fs written found
+      (λ h. more ∙ ap (λ d. due_and d (length bytes)) h ∙ due_grown c bytes done)
 
   pub grown_past : (es : ByNumber Held) → lookup (is_at (nat_cmp c)) es ≡ None → AreDue done es → AreDue (done ++ (c, bytes) ∷ []) es
   grown_past es none =
-      all_past (λ q held. held.due ≡ length (bytes_for done q)) (λ q held. held.due ≡ length (bytes_for (done ++ (c, bytes) ∷ []) q)) c
-      (λ q held e h. h ∙ ap length (sym (more_due done c bytes q ∙ ap (λ b. if b then bytes_for done q ++ bytes else bytes_for done q) e))) es none
+      all_past (λ q held. held.due ≡ due_for done q) (λ q held. held.due ≡ due_for (done ++ (c, bytes) ∷ []) q) c
+      (λ q held e h. h ∙ due_same c bytes done q e) es none
 
 module _ (text : List ℕ) (pieces : List Piece) (i : ℕ) (within : i < length pieces) where
   abbrev piece : Piece
@@ -108,7 +111,7 @@ module _ (text : List ℕ) (pieces : List Piece) (i : ℕ) (within : i < length 
       ap (pieces_of text) taken ∙ map-append _ (take i pieces) _
 
   pub due_more : (x w : Held) (es fs : ByNumber Held) → IsWritten piece.client w es fs → Some x ≡ lookup (is_at (nat_cmp piece.client)) es → w.due
-      ≡ x.due + length bytes → AreDue (pieces_of text (take i pieces)) es → AreDue (pieces_of text (take (i + 1) pieces)) fs
+      ≡ due_and x.due (length bytes) → AreDue (pieces_of text (take i pieces)) es → AreDue (pieces_of text (take (i + 1) pieces)) fs
   due_more x w es fs written found more due = subst (λ ps. AreDue ps fs) (sym pieces_done)
       (grown_due piece.client bytes (pieces_of text (take i pieces)) x w es fs written found more due)
 
@@ -126,10 +129,10 @@ module _ (text : List ℕ) (pieces : List Piece) (i : ℕ) (within : i < length 
       length-take-le (piece.to - piece.from) (drop piece.from text) (omega (arith, d, a, b))
 
   module _ (x w : Held) (es fs : ByNumber Held) (is : fs ≡ set_value (is_at (nat_cmp piece.client)) es w)
-      (found : Some x ≡ lookup (is_at (nat_cmp piece.client)) es) (made : w.client ≡ put_first x.limit x.due bytes x.client)
+      (found : Some x ≡ lookup (is_at (nat_cmp piece.client)) es) (made : w.client ≡ put_first x.limit x.due.bytes bytes x.client)
       (ordered : IsStrictlySortedBy nat_cmp (map (λ e. e.0) es)) (due : AreDue (pieces_of text (drop i pieces)) es) where
-    due_now : x.due ≡ length (bytes_for ((piece.client, bytes) ∷ rest) piece.client)
-    due_now = subst (λ ps. AreDue ps es) pieces_is due piece.client x (sym found)
+    due_now : x.due.bytes ≡ length (bytes_for ((piece.client, bytes) ∷ rest) piece.client)
+    due_now = ap (λ (d : Due). d.bytes) (subst (λ ps. AreDue ps es) pieces_is due piece.client x (sym found))
 
     ordered_plain : IsStrictlySortedBy nat_cmp (map (λ e. e.0) (plain es))
     ordered_plain = subst (IsStrictlySortedBy nat_cmp) (sym (keys-values (λ held. held.client) es)) ordered
@@ -137,15 +140,15 @@ module _ (text : List ℕ) (pieces : List Piece) (i : ℕ) (within : i < length 
     found_plain : lookup (is_at (nat_cmp piece.client)) (plain es) ≡ Some x.client
     found_plain = lookup-values (λ held. held.client) (is_at (nat_cmp piece.client)) x es (sym found)
 
-    plain_is : plain fs ≡ set_value (is_at (nat_cmp piece.client)) (plain es) (put_first x.limit x.due bytes x.client)
+    plain_is : plain fs ≡ set_value (is_at (nat_cmp piece.client)) (plain es) (put_first x.limit x.due.bytes bytes x.client)
     plain_is = ap plain is ∙ set_value-values (λ held. held.client) (is_at (nat_cmp piece.client)) w es
         ∙ ap (set_value (is_at (nat_cmp piece.client)) (plain es)) made
 
     pub clients_next : (limit : ℕ) → HaveLimit limit es → deliver limit rest (plain fs) ≡ deliver limit (pieces_of text (drop i pieces)) (plain es)
     clients_next limit all =
-        ap (deliver limit rest) (plain_is ∙ ap (λ n. set_value (is_at (nat_cmp piece.client)) (plain es) (put_first n x.due bytes x.client))
+        ap (deliver limit rest) (plain_is ∙ ap (λ n. set_value (is_at (nat_cmp piece.client)) (plain es) (put_first n x.due.bytes bytes x.client))
         (all piece.client x (sym found)))
-        ∙ deliver_step piece.client bytes rest limit x.due x.client (plain es) ordered_plain found_plain due_now
+        ∙ deliver_step piece.client bytes rest limit x.due.bytes x.client (plain es) ordered_plain found_plain due_now
         ∙ ap (λ ps. deliver limit ps (plain es)) (sym pieces_is)
 
     pub wakes_next : (wakes mark both home : ℕ) → has_home both home ≡ (has_home wakes home || has_home mark home) → has_home mark home
@@ -153,7 +156,7 @@ module _ (text : List ℕ) (pieces : List Piece) (i : ℕ) (within : i < length 
         → (has_home both home || wakes_home rest (plain fs) home) ≡ (has_home wakes home || wakes_home (pieces_of text (drop i pieces)) (plain es) home)
     wakes_next wakes mark both home joined marked =
         (λ j. (joined ∙ ap (λ b. has_home wakes home || b) marked) j || wakes_home rest (plain_is j) home)
-        ∙ or_first (has_home wakes home) _ _ _ (wakes_step piece.client bytes rest x.limit x.due x.client
+        ∙ or_first (has_home wakes home) _ _ _ (wakes_step piece.client bytes rest x.limit x.due.bytes x.client
         (plain es) ordered_plain found_plain due_now home)
         ∙ ap (λ ps. has_home wakes home || wakes_home ps (plain es) home) (sym pieces_is)
 
@@ -176,6 +179,9 @@ module _ (text : List ℕ) (pieces : List Piece) (i : ℕ) (past : length pieces
 
   pub all_done : pieces_of text (take i pieces) ≡ pieces_of text pieces
   all_done = ap (pieces_of text) (take_all i pieces past)
+
+  pub no_shares : shares_of (pieces_of text (drop i pieces)) ≡ []
+  no_shares = ap shares_of none_left
 
   pub clients_end : (limit : ℕ) (m : ByNumber Client) → deliver limit (pieces_of text (drop i pieces)) m ≡ m
   clients_end limit m = ap (λ ps. deliver limit ps m) none_left ∙ deliver_nil limit m

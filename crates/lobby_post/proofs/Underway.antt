@@ -54,7 +54,7 @@ home_kept limit due bytes client =
 
 -- one piece put to its client
 module _ (c : ℕ) (bytes : List ℕ) (x w : Held) (es : ByNumber Held) (found : Some x ≡ lookup (is_at (nat_cmp c)) es)
-    (made : w.client ≡ put_first x.limit x.due bytes x.client) (listed : w.listed ≡ (x.listed || touched bytes x.client)) where
+    (made : w.client ≡ put_first x.limit x.due.bytes bytes x.client) (listed : w.listed ≡ (x.listed || touched bytes x.client)) where
   abbrev es_next : ByNumber Held
   es_next = set_value (is_at (nat_cmp c)) es w
 
@@ -62,7 +62,7 @@ module _ (c : ℕ) (bytes : List ℕ) (x w : Held) (es : ByNumber Held) (found :
   now_fresh home = same_number x.client.home home && (not x.listed && touched bytes x.client)
 
   same_home : w.client.home ≡ x.client.home
-  same_home = ap (λ (k : Client). k.home) made ∙ home_kept x.limit x.due bytes x.client
+  same_home = ap (λ (k : Client). k.home) made ∙ home_kept x.limit x.due.bytes bytes x.client
 
   mark_found : lookup (is_at (nat_cmp c)) (marks_of es) ≡ Some (mark_of x)
   mark_found = lookup-values mark_of (is_at (nat_cmp c)) x es (sym found)
@@ -82,7 +82,7 @@ module _ (c : ℕ) (bytes : List ℕ) (x w : Held) (es : ByNumber Held) (found :
     news_own : (home : ℕ) → (if now_fresh home then 1 else 0) + news_of rest home c (Some w) ≡ news_of ((c, bytes) ∷ rest) home c (Some x)
     news_own home =
         let both = ap (λ k. (same_number x.client.home home && touched bytes x.client) || (same_number k.home home && touched (bytes_for rest c) k)) made
-        ∙ wake_first home x.limit x.due x.client bytes (bytes_for rest c) in
+        ∙ wake_first home x.limit x.due.bytes x.client bytes (bytes_for rest c) in
         ap (λ l. (if now_fresh home then 1 else 0) + (if same_number w.client.home home && (not l && touched (bytes_for rest c) w.client) then 1 else 0)) listed
         ∙ once (same_number x.client.home home) x.listed (touched bytes x.client) (same_number w.client.home home) (touched (bytes_for rest c) w.client)
         (touched (bytes ++ bytes_for rest c) x.client) both

@@ -5,6 +5,8 @@ use Rattle.std.specs.Map.{lookup}
 use Rattle.std.specs.Ordering.{nat_cmp}
 use Rattle.std.specs.BTreeMap.{is_at}
 use Rattle.line_words.specs.Table.{ByNumber, map_values, without_number, same_number}
+use Rattle.lobby_post.specs.declared.due.Due.{Due}
+use Rattle.lobby_post.specs.Dues.{copied_in, shared_in, count_for}
 use Rattle.lobby_post.specs.Mask.{has_home}
 use Rattle.lobby_model.specs.declared.event.Event.{Event}
 use Rattle.lobby_model.specs.declared.event.Phase.TheVariants.{Ended}
@@ -12,13 +14,14 @@ use Rattle.lobby_model.specs.State.{State, Client, is_live, set_phase}
 use Rattle.lobby_model.specs.Next.{with_batch, is_empty}
 use Rattle.lobby_model.specs.Touched.{touches}
 
--- a client, the limit of its outbox, how many bytes may be put to it without memory, how many are still due to it, and whether it
--- stands in its worker's list of those that were touched
+-- a client, the limit of its outbox, how many bytes may be copied and how many pieces shared to it without memory, what is still
+-- due to it, and whether it stands in its worker's list of those that were touched
 pub record Held : Type 0 where
   pub client : Client
   pub limit : ℕ
   pub spare : ℕ
-  pub due : ℕ
+  pub spare_pieces : ℕ
+  pub due : Due
   pub listed : Bool
 
 -- The clients of one worker: those that wait, in their order; those that the event at hand touched and that did not wait; how many
@@ -47,6 +50,10 @@ parted clients c false = without_number clients c
 abbrev pub bytes_for : ByNumber (List ℕ) → ℕ → List ℕ
 bytes_for [] d = []
 bytes_for (p ∷ pieces) d = if same_number d p.0 then p.1 ++ bytes_for pieces d else bytes_for pieces d
+
+-- what is due to client d of these pieces
+abbrev pub due_for : ByNumber (List ℕ) → ℕ → Due
+due_for pieces d = record { bytes = length (bytes_for pieces d); copied = count_for copied_in pieces d; shared = count_for shared_in pieces d }
 
 -- the clients with all their pieces put, or cut
 abbrev pub deliver : ℕ → ByNumber (List ℕ) → ByNumber Client → ByNumber Client
@@ -83,13 +90,14 @@ AllSlots P clients = (q : ℕ) (held : Held) → lookup (is_at (nat_cmp q)) clie
 abbrev pub HaveLimit : ℕ → ByNumber Held → Type 0
 HaveLimit limit = AllSlots (λ q held. held.limit ≡ limit)
 
--- these pieces, and no other bytes, are still due
+-- these pieces, and no others, are still due
 abbrev pub AreDue : ByNumber (List ℕ) → ByNumber Held → Type 0
-AreDue pieces = AllSlots (λ q held. held.due ≡ length (bytes_for pieces q))
+AreDue pieces = AllSlots (λ q held. held.due ≡ due_for pieces q)
 
 -- what is due can be put without memory
 abbrev pub IsReady : Held → Type 0
-IsReady held = is_live held.client ≡ true → length held.client.unread + held.due ≤ held.limit → held.due ≤ held.spare
+IsReady held = is_live held.client ≡ true → length held.client.unread + held.due.bytes ≤ held.limit
+    → (held.due.copied ≤ held.spare) × (held.due.shared ≤ held.spare_pieces)
 
 -- the same of all clients
 abbrev pub AreReady : ByNumber Held → Type 0

@@ -6,14 +6,18 @@ ghost use Rattle.lobby_post.specs.Mask.{has_home};
 ghost use Rattle.line_words.specs.Table.{same_number};
 ghost use Rattle.lobby_post.specs.Mail.{AreDue, AreReady, HaveLimit, IsReady, plain, deliver, put_first, touched, wakes_home, wakes_one};
 ghost use Rattle.lobby_post.specs.Dirty.{line_of, marks_of, pushed, stands, AreKnown, IsNewly};
+ghost use Rattle.lobby_post.specs.Dues.{due_but, share_of, shares_of, Covers};
 ghost use Rattle.lobby_post.specs.Pieces.{LiesIn, pieces_of};
 
 use crate::dirty::DirtyLists;
+use crate::shares::next_share;
 use crate::slot::Slot;
 use crate::slots::Slots;
 use crate::spares::Spares;
 use crate::wakes::Wakes;
+use bytes::Bytes;
 use std::alloc::AllocError;
+use std::collections::VecDeque;
 
 /// A client gets a part of the text.
 #[derive(Clone, Copy)]
@@ -78,18 +82,25 @@ pub fn forget(clients: &mut Slots, text: &[u8], pieces: &[Piece])
 /// Puts the next piece of what is due to a client, or cuts it. Where that touched the client, it stands
 /// in its worker's list from then on. Gives its worker where that touched it.
 #[inline(always)]
-fn put(slot: &mut Slot, dirty: &mut DirtyLists, client: u64, bytes: &[u8]) -> Wakes
-    requires due { length bytes.now ≤ slot.old.due }
+fn put(
+    slot: &mut Slot,
+    dirty: &mut DirtyLists,
+    client: u64,
+    bytes: &[u8],
+    share: Option<Bytes>,
+) -> Wakes
+    requires share { share ≡ share_of bytes.now }
+    requires due { Covers slot.old.due (length bytes.now) }
     requires ready { IsReady slot.old }
-    ensures client { slot.new.client ≡ put_first slot.old.limit slot.old.due bytes.now slot.old.client }
+    ensures client { slot.new.client ≡ put_first slot.old.limit slot.old.due.bytes bytes.now slot.old.client }
     ensures limit { slot.new.limit ≡ slot.old.limit }
-    ensures due { slot.new.due ≡ slot.old.due - length bytes.now }
+    ensures due { slot.new.due ≡ due_but slot.old.due (length bytes.now) }
     ensures ready { IsReady slot.new }
     ensures home { (home : ℕ) → has_home result home ≡ wakes_one home bytes.now slot.old.client }
     ensures listed { slot.new.listed ≡ (slot.old.listed || touched bytes.now slot.old.client) }
     ensures lines { (h : ℕ) → line_of dirty.new h ≡ (if same_number slot.old.client.home h && (not slot.old.listed && touched bytes.now slot.old.client) then pushed client (line_of dirty.old h) else line_of dirty.old h) }
 {
-    if !slot.put(bytes) {
+    if !slot.put(bytes, share) {
         return Wakes::none();
     }
     let home = slot.home();
@@ -100,14 +111,23 @@ fn put(slot: &mut Slot, dirty: &mut DirtyLists, client: u64, bytes: &[u8]) -> Wa
 }
 
 /// Puts each piece, or cuts its client where not all its pieces fit. Those that it touched and that did
-/// not wait do so from then on. Gives the workers of those that it touched.
-pub fn deliver(clients: &mut Slots, dirty: &mut DirtyLists, text: &[u8], pieces: &[Piece]) -> Wakes
+/// not wait do so from then on. The shares of the long pieces are used up. Gives the workers of those
+/// that it touched.
+pub fn deliver(
+    clients: &mut Slots,
+    dirty: &mut DirtyLists,
+    text: &[u8],
+    pieces: &[Piece],
+    shares: &mut VecDeque<Bytes>,
+) -> Wakes
     requires inside { AllByRecursion (LiesIn text.now) pieces.now }
+    requires shares { shares.old.items ≡ shares_of (pieces_of text.now pieces.now) }
     requires due { AreDue (pieces_of text.now pieces.now) clients.old }
     requires ready { AreReady clients.old }
     ensures clients { (limit : ℕ) → HaveLimit limit clients.old → plain clients.new ≡ deliver limit (pieces_of text.now pieces.now) (plain clients.old) }
     ensures limits { (limit : ℕ) → HaveLimit limit clients.old → HaveLimit limit clients.new }
     ensures due { AreDue [] clients.new }
+    ensures shares { shares.new.items ≡ [] }
     ensures wakes { (home : ℕ) → has_home result home ≡ wakes_home (pieces_of text.now pieces.now) (plain clients.old) home }
     ensures homes { (home c : ℕ) → stands (marks_of clients.new) home c ≡ stands (marks_of clients.old) home c }
     ensures known { (n : ℕ) → AreKnown (marks_of clients.old) (line_of dirty.old) n → AreKnown (marks_of clients.new) (line_of dirty.new) n }
@@ -116,8 +136,12 @@ pub fn deliver(clients: &mut Slots, dirty: &mut DirtyLists, text: &[u8], pieces:
     let mut wakes = Wakes::none();
     for piece in pieces {
         let bytes = &text[piece.from..piece.to];
-        if let Some(slot) = clients.get_mut_at(piece.client, piece.place) {
-            wakes = wakes.union(put(slot, dirty, piece.client, bytes));
+        let share = next_share(bytes, shares);
+        match clients.get_mut_at(piece.client, piece.place) {
+            Some(slot) => {
+                wakes = wakes.union(put(slot, dirty, piece.client, bytes, share));
+            }
+            None => drop(share),
         }
     }
     dirty.settle();

@@ -14,30 +14,47 @@ use crate::clients::Clients;
 use crate::delivery;
 use crate::delivery::Piece;
 use crate::near::NOWHERE;
+use crate::shares::{add_share, add_share_of_line};
 use crate::wakes::Wakes;
+use bytes::Bytes;
 use reply_grammar::{LentReply, print_id, print_lent};
 use std::alloc::{AllocError, Global};
+use std::collections::VecDeque;
 use std::marker::Model;
 
+/// The room, in bytes, that the text keeps from event to event: for all but the burst of a login among
+/// thousands of users.
+const KEPT_TEXT: usize = 262_144;
+
+/// How many places for shares are kept from event to event.
+const KEPT_SHARES: usize = 1_024;
+
 /// The lines of the event at hand, and which client gets which of them. Its buffers are kept from
-/// event to event, so that a recipient costs no print, and no memory once they have grown.
+/// event to event, so that a recipient costs no print, and no memory once they have grown. A long
+/// line takes a block of its own, which all who get it share.
 ///
 /// What tells fails only where memory is refused. What was told of the event is then given up: the
 /// next thing to do is to begin another one.
 #[derive(Drop)]
 pub struct Post {
+    alloc: Global,
     issuer: u64,
     id: Option<u32>,
     text: Vec<u8>,
     pieces: Vec<Piece>,
+    /// The shares of those pieces that are long, in their order.
+    shares: VecDeque<Bytes>,
     /// Where the lines begin that are being told, as the issuer gets them, and as others get them.
     own: usize,
     shared: usize,
+    /// The lines that are being told, as others get them, once one of them got a share of them.
+    line: Option<Bytes>,
 }
 
 impl Model for Post {
-    ghost use Rattle.std.specs.Prelude.{◌≤◌, drop, length};
+    ghost use Rattle.std.specs.Prelude.{◌≡◌, ◌≤◌, drop, length, IfSome};
     ghost use Rattle.std.specs.List.{AllByRecursion};
+    ghost use Rattle.lobby_post.specs.Dues.{shares_of};
     ghost use Rattle.lobby_post.specs.Posted.{Posted};
     ghost use Rattle.lobby_post.specs.Pieces.{LiesIn, pieces_of};
 
@@ -45,7 +62,8 @@ impl Model for Post {
 
     ghost view = { λ p. record { issuer = p.issuer; id = p.id; own = drop p.own p.text.items; shared = drop p.shared p.text.items; sent = pieces_of p.text.items p.pieces.items } };
 
-    ghost invariant = { λ p. AllByRecursion (LiesIn p.text.items) p.pieces.items × (p.own ≤ length p.text.items) × (p.shared ≤ length p.text.items) };
+    ghost invariant = { λ p. AllByRecursion (LiesIn p.text.items) p.pieces.items × (p.own ≤ length p.text.items) × (p.shared ≤ length p.text.items)
+        × (p.shares.items ≡ shares_of (pieces_of p.text.items p.pieces.items)) × IfSome p.line (λ line. line ≡ drop p.shared p.text.items) };
 }
 
 impl Post {
@@ -54,12 +72,15 @@ impl Post {
         ensures { result ≡ begun 0 None }
     {
         Post {
+            alloc,
             issuer: 0,
             id: None,
             text: Vec::new(alloc),
             pieces: Vec::new(alloc),
+            shares: VecDeque::new(alloc),
             own: 0,
             shared: 0,
+            line: None,
         }
     }
 
@@ -70,9 +91,13 @@ impl Post {
         self.issuer = issuer;
         self.id = id;
         self.pieces.clear();
+        self.shares.clear();
+        self.shares.shrink_to(KEPT_SHARES);
         self.text.clear();
+        self.text.shrink_to(KEPT_TEXT);
         self.own = 0;
         self.shared = 0;
+        self.line = None;
     }
 
     /// Prints the line that is told next, in place of those before it. Its issuer gets it behind the id
@@ -80,6 +105,7 @@ impl Post {
     pub fn write(&mut self, line: LentReply) -> Result<(), AllocError>
         ensures { OnOk result (self.new ≡ record self.old { own = printed_line self.old.id (reply_of line.entry); shared = printed_line None (reply_of line.entry) }) }
     {
+        self.line = None;
         let own = self.text.len();
         print_id(self.id, &mut self.text)?;
         let shared = self.text.len();
@@ -94,6 +120,7 @@ impl Post {
     pub fn write_for_others(&mut self, line: LentReply) -> Result<(), AllocError>
         ensures { OnOk result (self.new ≡ record self.old { own = []; shared = printed_line None (reply_of line.entry) }) }
     {
+        self.line = None;
         let shared = self.text.len();
         print_lent(line, None, &mut self.text)?;
         self.own = self.text.len();
@@ -105,6 +132,7 @@ impl Post {
     pub fn write_more_for_others(&mut self, line: LentReply) -> Result<(), AllocError>
         ensures { OnOk result (self.new ≡ with_others self.old (reply_of line.entry ∷ [])) }
     {
+        self.line = None;
         print_lent(line, None, &mut self.text)?;
         self.own = self.text.len();
         Ok(())
@@ -114,6 +142,7 @@ impl Post {
     pub fn begin_own(&mut self)
         ensures { self.new ≡ blank self.old }
     {
+        self.line = None;
         self.own = self.text.len();
         self.shared = self.own;
     }
@@ -122,6 +151,7 @@ impl Post {
     pub fn write_own(&mut self, line: LentReply) -> Result<(), AllocError>
         ensures { OnOk result (self.new ≡ with_own self.old (reply_of line.entry ∷ [])) }
     {
+        self.line = None;
         let id = self.id;
         print_lent(line, id, &mut self.text)?;
         Ok(())
@@ -142,8 +172,8 @@ impl Post {
         self.address_at(client, NOWHERE)
     }
 
-    /// A client gets the lines that are told. It is looked for first at a place that `Clients::place_of`
-    /// gave: a wrong one costs a search, and no more.
+    /// A client gets the lines that are told, or a share of them where they are long. It is looked for
+    /// first at a place that `Clients::place_of` gave: a wrong one costs a search, and no more.
     pub fn address_at(&mut self, client: u64, place: usize) -> Result<(), AllocError>
         ensures { OnOk result (self.new ≡ record self.old { sent = self.old.sent ++ copy_to self.old client ∷ [] }) }
     {
@@ -153,12 +183,19 @@ impl Post {
             self.shared
         };
         let to = self.text.len();
-        self.pieces.push(Piece {
+        self.pieces.reserve(1)?;
+        let bytes = &self.text[from..to];
+        if from == self.shared {
+            add_share_of_line(self.alloc, &mut self.line, bytes, &mut self.shares)?;
+        } else {
+            add_share(self.alloc, bytes, &mut self.shares)?;
+        }
+        self.pieces.push_reserved(Piece {
             client,
             place,
             from,
             to,
-        })?;
+        });
         Ok(())
     }
 
@@ -204,22 +241,26 @@ impl Post {
     }
 
     /// Puts all that is told, to each client whole or not at all. Gives the workers of those that it
-    /// touched.
-    pub fn deliver(&self, clients: &mut Clients) -> Wakes
-        requires due { AreDue self.now.sent clients.old.slots }
+    /// touched. Nothing is told any more then, and no share is kept.
+    pub fn deliver(&mut self, clients: &mut Clients) -> Wakes
+        requires due { AreDue self.old.sent clients.old.slots }
         requires ready { AreReady clients.old.slots }
         ensures limit { clients.new.limit ≡ clients.old.limit }
-        ensures clients { plain clients.new.slots ≡ deliver clients.old.limit self.now.sent (plain clients.old.slots) }
+        ensures clients { plain clients.new.slots ≡ deliver clients.old.limit self.old.sent (plain clients.old.slots) }
         ensures due { AreDue [] clients.new.slots }
-        ensures wakes { (home : ℕ) → has_home result home ≡ wakes_home self.now.sent (plain clients.old.slots) home }
+        ensures wakes { (home : ℕ) → has_home result home ≡ wakes_home self.old.sent (plain clients.old.slots) home }
         ensures known { (n : ℕ) → Known clients.old n → Known clients.new n }
-        ensures newly { (n home : ℕ) → Known clients.old n → home < 64 → IsNewly self.now.sent clients.old.slots home (waits clients.old home) (waits clients.new home) }
+        ensures newly { (n home : ℕ) → Known clients.old n → home < 64 → IsNewly self.old.sent clients.old.slots home (waits clients.old home) (waits clients.new home) }
     {
-        delivery::deliver(
+        let wakes = delivery::deliver(
             &mut clients.slots,
             &mut clients.dirty,
             &self.text,
             &self.pieces,
-        )
+            &mut self.shares,
+        );
+        self.pieces.clear();
+        self.line = None;
+        wakes
     }
 }

@@ -5,10 +5,14 @@ ghost use Rattle.lobby_model.specs.declared.event.Phase.TheVariants.{Ended, In};
 ghost use Rattle.lobby_model.specs.State.{is_live, in_phase, name_in};
 ghost use Rattle.lobby_model.specs.Sessions.{greeted, drained};
 ghost use Rattle.lobby_model.specs.Next.{with_batch};
+ghost use Rattle.lobby_post.specs.Dues.{nothing_due, due_and, due_but, share_of, Covers};
 ghost use Rattle.lobby_post.specs.Mail.{IsReady, put_first, touched};
 ghost use Rattle.lobby_post.specs.Unread.{is_over};
 
+use crate::due::Due;
+use crate::shares::share;
 use crate::spares::Spares;
+use bytes::Bytes;
 use line_words::NameBuf;
 use lobby_model::Phase;
 use outbox::Outbox;
@@ -22,8 +26,8 @@ pub struct Slot {
     home: u8,
     phase: Phase,
     outbox: Outbox,
-    /// How many bytes of the event at hand are still to be put.
-    due: usize,
+    /// What of the event at hand is still to be put.
+    due: Due,
     /// Whether it stands in its worker's list of those that were touched.
     listed: bool,
 }
@@ -34,7 +38,7 @@ impl Model for Slot {
 
     ghost Value = { Held };
 
-    ghost view = { λ s. record { client = record { ip = s.ip; home = s.home; phase = s.phase; cut = s.outbox.cut; unread = s.outbox.unread }; limit = s.outbox.limit; spare = s.outbox.spare; due = s.due; listed = s.listed } };
+    ghost view = { λ s. record { client = record { ip = s.ip; home = s.home; phase = s.phase; cut = s.outbox.cut; unread = s.outbox.unread }; limit = s.outbox.limit; spare = s.outbox.spare; spare_pieces = s.outbox.spare_pieces; due = s.due; listed = s.listed } };
 
     ghost invariant = { λ s. s.home < 64 };
 }
@@ -45,7 +49,7 @@ impl Slot {
         requires { home < 64 }
         ensures client { result.client ≡ greeted ip home }
         ensures limit { result.limit ≡ limit }
-        ensures due { result.due ≡ 0 }
+        ensures due { result.due ≡ nothing_due }
         ensures listed { result.listed ≡ true }
     {
         Slot {
@@ -53,7 +57,7 @@ impl Slot {
             home,
             phase: Phase::Greeted,
             outbox: Outbox::new(alloc, limit),
-            due: 0,
+            due: Due::nothing(),
             listed: true,
         }
     }
@@ -70,12 +74,13 @@ impl Slot {
         requires { home < 64 }
         ensures client { IfOk result (λ slot. slot.client ≡ with_batch limit greeting.now (greeted ip home)) }
         ensures limit { IfOk result (λ slot. slot.limit ≡ limit) }
-        ensures due { IfOk result (λ slot. slot.due ≡ 0) }
+        ensures due { IfOk result (λ slot. slot.due ≡ nothing_due) }
         ensures listed { IfOk result (λ slot. slot.listed ≡ true) }
     {
         let mut slot = Slot::new(alloc, limit, ip, home);
         slot.make_room(greeting.len(), spares)?;
-        let _ = slot.put(greeting);
+        let share = share(alloc, greeting)?;
+        let _ = slot.put(greeting, share);
         Ok(slot)
     }
 
@@ -89,59 +94,66 @@ impl Slot {
         }
     }
 
-    /// So many more bytes are due, and there is room for all that is due, where it will be put: in a
-    /// spare buffer, where the outbox has none of its own.
+    /// A piece of so many bytes more is due, and there is room for all that is due, where it will be
+    /// put. What is copied gets a spare buffer, where the outbox has none of its own.
     pub fn make_room(&mut self, more: usize, spares: &mut Spares) -> Result<(), AllocError>
+        requires { self.old.due.copied ≤ self.old.due.bytes }
         ensures client { self.new.client ≡ self.old.client }
         ensures limit { self.new.limit ≡ self.old.limit }
         ensures listed { self.new.listed ≡ self.old.listed }
-        ensures due { OnOk result (self.new.due ≡ self.old.due + more) }
+        ensures due { OnOk result (self.new.due ≡ due_and self.old.due more) }
         ensures ready { OnOk result (IsReady self.new) }
         ensures err { OnErr result (self.new.due ≡ self.old.due) }
     {
-        let Some(due) = self.due.checked_add(more) else {
+        let Some(due) = self.due.and(more) else {
             return Err(AllocError);
         };
-        if self.is_live() && self.outbox.room_for(due) {
-            spares.lend(&mut self.outbox);
-            self.outbox.reserve(due)?;
+        if self.is_live() && self.outbox.room_for(due.bytes) {
+            if due.copied > 0 {
+                spares.lend(&mut self.outbox);
+            }
+            self.outbox.reserve_shared(due.copied, due.shared)?;
         }
         self.due = due;
         Ok(())
     }
 
-    /// So many bytes are no longer due.
+    /// A piece of so many bytes is no longer due.
     pub fn forget(&mut self, less: usize)
-        requires { less ≤ self.old.due }
+        requires { Covers self.old.due less }
         ensures client { self.new.client ≡ self.old.client }
         ensures limit { self.new.limit ≡ self.old.limit }
         ensures listed { self.new.listed ≡ self.old.listed }
-        ensures due { self.new.due ≡ self.old.due - less }
+        ensures due { self.new.due ≡ due_but self.old.due less }
     {
-        self.due -= less;
+        self.due = self.due.but(less);
     }
 
-    /// Puts the next piece of what is due, or cuts the client where not all that is due fits. Tells
-    /// whether that touched it. It stands in the loop that delivers, since the pushes of a call
-    /// would wait behind the bytes of the calls before it.
+    /// Puts the next piece of what is due, or its share where it has one, or cuts the client where not
+    /// all that is due fits. Tells whether that touched it. It stands in the loop that delivers, since
+    /// the pushes of a call would wait behind the bytes of the calls before it.
     #[inline(always)]
-    pub fn put(&mut self, piece: &[u8]) -> bool
-        requires due { length piece.now ≤ self.old.due }
+    pub fn put(&mut self, piece: &[u8], share: Option<Bytes>) -> bool
+        requires share { share ≡ share_of piece.now }
+        requires due { Covers self.old.due (length piece.now) }
         requires ready { IsReady self.old }
-        ensures client { self.new.client ≡ put_first self.old.limit self.old.due piece.now self.old.client }
+        ensures client { self.new.client ≡ put_first self.old.limit self.old.due.bytes piece.now self.old.client }
         ensures limit { self.new.limit ≡ self.old.limit }
         ensures listed { self.new.listed ≡ self.old.listed }
-        ensures due { self.new.due ≡ self.old.due - length piece.now }
+        ensures due { self.new.due ≡ due_but self.old.due (length piece.now) }
         ensures ready { IsReady self.new }
         ensures touched { result ≡ touched piece.now self.old.client }
     {
         let due = self.due;
-        self.due = due - piece.len();
+        self.due = due.but(piece.len());
         if !self.is_live() || piece.is_empty() {
             return false;
         }
-        if self.outbox.room_for(due) {
-            self.outbox.put(piece);
+        if self.outbox.room_for(due.bytes) {
+            match share {
+                Some(share) => self.outbox.put_shared(share),
+                None => self.outbox.put(piece),
+            }
         } else {
             self.outbox.cut();
             self.outbox.release(0);

@@ -47,11 +47,13 @@ impl Spares {
         }
     }
 
-    /// Takes the buffer of an outbox in which nothing is unread. One that is large, or for which there is no place, goes.
+    /// Takes the buffer of an outbox in which nothing is unread, if it has one. One that is large, or for
+    /// which there is no place, goes.
     pub fn take_back(&mut self, outbox: &mut Outbox)
         ensures { outbox.new ≡ record outbox.old { spare = outbox.new.spare; spare_pieces = outbox.new.spare_pieces } }
     {
         if let Some(buffer) = outbox.hand_over()
+            && buffer.capacity() > 0
             && buffer.capacity() <= KEPT_ROOM
             && self.buffers.len() < self.buffers.capacity()
         {

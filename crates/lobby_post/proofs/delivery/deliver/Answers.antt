@@ -1,20 +1,25 @@
 use Rattle.std.proofs.Common.{◌∙◌, ℕ, ap, refl, subst, sym}
 use Rattle.std.specs.Prelude.{◌||◌}
 use Rattle.lobby_post.specs.Mail.{AreDue, plain, wakes_home}
-use Rattle.line_words.proofs.Ties.{none_of}
 use Rattle.lobby_post.proofs.Crowds.{written_through}
-use Rattle.lobby_post.proofs.Rounds.{inside_next, pieces_is, less_due, less_past, due_here, limits_next, ready_next, clients_next, clients_past, clients_end, wakes_next, woken_past, wakes_end, none_left}
+use Rattle.lobby_post.proofs.Rounds.{inside_next, pieces_is, less_due, less_past, due_here, limits_next, ready_next, clients_next, clients_past, clients_end, wakes_next, woken_past, wakes_end, none_left, no_shares}
+use Rattle.lobby_post.specs.Dues.{shares_of}
 use Rattle.lobby_post.specs.Pieces.{pieces_of}
 use Rattle.lobby_post.specs.Dirty.{AreKnown, line_of, marks_of}
 use Rattle.lobby_post.proofs.Underway.{IsUnderway, known_end, newly_end, stands_next, underway_first, underway_next, underway_past}
 use Rattle.lobby_post.proofs.delivery.deliver.Goals as goal
-use Rattle.lobby_post.proofs.delivery.deliver.Goals.{in-Some, in_default}
+use Rattle.lobby_post.proofs.delivery.deliver.Goals.{in-Some, in-None}
 
 pub put-requires-clause-due : goal.put-requires-clause-due
 put-requires-clause-due c =
     due_here _ _ _ c.in-Some.slot.now c.loop-piece.clients c.in-Some.ensures.value
     (subst (λ ps. AreDue ps c.loop-piece.clients)
     (pieces_is c.args.text.now c.args.pieces.now c.loop-piece.piece-index c.loop-piece-test.true) c.loop-piece.invariant.due)
+
+pub put-requires-clause-share : goal.put-requires-clause-share
+put-requires-clause-share c =
+    (c.next_share-share.ensures _ (c.loop-piece.invariant.shares
+    ∙ ap shares_of (pieces_is c.args.text.now c.args.pieces.now c.loop-piece.piece-index c.loop-piece-test.true))).0
 
 pub put-requires-clause-ready : goal.put-requires-clause-ready
 put-requires-clause-ready c = c.loop-piece.invariant.ready _ c.in-Some.slot.now (sym c.in-Some.ensures.value)
@@ -24,6 +29,8 @@ loop-piece-preserved c =
     let inv = c.loop-piece.invariant in
     let first = subst (λ ps. AreDue ps c.loop-piece.clients)
     (pieces_is c.args.text.now c.args.pieces.now c.loop-piece.piece-index c.loop-piece-test.true) inv.due in
+    let shares = c.next_share-share.ensures _ (inv.shares
+    ∙ ap shares_of (pieces_is c.args.text.now c.args.pieces.now c.loop-piece.piece-index c.loop-piece-test.true)) in
     let begun : (n : ℕ) → AreKnown (marks_of c.args.clients.now) (line_of c.args.dirty.now) n → IsUnderway _ _ _ _ _ _ n = λ n known.
     subst (λ ps. IsUnderway (pieces_of c.args.text.now c.args.pieces.now) ps c.args.clients.now c.loop-piece.clients (line_of c.args.dirty.now) (line_of c.loop-piece.dirty) n)
     (pieces_is c.args.text.now c.args.pieces.now c.loop-piece.piece-index c.loop-piece-test.true) (inv.underway n known) in
@@ -34,6 +41,7 @@ loop-piece-preserved c =
             inside = inside_next c.args.text.now c.args.pieces.now c.loop-piece.piece-index c.loop-piece-test.true inv.inside;
             due = less_due _ _ _ w.in-Some.slot.now w.put.new.slot c.loop-piece.clients _ written w.in-Some.ensures.value w.put.ensures.due first;
             ready = ready_next _ w.in-Some.slot.now w.put.new.slot c.loop-piece.clients _ written w.in-Some.ensures.value w.put.ensures.ready inv.ready;
+            shares = shares.1;
             limits = λ limit all. limits_next limit _ w.in-Some.slot.now w.put.new.slot c.loop-piece.clients _ written w.in-Some.ensures.value w.put.ensures.limit (inv.limits limit all);
             clients = λ limit all. clients_next c.args.text.now c.args.pieces.now c.loop-piece.piece-index c.loop-piece-test.true w.in-Some.slot.now w.put.new.slot c.loop-piece.clients _ refl w.in-Some.ensures.value w.put.ensures.client c.get_mut_at.ensures.ordered inv.due limit (inv.limits limit all) ∙ inv.clients limit all;
             wakes = λ home. wakes_next c.args.text.now c.args.pieces.now c.loop-piece.piece-index c.loop-piece-test.true w.in-Some.slot.now w.put.new.slot c.loop-piece.clients _ refl w.in-Some.ensures.value w.put.ensures.client c.get_mut_at.ensures.ordered inv.due
@@ -42,12 +50,13 @@ loop-piece-preserved c =
             underway = λ n known. underway_next _ _ w.in-Some.slot.now w.put.new.slot c.loop-piece.clients w.in-Some.ensures.value w.put.ensures.client w.put.ensures.listed
                 _ _ _ _ _ _ n w.put.ensures.lines (begun n known);
           })
-      | in_default w ↦
-          let none = sym (none_of c.get_mut_at.result w.in_default.not-Some ∙ c.get_mut_at.ensures.value) in
+      | in-None w ↦
+          let none = sym w.in-None.ensures.value in
           rw (w.clients-is, w.dirty-is, w.wakes-is) (record {
             inside = inside_next c.args.text.now c.args.pieces.now c.loop-piece.piece-index c.loop-piece-test.true inv.inside;
             due = less_past _ _ _ c.loop-piece.clients none first;
             ready = inv.ready;
+            shares = shares.1;
             limits = inv.limits;
             clients = λ limit all. clients_past c.args.text.now c.args.pieces.now c.loop-piece.piece-index c.loop-piece-test.true c.loop-piece.clients none limit ∙ inv.clients limit all;
             wakes = λ home. woken_past c.args.text.now c.args.pieces.now c.loop-piece.piece-index c.loop-piece-test.true c.loop-piece.clients none c.loop-piece.wakes home ∙ inv.wakes home;
@@ -63,6 +72,10 @@ returns-clause-clients c = λ limit all. sym (clients_end c.args.text.now c.args
 pub returns-clause-due : goal.returns-clause-due
 returns-clause-due c = subst (λ ps. AreDue ps c.loop-piece.clients)
     (none_left c.args.text.now c.args.pieces.now c.loop-piece.piece-index c.loop-piece-test.false) c.loop-piece.invariant.due
+
+pub returns-clause-shares : goal.returns-clause-shares
+returns-clause-shares c = c.loop-piece.invariant.shares
+    ∙ no_shares c.args.text.now c.args.pieces.now c.loop-piece.piece-index c.loop-piece-test.false
 
 pub returns-clause-wakes : goal.returns-clause-wakes
 returns-clause-wakes c = λ home. sym (wakes_end c.args.text.now c.args.pieces.now c.loop-piece.piece-index c.loop-piece-test.false c.loop-piece.wakes home _) ∙ c.loop-piece.invariant.wakes home
@@ -88,6 +101,7 @@ loop-piece-init c = record {
   inside = c.requires.inside;
   due = c.requires.due;
   ready = c.requires.ready;
+  shares = c.requires.shares;
   limits = λ limit all. all;
   clients = λ limit all. refl;
   wakes = λ home. ap (λ b. b || wakes_home (pieces_of c.args.text.now c.args.pieces.now) (plain c.args.clients.now) home) (c.none-wakes.ensures home);

@@ -1,4 +1,5 @@
-use Rattle.std.proofs.Common.{◌∙◌, ◌-◌, ap, sym, refl, subst, ◌≤◌}
+use Rattle.std.proofs.Common.{◌∙◌, ap, sym, refl, subst}
+use Rattle.lobby_post.specs.Dues.{due_but, Covers}
 use Rattle.lobby_post.specs.Mail.{AreDue}
 use Rattle.line_words.proofs.Ties.{none_of}
 use Rattle.lobby_post.proofs.Crowds.{written_through}
@@ -11,7 +12,7 @@ pub forget-requires : goal.forget-requires
 forget-requires c =
     let first = subst (λ ps. AreDue ps c.loop-piece.clients)
     (pieces_is c.args.text.now c.args.pieces.now c.loop-piece.piece-index c.loop-piece-test.true) c.loop-piece.invariant.due in
-    subst (λ n. n ≤ c.in-Some.slot.now.due) (bytes_long c.args.text.now c.args.pieces.now c.loop-piece.piece-index c.loop-piece-test.true
+    subst (λ n. Covers c.in-Some.slot.now.due n) (bytes_long c.args.text.now c.args.pieces.now c.loop-piece.piece-index c.loop-piece-test.true
     (inside_here c.args.text.now c.args.pieces.now c.loop-piece.piece-index c.loop-piece-test.true c.loop-piece.invariant.inside))
     (due_here _ _ _ c.in-Some.slot.now c.loop-piece.clients c.in-Some.ensures.value first)
 
@@ -28,7 +29,7 @@ loop-piece-preserved c =
           rw w.clients-is (record {
             inside = inside_next c.args.text.now c.args.pieces.now c.loop-piece.piece-index c.loop-piece-test.true inv.inside;
             due = less_due _ _ _ w.in-Some.slot.now w.forget.new.self c.loop-piece.clients _ written w.in-Some.ensures.value
-                (w.forget.ensures.due ∙ ap (λ n. w.in-Some.slot.now.due - n) (sym long)) first;
+                (w.forget.ensures.due ∙ ap (λ n. due_but w.in-Some.slot.now.due n) (sym long)) first;
             limits = λ limit all. limits_next limit _ w.in-Some.slot.now w.forget.new.self c.loop-piece.clients _ written w.in-Some.ensures.value w.forget.ensures.limit (inv.limits limit all);
             clients = plain_same _ w.in-Some.slot.now w.forget.new.self c.loop-piece.clients _ refl w.in-Some.ensures.value w.forget.ensures.client ∙ inv.clients;
             marks = marks_same _ w.in-Some.slot.now w.forget.new.self c.loop-piece.clients _ refl w.in-Some.ensures.value w.forget.ensures.client w.forget.ensures.listed ∙ inv.marks;

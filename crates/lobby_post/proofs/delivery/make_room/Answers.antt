@@ -1,9 +1,10 @@
-use Rattle.std.proofs.Common.{◌∙◌, ◌+◌, ap, sym, refl, subst, take}
+use Rattle.std.proofs.Common.{◌∙◌, ap, sym, refl, subst, take}
+use Rattle.lobby_post.specs.Dues.{due_and}
 use Rattle.lobby_post.specs.Mail.{AreDue}
 use Rattle.lobby_post.specs.Pieces.{pieces_of}
 use Rattle.line_words.proofs.Ties.{none_of}
 use Rattle.lobby_post.proofs.Crowds.{written_through, due_kept}
-use Rattle.lobby_post.proofs.Rounds.{inside_next, inside_here, bytes_long, pieces_done, due_more, grown_past, ready_next, limits_next, plain_same}
+use Rattle.lobby_post.proofs.Rounds.{inside_next, inside_here, bytes_long, copied_few, pieces_done, due_more, grown_past, ready_next, limits_next, plain_same}
 use Rattle.lobby_post.proofs.Listed.{marks_same}
 use Rattle.lobby_post.proofs.delivery.make_room.Goals as goal
 use Rattle.lobby_post.proofs.delivery.make_room.Goals.{in-Some+in-Ok, in_default}
@@ -31,6 +32,9 @@ forget-requires-clause-due c =
     (written_through _ c.in-Some.slot.now c.make_room.new.self c.loop-i.clients c.in-Some.ensures.value)
     c.in-Some.ensures.value c.in-Err.ensures.err c.loop-i.invariant.due
 
+pub make_room-requires : goal.make_room-requires
+make_room-requires c = copied_few _ _ c.in-Some.slot.now c.loop-i.clients c.in-Some.ensures.value c.loop-i.invariant.due
+
 pub loop-i-preserved : goal.loop-i-preserved
 loop-i-preserved c =
     let inv = c.loop-i.invariant in
@@ -42,7 +46,7 @@ loop-i-preserved c =
           let written = written_through _ w.in-Some.slot.now w.make_room.new.self c.loop-i.clients w.in-Some.ensures.value in
           rw w.clients-is (record {
             inside = inside_next c.args.text.now c.args.pieces.now c.loop-i.i c.loop-i-test.true inv.inside;
-            due = due_more c.args.text.now c.args.pieces.now c.loop-i.i c.loop-i-test.true w.in-Some.slot.now w.make_room.new.self c.loop-i.clients _ written w.in-Some.ensures.value (w.in-Ok.ensures.due ∙ ap (λ n. w.in-Some.slot.now.due + n) (sym long)) inv.due;
+            due = due_more c.args.text.now c.args.pieces.now c.loop-i.i c.loop-i-test.true w.in-Some.slot.now w.make_room.new.self c.loop-i.clients _ written w.in-Some.ensures.value (w.in-Ok.ensures.due ∙ ap (λ n. due_and w.in-Some.slot.now.due n) (sym long)) inv.due;
             ready = ready_next _ w.in-Some.slot.now w.make_room.new.self c.loop-i.clients _ written w.in-Some.ensures.value w.in-Ok.ensures.ready inv.ready;
             limits = λ limit all. limits_next limit _ w.in-Some.slot.now w.make_room.new.self c.loop-i.clients _ written w.in-Some.ensures.value w.make_room.ensures.limit (inv.limits limit all);
             clients = plain_same _ w.in-Some.slot.now w.make_room.new.self c.loop-i.clients _ refl w.in-Some.ensures.value w.make_room.ensures.client ∙ inv.clients;

@@ -1,4 +1,4 @@
-use Rattle.std.proofs.Common.{◌≡◌, ℕ, [], ◌∷◌, ◌++◌, ◌∙◌, true, false, ap, sym, subst, length, map, filter, refl, arith}
+use Rattle.std.proofs.Common.{◌≡◌, ℕ, [], ◌∷◌, ◌++◌, ◌∙◌, true, false, ap, sym, subst, map, filter, refl, arith}
 use Rattle.std.specs.Prelude.{None, not, ◌&&◌, if◌then◌else◌, Result, Ok, Err, OnErr}
 use Rattle.std.specs.List.Sorted.{IsStrictlySortedBy}
 use Rattle.std.specs.Ordering.{nat_cmp}
@@ -7,13 +7,14 @@ use Rattle.std.specs.Map.{lookup}
 use Rattle.line_words.specs.Table.{ByNumber, put_number, same_number}
 use Rattle.lobby_model.specs.State.{Client}
 use Rattle.lobby_model.specs.Sessions.{greeted}
-use Rattle.lobby_post.specs.Mail.{Held, Line, bytes_for, plain}
+use Rattle.lobby_post.specs.Mail.{Held, Line, due_for, plain}
 use Rattle.lobby_post.specs.Dirty.{Mark, added, idle_of, line_of, marks_of, stands}
 use Rattle.lobby_post.proofs.Crowds.{plain-insert, all_inserted, written_in}
 use Rattle.lobby_post.proofs.Homes.{known_of_lines, known_of_lists, line-at, same_lines}
 use Rattle.lobby_post.proofs.Idle.{idle_inserted}
 use Rattle.lobby_post.proofs.Marks.{IsPut, marks_put, unmarked, with_batch-home}
 use Rattle.lobby_post.proofs.Waiting.{absent, known_come, waits_come}
+use Rattle.lobby_post.proofs.Dues.{none_due}
 use Rattle.lobby_post.proofs.clients.Clients.insert.Goals as goal
 
 -- what holds in any case holds where a call fails
@@ -46,10 +47,9 @@ returns-clause-ok c =
 pub returns-clause-due : goal.returns-clause-due
 returns-clause-due c =
     rw (← c.self.view_is)
-    (λ pieces none all. all_inserted (λ q held. held.due
-    ≡ length (bytes_for pieces q)) c.args.client c.self.inside.slots _ c.in_ok-slot.slot
+    (λ pieces none all. all_inserted (λ q held. held.due ≡ due_for pieces q) c.args.client c.self.inside.slots _ c.in_ok-slot.slot
     (written_in c.args.client c.in_ok-slot.slot c.self.inside.slots _ c.in_ok-insert.ensures.entries)
-    (c.in_ok-slot.ensures.due ∙ ap length (sym none)) all)
+    (c.in_ok-slot.ensures.due ∙ none_due pieces c.args.client none) all)
 
 pub invariant_of-self-2 : goal.invariant_of-self-2
 invariant_of-self-2 c =

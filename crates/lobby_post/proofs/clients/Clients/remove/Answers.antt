@@ -1,10 +1,10 @@
-use Rattle.std.proofs.Common.{◌≡◌, ◌+◌, ◌∙◌, ℕ, Bool, ap, sym, subst, refl, length, filter}
+use Rattle.std.proofs.Common.{◌≡◌, ◌+◌, ◌∙◌, ℕ, Bool, ap, sym, subst, refl, filter}
 use Rattle.std.specs.Prelude.{Option, Some, None, if◌then◌else◌}
 use Rattle.std.specs.Option.{option_map}
 use Rattle.std.specs.Ordering.{nat_cmp}
 use Rattle.std.specs.BTreeMap.{is_at}
 use Rattle.std.specs.Map.{lookup}
-use Rattle.lobby_post.specs.Mail.{Held, Line, IsReady, bytes_for}
+use Rattle.lobby_post.specs.Mail.{Held, Line, IsReady, due_for}
 use Rattle.lobby_post.specs.Dirty.{Mark, all_but_client, idle_of, is_idle, line_at, line_of, lines_of, mark_of, marks_of, stands}
 use Rattle.lobby_post.proofs.Crowds.{plain_removed, all_removed, removed_from}
 use Rattle.lobby_post.proofs.Homes.{known_of_lines, known_of_lists, line-at}
@@ -31,7 +31,7 @@ returns-in-Some-clause-clients c = rw (← c.self.view_is) (plain_removed c.args
 pub returns-in-Some-clause-due : goal.returns-in-Some-clause-due
 returns-in-Some-clause-due c =
     rw (← c.self.view_is) (λ pieces all. all_removed
-    (λ q held. held.due ≡ length (bytes_for pieces q)) c.args.client c.self.inside.slots c.remove.new.self (removed_from c.args.client c.self.inside.slots c.remove.new.self c.remove.ensures.was_ordered c.remove.ensures.entries) all)
+    (λ q held. held.due ≡ due_for pieces q) c.args.client c.self.inside.slots c.remove.new.self (removed_from c.args.client c.self.inside.slots c.remove.new.self c.remove.ensures.was_ordered c.remove.ensures.entries) all)
 
 pub returns-in-Some-clause-ready : goal.returns-in-Some-clause-ready
 returns-in-Some-clause-ready c =
@@ -48,7 +48,7 @@ returns-in_default-clause-clients c = rw (← c.self.view_is) (plain_removed c.a
 pub returns-in_default-clause-due : goal.returns-in_default-clause-due
 returns-in_default-clause-due c =
     rw (← c.self.view_is) (λ pieces all. all_removed
-    (λ q held. held.due ≡ length (bytes_for pieces q)) c.args.client c.self.inside.slots c.remove.new.self (removed_from c.args.client c.self.inside.slots c.remove.new.self c.remove.ensures.was_ordered c.remove.ensures.entries) all)
+    (λ q held. held.due ≡ due_for pieces q) c.args.client c.self.inside.slots c.remove.new.self (removed_from c.args.client c.self.inside.slots c.remove.new.self c.remove.ensures.was_ordered c.remove.ensures.entries) all)
 
 pub returns-in_default-clause-ready : goal.returns-in_default-clause-ready
 returns-in_default-clause-ready c =

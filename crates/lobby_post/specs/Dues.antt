@@ -1,0 +1,46 @@
+-- What is due to a client: short pieces are copied, long ones shared.
+use Rattle.std.specs.Prelude.{ℕ, ◌+◌, ◌-◌, ◌≤◌, Bool, nat_le, if◌then◌else◌, List, [], ◌∷◌, length, Option, Some, None}
+use Rattle.line_words.specs.Table.{ByNumber, same_number}
+use Rattle.lobby_post.specs.declared.due.Due.{Due}
+
+-- a piece of so many bytes is shared
+abbrev pub is_long : ℕ → Bool
+is_long n = nat_le 2048 n
+
+-- how many bytes of it are copied, and how many pieces it is that are shared
+abbrev pub copied_in : ℕ → ℕ
+copied_in n = if is_long n then 0 else n
+
+abbrev pub shared_in : ℕ → ℕ
+shared_in n = if is_long n then 1 else 0
+
+abbrev pub nothing_due : Due
+nothing_due = record { bytes = 0; copied = 0; shared = 0 }
+
+-- with a piece of so many bytes more, and without it
+abbrev pub due_and : Due → ℕ → Due
+due_and due n = record { bytes = due.bytes + n; copied = due.copied + copied_in n; shared = due.shared + shared_in n }
+
+abbrev pub due_but : Due → ℕ → Due
+due_but due n = record { bytes = due.bytes - n; copied = due.copied - copied_in n; shared = due.shared - shared_in n }
+
+-- a piece of so many bytes is part of what is due
+abbrev pub Covers : Due → ℕ → Type 0
+Covers due n = (n ≤ due.bytes) × (copied_in n ≤ due.copied) × (shared_in n ≤ due.shared)
+
+-- of pieces for clients, those of client d: a count of each by its length, in sum
+abbrev pub count_for : (ℕ → ℕ) → ByNumber (List ℕ) → ℕ → ℕ
+count_for count [] d = 0
+count_for count (p ∷ pieces) d = if same_number d p.0 then count (length p.1) + count_for count pieces d else count_for count pieces d
+
+-- the share of a piece, which a long one has
+abbrev pub share_of : List ℕ → Option (List ℕ)
+share_of bytes = if is_long (length bytes) then Some bytes else None
+
+-- the shares of a piece and of those behind it, and of all pieces in their order
+abbrev pub with_share : List ℕ → List (List ℕ) → List (List ℕ)
+with_share bytes shares = if is_long (length bytes) then bytes ∷ shares else shares
+
+abbrev pub shares_of : ByNumber (List ℕ) → List (List ℕ)
+shares_of [] = []
+shares_of (p ∷ pieces) = with_share p.1 (shares_of pieces)
