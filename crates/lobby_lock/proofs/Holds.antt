@@ -21,3 +21,17 @@ more inner number handed made places old es room h now e items room' step added 
       ∙ ap (lobby_after (shown_pass inner)) (sym added);
   space = subst (λ n. 32 ≤ n) (sym same) h.space;
 }
+
+-- the same events, over a lobby that stands for the same plain one
+pub same : (inner : Pass Shown View) (number handed made : ℕ) (places : List (Option ℕ)) (old : Shown) (es : List Event) (room : ℕ) → IsHolding inner number handed made places old es room
+    → (now : Shown) → now.plain ≡ old.plain → IsHolding inner number handed made places now es room
+same inner number handed made places old es room h now step = record {
+  slots = h.slots;
+  alive = h.alive;
+  holds = h.holds;
+  numbered = h.numbered;
+  counts = h.counts;
+  counted = h.counted;
+  stands = step ∙ h.stands;
+  space = h.space;
+}

@@ -1,12 +1,14 @@
 //! A lobby that is handed over by its address.
 
-ghost use Rattle.std.specs.Prelude.{◌≡◌, ℕ, ◌+◌, ◌≤◌, ◌↔◌, ◌++◌, length, take, drop, min, OnOk, OnErr, IfOk, IsTrue, true, false};
+ghost use Rattle.std.specs.Prelude.{◌≡◌, ℕ, ◌+◌, ◌≤◌, ◌↔◌, ◌++◌, [], length, take, drop, min, OnOk, OnErr, IfNone, IfOk, IsTrue, true, false};
+ghost use Rattle.std.specs.Option.{option_to_list};
+ghost use Rattle.line_words.specs.Table.{same_number};
 ghost use Rattle.command_grammar.specs.Kinds.{keeps_kinds};
 ghost use Rattle.lobby_model.specs.declared.event.Event.TheVariants as event;
 ghost use Rattle.lobby_model.specs.Sessions.{has_place};
 ghost use Rattle.lobby_model.specs.Next.{next};
 ghost use Rattle.lobby_post.specs.Mail.{IsWakes};
-ghost use Rattle.lobby_machine.specs.Shown.{unread_of, is_finished};
+ghost use Rattle.lobby_machine.specs.Shown.{dirty_at, unread_of, is_finished};
 
 use command_grammar::Request;
 use lobby_machine::{Drained, Lobby, OpenError, Wakes};
@@ -94,5 +96,16 @@ impl BoxedLobby {
         ensures next { self.new.plain ≡ next self.old.plain (event.Drain client (length into.old)) }
     {
         self.inner.drain(client, into)
+    }
+
+    /// As `Lobby::next_dirty`.
+    pub fn next_dirty(&mut self, home: u8) -> Option<u64>
+        requires { home ≤ 63 }
+        ensures plain { self.new.plain ≡ self.old.plain }
+        ensures first { dirty_at self.old home ≡ option_to_list result ++ dirty_at self.new home }
+        ensures nobody { IfNone result (dirty_at self.old home ≡ []) }
+        ensures others { (worker : ℕ) → worker ≤ 63 → same_number home worker ≡ false → dirty_at self.new worker ≡ dirty_at self.old worker }
+    {
+        self.inner.next_dirty(home)
     }
 }

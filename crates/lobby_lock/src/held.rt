@@ -1,12 +1,14 @@
 //! A hold of the lobby.
 
-ghost use Rattle.std.specs.Prelude.{◌≡◌, ℕ, ◌+◌, ◌<◌, ◌≤◌, ◌↔◌, [], ◌∷◌, ◌++◌, length, take, drop, min, OnOk, OnErr, IfOk, IsTrue, true, false};
+ghost use Rattle.std.specs.Prelude.{◌≡◌, ℕ, ◌+◌, ◌<◌, ◌≤◌, ◌↔◌, [], ◌∷◌, ◌++◌, length, take, drop, min, OnOk, OnErr, IfNone, IfOk, IsTrue, true, false};
+ghost use Rattle.std.specs.Option.{option_to_list};
+ghost use Rattle.line_words.specs.Table.{same_number};
 ghost use Rattle.command_grammar.specs.Kinds.{keeps_kinds};
 ghost use Rattle.lobby_model.specs.declared.event.Event.TheVariants as event;
 ghost use Rattle.lobby_model.specs.Sessions.{has_place};
 ghost use Rattle.lobby_model.specs.Next.{next};
 ghost use Rattle.lobby_post.specs.Mail.{IsWakes};
-ghost use Rattle.lobby_machine.specs.Shown.{unread_of, is_finished};
+ghost use Rattle.lobby_machine.specs.Shown.{dirty_at, unread_of, is_finished};
 ghost use Rattle.lobby_lock.specs.Passes.{lobby_after, pass_after};
 
 use crate::boxed::BoxedLobby;
@@ -129,6 +131,27 @@ impl Held {
         let drained = self.lobby.drain(client, into);
         self.events.push_reserved(Event::Drain { client, count });
         drained
+    }
+
+    /// Takes the first client out of the list of a worker's clients that changed, as `Lobby::next_dirty`
+    /// says. It takes no memory, and is no event: what a hold finds in these lists is no part of the
+    /// history, and a hold that makes nothing but such calls gives back unchanged.
+    pub fn next_dirty(&mut self, home: u8) -> Option<u64>
+        requires { home ≤ 63 }
+        ensures plain { self.new.lobby.plain ≡ self.old.lobby.plain }
+        ensures first { dirty_at self.old.lobby home ≡ option_to_list result ++ dirty_at self.new.lobby home }
+        ensures nobody { IfNone result (dirty_at self.old.lobby home ≡ []) }
+        ensures others { (worker : ℕ) → worker ≤ 63 → same_number home worker ≡ false → dirty_at self.new.lobby worker ≡ dirty_at self.old.lobby worker }
+        ensures rest { self.new ≡ record self.old { lobby = self.new.lobby } }
+    {
+        self.lobby.next_dirty(home)
+    }
+
+    /// How many bytes a client has not read; 0 where it is not there.
+    pub fn unread(&self, client: u64) -> usize
+        ensures { result ≡ length (unread_of self.now.lobby.plain client) }
+    {
+        self.lobby.as_lobby().unread(client)
     }
 
     /// Gives the lobby back and ends the hold: its events join the history under its worker's number,

@@ -75,10 +75,10 @@ impl Crew {
         self.inboxes.get(worker as usize)?.pop(rt)
     }
 
-    /// Wakes these workers.
-    pub fn wake(&self, wakes: Wakes) {
+    /// Wakes these workers, but for the one that does so.
+    pub fn wake_others(&self, waking: u64, wakes: Wakes) {
         for (worker, waker) in self.wakers.iter().enumerate() {
-            if worker < MOST_WORKERS && wakes.has(worker as u8) {
+            if worker < MOST_WORKERS && worker as u64 != waking && wakes.has(worker as u8) {
                 let _ = waker.wake();
             }
         }

@@ -164,6 +164,7 @@ impl Station {
         ensures desk { result.desk ≡ pass.desk }
         ensures number { result.worker.number ≡ pass.worker.number }
     {
+        let pass = self.connections.look_for_own(rt, shared, pass);
         let timeout = self.connections.pause().timeout();
         let polled = self.poll.poll(&mut self.events, timeout);
         let news = self.news();
@@ -177,10 +178,13 @@ impl Station {
         if news.called || self.goes_on {
             self.accept(rt, shared.crew);
         }
-        if news.woken {
+        let pass = if news.woken {
             let pass = self.look_into_inbox(rt, shared, pass);
-            return self.connections.turn_each(rt, shared, pass);
-        }
+            self.connections.take_names(rt, shared, pass)
+        } else {
+            pass
+        };
+        let pass = self.connections.turn_named(rt, shared, pass);
         let pass = self.connections.turn_left(rt, shared, pass);
         self.turn_ready(rt, shared, pass)
     }

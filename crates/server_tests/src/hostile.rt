@@ -83,7 +83,62 @@ fn all_who_are_left_over_get_their_turns(rt: HostRuntime) {
     drop(play(&rt, rt, 1, Hold::Write, &LEFT_OVER));
 }
 
-/// Who comes only to turn the order of workers.
+const SAME_ROUND: [Act; 1] = [Act {
+    times: 1,
+    steps: &[
+        Enters(ANNA),
+        Sends(ANNA, ANNA_LOGS_IN),
+        Reads(ANNA, ANNA_IS_IN),
+        Enters(BERT),
+        Sends(BERT, BERT_LOGS_IN),
+        Reads(BERT, BERT_IS_IN),
+        Reads(ANNA, BERT_COMES),
+        Enters(THIRD),
+        Sends(THIRD, PING),
+        IsKept,
+        Sends(ANNA, PING),
+        Sends(BERT, b"SAYPRIVATE Anna on\n"),
+        GoesOn,
+        Reads(ANNA, b"PONG\nSAIDPRIVATE Bert on\n"),
+    ],
+}];
+
+/// Anna and Bert send while their worker stands still, so both get their turns in one round, Anna first. What Bert's turn then has
+/// for her comes without another byte from anyone.
+#[test]
+fn who_had_a_turn_is_told_what_a_later_turn_brings(rt: HostRuntime) {
+    drop(play(&rt, rt, 1, Hold::Write, &SAME_ROUND));
+}
+
+const CROWDED: [Act; 2] = [
+    Act {
+        times: 200,
+        steps: &[JoinsCrowd],
+    },
+    Act {
+        times: 1,
+        steps: &[
+            CrowdIsGreeted,
+            Enters(ANNA),
+            Sends(ANNA, ANNA_LOGS_IN),
+            Reads(ANNA, ANNA_IS_IN),
+            Enters(BERT),
+            Sends(BERT, BERT_LOGS_IN),
+            Reads(BERT, BERT_IS_IN),
+            Reads(ANNA, BERT_COMES),
+            Sends(ANNA, b"SAYPRIVATE Bert on\n"),
+            Reads(BERT, b"SAIDPRIVATE Anna on\n"),
+        ],
+    },
+];
+
+/// Each worker has a hundred clients that say nothing, and one for which there is a line.
+#[test]
+fn a_line_reaches_its_client_among_many_quiet_ones(rt: HostRuntime) {
+    drop(play(&rt, rt, 2, Hold::Open, &CROWDED));
+}
+
+/// Who comes only to turn the order of workers, or to keep one busy.
 const THIRD: usize = 2;
 
 const HOMES: [Act; 1] = [Act {
