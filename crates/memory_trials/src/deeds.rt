@@ -1,0 +1,117 @@
+//! Deeds that are done in turn, each of which may be refused memory.
+
+use crate::hog::{Hog, MOST_STEPS};
+use crate::notes::Notes;
+use std::alloc::Global;
+use std::io;
+
+/// What is done for a client.
+#[derive(Clone, Copy)]
+pub enum Deed {
+    /// It connects.
+    Open,
+    /// It sends this: to a lobby a line, to what reads lines bytes.
+    Send(&'static [u8]),
+    /// Its next line is taken.
+    Take,
+    /// It reads up to so many bytes.
+    Read(usize),
+    /// It is shut.
+    Shut,
+    /// The record is asked for.
+    Record,
+}
+
+/// What deeds are done to.
+pub trait Subject: Drop {
+    /// A new one, unless memory is refused.
+    fn new(alloc: Global) -> Option<Self>
+    where
+        Self: Sized;
+
+    /// Does it for the client, and says whether memory sufficed. What it has no such deed for, it leaves.
+    fn act(&mut self, alloc: Global, client: u64, deed: Deed) -> bool;
+
+    /// Whether public calls tell the same of both. What they take away to tell it, they take from both.
+    fn is_as(&mut self, other: &mut Self) -> bool
+    where
+        Self: Sized;
+
+    /// Shows what public calls tell of it.
+    fn show<R: Print>(&mut self, rt: &R) -> io::Result<()>;
+}
+
+/// What is under trial, and another one to which memory is not refused.
+#[derive(Drop)]
+struct Pair<S: Subject> {
+    tried: S,
+    other: S,
+}
+
+impl<S: Subject> Pair<S> {
+    fn new(alloc: Global) -> Option<Pair<S>> {
+        let tried = S::new(alloc)?;
+        match S::new(alloc) {
+            Some(other) => Some(Pair { tried, other }),
+            None => {
+                drop(tried);
+                None
+            }
+        }
+    }
+
+    /// Does it with more and more memory, until that suffices. After each refusal the two are compared, of which the other one has
+    /// not done it. Says whether memory sufficed.
+    fn try_out(
+        &mut self,
+        alloc: Global,
+        client: u64,
+        deed: Deed,
+        hog: &mut Hog,
+        notes: &mut Notes,
+    ) -> bool {
+        for steps in 0..=MOST_STEPS {
+            hog.leave(steps);
+            let is_done = self.tried.act(alloc, client, deed);
+            hog.ease();
+            if is_done {
+                hog.release();
+                return self.other.act(alloc, client, deed);
+            }
+            notes.refuse(self.tried.is_as(&mut self.other));
+        }
+        false
+    }
+
+    /// Tries one deed after the other, and compares the two once more.
+    fn try_all(&mut self, alloc: Global, deeds: &[(u64, Deed)], hog: &mut Hog, notes: &mut Notes) {
+        for (client, deed) in deeds {
+            if !self.try_out(alloc, *client, *deed, hog, notes) {
+                notes.give_up();
+                return;
+            }
+        }
+        notes.compare(self.tried.is_as(&mut self.other));
+    }
+}
+
+/// Tries the deeds on a new subject, and shows what came of them.
+pub fn try_deeds<S: Subject, R: Print + AllocGlobal>(
+    rt: &R,
+    deeds: &[(u64, Deed)],
+    hog: &mut Hog,
+    notes: &mut Notes,
+) -> io::Result<()> {
+    match Pair::<S>::new(rt.alloc()) {
+        Some(mut pair) => {
+            pair.try_all(rt.alloc(), deeds, hog, notes);
+            let shown = pair.tried.show(rt);
+            drop(pair);
+            shown
+        }
+        None => {
+            notes.give_up();
+            Ok(())
+        }
+    }
+}

@@ -1,0 +1,201 @@
+//! A lobby of three users who talk, and gather in a battle.
+
+ghost use Rattle.std.specs.Prelude.{IfOk, IsTrue};
+ghost use Rattle.command_grammar.specs.Kinds.{keeps_kinds};
+
+use crate::accounts::{book, lobby_of};
+use crate::deeds::{Deed, Subject, try_deeds};
+use crate::hog::Hog;
+use crate::notes::Notes;
+use command_grammar::{Request, read_request};
+use lobby_machine::{Lobby, OpenError};
+use std::alloc::{AllocError, Global};
+use std::io;
+use std::io::Write;
+
+/// The worker that serves all clients.
+pub const HOME: u8 = 0;
+
+/// How many bytes are compared at a time.
+const PIECE: usize = 512;
+
+/// They log in, one after another, and talk in two channels; then Anna opens a battle and furnishes it, Cleo joins it, and leaves
+/// with two bots; Bert goes with his channels, and is shut.
+const DEEDS: [(u64, Deed); 33] = [
+    (1, Deed::Open),
+    (2, Deed::Open),
+    (3, Deed::Open),
+    (
+        1,
+        Deed::Send(b"LOGIN Anna X03MO1qnZdYdgyfeuILPmQ== 0 * TestLobby 1.0"),
+    ),
+    (
+        2,
+        Deed::Send(b"LOGIN Bert X03MO1qnZdYdgyfeuILPmQ== 0 * TestLobby 1.0"),
+    ),
+    (2, Deed::Read(40)),
+    (
+        3,
+        Deed::Send(b"LOGIN Cleo X03MO1qnZdYdgyfeuILPmQ== 0 * TestLobby 1.0"),
+    ),
+    (1, Deed::Send(b"MYSTATUS 1")),
+    (2, Deed::Send(b"MYSTATUS 2")),
+    (1, Deed::Send(b"JOIN main")),
+    (2, Deed::Send(b"JOIN main")),
+    (3, Deed::Send(b"JOIN main")),
+    (2, Deed::Send(b"JOIN big")),
+    (1, Deed::Send(b"JOIN big")),
+    (2, Deed::Send(b"#7 SAY main hello")),
+    (
+        1,
+        Deed::Send(
+            b"#3 OPENBATTLE 0 2 secret 8452 16 -1 7 123 spring\t104.0\tComet Catcher\tAll welcome\tBA 9.46",
+        ),
+    ),
+    (1, Deed::Send(b"ADDBOT Robo 1024 255 KAIK")),
+    (1, Deed::Send(b"ADDSTARTRECT 0 0 0 200 60")),
+    (1, Deed::Send(b"SETSCRIPTTAGS a=1\tb=2")),
+    (1, Deed::Send(b"UPDATEBATTLEINFO 0 0 5 Other Map")),
+    (3, Deed::Send(b"JOINBATTLE 1 secret pw9")),
+    (3, Deed::Send(b"MYBATTLESTATUS 1024 7")),
+    (3, Deed::Send(b"ADDBOT Rex 1024 0 KAIK")),
+    (3, Deed::Send(b"ADDBOT Tik 1088 -1 KAIK")),
+    (1, Deed::Send(b"SAYBATTLE go")),
+    (1, Deed::Send(b"SETSCRIPTTAGS a=3\tc=4")),
+    (1, Deed::Send(b"REMOVESCRIPTTAGS b")),
+    (3, Deed::Send(b"EXIT")),
+    (2, Deed::Shut),
+    (1, Deed::Send(b"LEAVE main")),
+    (4, Deed::Open),
+    (
+        4,
+        Deed::Send(b"LOGIN Bert X03MO1qnZdYdgyfeuILPmQ== 0 * TestLobby 1.0"),
+    ),
+    (1, Deed::Send(b"LEAVEBATTLE")),
+];
+
+/// What a line asks for, with arguments of their kinds.
+#[tactic(auto, using(command_grammar::proofs::Bounds::request_keeps))]
+fn read(alloc: Global, line: &[u8]) -> Result<Request, AllocError>
+    ensures { IfOk result (λ request. IsTrue (keeps_kinds request.command)) }
+{
+    read_request(alloc, line)
+}
+
+/// A client says a line; whether memory sufficed.
+pub fn say(lobby: &mut Lobby, alloc: Global, client: u64, line: &[u8]) -> bool {
+    match read(alloc, line) {
+        Ok(request) => {
+            let said = lobby.say(client, &request);
+            request.discard();
+            said.is_ok()
+        }
+        Err(_) => false,
+    }
+}
+
+/// A client reads up to so many bytes, and at most 64.
+fn read_some(lobby: &mut Lobby, client: u64, count: usize) {
+    let mut bytes = [0; 64];
+    let _ = lobby.drain(client, &mut bytes[..count.min(64)]);
+}
+
+/// Does it, and says whether memory sufficed.
+pub fn act(lobby: &mut Lobby, alloc: Global, client: u64, deed: Deed) -> bool {
+    match deed {
+        Deed::Open => lobby.open([10, 0, 0, 1], HOME) != Err(OpenError::Memory),
+        Deed::Send(line) => say(lobby, alloc, client, line),
+        Deed::Read(count) => {
+            read_some(lobby, client, count);
+            true
+        }
+        Deed::Shut => lobby.shut(client).is_ok(),
+        Deed::Take | Deed::Record => true,
+    }
+}
+
+/// Whether the same waits for a client in two lobbies, in a piece that begins `from` bytes behind the first.
+fn piece_is_alike(lobby: &Lobby, other: &Lobby, client: u64, from: usize) -> bool {
+    let (mut ours, mut theirs) = ([0; PIECE], [0; PIECE]);
+    let count = lobby.copy_unread(client, from, &mut ours);
+    other.copy_unread(client, from, &mut theirs) == count && ours == theirs
+}
+
+/// Whether the same waits for a client in two lobbies.
+fn waits_alike(lobby: &Lobby, other: &Lobby, client: u64) -> bool {
+    (0..=lobby.unread(client) / PIECE).all(|number| piece_is_alike(
+        lobby,
+        other,
+        client,
+        number.saturating_mul(PIECE),
+    )) && lobby.unread(client) == other.unread(client)
+}
+
+/// Takes all clients out of the lists of changed ones, and says whether both had the same, in the same order.
+fn changed_alike(lobby: &mut Lobby, other: &mut Lobby) -> bool {
+    for _ in 0..=lobby.last_client() {
+        let changed = lobby.next_dirty(HOME);
+        if other.next_dirty(HOME) != changed {
+            return false;
+        }
+        if changed.is_none() {
+            return true;
+        }
+    }
+    false
+}
+
+/// Whether the same clients are there, and the same waits for each.
+fn clients_are_alike(lobby: &Lobby, other: &Lobby) -> bool {
+    for client in 0..=lobby.last_client().saturating_add(1) {
+        if lobby.has_client(client) != other.has_client(client)
+            || !waits_alike(lobby, other, client)
+        {
+            return false;
+        }
+    }
+    lobby.last_client() == other.last_client() && lobby.has_place() == other.has_place()
+}
+
+/// Whether public calls tell the same of both.
+pub fn are_alike(lobby: &mut Lobby, other: &mut Lobby) -> bool {
+    clients_are_alike(lobby, other) && changed_alike(lobby, other)
+}
+
+/// Shows what a client has not read.
+fn show_client<R: Print>(rt: &R, lobby: &Lobby, client: u64) -> io::Result<()> {
+    let mut unread = [0; 4096];
+    let count = lobby.copy_unread(client, 0, &mut unread);
+    println!(rt; "client {client}: {} bytes", lobby.unread(client))?;
+    io::writer(rt).write_all(unread.get(..count).unwrap_or(&[]))
+}
+
+/// Shows what each client has not read.
+pub fn show_unread<R: Print>(rt: &R, lobby: &Lobby) -> io::Result<()> {
+    for client in 1..=lobby.last_client() {
+        show_client(rt, lobby, client)?;
+    }
+    Ok(())
+}
+
+impl Subject for Lobby {
+    fn new(alloc: Global) -> Option<Lobby> {
+        lobby_of(alloc, book(alloc))
+    }
+
+    fn act(&mut self, alloc: Global, client: u64, deed: Deed) -> bool {
+        act(self, alloc, client, deed)
+    }
+
+    fn is_as(&mut self, other: &mut Lobby) -> bool {
+        are_alike(self, other)
+    }
+
+    fn show<R: Print>(&mut self, rt: &R) -> io::Result<()> {
+        show_unread(rt, self)
+    }
+}
+
+pub fn try_out<R: Print + AllocGlobal>(rt: &R, hog: &mut Hog, notes: &mut Notes) -> io::Result<()> {
+    try_deeds::<Lobby, R>(rt, &DEEDS, hog, notes)
+}

@@ -1,0 +1,38 @@
+//! What is noted of the trials.
+
+/// How often memory was refused, how often something was otherwise after that than before, or at the end than where memory was not
+/// refused, and how often a trial was given up, since memory never sufficed.
+#[derive(Clone, Copy)]
+pub struct Notes {
+    pub refusals: u32,
+    pub traces: u32,
+    pub given_up: u32,
+}
+
+impl Notes {
+    pub fn new() -> Notes {
+        Notes {
+            refusals: 0,
+            traces: 0,
+            given_up: 0,
+        }
+    }
+
+    /// All is as it was before, or not.
+    pub fn compare(&mut self, is_as_before: bool) {
+        if !is_as_before {
+            self.traces = self.traces.saturating_add(1);
+        }
+    }
+
+    /// Memory was refused, and all is as it was before, or not.
+    pub fn refuse(&mut self, is_as_before: bool) {
+        self.refusals = self.refusals.saturating_add(1);
+        self.compare(is_as_before);
+    }
+
+    /// Memory never sufficed.
+    pub fn give_up(&mut self) {
+        self.given_up = self.given_up.saturating_add(1);
+    }
+}
