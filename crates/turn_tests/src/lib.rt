@@ -5,6 +5,8 @@
 #[cfg(test)]
 mod desk;
 #[cfg(test)]
+mod desks;
+#[cfg(test)]
 mod side_by_side;
 #[cfg(test)]
 mod turns;
