@@ -1,4 +1,4 @@
-//! A desk with a lobby of two accounts, for one worker or for two.
+//! A desk with a lobby of three accounts, for one worker or for two.
 
 ghost use Rattle.std.specs.Prelude.{◌≡◌, IfSome};
 
@@ -20,6 +20,11 @@ name = \"Bert\"
 password = \"X03MO1qnZdYdgyfeuILPmQ==\"
 id = 2
 rank = 3
+[[account]]
+name = \"Cleo\"
+password = \"X03MO1qnZdYdgyfeuILPmQ==\"
+id = 3
+country = \"FR\"
 ";
 
 /// What a client says that logs in as Anna, without a line end.

@@ -4,7 +4,8 @@
 ghost use Rattle.std.specs.Prelude.{◌≡◌};
 
 use crate::desks::open_for_two;
-use crate::turns::{GREETING_AND_PONG, serve_client};
+use crate::serving::serve_client;
+use crate::turns::GREETING_AND_PONG;
 use crate::verdict::same;
 use lobby_lock::{Desk, Pass};
 use lobby_turns::{Gate, Got, Link, MemoryLink, Sent, TurnState};
