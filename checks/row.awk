@@ -14,8 +14,13 @@ function written(text,    inner, at, times, out) {
     gsub(/<space>/, " ", text)
     gsub(/<tab>/, "\t", text)
     gsub(/<cr>/, "\r", text)
+    while (match(text, /<x[0-9A-F][0-9A-F]>/))
+        text = substr(text, 1, RSTART - 1) sprintf("%c", 16 * digit(text, RSTART + 2) + digit(text, RSTART + 3)) substr(text, RSTART + 5)
     return text
 }
+
+# The hexadecimal digit at a place.
+function digit(text, at) { return index("0123456789ABCDEF", substr(text, at, 1)) - 1 }
 
 function refuse(why) { print FILENAME ":" FNR ": " why > "/dev/stderr"; refused = 1; exit 2 }
 

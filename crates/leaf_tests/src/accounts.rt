@@ -344,3 +344,13 @@ fn refuses_accounts_of_a_file(rt: HostRuntime) {
         same_for(&rt, &lines, refusal_with(rt.alloc(), "1", lines), told);
     }
 }
+
+#[test]
+fn each_front_of_a_file_has_an_answer(rt: HostRuntime) {
+    for file in [THREE, SECOND_FORMAT] {
+        for len in 0..file.len() {
+            let told = refusal(rt.alloc(), &file[..len]);
+            assert!(rt; told != Some(AccountsError::Memory), "{len} bytes");
+        }
+    }
+}

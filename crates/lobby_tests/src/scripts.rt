@@ -2,8 +2,10 @@
 
 use crate::verdict::same;
 use lobby_script::{MOST_READS, PlayFault, SCRIPT_LIMIT, play};
+use std::alloc::Global;
 use std::io;
 use std::io::{Error, ErrorKind, Read, Write};
+use std::process::Abort;
 use std::test::Fail;
 
 const SCRIPT: &[u8] = b"open 1 10.0.0.1\nshow 1\n";
@@ -152,6 +154,35 @@ fn largest_scripts(rt: HostRuntime) -> Result<(), Fail> {
         assert!(&rt; writer.as_slice() == output, "{size}");
     }
     Ok(())
+}
+
+const PING: &[u8] = b"open 1 10.0.0.1\nsend 1 PING\\n\nall 1\nshow 1\n";
+
+/// What that script shows.
+const PONG: &[u8] = b"1> TASSERVER 0.38 * 8201 0\n1> PONG\n";
+
+/// Plays a script, of which only a last line that is not whole may be a bad step.
+fn play_front(rt: &impl Abort, alloc: Global, front: &[u8], last: u64, output: &[u8]) {
+    let mut reader = front;
+    let mut writer = Vec::new(alloc);
+    let told = play(alloc, &mut reader, &mut writer);
+    let is_so = matches!(told, Ok(())) || told == Err(PlayFault::BadStep(last));
+    assert!(rt; is_so, "{told:?}");
+    same(rt, writer.as_slice(), output);
+    drop(writer);
+}
+
+#[test]
+fn each_front_of_a_script_has_an_answer(rt: HostRuntime) {
+    let mut last = 1u64;
+    for len in 0..PING.len() {
+        // the last line shows something, and needs no line end
+        let output = if len + 1 < PING.len() { b"" } else { PONG };
+        play_front(&rt, rt.alloc(), &PING[..len], last, output);
+        if PING[len] == b'\n' {
+            last = last.saturating_add(1);
+        }
+    }
 }
 
 /// What is told of each fault, and the exit status.

@@ -18,7 +18,7 @@ pub struct MemoryLink {
     output: Vec<u8>,
     piece: usize,
     room: usize,
-    fails_at: u64,
+    device: Device,
     is_ended: bool,
     reads: u64,
     writes: u64,
@@ -26,6 +26,17 @@ pub struct MemoryLink {
     last_got: Option<Got>,
     last_sent: Option<Sent>,
     ghost within: { at ≤ length input.items },
+}
+
+/// Which calls the device of a link in memory fails at, counted from 1 over reads and writes together.
+#[derive(Clone, Copy)]
+enum Device {
+    /// None.
+    Sound,
+    /// This one.
+    FailsAt(u64),
+    /// This one and all after it.
+    FailsFrom(u64),
 }
 
 impl MemoryLink {
@@ -40,7 +51,7 @@ impl MemoryLink {
             output: Vec::new(alloc),
             piece,
             room,
-            fails_at: 0,
+            device: Device::Sound,
             is_ended: false,
             reads: 0,
             writes: 0,
@@ -65,7 +76,17 @@ impl MemoryLink {
         ensures { ⟦<MemoryLink as Link>⟧.wire result ≡ ⟦<MemoryLink as Link>⟧.wire self }
     {
         let mut link = self;
-        link.fails_at = call;
+        link.device = Device::FailsAt(call);
+        link
+    }
+
+    /// The same link, but its device fails at its call of this number, counted so, and at each one
+    /// after it.
+    pub fn failing_from(self, call: u64) -> MemoryLink
+        ensures { ⟦<MemoryLink as Link>⟧.wire result ≡ ⟦<MemoryLink as Link>⟧.wire self }
+    {
+        let mut link = self;
+        link.device = Device::FailsFrom(call);
         link
     }
 
@@ -77,7 +98,12 @@ impl MemoryLink {
     }
 
     fn fails(&self) -> bool {
-        self.reads.saturating_add(self.writes) == self.fails_at
+        let call = self.reads.saturating_add(self.writes);
+        match self.device {
+            Device::Sound => false,
+            Device::FailsAt(number) => call == number,
+            Device::FailsFrom(number) => call >= number,
+        }
     }
 }
 

@@ -1,37 +1,18 @@
-//! Workers in threads of their own at one desk, and how many passes there are.
+//! Workers in threads of their own at one desk, how many passes there are, and how a desk is closed.
 
 ghost use Rattle.std.specs.Prelude.{◌≡◌, IfOk, IsTrue};
 ghost use Rattle.command_grammar.specs.Kinds.{keeps_kinds};
 
+use crate::desks::{ANNA, BERT, open, open_for_two};
 use crate::verdict::same;
-use account_book::AccountBook;
 use command_grammar::{Request, read_request};
-use line_words::TextBuf;
-use lobby_lock::{CloseError, Count, Desk, DeskError, Pass};
-use lobby_machine::{Lobby, Wakes};
-use lobby_model::Settings;
+use lobby_lock::{CloseError, Closing, Count, Desk, DeskError, Pass};
+use lobby_machine::Wakes;
 use std::alloc::{AllocError, Global};
 use std::process::Abort;
 use std::sync::Wait;
 use std::sync::atomic::{AtomicBool, Ordering};
-use std::test::*;
-use std::thread;
-
-const ACCOUNTS: &[u8] = b"[[account]]
-name = \"Anna\"
-password = \"X03MO1qnZdYdgyfeuILPmQ==\"
-id = 1
-country = \"DE\"
-[[account]]
-name = \"Bert\"
-password = \"X03MO1qnZdYdgyfeuILPmQ==\"
-id = 2
-rank = 3
-";
-
-const ANNA: &[u8] = b"LOGIN Anna X03MO1qnZdYdgyfeuILPmQ== 0 * TestLobby 1.0";
-
-const BERT: &[u8] = b"LOGIN Bert X03MO1qnZdYdgyfeuILPmQ== 0 * TestLobby 1.0";
+use std::thread::{self, Threads};
 
 // What Bert, who logs in after Anna, reads.
 const READ_BY_BERT: &[u8] = b"TASSERVER 0.38 * 8201 0
@@ -42,15 +23,6 @@ ADDUSER Bert ?? 0 2
 CLIENTSTATUS Bert 12
 LOGININFOEND
 ";
-
-fn new_lobby(alloc: Global) -> Result<Lobby, Fail> {
-    let motd = [TextBuf::copy_of(alloc, b"Welcome")?];
-    let settings = Settings::new(alloc, b"0.38", b"*", 8201, 0, &motd, 65_536)?;
-    match AccountBook::from_toml(alloc, ACCOUNTS) {
-        Ok(accounts) => Lobby::new(alloc, settings, accounts).map_err(Fail::from),
-        Err(error) => Err(Fail::from(error)),
-    }
-}
 
 // What a line asks for, with arguments of their kinds.
 #[tactic(auto, using(command_grammar::proofs::Bounds::request_keeps))]
@@ -154,38 +126,49 @@ fn end<R: Wait + Abort>(rt: &R, desk: &Desk, pass: Pass, other: Pass)
 {
     let pass = desk.take_back(pass, other);
     let mut held = desk.take(rt, pass);
-    assert!(rt; held.shut(1).is_ok());
+    same(rt, held.shut(1).is_ok(), true);
     same(rt, held.count(), 1);
-    let _pass = held.give(rt, desk);
+    drop(held.give(rt, desk));
+}
+
+// Logs Anna in in a thread, and then Bert in this one, who reads.
+fn give_and_read<R: Threads + Wait + Abort + Sync>(
+    rt: &R,
+    alloc: Global,
+    desk: &Desk,
+    pass: Pass,
+    other: Pass,
+)
+    requires desk { (pass.desk ≡ desk.now) × (other.desk ≡ desk.now) }
+    requires first { pass.worker.number ≡ 0 }
+{
+    let flag = AtomicBool::new(false);
+    let given = &flag;
+    let (pass, answer) = thread::join(
+        rt,
+        move || -> Pass
+            requires { (pass.desk ≡ desk.now) × (pass.worker.number ≡ 0) }
+            ensures { (result.desk ≡ desk.entry.now) × (result.worker.number ≡ 0) }
+        { log_in(rt, desk, pass, alloc, ANNA, given) },
+        move || -> (Pass, Option<Seen>)
+            requires { other.desk ≡ desk.now }
+            ensures { result.0.desk ≡ desk.entry.now }
+        { log_in_and_read(rt, desk, other, alloc, BERT, given) },
+    );
+    let (other, seen) = answer;
+    compare(rt, seen);
+    end(rt, desk, pass, other);
 }
 
 #[test]
-fn what_one_worker_gave_another_reads(rt: HostRuntime) -> Result<(), Fail> {
-    let Ok((desk, pass)) = Desk::open(&rt, rt.alloc(), new_lobby(rt.alloc())?) else {
-        assert!(rt; false, "a desk was opened");
-        return Ok(());
-    };
-    let Ok((pass, other)) = desk.hand_out(rt.alloc(), pass) else {
-        assert!(rt; false, "a pass was handed out");
-        return Ok(());
-    };
-    let flag = AtomicBool::new(false);
-    let (run, alloc, shared, given) = (&rt, rt.alloc(), &desk, &flag);
-    let (pass, answer) = thread::join(
-        run,
-        move || -> Pass
-            requires { (pass.desk ≡ shared.now) × (pass.worker.number ≡ 0) }
-            ensures { (result.desk ≡ shared.entry.now) × (result.worker.number ≡ 0) }
-        { log_in(run, shared, pass, alloc, ANNA, given) },
-        move || -> (Pass, Option<Seen>)
-            requires { other.desk ≡ shared.now }
-            ensures { result.0.desk ≡ shared.entry.now }
-        { log_in_and_read(run, shared, other, alloc, BERT, given) },
-    );
-    let (other, seen) = answer;
-    compare(&rt, seen);
-    end(&rt, &desk, pass, other);
-    Ok(())
+fn what_one_worker_gave_another_reads(rt: HostRuntime) {
+    match open_for_two(&rt, rt.alloc()) {
+        Some((desk, pass, other)) => {
+            give_and_read(&rt, rt.alloc(), &desk, pass, other);
+            drop(desk);
+        }
+        None => assert!(rt; false, "no desk"),
+    }
 }
 
 // Hands out passes until one is refused, at most 64 times: how many there were, and why no more.
@@ -217,21 +200,29 @@ fn hand_out_all(
     (pass, count, refusal)
 }
 
+// Hands out all passes, and holds the lobby once more.
+fn count_passes<R: Wait + Abort>(rt: &R, alloc: Global, desk: &Desk, pass: Pass)
+    requires { (pass.desk ≡ desk.now) × (pass.worker.number ≡ 0) }
+{
+    let mut others = Vec::new(alloc);
+    let (pass, count, refusal) = hand_out_all(desk, alloc, pass, &mut others);
+    drop(others);
+    same(rt, count, 63);
+    same(rt, refusal, Some(DeskError::TooManyWorkers));
+    let mut held = desk.take(rt, pass);
+    same(rt, held.open([10, 0, 0, 1], 63), Ok(1));
+    drop(held.give(rt, desk));
+}
+
 #[test]
-fn sixty_three_passes_are_handed_out(rt: HostRuntime) -> Result<(), Fail> {
-    let lobby = new_lobby(rt.alloc())?;
-    let Ok((desk, pass)) = Desk::open(&rt, rt.alloc(), lobby) else {
-        assert!(rt; false, "a desk was opened");
-        return Ok(());
-    };
-    let mut others = Vec::new(rt.alloc());
-    let (pass, count, refusal) = hand_out_all(&desk, rt.alloc(), pass, &mut others);
-    same(&rt, count, 63);
-    same(&rt, refusal, Some(DeskError::TooManyWorkers));
-    let mut held = desk.take(&rt, pass);
-    same(&rt, held.open([10, 0, 0, 1], 63), Ok(1));
-    let _pass = held.give(&rt, &desk);
-    Ok(())
+fn sixty_three_passes_are_handed_out(rt: HostRuntime) {
+    match open(&rt, rt.alloc()) {
+        Some((desk, pass)) => {
+            count_passes(&rt, rt.alloc(), &desk, pass);
+            drop(desk);
+        }
+        None => assert!(rt; false, "no desk"),
+    }
 }
 
 // A hold in which a client is opened.
@@ -245,28 +236,58 @@ fn open_one<R: Wait>(rt: &R, desk: &Desk, pass: Pass) -> Pass
     held.give(rt, desk)
 }
 
+fn compare_counts(rt: &impl Abort, closing: &Closing) {
+    same(rt, closing.events(0), Count::Made(1));
+    same(rt, closing.events(1), Count::Made(2));
+    same(rt, closing.events(2), Count::Never);
+}
+
+// Takes back the pass that was out, and closes the desk.
+fn close_at_last<R: Wait + Abort>(rt: &R, desk: Desk, pass: Pass, other: Pass)
+    requires desk { (pass.desk ≡ desk) × (other.desk ≡ desk) }
+    requires first { pass.worker.number ≡ 0 }
+{
+    let pass = desk.take_back(pass, other);
+    match desk.close(rt, pass) {
+        Ok(closing) => {
+            compare_counts(rt, &closing);
+            drop(closing);
+        }
+        Err(refused) => {
+            drop(refused);
+            assert!(rt; false, "the desk was not closed");
+        }
+    }
+}
+
+// Tries to close the desk while a pass is out, and then without.
+fn close<R: Wait + Abort>(rt: &R, desk: Desk, pass: Pass, other: Pass)
+    requires desk { (pass.desk ≡ desk) × (other.desk ≡ desk) }
+    requires first { pass.worker.number ≡ 0 }
+{
+    match desk.close(rt, pass) {
+        Ok(closing) => {
+            drop(closing);
+            drop(other);
+            assert!(rt; false, "the desk was closed while a pass was out");
+        }
+        Err((desk, pass, error)) => {
+            same(rt, error, CloseError::StillOut(1));
+            close_at_last(rt, desk, pass, other);
+        }
+    }
+}
+
 // Worker 0 makes an event, worker 1 two.
 #[test]
-fn a_desk_is_closed_once_all_passes_are_back(rt: HostRuntime) -> Result<(), Fail> {
-    let Ok((desk, pass)) = Desk::open(&rt, rt.alloc(), new_lobby(rt.alloc())?) else {
-        return Err(Fail::new("no desk was opened"));
-    };
-    let Ok((pass, other)) = desk.hand_out(rt.alloc(), pass) else {
-        return Err(Fail::new("no pass was handed out"));
-    };
-    let pass = open_one(&rt, &desk, pass);
-    let other = open_one(&rt, &desk, other);
-    let other = open_one(&rt, &desk, other);
-    let Err((desk, pass, error)) = desk.close(&rt, pass) else {
-        return Err(Fail::new("the desk was closed while a pass was out"));
-    };
-    same(&rt, error, CloseError::StillOut(1));
-    let pass = desk.take_back(pass, other);
-    let Ok(closing) = desk.close(&rt, pass) else {
-        return Err(Fail::new("the desk was not closed"));
-    };
-    same(&rt, closing.events(0), Count::Made(1));
-    same(&rt, closing.events(1), Count::Made(2));
-    same(&rt, closing.events(2), Count::Never);
-    Ok(())
+fn a_desk_is_closed_once_all_passes_are_back(rt: HostRuntime) {
+    match open_for_two(&rt, rt.alloc()) {
+        Some((desk, pass, other)) => {
+            let pass = open_one(&rt, &desk, pass);
+            let other = open_one(&rt, &desk, other);
+            let other = open_one(&rt, &desk, other);
+            close(&rt, desk, pass, other);
+        }
+        None => assert!(rt; false, "no desk"),
+    }
 }

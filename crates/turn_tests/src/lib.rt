@@ -5,6 +5,14 @@
 #[cfg(test)]
 mod desk;
 #[cfg(test)]
+mod desks;
+#[cfg(test)]
+mod hostile;
+#[cfg(test)]
+mod plays;
+#[cfg(test)]
+mod serving;
+#[cfg(test)]
 mod side_by_side;
 #[cfg(test)]
 mod turns;

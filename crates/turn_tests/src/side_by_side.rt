@@ -3,14 +3,16 @@
 
 ghost use Rattle.std.specs.Prelude.{◌≡◌};
 
-use crate::turns::{GREETING_AND_PONG, new_lobby, serve_client};
+use crate::desks::open_for_two;
+use crate::serving::serve_client;
+use crate::turns::GREETING_AND_PONG;
 use crate::verdict::same;
-use lobby_lock::Desk;
-use lobby_turns::{Gate, Got, Link, MemoryLink, Sent, Turn, TurnState};
+use lobby_lock::{Desk, Pass};
+use lobby_turns::{Gate, Got, Link, MemoryLink, Sent, TurnState};
+use std::alloc::{AllocError, Global};
 use std::process::Abort;
+use std::sync::Wait;
 use std::sync::atomic::{AtomicBool, Ordering};
-use std::sync::{Arc, Wait};
-use std::test::*;
 use std::thread::{self, Threads};
 use std::time::Duration;
 
@@ -18,7 +20,7 @@ use std::time::Duration;
 const LOOKS: u32 = 10_000;
 
 // Where the first worker stops.
-#[derive(Clone, Copy, PartialEq, Eq)]
+#[derive(Clone, Copy)]
 enum Stop {
     // before it first takes the lobby, until the second worker comes there too
     Desk,
@@ -79,7 +81,7 @@ impl Gate for Meeting {
     fn before_take(&self, worker: u64) {
         if worker != 0 {
             self.come(&self.second_came, &self.first_came);
-        } else if self.stop == Stop::Desk {
+        } else if matches!(self.stop, Stop::Desk) {
             self.come(&self.first_came, &self.second_came);
         }
     }
@@ -97,30 +99,33 @@ impl Gate for Meeting {
 
 // The first worker's link.
 #[derive(Drop)]
-struct StoppingLink {
+struct StoppingLink<'a> {
     inner: MemoryLink,
-    meeting: Arc<Meeting>,
+    meeting: &'a Meeting,
 }
 
-impl StoppingLink {
-    fn stop_at(&self, stop: Stop) {
-        if self.meeting.stop == stop {
-            self.meeting
-                .come(&self.meeting.first_came, &self.meeting.is_answered);
-        }
+impl StoppingLink<'_> {
+    // The first worker's stop is here.
+    fn stop(&self) {
+        self.meeting
+            .come(&self.meeting.first_came, &self.meeting.is_answered);
     }
 }
 
-impl Link for StoppingLink {
+impl Link for StoppingLink<'_> {
     ghost wire = { λ l. ⟦<MemoryLink as Link>⟧.wire l.inner };
 
     fn read(&mut self, into: &mut [u8]) -> Got {
-        self.stop_at(Stop::Read);
+        if matches!(self.meeting.stop, Stop::Read) {
+            self.stop();
+        }
         self.inner.read(into)
     }
 
     fn write(&mut self, from: &[u8]) -> Sent {
-        self.stop_at(Stop::Write);
+        if matches!(self.meeting.stop, Stop::Write) {
+            self.stop();
+        }
         self.inner.write(from)
     }
 
@@ -137,56 +142,103 @@ impl Link for StoppingLink {
     }
 }
 
-// Serves two clients that each send `PING`, each in a thread of its own, and compares what they read.
-fn check<R>(rt: &R, clock: HostRuntime, stop: Stop) -> Result<(), Fail>
-where
-    R: Threads + Wait + Abort + Sync,
+// The link of a client that sends `PING`.
+fn pinging(alloc: Global) -> Result<MemoryLink, AllocError> {
+    let input = Vec::from_slice(alloc, b"PING\n")?;
+    Ok(MemoryLink::new(alloc, input, 9, 100))
+}
+
+// Serves a client over each of these links, each in a thread of its own: what their turns came to.
+fn serve_both<R: Threads + Wait + Sync>(
+    rt: &R,
+    alloc: Global,
+    desk: &Desk,
+    pass: Pass,
+    other: Pass,
+    first: &mut StoppingLink<'_>,
+    second: &mut MemoryLink,
+) -> (Option<TurnState>, Option<TurnState>)
+    requires { (pass.desk ≡ desk.now) × (other.desk ≡ desk.now) }
 {
-    let alloc = clock.alloc();
-    let Ok((desk, pass)) = Desk::open(rt, alloc, new_lobby(alloc)?) else {
-        assert!(rt; false, "a desk was opened");
-        return Ok(());
-    };
-    let Ok((pass, other)) = desk.hand_out(alloc, pass) else {
-        assert!(rt; false, "a pass was handed out");
-        return Ok(());
-    };
-    let meeting = Arc::new(alloc, Meeting::new(clock, stop))?;
-    let mut first = StoppingLink {
-        inner: MemoryLink::new(alloc, Vec::from_slice(alloc, b"PING\n")?, 9, 100),
-        meeting: meeting.clone()?,
-    };
-    let mut second = MemoryLink::new(alloc, Vec::from_slice(alloc, b"PING\n")?, 9, 100);
-    let (shared, gate, mine, theirs) = (&desk, &*meeting, &mut first, &mut second);
-    let (first_turn, second_turn) = thread::join(
+    let gate = first.meeting;
+    thread::join(
         rt,
-        move || -> Option<Turn>
-            requires { pass.desk ≡ shared.now }
-        { serve_client(rt, alloc, shared, pass, mine, gate, 1).1 },
-        move || -> Option<Turn>
-            requires { other.desk ≡ shared.now }
-        { serve_client(rt, alloc, shared, other, theirs, gate, 1).1 },
-    );
-    assert!(rt; meeting.did_meet(), "each worker saw what it looked for");
-    for turn in [first_turn, second_turn] {
-        same(rt, turn.map(|turn| turn.state), Some(TurnState::Idle));
+        move || -> Option<TurnState>
+            requires { pass.desk ≡ desk.now }
+        { serve_client(rt, alloc, desk, pass, first, gate, 1) },
+        move || -> Option<TurnState>
+            requires { other.desk ≡ desk.now }
+        { serve_client(rt, alloc, desk, other, second, gate, 1) },
+    )
+}
+
+// Serves two clients that each send `PING`, each in a thread of its own, and compares what they read.
+fn check<R: Threads + Wait + Abort + Sync>(
+    rt: &R,
+    alloc: Global,
+    first: &mut StoppingLink<'_>,
+    second: &mut MemoryLink,
+) {
+    match open_for_two(rt, alloc) {
+        Some((desk, pass, other)) => {
+            let states = serve_both(rt, alloc, &desk, pass, other, first, second);
+            drop(desk);
+            same(rt, states, (Some(TurnState::Idle), Some(TurnState::Idle)));
+        }
+        None => assert!(rt; false, "no desk"),
     }
+    assert!(rt;
+        first.meeting.did_meet(),
+        "each worker saw what it looked for"
+    );
     same(rt, first.inner.output(), GREETING_AND_PONG);
     same(rt, second.output(), GREETING_AND_PONG);
-    Ok(())
+}
+
+// As `check`, over the first worker's link and one that does not stop.
+fn check_first<R: Threads + Wait + Abort + Sync>(
+    rt: &R,
+    alloc: Global,
+    first: &mut StoppingLink<'_>,
+) {
+    match pinging(alloc) {
+        Ok(second) => {
+            let mut second = second;
+            check(rt, alloc, first, &mut second);
+            drop(second);
+        }
+        Err(AllocError) => assert!(rt; false, "no memory"),
+    }
+}
+
+// As `check`, where the first worker stops there.
+fn check_stop<R: Threads + Wait + Abort + Sync>(rt: &R, clock: HostRuntime, stop: Stop) {
+    let meeting = Meeting::new(clock, stop);
+    match pinging(clock.alloc()) {
+        Ok(inner) => {
+            let mut first = StoppingLink {
+                inner,
+                meeting: &meeting,
+            };
+            check_first(rt, clock.alloc(), &mut first);
+            drop(first);
+        }
+        Err(AllocError) => assert!(rt; false, "no memory"),
+    }
+    drop(meeting);
 }
 
 #[test]
-fn two_workers_come_to_the_desk_at_once(rt: HostRuntime) -> Result<(), Fail> {
-    check(&rt, rt, Stop::Desk)
+fn two_workers_come_to_the_desk_at_once(rt: HostRuntime) {
+    check_stop(&rt, rt, Stop::Desk);
 }
 
 #[test]
-fn a_link_that_stops_in_a_read_holds_up_no_other_worker(rt: HostRuntime) -> Result<(), Fail> {
-    check(&rt, rt, Stop::Read)
+fn a_link_that_stops_in_a_read_holds_up_no_other_worker(rt: HostRuntime) {
+    check_stop(&rt, rt, Stop::Read);
 }
 
 #[test]
-fn a_link_that_stops_in_a_write_holds_up_no_other_worker(rt: HostRuntime) -> Result<(), Fail> {
-    check(&rt, rt, Stop::Write)
+fn a_link_that_stops_in_a_write_holds_up_no_other_worker(rt: HostRuntime) {
+    check_stop(&rt, rt, Stop::Write);
 }

@@ -1,297 +1,186 @@
 //! One worker and its client over a link in memory.
 
-ghost use Rattle.std.specs.Prelude.{◌≡◌};
-
-use crate::verdict::same;
-use account_book::AccountBook;
-use line_words::TextBuf;
-use lobby_lock::{Desk, Pass};
-use lobby_machine::Lobby;
-use lobby_model::Settings;
-use lobby_turns::{Conn, Gate, Link, MemoryLink, Turn, TurnState, serve};
+use crate::plays::Step::{Enters, Reads, Takes, Turns};
+use crate::plays::{Caller, End, Text, play};
+use lobby_turns::TurnState;
 use std::alloc::Global;
 use std::process::Abort;
 use std::sync::Wait;
-use std::sync::atomic::{AtomicU64, Ordering};
-use std::test::*;
 
-const GREETING: &[u8] = b"TASSERVER 0.38 * 8201 0\n";
+const GREETING: Text = &[(b"TASSERVER 0.38 * 8201 0\n", 1)];
 
-pub(crate) const GREETING_AND_PONG: &[u8] = b"TASSERVER 0.38 * 8201 0\nPONG\n";
+/// What a client reads that sends `PING` alone.
+pub const GREETING_AND_PONG: &[u8] = b"TASSERVER 0.38 * 8201 0\nPONG\n";
 
-// A gate that does nothing.
-#[derive(Drop)]
-struct Open;
+const PONGED: Text = &[(GREETING_AND_PONG, 1)];
 
-impl Gate for Open {
-    fn before_take(&self, worker: u64) {
-        let _ = worker;
-    }
+const PING: Text = &[(b"PING\n", 1)];
 
-    fn after_write(&self, worker: u64, bytes: &[u8]) {
-        let _ = (worker, bytes.len());
-    }
+/// More than a turn reads of a link that gives a byte at a time.
+const LATE_PING: Text = &[(b"                    PING\n", 1)];
 
-    fn woken(&self, worker: u64) {
-        let _ = worker;
-    }
-}
+/// What a client sends; how many bytes its link gives and takes at a time, and how the link ends; for so many turns, what the
+/// last one comes to; what the client reads; and how many events there are.
+type Case = (Text, usize, usize, End, u64, TurnState, Text, u64);
 
-// A gate that counts how often the lobby is taken.
-#[derive(Drop)]
-struct Counting {
-    takes: AtomicU64,
-}
-
-impl Gate for Counting {
-    fn before_take(&self, worker: u64) {
-        let _ = worker;
-        self.takes.fetch_add(1, Ordering::SeqCst);
-    }
-
-    fn after_write(&self, worker: u64, bytes: &[u8]) {
-        let _ = (worker, bytes.len());
-    }
-
-    fn woken(&self, worker: u64) {
-        let _ = worker;
+fn check<R: Wait + Abort>(rt: &R, alloc: Global, cases: &[Case]) {
+    for (sends, piece, room, end, turns, state, output, events) in cases {
+        let caller = Caller {
+            sends: *sends,
+            piece: *piece,
+            room: *room,
+            end: *end,
+        };
+        let steps = [Enters(caller), Turns(0, *turns, *state), Reads(0, *output)];
+        play(rt, alloc, &steps, *events);
     }
 }
 
-pub(crate) fn new_lobby(alloc: Global) -> Result<Lobby, Fail> {
-    let motd = [TextBuf::copy_of(alloc, b"Welcome")?];
-    let settings = Settings::new(alloc, b"0.38", b"*", 8201, 0, &motd, 65_536)?;
-    match AccountBook::from_toml(alloc, b"") {
-        Ok(accounts) => Lobby::new(alloc, settings, accounts).map_err(Fail::from),
-        Err(error) => Err(Fail::from(error)),
-    }
-}
-
-// Opens a client and serves it over this link and past this gate for so many turns, or until it was
-// shut; and what its last turn came to.
-pub(crate) fn serve_client<R: Wait, L: Link, G: Gate>(
-    rt: &R,
-    alloc: Global,
-    desk: &Desk,
-    pass: Pass,
-    link: &mut L,
-    gate: &G,
-    turns: u64,
-) -> (Pass, Option<Turn>)
-    requires { pass.desk ≡ desk.now }
-    ensures desk { result.0.desk ≡ desk.now }
-    ensures number { result.0.worker.number ≡ pass.worker.number }
-{
-    let mut held = desk.take(rt, pass);
-    let client = held.open([10, 0, 0, 1], 0).unwrap_or(0);
-    let pass = held.give(rt, desk);
-    let mut conn = Conn::new(alloc, client);
-    let ended = take_turns(rt, desk, pass, &mut conn, link, gate, turns);
-    drop(conn);
-    ended
-}
-
-// Gives a connection so many turns, or until its client was shut; and what the last one came to.
-fn take_turns<R: Wait, L: Link, G: Gate>(
-    rt: &R,
-    desk: &Desk,
-    pass: Pass,
-    conn: &mut Conn,
-    link: &mut L,
-    gate: &G,
-    turns: u64,
-) -> (Pass, Option<Turn>)
-    requires { pass.desk ≡ desk.now }
-    ensures desk { result.0.desk ≡ desk.now }
-    ensures number { result.0.worker.number ≡ pass.worker.number }
-{
-    let mut pass = pass;
-    let mut last = None;
-    for _ in 0..turns {
-        if !link.fresh() {
-            return (pass, None);
-        }
-        let (next, turn) = serve(rt, conn, link, desk, pass, gate);
-        pass = next;
-        last = Some(turn);
-        if turn.state == TurnState::Closed {
-            return (pass, last);
-        }
-    }
-    (pass, last)
-}
-
-// Serves one client alone over a link and past a gate: what its last turn came to.
-fn serve_alone<R: Wait, G: Gate>(
-    rt: &R,
-    alloc: Global,
-    link: &mut MemoryLink,
-    gate: &G,
-    turns: u64,
-) -> Result<Option<Turn>, Fail> {
-    let lobby = new_lobby(alloc)?;
-    match Desk::open(rt, alloc, lobby) {
-        Ok((desk, pass)) => {
-            let (pass, turn) = serve_client(rt, alloc, &desk, pass, link, gate, turns);
-            drop(pass);
-            drop(desk);
-            Ok(turn)
-        }
-        Err(error) => Err(Fail::from(error)),
-    }
-}
-
-// Serves one client alone over a link, and compares how its last turn ended and what it read.
-fn check<R: Wait + Abort>(
-    rt: &R,
-    alloc: Global,
-    link: MemoryLink,
-    turns: u64,
-    state: TurnState,
-    output: &[u8],
-) -> Result<(), Fail> {
-    let mut link = link;
-    let served = serve_alone(rt, alloc, &mut link, &Open, turns);
-    same(rt, link.output(), output);
-    drop(link);
-    same(rt, served?.map(|turn| turn.state), Some(state));
-    Ok(())
-}
-
-#[test]
-fn a_turn_ends_as_its_lines_say(rt: HostRuntime) -> Result<(), Fail> {
-    let alloc = rt.alloc();
+const LINES: [Case; 3] = [
     // nothing came yet
-    check(
-        &rt,
-        alloc,
-        MemoryLink::new(alloc, Vec::new(alloc), 9, 100),
-        1,
-        TurnState::Idle,
-        GREETING,
-    )?;
+    (&[], 9, 100, End::Open, 1, TurnState::Idle, GREETING, 3),
     // byte by byte, more than a turn reads
-    let link = MemoryLink::new(
-        alloc,
-        Vec::from_slice(alloc, b"                    PING\n")?,
+    (
+        LATE_PING,
         1,
         100,
-    );
-    check(&rt, alloc, link, 1, TurnState::Again, GREETING)?;
-    let link = MemoryLink::new(
-        alloc,
-        Vec::from_slice(alloc, b"                    PING\n")?,
-        1,
-        100,
-    );
-    check(&rt, alloc, link, 2, TurnState::Idle, GREETING_AND_PONG)
-}
-
-#[test]
-fn a_turn_ends_as_its_link_says(rt: HostRuntime) -> Result<(), Fail> {
-    let alloc = rt.alloc();
-    let ping = |alloc| Vec::from_slice(alloc, b"PING\n");
-    // a link that takes nothing, and one that takes little
-    check(
-        &rt,
-        alloc,
-        MemoryLink::new(alloc, ping(alloc)?, 9, 0),
-        1,
-        TurnState::Idle,
-        b"",
-    )?;
-    check(
-        &rt,
-        alloc,
-        MemoryLink::new(alloc, ping(alloc)?, 9, 1),
+        End::Open,
         1,
         TurnState::Again,
-        b"TASSERVER 0.38 *",
-    )?;
+        GREETING,
+        3,
+    ),
+    (LATE_PING, 1, 100, End::Open, 2, TurnState::Idle, PONGED, 6),
+];
+
+#[test]
+fn a_turn_ends_as_its_lines_say(rt: HostRuntime) {
+    check(&rt, rt.alloc(), &LINES);
+}
+
+const SIXTEEN_BYTES: Text = &[(b"TASSERVER 0.38 *", 1)];
+
+const LINKS: [Case; 5] = [
+    // a link that takes nothing, and one that takes little
+    (PING, 9, 0, End::Open, 1, TurnState::Idle, &[], 4),
+    (PING, 9, 1, End::Open, 1, TurnState::Again, SIXTEEN_BYTES, 4),
     // the other side sends no more
-    let link = MemoryLink::new(alloc, ping(alloc)?, 9, 100).ended();
-    check(&rt, alloc, link, 1, TurnState::Closed, GREETING_AND_PONG)?;
+    (PING, 9, 100, End::Ended, 1, TurnState::Closed, PONGED, 5),
     // a device that fails at its first read, and at its first write
-    check(
-        &rt,
-        alloc,
-        MemoryLink::new(alloc, ping(alloc)?, 9, 100).failing_at(1),
+    (
+        PING,
+        9,
+        100,
+        End::FailsAt(1),
         1,
         TurnState::Closed,
         GREETING,
-    )?;
-    check(
-        &rt,
-        alloc,
-        MemoryLink::new(alloc, ping(alloc)?, 9, 100).failing_at(3),
+        4,
+    ),
+    (PING, 9, 100, End::FailsAt(3), 1, TurnState::Closed, &[], 5),
+];
+
+#[test]
+fn a_turn_ends_as_its_link_says(rt: HostRuntime) {
+    check(&rt, rt.alloc(), &LINKS);
+}
+
+/// A line that does not end within its limit, behind PING and alone.
+const LONG: [Case; 2] = [
+    (
+        &[(b"PING\n", 1), (b"A", 8_193)],
+        4_096,
+        100,
+        End::Open,
         1,
         TurnState::Closed,
-        b"",
-    )?;
-    Ok(())
-}
-
-#[test]
-fn a_line_that_is_too_long_shuts_its_client(rt: HostRuntime) -> Result<(), Fail> {
-    let alloc = rt.alloc();
-    let mut line = Vec::new(alloc);
-    line.extend_from_slice(b"PING\n")?;
-    for _ in 0..8_193u64 {
-        line.push(b'A')?;
-    }
-    check(
-        &rt,
-        alloc,
-        MemoryLink::new(alloc, line, 4_096, 100),
+        PONGED,
+        5,
+    ),
+    (
+        &[(b"A", 8_193)],
+        4_096,
+        100,
+        End::Open,
         1,
         TurnState::Closed,
-        GREETING_AND_PONG,
-    )
+        GREETING,
+        4,
+    ),
+];
+
+#[test]
+fn a_line_that_is_too_long_shuts_its_client(rt: HostRuntime) {
+    check(&rt, rt.alloc(), &LONG);
 }
 
-// How often a turn takes the lobby whose client sent so many lines at once.
-fn takes_of<R: Wait + Abort>(rt: &R, alloc: Global, lines: u64) -> Result<u64, Fail> {
-    let mut input = Vec::new(alloc);
-    for _ in 0..lines {
-        input.extend_from_slice(b"PING\n")?;
+/// What a client sends at once, how often a turn then takes the lobby, and how many events there are. The greeting alone is
+/// drained in a hold that also sees that nothing is left.
+const TAKES: [(Text, u64, u64); 4] = [
+    (&[], 1, 3),
+    (PING, 2, 4),
+    (&[(b"PING\n", 32)], 2, 35),
+    (&[(b"PING\n", 33)], 3, 36),
+];
+
+#[test]
+fn a_hold_says_up_to_32_lines(rt: HostRuntime) {
+    for (sends, takes, events) in TAKES {
+        let caller = Caller {
+            sends,
+            piece: 4_096,
+            room: 4_096,
+            end: End::Open,
+        };
+        let steps = [Enters(caller), Turns(0, 1, TurnState::Idle), Takes(takes)];
+        play(&rt, rt.alloc(), &steps, events);
     }
-    let mut link = MemoryLink::new(alloc, input, 4_096, 4_096);
-    let gate = Counting {
-        takes: AtomicU64::new(0),
-    };
-    let served = serve_alone(rt, alloc, &mut link, &gate, 1);
-    drop(link);
-    same(rt, served?.map(|turn| turn.state), Some(TurnState::Idle));
-    Ok(gate.takes.load(Ordering::SeqCst))
 }
 
-#[test]
-fn a_hold_says_up_to_32_lines(rt: HostRuntime) -> Result<(), Fail> {
-    let alloc = rt.alloc();
-    // the greeting alone, which is drained in a hold that also sees that nothing is left
-    same(&rt, takes_of(&rt, alloc, 0)?, 1);
-    same(&rt, takes_of(&rt, alloc, 1)?, 2);
-    same(&rt, takes_of(&rt, alloc, 32)?, 2);
-    same(&rt, takes_of(&rt, alloc, 33)?, 3);
-    Ok(())
-}
+const EXIT: Text = &[(b"EXIT\n", 1)];
 
-// What is drained in the turn that hears EXIT is written in it too, also where the link takes little at
-// a time, and what an earlier turn drained and did not write.
-#[test]
-fn who_exits_is_told_what_its_link_takes(rt: HostRuntime) -> Result<(), Fail> {
-    let alloc = rt.alloc();
-    let link = MemoryLink::new(alloc, Vec::from_slice(alloc, b"PING\nEXIT\n")?, 99, 2);
-    check(&rt, alloc, link, 1, TurnState::Closed, GREETING_AND_PONG)?;
+const LATE_EXIT: Text = &[(b"                EXIT\n", 1)];
+
+const PING_AND_EXIT: Text = &[(b"PING\nEXIT\n", 1)];
+
+/// What is drained in the turn that hears EXIT is written in it too, also where the link takes little at a time, and what an
+/// earlier turn drained and did not write.
+const EXITS: [Case; 3] = [
+    (
+        PING_AND_EXIT,
+        99,
+        2,
+        End::Open,
+        1,
+        TurnState::Closed,
+        PONGED,
+        5,
+    ),
     // a first turn reads 16 blanks and writes 16 bytes
-    let link = MemoryLink::new(
-        alloc,
-        Vec::from_slice(alloc, b"                EXIT\n")?,
+    (
+        LATE_EXIT,
         1,
         1,
-    );
-    check(&rt, alloc, link, 2, TurnState::Closed, GREETING)?;
+        End::Open,
+        2,
+        TurnState::Closed,
+        GREETING,
+        6,
+    ),
     // a link that takes a byte a write is given 16 of them in its last turn
-    let link = MemoryLink::new(alloc, Vec::from_slice(alloc, b"EXIT\n")?, 99, 1);
-    check(&rt, alloc, link, 1, TurnState::Closed, b"TASSERVER 0.38 *")
+    (
+        EXIT,
+        99,
+        1,
+        End::Open,
+        1,
+        TurnState::Closed,
+        SIXTEEN_BYTES,
+        4,
+    ),
+];
+
+#[test]
+fn who_exits_is_told_what_its_link_takes(rt: HostRuntime) {
+    check(&rt, rt.alloc(), &EXITS);
 }

@@ -1,0 +1,61 @@
+//! Turns of a connection over any link and past any gate.
+
+ghost use Rattle.std.specs.Prelude.{◌≡◌};
+
+use lobby_lock::{Desk, Pass};
+use lobby_turns::{Conn, Gate, Link, Turn, TurnState, serve};
+use std::alloc::Global;
+use std::sync::Wait;
+
+/// Opens a client and serves it over this link and past this gate for so many turns, or until it was
+/// shut: what its last turn came to.
+pub fn serve_client<R: Wait, L: Link, G: Gate>(
+    rt: &R,
+    alloc: Global,
+    desk: &Desk,
+    pass: Pass,
+    link: &mut L,
+    gate: &G,
+    turns: u64,
+) -> Option<TurnState>
+    requires { pass.desk ≡ desk.now }
+{
+    let mut held = desk.take(rt, pass);
+    let client = held.open([10, 0, 0, 1], 0).unwrap_or(0);
+    let pass = held.give(rt, desk);
+    let mut conn = Conn::new(alloc, client);
+    let (pass, state) = take_turns(rt, desk, pass, &mut conn, link, gate, turns);
+    drop(pass);
+    drop(conn);
+    state
+}
+
+/// Gives a connection so many turns, or until its client was shut, and says what the last one came to.
+pub fn take_turns<R: Wait, L: Link, G: Gate>(
+    rt: &R,
+    desk: &Desk,
+    pass: Pass,
+    conn: &mut Conn,
+    link: &mut L,
+    gate: &G,
+    turns: u64,
+) -> (Pass, Option<TurnState>)
+    requires { pass.desk ≡ desk.now }
+    ensures desk { result.0.desk ≡ desk.now }
+    ensures number { result.0.worker.number ≡ pass.worker.number }
+{
+    let mut pass = pass;
+    let mut last = None;
+    for _ in 0..turns {
+        if !link.fresh() {
+            return (pass, None);
+        }
+        let (next, Turn { state, wakes: _ }) = serve(rt, conn, link, desk, pass, gate);
+        pass = next;
+        last = Some(state);
+        if state == TurnState::Closed {
+            return (pass, last);
+        }
+    }
+    (pass, last)
+}
