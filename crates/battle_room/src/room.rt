@@ -9,10 +9,12 @@ ghost use Rattle.battle_room.specs.Tags as tags;
 ghost use Rattle.battle_room.specs.Places.{numbered};
 ghost use Rattle.battle_room.specs.Refusals.{first_name, is_founder, has_bot, status_refusal, founder_refusal, removal_refusal, new_bot_refusal, bot_refusal, tags_refusal};
 
+use crate::askers::{Asker, Askers};
 use crate::bots::{Bot, Bots};
 use crate::members::{Member, Members};
 use crate::rects::{ALLY_COUNT, Rect, Rects};
 use crate::tags::Tags;
+use crate::units::Units;
 use line_words::{NameBuf, Pair, PairList, WordBuf, WordList};
 use status_bits::BattleStatus;
 use std::alloc::{AllocError, Global};
@@ -27,6 +29,8 @@ pub struct Room {
     bots: Bots,
     rects: Rects,
     tags: Tags,
+    units: Units,
+    askers: Askers,
 }
 
 impl Model for Room {
@@ -34,7 +38,7 @@ impl Model for Room {
 
     ghost Value = { room.Room };
 
-    ghost view = { λ r. record { members = r.members; bots = r.bots; rects = r.rects; tags = r.tags } };
+    ghost view = { λ r. record { members = r.members; bots = r.bots; rects = r.rects; tags = r.tags; units = r.units; askers = r.askers } };
 }
 
 impl Room {
@@ -48,6 +52,8 @@ impl Room {
             bots: Bots::new(alloc),
             rects: Rects::new(),
             tags: Tags::new(alloc),
+            units: Units::new(alloc),
+            askers: Askers::new(alloc),
         })
     }
 
@@ -86,6 +92,20 @@ impl Room {
         ensures { result.now ≡ self.now.tags }
     {
         self.tags.as_slice()
+    }
+
+    /// The disabled units in order of first disabling.
+    pub fn units(&self) -> &[WordBuf]
+        ensures { result.now ≡ self.now.units }
+    {
+        self.units.as_slice()
+    }
+
+    /// Those who ask to join, in order of asking.
+    pub fn askers(&self) -> &[Asker]
+        ensures { result.now ≡ self.now.askers }
+    {
+        self.askers.as_slice()
     }
 
     /// Whether one of this name is a member.
@@ -228,5 +248,24 @@ impl Room {
         ensures { self.new ≡ room.remove_tags keys.now self.old }
     {
         self.tags.remove(keys);
+    }
+
+    /// No unit is disabled any more.
+    pub fn clear_units(&mut self)
+        ensures { self.new ≡ room.enable_all self.old }
+    {
+        self.units.clear();
+    }
+
+    /// One who is neither a member nor asks asks to join. Where memory is refused, nothing changes.
+    pub fn add_asker(
+        &mut self,
+        name: NameBuf,
+        script_password: Option<WordBuf>,
+    ) -> Result<(), AllocError>
+        ensures ok { OnOk result (self.new ≡ room.with_asker name script_password self.old) }
+        ensures err { OnErr result (self.new ≡ self.old) }
+    {
+        self.askers.add(name, script_password)
     }
 }
