@@ -6,10 +6,12 @@
 mod accounts;
 mod crowd;
 mod deeds;
+mod halls;
 mod hog;
 mod links;
 mod lobbies;
 mod notes;
+mod scripts;
 mod sessions;
 
 use hog::Hog;
@@ -37,7 +39,9 @@ fn try_all<R: Wait + Print + AllocGlobal>(
 ) -> io::Result<()> {
     lobbies::try_out(rt, hog, notes)?;
     crowd::try_out(rt, hog, notes)?;
+    halls::try_out(rt, hog, notes)?;
     sessions::try_out(rt, hog, notes)?;
+    scripts::try_out(rt, hog, notes)?;
     hog.release();
     links::try_out(rt, hog, notes)
 }
