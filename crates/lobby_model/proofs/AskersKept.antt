@@ -1,6 +1,6 @@
 -- What happens to battles and users keeps those who ask to join battles sound.
 use Rattle.std.proofs.Common.{◌≡◌, ℕ, List, [], ◌∷◌, ◌++◌, refl, sym, ap, subst, ◌∙◌, Bool, true, false, not, inl, inr}
-use Rattle.std.specs.Prelude.{◌⊎◌, ◌||◌, Option, Some, None, IsSome, map, filter, find, if◌then◌else◌}
+use Rattle.std.specs.Prelude.{◌⊎◌, ◌||◌, Option, Some, IsSome, map, filter, find, if◌then◌else◌}
 use Rattle.std.specs.List.{IsDistinct}
 use Rattle.std.specs.Ordering.{nat_cmp}
 use Rattle.std.specs.Cmp.{nat_cmp_total}
@@ -34,6 +34,10 @@ pub record IsFree (users : ByName User) (battles : ByNumber Battle) (name : List
   pub asks_nowhere : AsksNowhere battles name
   pub known : IsSome (at_name users name)
 
+or_true : (b : Bool) → (b || true) ≡ true
+or_true true = refl
+or_true false = refl
+
 -- one who is found asks
 pub found_asks : (name : List ℕ) (battle : Battle) (asker : Asker) → asker_of name battle.room ≡ Some asker → has_asker asker.name battle.room ≡ true
 found_asks name battle asker is = among battle.room.askers is
@@ -47,9 +51,6 @@ found_asks name battle asker is = among battle.room.askers is
               ∙ ap (λ b. b || is_among a.name (map (λ a. a.name) askers)) (same_name_itself a.name)
           | false ↦ λ s. ap (λ b. same_name asker.name a.name || b) (among askers s) ∙ or_true (same_name asker.name a.name)
         ] e
-    or_true : (b : Bool) → (b || true) ≡ true
-    or_true true = refl
-    or_true false = refl
 
 -- the names of those who ask
 pub asks_with : (name : List ℕ) (script_password : Option (List ℕ)) (room : Room)

@@ -9,9 +9,9 @@ use Rattle.std.specs.FinMap.Entries.{is_sorted-put}
 use Rattle.line_words.specs.declared.lists.Pair.{Pair}
 use Rattle.line_words.specs.Table.{ByName, ByNumber, at_name, at_number, put_number, without_number, change_number, same_name, same_number, is_among, all_but}
 use Rattle.battle_room.specs.Units.{with_units}
-use Rattle.battle_room.specs.Room.{Room, Member, Bot, Rect, member_names, has_member, has_asker, asker_names, with_asker, without_asker, Asker, asker_of, bot_of, new_room, with_member, without_member, with_status, with_bot, with_bot_status, without_bot, with_rect, without_rect, set_tags, remove_tags, has_too_many_units, disable_units, enable_units, enable_all}
+use Rattle.battle_room.specs.Room.{Room, Member, Bot, Rect, member_names, has_member, has_asker, asker_names, with_asker, without_asker, Asker, bot_of, new_room, with_member, without_member, with_status, with_bot, with_bot_status, without_bot, with_rect, without_rect, set_tags, remove_tags, has_too_many_units, disable_units, enable_units, enable_all}
 use Rattle.lobby_model.specs.State.{State, User, Info, Battle, battle_of, asked_by}
-use Rattle.lobby_model.specs.Battles.{change_room, change_info, opens, joins_battle, asks_to_join, let_into, turned_away, asks_no_more, drops_own, closes, member_leaves, leaves_battle, is_founder}
+use Rattle.lobby_model.specs.Battles.{change_room, change_info, opens, joins_battle, asks_to_join, let_into, closes, member_leaves, leaves_battle, is_founder}
 use Rattle.lobby_model.specs.Sound.{SoundRoom, SoundBattle, SoundBattles, SoundAskers, Sound}
 use Rattle.line_words.proofs.Tables.{is_sorted-without, is_sorted-change}
 use Rattle.lobby_model.proofs.Delivered.{same_itself}
@@ -170,6 +170,7 @@ module _ (s : State) (sound : Sound s) where
       where
         asked : (name : List ℕ) → has_asker name (f battle).room ≡ true → has_asker name battle.room ≡ true
         asked name a = ap (λ askers. is_among name (map (λ (a : Asker). a.name) askers)) (sym asking) ∙ a
+
         silent : (name : List ℕ) → has_asker name battle.room ≡ false → has_asker name (f battle).room ≡ false
         silent name a = ap (λ askers. is_among name (map (λ (a : Asker). a.name) askers)) asking ∙ a
 
@@ -311,13 +312,16 @@ module _ (s : State) (sound : Sound s) where
       where
         me : List ℕ
         me = asker.name
+
         entering : Battle → Battle
         entering b = record b { room = with_member me (without_asker me b.room) }
+
         outside : IsNowhere s.battles me
         outside q x at_q = elim (has_member me x.room) as (λ t. has_member me x.room ≡ t → t ≡ false) [
           | true ↦ λ in_it. absurd (sound.askers.outside me id q battle x there at_q asks in_it)
           | false ↦ λ out. refl
         ] refl
+
         good : SoundBattle s.users (record battle { room = with_member me battle.room })
         good = entered me outside (sound.askers.are_users id battle me there asks)
 

@@ -1,5 +1,5 @@
 -- Each command keeps the lobby sound.
-use Rattle.std.proofs.Common.{◌≡◌, ℕ, List, [], ◌∷◌, refl, true}
+use Rattle.std.proofs.Common.{◌≡◌, ℕ, List, [], ◌∷◌, refl, true, false}
 use Rattle.std.specs.Prelude.{Option, Some, None, IsSome, ◌==◌, is_some}
 use Rattle.account_book.specs.Book.{login}
 use Rattle.reply_grammar.specs.declared.Reply.{Reply}
@@ -13,7 +13,7 @@ use Rattle.line_words.specs.Table.{at_name, at_number, same_name, is_among}
 use Rattle.channel_book.specs.Channels.{names_in}
 use Rattle.battle_room.specs.Tags.{with_tags}
 use Rattle.battle_room.specs.Units.{with_units}
-use Rattle.battle_room.specs.Room.{Bot, Asker, has_member, has_asker, asker_of, bot_of, status_of, is_full_of_bots, has_too_many_tags, has_too_many_units}
+use Rattle.battle_room.specs.Room.{Bot, Asker, has_member, has_asker, bot_of, status_of, is_full_of_bots, has_too_many_tags, has_too_many_units}
 use Rattle.lobby_model.specs.State.{State, Client, Battle, battle_of, asked_by, name_of, updated}
 use Rattle.lobby_model.specs.Texts.{already_in_channel, already_in_battle, already_asking, no_number_left, battle_is_locked, wrong_password, no_such_user, no_such_member, cannot_kick_yourself, bot_name_taken, too_many_bots, too_many_tags, too_many_units}
 use Rattle.lobby_model.specs.Outcome.{Happening, Outcome, Refused, Done, tell, users, only_told, message, state_after}
