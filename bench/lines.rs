@@ -1,6 +1,6 @@
 //! Reads and prints the mix of lines of bench/programs/bench_grammar, written by hand over Rust's std alone: its baseline.
 //!
-//! It knows all 31 command words, and reads the arguments of the commands of the mix by the same rules: bytes without CR and
+//! It knows all 36 command words, and reads the arguments of the commands of the mix by the same rules: bytes without CR and
 //! LF, words behind runs of spaces, names of 1 to 20 letters, numbers within bounds, and each argument that is kept owned.
 #![allow(dead_code)] // The fields that only other programs would read are parsed all the same.
 
@@ -180,6 +180,11 @@ fn read_command(text: &[u8]) -> Result<Command, Fault> {
         b"FORCESPECTATORMODE" => Command::Other(23),
         b"KICKFROMBATTLE" => Command::Other(24),
         b"RING" => Command::Other(25),
+        b"JOINBATTLEACCEPT" => Command::Other(26),
+        b"JOINBATTLEDENY" => Command::Other(27),
+        b"DISABLEUNITS" => Command::Other(28),
+        b"ENABLEUNITS" => Command::Other(29),
+        b"ENABLEALLUNITS" => Command::Other(30),
         _ => return Err(Fault::UnknownCommand),
     })
 }

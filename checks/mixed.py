@@ -21,6 +21,12 @@ from lobby_server import Account, Difference, Server, program, run
 NAMES = [f"User{number:02}" for number in range(100)]
 WORDS = ["Robo", "Rex", "Kai", "Max"]
 KEYS = ["game/mode", "game/units", "map/start", "x", "y"]
+UNITS = ["armcom", "corcom", "armflash", "armpw", "corak"]
+
+
+def login(account):
+    """Who joins a battle of every other user asks it first."""
+    return account.login().replace("\n", "\t0\tsp b\n" if account.number % 2 else "\n")
 
 
 class Speaker:
@@ -99,6 +105,16 @@ class Speaker:
             return f"REMOVESCRIPTTAGS {self.choice.choice(KEYS)} {self.choice.choice(KEYS)}"
         return "SETSCRIPTTAGS " + "\t".join(f"{self.choice.choice(KEYS)}={self.u32()}" for _ in range(self.choice.randrange(1, 4)))
 
+    def say_answer(self):
+        verb = self.choice.choice(("JOINBATTLEACCEPT", "JOINBATTLEACCEPT", "JOINBATTLEDENY"))
+        return f"{verb} {self.name()}"
+
+    def say_units(self):
+        if self.choice.random() < 0.1:
+            return "ENABLEALLUNITS"
+        verb = self.choice.choice(("DISABLEUNITS", "ENABLEUNITS"))
+        return " ".join([verb, *(self.choice.choice(UNITS) for _ in range(self.choice.randrange(1, 4)))])
+
     def say_force(self):
         verb = self.choice.choice(("HANDICAP", "FORCETEAMNO", "FORCEALLYNO", "FORCETEAMCOLOR"))
         return f"{verb} {self.name()} {self.choice.randrange(16)}"
@@ -121,7 +137,7 @@ class Mixed:
         peer.account = account
         self.crowd.connect(peer)
         # A connection that is not made yet takes no line.
-        peer.unsent = account.login().encode()
+        peer.unsent = login(account).encode()
         self.crowd.want_to_send(peer)
         return peer
 
@@ -149,7 +165,7 @@ class Mixed:
                 if len(peer.unsent) > 10_000:
                     continue
                 if b"\nLOGININFOEND\n" not in peer.heard and b"\nDENIED " in peer.heard[-2_000:]:
-                    self.crowd.send(peer, peer.account.login())
+                    self.crowd.send(peer, login(peer.account))
                 count = self.choice.randrange(40)
                 self.crowd.send(peer, "".join(self.speaker.line() for _ in range(count)))
                 self.lines += count
@@ -165,7 +181,7 @@ class Mixed:
             if not out:
                 return
             for peer in out:
-                self.crowd.send(peer, peer.account.login())
+                self.crowd.send(peer, login(peer.account))
         raise Difference(f"{len(out)} cannot log in, one as {bytes(out[0].heard[-300:])}")
 
 

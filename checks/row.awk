@@ -2,14 +2,24 @@
 # the line that stands in the place of `@`.
 # rows/README.md says what the lines of a row are.
 
-# {N TEXT} written out, and bytes that would not be seen.
-function written(text,    inner, at, times, out) {
-    while (match(text, /\{[0-9]+ [^}]*\}/)) {
-        inner = substr(text, RSTART + 1, RLENGTH - 2)
+# {N TEXT} and {A..B TEXT} written out, and bytes that would not be seen.
+function written(text,    start, width, inner, at, bounds, number, each, out) {
+    while (match(text, /\{[0-9]+(\.\.[0-9]+)? [^}]*\}/)) {
+        start = RSTART
+        width = RLENGTH
+        inner = substr(text, start + 1, width - 2)
         at = index(inner, " ")
         out = ""
-        for (times = substr(inner, 1, at - 1); times > 0; times--) out = out substr(inner, at + 1)
-        text = substr(text, 1, RSTART - 1) out substr(text, RSTART + RLENGTH)
+        if (split(substr(inner, 1, at - 1), bounds, /\.\./) == 1) {
+            for (number = bounds[1]; number > 0; number--) out = out substr(inner, at + 1)
+        } else {
+            for (number = bounds[1] + 0; number <= bounds[2] + 0; number++) {
+                each = substr(inner, at + 1)
+                gsub(/%/, number, each)
+                out = out each
+            }
+        }
+        text = substr(text, 1, start - 1) out substr(text, start + width)
     }
     gsub(/<space>/, " ", text)
     gsub(/<tab>/, "\t", text)

@@ -4,7 +4,8 @@ ghost use Rattle.std.specs.Prelude.{◌≡◌, ◌<◌, OnOk, OnErr, IfOk, IfSom
 ghost use Rattle.std.specs.Result.{result_err};
 ghost use Rattle.battle_room.specs.Room as room;
 ghost use Rattle.battle_room.specs.Tags as tags;
-ghost use Rattle.battle_room.specs.Refusals.{status_refusal, founder_refusal, removal_refusal, new_bot_refusal, bot_refusal, tags_refusal};
+ghost use Rattle.battle_room.specs.Units as units;
+ghost use Rattle.battle_room.specs.Refusals.{status_refusal, founder_refusal, removal_refusal, new_bot_refusal, bot_refusal, tags_refusal, request_refusal, units_refusal};
 
 use crate::bots::Bot;
 use crate::error::RoomError;
@@ -97,6 +98,21 @@ impl Room {
             Ok(())
         } else {
             Err(RoomError::TooManyTags)
+        }
+    }
+
+    /// Refuses units of one who is not the founder, and those that would be too many.
+    fn check_units(&self, by: &NameBuf, words: &WordList) -> Result<(), RoomError>
+        ensures { result_err result ≡ units_refusal by.now words.now self.now }
+    {
+        if !self.has_member(by) {
+            Err(RoomError::NotMember)
+        } else if !self.is_founder(by) {
+            Err(RoomError::NotAllowed)
+        } else if self.has_room_for_units(words.as_slice()) {
+            Ok(())
+        } else {
+            Err(RoomError::TooManyUnits)
         }
     }
 
@@ -239,5 +255,66 @@ impl Room {
         let there = self.keys_there(self.alloc, keys)?;
         self.drop_tags(keys);
         Ok(there)
+    }
+
+    /// The founder disables units: one that is disabled keeps its place. Gives those that were not, each
+    /// once, in the order of the list.
+    ///
+    /// `NotMember` where who asks is none, `NotAllowed` where it is not the founder, `TooManyUnits`
+    /// where there would be more than 1,024, and then `Memory`.
+    pub fn disable_units(&mut self, by: &NameBuf, words: WordList) -> Result<WordList, RoomError>
+        ensures refused { IfSome (units_refusal by.now words self.old) (λ e. result ≡ Err e) }
+        ensures allowed { IfNone (units_refusal by.now words self.old) (IfErr result (λ e. e ≡ RoomError.Memory)) }
+        ensures new { IfOk result (λ new. new ≡ units.words_new self.old.units words) }
+        ensures ok { OnOk result (self.new ≡ room.disable_units words self.old) }
+        ensures err { OnErr result (self.new ≡ self.old) }
+    {
+        self.check_units(by, &words)?;
+        let new = self.units_new(self.alloc, words.as_slice())?;
+        self.put_units(words)?;
+        Ok(new)
+    }
+
+    /// The founder enables units again. Gives those that were disabled, each once, in the order of the
+    /// list.
+    ///
+    /// `NotMember` where who asks is none, `NotAllowed` where it is not the founder, and then
+    /// `Memory`.
+    pub fn enable_units(&mut self, by: &NameBuf, words: &[WordBuf]) -> Result<WordList, RoomError>
+        ensures refused { IfSome (founder_refusal by.now self.old) (λ e. result ≡ Err e) }
+        ensures allowed { IfNone (founder_refusal by.now self.old) (IfErr result (λ e. e ≡ RoomError.Memory)) }
+        ensures there { IfOk result (λ there. there ≡ units.words_there self.old.units words.now) }
+        ensures ok { OnOk result (self.new ≡ room.enable_units words.now self.old) }
+        ensures err { OnErr result (self.new ≡ self.old) }
+    {
+        self.check_founder(by)?;
+        let there = self.units_there(self.alloc, words)?;
+        self.drop_units(words);
+        Ok(there)
+    }
+
+    /// The founder enables all units. It takes no memory, and is refused as `set_rect` is.
+    pub fn enable_all(&mut self, by: &NameBuf) -> Result<(), RoomError>
+        ensures refused { result_err result ≡ founder_refusal by.now self.old }
+        ensures ok { OnOk result (self.new ≡ room.enable_all self.old) }
+        ensures err { OnErr result (self.new ≡ self.old) }
+    {
+        self.check_founder(by)?;
+        self.clear_units();
+        Ok(())
+    }
+
+    /// One who asks to join asks no more. Gives the script password with which it asked, if it gave
+    /// one. It takes no memory. `NoRequest` where nobody of the name asks.
+    pub fn take_ask(&mut self, name: &NameBuf) -> Result<Option<WordBuf>, RoomError>
+        ensures refused { result_err result ≡ request_refusal name.now self.old }
+        ensures given { IfSome (room.asker_of name.now self.old) (λ asker. IfOk result (λ password. password ≡ asker.script_password)) }
+        ensures ok { OnOk result (self.new ≡ room.without_asker name.now self.old) }
+        ensures err { OnErr result (self.new ≡ self.old) }
+    {
+        match self.remove_asker(name) {
+            Some(asker) => Ok(asker.into_script_password()),
+            None => Err(RoomError::NoRequest),
+        }
     }
 }

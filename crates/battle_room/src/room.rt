@@ -6,20 +6,23 @@ ghost use Rattle.std.specs.List.{IsDistinct};
 ghost use Rattle.line_words.specs.Table.{same_name, at_number};
 ghost use Rattle.battle_room.specs.Room as room;
 ghost use Rattle.battle_room.specs.Tags as tags;
+ghost use Rattle.battle_room.specs.Units as units;
 ghost use Rattle.battle_room.specs.Places.{numbered};
 ghost use Rattle.battle_room.specs.Refusals.{first_name, is_founder, has_bot, status_refusal, founder_refusal, removal_refusal, new_bot_refusal, bot_refusal, tags_refusal};
 
+use crate::askers::{Asker, Askers};
 use crate::bots::{Bot, Bots};
 use crate::members::{Member, Members};
 use crate::rects::{ALLY_COUNT, Rect, Rects};
 use crate::tags::Tags;
+use crate::units::Units;
 use line_words::{NameBuf, Pair, PairList, WordBuf, WordList};
 use status_bits::BattleStatus;
 use std::alloc::{AllocError, Global};
 use std::marker::Model;
 
 /// What the members of a battle share: who they are in order of joining, the founder first, bots,
-/// start rectangles and script tags.
+/// start rectangles, script tags and disabled units; and who asks to join, in order of asking.
 #[derive(Drop)]
 pub struct Room {
     pub(crate) alloc: Global,
@@ -27,6 +30,8 @@ pub struct Room {
     bots: Bots,
     rects: Rects,
     tags: Tags,
+    units: Units,
+    askers: Askers,
 }
 
 impl Model for Room {
@@ -34,7 +39,7 @@ impl Model for Room {
 
     ghost Value = { room.Room };
 
-    ghost view = { λ r. record { members = r.members; bots = r.bots; rects = r.rects; tags = r.tags } };
+    ghost view = { λ r. record { members = r.members; bots = r.bots; rects = r.rects; tags = r.tags; units = r.units; askers = r.askers } };
 }
 
 impl Room {
@@ -48,6 +53,8 @@ impl Room {
             bots: Bots::new(alloc),
             rects: Rects::new(),
             tags: Tags::new(alloc),
+            units: Units::new(alloc),
+            askers: Askers::new(alloc),
         })
     }
 
@@ -86,6 +93,35 @@ impl Room {
         ensures { result.now ≡ self.now.tags }
     {
         self.tags.as_slice()
+    }
+
+    /// The disabled units in order of first disabling.
+    pub fn units(&self) -> &[WordBuf]
+        ensures { result.now ≡ self.now.units }
+    {
+        self.units.as_slice()
+    }
+
+    /// Those who ask to join, in order of asking, none of them twice.
+    pub fn askers(&self) -> &[Asker]
+        ensures askers { result.now ≡ self.now.askers }
+        ensures distinct { IsDistinct same_name (room.asker_names self.now) }
+    {
+        self.askers.as_slice()
+    }
+
+    /// Whether one of this name asks to join.
+    pub fn has_asker(&self, name: &NameBuf) -> bool
+        ensures { result ≡ room.has_asker name.now self.now }
+    {
+        self.askers.has(name)
+    }
+
+    /// The one of a name who asks to join.
+    pub fn asker(&self, name: &NameBuf) -> Option<&Asker>
+        ensures { option_copied result ≡ room.asker_of name.now self.now }
+    {
+        self.askers.asker(name)
     }
 
     /// Whether one of this name is a member.
@@ -149,6 +185,27 @@ impl Room {
         ensures { IfOk result (λ there. there ≡ tags.keys_there self.now.tags keys.now) }
     {
         self.tags.keys_there(alloc, keys)
+    }
+
+    /// Whether there would be no more disabled units than there may be, if these were disabled.
+    pub fn has_room_for_units(&self, words: &[WordBuf]) -> bool
+        ensures { result ≡ not (room.has_too_many_units (units.with_units self.now.units words.now)) }
+    {
+        self.units.has_room_for(words)
+    }
+
+    /// Those of the words that are no disabled units, each once, in the order of the list of words.
+    pub fn units_new(&self, alloc: Global, words: &[WordBuf]) -> Result<WordList, AllocError>
+        ensures { IfOk result (λ new. new ≡ units.words_new self.now.units words.now) }
+    {
+        self.units.words_new(alloc, words)
+    }
+
+    /// Those of the words that are disabled units, each once, in the order of the list of words.
+    pub fn units_there(&self, alloc: Global, words: &[WordBuf]) -> Result<WordList, AllocError>
+        ensures { IfOk result (λ there. there ≡ units.words_there self.now.units words.now) }
+    {
+        self.units.words_there(alloc, words)
     }
 
     /// One who is no member joins under a mark, behind the others. Where memory is refused, nothing
@@ -228,5 +285,65 @@ impl Room {
         ensures { self.new ≡ room.remove_tags keys.now self.old }
     {
         self.tags.remove(keys);
+    }
+
+    /// Units are disabled: one that is keeps its place. Where memory is refused, nothing changes.
+    pub fn put_units(&mut self, words: WordList) -> Result<(), AllocError>
+        ensures ok { OnOk result (self.new ≡ room.disable_units words self.old) }
+        ensures err { OnErr result (self.new ≡ self.old) }
+    {
+        self.units.put(self.alloc, words)
+    }
+
+    /// Units are enabled again. Words that are no disabled units change nothing.
+    pub fn drop_units(&mut self, words: &[WordBuf])
+        ensures { self.new ≡ room.enable_units words.now self.old }
+    {
+        self.units.remove(words);
+    }
+
+    /// No unit is disabled any more.
+    pub fn clear_units(&mut self)
+        ensures { self.new ≡ room.enable_all self.old }
+    {
+        self.units.clear();
+    }
+
+    /// One who is neither a member nor asks asks to join, behind the others. Where memory is refused,
+    /// nothing changes.
+    pub fn ask(&mut self, name: NameBuf, script_password: Option<WordBuf>) -> Result<(), AllocError>
+        requires member { room.has_member name self.old ≡ false }
+        requires asker { room.has_asker name self.old ≡ false }
+        ensures ok { OnOk result (self.new ≡ room.with_asker name script_password self.old) }
+        ensures err { OnErr result (self.new ≡ self.old) }
+    {
+        self.askers.add(name, script_password)
+    }
+
+    /// One who may ask to join asks no more.
+    pub fn drop_asker(&mut self, name: &NameBuf)
+        ensures { self.new ≡ room.without_asker name.now self.old }
+    {
+        drop(self.remove_asker(name));
+    }
+
+    /// One who may ask to join asks no more, and is given where it does.
+    pub(crate) fn remove_asker(&mut self, name: &NameBuf) -> Option<Asker>
+        ensures given { result ≡ room.asker_of name.now self.old }
+        ensures rest { self.new ≡ room.without_asker name.now self.old }
+    {
+        self.askers.remove(name)
+    }
+
+    /// One who is no member, and may ask to join, asks no more and joins under a mark, behind the others.
+    /// Where memory is refused, nothing changes.
+    pub fn let_in(&mut self, name: &NameBuf, mark: usize) -> Result<(), AllocError>
+        requires { room.has_member name.now self.old ≡ false }
+        ensures ok { OnOk result (self.new ≡ room.with_member name.now (room.without_asker name.now self.old)) }
+        ensures err { OnErr result (self.new ≡ self.old) }
+    {
+        self.members.add(name.copy(), mark)?;
+        self.drop_asker(name);
+        Ok(())
     }
 }

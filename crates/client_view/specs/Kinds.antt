@@ -18,10 +18,13 @@ is_of_channels (reply.Joined channel user) = true
 is_of_channels (reply.Left channel user) = true
 is_of_channels r = false
 
--- the lines of start rectangles and script tags
+-- the lines of start rectangles, script tags and disabled units
 abbrev pub is_of_game : Reply → Bool
 is_of_game (reply.AddStartRect ally left top right bottom) = true
 is_of_game (reply.RemoveStartRect ally) = true
 is_of_game (reply.SetScriptTags pairs) = true
 is_of_game (reply.RemoveScriptTags keys) = true
+is_of_game (reply.DisableUnits units) = true
+is_of_game (reply.EnableUnits units) = true
+is_of_game reply.EnableAllUnits = true
 is_of_game r = false

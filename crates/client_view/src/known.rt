@@ -120,7 +120,11 @@ impl Known {
             | Reply::RemoveStartRect { .. }
             | Reply::SetScriptTags { .. }
             | Reply::RemoveScriptTags { .. }
-            | Reply::Ring { .. } => self.fold_room(reply),
+            | Reply::Ring { .. }
+            | Reply::JoinBattleRequest { .. }
+            | Reply::DisableUnits { .. }
+            | Reply::EnableUnits { .. }
+            | Reply::EnableAllUnits => self.fold_room(reply),
         }
     }
 }

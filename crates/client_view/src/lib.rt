@@ -25,6 +25,9 @@
 //! does not know. Where memory is refused to a line, `feed` stops at the end of the line before and
 //! says how many bytes it took in: the rest of the piece may be fed again. A view takes no byte from
 //! the network and sends none.
+//!
+//! A view keeps nothing of who asks to join a battle. The crate's README says how a bot that hosts
+//! battles is asked and answers, and what its view shows of disabled units.
 #![tactic(auto)]
 
 mod battles;

@@ -10,7 +10,7 @@ use crate::battles::Battle;
 use crate::bots::{Bot, Bots};
 use crate::members::{Member, Members};
 use crate::tags::Tags;
-use battle_room::Rect;
+use battle_room::{Rect, Units};
 use line_words::{NameBuf, Pair, PairList, WordBuf, WordList};
 use std::alloc::{AllocError, Global};
 use std::collections::BTreeMap;
@@ -24,14 +24,16 @@ pub struct OwnRoom {
     bots: Bots,
     rects: BTreeMap<u8, Rect>,
     tags: Tags,
+    units: Units,
 }
 
 impl Model for OwnRoom {
+    ghost use Rattle.std.specs.Prelude.{[]};
     ghost use Rattle.lobby_view.specs.View.{OwnRoom};
 
     ghost Value = { OwnRoom };
 
-    ghost view = { λ o. record { battle = o.battle; room = record { members = o.members; bots = o.bots; rects = o.rects.entries; tags = o.tags } } };
+    ghost view = { λ o. record { battle = o.battle; room = record { members = o.members; bots = o.bots; rects = o.rects.entries; tags = o.tags; units = o.units; askers = [] } } };
 }
 
 impl OwnRoom {
@@ -54,6 +56,7 @@ impl OwnRoom {
             bots: Bots::new(alloc),
             rects: BTreeMap::new(alloc),
             tags: Tags::new(alloc),
+            units: Units::new(alloc),
         })
     }
 
@@ -104,6 +107,13 @@ impl OwnRoom {
         ensures { result.now ≡ self.now.room.tags }
     {
         self.tags.as_slice()
+    }
+
+    /// The disabled units in order of first disabling.
+    pub fn units(&self) -> &[WordBuf]
+        ensures { result.now ≡ self.now.room.units }
+    {
+        self.units.as_slice()
     }
 
     /// One joins. Where memory is refused, nothing changes.
@@ -188,5 +198,27 @@ impl OwnRoom {
         ensures { self.new ≡ changed_room (room.remove_tags keys.now) self.old }
     {
         self.tags.remove(keys.as_slice());
+    }
+
+    /// Units are disabled. Where memory is refused, nothing changes.
+    pub(crate) fn put_units(&mut self, alloc: Global, units: WordList) -> Result<(), AllocError>
+        ensures ok { OnOk result (self.new ≡ changed_room (room.disable_units units) self.old) }
+        ensures err { OnErr result (self.new ≡ self.old) }
+    {
+        self.units.put(alloc, units)
+    }
+
+    /// Units are enabled again.
+    pub(crate) fn remove_units(&mut self, units: &WordList)
+        ensures { self.new ≡ changed_room (room.enable_units units.now) self.old }
+    {
+        self.units.remove(units.as_slice());
+    }
+
+    /// All units are enabled again.
+    pub(crate) fn clear_units(&mut self)
+        ensures { self.new ≡ changed_room room.enable_all self.old }
+    {
+        self.units.clear();
     }
 }

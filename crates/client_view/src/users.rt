@@ -5,7 +5,7 @@ ghost use Rattle.std.specs.List.Sorted.{IsStrictlySortedBy};
 ghost use Rattle.std.specs.Map.{keys_of};
 ghost use Rattle.std.specs.Map.Iter.{ShowsInOrder, deref_pair};
 ghost use Rattle.line_words.specs.Table.{at_name, put_name, without_name, change_name, name_cmp};
-ghost use Rattle.lobby_model.specs.State.{User, user_with};
+ghost use Rattle.lobby_view.specs.View.{Known, known_with};
 
 use line_words::{NameBuf, WordBuf};
 use std::alloc::{AllocError, Global};
@@ -27,9 +27,9 @@ pub struct User {
 }
 
 impl Model for User {
-    ghost use Rattle.lobby_model.specs.State.{User};
+    ghost use Rattle.lobby_view.specs.View.{Known};
 
-    ghost Value = { User };
+    ghost Value = { Known };
 
     ghost view = { λ u. record { country = u.country; cpu = u.cpu; account = u.account; status = u.status } };
 }
@@ -37,7 +37,7 @@ impl Model for User {
 impl User {
     /// A status in place of the one that it has.
     fn set_status(&mut self, status: u32)
-        ensures { self.new ≡ user_with status self.old }
+        ensures { self.new ≡ known_with status self.old }
     {
         self.status = status;
     }
@@ -51,9 +51,9 @@ pub struct Users {
 
 impl Model for Users {
     ghost use Rattle.line_words.specs.Table.{ByName};
-    ghost use Rattle.lobby_model.specs.State.{User};
+    ghost use Rattle.lobby_view.specs.View.{Known};
 
-    ghost Value = { ByName User };
+    ghost Value = { ByName Known };
 
     ghost view = { λ u. u.by_name.entries };
 }
@@ -85,7 +85,7 @@ impl Users {
     /// The users and their names, in the order of the bytes of the names.
     pub fn iter(&self) -> Iter<'_, NameBuf, User>
         ensures rest { result ≡ self.now }
-        ensures runs { ShowsInOrder (deref_pair {K = List ℕ} {X = User}) }
+        ensures runs { ShowsInOrder (deref_pair {K = List ℕ} {X = Known}) }
         ensures ordered { IsStrictlySortedBy name_cmp (keys_of self.now) }
         ensures fits { length self.now < 2 ^ 63 }
     {
@@ -103,7 +103,7 @@ impl Users {
 
     /// A status for a user. Where there is none of the name, nothing changes.
     pub(crate) fn set_status(&mut self, name: &NameBuf, status: u32)
-        ensures { self.new ≡ change_name self.old name.now (user_with status) }
+        ensures { self.new ≡ change_name self.old name.now (known_with status) }
     {
         if let Some(user) = self.by_name.get_mut(name) {
             user.set_status(status);

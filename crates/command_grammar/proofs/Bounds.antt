@@ -1,6 +1,6 @@
 -- The arguments of each command keep their kinds and fit into its line, and the id its limit.
 use Rattle.std.proofs.Common.{◌≡◌, ℕ, ◌≤◌, List, [], ◌∷◌, ◌++◌, length, length-append, refl, sym, ap, subst, ◌∙◌, Bool, true, inl, inr, arith}
-use Rattle.std.specs.Prelude.{◌&&◌, ◌⊎◌, IsTrue, IfSome, Option, Some, None}
+use Rattle.std.specs.Prelude.{◌&&◌, IsTrue, IfSome, Option, Some, None}
 use Rattle.std.proofs.lemmas.Bool.{and_from}
 use Rattle.line_words.specs.Bytes.{is_text}
 use Rattle.command_grammar.specs.declared.command.Command.{Command}
@@ -13,7 +13,7 @@ use Rattle.command_grammar.specs.Kinds.{fits, all_fit, keeps_kinds}
 use Rattle.command_grammar.specs.Sizes.{sizes_of, argument_bytes}
 use Rattle.command_grammar.specs.Table.{Kind, Values, Arguments, entry_of, given, arguments_of}
 use Rattle.command_grammar.proofs.Slices.{text_back}
-use Rattle.command_grammar.proofs.Taken.{IsUnread, if_so, applied, EachFits, RowTaken, row_taken}
+use Rattle.command_grammar.proofs.Taken.{IsUnread, if_so, applied, EachFits, row_taken}
 
 -- the arguments of a command that the table makes
 again : (w : CommandWord) (xs : Values (entry_of w).kinds) → arguments_of (applied (entry_of w).kinds (entry_of w).maker xs) ≡ given w xs

@@ -1,17 +1,19 @@
 -- What the readers of lists look at.
 use Rattle.std.proofs.Common.{◌≡◌, ℕ, List, [], ◌∷◌, ◌++◌, length, append_assoc, append-nil, refl, sym, ap, subst, ◌∙◌, Bool, true, false, cond, arith}
-use Rattle.std.specs.Prelude.{◌==◌, ◌&&◌, ◌||◌, IsTrue, Result, Ok, Err, is_ok}
+use Rattle.std.specs.Prelude.{◌==◌, ◌&&◌, ◌||◌, IsTrue, Result, Ok, Err, is_ok, codes}
 use Rattle.std.specs.List.{list_all}
 use Rattle.std.proofs.lemmas.Bool.{and_parts, and_from, ne_eqb}
 use Rattle.line_words.specs.Bytes.{is_spaces, has_byte, is_text, is_word, is_sentence}
 use Rattle.line_words.specs.Parts.{between, with_front}
 use Rattle.line_words.specs.Words.{FirstWord}
 use Rattle.line_words.specs.Sentences.{between_tabs}
+use Rattle.line_words.specs.Table.{is_among, same_name}
+use Rattle.command_grammar.specs.Arguments.{has_flag}
 use Rattle.line_words.specs.declared.lists.Pair.{Pair}
 use Rattle.command_grammar.specs.declared.command.ReadFault.{ReadFault}
 use Rattle.command_grammar.specs.declared.command.ReadFault.TheVariants as fault
 use Rattle.command_grammar.specs.declared.command.Command.TheVariants as command
-use Rattle.command_grammar.specs.Reading.{◌>>=◌, pair_in, needs_memory, is_pair_or_empty, pairs_in, pairs_of, behind_pairs, at_least_one, words_in, words_at}
+use Rattle.command_grammar.specs.Reading.{◌>>=◌, pair_in, needs_memory, is_pair_or_empty, pairs_in, pairs_of, behind_pairs, at_least_one, without_empty, words_in, words_at}
 use Rattle.command_grammar.proofs.Slices.{text_back, word_kind}
 use Rattle.command_grammar.proofs.Sequences.{PairRead, pair_read, no_words, words_next}
 
@@ -97,6 +99,14 @@ pairs_need_memory (Err f) h = h
 pub words_need_memory : (r : Result (List (List ℕ)) ReadFault) → IsTrue (is_ok r) → IsTrue (needs_memory (r >>= λ keys. Ok (command.RemoveScriptTags keys)))
 words_need_memory (Ok words) h = refl
 words_need_memory (Err f) h = h
+
+pub disabled_need_memory : (r : Result (List (List ℕ)) ReadFault) → IsTrue (is_ok r) → IsTrue (needs_memory (r >>= λ units. Ok (command.DisableUnits units)))
+disabled_need_memory (Ok words) h = refl
+disabled_need_memory (Err f) h = h
+
+pub enabled_need_memory : (r : Result (List (List ℕ)) ReadFault) → IsTrue (is_ok r) → IsTrue (needs_memory (r >>= λ units. Ok (command.EnableUnits units)))
+enabled_need_memory (Ok words) h = refl
+enabled_need_memory (Err f) h = h
 
 pub no_words_at : (rest : List ℕ) → IsTrue (is_spaces rest) → has_byte 9 rest ≡ false → words_at rest ≡ Err fault.MissingArgument
 unfolding words_at
@@ -202,3 +212,13 @@ behind_none (Err f) = refl
 
 pub sentences_more : (sentences more : List (List ℕ)) (s : List ℕ) → sentences ≡ s ∷ more → IsTrue (list_all is_sentence sentences) → IsTrue (list_all is_sentence more)
 sentences_more sentences more s is h = (and_parts (is_sentence s) (list_all is_sentence more) (subst (λ x. IsTrue (list_all is_sentence x)) is h)).1
+
+-- flags, with and without the empty parts between their spaces
+flags_kept : (parts : List (List ℕ)) → is_among (codes "b") (without_empty parts) ≡ is_among (codes "b") parts
+flags_kept [] = refl
+flags_kept ([] ∷ more) = flags_kept more
+flags_kept ((b ∷ bs) ∷ more) = ap (λ t. same_name (codes "b") (b ∷ bs) || t) (flags_kept more)
+
+pub flags_among : (flags : List ℕ) → is_among (codes "b") (words_in flags) ≡ has_flag flags
+unfolding words_in
+flags_among flags = flags_kept (between 32 flags)

@@ -1,12 +1,12 @@
 -- Worked lines, and the requests that they read as. In a line 9 is a tab, 10 LF and 13 CR.
-use Rattle.std.proofs.Common.{◌≡◌, ℕ, List, [], ◌∷◌, ◌++◌, refl, subst, true}
+use Rattle.std.proofs.Common.{◌≡◌, ℕ, List, [], ◌∷◌, ◌++◌, refl, subst, true, false}
 use Rattle.std.specs.Prelude.{pos, negsuc, codes, Option, Some, None}
 use Rattle.command_grammar.specs.declared.command.ReadFault.TheVariants as fault
 use Rattle.command_grammar.specs.declared.command.Command.{Command}
 use Rattle.command_grammar.specs.declared.command.Command.TheVariants as command
 use Rattle.command_grammar.specs.declared.command.Request.{Request}
 use Rattle.command_grammar.specs.Reads.{Reads}
-use Rattle.command_grammar.specs.Reading.{pair, request_of, text_of, numbered, word_at, optional_at, name_at, number_in, number_at, natural_at, wide_at, flag_at, text_at, sentence_at, pair_in, pairs_of, pairs_at, words_in, words_at}
+use Rattle.command_grammar.specs.Reading.{pair, request_of, text_of, numbered, word_at, optional_at, name_at, number_in, number_at, natural_at, wide_at, flag_at, text_at, optional_text_at, login_flags_at, sentence_at, pair_in, pairs_of, pairs_at, words_in, words_at}
 use Rattle.command_grammar.proofs.Lines.{request_read}
 
 abbrev request : Option ℕ → Command → Request
@@ -33,7 +33,7 @@ good_lines =
     ∷ (codes "LEAVEBATTLE  ", request None command.LeaveBattle)
     ∷ (codes "EXIT", request None command.Exit)
     ∷ (codes "EXIT bye", request None command.Exit)
-    ∷ (codes "LOGIN Anna X03MO1qnZdYdgyfeuILPmQ== 2400 * TestLobby 1.0" ++ (9 ∷ (codes "0" ++ (9 ∷ (codes "sp b")))), request None (command.Login (codes "Anna") (codes "X03MO1qnZdYdgyfeuILPmQ==") (pos 2400) (codes "*") (codes "TestLobby 1.0")))
+    ∷ (codes "LOGIN Anna X03MO1qnZdYdgyfeuILPmQ== 2400 * TestLobby 1.0" ++ (9 ∷ (codes "0" ++ (9 ∷ (codes "sp b")))), request None (command.Login (codes "Anna") (codes "X03MO1qnZdYdgyfeuILPmQ==") (pos 2400) (codes "*") (codes "TestLobby 1.0") true))
     ∷ (codes "MYSTATUS 127", request None (command.MyStatus 127))
     ∷ (codes "MYSTATUS -0", request None (command.MyStatus 0))
     ∷ (codes "MYSTATUS 4294967295 more", request None (command.MyStatus 4294967295))
@@ -72,7 +72,7 @@ good_lines =
     ∷ []
 
 good_lines_read : EachReads good_lines
-unfolding request_of text_of numbered word_at optional_at name_at number_in number_at natural_at wide_at flag_at text_at sentence_at pair_in pairs_of pairs_at words_in words_at
+unfolding request_of text_of numbered word_at optional_at name_at number_in number_at natural_at wide_at flag_at text_at optional_text_at login_flags_at sentence_at pair_in pairs_of pairs_at words_in words_at
 good_lines_read = each_reads good_lines (refl, (refl, (refl, (refl, (refl, (refl, (refl, (refl, (refl, (refl, (refl, (refl, (refl, (refl, (refl, (refl, (refl, (refl, (refl, (refl, (refl, (refl, (refl, (refl, (refl, (refl, (refl, (refl, (refl, (refl, (refl, (refl, (refl, (refl, (refl, (refl, (refl, (refl, (refl, (refl, (refl, (refl, tt))))))))))))))))))))))))))))))))))))))))))
 
 -- each fault of each command
@@ -194,7 +194,7 @@ bad_lines =
     ∷ []
 
 bad_lines_read : EachReads bad_lines
-unfolding request_of text_of numbered word_at optional_at name_at number_in number_at natural_at wide_at flag_at text_at sentence_at pair_in pairs_of pairs_at words_in words_at
+unfolding request_of text_of numbered word_at optional_at name_at number_in number_at natural_at wide_at flag_at text_at optional_text_at login_flags_at sentence_at pair_in pairs_of pairs_at words_in words_at
 bad_lines_read = each_reads bad_lines (refl, (refl, (refl, (refl, (refl, (refl, (refl, (refl, (refl, (refl, (refl, (refl, (refl, (refl, (refl, (refl, (refl, (refl, (refl, (refl, (refl, (refl, (refl, (refl, (refl, (refl, (refl, (refl, (refl, (refl, (refl, (refl, (refl, (refl, (refl, (refl, (refl, (refl, (refl, (refl, (refl, (refl, (refl, (refl, (refl, (refl, (refl, (refl, (refl, (refl, (refl, (refl, (refl, (refl, (refl, (refl, (refl, (refl, (refl, (refl, (refl, (refl, (refl, (refl, (refl, (refl, (refl, (refl, (refl, (refl, (refl, (refl, (refl, (refl, (refl, (refl, (refl, (refl, (refl, (refl, (refl, (refl, (refl, (refl, (refl, (refl, (refl, (refl, (refl, (refl, (refl, (refl, (refl, (refl, (refl, (refl, (refl, (refl, (refl, (refl, (refl, (refl, (refl, (refl, (refl, (refl, (refl, (refl, (refl, (refl, (refl, (refl, (refl, tt)))))))))))))))))))))))))))))))))))))))))))))))))))))))))))))))))))))))))))))))))))))))))))))))))))))))))))))))))
 
 -- message ids
@@ -214,5 +214,36 @@ lines_with_ids =
     ∷ []
 
 lines_with_ids_read : EachReads lines_with_ids
-unfolding request_of text_of numbered word_at optional_at name_at number_in number_at natural_at wide_at flag_at text_at sentence_at pair_in pairs_of pairs_at words_in words_at
+unfolding request_of text_of numbered word_at optional_at name_at number_in number_at natural_at wide_at flag_at text_at optional_text_at login_flags_at sentence_at pair_in pairs_of pairs_at words_in words_at
 lines_with_ids_read = each_reads lines_with_ids (refl, (refl, (refl, (refl, (refl, (refl, (refl, (refl, (refl, (refl, (refl, tt)))))))))))
+
+-- who may join, and which units are allowed
+abbrev asking_lines : List (List ℕ × Request)
+asking_lines =
+    (codes "LOGIN Anna p 0 * L", request None (command.Login (codes "Anna") (codes "p") (pos 0) (codes "*") (codes "L") false))
+    ∷ (codes "LOGIN Anna p 0 * L" ++ (9 ∷ (codes "b")), request None (command.Login (codes "Anna") (codes "p") (pos 0) (codes "*") (codes "L") false))
+    ∷ (codes "LOGIN Anna p 0 * L" ++ (9 ∷ (9 ∷ (codes "b"))), request None (command.Login (codes "Anna") (codes "p") (pos 0) (codes "*") (codes "L") true))
+    ∷ (codes "LOGIN Anna p 0 * L" ++ (9 ∷ (codes "0" ++ (9 ∷ (codes "a  b" ++ (9 ∷ []))))), request None (command.Login (codes "Anna") (codes "p") (pos 0) (codes "*") (codes "L") true))
+    ∷ (codes "LOGIN Anna p 0 * L" ++ (9 ∷ (codes "0" ++ (9 ∷ (codes "B bb" ++ (9 ∷ (codes "b")))))), request None (command.Login (codes "Anna") (codes "p") (pos 0) (codes "*") (codes "L") false))
+    ∷ (codes "JOINBATTLEACCEPT Bert more", request None (command.JoinBattleAccept (codes "Bert")))
+    ∷ (codes "JOINBATTLEACCEPT", request None (command.Unread fault.MissingArgument))
+    ∷ (codes "JOINBATTLEACCEPT B-t", request None (command.Unread fault.BadName))
+    ∷ (codes "JOINBATTLEACCEPT B" ++ (9 ∷ (codes "t")), request None (command.Unread fault.BadByte))
+    ∷ (codes "JOINBATTLEDENY Bert", request None (command.JoinBattleDeny (codes "Bert") None))
+    ∷ (codes "JOINBATTLEDENY Bert ", request None (command.JoinBattleDeny (codes "Bert") (Some [])))
+    ∷ (codes "JOINBATTLEDENY Bert too  late", request None (command.JoinBattleDeny (codes "Bert") (Some (codes "too  late"))))
+    ∷ (codes "JOINBATTLEDENY ", request None (command.Unread fault.MissingArgument))
+    ∷ (codes "JOINBATTLEDENY B-t x", request None (command.Unread fault.BadName))
+    ∷ (codes "JOINBATTLEDENY Bert" ++ (9 ∷ []), request None (command.Unread fault.BadByte))
+    ∷ (codes "DISABLEUNITS armcom corcom armcom", request None (command.DisableUnits (codes "armcom" ∷ codes "corcom" ∷ codes "armcom" ∷ [])))
+    ∷ (codes "DISABLEUNITS ", request None (command.Unread fault.MissingArgument))
+    ∷ (codes "DISABLEUNITS a" ++ (9 ∷ (codes "b")), request None (command.Unread fault.BadByte))
+    ∷ (codes "ENABLEUNITS  armcom ", request None (command.EnableUnits (codes "armcom" ∷ [])))
+    ∷ (codes "ENABLEUNITS", request None (command.Unread fault.MissingArgument))
+    ∷ (codes "ENABLEUNITS a b" ++ (9 ∷ []), request None (command.Unread fault.BadByte))
+    ∷ (codes "ENABLEALLUNITS now", request None command.EnableAllUnits)
+    ∷ []
+
+asking_lines_read : EachReads asking_lines
+unfolding request_of text_of numbered word_at optional_at name_at number_in number_at natural_at wide_at flag_at text_at optional_text_at login_flags_at sentence_at pair_in pairs_of pairs_at words_in words_at
+asking_lines_read = each_reads asking_lines (refl, (refl, (refl, (refl, (refl, (refl, (refl, (refl, (refl, (refl, (refl, (refl, (refl, (refl, (refl, (refl, (refl, (refl, (refl, (refl, (refl, (refl, tt))))))))))))))))))))))

@@ -1,6 +1,6 @@
 -- Texts, sentences, pairs and lists of words: a form of them names one command.
 use Rattle.std.proofs.Common.{◌≡◌, ℕ, zero, suc, ◌<◌, List, [], ◌∷◌, ◌++◌, length, length-append, refl, sym, ap, subst, ◌∙◌, Bool, true, false, cond, inl, inr, arith}
-use Rattle.std.specs.Prelude.{◌==◌, ◌||◌, ◌⊎◌, not, nat_le, IsTrue, MatchBool, Result, Ok, Err}
+use Rattle.std.specs.Prelude.{◌==◌, ◌||◌, ◌⊎◌, not, nat_le, IsTrue, MatchBool, Option, Some, None, Result, Ok, Err}
 use Rattle.std.specs.List.{list_any, list_all}
 use Rattle.std.proofs.lemmas.Bool.{and_parts, eq-eqb, eqb-true}
 use Rattle.line_words.specs.Bytes.{is_spaces, has_byte, is_key, is_key_byte}
@@ -13,8 +13,8 @@ use Rattle.command_grammar.specs.declared.command.ReadFault.{ReadFault}
 use Rattle.command_grammar.specs.declared.command.ReadFault.TheVariants as fault
 use Rattle.command_grammar.specs.declared.command.Command.{Command}
 use Rattle.command_grammar.specs.declared.command.Command.TheVariants as command
-use Rattle.command_grammar.specs.Arguments.{IsFault, Text, Sentence, IsPair, PairsIn, AtLeastOne, Pairs, AreWords, Words}
-use Rattle.command_grammar.specs.Reading.{without_spaces, ◌>>=◌, text_at, sentence_at, pair, pair_of, pair_in, pairs_in, at_least_one, pairs_of, pairs_at, without_empty, words_in, words_at}
+use Rattle.command_grammar.specs.Arguments.{IsFault, Text, OptionalText, Sentence, flagged, LoginFlags, IsPair, PairsIn, AtLeastOne, Pairs, AreWords, Words}
+use Rattle.command_grammar.specs.Reading.{without_spaces, ◌>>=◌, text_at, optional_text_at, login_flags_at, sentence_at, pair, pair_of, pair_in, pairs_in, at_least_one, pairs_of, pairs_at, without_empty, words_in, words_at}
 use Rattle.command_grammar.proofs.Cuts.{Parts, parts_of, and_first, and_second, next_word_made, no_word_left, skipped}
 use Rattle.command_grammar.proofs.Settles.{Settles, fault_made, bind_bind}
 
@@ -23,6 +23,18 @@ pub Text-settles : {K : List ℕ → Command → Type 0} (k : List ℕ → Resul
 unfolding text_at
 Text-settles {K} k each [] = fault_made
 Text-settles {K} k each (space ∷ text) = each text
+
+pub OptionalText-settles : {K : Option (List ℕ) → Command → Type 0} (k : Option (List ℕ) → Result Command ReadFault) → ((text : Option (List ℕ)) → Settles (K text) (k text)) → (rest : List ℕ)
+    → Settles (OptionalText K rest) (k (optional_text_at rest))
+unfolding optional_text_at
+OptionalText-settles {K} k each [] = each None
+OptionalText-settles {K} k each (space ∷ text) = each (Some text)
+
+pub LoginFlags-settles : {K : Bool → Command → Type 0} (k : Bool → Result Command ReadFault) → ((b : Bool) → Settles (K b) (k b)) → (rest : List ℕ)
+    → Settles (LoginFlags K rest) (k (login_flags_at rest))
+unfolding login_flags_at
+LoginFlags-settles {K} k each [] = each false
+LoginFlags-settles {K} k each (tab ∷ text) = each (flagged (from 9 text))
 
 pub Sentence-settles : {K : List ℕ → List ℕ → Command → Type 0} (k : List ℕ × List ℕ → Result Command ReadFault)
     → ((sentence behind : List ℕ) → Settles (K sentence behind) (k (sentence, behind))) → (rest : List ℕ)

@@ -1,7 +1,6 @@
 -- Each command's form names one command, the one that reading its arguments gives.
 use Rattle.std.proofs.Common.{◌≡◌, ℕ, List, [], ◌∷◌, refl, Bool, true, false}
 use Rattle.std.specs.Prelude.{Option, Some, None}
-use Rattle.line_words.specs.Parts.{before, from}
 use Rattle.line_words.specs.Words.{EndsWord}
 use Rattle.command_grammar.specs.declared.command_word.CommandWord.{CommandWord}
 use Rattle.command_grammar.specs.declared.command_word.CommandWord.TheVariants as word
@@ -10,12 +9,13 @@ use Rattle.command_grammar.specs.Reading.{row_at, known_at}
 use Rattle.command_grammar.specs.Table as kind
 use Rattle.command_grammar.specs.Table.{Kind, Maker, entry_of}
 use Rattle.command_grammar.proofs.Settles.{Settles, made, fault_made, Word-settles, Optional-settles, Name-settles, Natural-settles, Wide-settles, Flag-settles}
-use Rattle.command_grammar.proofs.Sequences.{Text-settles, Sentence-settles, Pairs-settles, Words-settles}
+use Rattle.command_grammar.proofs.Sequences.{Text-settles, OptionalText-settles, LoginFlags-settles, Sentence-settles, Pairs-settles, Words-settles}
 
--- behind a sentence there are sentences alone, since no word begins with a tab
+-- behind a sentence there are sentences alone, and perhaps flags, since no word begins with a tab
 abbrev are_sentences : List Kind → Bool
 are_sentences [] = true
 are_sentences (kind.Sentence ∷ ks) = are_sentences ks
+are_sentences (kind.LoginFlags ∷ []) = true
 are_sentences (_ ∷ ks) = false
 
 abbrev is_row : List Kind → Bool
@@ -30,6 +30,7 @@ rows _ = refl
 sentences_settle : (ks : List Kind) (maker : Maker ks) (rest : List ℕ) → are_sentences ks ≡ true → Settles (Row ks maker rest) (row_at ks maker rest)
 sentences_settle [] maker rest h = made
 sentences_settle (kind.Sentence ∷ ks) maker rest h = Sentence-settles _ (λ s r. sentences_settle ks (maker s) r h) rest
+sentences_settle (kind.LoginFlags ∷ []) maker rest h = LoginFlags-settles _ (λ b. sentences_settle [] (maker b) [] refl) rest
 sentences_settle (_ ∷ ks) maker rest h = absurd (let n : ⊥ = cc in n)
 
 row_settles : (ks : List Kind) (maker : Maker ks) (rest : List ℕ) → EndsWord rest → is_row ks ≡ true → Settles (Row ks maker rest) (row_at ks maker rest)
@@ -42,6 +43,8 @@ row_settles (kind.Wide ∷ ks) maker rest e h = Wide-settles _ (λ x r e. row_se
 row_settles (kind.Flag ∷ ks) maker rest e h = Flag-settles _ (λ x r e. row_settles ks (maker x) r e h) rest e
 row_settles (kind.Sentence ∷ ks) maker rest e h = Sentence-settles _ (λ x r. sentences_settle ks (maker x) r h) rest
 row_settles (kind.Text ∷ ks) maker rest e h = Text-settles _ (λ x. row_settles ks (maker x) [] tt h) rest
+row_settles (kind.OptionalText ∷ ks) maker rest e h = OptionalText-settles _ (λ x. row_settles ks (maker x) [] tt h) rest
+row_settles (kind.LoginFlags ∷ ks) maker rest e h = LoginFlags-settles _ (λ x. row_settles ks (maker x) [] tt h) rest
 row_settles (kind.Pairs ∷ ks) maker rest e h = Pairs-settles _ (λ x. row_settles ks (maker x) [] tt h) rest
 row_settles (kind.Words ∷ ks) maker rest e h = Words-settles _ (λ x. row_settles ks (maker x) [] tt h) rest e
 

@@ -1,6 +1,6 @@
 -- What a form takes from the rest of a line: arguments of their kinds, that have their bytes there.
-use Rattle.std.proofs.Common.{◌≡◌, ℕ, ◌+◌, ◌≤◌, ◌<◌, List, [], ◌∷◌, ◌++◌, length, length-append, refl, sym, ap, subst, ◌∙◌, Bool, true, false, cond, inl, inr, arith}
-use Rattle.std.specs.Prelude.{ℤ, pos, negsuc, ◌≤ℤ◌, ◌⊎◌, ◌==◌, ◌&&◌, nat_le, IsTrue, MatchBool, Some, None, sum_by}
+use Rattle.std.proofs.Common.{◌≡◌, ℕ, ◌+◌, ◌≤◌, ◌<◌, List, [], ◌∷◌, ◌++◌, length, length-append, refl, ap, subst, Bool, true, false, cond, inl, inr, arith}
+use Rattle.std.specs.Prelude.{ℤ, pos, negsuc, ◌≤ℤ◌, ◌⊎◌, ◌==◌, nat_le, IsTrue, MatchBool, Some, None, sum_by}
 use Rattle.std.specs.List.{list_any, list_all}
 use Rattle.std.proofs.lemmas.Bool.{and_parts, and_from}
 use Rattle.std.proofs.lemmas.Int.{ints}
@@ -16,8 +16,7 @@ use Rattle.line_words.proofs.Splitting.{before-from}
 use Rattle.command_grammar.specs.declared.command.ReadFault.{ReadFault}
 use Rattle.command_grammar.specs.declared.command.ReadFault.TheVariants as fault
 use Rattle.command_grammar.specs.declared.command.Command.{Command}
-use Rattle.command_grammar.specs.declared.command.Command.TheVariants as command
-use Rattle.command_grammar.specs.Arguments.{IsFault, Word, Number, Natural, IsPair, PairsIn, AtLeastOne, AreWords}
+use Rattle.command_grammar.specs.Arguments.{IsFault, Word, Number, Natural, IsPair, PairsIn, AtLeastOne, AreWords, flagged}
 use Rattle.command_grammar.specs.Forms.{Argument, Row}
 use Rattle.command_grammar.specs.Kinds.{is_up_to, are_some, fits}
 use Rattle.command_grammar.specs.Sizes.{size, pair_size, size_of, sizes_of}
@@ -213,6 +212,10 @@ taken kind.Sentence K (mark ∷ text) c h m =
     })
 taken kind.Text K [] c h m = inl (_, m)
 taken kind.Text K (space ∷ text) c h m = inr (record { value = text; behind = []; next = m; fit = text_back (space ∷ []) text h; text = refl; room = omega arith })
+taken kind.OptionalText K [] c h m = inr (record { value = None; behind = []; next = m; fit = refl; text = refl; room = omega arith })
+taken kind.OptionalText K (space ∷ text) c h m = inr (record { value = Some text; behind = []; next = m; fit = text_back (space ∷ []) text h; text = refl; room = omega arith })
+taken kind.LoginFlags K [] c h m = inr (record { value = false; behind = []; next = m; fit = refl; text = refl; room = omega arith })
+taken kind.LoginFlags K (tab ∷ text) c h m = inr (record { value = flagged (from 9 text); behind = []; next = m; fit = refl; text = refl; room = omega arith })
 taken kind.Pairs K [] c h m = inl (_, m)
 taken kind.Pairs K (space ∷ text) c h m =
     unless_unread (pairs_taken (AtLeastOne (λ ps. K ps [])) (between_tabs text) c (sentence_kinds text (text_back (space ∷ []) text h)) m) λ t.

@@ -1,11 +1,12 @@
 -- The kinds of argument. Each says how the rest of a line, from the end of the command word or of the last argument on, begins with an
 -- argument, and hands that argument and its own rest to the next kind. What the last hands its arguments to says which command it is.
-use Rattle.std.specs.Prelude.{◌≡◌, ℕ, ℤ, pos, negsuc, ◌≤ℤ◌, Bool, ◌==◌, ◌⊎◌, List, [], ◌∷◌, ◌++◌, Option, Some, None, IsTrue, MatchBool}
+use Rattle.std.specs.Prelude.{◌≡◌, ℕ, ℤ, pos, negsuc, ◌≤ℤ◌, Bool, false, ◌==◌, ◌⊎◌, List, [], ◌∷◌, ◌++◌, codes, Option, Some, None, IsTrue, MatchBool}
 use Rattle.std.specs.List.{list_any}
 use Rattle.line_words.specs.Bytes.{has_byte, is_spaces, is_name, is_key}
 use Rattle.line_words.specs.Numbers.{IsNumeral}
-use Rattle.line_words.specs.Parts.{before, from}
+use Rattle.line_words.specs.Parts.{before, between, from}
 use Rattle.line_words.specs.Sentences.{between_tabs}
+use Rattle.line_words.specs.Table.{is_among}
 use Rattle.line_words.specs.Words.{NextWord}
 use Rattle.line_words.specs.declared.lists.Pair.{Pair}
 use Rattle.command_grammar.specs.declared.command.ReadFault.{ReadFault}
@@ -54,10 +55,29 @@ abbrev pub Text : (List ℕ → Command → Type 0) → List ℕ → Command →
 Text K [] c = IsFault fault.MissingArgument c
 Text K (space ∷ text) c = K text c
 
+-- the same, but without that space there is no text
+abbrev pub OptionalText : (Option (List ℕ) → Command → Type 0) → List ℕ → Command → Type 0
+OptionalText K [] c = K None c
+OptionalText K (space ∷ text) c = K (Some text) c
+
 -- a sentence: all behind exactly one byte, the space or the tab before it, up to the next tab; without that byte it is missing
 abbrev pub Sentence : (List ℕ → List ℕ → Command → Type 0) → List ℕ → Command → Type 0
 Sentence K [] c = IsFault fault.MissingArgument c
 Sentence K (mark ∷ text) c = K (before 9 text) (from 9 text) c
+
+-- `b` is one of the flags, which spaces part
+abbrev pub has_flag : List ℕ → Bool
+has_flag flags = is_among (codes "b") (between 32 flags)
+
+-- the flags are the sentence behind the next tab
+abbrev pub flagged : List ℕ → Bool
+flagged [] = false
+flagged (tab ∷ text) = has_flag (before 9 text)
+
+-- a login's user id and flags, each behind a tab: the id says nothing to the lobby, and what is missing says no
+abbrev pub LoginFlags : (Bool → Command → Type 0) → List ℕ → Command → Type 0
+LoginFlags K [] c = K false c
+LoginFlags K (tab ∷ text) c = K (flagged (from 9 text)) c
 
 -- `key=value`: the key is a word without `=`, and the value all behind the `=`
 pub record IsPair (sentence : List ℕ) (p : Pair) : Type 0 where

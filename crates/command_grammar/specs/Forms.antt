@@ -4,7 +4,7 @@ use Rattle.std.specs.Cmp.Lexicographic.{pointwise}
 use Rattle.command_grammar.specs.declared.command.ReadFault.TheVariants as fault
 use Rattle.command_grammar.specs.declared.command.Command.{Command}
 use Rattle.command_grammar.specs.declared.command_word.CommandWord.{CommandWord}
-use Rattle.command_grammar.specs.Arguments.{IsFault, Word, OptionalWord, Name, Natural, Wide, Flag, Text, Sentence, Pairs, Words}
+use Rattle.command_grammar.specs.Arguments.{IsFault, Word, OptionalWord, Name, Natural, Wide, Flag, Text, OptionalText, Sentence, LoginFlags, Pairs, Words}
 use Rattle.command_grammar.specs.Table as kind
 use Rattle.command_grammar.specs.Table.{Kind, Value, Maker, entry_of, commands}
 
@@ -16,7 +16,7 @@ is_same = pointwise nat_eq
 abbrev pub command_named : List ℕ → Option CommandWord
 command_named name = find (λ c. is_same name (entry_of c).word) commands
 
--- an argument of this kind at the front of the rest; a text, pairs and words leave no rest
+-- an argument of this kind at the front of the rest; a text, flags, pairs and words leave no rest
 abbrev pub Argument : (k : Kind) → (Value k → List ℕ → Command → Type 0) → List ℕ → Command → Type 0
 Argument kind.Word K = Word K
 Argument kind.OptionalWord K = OptionalWord K
@@ -26,6 +26,8 @@ Argument kind.Wide K = Wide K
 Argument kind.Flag K = Flag K
 Argument kind.Sentence K = Sentence K
 Argument kind.Text K = Text (λ text. K text [])
+Argument kind.OptionalText K = OptionalText (λ text. K text [])
+Argument kind.LoginFlags K = LoginFlags (λ authorises. K authorises [])
 Argument kind.Pairs K = Pairs (λ pairs. K pairs [])
 Argument kind.Words K = Words (λ words. K words [])
 

@@ -1,14 +1,16 @@
 -- Which commands own bytes, and so take memory.
 use Rattle.std.specs.Prelude.{Bool, true, false, ◌||◌, is_some, List, [], ◌∷◌}
 use Rattle.command_grammar.specs.declared.command.Command.{Command}
-use Rattle.command_grammar.specs.Table.{Kind, Natural, Wide, Flag, OptionalWord, Value, Values, arguments_of}
+use Rattle.command_grammar.specs.Table.{Kind, Natural, Wide, Flag, LoginFlags, OptionalWord, OptionalText, Value, Values, arguments_of}
 
--- numbers own no bytes; all else does, if it is there
+-- numbers and flags own no bytes; all else does, if it is there
 abbrev pub owns : (k : Kind) → Value k → Bool
 owns (Natural high) n = false
 owns Wide z = false
 owns Flag b = false
+owns LoginFlags b = false
 owns OptionalWord o = is_some o
+owns OptionalText o = is_some o
 owns k x = true
 
 -- one of those before does, or one of these

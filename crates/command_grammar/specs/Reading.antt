@@ -15,6 +15,7 @@ use Rattle.command_grammar.specs.declared.command_word.CommandWord.TheVariants a
 use Rattle.command_grammar.specs.declared.fault.ReadError.{ReadError}
 use Rattle.command_grammar.specs.declared.fault.ReadError.TheVariants as errors
 use Rattle.command_grammar.specs.Owning.{owns_bytes}
+use Rattle.command_grammar.specs.Arguments.{flagged}
 use Rattle.command_grammar.specs.Forms.{command_named}
 use Rattle.command_grammar.specs.Table as kind
 use Rattle.command_grammar.specs.Table.{Kind, Value, Maker, entry_of}
@@ -134,6 +135,16 @@ unfoldable pub text_at : List ℕ → Result (List ℕ) ReadFault
 text_at [] = Err fault.MissingArgument
 text_at (space ∷ text) = Ok text
 
+-- all behind one space, if that is there
+unfoldable pub optional_text_at : List ℕ → Option (List ℕ)
+optional_text_at [] = None
+optional_text_at (space ∷ text) = Some text
+
+-- what a login's user id and flags say
+unfoldable pub login_flags_at : List ℕ → Bool
+login_flags_at [] = false
+login_flags_at (tab ∷ text) = flagged (from 9 text)
+
 -- all behind one byte, up to the next tab, and what stands from there on
 unfoldable pub sentence_at : List ℕ → Result (List ℕ × List ℕ) ReadFault
 sentence_at rest = do
@@ -211,6 +222,8 @@ argument_at kind.Wide K rest = wide_at rest >>= λ x. K x.0 x.1
 argument_at kind.Flag K rest = flag_at rest >>= λ x. K x.0 x.1
 argument_at kind.Sentence K rest = sentence_at rest >>= λ x. K x.0 x.1
 argument_at kind.Text K rest = text_at rest >>= λ text. K text []
+argument_at kind.OptionalText K rest = K (optional_text_at rest) []
+argument_at kind.LoginFlags K rest = K (login_flags_at rest) []
 argument_at kind.Pairs K rest = pairs_at rest >>= λ pairs. K pairs []
 argument_at kind.Words K rest = words_at rest >>= λ words. K words []
 

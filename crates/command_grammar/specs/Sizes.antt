@@ -2,7 +2,7 @@
 use Rattle.std.specs.Prelude.{ℕ, ◌+◌, List, [], ◌∷◌, length, Option, Some, None, sum_by}
 use Rattle.line_words.specs.declared.lists.Pair.{Pair}
 use Rattle.command_grammar.specs.declared.command.Command.{Command}
-use Rattle.command_grammar.specs.Table.{Kind, Word, OptionalWord, Name, Natural, Wide, Flag, Sentence, Text, Pairs, Words, Value, Values, arguments_of}
+use Rattle.command_grammar.specs.Table.{Kind, Word, OptionalWord, Name, Natural, Wide, Flag, Sentence, Text, OptionalText, LoginFlags, Pairs, Words, Value, Values, arguments_of}
 
 -- an argument, with the byte that parts it from what stands before
 abbrev pub size : List ℕ → ℕ
@@ -26,6 +26,8 @@ size_of Wide z = 0
 size_of Flag b = 0
 size_of Sentence s = size s
 size_of Text t = size t
+size_of OptionalText o = optional_size o
+size_of LoginFlags b = 0
 size_of Pairs ps = sum_by pair_size ps
 size_of Words ws = sum_by size ws
 

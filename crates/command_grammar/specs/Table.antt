@@ -21,6 +21,10 @@ pub data Kind : Type 0 where
   Sentence : Kind
   -- the rest of the line
   Text : Kind
+  -- the rest of the line or, without a space before it, nothing
+  OptionalText : Kind
+  -- the user id and the flags of a login: whether the user decides who joins its battles
+  LoginFlags : Kind
   -- one or more script tags, parted by tabs
   Pairs : Kind
   -- one or more words, to the end
@@ -55,6 +59,8 @@ Value Wide = ℤ
 Value Flag = Bool
 Value Sentence = List ℕ
 Value Text = List ℕ
+Value OptionalText = Option (List ℕ)
+Value LoginFlags = Bool
 Value Pairs = List Pair
 Value Words = List (List ℕ)
 
@@ -81,7 +87,7 @@ entry word kinds maker = record { word = word; kinds = kinds; maker = maker }
 abbrev pub entry_of : CommandWord → Entry
 entry_of word.Ping = entry (codes "PING") [] command.Ping
 entry_of word.Exit = entry (codes "EXIT") [] command.Exit
-entry_of word.Login = entry (codes "LOGIN") (Word ∷ Word ∷ Wide ∷ Word ∷ Sentence ∷ []) command.Login
+entry_of word.Login = entry (codes "LOGIN") (Word ∷ Word ∷ Wide ∷ Word ∷ Sentence ∷ LoginFlags ∷ []) command.Login
 entry_of word.MyStatus = entry (codes "MYSTATUS") (status_word ∷ []) command.MyStatus
 entry_of word.Channels = entry (codes "CHANNELS") [] command.Channels
 entry_of word.Join = entry (codes "JOIN") (Name ∷ OptionalWord ∷ []) command.Join
@@ -91,6 +97,8 @@ entry_of word.SayEx = entry (codes "SAYEX") (Name ∷ Text ∷ []) command.SayEx
 entry_of word.SayPrivate = entry (codes "SAYPRIVATE") (Name ∷ Text ∷ []) command.SayPrivate
 entry_of word.OpenBattle = entry (codes "OPENBATTLE") (Natural 1 ∷ Natural 2 ∷ Word ∷ small_number ∷ small_number ∷ Wide ∷ Wide ∷ Wide ∷ battle_titles) command.OpenBattle
 entry_of word.JoinBattle = entry (codes "JOINBATTLE") (Natural 2147483647 ∷ OptionalWord ∷ OptionalWord ∷ []) command.JoinBattle
+entry_of word.JoinBattleAccept = entry (codes "JOINBATTLEACCEPT") (Name ∷ []) command.JoinBattleAccept
+entry_of word.JoinBattleDeny = entry (codes "JOINBATTLEDENY") (Name ∷ OptionalText ∷ []) command.JoinBattleDeny
 entry_of word.LeaveBattle = entry (codes "LEAVEBATTLE") [] command.LeaveBattle
 entry_of word.UpdateBattleInfo = entry (codes "UPDATEBATTLEINFO") (small_number ∷ Flag ∷ Wide ∷ Sentence ∷ []) command.UpdateBattleInfo
 entry_of word.MyBattleStatus = entry (codes "MYBATTLESTATUS") (status_word ∷ Wide ∷ []) command.MyBattleStatus
@@ -103,6 +111,9 @@ entry_of word.AddStartRect = entry (codes "ADDSTARTRECT") (ally_number ∷ side_
 entry_of word.RemoveStartRect = entry (codes "REMOVESTARTRECT") (ally_number ∷ []) command.RemoveStartRect
 entry_of word.SetScriptTags = entry (codes "SETSCRIPTTAGS") (Pairs ∷ []) command.SetScriptTags
 entry_of word.RemoveScriptTags = entry (codes "REMOVESCRIPTTAGS") (Words ∷ []) command.RemoveScriptTags
+entry_of word.DisableUnits = entry (codes "DISABLEUNITS") (Words ∷ []) command.DisableUnits
+entry_of word.EnableUnits = entry (codes "ENABLEUNITS") (Words ∷ []) command.EnableUnits
+entry_of word.EnableAllUnits = entry (codes "ENABLEALLUNITS") [] command.EnableAllUnits
 entry_of word.Handicap = entry (codes "HANDICAP") (Name ∷ Natural 100 ∷ []) command.Handicap
 entry_of word.ForceTeamNo = entry (codes "FORCETEAMNO") (Name ∷ ally_number ∷ []) command.ForceTeamNo
 entry_of word.ForceAllyNo = entry (codes "FORCEALLYNO") (Name ∷ ally_number ∷ []) command.ForceAllyNo
@@ -126,6 +137,8 @@ commands =
     ∷ word.SayPrivate
     ∷ word.OpenBattle
     ∷ word.JoinBattle
+    ∷ word.JoinBattleAccept
+    ∷ word.JoinBattleDeny
     ∷ word.LeaveBattle
     ∷ word.UpdateBattleInfo
     ∷ word.MyBattleStatus
@@ -138,6 +151,9 @@ commands =
     ∷ word.RemoveStartRect
     ∷ word.SetScriptTags
     ∷ word.RemoveScriptTags
+    ∷ word.DisableUnits
+    ∷ word.EnableUnits
+    ∷ word.EnableAllUnits
     ∷ word.Handicap
     ∷ word.ForceTeamNo
     ∷ word.ForceAllyNo
@@ -161,7 +177,7 @@ arguments_of command.Blank = record { kinds = []; values = tt }
 arguments_of (command.Unread fault) = record { kinds = []; values = tt }
 arguments_of command.Ping = given word.Ping tt
 arguments_of command.Exit = given word.Exit tt
-arguments_of (command.Login user_name password cpu local_ip lobby) = given word.Login (user_name, (password, (cpu, (local_ip, (lobby, tt)))))
+arguments_of (command.Login user_name password cpu local_ip lobby authorises) = given word.Login (user_name, (password, (cpu, (local_ip, (lobby, (authorises, tt))))))
 arguments_of (command.MyStatus status) = given word.MyStatus (status, tt)
 arguments_of command.Channels = given word.Channels tt
 arguments_of (command.Join channel key) = given word.Join (channel, (key, tt))
@@ -172,6 +188,8 @@ arguments_of (command.SayPrivate user text) = given word.SayPrivate (user, (text
 arguments_of (command.OpenBattle battle_type nat_type password port max_players game_hash rank map_hash engine_name engine_version map title game_name) =
     given word.OpenBattle (battle_type, (nat_type, (password, (port, (max_players, (game_hash, (rank, (map_hash, (engine_name, (engine_version, (map, (title, (game_name, tt)))))))))))))
 arguments_of (command.JoinBattle battle password script_password) = given word.JoinBattle (battle, (password, (script_password, tt)))
+arguments_of (command.JoinBattleAccept user) = given word.JoinBattleAccept (user, tt)
+arguments_of (command.JoinBattleDeny user reason) = given word.JoinBattleDeny (user, (reason, tt))
 arguments_of command.LeaveBattle = given word.LeaveBattle tt
 arguments_of (command.UpdateBattleInfo spectator_count locked map_hash map) = given word.UpdateBattleInfo (spectator_count, (locked, (map_hash, (map, tt))))
 arguments_of (command.MyBattleStatus battle_status team_color) = given word.MyBattleStatus (battle_status, (team_color, tt))
@@ -184,6 +202,9 @@ arguments_of (command.AddStartRect ally_no left top right bottom) = given word.A
 arguments_of (command.RemoveStartRect ally_no) = given word.RemoveStartRect (ally_no, tt)
 arguments_of (command.SetScriptTags pairs) = given word.SetScriptTags (pairs, tt)
 arguments_of (command.RemoveScriptTags keys) = given word.RemoveScriptTags (keys, tt)
+arguments_of (command.DisableUnits units) = given word.DisableUnits (units, tt)
+arguments_of (command.EnableUnits units) = given word.EnableUnits (units, tt)
+arguments_of command.EnableAllUnits = given word.EnableAllUnits tt
 arguments_of (command.Handicap user value) = given word.Handicap (user, (value, tt))
 arguments_of (command.ForceTeamNo user number) = given word.ForceTeamNo (user, (number, tt))
 arguments_of (command.ForceAllyNo user number) = given word.ForceAllyNo (user, (number, tt))

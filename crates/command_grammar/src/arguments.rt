@@ -1,10 +1,12 @@
 //! One reader for each kind of argument. Each is given the rest of a line, from the end of the command
 //! word or of the last argument on, and gives the argument and its own rest; nothing is copied.
 
-ghost use Rattle.std.specs.Prelude.{◌≡◌, ◌≤◌, ℤ, ◌≤ℤ◌, IfOk, IfSome, IsTrue, Some, None, Ok, Err};
+ghost use Rattle.std.specs.Prelude.{◌≡◌, ◌≤◌, ℤ, ◌≤ℤ◌, IfOk, IfSome, IsTrue, Some, None, Ok, Err, codes};
 ghost use Rattle.std.specs.Option.{option_map};
 ghost use Rattle.line_words.specs.Bytes.{has_byte, is_name, is_sentence, is_text, is_word};
-ghost use Rattle.command_grammar.specs.Reading.{seen, word_at, optional_at, name_at, number_in, number_at, natural_at, wide_at, flag_at, text_at, sentence_at};
+ghost use Rattle.line_words.specs.Table.{same_name};
+ghost use Rattle.command_grammar.specs.Arguments.{flagged, has_flag};
+ghost use Rattle.command_grammar.specs.Reading.{seen, word_at, optional_at, name_at, number_in, number_at, natural_at, wide_at, flag_at, text_at, optional_text_at, login_flags_at, sentence_at};
 
 use crate::command::ReadFault;
 use line_words::{Words, is_name, read_number, split_at_byte};
@@ -144,4 +146,61 @@ pub(crate) fn sentence_at(rest: &[u8]) -> Result<(&[u8], &[u8]), ReadFault>
 {
     let text = text_at(rest)?;
     Ok(split_at_byte(text, b'\t'))
+}
+
+/// All behind one space, if that space is there.
+#[tactic(auto, unfolding(crate::specs::Reading::optional_text_at))]
+pub(crate) fn optional_text_at(rest: &[u8]) -> Option<&[u8]>
+    requires { IsTrue (is_text rest.now) }
+    ensures value { optional_text_at rest.now ≡ option_map (λ t. t.now) result }
+    ensures text { IfSome result (λ t. IsTrue (is_text t.now)) }
+{
+    match rest {
+        [] => None,
+        [_, text @ ..] => Some(text),
+    }
+}
+
+/// Whether a login's flags, behind its user id, have `b` among them.
+#[tactic(auto, unfolding(crate::specs::Reading::login_flags_at))]
+pub(crate) fn login_flags_at(rest: &[u8]) -> bool
+    ensures { login_flags_at rest.now ≡ result }
+{
+    match rest {
+        [] => false,
+        [_, text @ ..] => {
+            let (_, behind) = split_at_byte(text, b'\t');
+            flagged(behind)
+        }
+    }
+}
+
+fn flagged(rest: &[u8]) -> bool
+    ensures { result ≡ flagged rest.now }
+{
+    match rest {
+        [] => false,
+        [_, text @ ..] => {
+            let (flags, _) = split_at_byte(text, b'\t');
+            has_flag(flags)
+        }
+    }
+}
+
+fn has_flag(flags: &[u8]) -> bool
+    ensures { result ≡ has_flag flags.now }
+{
+    let mut left = Words::new(flags);
+    while let Some(flag) = left.next_word() {
+        if is_flag(flag) {
+            return true;
+        }
+    }
+    false
+}
+
+fn is_flag(word: &[u8]) -> bool
+    ensures { result ≡ same_name (codes "b") word.now }
+{
+    b"b".as_slice().cmp(word).is_eq()
 }

@@ -21,21 +21,23 @@ pub enum ReadFault {
     BadPair,
 }
 
-/// What a line asks for: one of the 31 commands, nothing, or a line that could not be read.
+/// What a line asks for: one of the 36 commands, nothing, or a line that could not be read.
 #[derive(Drop)]
 pub enum Command {
     /// The line has no text.
     Blank,
     /// The line is not a command.
     Unread(ReadFault),
-    /// `LOGIN userName password cpu localIP {lobby name and version}`: `password` is the base64 text of
-    /// the password's MD5, `cpu` from -2147483648 to 4294967295.
+    /// `LOGIN userName password cpu localIP {lobby name and version} [{user id}] [{flags}]`: `password` is
+    /// the base64 text of the password's MD5, `cpu` from -2147483648 to 4294967295. `authorises` says
+    /// that `b` is among the flags: the user decides who joins its battles.
     Login {
         user_name: WordBuf,
         password: WordBuf,
         cpu: i64,
         local_ip: WordBuf,
         lobby: SentenceBuf,
+        authorises: bool,
     },
     /// `PING`
     Ping,
@@ -97,6 +99,16 @@ pub enum Command {
         password: Option<WordBuf>,
         script_password: Option<WordBuf>,
     },
+    /// `JOINBATTLEACCEPT user`
+    JoinBattleAccept {
+        user: NameBuf,
+    },
+    /// `JOINBATTLEDENY user [{reason}]`: the reason is a text, and is not there where the space before it
+    /// is not.
+    JoinBattleDeny {
+        user: NameBuf,
+        reason: Option<TextBuf>,
+    },
     /// `UPDATEBATTLEINFO spectatorCount locked mapHash {map}`: `map_hash` from -2147483648 to 4294967295.
     UpdateBattleInfo {
         spectator_count: u16,
@@ -154,6 +166,16 @@ pub enum Command {
     RemoveScriptTags {
         keys: WordList,
     },
+    /// `DISABLEUNITS unit ..`: at least one unit.
+    DisableUnits {
+        units: WordList,
+    },
+    /// `ENABLEUNITS unit ..`: at least one unit.
+    EnableUnits {
+        units: WordList,
+    },
+    /// `ENABLEALLUNITS`
+    EnableAllUnits,
     /// `HANDICAP user value`: `value` is 0 to 100.
     Handicap {
         user: NameBuf,
@@ -207,6 +229,8 @@ impl fmt::Debug for Command {
             Command::SayPrivate { .. } => "SayPrivate",
             Command::OpenBattle { .. } => "OpenBattle",
             Command::JoinBattle { .. } => "JoinBattle",
+            Command::JoinBattleAccept { .. } => "JoinBattleAccept",
+            Command::JoinBattleDeny { .. } => "JoinBattleDeny",
             Command::UpdateBattleInfo { .. } => "UpdateBattleInfo",
             Command::MyBattleStatus { .. } => "MyBattleStatus",
             Command::SayBattle { .. } => "SayBattle",
@@ -218,6 +242,9 @@ impl fmt::Debug for Command {
             Command::RemoveStartRect { .. } => "RemoveStartRect",
             Command::SetScriptTags { .. } => "SetScriptTags",
             Command::RemoveScriptTags { .. } => "RemoveScriptTags",
+            Command::DisableUnits { .. } => "DisableUnits",
+            Command::EnableUnits { .. } => "EnableUnits",
+            Command::EnableAllUnits => "EnableAllUnits",
             Command::Handicap { .. } => "Handicap",
             Command::ForceTeamNo { .. } => "ForceTeamNo",
             Command::ForceAllyNo { .. } => "ForceAllyNo",

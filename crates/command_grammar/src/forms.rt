@@ -10,7 +10,8 @@ ghost use Rattle.command_grammar.specs.Reading.{Gives, arguments_at, row_at};
 ghost use Rattle.command_grammar.specs.Table.{Wide, battle_titles};
 
 use crate::arguments::{
-    flag_at, name_at, natural_at, optional_at, sentence_at, text_at, wide_at, word_at,
+    flag_at, login_flags_at, name_at, natural_at, optional_at, optional_text_at, sentence_at,
+    text_at, wide_at, word_at,
 };
 use crate::command::Command;
 use crate::fault::ReadError;
@@ -26,32 +27,45 @@ pub(crate) fn login(alloc: Global, rest: &[u8]) -> Result<Command, ReadError>
     let (password, rest) = word_at(rest)?;
     let (cpu, rest) = wide_at(rest)?;
     let (local_ip, rest) = word_at(rest)?;
-    let (lobby, _) = sentence_at(rest)?;
-    Ok(copy_of_login(alloc, user_name, password, cpu, local_ip, lobby)?)
+    let (lobby, rest) = sentence_at(rest)?;
+    let login = LentLogin {
+        user_name,
+        password,
+        cpu,
+        local_ip,
+        lobby,
+        authorises: login_flags_at(rest),
+    };
+    Ok(copy_of_login(alloc, &login)?)
+}
+
+// The arguments of LOGIN.
+#[derive(Drop)]
+struct LentLogin<'a> {
+    user_name: &'a [u8],
+    password: &'a [u8],
+    cpu: i64,
+    local_ip: &'a [u8],
+    lobby: &'a [u8],
+    authorises: bool,
 }
 
 // Copies have functions of their own where there are many: each `?` that can leave a copy behind is
 // proved with what lets it go.
-fn copy_of_login(
-    alloc: Global,
-    user_name: &[u8],
-    password: &[u8],
-    cpu: i64,
-    local_ip: &[u8],
-    lobby: &[u8],
-) -> Result<Command, AllocError>
-    requires user_name { IsTrue (is_word user_name.now) }
-    requires password { IsTrue (is_word password.now) }
-    requires local_ip { IsTrue (is_word local_ip.now) }
-    requires lobby { IsTrue (is_sentence lobby.now) }
-    ensures { IfOk result (λ c. c ≡ command.Login user_name.now password.now cpu local_ip.now lobby.now) }
+fn copy_of_login(alloc: Global, login: &LentLogin<'_>) -> Result<Command, AllocError>
+    requires user_name { IsTrue (is_word login.now.user_name.now) }
+    requires password { IsTrue (is_word login.now.password.now) }
+    requires local_ip { IsTrue (is_word login.now.local_ip.now) }
+    requires lobby { IsTrue (is_sentence login.now.lobby.now) }
+    ensures { IfOk result (λ c. c ≡ command.Login login.now.user_name.now login.now.password.now login.now.cpu login.now.local_ip.now login.now.lobby.now login.now.authorises) }
 {
     Ok(Command::Login {
-        user_name: WordBuf::copy_of(alloc, user_name)?,
-        password: WordBuf::copy_of(alloc, password)?,
-        cpu,
-        local_ip: WordBuf::copy_of(alloc, local_ip)?,
-        lobby: SentenceBuf::copy_of(alloc, lobby)?,
+        user_name: WordBuf::copy_of(alloc, login.user_name)?,
+        password: WordBuf::copy_of(alloc, login.password)?,
+        cpu: login.cpu,
+        local_ip: WordBuf::copy_of(alloc, login.local_ip)?,
+        lobby: SentenceBuf::copy_of(alloc, login.lobby)?,
+        authorises: login.authorises,
     })
 }
 
@@ -279,6 +293,38 @@ pub(crate) fn join_battle(alloc: Global, rest: &[u8]) -> Result<Command, ReadErr
     })
 }
 
+pub(crate) fn join_battle_accept(alloc: Global, rest: &[u8]) -> Result<Command, ReadError>
+    requires { IsTrue (is_text rest.now) }
+    ensures { Gives result (arguments_at words.JoinBattleAccept rest.now) }
+{
+    let (user, _) = name_at(rest)?;
+    Ok(Command::JoinBattleAccept {
+        user: NameBuf::copy_of(alloc, user)?,
+    })
+}
+
+pub(crate) fn join_battle_deny(alloc: Global, rest: &[u8]) -> Result<Command, ReadError>
+    requires { IsTrue (is_text rest.now) }
+    ensures { Gives result (arguments_at words.JoinBattleDeny rest.now) }
+{
+    let (user, rest) = name_at(rest)?;
+    let reason = optional_text_at(rest);
+    Ok(Command::JoinBattleDeny {
+        user: NameBuf::copy_of(alloc, user)?,
+        reason: copy_of_reason(alloc, reason)?,
+    })
+}
+
+fn copy_of_reason(alloc: Global, reason: Option<&[u8]>) -> Result<Option<TextBuf>, AllocError>
+    requires { IfSome reason (λ t. IsTrue (is_text t.now)) }
+    ensures { IfOk result (λ copy. copy ≡ option_map (λ t. t.now) reason.entry) }
+{
+    match reason {
+        Some(reason) => Ok(Some(TextBuf::copy_of(alloc, reason)?)),
+        None => Ok(None),
+    }
+}
+
 fn copy_of_optional(alloc: Global, word: Option<&[u8]>) -> Result<Option<WordBuf>, AllocError>
     requires { IfSome word (λ w. IsTrue (is_word w.now)) }
     ensures ok { IfOk result (λ copy. copy ≡ option_map (λ w. w.now) word.entry) }
@@ -415,6 +461,28 @@ pub(crate) fn set_script_tags(alloc: Global, rest: &[u8]) -> Result<Command, Rea
     check_pairs(text)?;
     Ok(Command::SetScriptTags {
         pairs: copy_of_pairs(alloc, text)?,
+    })
+}
+
+#[tactic(auto, using(crate::proofs::Checks::disabled_need_memory))]
+pub(crate) fn disable_units(alloc: Global, rest: &[u8]) -> Result<Command, ReadError>
+    requires { IsTrue (is_text rest.now) }
+    ensures { Gives result (arguments_at words.DisableUnits rest.now) }
+{
+    check_words(rest)?;
+    Ok(Command::DisableUnits {
+        units: copy_of_words(alloc, rest)?,
+    })
+}
+
+#[tactic(auto, using(crate::proofs::Checks::enabled_need_memory))]
+pub(crate) fn enable_units(alloc: Global, rest: &[u8]) -> Result<Command, ReadError>
+    requires { IsTrue (is_text rest.now) }
+    ensures { Gives result (arguments_at words.EnableUnits rest.now) }
+{
+    check_words(rest)?;
+    Ok(Command::EnableUnits {
+        units: copy_of_words(alloc, rest)?,
     })
 }
 

@@ -6,6 +6,8 @@
 #[cfg(test)]
 mod accounts;
 #[cfg(test)]
+mod askers;
+#[cfg(test)]
 mod channels;
 #[cfg(test)]
 mod frames;
@@ -23,6 +25,8 @@ mod settings;
 mod shared_pieces;
 #[cfg(test)]
 mod status_words;
+#[cfg(test)]
+mod units;
 #[cfg(test)]
 mod verdict;
 #[cfg(test)]

@@ -6,7 +6,7 @@ use reply_grammar::{LentReply, Reply, print, print_id, print_lent};
 use reply_reader::read_reply;
 use std::alloc::{AllocError, Global};
 
-const LINES: [&[u8]; 53] = [
+const LINES: [&[u8]; 59] = [
     b"TASSERVER 0.38 * 8201 0",
     b"#4 ACCEPTED Bert",
     b"DENIED Invalid username or password",
@@ -44,6 +44,7 @@ const LINES: [&[u8]; 53] = [
     b"JOINEDBATTLE 1 Bert",
     b"JOINEDBATTLE 1 Bert pw9",
     b"LEFTBATTLE 1 Bert",
+    b"JOINBATTLEREQUEST Bert 10.0.0.2",
     b"UPDATEBATTLEINFO 1 0 1 123 Comet Catcher",
     b"REQUESTBATTLESTATUS",
     b"CLIENTBATTLESTATUS Anna 264345598 -1",
@@ -58,11 +59,16 @@ const LINES: [&[u8]; 53] = [
     b"SETSCRIPTTAGS a=1\tb=",
     b"SETSCRIPTTAGS game/a=b=c d",
     b"REMOVESCRIPTTAGS k2 k1",
+    b"#5 DISABLEUNITS armcom",
+    b"DISABLEUNITS armcom corcom armflash",
+    b"ENABLEUNITS corcom armcom",
+    b"ENABLEALLUNITS",
+    b"#5 ENABLEALLUNITS",
     b"FORCEQUITBATTLE",
     b"RING Anna",
 ];
 
-const REFUSED: [&[u8]; 51] = [
+const REFUSED: [&[u8]; 60] = [
     b"",
     b" PONG",
     b"PONG ",
@@ -114,6 +120,15 @@ const REFUSED: [&[u8]; 51] = [
     b"SETSCRIPTTAGS a b=1",
     b"SETSCRIPTTAGS =1",
     b"SETSCRIPTTAGS a=1\t",
+    b"JOINBATTLEREQUEST Bert",
+    b"JOINBATTLEREQUEST Bert 10.0.0.2 x",
+    b"JOINBATTLEREQUEST a-b 10.0.0.2",
+    b"DISABLEUNITS",
+    b"DISABLEUNITS ",
+    b"DISABLEUNITS armcom  corcom",
+    b"ENABLEUNITS armcom ",
+    b"ENABLEUNITS arm\tcom",
+    b"ENABLEALLUNITS ",
 ];
 
 #[test]

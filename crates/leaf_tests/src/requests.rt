@@ -2,7 +2,7 @@
 
 use crate::verdict::same_for;
 use command_grammar::{Command, ReadFault, read_request};
-use line_words::{Pair, WordBuf};
+use line_words::{Pair, TextBuf, WordBuf};
 use std::alloc::{AllocError, Global};
 
 // The fault of a line that is no command.
@@ -32,7 +32,7 @@ fn id_of(alloc: Global, line: &[u8]) -> Result<Option<u32>, AllocError> {
 }
 
 // A line of each command.
-const GOOD_LINES: [&[u8]; 31] = [
+const GOOD_LINES: [&[u8]; 36] = [
     b"PING",
     b"CHANNELS",
     b"LEAVEBATTLE",
@@ -46,6 +46,8 @@ const GOOD_LINES: [&[u8]; 31] = [
     b"SAYPRIVATE Bert  hi",
     b"OPENBATTLE 0 0 * 8452 8 -1 0 123 Spring\t104.0\tComet Catcher\tAnna's game\tBA 9.46",
     b"JOINBATTLE 1 * pw9",
+    b"JOINBATTLEACCEPT Bert",
+    b"JOINBATTLEDENY Bert not today",
     b"UPDATEBATTLEINFO 0 1 123 Comet Catcher",
     b"MYBATTLESTATUS 4294967295 -1",
     b"SAYBATTLE ",
@@ -57,6 +59,9 @@ const GOOD_LINES: [&[u8]; 31] = [
     b"REMOVESTARTRECT 15",
     b"SETSCRIPTTAGS \ta=1\t\tb=",
     b"REMOVESCRIPTTAGS k2 k1 zz k2",
+    b"DISABLEUNITS armcom corcom armcom",
+    b"ENABLEUNITS x",
+    b"ENABLEALLUNITS",
     b"HANDICAP Anna 50",
     b"FORCETEAMNO Bert 5",
     b"FORCEALLYNO Bert 15",
@@ -73,19 +78,27 @@ fn each_command_is_read(rt: HostRuntime) {
     }
 }
 
-const FAULTS: [(&[u8], ReadFault); 13] = [
+const FAULTS: [(&[u8], ReadFault); 21] = [
     (b"ping", ReadFault::UnknownCommand),
     (b"#9", ReadFault::UnknownCommand),
     (b"#2147483648 PING", ReadFault::UnknownCommand),
     (b"SAY main", ReadFault::MissingArgument),
     (b"REMOVESCRIPTTAGS", ReadFault::MissingArgument),
+    (b"JOINBATTLEACCEPT ", ReadFault::MissingArgument),
+    (b"JOINBATTLEDENY", ReadFault::MissingArgument),
+    (b"DISABLEUNITS", ReadFault::MissingArgument),
+    (b"ENABLEUNITS  ", ReadFault::MissingArgument),
     (b"MYSTATUS 1x", ReadFault::BadNumber),
     (b"MYSTATUS 4294967296", ReadFault::BadNumber),
     (b"MYSTATUS 00000000001", ReadFault::BadNumber),
     (b"REMOVESTARTRECT 16", ReadFault::BadNumber),
     (b"JOIN a-b", ReadFault::BadName),
+    (b"JOINBATTLEACCEPT a-b", ReadFault::BadName),
+    (b"JOINBATTLEDENY a-b no", ReadFault::BadName),
     (b"JOIN a\tb", ReadFault::BadByte),
     (b"SAY main a\rb", ReadFault::BadByte),
+    (b"JOINBATTLEDENY Bert a\rb", ReadFault::BadByte),
+    (b"DISABLEUNITS arm\tcom", ReadFault::BadByte),
     (b"SETSCRIPTTAGS =1", ReadFault::BadPair),
 ];
 
@@ -126,9 +139,16 @@ enum Expected<'a> {
     MyStatus {
         status: u32,
     },
+    Deny {
+        user: &'a [u8],
+        reason: Option<&'a [u8]>,
+    },
+    Login {
+        authorises: bool,
+    },
 }
 
-const READ_LINES: [(&[u8], Expected<'static>); 6] = [
+const READ_LINES: [(&[u8], Expected<'static>); 16] = [
     (
         b"JOIN  main  ",
         Expected::Join {
@@ -161,6 +181,55 @@ const READ_LINES: [(&[u8], Expected<'static>); 6] = [
     (
         b"MYSTATUS 4294967295",
         Expected::MyStatus { status: 4294967295 },
+    ),
+    (
+        b"JOINBATTLEDENY Bert",
+        Expected::Deny {
+            user: b"Bert",
+            reason: None,
+        },
+    ),
+    (
+        b"JOINBATTLEDENY Bert ",
+        Expected::Deny {
+            user: b"Bert",
+            reason: Some(b""),
+        },
+    ),
+    (
+        b"JOINBATTLEDENY Bert not  today",
+        Expected::Deny {
+            user: b"Bert",
+            reason: Some(b"not  today"),
+        },
+    ),
+    (
+        b"LOGIN Anna X03MO1qnZdYdgyfeuILPmQ== 0 * TestLobby 1.0",
+        Expected::Login { authorises: false },
+    ),
+    (
+        b"LOGIN Anna X03MO1qnZdYdgyfeuILPmQ== 0 * TestLobby 1.0\t0",
+        Expected::Login { authorises: false },
+    ),
+    (
+        b"LOGIN Anna X03MO1qnZdYdgyfeuILPmQ== 0 * TestLobby 1.0\t0\tb",
+        Expected::Login { authorises: true },
+    ),
+    (
+        b"LOGIN Anna X03MO1qnZdYdgyfeuILPmQ== 0 * TestLobby 1.0\t0\ta b  sp",
+        Expected::Login { authorises: true },
+    ),
+    (
+        b"LOGIN Anna X03MO1qnZdYdgyfeuILPmQ== 0 * TestLobby 1.0\t0\tB bb",
+        Expected::Login { authorises: false },
+    ),
+    (
+        b"LOGIN Anna X03MO1qnZdYdgyfeuILPmQ== 0 * TestLobby 1.0\tb",
+        Expected::Login { authorises: false },
+    ),
+    (
+        b"LOGIN Anna X03MO1qnZdYdgyfeuILPmQ== 0 * TestLobby 1.0\t0\tb\tx",
+        Expected::Login { authorises: true },
     ),
 ];
 
@@ -199,11 +268,41 @@ fn is_status(command: &Command, status: u32) -> bool {
     }
 }
 
+fn is_text(text: &Option<TextBuf>, expected: Option<&[u8]>) -> bool {
+    match (text, expected) {
+        (Some(text), Some(expected)) => text.as_slice() == expected,
+        (None, None) => true,
+        _ => false,
+    }
+}
+
+fn is_deny(command: &Command, user: &[u8], reason: Option<&[u8]>) -> bool {
+    match command {
+        Command::JoinBattleDeny {
+            user: name,
+            reason: text,
+        } => name.as_slice() == user && is_text(text, reason),
+        _ => false,
+    }
+}
+
+fn is_login(command: &Command, authorises: bool) -> bool {
+    match command {
+        Command::Login {
+            authorises: asked,
+            ..
+        } => *asked == authorises,
+        _ => false,
+    }
+}
+
 fn has_arguments(command: &Command, expected: Expected<'_>) -> bool {
     match expected {
         Expected::Join { channel, key } => is_join(command, channel, key),
         Expected::SayPrivate { user, text } => is_private(command, user, text),
         Expected::MyStatus { status } => is_status(command, status),
+        Expected::Deny { user, reason } => is_deny(command, user, reason),
+        Expected::Login { authorises } => is_login(command, authorises),
     }
 }
 

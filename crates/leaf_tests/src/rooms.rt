@@ -7,7 +7,7 @@ use status_bits::BattleStatus;
 use std::alloc::Global;
 use std::process::Abort;
 
-fn word(alloc: Global, bytes: &[u8]) -> Option<WordBuf> {
+pub(crate) fn word(alloc: Global, bytes: &[u8]) -> Option<WordBuf> {
     WordBuf::of(Vec::from_slice(alloc, bytes).ok()?)
 }
 
@@ -16,7 +16,7 @@ fn sentence(alloc: Global, bytes: &[u8]) -> Option<SentenceBuf> {
 }
 
 /// One more member, of a name that no member has.
-fn join(room: &mut Room, member: &[u8]) -> bool {
+pub(crate) fn join(room: &mut Room, member: &[u8]) -> bool {
     match NameBuf::of(member) {
         Some(member) => !room.has_member(&member) && room.add_member(member, 0).is_ok(),
         None => false,
@@ -30,7 +30,7 @@ fn add_bot(room: &mut Room, alloc: Global, owner: &[u8], bot: &[u8]) -> Option<(
     room.add_bot(owner, bot, BattleStatus::zero(), 255, ai).ok()
 }
 
-fn has_members(room: &Room, wanted: &[&[u8]]) -> bool {
+pub(crate) fn has_members(room: &Room, wanted: &[&[u8]]) -> bool {
     let mut same = room.members().len() == wanted.len();
     for (member, bytes) in room.members().iter().zip(wanted) {
         same = same && member.name().as_slice() == *bytes;
@@ -56,7 +56,7 @@ fn fills(room: &mut Room, alloc: Global) -> bool {
 }
 
 /// A room of Anna alone.
-fn new_room(alloc: Global) -> Option<Room> {
+pub(crate) fn new_room(alloc: Global) -> Option<Room> {
     Room::new(alloc, NameBuf::of(b"Anna")?, 0).ok()
 }
 
@@ -113,7 +113,7 @@ fn set_tags(room: &mut Room, pairs: Option<PairList>) -> Option<Result<(), RoomE
     }
 }
 
-fn words(alloc: Global, wanted: &[&[u8]]) -> Option<Vec<WordBuf>> {
+pub(crate) fn words(alloc: Global, wanted: &[&[u8]]) -> Option<Vec<WordBuf>> {
     let mut list = Vec::new(alloc);
     for bytes in wanted {
         list.push(word(alloc, bytes)?).ok()?;
@@ -121,7 +121,7 @@ fn words(alloc: Global, wanted: &[&[u8]]) -> Option<Vec<WordBuf>> {
     Some(list)
 }
 
-fn has_words(list: &WordList, wanted: &[&[u8]]) -> bool {
+pub(crate) fn has_words(list: &WordList, wanted: &[&[u8]]) -> bool {
     let mut same = list.as_slice().len() == wanted.len();
     for (word, bytes) in list.as_slice().iter().zip(wanted) {
         same = same && word.as_slice() == *bytes;

@@ -269,8 +269,8 @@ numbered_changed last m c f = numbered_kept last m _ (λ q there. sym (there_cha
 
 pub numbered_after : (last : ℕ) (m : ByNumber Client) (c : ℕ) (change : Change) → Numbered last m → Numbered last (clients_after m c change)
 numbered_after last m c (LogIn name seat) numbered = numbered_changed last m c (in_phase (In name)) numbered
-numbered_after last m c (LogOut name battle true) numbered = numbered_changed last m c (in_phase Ended) numbered
-numbered_after last m c (LogOut name battle false) numbered = numbered_kept last m _ (there_without m c) numbered
+numbered_after last m c (LogOut name asks battle true) numbered = numbered_changed last m c (in_phase Ended) numbered
+numbered_after last m c (LogOut name asks battle false) numbered = numbered_kept last m _ (there_without m c) numbered
 numbered_after last m c Nothing numbered = numbered
 numbered_after last m c (Join channel name) numbered = numbered
 numbered_after last m c (Leave channel name) numbered = numbered

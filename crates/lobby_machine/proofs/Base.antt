@@ -14,18 +14,19 @@ use Rattle.std.specs.List.Sorted.{IsStrictlySortedBy}
 use Rattle.lobby_model.specs.State.{State, name_at}
 use Rattle.lobby_model.specs.Outcome.{is_named, everyone_but}
 use Rattle.lobby_model.proofs.Delivered.{same_number_is}
+use Rattle.lobby_machine.proofs.Seated.{Shrinks}
 use Rattle.lobby_machine.proofs.Walks.{apart_rising}
 use Rattle.lobby_post.specs.Posted.{has_number, AreApart, Reaches}
 use Rattle.std.specs.declared.cmp.Ordering.{Ordering}
 use Rattle.std.specs.Ordering.{eq_by_cmp}
 use Rattle.std.specs.BTreeMap.{is_at}
 use Rattle.std.specs.Map.{lookup, set_value}
-use Rattle.battle_room.specs.Room.{Room, has_member}
+use Rattle.battle_room.specs.Room.{Room, has_asker}
 use Rattle.lobby_machine.specs.declared.battles.RoomChange.{RoomChange}
 use Rattle.lobby_machine.specs.declared.battles.RoomChange.TheVariants as room
 use Rattle.lobby_model.specs.State.{Battle}
 use Rattle.lobby_machine.specs.declared.seats.Seat.{Seat}
-use Rattle.lobby_machine.specs.Battles.{AreSeated, battle_at, own_of, room_after}
+use Rattle.lobby_machine.specs.Battles.{AreSeated, IsOnly, asks_at, battle_at, concerns, room_after}
 use Rattle.lobby_machine.specs.Seats.{Agree, IsListed, client_in, is_some_number, numbers_but, seat_in, user_in, users_of}
 
 -- numbers that are neither of two that there may be
@@ -59,23 +60,38 @@ module _ {X : Type 0} (p : X → Bool) (m : ByNumber X) (sorted : T (is_sorted n
             contradiction (p e.1) found.1 (none e.0 e.1 found.0)
       ] refl
 
--- the battle that a user is in
+-- the battle whose room passes a test, of one whom it concerns
 module _ (battles : ByNumber Battle) (seats : ByName Seat) (sorted : T (is_sorted nat_cmp battles)) (seated : AreSeated battles seats)
-    (name : List ℕ) where
-  pub own_found : (number : ℕ) (battle : Battle) → at_number battles number ≡ Some battle → has_member name battle.room ≡ true
-      → own_of battles name ≡ Some (number, battle)
+    (name : List ℕ) (test : Room → Bool) (of_it : (rm : Room) → test rm ≡ true → concerns name rm ≡ true) where
+  pub own_found : (number : ℕ) (battle : Battle) → at_number battles number ≡ Some battle → test battle.room ≡ true
+      → find (λ e. test e.1.room) battles ≡ Some (number, battle)
   own_found number battle there in_it =
-      finds_sole (λ b. has_member name b.room) battles sorted number battle there in_it
-      (λ q y at_q in_y. same_Some q number (sym (seated name q y at_q in_y) ∙ seated name number battle there in_it))
+      finds_sole (λ b. test b.room) battles sorted number battle there in_it
+      (λ q y at_q in_y. same_Some q number (sym (seated.at name q y at_q (of_it y.room in_y)) ∙ seated.at name number battle there (of_it battle.room in_it)))
 
   pub own_none : ((number : ℕ) (battle : Battle) → battle_at (at_name seats name) ≡ Some number → at_number battles number ≡ Some battle
-      → has_member name battle.room ≡ false) → own_of battles name ≡ None
+      → test battle.room ≡ false) → find (λ e. test e.1.room) battles ≡ None
   own_none none =
-      finds_none (λ b. has_member name b.room) battles sorted
-      (λ q y at_q. elim (has_member name y.room) as (λ b. has_member name y.room ≡ b → b ≡ false) [
-        | true ↦ λ in_y. sym in_y ∙ none q y (seated name q y at_q in_y) at_q
+      finds_none (λ b. test b.room) battles sorted
+      (λ q y at_q. elim (test y.room) as (λ b. test y.room ≡ b → b ≡ false) [
+        | true ↦ λ in_y. sym in_y ∙ none q y (seated.at name q y at_q (of_it y.room in_y)) at_q
         | false ↦ λ out. refl
       ] refl)
+
+  pub own_nowhere : ((number : ℕ) (battle : Battle) → battle_at (at_name seats name) ≡ Some number → at_number battles number ≡ Some battle
+      → test battle.room ≡ false) → (at : Option ℕ) → IsOnly test battles at
+  own_nowhere none at = λ q y at_q in_y.
+      contradiction (test y.room) in_y (none q y (seated.at name q y at_q (of_it y.room in_y)) at_q)
+
+  -- it is in no other
+  pub own_only : (number : ℕ) (battle : Battle) → at_number battles number ≡ Some battle → test battle.room ≡ true → IsOnly test battles (Some number)
+  own_only number battle there in_it = λ q y at_q in_y.
+      sym (seated.at name number battle there (of_it battle.room in_it)) ∙ seated.at name q y at_q (of_it y.room in_y)
+
+-- the battle at which one asks
+pub asking_there : (o : Option Battle) (name : List ℕ) → asks_at o name ≡ true → (b : Battle) × (o ≡ Some b) × (has_asker name b.room ≡ true)
+asking_there None name asks = absurd (cc)
+asking_there (Some b) name asks = (b, refl, asks)
 
 -- a value that is written where it stands already
 pub set_same : {K X : Type 0} (R : K → K → Ordering) (k : K) (x : X) (m : List (K × X)) → lookup (is_at (R k)) m ≡ Some x
@@ -96,16 +112,22 @@ users_entered (e ∷ seats) k number =
     (elim (same_name k e.0) as (λ b. user_in (if b then seat_in number e.1 else e.1) ≡ user_in e.1) [ true ↦ refl | false ↦ refl ])
     ∙ ap (λ us. (e.0, user_in e.1) ∷ us) (users_entered seats k number)
 
--- what changes in a room lets nobody in
-pub in_after : (change : RoomChange) (rm : Room) (q : List ℕ) → has_member q (room_after change rm) ≡ true → has_member q rm ≡ true
-in_after (room.Status name status colour) rm q in_it = ap (is_among q) (sym (names_with_status name status colour rm)) ∙ in_it
-in_after (room.AddBot bot) rm q in_it = in_it
-in_after (room.BotStatus name status colour) rm q in_it = in_it
-in_after (room.RemoveBot name) rm q in_it = in_it
-in_after (room.SetRect ally rect) rm q in_it = in_it
-in_after (room.RemoveRect ally) rm q in_it = in_it
-in_after (room.SetTags pairs) rm q in_it = in_it
-in_after (room.RemoveTags keys) rm q in_it = in_it
+-- what changes in a room lets nobody in, and lets nobody ask
+pub shrinks_after : (change : RoomChange) (rm : Room) → Shrinks rm (room_after change rm)
+shrinks_after (room.Status name status colour) rm = record {
+  members = λ q in_it. ap (is_among q) (sym (names_with_status name status colour rm)) ∙ in_it;
+  askers = λ q h. h;
+}
+shrinks_after (room.AddBot bot) rm = record { members = λ q h. h; askers = λ q h. h }
+shrinks_after (room.BotStatus name status colour) rm = record { members = λ q h. h; askers = λ q h. h }
+shrinks_after (room.RemoveBot name) rm = record { members = λ q h. h; askers = λ q h. h }
+shrinks_after (room.SetRect ally rect) rm = record { members = λ q h. h; askers = λ q h. h }
+shrinks_after (room.RemoveRect ally) rm = record { members = λ q h. h; askers = λ q h. h }
+shrinks_after (room.SetTags pairs) rm = record { members = λ q h. h; askers = λ q h. h }
+shrinks_after (room.RemoveTags keys) rm = record { members = λ q h. h; askers = λ q h. h }
+shrinks_after (room.DisableUnits words) rm = record { members = λ q h. h; askers = λ q h. h }
+shrinks_after (room.EnableUnits words) rm = record { members = λ q h. h; askers = λ q h. h }
+shrinks_after room.EnableAllUnits rm = record { members = λ q h. h; askers = λ q h. h }
 
 -- what holds, holds on a refusal
 pub on_err : {A E : Type 0} {P : Type 0} (r : Result A E) → P → OnErr r P

@@ -56,7 +56,10 @@ counted_after clients users channels battles c last (Join channel name) can coun
 counted_after clients users channels battles c last (Leave channel name) can counted = counted
 counted_after clients users channels battles c last (InBattles (Open number name battle)) can counted = can.2
 counted_after clients users channels battles c last (InBattles (battle.Join number name)) can counted = counted
+counted_after clients users channels battles c last (InBattles (battle.Ask number name script_password)) can counted = counted
+counted_after clients users channels battles c last (InBattles (battle.LetIn number name)) can counted = counted
+counted_after clients users channels battles c last (InBattles (battle.StopAsking number name)) can counted = counted
 counted_after clients users channels battles c last (InBattles (battle.Leave number name)) can counted = counted
 counted_after clients users channels battles c last (InBattles (Update number spectators locked map_hash map)) can counted = counted
 counted_after clients users channels battles c last (InBattles (InRoom number change)) can counted = counted
-counted_after clients users channels battles c last (LogOut name battle stays) can counted = counted
+counted_after clients users channels battles c last (LogOut name asks battle stays) can counted = counted

@@ -1,25 +1,27 @@
 -- What a founder does with the members of its battle.
 use Rattle.std.proofs.Common.{◌≡◌, ℕ, ℤ, List, [], ◌∷◌, refl, sym, ap, subst, ◌∙◌, true, false, not, append-nil}
-use Rattle.std.specs.Prelude.{Some}
+use Rattle.std.specs.Prelude.{Option, Some}
 use Rattle.reply_grammar.specs.declared.Reply.TheVariants as reply
 use Rattle.line_words.specs.Table.{at_number, same_name}
 use Rattle.status_bits.specs.Fields.{with_number}
 use Rattle.status_bits.specs.BattleWord.{battle_table, team, ally, player, handicap}
-use Rattle.battle_room.specs.Room.{Member, has_member, member_of, status_in, colour_in, status_of, colour_of}
+use Rattle.battle_room.specs.Room.{Asker, Member, Room, asker_of, has_asker, has_member, member_of, status_in, colour_in, status_of, colour_of}
 use Rattle.lobby_model.specs.State.{State, Battle, battle_of}
 use Rattle.lobby_model.specs.Texts.{not_the_founder, no_such_member, cannot_kick_yourself}
-use Rattle.lobby_model.specs.Outcome.{Happening, Outcome, Done, tell, user, only_told, refuse_if, message}
-use Rattle.lobby_model.specs.Battles.{is_founder, in_own, as_founder, member_has, leaves_battle}
+use Rattle.lobby_model.specs.Outcome.{Happening, Outcome, Done, done, tell, user, only_told, refuse_if, message}
+use Rattle.lobby_model.specs.Battles.{accept, change_room, deny, if_asks, is_founder, in_own, as_founder, joining, let_into, member_has, leaves_battle, reason_or_default, turned_away, with_asker_of}
 use Rattle.lobby_model.specs.Rooms.{with_member_of, kick}
+use Rattle.line_words.proofs.Once.{contradiction}
+use Rattle.line_words.proofs.Tables.{same_name_is}
 use Rattle.lobby_post.specs.Posted.{Posted, Told}
 use Rattle.lobby_post.proofs.Telling.{told_then}
 use Rattle.lobby_machine.specs.declared.rules.rooms.Force.{Force}
 use Rattle.lobby_machine.specs.declared.rules.rooms.Force.TheVariants as force
-use Rattle.lobby_machine.specs.declared.battles.BattleChange.TheVariants.{Leave}
+use Rattle.lobby_machine.specs.declared.battles.BattleChange.TheVariants.{Leave, LetIn}
 use Rattle.lobby_machine.specs.declared.change.Change.{Change}
 use Rattle.lobby_machine.specs.declared.change.Change.TheVariants.{InBattles}
-use Rattle.lobby_machine.specs.Battles.{left_at}
-use Rattle.lobby_machine.specs.BattleTalk.{forced, forced_status, forced_colour, status_change}
+use Rattle.lobby_machine.specs.Battles.{AskOutside, asks_at, left_at, let_in}
+use Rattle.lobby_machine.specs.BattleTalk.{forced, forced_status, forced_colour, status_change, stops_asking}
 use Rattle.lobby_machine.specs.Answers.{Obeyed}
 use Rattle.lobby_machine.proofs.InBattles.{leaves_effect}
 
@@ -77,3 +79,40 @@ module _ (s : State) (me name : List ℕ) (number : ℕ) (battle : Battle) (own 
           effect = leaves_effect s name number battle ∙ (λ i. record s { battles = left_at s.battles number (sym copied i) (sym in_place i) });
           can_be = tt;
         })
+
+  -- one who asks to join its battle
+  module _ (c : ℕ) (old new : Posted) (asker : Asker) (found : asker_of name battle.room ≡ Some asker) where
+    asker_is : (rest : Asker → ℕ → Battle → Happening) → with_asker_of s me name rest ≡ done (rest asker number battle)
+    asker_is rest =
+        founder_is (λ id b. if_asks (asker_of name b.room) (λ a. done (rest a id b)))
+        ∙ ap (λ o. if_asks o (λ a. done (rest a number battle))) found
+
+    pub accepted_so : (copy : List ℕ) (script_password : Option (List ℕ)) → asker.name ≡ name → at_number s.battles number ≡ Some battle
+        → has_asker name battle.room ≡ true → script_password ≡ asker.script_password → copy ≡ name
+        → Told s old new (joining name number battle script_password) → Obeyed s c old new (InBattles (LetIn number copy)) (accept s me name)
+    accepted_so copy script_password named in_place asks same copied told =
+        subst (λ o. Obeyed s c old new (InBattles (LetIn number copy)) o) (sym (asker_is let_into)) (record {
+          told = subst (λ n. Told s old new (joining n number battle asker.script_password)) (sym named)
+              (subst (λ w. Told s old new (joining name number battle w)) same told);
+          effect = λ i. change_room s number (let_in ((named ∙ sym copied) i));
+          can_be = ap (λ o. asks_at o copy) in_place ∙ ap (λ n. has_asker n battle.room) copied ∙ asks;
+        })
+
+    pub denied_so : (reason : Option (List ℕ)) (words : List ℕ) (change : Change) → words ≡ reason_or_default reason → change ≡ stops_asking number name
+        → Told s old new (tell (user name) (reply.JoinBattleFailed words ∷ []) ∷ []) → Obeyed s c old new change (deny s me name reason)
+    denied_so reason words change said is told =
+        subst (λ o. Obeyed s c old new change o) (sym (asker_is (λ a id b. turned_away name (reason_or_default reason) id)))
+        (subst (λ x. Obeyed s c old new x (done (turned_away name (reason_or_default reason) number))) (sym is) (record {
+          told = subst (λ w. Told s old new (tell (user name) (reply.JoinBattleFailed w ∷ []) ∷ [])) said told;
+          effect = refl;
+          can_be = tt;
+        }))
+
+-- one who asks to join a battle is none of its members
+pub other_than : (name me : List ℕ) (room : Room) → AskOutside room → has_asker name room ≡ true → has_member me room ≡ true
+    → same_name name me ≡ false
+other_than name me room outside asks is_in =
+    elim (same_name name me) as (λ t. same_name name me ≡ t → t ≡ false) [
+      | true ↦ λ t. contradiction (has_member name room) (ap (λ n. has_member n room) (same_name_is name me t) ∙ is_in) (outside name asks)
+      | false ↦ λ t. refl
+    ] refl

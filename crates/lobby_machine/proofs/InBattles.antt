@@ -17,28 +17,28 @@ use Rattle.reply_grammar.proofs.Bytes.{all_append}
 use Rattle.reply_grammar.proofs.Decimals.{own, digits_words}
 use Rattle.line_words.specs.Table.{ByName, ByNumber, at_name, at_number, change_number, without_number, same_name, same_number}
 use Rattle.line_words.proofs.Tables.{same_name_itself}
-use Rattle.battle_room.specs.Room.{Room, Bot, bots_of, has_member, member_names, status_of, with_member, without_member}
+use Rattle.battle_room.specs.Room.{Bot, asker_names, bots_of, has_member, member_names, status_of, with_member, without_member}
 use Rattle.status_bits.specs.Fields.{merge}
 use Rattle.status_bits.specs.BattleWord.{battle_table}
-use Rattle.lobby_model.specs.State.{State, Battle, battle_of, name_of}
-use Rattle.lobby_model.specs.Texts.{already_in_battle, no_number_left, battle_is_locked, wrong_password}
-use Rattle.lobby_model.specs.Outcome.{Letter, Outcome, Reader, done, everyone, everyone_but, is_named, lines_for, refuse_if, tell, user, users}
+use Rattle.lobby_model.specs.State.{State, Battle, asked_by, battle_of, name_of}
+use Rattle.lobby_model.specs.Texts.{already_asking, already_in_battle, battle_was_closed, no_number_left, not_in_battle, battle_is_locked, wrong_password}
+use Rattle.lobby_model.specs.Outcome.{Letter, Outcome, Reader, Refused, message, done, everyone, is_named, lines_for, refuse_if, tell, user, users}
 use Rattle.lobby_model.specs.Events.{reader_of, under}
-use Rattle.lobby_model.specs.Battles.{bot_line, change_room, closes, member_leaves, joins_battle, join_battle, if_there, lets_in, in_battle, in_own, in_room, ip_text, is_founder, leaves_battle, leave_battle, member_has, open_battle, opened_line, opens, rect_line, room_lines, say_in_battle, set_own_status, status_line}
+use Rattle.lobby_model.specs.Battles.{asks_no_more, asks_to_join, change_room, closes, is_authorising, joining, joins_or_asks, leave_or_drop, member_leaves, join_battle, if_there, lets_in, in_battle, in_own, in_room, ip_text, is_founder, leaves_battle, leave_battle, member_has, open_battle, opened_line, opens, say_in_battle, set_own_status}
 use Rattle.lobby_model.proofs.Delivered.{same_number_is}
 use Rattle.lobby_post.specs.Mail.{bytes_for}
 use Rattle.lobby_post.specs.Posted.{Posted, Reaches, Told, addressed, blank, has_number, with_own}
-use Rattle.lobby_post.proofs.Telling.{told_own, told_then, with_own_more}
+use Rattle.lobby_post.proofs.Telling.{told_nothing, told_own, told_then}
 use Rattle.lobby_machine.specs.declared.seats.Seat.{Seat}
 use Rattle.lobby_machine.specs.declared.rules.battles.Leaving.{Leaving}
 use Rattle.lobby_machine.specs.declared.rules.battles.Leaving.TheVariants.{Seen, Unseen}
-use Rattle.lobby_machine.specs.declared.battles.BattleChange.TheVariants.{Open, Join, Leave}
+use Rattle.lobby_machine.specs.declared.battles.BattleChange.TheVariants.{Open, Join, Ask, Leave}
 use Rattle.lobby_machine.specs.declared.change.Change.{Change}
 use Rattle.lobby_machine.specs.declared.change.Change.TheVariants.{Nothing, InBattles}
 use Rattle.lobby_machine.specs.Seats.{Agree, client_in}
 use Rattle.lobby_machine.specs.Answers.{Obeyed}
-use Rattle.lobby_machine.specs.Battles.{left_at, room_changed}
-use Rattle.lobby_machine.specs.BattleTalk.{bots_gone, shown, shown_to, status_change}
+use Rattle.lobby_machine.specs.Battles.{CanEnter, IsNew, left_at, room_changed}
+use Rattle.lobby_machine.specs.BattleTalk.{bots_gone, shown, shown_to, status_change, stops_asking}
 use Rattle.lobby_machine.proofs.Walks.{reaches_user}
 
 -- one whose event it is, and who is logged in, is the one who gets its own lines
@@ -60,25 +60,18 @@ told_own_user s seats old mid new me lines agree mine written is =
     (subst (λ cs. Reaches s old.issuer cs (user me)) here (reaches_user s old.issuer seats me agree))
     (is ∙ ap (addressed mid) (here ∙ ap (λ (p : Posted). p.issuer ∷ []) (sym written))) refl
 
--- lines written one behind another
-pub own_then : (a b c : Posted) (xs ys : List Reply) → b ≡ with_own a xs → c ≡ with_own b ys → c ≡ with_own a (xs ++ ys)
-own_then a b c xs ys first second = second ∙ ap (λ p. with_own p ys) first ∙ with_own_more a xs ys
-
-pub room_written : (number : ℕ) (room : Room) (a b c d e : Posted) → b ≡ with_own a (map status_line room.members)
-    → c ≡ with_own b (map (bot_line number) room.bots) → d ≡ with_own c (map (λ r. rect_line r.0 r.1) room.rects)
-    → e ≡ with_own d (map (λ t. reply.SetScriptTags (t ∷ [])) room.tags) → e ≡ with_own a (room_lines number room)
-room_written number room a b c d e statuses bots rects tags =
-    own_then a b e _ _ statuses (own_then b c e _ _ bots (own_then c d e _ _ rects tags))
-
--- letters that give each reader the same lines
-pub told_alike : (s : State) (a b : Posted) (xs ys : List Letter) → ((reader : Reader) → lines_for reader xs ≡ lines_for reader ys)
-    → Told s a b xs → Told s a b ys
-told_alike s a b xs ys same told = record {
+-- letters that give each client the same lines, and each reader
+pub told_same : (s : State) (a b : Posted) (xs ys : List Letter)
+    → ((d : ℕ) → lines_for (reader_of s a.issuer d) xs ≡ lines_for (reader_of s a.issuer d) ys) → Told s a b xs → Told s a b ys
+told_same s a b xs ys same told = record {
   issuer = told.issuer;
   id = told.id;
-  bytes = λ d. told.bytes d ∙ ap (λ ls. bytes_for a.sent d ++ print_all (under (if same_number d a.issuer then a.id else None) ls))
-      (same (reader_of s a.issuer d));
+  bytes = λ d. told.bytes d ∙ ap (λ ls. bytes_for a.sent d ++ print_all (under (if same_number d a.issuer then a.id else None) ls)) (same d);
 }
+
+pub told_alike : (s : State) (a b : Posted) (xs ys : List Letter) → ((reader : Reader) → lines_for reader xs ≡ lines_for reader ys)
+    → Told s a b xs → Told s a b ys
+told_alike s a b xs ys same = told_same s a b xs ys (λ d. same (reader_of s a.issuer d))
 
 -- the bots of one who leaves, bot by bot
 abbrev pub gone : Leaving → ℕ → List (List ℕ) → List Bot → List Letter
@@ -106,10 +99,11 @@ gone_one Unseen number names reader (bot ∷ bots) after =
 -- one who leaves a battle: it closes, or its bots go and it leaves
 module _ (s : State) (old new : Posted) (number : ℕ) (name : List ℕ) (battle : Battle) where
   abbrev leaving_told : Leaving → Bool → List Letter
-  leaving_told leaving founder = (shown leaving (if founder then closes number else member_leaves name number battle)).told
+  leaving_told leaving founder = (shown leaving (if founder then closes number battle else member_leaves name number battle)).told
 
   pub closes_told : (leaving : Leaving) → is_founder name battle ≡ true
-      → Told s old new (shown_to leaving (tell everyone (reply.BattleClosed number ∷ [])) ∷ [])
+      → Told s old new (shown_to leaving (tell (users (asker_names battle.room)) (reply.JoinBattleFailed battle_was_closed ∷ []))
+      ∷ shown_to leaving (tell everyone (reply.BattleClosed number ∷ [])) ∷ [])
       → Told s old new (shown leaving (leaves_battle name number battle)).told
   closes_told Seen founder told = subst (λ b. Told s old new (leaving_told Seen b)) (sym founder) told
   closes_told Unseen founder told = subst (λ b. Told s old new (leaving_told Unseen b)) (sym founder) told
@@ -148,7 +142,7 @@ bot_told s old mid new leaving number names owner bots i default bot within is b
     (told_then s old mid new _ _ before (picked s mid new leaving number names bot (same_name owner bot.owner) told))
 
 -- a battle that one is in
-found_passes : {X : Type 0} (p : X → Bool) (xs : List X) (x : X) → find p xs ≡ Some x → p x ≡ true
+pub found_passes : {X : Type 0} (p : X → Bool) (xs : List X) (x : X) → find p xs ≡ Some x → p x ≡ true
 found_passes p [] x is = absurd (cc)
 found_passes p (y ∷ xs) x is =
     elim (p y) as (λ b. p y ≡ b → (if b then Some y else find p xs) ≡ Some x → p x ≡ true) [
@@ -176,76 +170,109 @@ pub on_ok : {A E : Type 0} (r : Result A E) (P Q : Type 0) → (P → Q) → OnO
 on_ok (Ok x) P Q f h = f h
 on_ok (Err e) P Q f h = tt
 
+-- one who is in no battle, and asks to join none
+can_enter : (s : State) (c : ℕ) (me name : List ℕ) → name ≡ me → name_of s c ≡ Some me → battle_of s me ≡ None → asked_by s me ≡ None
+    → CanEnter s.clients s.battles c name
+can_enter s c me name named mine free unasked = record {
+  user = mine ∙ ap (λ n. Some n) (sym named);
+  free = ap (battle_of s) named ∙ free;
+  unasked = ap (asked_by s) named ∙ unasked;
+}
+
 -- one who opens a battle
 pub opened_so : (s : State) (c : ℕ) (old new : Posted) (me : List ℕ) (number : ℕ) (name : List ℕ) (battle : Battle) (outcome : Outcome)
-    → outcome ≡ open_battle s me battle → battle_of s me ≡ None → (s.last_battle == 2147483647) ≡ false → number ≡ s.last_battle + 1
-    → number ≤ 2147483647 → name ≡ me → name_of s c ≡ Some me → member_names battle.room ≡ me ∷ []
+    → outcome ≡ open_battle s me battle → battle_of s me ≡ None → asked_by s me ≡ None → (s.last_battle == 2147483647) ≡ false → number ≡ s.last_battle + 1
+    → number ≤ 2147483647 → name ≡ me → name_of s c ≡ Some me → IsNew battle me
     → Told s old new (tell everyone (opened_line number battle.info ∷ []) ∷ tell (user me) (reply.OpenBattle number ∷ reply.RequestBattleStatus ∷ []) ∷ [])
     → Obeyed s c old new (InBattles (Open number name battle)) outcome
-opened_so s c old new me number name battle outcome is free left numbered small named mine members told =
+opened_so s c old new me number name battle outcome is free unasked left numbered small named mine alone told =
     let comes : outcome ≡ done (opens name number battle) =
     is
-    ∙ (λ i. refuse_if (is_some (free i)) (reply.OpenBattleFailed already_in_battle)
-    (refuse_if (left i) (reply.OpenBattleFailed no_number_left) (done (opens me (s.last_battle + 1) battle))))
+    ∙ (λ i. refuse_if (is_some (free i)) (reply.OpenBattleFailed already_in_battle) (refuse_if (is_some (unasked i)) (reply.OpenBattleFailed already_asking)
+    (refuse_if (left i) (reply.OpenBattleFailed no_number_left) (done (opens me (s.last_battle + 1) battle)))))
     ∙ (λ i. done (opens (sym named i) (sym numbered i) battle)) in
     subst (λ o. Obeyed s c old new (InBattles (Open number name battle)) o) (sym comes) (record {
       told = subst (λ n. Told s old new (opens n number battle).told) (sym named) told;
       effect = refl;
       can_be = (
-        record { user = mine ∙ ap (λ n. Some n) (sym named); free = ap (battle_of s) named ∙ free },
-        members ∙ ap (λ n. n ∷ []) (sym named),
+        can_enter s c me name named mine free unasked,
+        subst (λ n. IsNew battle n) (sym named) alone,
         small,
       );
     })
 
--- one who joins a battle
-pub joined_so : (s : State) (c : ℕ) (old a b new : Posted) (me : List ℕ) (number : ℕ) (name : List ℕ) (battle : Battle)
-    (password script_password : Option (List ℕ))
-    → battle_of s me ≡ None → at_number s.battles number ≡ Some battle → battle.info.locked ≡ false → lets_in battle.password password ≡ true
-    → name ≡ me → name_of s c ≡ Some me
-    → Told s old a (tell (user me) (reply.JoinBattle number battle.game_hash ∷ reply.JoinedBattle number me None
-    ∷ (room_lines number battle.room ++ reply.RequestBattleStatus ∷ [])) ∷ [])
-    → Told s a b (tell (user battle.info.founder) (reply.JoinedBattle number me script_password ∷ []) ∷ [])
-    → Told s b new (tell (everyone_but (me ∷ battle.info.founder ∷ [])) (reply.JoinedBattle number me None ∷ []) ∷ [])
-    → Obeyed s c old new (InBattles (Join number name)) (join_battle s me number password script_password)
-joined_so s c old a b new me number name battle password script_password free there unlocked fits named mine first second third =
-    let joined : Outcome = done (joins_battle me number battle script_password) in
-    let comes : join_battle s me number password script_password ≡ joined =
-    (λ i. refuse_if (is_some (free i)) (reply.JoinBattleFailed already_in_battle)
-    (if_there (there i) (λ battle.
-    refuse_if battle.info.locked (reply.JoinBattleFailed battle_is_locked) (
-    refuse_if (not (lets_in battle.password password)) (reply.JoinBattleFailed wrong_password)
-    (done (joins_battle me number battle script_password))))))
-    ∙ (λ i. refuse_if (unlocked i) (reply.JoinBattleFailed battle_is_locked) (
-    refuse_if (not (fits i)) (reply.JoinBattleFailed wrong_password) joined)) in
-    subst (λ o. Obeyed s c old new (InBattles (Join number name)) o) (sym comes) (record {
-      told = told_then s old b new _ _ (told_then s old a b _ _ first second) third;
-      effect = λ i. change_room s number (with_member (sym named i));
-      can_be = record { user = mine ∙ ap (λ n. Some n) (sym named); free = ap (battle_of s) named ∙ free };
-    })
+-- one who joins a battle, or asks to, once all tests were passed
+module _ (s : State) (c : ℕ) (old new : Posted) (me ip : List ℕ) (number : ℕ) (battle : Battle) (password script_password : Option (List ℕ))
+    (free : battle_of s me ≡ None) (unasked : asked_by s me ≡ None) (there : at_number s.battles number ≡ Some battle)
+    (unlocked : battle.info.locked ≡ false) (fits : lets_in battle.password password ≡ true) (mine : name_of s c ≡ Some me) where
+  comes_to : (asks : Bool) → is_authorising (at_name s.users battle.info.founder) ≡ asks
+      → join_battle s me ip number password script_password ≡ done (joins_or_asks asks me number battle script_password ip)
+  comes_to asks is =
+      let happens : Bool → Battle → Outcome = λ b x. done (joins_or_asks b me number x script_password ip) in
+      (λ i. refuse_if (is_some (free i)) (reply.JoinBattleFailed already_in_battle)
+      (refuse_if (is_some (unasked i)) (reply.JoinBattleFailed already_asking)
+      (if_there (there i) (λ battle.
+      refuse_if battle.info.locked (reply.JoinBattleFailed battle_is_locked) (
+      refuse_if (not (lets_in battle.password password)) (reply.JoinBattleFailed wrong_password)
+      (happens (is_authorising (at_name s.users battle.info.founder)) battle))))))
+      ∙ (λ i. refuse_if (unlocked i) (reply.JoinBattleFailed battle_is_locked) (
+      refuse_if (not (fits i)) (reply.JoinBattleFailed wrong_password) (happens (is i) battle)))
+
+  pub joined_so : (name : List ℕ) → is_authorising (at_name s.users battle.info.founder) ≡ false → name ≡ me
+      → Told s old new (joining me number battle script_password)
+      → Obeyed s c old new (InBattles (Join number name)) (join_battle s me ip number password script_password)
+  joined_so name at_once named told =
+      subst (λ o. Obeyed s c old new (InBattles (Join number name)) o) (sym (comes_to false at_once)) (record {
+        told = told;
+        effect = λ i. change_room s number (with_member (sym named i));
+        can_be = can_enter s c me name named mine free unasked;
+      })
+
+  pub asked_so : (change : Change) → is_authorising (at_name s.users battle.info.founder) ≡ true
+      → change ≡ InBattles (Ask number me script_password) → Told s old new (asks_to_join me number battle script_password ip).told
+      → Obeyed s c old new change (join_battle s me ip number password script_password)
+  asked_so change asks is told =
+      subst (λ o. Obeyed s c old new change o) (sym (comes_to true asks))
+      (subst (λ x. Obeyed s c old new x (done (asks_to_join me number battle script_password ip))) (sym is) (record {
+        told = told;
+        effect = refl;
+        can_be = can_enter s c me me refl mine free unasked;
+      }))
 
 -- what a battle's closing, or a member's leaving, makes of the battles
 pub leaves_effect : (t : State) (me : List ℕ) (number : ℕ) (battle : Battle)
     → (leaves_battle me number battle).after t ≡ record t { battles = left_at t.battles number me (Some battle) }
 leaves_effect t me number battle =
-    elim (is_founder me battle) as (λ b. (if b then closes number else member_leaves me number battle).after t
+    elim (is_founder me battle) as (λ b. (if b then closes number battle else member_leaves me number battle).after t
     ≡ record t { battles = if b then without_number t.battles number else change_number t.battles number (room_changed (without_member me)) }) [
       | true ↦ refl
       | false ↦ refl
     ]
 
--- one who leaves its battle
+-- one who leaves its battle, or asks no more to join one
 pub left_so : (s : State) (c : ℕ) (old new : Posted) (me : List ℕ) (number : ℕ) (name : List ℕ) (battle : Battle)
-    → battle_of s me ≡ Some (number, battle) → at_number s.battles number ≡ Some battle → name ≡ me
+    → asked_by s me ≡ None → battle_of s me ≡ Some (number, battle) → at_number s.battles number ≡ Some battle → name ≡ me
     → Told s old new (leaves_battle me number battle).told
     → Obeyed s c old new (InBattles (Leave number name)) (leave_battle s me)
-left_so s c old new me number name battle own there named told =
-    in_battle_so s c old new me number battle own (InBattles (Leave number name)) (λ id battle. done (leaves_battle me id battle)) (record {
+left_so s c old new me number name battle unasked own there named told =
+    subst (λ o. Obeyed s c old new (InBattles (Leave number name)) (leave_or_drop s me o)) (sym unasked)
+    (in_battle_so s c old new me number battle own (InBattles (Leave number name)) (λ id battle. done (leaves_battle me id battle)) (record {
       told = subst (λ ls. Told s old new ls) (sym (append-nil (leaves_battle me number battle).told)) told;
       effect = leaves_effect s me number battle
           ∙ (λ i. record s { battles = left_at s.battles number (sym named i) (sym there i) });
       can_be = tt;
-    })
+    }))
+
+pub not_in_one : (s : State) (me : List ℕ) → asked_by s me ≡ None → battle_of s me ≡ None → leave_battle s me ≡ Refused (message not_in_battle)
+not_in_one s me unasked none =
+    (λ i. leave_or_drop s me (unasked i)) ∙ (λ i. in_own (none i) (λ id battle. done (leaves_battle me id battle)))
+
+pub dropped_so : (s : State) (c : ℕ) (post : Posted) (me : List ℕ) (number : ℕ) (battle : Battle) (change : Change)
+    → asked_by s me ≡ Some (number, battle) → change ≡ stops_asking number me → Obeyed s c post post change (leave_battle s me)
+dropped_so s c post me number battle change asks is =
+    subst (λ o. Obeyed s c post post change (leave_or_drop s me o)) (sym asks)
+    (subst (λ x. Obeyed s c post post x (done (asks_no_more me number))) (sym is)
+    (record { told = told_nothing s post; effect = refl; can_be = tt }))
 
 -- one who says something in its battle
 pub said_so : (s : State) (c : ℕ) (old new : Posted) (me : List ℕ) (number : ℕ) (battle : Battle) (line : Reply)

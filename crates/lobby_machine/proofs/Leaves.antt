@@ -1,21 +1,26 @@
 -- What a log out tells and changes, by the definitions.
 use Rattle.std.proofs.Common.{◌≡◌, ℕ, Bool, true, false, List, [], ◌∷◌, ◌++◌, map, refl, sym, ap, subst, ◌∙◌, append-nil}
-use Rattle.std.specs.Prelude.{Option, Some, None, flat_map}
-use Rattle.line_words.specs.Table.{at_number}
+use Rattle.std.specs.Prelude.{Option, Some, None, IfSome, flat_map, if◌then◌else◌}
+use Rattle.std.specs.Option.{option_map}
+use Rattle.std.specs.Ordering.{nat_cmp}
+use Rattle.std.specs.FinMap.{nat_cmp-IsAntisymmetric}
+use Rattle.line_words.specs.Table.{ByNumber, at_number, same_number}
+use Rattle.line_words.proofs.Tables.{at-change}
+use Rattle.battle_room.specs.Room.{has_asker, has_member, without_asker}
 use Rattle.channel_book.specs.Channels.{Channels, channels_of, all_left}
 use Rattle.reply_grammar.specs.declared.Reply.TheVariants as reply
-use Rattle.lobby_model.specs.State.{State, Battle, battle_of, name_of}
+use Rattle.lobby_model.specs.State.{State, Battle, asked_by, battle_of, name_of}
 use Rattle.lobby_model.specs.Outcome.{Happening, Letter, Done, state_after, tell, others, users}
 use Rattle.lobby_model.specs.Sessions.{departs, is_gone, to_others, unseen}
 use Rattle.lobby_model.specs.Channels.{leaves_all}
-use Rattle.lobby_model.specs.Battles.{leaves_battle, leaves_own}
+use Rattle.lobby_model.specs.Battles.{drops_own, leaves_battle, leaves_own}
 use Rattle.lobby_post.specs.Mail.{parted}
 use Rattle.lobby_post.specs.Posted.{Posted, Told, but_issuer}
 use Rattle.lobby_post.proofs.Telling.{told_nothing, told_then}
 use Rattle.lobby_machine.specs.declared.change.Change.TheVariants.{LogOut}
 use Rattle.lobby_machine.specs.Answers.{Obeyed}
-use Rattle.lobby_machine.specs.Battles.{IsOnly, left_at}
-use Rattle.lobby_machine.specs.Changes.{first_of, left_own, parts}
+use Rattle.lobby_machine.specs.Battles.{IsOnly, left_at, left_battle, room_changed, unasked}
+use Rattle.lobby_machine.specs.Changes.{first_of, left_own, parts, unasked_own}
 use Rattle.lobby_machine.specs.BattleTalk.{left_battle_letters}
 use Rattle.lobby_machine.specs.Seats.{without_one}
 use Rattle.lobby_machine.specs.Talk.{left_letters}
@@ -32,16 +37,41 @@ unseen_left me (e ∷ cs) = ap (λ ls. tell (but_issuer (users e.1)) (reply.Left
 
 -- where nobody is logged in
 pub nobody_departs : (s : State) (c : ℕ) (stays : Bool) (post : Posted) → None ≡ name_of s c
-    → Obeyed s c post post (LogOut None None stays) (departs s None (parts c stays))
+    → Obeyed s c post post (LogOut None None None stays) (departs s None (parts c stays))
 nobody_departs s c true post nobody = record { told = told_nothing s post; effect = refl; can_be = (nobody, tt) }
 nobody_departs s c false post nobody = record { told = told_nothing s post; effect = refl; can_be = (nobody, tt) }
 
-module _ (s : State) (c : ℕ) (me : List ℕ) where
-  -- all that happens before the client ends
-  abbrev before : Option (ℕ × Battle) → List Happening
-  before own = map unseen (leaves_all me s ∷ (leaves_own me own ++ is_gone me ∷ []))
+-- it is the founder who closes a battle, also where one who asked there stopped
+left_as : (me : List ℕ) (asks : Option ℕ) (m : ByNumber Battle) (n : ℕ) (x : Battle) → at_number m n ≡ Some x
+    → left_at (unasked_own (Some me) asks m) n me (Some x) ≡ left_battle n me (unasked_own (Some me) asks m)
+left_as me None m n x there = ap (left_at m n me) (sym there)
+left_as me (Some k) m n x there =
+    elim (same_number k n) as (λ b. left_at (unasked k me m) n me (Some x)
+    ≡ left_at (unasked k me m) n me (Some (if b then room_changed (without_asker me) x else x))) [ true ↦ refl | false ↦ refl ]
+    ∙ ap (left_at (unasked k me m) n me) (sym (at-change nat_cmp nat_cmp-IsAntisymmetric (room_changed (without_asker me)) m k n
+    ∙ ap (option_map (λ y. if same_number k n then room_changed (without_asker me) y else y)) there))
 
-  letters : (own : Option (ℕ × Battle)) (stays : Bool) → flat_map (λ h. h.told) (before own ++ parts c stays ∷ []) ≡ gone me s.channels own
+-- the number of the battle that one asks to join
+asked_where : (s : State) (me : List ℕ) (asks : Option ℕ) → IfSome asks (λ number. (b : Battle) × (asked_by s me ≡ Some (number, b)))
+    → (asks ≡ None → asked_by s me ≡ None) → first_of (asked_by s me) ≡ asks
+asked_where s me None some none = ap first_of (none refl)
+asked_where s me (Some number) some none = ap first_of some.1
+
+module _ (s : State) (c : ℕ) (me : List ℕ) where
+  -- all that happens before the client ends, from the leaving of the battle on
+  abbrev after : Option (ℕ × Battle) → List Happening
+  after own = leaves_own me own ++ is_gone me ∷ []
+
+  abbrev before : Option (ℕ × Battle) → Option (ℕ × Battle) → List Happening
+  before asks own = map unseen (leaves_all me s ∷ (drops_own me asks ++ after own))
+
+  -- nobody is told that one asks no more
+  no_word : (asks own : Option (ℕ × Battle)) (stays : Bool)
+      → flat_map (λ h. h.told) (before asks own ++ parts c stays ∷ []) ≡ flat_map (λ h. h.told) (before None own ++ parts c stays ∷ [])
+  no_word None own stays = refl
+  no_word (Some e) own stays = refl
+
+  letters : (own : Option (ℕ × Battle)) (stays : Bool) → flat_map (λ h. h.told) (before None own ++ parts c stays ∷ []) ≡ gone me s.channels own
   letters None true = ap (λ ls. ls ++ gone me [] None) (unseen_left me (channels_of me s.channels))
   letters None false = ap (λ ls. ls ++ gone me [] None) (unseen_left me (channels_of me s.channels))
   letters (Some e) true =
@@ -51,43 +81,53 @@ module _ (s : State) (c : ℕ) (me : List ℕ) where
       (λ i. unseen_left me (channels_of me s.channels) i
       ++ (sym (append-nil (unseen (leaves_battle me e.0 e.1)).told) i ++ tell others (reply.RemoveUser me ∷ []) ∷ []))
 
-  -- with its battle left
+  -- without what it asked, with its battle left, and with the rest that is changed
+  abbrev unasking : Option ℕ → State
+  unasking asks = record s { channels = all_left me s.channels; battles = unasked_own (Some me) asks s.battles }
+
   abbrev all_but_battles : State → Bool → State
   all_but_battles t stays = record t { clients = parted t.clients c stays; users = without_one me t.users }
 
-  effect : (own : Option (ℕ × Battle)) (stays : Bool) → ((e : ℕ × Battle) → own ≡ Some e → at_number s.battles e.0 ≡ Some e.1)
-      → state_after s (Done (before own ++ parts c stays ∷ []))
-      ≡ record s {
-        clients = parted s.clients c stays;
-        users = without_one me s.users;
-        channels = all_left me s.channels;
-        battles = left_own (Some me) (first_of own) s.battles;
-      }
-  effect None true there = refl
-  effect None false there = refl
-  effect (Some e) true there =
-      ap (λ t. all_but_battles t true) (leaves_effect (record s { channels = all_left me s.channels }) me e.0 e.1)
-      ∙ (λ i. all_but_battles (record s { channels = all_left me s.channels; battles = left_at s.battles e.0 me (sym (there e refl) i) }) true)
-  effect (Some e) false there =
-      ap (λ t. all_but_battles t false) (leaves_effect (record s { channels = all_left me s.channels }) me e.0 e.1)
-      ∙ (λ i. all_but_battles (record s { channels = all_left me s.channels; battles = left_at s.battles e.0 me (sym (there e refl) i) }) false)
+  dropped : (asks own : Option (ℕ × Battle)) (stays : Bool)
+      → state_after s (Done (before asks own ++ parts c stays ∷ []))
+      ≡ state_after (unasking (first_of asks)) (Done (map unseen (after own) ++ parts c stays ∷ []))
+  dropped None own stays = refl
+  dropped (Some e) own stays = refl
 
-  pub user_departs : (stays : Bool) (old a b new : Posted) (name : List ℕ) (battle : Option ℕ) → Some me ≡ name_of s c → name ≡ me
-      → battle ≡ first_of (battle_of s me) → IsOnly s.battles battle me
+  effect : (asks : Option ℕ) (own : Option (ℕ × Battle)) (stays : Bool)
+      → ((e : ℕ × Battle) → own ≡ Some e → at_number s.battles e.0 ≡ Some e.1)
+      → state_after (unasking asks) (Done (map unseen (after own) ++ parts c stays ∷ []))
+      ≡ all_but_battles (record s {
+        channels = all_left me s.channels;
+        battles = left_own (Some me) (first_of own) (unasked_own (Some me) asks s.battles);
+      }) stays
+  effect asks None true there = refl
+  effect asks None false there = refl
+  effect asks (Some e) true there =
+      ap (λ t. all_but_battles t true) (leaves_effect (unasking asks) me e.0 e.1
+      ∙ ap (λ (m : ByNumber Battle). record s { channels = all_left me s.channels; battles = m }) (left_as me asks s.battles e.0 e.1 (there e refl)))
+  effect asks (Some e) false there =
+      ap (λ t. all_but_battles t false) (leaves_effect (unasking asks) me e.0 e.1
+      ∙ ap (λ (m : ByNumber Battle). record s { channels = all_left me s.channels; battles = m }) (left_as me asks s.battles e.0 e.1 (there e refl)))
+
+  pub user_departs : (stays : Bool) (old a b new : Posted) (name : List ℕ) (asks battle : Option ℕ) → Some me ≡ name_of s c → name ≡ me
+      → IfSome asks (λ number. (b : Battle) × (asked_by s me ≡ Some (number, b))) → (asks ≡ None → asked_by s me ≡ None)
+      → IsOnly (has_asker me) s.battles asks
+      → battle ≡ first_of (battle_of s me) → IsOnly (has_member me) s.battles battle
       → ((e : ℕ × Battle) → battle_of s me ≡ Some e → at_number s.battles e.0 ≡ Some e.1)
       → Told s old a (left_letters me s.channels) → Told s a b (left_battle_letters me (battle_of s me))
       → Told s b new (tell others (reply.RemoveUser me ∷ []) ∷ [])
-      → Obeyed s c old new (LogOut (Some name) battle stays) (departs s (Some me) (parts c stays))
-  user_departs stays old a b new name battle mine named is only there first second third =
-      subst (λ (n : List ℕ). Obeyed s c old new (LogOut (Some n) battle stays) (departs s (Some me) (parts c stays))) (sym named) (record {
-        told = subst (λ (ls : List Letter). Told s old new ls) (sym (letters (battle_of s me) stays))
+      → Obeyed s c old new (LogOut (Some name) asks battle stays) (departs s (Some me) (parts c stays))
+  user_departs stays old a b new name asks battle mine named some none asks_only is only there first second third =
+      subst (λ (n : List ℕ). Obeyed s c old new (LogOut (Some n) asks battle stays) (departs s (Some me) (parts c stays))) (sym named) (record {
+        told = subst (λ (ls : List Letter). Told s old new ls) (sym (no_word (asked_by s me) (battle_of s me) stays ∙ letters (battle_of s me) stays))
             (told_then s old a new _ _ first (told_then s a b new _ _ second third));
-        effect = effect (battle_of s me) stays there
+        effect = dropped (asked_by s me) (battle_of s me) stays ∙ effect (first_of (asked_by s me)) (battle_of s me) stays there
             ∙ (λ i. record s {
               clients = parted s.clients c stays;
               users = without_one me s.users;
               channels = all_left me s.channels;
-              battles = left_own (Some me) (sym is i) s.battles;
+              battles = left_own (Some me) (sym is i) (unasked_own (Some me) (asked_where s me asks some none i) s.battles);
             });
-        can_be = (mine, only);
+        can_be = (mine, (asks_only, only));
       })

@@ -19,3 +19,4 @@ pub mod Base
 pub mod Rooms
 pub mod InBattles
 pub mod Founders
+pub mod Joins

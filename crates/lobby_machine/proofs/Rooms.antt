@@ -21,13 +21,29 @@ use Rattle.lobby_post.proofs.Telling.{with_own_more}
 use Rattle.lobby_machine.specs.Info.{info_of}
 use Rattle.lobby_machine.specs.Parts.{guest_lines}
 
+-- lines put behind others
+module _ (put : Posted → List Reply → Posted) (put_more : (p : Posted) (xs ys : List Reply) → put (put p xs) ys ≡ put p (xs ++ ys)) where
+  pub put_then : (a b c : Posted) (xs ys : List Reply) → b ≡ put a xs → c ≡ put b ys → c ≡ put a (xs ++ ys)
+  put_then a b c xs ys first second = second ∙ ap (λ p. put p ys) first ∙ put_more a xs ys
+
+  -- one more of some things
+  module _ {A : Type 0} (lines : List A → List Reply) (split : (xs ys : List A) → lines (xs ++ ys) ≡ lines xs ++ lines ys) where
+    pub put_one_more : (start now next : Posted) (xs : List A) (i : ℕ) (x : A) → i < length xs → x ≡ get_or xs i x
+        → now ≡ put start (lines (take i xs)) → next ≡ put now (lines (x ∷ [])) → next ≡ put start (lines (take (i + 1) xs))
+    put_one_more start now next xs i x within is before more =
+        put_then start now next (lines (take i xs)) (lines (x ∷ [])) before more
+        ∙ ap (put start) (sym (split (take i xs) (x ∷ [])) ∙ ap (λ y. lines (take i xs ++ y ∷ [])) is ∙ ap lines (sym (take_more xs i x within)))
+
+  -- each in one line
+  pub put_one_line : {A : Type 0} (line : A → Reply) (start now next : Posted) (xs : List A) (i : ℕ) (x : A) → i < length xs → x ≡ get_or xs i x
+      → now ≡ put start (map line (take i xs)) → next ≡ put now (line x ∷ []) → next ≡ put start (map line (take (i + 1) xs))
+  put_one_line line = put_one_more (map line) (map-append line)
+
 -- one more of some things told
 module _ {A : Type 0} (lines : List A → List Reply) (split : (xs ys : List A) → lines (xs ++ ys) ≡ lines xs ++ lines ys) where
   pub told_one_more : (start now next : Posted) (xs : List A) (i : ℕ) (x : A) → i < length xs → x ≡ get_or xs i x
       → now ≡ with_own start (lines (take i xs)) → next ≡ with_own now (lines (x ∷ [])) → next ≡ with_own start (lines (take (i + 1) xs))
-  told_one_more start now next xs i x within is before more =
-      more ∙ ap (λ p. with_own p (lines (x ∷ []))) before ∙ with_own_more start (lines (take i xs)) (lines (x ∷ []))
-      ∙ ap (with_own start) (sym (split (take i xs) (x ∷ [])) ∙ ap (λ y. lines (take i xs ++ y ∷ [])) is ∙ ap lines (sym (take_more xs i x within)))
+  told_one_more = put_one_more with_own with_own_more lines split
 
 -- each in one line
 pub told_one_line : {A : Type 0} (line : A → Reply) (start now next : Posted) (xs : List A) (i : ℕ) (x : A) → i < length xs → x ≡ get_or xs i x
@@ -82,15 +98,15 @@ same_place xs i j d e x within at is = get_or_default xs i d e within ∙ ap (λ
 abbrev pub rects_told : List (Option Rect) → List Reply
 rects_told places = map (λ (e : ℕ × Rect). rect_line e.0 e.1) (numbered 0 places)
 
-pub rect_told : (start now next : Posted) (places : List (Option Rect)) (i : ℕ) (d : Option Rect) → i < length places
-    → now ≡ with_own start (rects_told (take i places))
-    → next ≡ with_own now (map (λ (e : ℕ × Rect). rect_line e.0 e.1) (placed i (get_or places i d)))
-    → next ≡ with_own start (rects_told (take (i + 1) places))
-rect_told start now next places i d within before more =
+pub rect_told : (put : Posted → List Reply → Posted) → ((p : Posted) (xs ys : List Reply) → put (put p xs) ys ≡ put p (xs ++ ys))
+    → (start now next : Posted) (places : List (Option Rect)) (i : ℕ) (d : Option Rect) → i < length places
+    → now ≡ put start (rects_told (take i places))
+    → next ≡ put now (map (λ (e : ℕ × Rect). rect_line e.0 e.1) (placed i (get_or places i d)))
+    → next ≡ put start (rects_told (take (i + 1) places))
+rect_told put put_more start now next places i d within before more =
     let f : ℕ × Rect → Reply = λ e. rect_line e.0 e.1 in
-    more ∙ ap (λ p. with_own p (map f (placed i (get_or places i d)))) before
-    ∙ with_own_more start (rects_told (take i places)) (map f (placed i (get_or places i d)))
-    ∙ ap (with_own start) (sym (map-append f (numbered 0 (take i places)) (placed i (get_or places i d)))
+    put_then put put_more start now next (rects_told (take i places)) (map f (placed i (get_or places i d))) before more
+    ∙ ap (put start) (sym (map-append f (numbered 0 (take i places)) (placed i (get_or places i d)))
     ∙ ap (map f) (sym (place_more places 0 i i d (omega arith) within)))
 
 -- a battle

@@ -78,24 +78,24 @@ none_there : {X : Type 0} (o : Option X) → is_some o ≡ false → o ≡ None
 none_there None h = refl
 none_there (Some x) h = absurd (cc)
 
-pub not_let_in : (s : State) (c : ℕ) (cpu : ℤ) (r : Result Account LoginFault) → is_ok r ≡ false
-    → log_in s c cpu r ≡ Refused (reply.Denied invalid_login)
-not_let_in s c cpu (Ok account) h = absurd (cc)
-not_let_in s c cpu (Err fault) h = refl
+pub not_let_in : (s : State) (c : ℕ) (cpu : ℤ) (authorises : Bool) (r : Result Account LoginFault) → is_ok r ≡ false
+    → log_in s c cpu authorises r ≡ Refused (reply.Denied invalid_login)
+not_let_in s c cpu authorises (Ok account) h = absurd (cc)
+not_let_in s c cpu authorises (Err fault) h = refl
 
-module _ (s : State) (c : ℕ) (cpu : ℤ) (r : Result Account LoginFault) (account : Account) (let_in : r ≡ Ok account) where
-  pub name_taken : is_some (at_name s.users account.name) ≡ true → log_in s c cpu r ≡ Refused (reply.Denied user_is_in)
-  name_taken there = ap (log_in s c cpu) let_in ∙ ap (λ b. refuse_if b (reply.Denied user_is_in)
-      (done (logs_in c account.name (user_of account cpu) s))) there
+module _ (s : State) (c : ℕ) (cpu : ℤ) (authorises : Bool) (r : Result Account LoginFault) (account : Account) (let_in : r ≡ Ok account) where
+  pub name_taken : is_some (at_name s.users account.name) ≡ true → log_in s c cpu authorises r ≡ Refused (reply.Denied user_is_in)
+  name_taken there = ap (log_in s c cpu authorises) let_in ∙ ap (λ b. refuse_if b (reply.Denied user_is_in)
+      (done (logs_in c account.name (user_of account cpu authorises) s))) there
 
   pub logged_in_so : (old a new : Posted) (name : List ℕ) (seat : Seat) → hears s c ≡ true → name_of s c ≡ None
-      → is_some (at_name s.users account.name) ≡ false → name ≡ account.name → seat.client ≡ c → seat.battle ≡ None → user_in seat ≡ user_of account cpu
+      → is_some (at_name s.users account.name) ≡ false → name ≡ account.name → seat.client ≡ c → seat.battle ≡ None → user_in seat ≡ user_of account cpu authorises
       → Told s old a (tell issuer (burst s.settings.motd name (put_name s.users name (user_in seat)) s.battles) ∷ [])
       → Told s a new (tell others (arrival name (user_in seat)) ∷ [])
-      → Obeyed s c old new (LogIn name seat) (log_in s c cpu r)
+      → Obeyed s c old new (LogIn name seat) (log_in s c cpu authorises r)
   logged_in_so old a new name seat live nobody free named here outside same first second =
-      let comes : log_in s c cpu r ≡ done (logs_in c name (user_in seat) s) =
-      ap (log_in s c cpu) let_in ∙ ap (λ b. refuse_if b (reply.Denied user_is_in) (done (logs_in c account.name (user_of account cpu) s))) free
+      let comes : log_in s c cpu authorises r ≡ done (logs_in c name (user_in seat) s) =
+      ap (log_in s c cpu authorises) let_in ∙ ap (λ b. refuse_if b (reply.Denied user_is_in) (done (logs_in c account.name (user_of account cpu authorises) s))) free
       ∙ (λ i. done (logs_in c (sym named i) (sym same i) s)) in
       subst (λ o. Obeyed s c old new (LogIn name seat) o) (sym comes) (record {
         told = told_then s old a new _ _ first second;

@@ -4,13 +4,13 @@ use Rattle.reply_grammar.specs.declared.Reply.{Reply}
 use Rattle.reply_grammar.specs.declared.Reply.TheVariants as reply
 use Rattle.lobby_model.specs.declared.event.Event.{Event}
 use Rattle.lobby_model.specs.State.{State}
-use Rattle.lobby_model.specs.Texts.{fault_text, log_in_first, already_in, invalid_login, user_is_in, already_in_channel, not_in_channel, no_such_user, already_in_battle, no_number_left, no_such_battle, battle_is_locked, wrong_password, not_in_battle, not_the_founder, no_such_member, cannot_kick_yourself, no_such_bot, not_your_bot, bot_name_taken, too_many_bots, too_many_tags}
+use Rattle.lobby_model.specs.Texts.{fault_text, log_in_first, already_in, invalid_login, user_is_in, already_in_channel, not_in_channel, no_such_user, already_in_battle, already_asking, no_number_left, no_such_battle, battle_is_locked, wrong_password, not_in_battle, not_the_founder, no_such_request, no_such_member, cannot_kick_yourself, no_such_bot, not_your_bot, bot_name_taken, too_many_bots, too_many_tags, too_many_units}
 use Rattle.lobby_model.specs.Outcome.{Outcome, Refused, letters_of, state_after}
 use Rattle.lobby_model.specs.Next.{batch}
 use Rattle.lobby_post.specs.Mail.{bytes_for}
 use Rattle.lobby_post.specs.Posted.{Posted, Told}
 use Rattle.lobby_machine.specs.declared.refusal.Refusal.{Refusal}
-use Rattle.lobby_machine.specs.declared.refusal.Refusal.TheVariants.{Fault, LogInFirst, AlreadyIn, InvalidLogin, UserIsIn, AlreadyInChannel, NotInChannel, NoSuchUser, OpensInBattle, NoNumberLeft, JoinsInBattle, NoSuchBattle, BattleIsLocked, WrongPassword, NotInBattle, NotTheFounder, NoSuchMember, CannotKickYourself, NoSuchBot, NotYourBot, BotNameTaken, TooManyBots, TooManyTags}
+use Rattle.lobby_machine.specs.declared.refusal.Refusal.TheVariants.{Fault, LogInFirst, AlreadyIn, InvalidLogin, UserIsIn, AlreadyInChannel, NotInChannel, NoSuchUser, OpensInBattle, OpensAsking, NoNumberLeft, JoinsInBattle, JoinsAsking, NoSuchBattle, BattleIsLocked, WrongPassword, NotInBattle, NotTheFounder, NoSuchRequest, NoSuchMember, CannotKickYourself, NoSuchBot, NotYourBot, BotNameTaken, TooManyBots, TooManyTags, TooManyUnits}
 use Rattle.lobby_machine.specs.declared.refusal.Stop.{Stop}
 use Rattle.lobby_machine.specs.declared.refusal.Stop.TheVariants as stop
 use Rattle.lobby_machine.specs.declared.change.Change.{Change}
@@ -27,13 +27,16 @@ refusal_text (AlreadyInChannel channel) = already_in_channel
 refusal_text NotInChannel = not_in_channel
 refusal_text NoSuchUser = no_such_user
 refusal_text OpensInBattle = already_in_battle
+refusal_text OpensAsking = already_asking
 refusal_text NoNumberLeft = no_number_left
 refusal_text JoinsInBattle = already_in_battle
+refusal_text JoinsAsking = already_asking
 refusal_text NoSuchBattle = no_such_battle
 refusal_text BattleIsLocked = battle_is_locked
 refusal_text WrongPassword = wrong_password
 refusal_text NotInBattle = not_in_battle
 refusal_text NotTheFounder = not_the_founder
+refusal_text NoSuchRequest = no_such_request
 refusal_text NoSuchMember = no_such_member
 refusal_text CannotKickYourself = cannot_kick_yourself
 refusal_text NoSuchBot = no_such_bot
@@ -41,6 +44,7 @@ refusal_text NotYourBot = not_your_bot
 refusal_text BotNameTaken = bot_name_taken
 refusal_text TooManyBots = too_many_bots
 refusal_text TooManyTags = too_many_tags
+refusal_text TooManyUnits = too_many_units
 
 -- the line that says so, in these words
 abbrev pub reply_saying : Refusal → List ℕ → Reply
@@ -53,13 +57,16 @@ reply_saying (AlreadyInChannel channel) text = reply.JoinFailed channel text
 reply_saying NotInChannel text = reply.ServerMsg text
 reply_saying NoSuchUser text = reply.ServerMsg text
 reply_saying OpensInBattle text = reply.OpenBattleFailed text
+reply_saying OpensAsking text = reply.OpenBattleFailed text
 reply_saying NoNumberLeft text = reply.OpenBattleFailed text
 reply_saying JoinsInBattle text = reply.JoinBattleFailed text
+reply_saying JoinsAsking text = reply.JoinBattleFailed text
 reply_saying NoSuchBattle text = reply.JoinBattleFailed text
 reply_saying BattleIsLocked text = reply.JoinBattleFailed text
 reply_saying WrongPassword text = reply.JoinBattleFailed text
 reply_saying NotInBattle text = reply.ServerMsg text
 reply_saying NotTheFounder text = reply.ServerMsg text
+reply_saying NoSuchRequest text = reply.ServerMsg text
 reply_saying NoSuchMember text = reply.ServerMsg text
 reply_saying CannotKickYourself text = reply.ServerMsg text
 reply_saying NoSuchBot text = reply.ServerMsg text
@@ -67,6 +74,7 @@ reply_saying NotYourBot text = reply.ServerMsg text
 reply_saying BotNameTaken text = reply.ServerMsg text
 reply_saying TooManyBots text = reply.ServerMsg text
 reply_saying TooManyTags text = reply.ServerMsg text
+reply_saying TooManyUnits text = reply.ServerMsg text
 
 abbrev pub refusal_reply : Refusal → Reply
 refusal_reply refusal = reply_saying refusal (refusal_text refusal)

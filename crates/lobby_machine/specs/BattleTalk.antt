@@ -1,5 +1,6 @@
 -- What is told of battles, where one function tells what several commands owe.
-use Rattle.std.specs.Prelude.{ℕ, ℤ, ◌<◌, ◌≤◌, List, [], ◌∷◌, map, flat_map, Option}
+use Rattle.std.specs.Prelude.{ℕ, ℤ, ◌<◌, ◌≤◌, Bool, true, false, List, [], ◌∷◌, map, flat_map, Option}
+use Rattle.reply_grammar.specs.declared.Reply.{Reply}
 use Rattle.reply_grammar.specs.declared.Reply.TheVariants as reply
 use Rattle.status_bits.specs.Fields.{with_number}
 use Rattle.status_bits.specs.BattleWord.{battle_table, team, ally, player, handicap}
@@ -8,12 +9,17 @@ use Rattle.lobby_model.specs.State.{State, Battle}
 use Rattle.lobby_model.specs.Outcome.{Happening, Letter, Outcome, tell, users}
 use Rattle.lobby_model.specs.Sessions.{to_others, unseen}
 use Rattle.lobby_model.specs.Battles.{leaves_own}
-use Rattle.lobby_model.specs.Rooms.{force_number, force_colour}
+use Rattle.lobby_model.specs.Rooms.{force_number, force_colour, removed_line, disabled_line, enabled_line}
+use Rattle.lobby_post.specs.Posted.{Posted, with_others, with_own}
 use Rattle.lobby_machine.specs.declared.rules.battles.Leaving.{Leaving}
 use Rattle.lobby_machine.specs.declared.rules.battles.Leaving.TheVariants.{Seen, Unseen}
+use Rattle.lobby_machine.specs.declared.rules.joining.Recipient.{Recipient}
+use Rattle.lobby_machine.specs.declared.rules.joining.Recipient.TheVariants.{Issuer, Other}
+use Rattle.lobby_machine.specs.declared.rules.rooms.Wording.{Wording}
+use Rattle.lobby_machine.specs.declared.rules.rooms.Wording.TheVariants.{TagsGone, UnitsDisabled, UnitsEnabled}
 use Rattle.lobby_machine.specs.declared.rules.rooms.Force.{Force}
 use Rattle.lobby_machine.specs.declared.rules.rooms.Force.TheVariants as force
-use Rattle.lobby_machine.specs.declared.battles.BattleChange.TheVariants.{InRoom}
+use Rattle.lobby_machine.specs.declared.battles.BattleChange.TheVariants.{InRoom, StopAsking}
 use Rattle.lobby_machine.specs.declared.battles.RoomChange.TheVariants as room
 use Rattle.lobby_machine.specs.declared.change.Change.{Change}
 use Rattle.lobby_machine.specs.declared.change.Change.TheVariants.{InBattles}
@@ -35,9 +41,34 @@ bots_gone leaving number owner room = map (λ b. shown_to leaving (tell (users (
 abbrev pub left_battle_letters : List ℕ → Option (ℕ × Battle) → List Letter
 left_battle_letters me own = flat_map (λ h. (unseen h).told) (leaves_own me own)
 
+-- the change by which one stops asking to join a battle
+abbrev pub stops_asking : ℕ → List ℕ → Change
+stops_asking number name = InBattles (StopAsking number name)
+
 -- the change that gives a member a status and a colour
 abbrev pub status_change : ℕ → List ℕ → ℕ → ℤ → Change
 status_change number name status colour = InBattles (InRoom number (room.Status name status colour))
+
+-- lines for one reader, behind those that were written for it
+abbrev pub written : Recipient → Posted → List Reply → Posted
+written Issuer = with_own
+written Other = with_others
+
+-- the recipient of lines for the user of a name
+abbrev pub is_issuer : Recipient → Bool
+is_issuer Issuer = true
+is_issuer Other = false
+
+-- what the members are told of words, and what they are told where there may be none
+abbrev pub words_line : Wording → List (List ℕ) → Reply
+words_line TagsGone words = reply.RemoveScriptTags words
+words_line UnitsDisabled words = reply.DisableUnits words
+words_line UnitsEnabled words = reply.EnableUnits words
+
+abbrev pub words_told : Wording → List (List ℕ) → List Reply
+words_told TagsGone = removed_line
+words_told UnitsDisabled = disabled_line
+words_told UnitsEnabled = enabled_line
 
 -- what a founder forces on a member, in the ranges of its argument
 abbrev pub FitsForce : Force → Type 0

@@ -1,6 +1,7 @@
 -- What a change makes of each map.
 use Rattle.std.specs.Prelude.{◌≡◌, ℕ, Bool, true, false, List, Option, Some, None}
 use Rattle.line_words.specs.Table.{ByName, ByNumber, at_number, at_name, put_name, change_name, is_among}
+use Rattle.battle_room.specs.Room.{has_member, has_asker}
 use Rattle.channel_book.specs.Channels.{Channels, names_in, joined, left, all_left}
 use Rattle.lobby_model.specs.declared.event.Phase.TheVariants.{In}
 use Rattle.lobby_model.specs.State.{State, User, user_with, Client, Battle, is_live_client, name_at, set_phase}
@@ -11,7 +12,7 @@ use Rattle.lobby_machine.specs.declared.change.Change.{Change}
 use Rattle.lobby_machine.specs.declared.change.Change.TheVariants.{Nothing, Status, LogIn, LogOut, Join, Leave, InBattles}
 use Rattle.lobby_machine.specs.declared.seats.Seat.{Seat}
 use Rattle.lobby_machine.specs.Seats.{user_in, where_some, without_one}
-use Rattle.lobby_machine.specs.Battles.{battles_after as changed_battles, last_after as last_battle_after, left_battle, own_of, CanChange, IsOnly}
+use Rattle.lobby_machine.specs.Battles.{battles_after as changed_battles, last_after as last_battle_after, left_battle, unasked, CanChange, IsOnly}
 
 abbrev pub clients_after : ByNumber Client → ℕ → Change → ByNumber Client
 clients_after clients c Nothing = clients
@@ -20,7 +21,7 @@ clients_after clients c (Join channel name) = clients
 clients_after clients c (Leave channel name) = clients
 clients_after clients c (LogIn name seat) = set_phase clients c (In name)
 clients_after clients c (InBattles change) = clients
-clients_after clients c (LogOut name battle stays) = parted clients c stays
+clients_after clients c (LogOut name asks battle stays) = parted clients c stays
 
 abbrev pub users_after : ByName User → Change → ByName User
 users_after users Nothing = users
@@ -29,7 +30,7 @@ users_after users (Leave channel name) = users
 users_after users (Status name status) = change_name users name (user_with status)
 users_after users (LogIn name seat) = put_name users name (user_in seat)
 users_after users (InBattles change) = users
-users_after users (LogOut name battle stays) = where_some without_one name users
+users_after users (LogOut name asks battle stays) = where_some without_one name users
 
 abbrev pub channels_after : Channels → Change → Channels
 channels_after channels Nothing = channels
@@ -38,7 +39,13 @@ channels_after channels (LogIn name seat) = channels
 channels_after channels (Join channel name) = joined channel name channels
 channels_after channels (Leave channel name) = left channel name channels
 channels_after channels (InBattles change) = channels
-channels_after channels (LogOut name battle stays) = where_some all_left name channels
+channels_after channels (LogOut name asks battle stays) = where_some all_left name channels
+
+-- one who may be logged in asks no more at the battle that it may ask to join
+abbrev pub unasked_own : Option (List ℕ) → Option ℕ → ByNumber Battle → ByNumber Battle
+unasked_own None asks battles = battles
+unasked_own (Some name) None battles = battles
+unasked_own (Some name) (Some number) battles = unasked number name battles
 
 -- one who may be logged in leaves the battle that it may be in
 abbrev pub left_own : Option (List ℕ) → Option ℕ → ByNumber Battle → ByNumber Battle
@@ -53,7 +60,7 @@ battles_after battles (LogIn name seat) = battles
 battles_after battles (Join channel name) = battles
 battles_after battles (Leave channel name) = battles
 battles_after battles (InBattles change) = changed_battles change battles
-battles_after battles (LogOut name battle stays) = left_own name battle battles
+battles_after battles (LogOut name asks battle stays) = left_own name battle (unasked_own name asks battles)
 
 abbrev pub last_after : ℕ → Change → ℕ
 last_after last Nothing = last
@@ -62,7 +69,7 @@ last_after last (LogIn name seat) = last
 last_after last (Join channel name) = last
 last_after last (Leave channel name) = last
 last_after last (InBattles change) = last_battle_after change last
-last_after last (LogOut name battle stays) = last
+last_after last (LogOut name asks battle stays) = last
 
 -- the maps after a change that client c makes
 abbrev pub changed : State → ℕ → Change → State
@@ -86,17 +93,12 @@ abbrev pub first_of : {A B : Type 0} → Option (A × B) → Option A
 first_of None = None
 first_of (Some e) = Some e.0
 
--- the battle that one who may be logged in is in
-abbrev pub number_of : Option (List ℕ) → ByNumber Battle → Option ℕ
-number_of None battles = None
-number_of (Some name) battles = first_of (own_of battles name)
+-- one who may be logged in asks to join no battle of these but that of one number, and is in none but that of another
+abbrev pub LeavesAll : ByNumber Battle → Option ℕ → Option ℕ → Option (List ℕ) → Type 0
+LeavesAll battles asks battle None = Unit {0}
+LeavesAll battles asks battle (Some name) = IsOnly (has_asker name) battles asks × IsOnly (has_member name) battles battle
 
--- one who may be logged in is in no battle of these but that of this number
-abbrev pub LeavesAll : ByNumber Battle → Option ℕ → Option (List ℕ) → Type 0
-LeavesAll battles battle None = Unit {0}
-LeavesAll battles battle (Some name) = IsOnly battles battle name
-
--- a change that these maps can take; it is the user of the client that logs out, and leaves the battle that it is in
+-- a change that these maps can take; it is the user of the client that logs out, and drops and leaves what is its own
 abbrev pub CanBe : ByNumber Client → ByName User → Channels → ByNumber Battle → ℕ → Change → Type 0
 CanBe clients users channels battles c Nothing = Unit {0}
 CanBe clients users channels battles c (Status name status) = Unit {0}
@@ -104,7 +106,7 @@ CanBe clients users channels battles c (LogIn name seat) = IsFresh clients users
 CanBe clients users channels battles c (Join channel name) = is_among name (names_in channels channel) ≡ false
 CanBe clients users channels battles c (Leave channel name) = Unit {0}
 CanBe clients users channels battles c (InBattles change) = CanChange clients battles c change
-CanBe clients users channels battles c (LogOut name battle stays) = (name ≡ name_at clients c) × LeavesAll battles battle name
+CanBe clients users channels battles c (LogOut name asks battle stays) = (name ≡ name_at clients c) × LeavesAll battles asks battle name
 
 -- what becomes of a client that parts
 abbrev pub parts : ℕ → Bool → Happening

@@ -11,7 +11,7 @@ use Rattle.lobby_post.specs.Mail.{Crowd, AreDue, plain}
 
 -- a seat as the plain lobby has it
 abbrev pub user_in : Seat → User
-user_in seat = record { country = seat.country; cpu = seat.cpu; account = seat.account; status = seat.status }
+user_in seat = record { country = seat.country; cpu = seat.cpu; account = seat.account; status = seat.status; authorises = seat.authorises }
 
 abbrev pub users_of : ByName Seat → ByName User
 users_of seats = map_values (λ name seat. user_in seat) seats
@@ -19,7 +19,7 @@ users_of seats = map_values (λ name seat. user_in seat) seats
 abbrev pub seat_with : ℕ → Seat → Seat
 seat_with status seat = record seat { status = status }
 
--- in a battle
+-- in a battle, or asking to join it
 abbrev pub seat_in : ℕ → Seat → Seat
 seat_in number seat = record seat { battle = Some number }
 
@@ -65,7 +65,7 @@ abbrev pub Numbered : ℕ → ByNumber Client → Type 0
 Numbered last clients = (c : ℕ) → is_some (at_number clients c) ≡ true → c ≤ last
 
 -- How the maps fit together: outboxes have one limit and wait for nothing, users and clients agree, numbers are given once, it is
--- known who waits, and users sit in their battles
+-- known who waits, and users sit in their battles, or where they ask
 pub record Fit (limit : ℕ) (clients : Crowd) (seats : ByName Seat) (numbers : List ℕ) (last : ℕ) (battles : ByNumber Battle) (last_battle : ℕ) : Type 0 where
   pub limited : clients.limit ≡ limit
   pub rest : AreDue [] clients.slots

@@ -4,7 +4,7 @@ use Rattle.command_grammar.specs.declared.command.Command.{Command}
 use Rattle.command_grammar.specs.declared.command.Command.TheVariants as command
 
 -- the session and the user itself, the channels and private talk, the battles as all see them, what the members of one
--- share, and one of its members
+-- share, and one of its members, or one who asks to be
 pub data Subject : Type 0 where
   Session : Subject
   Channels : Subject
@@ -18,7 +18,7 @@ subject_of command.Blank = Session
 subject_of (command.Unread fault) = Session
 subject_of command.Ping = Session
 subject_of command.Exit = Session
-subject_of (command.Login user_name password cpu local_ip lobby) = Session
+subject_of (command.Login user_name password cpu local_ip lobby authorises) = Session
 subject_of (command.MyStatus status) = Session
 subject_of (command.Join channel key) = Channels
 subject_of (command.Leave channel) = Channels
@@ -40,6 +40,9 @@ subject_of (command.AddStartRect ally_no left top right bottom) = Rooms
 subject_of (command.RemoveStartRect ally_no) = Rooms
 subject_of (command.SetScriptTags pairs) = Rooms
 subject_of (command.RemoveScriptTags keys) = Rooms
+subject_of (command.DisableUnits units) = Rooms
+subject_of (command.EnableUnits units) = Rooms
+subject_of command.EnableAllUnits = Rooms
 subject_of (command.Handicap user value) = Members
 subject_of (command.ForceTeamNo user number) = Members
 subject_of (command.ForceAllyNo user number) = Members
@@ -47,6 +50,8 @@ subject_of (command.ForceTeamColor user team_color) = Members
 subject_of (command.ForceSpectatorMode user) = Members
 subject_of (command.KickFromBattle user) = Members
 subject_of (command.Ring user) = Members
+subject_of (command.JoinBattleAccept user) = Members
+subject_of (command.JoinBattleDeny user reason) = Members
 
 -- the command is OPENBATTLE
 abbrev pub opens_one : Command → Bool

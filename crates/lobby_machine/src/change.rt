@@ -8,7 +8,7 @@ ghost use Rattle.lobby_post.specs.Mail.{AreDue, AreReady, plain};
 ghost use Rattle.lobby_machine.specs.Battles.{AreSeated};
 ghost use Rattle.lobby_machine.specs.Dirty.{those_there};
 ghost use Rattle.lobby_machine.specs.Seats.{Agree, IsListed, users_of, where_some};
-ghost use Rattle.lobby_machine.specs.Changes.{CanBe, clients_after, users_after, channels_after, battles_after, last_after, left_own};
+ghost use Rattle.lobby_machine.specs.Changes.{CanBe, clients_after, users_after, channels_after, battles_after, last_after, left_own, unasked_own};
 
 use crate::battles::{BattleChange, Battles};
 use crate::seats::{Seat, Seats};
@@ -45,10 +45,12 @@ pub enum Change {
     },
     /// A user does something with a battle.
     InBattles(BattleChange),
-    /// The user of the client, where there is one, logs out, and leaves the battle of this number, where it
-    /// is in one; the client ends, or, where it does not stay, is there no more.
+    /// The user of the client, where there is one, logs out. It asks no more to join the battle of the one
+    /// number, where it asks to join one, and leaves that of the other, where it is in one; the client
+    /// ends, or, where it does not stay, is there no more.
     LogOut {
         name: Option<NameBuf>,
+        asks: Option<u32>,
         battle: Option<u32>,
         stays: bool,
     },
@@ -97,10 +99,11 @@ pub fn apply(
         Change::InBattles(change) => battles.apply(seats, client, change)?,
         Change::LogOut {
             name,
+            asks,
             battle,
             stays,
         } => {
-            leave_all(channels, battles, name.as_ref(), battle);
+            leave_all(channels, battles, name.as_ref(), asks, battle);
             seats.remove(name, client);
             clients.part(client, stays);
         }
@@ -108,21 +111,26 @@ pub fn apply(
     Ok(())
 }
 
-/// A user, where there is one, leaves all channels, and the battle of this number.
+/// A user, where there is one, leaves all channels, asks no more to join the battle of the one number, and
+/// leaves that of the other.
 fn leave_all(
     channels: &mut ChannelBook<usize>,
     battles: &mut Battles,
     name: Option<&NameBuf>,
+    asks: Option<u32>,
     battle: Option<u32>,
 )
     ensures channels { channels.new ≡ where_some all_left (option_copied name.entry) channels.old }
-    ensures battles { battles.new.by_number.entries ≡ left_own (option_copied name.entry) battle battles.old.by_number.entries }
+    ensures battles { battles.new.by_number.entries ≡ left_own (option_copied name.entry) battle (unasked_own (option_copied name.entry) asks battles.old.by_number.entries) }
     ensures last { battles.new.last ≡ battles.old.last }
 {
     let Some(name) = name else {
         return;
     };
     channels.leave_all(name);
+    if let Some(number) = asks {
+        battles.stop_asking(number, name);
+    }
     if let Some(number) = battle {
         battles.leave(number, name);
     }

@@ -5,10 +5,10 @@ ghost use Rattle.std.specs.List.{IsDistinct};
 ghost use Rattle.std.specs.Option.{option_to_list};
 ghost use Rattle.line_words.specs.Table.{at_number, same_name, same_number};
 ghost use Rattle.reply_grammar.specs.Lent.{reply_of};
-ghost use Rattle.battle_room.specs.Room.{member_names};
+ghost use Rattle.battle_room.specs.Room.{asker_names, has_asker, has_member, member_names};
 ghost use Rattle.lobby_model.specs.declared.event.Event.{Event};
 ghost use Rattle.lobby_model.specs.declared.event.Event.TheVariants as event;
-ghost use Rattle.lobby_model.specs.State.{battle_of, empty_lobby, hears, name_of};
+ghost use Rattle.lobby_model.specs.State.{Battle, asked_by, battle_of, empty_lobby, hears, name_of};
 ghost use Rattle.lobby_model.specs.Outcome.{tell, everyone, everyone_but, others, user, users};
 ghost use Rattle.lobby_model.specs.Sessions.{has_place};
 ghost use Rattle.lobby_model.specs.Events.{effect};
@@ -16,7 +16,7 @@ ghost use Rattle.lobby_model.specs.Next.{next};
 ghost use Rattle.lobby_post.specs.Mail.{IsWakes};
 ghost use Rattle.lobby_post.specs.Posted.{Told, but_issuer};
 ghost use Rattle.lobby_machine.specs.Answers.{Matches};
-ghost use Rattle.lobby_machine.specs.Battles.{IsOnly};
+ghost use Rattle.lobby_machine.specs.Battles.{AskOutside, IsOnly};
 ghost use Rattle.lobby_machine.specs.Changes.{CanBe, changed};
 ghost use Rattle.lobby_machine.specs.Dirty.{DirtyAfter, those_there};
 ghost use Rattle.lobby_machine.specs.Shown.{dirty_at, unread_of, is_finished};
@@ -275,11 +275,40 @@ impl Maps {
         Ok(())
     }
 
+    /// Tells those who ask to join a battle.
+    pub fn tell_askers(
+        &self,
+        room: &Room,
+        line: LentReply,
+        post: &mut Post,
+    ) -> Result<(), AllocError>
+        ensures { OnOk result (Told self.now.plain post.old post.new (tell (users (asker_names room.now)) (reply_of line.entry ∷ []) ∷ [])) }
+    {
+        post.write(line)?;
+        self.seats.address_askers(room.askers(), post)?;
+        Ok(())
+    }
+
+    /// Tells those who ask to join a battle but the issuer.
+    pub fn tell_other_askers(
+        &self,
+        room: &Room,
+        line: LentReply,
+        post: &mut Post,
+    ) -> Result<(), AllocError>
+        ensures { OnOk result (Told self.now.plain post.old post.new (tell (but_issuer (users (asker_names room.now))) (reply_of line.entry ∷ []) ∷ [])) }
+    {
+        post.write_for_others(line)?;
+        self.seats.address_askers(room.askers(), post)?;
+        Ok(())
+    }
+
     /// The battle that a user is in, with its number.
     pub fn battle_of(&self, name: &NameBuf) -> Option<(u32, &Battle)>
         ensures some { IfSome result (λ own. battle_of self.now.plain name.now ≡ Some (own.0, own.1.now)) }
-        ensures only { IfSome result (λ own. IsOnly self.now.plain.battles (Some own.0) name.now) }
+        ensures only { IfSome result (λ own. IsOnly (has_member name.now) self.now.plain.battles (Some own.0)) }
         ensures there { IfSome result (λ own. at_number self.now.plain.battles own.0 ≡ Some own.1.now) }
+        ensures outside { IfSome result (λ own. AskOutside own.1.now.room) }
         ensures none { result ≡ None → battle_of self.now.plain name.now ≡ None }
     {
         // Its contract says that the numbers rise, which the proof wants.
@@ -294,8 +323,9 @@ impl Maps {
     /// The same, by the number that the user's seat has.
     fn battle_by_seat(&self, name: &NameBuf) -> Option<(u32, &Battle)>
         ensures some { IfSome result (λ own. battle_of self.now.plain name.now ≡ Some (own.0, own.1.now)) }
-        ensures only { IfSome result (λ own. IsOnly self.now.plain.battles (Some own.0) name.now) }
+        ensures only { IfSome result (λ own. IsOnly (has_member name.now) self.now.plain.battles (Some own.0)) }
         ensures there { IfSome result (λ own. at_number self.now.plain.battles own.0 ≡ Some own.1.now) }
+        ensures outside { IfSome result (λ own. AskOutside own.1.now.room) }
         ensures none { result ≡ None → battle_of self.now.plain name.now ≡ None }
     {
         // Its contract says that the numbers rise, which the proof wants however this ends.
@@ -303,6 +333,22 @@ impl Maps {
         let number = self.seats.users.get(name)?.battle?;
         let battle = self.battles.with_member(number, name)?;
         Some((number, battle))
+    }
+
+    /// The number of the battle that a user asks to join.
+    pub fn asked_by(&self, name: &NameBuf) -> Option<u32>
+        ensures some { IfSome result (λ number. (battle : Battle) × (asked_by self.now.plain name.now ≡ Some (number, battle))) }
+        ensures only { IsOnly (has_asker name.now) self.now.plain.battles result }
+        ensures none { result ≡ None → asked_by self.now.plain name.now ≡ None }
+    {
+        // Its contract says that the numbers rise, which the proof wants however this ends.
+        let _ = self.battles.by_number.len();
+        let number = self.seats.users.get(name)?.battle?;
+        if self.battles.asks_at(number, name) {
+            Some(number)
+        } else {
+            None
+        }
     }
 
     /// Tells one user.

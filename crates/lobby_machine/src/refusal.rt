@@ -31,10 +31,14 @@ pub enum Refusal {
     NoSuchUser,
     /// The user who opens a battle is in one.
     OpensInBattle,
+    /// The user who opens a battle asks to join one.
+    OpensAsking,
     /// The last battle number, 2147483647, was given.
     NoNumberLeft,
     /// The user who joins a battle is in one.
     JoinsInBattle,
+    /// The user who joins a battle asks to join one.
+    JoinsAsking,
     /// There is no battle of that number.
     NoSuchBattle,
     /// Nobody may join the battle now.
@@ -45,6 +49,8 @@ pub enum Refusal {
     NotInBattle,
     /// The user is in a battle that another founded.
     NotTheFounder,
+    /// Nobody of that name asks to join the battle.
+    NoSuchRequest,
     /// Nobody of that name is in the battle.
     NoSuchMember,
     /// The founder is the one to be kicked.
@@ -59,6 +65,8 @@ pub enum Refusal {
     TooManyBots,
     /// There would be more than 512 script tags in the battle.
     TooManyTags,
+    /// There would be more than 1,024 disabled units in the battle.
+    TooManyUnits,
 }
 
 impl Refusal {
@@ -76,12 +84,14 @@ impl Refusal {
             Refusal::NotInChannel => Text::lend(b"You are not in that channel"),
             Refusal::NoSuchUser => Text::lend(b"No such user"),
             Refusal::OpensInBattle | Refusal::JoinsInBattle => Text::lend(b"Already in a battle"),
+            Refusal::OpensAsking | Refusal::JoinsAsking => Text::lend(b"Already asking to join"),
             Refusal::NoNumberLeft => Text::lend(b"No battle number is left"),
             Refusal::NoSuchBattle => Text::lend(b"No such battle"),
             Refusal::BattleIsLocked => Text::lend(b"The battle is locked"),
             Refusal::WrongPassword => Text::lend(b"Wrong password"),
             Refusal::NotInBattle => Text::lend(b"You are not in a battle"),
             Refusal::NotTheFounder => Text::lend(b"You are not the founder"),
+            Refusal::NoSuchRequest => Text::lend(b"No such join request"),
             Refusal::NoSuchMember => Text::lend(b"No such member"),
             Refusal::CannotKickYourself => Text::lend(b"You cannot kick yourself"),
             Refusal::NoSuchBot => Text::lend(b"No such bot"),
@@ -89,6 +99,7 @@ impl Refusal {
             Refusal::BotNameTaken => Text::lend(b"That bot name is taken"),
             Refusal::TooManyBots => Text::lend(b"Too many bots"),
             Refusal::TooManyTags => Text::lend(b"Too many tags"),
+            Refusal::TooManyUnits => Text::lend(b"Too many units"),
         }
     }
 
@@ -101,8 +112,11 @@ impl Refusal {
                 LentReply::Denied(text)
             }
             Refusal::AlreadyInChannel(channel) => LentReply::JoinFailed(channel, text),
-            Refusal::OpensInBattle | Refusal::NoNumberLeft => LentReply::OpenBattleFailed(text),
+            Refusal::OpensInBattle | Refusal::OpensAsking | Refusal::NoNumberLeft => {
+                LentReply::OpenBattleFailed(text)
+            }
             Refusal::JoinsInBattle
+            | Refusal::JoinsAsking
             | Refusal::NoSuchBattle
             | Refusal::BattleIsLocked
             | Refusal::WrongPassword => LentReply::JoinBattleFailed(text),
@@ -112,13 +126,15 @@ impl Refusal {
             | Refusal::NoSuchUser
             | Refusal::NotInBattle
             | Refusal::NotTheFounder
+            | Refusal::NoSuchRequest
             | Refusal::NoSuchMember
             | Refusal::CannotKickYourself
             | Refusal::NoSuchBot
             | Refusal::NotYourBot
             | Refusal::BotNameTaken
             | Refusal::TooManyBots
-            | Refusal::TooManyTags => LentReply::ServerMsg(text),
+            | Refusal::TooManyTags
+            | Refusal::TooManyUnits => LentReply::ServerMsg(text),
         }
     }
 }

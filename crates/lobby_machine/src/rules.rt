@@ -14,6 +14,7 @@ mod battles;
 mod burst;
 mod channels;
 mod guards;
+mod joining;
 mod rooms;
 mod session;
 
@@ -98,7 +99,10 @@ impl Maps {
             | Command::AddStartRect { .. }
             | Command::RemoveStartRect { .. }
             | Command::SetScriptTags { .. }
-            | Command::RemoveScriptTags { .. } => {
+            | Command::RemoveScriptTags { .. }
+            | Command::DisableUnits { .. }
+            | Command::EnableUnits { .. }
+            | Command::EnableAllUnits => {
                 self.answer_in_room(client, logged_in(me)?, command, post)
             }
             Command::Handicap { .. }
@@ -107,7 +111,14 @@ impl Maps {
             | Command::ForceTeamColor { .. }
             | Command::ForceSpectatorMode { .. }
             | Command::KickFromBattle { .. }
-            | Command::Ring { .. } => self.answer_on_member(client, logged_in(me)?, command, post),
+            | Command::Ring { .. }
+            | Command::JoinBattleAccept { .. }
+            | Command::JoinBattleDeny { .. } => self.answer_on_member(
+                client,
+                logged_in(me)?,
+                command,
+                post,
+            ),
         }
     }
 
@@ -133,8 +144,9 @@ impl Maps {
                 user_name,
                 password,
                 cpu,
+                authorises,
                 ..
-            } => self.log_in(client, me, user_name, password, *cpu, post),
+            } => self.log_in(client, me, user_name, password, *cpu, *authorises, post),
             Command::MyStatus { status } => self.my_status(client, logged_in(me)?, *status, post),
             _ => unreachable!(),
         }
@@ -259,11 +271,14 @@ impl Maps {
             Command::RemoveStartRect { ally_no } => self.remove_rect(client, me, *ally_no, post),
             Command::SetScriptTags { pairs } => self.set_script_tags(client, me, pairs, post),
             Command::RemoveScriptTags { keys } => self.remove_script_tags(client, me, keys, post),
+            Command::DisableUnits { units } => self.disable_units(client, me, units, post),
+            Command::EnableUnits { units } => self.enable_units(client, me, units, post),
+            Command::EnableAllUnits => self.enable_all_units(client, me, post),
             _ => unreachable!(),
         }
     }
 
-    /// What a command on a member of a battle comes to, of one who is logged in.
+    /// What a command on a member of a battle comes to, or on one who asks to be, of one who is logged in.
     fn answer_on_member(
         &self,
         client: u64,
@@ -271,6 +286,8 @@ impl Maps {
         command: &Command,
         post: &mut Post,
     ) -> Result<Change, Stop>
+        requires me { name_of self.now.plain client ≡ Some me.now }
+        requires issuer { post.old.issuer ≡ client }
         requires kinds { IsTrue (keeps_kinds command.now) }
         requires subject { subject_of command.now ≡ Members }
         ensures { Answers self.now.plain client post.old post.new (answer self.now.plain client (Some me.now) command.now) result }
@@ -293,6 +310,10 @@ impl Maps {
             }
             Command::KickFromBattle { user } => self.kick(client, me, user, post),
             Command::Ring { user } => self.ring(client, me, user, post),
+            Command::JoinBattleAccept { user } => self.accept(client, me, user, post),
+            Command::JoinBattleDeny { user, reason } => {
+                self.deny(client, me, user, reason.as_ref(), post)
+            }
             _ => unreachable!(),
         }
     }

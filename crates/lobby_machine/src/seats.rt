@@ -4,12 +4,13 @@ ghost use Rattle.std.specs.Prelude.{◌≡◌, ℕ, [], ◌++◌, map, OnOk, OnE
 ghost use Rattle.std.specs.Ordering.{nat_cmp};
 ghost use Rattle.std.specs.List.Sorted.{IsStrictlySortedBy};
 ghost use Rattle.line_words.specs.Table.{at_name, change_name, put_name};
+ghost use Rattle.lobby_model.specs.Battles.{is_authorising};
 ghost use Rattle.lobby_post.specs.Mail.{plain};
 ghost use Rattle.lobby_post.specs.Posted.{addressed, has_number};
-ghost use Rattle.lobby_machine.specs.Seats.{Agree, IsSet, client_in, clients_of, is_some_number, numbers_but, seat_in, seat_with, where_some, without_one};
+ghost use Rattle.lobby_machine.specs.Seats.{Agree, IsSet, client_in, clients_of, is_some_number, numbers_but, seat_in, seat_with, users_of, where_some, without_one};
 
 use crate::entered::Entered;
-use battle_room::Member;
+use battle_room::{Asker, Member};
 use line_words::{NameBuf, WordBuf};
 use lobby_post::{Clients, Post};
 use status_bits::UserStatus;
@@ -30,8 +31,10 @@ pub struct Seat {
     /// The number of its account.
     pub account: u32,
     pub status: UserStatus,
-    /// The number of the battle that it entered last. It is in that battle while it is a member of it,
-    /// and in no other one.
+    /// Whether it authorises who joins a battle of its own.
+    pub authorises: bool,
+    /// The number of the battle that it entered, or asked to join, last. It is in that battle while it is a
+    /// member of it, asks to join it while it is among those who ask, and does neither at another one.
     pub battle: Option<u32>,
 }
 
@@ -104,6 +107,16 @@ impl Seats {
     {
         for member in members {
             self.address_near(clients, member.name(), member.mark(), post)?;
+        }
+        Ok(())
+    }
+
+    /// Those who ask to join a battle get the line that is told.
+    pub fn address_askers(&self, askers: &[Asker], post: &mut Post) -> Result<(), AllocError>
+        ensures { OnOk result (post.new ≡ addressed post.old (clients_of self.now.users.entries (map (λ a. a.name) askers.now))) }
+    {
+        for asker in askers {
+            self.address_user(asker.name(), post)?;
         }
         Ok(())
     }
@@ -208,7 +221,17 @@ impl Seats {
         }
     }
 
-    /// A user sits in a battle, and stays at its client.
+    /// Whether there is a user of this name who authorises who joins its battle.
+    pub fn is_authorising(&self, name: &NameBuf) -> bool
+        ensures { result ≡ is_authorising (at_name (users_of self.now.users.entries) name.now) }
+    {
+        match self.users.get(name) {
+            Some(seat) => seat.authorises,
+            None => false,
+        }
+    }
+
+    /// A user sits in a battle, or asks to, and stays at its client.
     pub fn enter_battle(&mut self, name: &NameBuf, number: u32)
         ensures users { self.new.users.entries ≡ change_name self.old.users.entries name.now (seat_in number) }
         ensures clients { self.new.clients.keys ≡ self.old.clients.keys }

@@ -114,7 +114,7 @@ module _ (users : ByName User) where
 module _ (s : State) (sound : Sound s) where
   with_channels : (channels : Channels) → SoundChannels s.users channels → Sound (record s { channels = channels })
   with_channels channels new =
-      record { clients = same_clients s sound.clients channels s.battles s.last_battle; channels = new; battles = sound.battles }
+      record { clients = same_clients s sound.clients channels s.battles s.last_battle; channels = new; battles = sound.battles; askers = sound.askers }
 
   pub joins_keeps : (me channel : List ℕ) (names : List (List ℕ)) → is_among me (names_in s.channels channel) ≡ false → IsSome (at_name s.users me)
       → Sound ((joins me channel names).after s)

@@ -1,5 +1,5 @@
 -- Each command keeps the lobby sound.
-use Rattle.std.proofs.Common.{◌≡◌, ℕ, List, [], ◌∷◌, refl, true}
+use Rattle.std.proofs.Common.{◌≡◌, ℕ, List, [], ◌∷◌, refl, true, false}
 use Rattle.std.specs.Prelude.{Option, Some, None, IsSome, ◌==◌, is_some}
 use Rattle.account_book.specs.Book.{login}
 use Rattle.reply_grammar.specs.declared.Reply.{Reply}
@@ -12,17 +12,19 @@ use Rattle.status_bits.specs.UserWord.{user_table}
 use Rattle.line_words.specs.Table.{at_name, at_number, same_name, is_among}
 use Rattle.channel_book.specs.Channels.{names_in}
 use Rattle.battle_room.specs.Tags.{with_tags}
-use Rattle.battle_room.specs.Room.{Bot, has_member, bot_of, status_of, is_full_of_bots, has_too_many_tags}
-use Rattle.lobby_model.specs.State.{State, Client, Battle, battle_of, name_of, updated}
-use Rattle.lobby_model.specs.Texts.{already_in_channel, already_in_battle, no_number_left, battle_is_locked, wrong_password, no_such_user, no_such_member, cannot_kick_yourself, bot_name_taken, too_many_bots, too_many_tags}
+use Rattle.battle_room.specs.Units.{with_units}
+use Rattle.battle_room.specs.Room.{Bot, Asker, has_member, has_asker, bot_of, status_of, is_full_of_bots, has_too_many_tags, has_too_many_units}
+use Rattle.lobby_model.specs.State.{State, Client, Battle, battle_of, asked_by, name_of, updated}
+use Rattle.lobby_model.specs.Texts.{already_in_channel, already_in_battle, already_asking, no_number_left, battle_is_locked, wrong_password, no_such_user, no_such_member, cannot_kick_yourself, bot_name_taken, too_many_bots, too_many_tags, too_many_units}
 use Rattle.lobby_model.specs.Outcome.{Happening, Outcome, Refused, Done, tell, users, only_told, message, state_after}
 use Rattle.lobby_model.specs.Channels.{leaves}
-use Rattle.lobby_model.specs.Battles.{in_battle, as_founder, lets_in}
+use Rattle.lobby_model.specs.Battles.{in_battle, as_founder, lets_in, is_authorising, joins_or_asks, with_asker_of, address}
 use Rattle.lobby_model.specs.Rooms.{new_bot, with_own_bot, with_member_of}
 use Rattle.lobby_model.specs.Sessions.{status_in}
 use Rattle.lobby_model.specs.Commands.{answer}
 use Rattle.lobby_model.specs.Sound.{Sound}
 use Rattle.lobby_model.proofs.Checked as checked
+use Rattle.lobby_model.proofs.AskersKept.{found_asks}
 use Rattle.lobby_model.proofs.ChannelsKept as channels
 use Rattle.lobby_model.proofs.BattlesKept as battles
 use Rattle.lobby_model.proofs.SessionsKept as sessions
@@ -67,15 +69,23 @@ module _ (s : State) (sound : Sound s) where
         checked.with_a_bot Keeps refused s me name happening
         (λ id battle bot own found mine. keeps id battle bot (battles.own_battle s sound me id battle own).0)
 
+    with_an_asker : (name : List ℕ) (happening : Asker → ℕ → Battle → Happening)
+        → ((id : ℕ) (battle : Battle) (asker : Asker) → at_number s.battles id ≡ Some battle → has_asker asker.name battle.room ≡ true
+        → Sound ((happening asker id battle).after s))
+        → Keeps (with_asker_of s me name happening)
+    with_an_asker name happening keeps =
+        checked.with_an_asker Keeps refused s me name happening
+        (λ id battle asker own founds found. keeps id battle asker (battles.own_battle s sound me id battle own).0 (found_asks name battle asker found))
+
     -- all commands but EXIT and LOGIN
     abbrev IsOfUser : Command → Type 0
     IsOfUser command.Exit = ⊥
-    IsOfUser (command.Login name password cpu local_ip lobby) = ⊥
+    IsOfUser (command.Login name password cpu local_ip lobby authorises) = ⊥
     IsOfUser command = Unit {0}
 
     pub user_keeps : (c : ℕ) (command : Command) → IsOfUser command → Keeps (answer s c (Some me) command)
     user_keeps c command.Exit own = absurd own
-    user_keeps c (command.Login name password cpu local_ip lobby) own = absurd own
+    user_keeps c (command.Login name password cpu local_ip lobby authorises) own = absurd own
     user_keeps c command.Blank own = sound
     user_keeps c (command.Unread fault) own = sound
     user_keeps c command.Ping own = sound
@@ -93,15 +103,28 @@ module _ (s : State) (sound : Sound s) where
     user_keeps c command.Channels own = sound
     user_keeps c (command.OpenBattle battle_type nat_type password port max_players game_hash rank map_hash engine_name engine_version map title game_name) own =
         checked.demand_none Keeps refused (battle_of s me) (reply.OpenBattleFailed already_in_battle) _
-        (λ free. checked.refuse Keeps refused (s.last_battle == 2147483647) (reply.OpenBattleFailed no_number_left) _
-        (λ left. battles.opens_keeps s sound me _ refl refl free known))
+        (λ free. checked.demand_none Keeps refused (asked_by s me) (reply.OpenBattleFailed already_asking) _
+        (λ silent. checked.refuse Keeps refused (s.last_battle == 2147483647) (reply.OpenBattleFailed no_number_left) _
+        (λ left. battles.opens_keeps s sound me _ refl refl free silent known)))
     user_keeps c (command.JoinBattle id password script_password) own =
         checked.demand_none Keeps refused (battle_of s me) (reply.JoinBattleFailed already_in_battle) _
-        (λ free. checked.there Keeps refused (at_number s.battles id) _
+        (λ free. checked.demand_none Keeps refused (asked_by s me) (reply.JoinBattleFailed already_asking) _
+        (λ silent. checked.there Keeps refused (at_number s.battles id) _
         (λ battle there. checked.refuse Keeps refused battle.info.locked (reply.JoinBattleFailed battle_is_locked) _
         (λ unlocked. checked.demand Keeps refused (lets_in battle.password password) (reply.JoinBattleFailed wrong_password) _
-        (λ let_in. battles.joins_battle_keeps s sound id battle there me script_password free known))))
-    user_keeps c command.LeaveBattle own = in_its_battle _ (λ id battle there in_it. battles.leaves_battle_keeps s sound id battle there me)
+        (λ let_in. elim (is_authorising (at_name s.users battle.info.founder)) as
+        (λ asks. Sound ((joins_or_asks asks me id battle script_password (address (at_number s.clients c))).after s)) [
+          | true ↦ battles.asks_to_join_keeps s sound id battle there me script_password (address (at_number s.clients c)) free silent known
+          | false ↦ battles.joins_battle_keeps s sound id battle there me script_password free silent known
+        ])))))
+    user_keeps c command.LeaveBattle own =
+        checked.on_leaving Keeps refused s me
+        (λ e asks. let there = battles.own_request s sound me e asks in battles.asks_no_more_keeps s sound e.0 e.1 there.0 me)
+        (λ silent id battle own. battles.leaves_battle_keeps s sound id battle (battles.own_battle s sound me id battle own).0 me)
+    user_keeps c (command.JoinBattleAccept name) own =
+        with_an_asker name _ (λ id battle asker there asks. battles.let_into_keeps s sound id battle there asker asks)
+    user_keeps c (command.JoinBattleDeny name reason) own =
+        with_an_asker name _ (λ id battle asker there asks. battles.asks_no_more_keeps s sound id battle there name)
     user_keeps c (command.UpdateBattleInfo spectators locked map_hash map) own =
         as_its_founder _ (λ id battle there. battles.info_keeps s sound id battle there (updated spectators locked map_hash map) refl)
     user_keeps c (command.MyBattleStatus asked colour) own =
@@ -125,6 +148,11 @@ module _ (s : State) (sound : Sound s) where
         as_its_founder _ (λ id battle there. checked.refuse Keeps refused (has_too_many_tags (with_tags battle.room.tags pairs))
         (message too_many_tags) _ (λ few. battles.tags_set_keeps s sound id battle there pairs))
     user_keeps c (command.RemoveScriptTags keys) own = as_its_founder _ (λ id battle there. battles.tags_removed_keeps s sound id battle there keys)
+    user_keeps c (command.DisableUnits words) own =
+        as_its_founder _ (λ id battle there. checked.refuse Keeps refused (has_too_many_units (with_units battle.room.units words))
+        (message too_many_units) _ (λ few. battles.units_disabled_keeps s sound id battle there words few))
+    user_keeps c (command.EnableUnits words) own = as_its_founder _ (λ id battle there. battles.units_enabled_keeps s sound id battle there words)
+    user_keeps c command.EnableAllUnits own = as_its_founder _ (λ id battle there. battles.all_enabled_keeps s sound id battle there)
     user_keeps c (command.Handicap name value) own =
         with_a_member name _ (λ id battle there. battles.member_has_keeps s sound id battle there name _ _)
     user_keeps c (command.ForceTeamNo name number) own =
@@ -148,7 +176,7 @@ module _ (s : State) (sound : Sound s) where
 
     named_keeps : (me : List ℕ) → name_of s c ≡ Some me → (command : Command) → Keeps (answer s c (Some me) command)
     named_keeps me named command.Exit = exit_keeps (Some me) named
-    named_keeps me named (command.Login name password cpu local_ip lobby) = sound
+    named_keeps me named (command.Login name password cpu local_ip lobby authorises) = sound
     named_keeps me named command = user_keeps me (sound.clients.one_for_each.has_user c me named) c command tt
 
     unnamed_keeps : name_of s c ≡ None → (command : Command) → Keeps (answer s c None command)
@@ -156,8 +184,8 @@ module _ (s : State) (sound : Sound s) where
     unnamed_keeps unnamed (command.Unread fault) = sound
     unnamed_keeps unnamed command.Ping = sound
     unnamed_keeps unnamed command.Exit = exit_keeps None unnamed
-    unnamed_keeps unnamed (command.Login name password cpu local_ip lobby) =
-        sessions.log_in_keeps s sound c cpu (login s.accounts name password) client there unnamed
+    unnamed_keeps unnamed (command.Login name password cpu local_ip lobby authorises) =
+        sessions.log_in_keeps s sound c cpu authorises (login s.accounts name password) client there unnamed
     unnamed_keeps unnamed command = sound
 
     pub answer_keeps : (me : Option (List ℕ)) → name_of s c ≡ me → (command : Command) → Keeps (answer s c me command)

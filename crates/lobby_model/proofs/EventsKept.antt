@@ -63,6 +63,12 @@ empty_sound settings accounts = record {
   };
   channels = record { in_order = tt; each = λ channel names e. absurd (cc) };
   battles = record { in_order = tt; given = λ id battle e. absurd (cc); each = λ id battle e. absurd (cc); one = λ name i j a b e. absurd (cc) };
+  askers = record {
+    once = λ id battle e. absurd (cc);
+    are_users = λ id battle name e. absurd (cc);
+    outside = λ name i j a b e. absurd (cc);
+    one = λ name i j a b e. absurd (cc);
+  };
 }
 
 pub always_sound : (settings : Configuration) (accounts : List Account) (history : List Event) → Sound (after (empty_lobby settings accounts) history)

@@ -8,26 +8,31 @@ use Rattle.command_grammar.specs.declared.command.Command.{Command}
 use Rattle.command_grammar.specs.declared.command.Command.TheVariants as command
 use Rattle.status_bits.specs.Fields.{merge}
 use Rattle.status_bits.specs.BattleWord.{battle_table}
+use Rattle.status_bits.specs.UserWord.{user_table}
 use Rattle.line_words.specs.Table.{at_number, at_name, same_name, is_among}
 use Rattle.channel_book.specs.Channels.{names_in}
 use Rattle.battle_room.specs.Tags.{with_tags}
-use Rattle.battle_room.specs.Room.{Bot, has_member, status_of, bot_of, is_full_of_bots, has_too_many_tags}
-use Rattle.lobby_model.specs.State.{State, Battle, battle_of}
-use Rattle.lobby_model.specs.Texts.{already_in_channel, not_in_channel, no_such_user, already_in_battle, no_number_left, battle_is_locked, wrong_password, not_the_founder, no_such_member, cannot_kick_yourself, not_your_bot, bot_name_taken, too_many_bots, too_many_tags}
+use Rattle.battle_room.specs.Units.{with_units}
+use Rattle.battle_room.specs.Room.{Bot, Asker, has_member, has_asker, asker_of, with_asker, without_asker, status_of, bot_of, is_full_of_bots, has_too_many_tags, has_too_many_units}
+use Rattle.lobby_model.specs.State.{State, Battle, asked_by, battle_of}
+use Rattle.lobby_model.specs.Texts.{already_in_channel, not_in_channel, no_such_user, already_in_battle, already_asking, no_number_left, battle_is_locked, wrong_password, not_the_founder, no_such_member, cannot_kick_yourself, not_your_bot, bot_name_taken, too_many_bots, too_many_tags, too_many_units}
 use Rattle.lobby_model.specs.Outcome.{Happening, Outcome, Done, Letter, done, refuse_if, message, only_told, tell, issuer, user, users}
 use Rattle.lobby_model.specs.Channels.{in_channel, leaves}
-use Rattle.lobby_model.specs.Battles.{in_own, in_battle, as_founder, is_founder, in_room, lets_in, no_password, if_there, address}
+use Rattle.lobby_model.specs.Battles.{in_own, in_battle, as_founder, is_founder, in_room, lets_in, no_password, if_there, is_authorising, joins_or_asks, let_into, turned_away, reason_or_default, if_asks, with_asker_of, leave_or_drop, address}
 use Rattle.lobby_model.specs.Rooms.{new_bot, if_mine, with_own_bot, with_member_of}
+use Rattle.lobby_model.specs.Sessions.{status_in}
 use Rattle.lobby_model.specs.Commands.{answer}
 use Rattle.lobby_model.specs.Sound.{Sound}
+use Rattle.lobby_model.proofs.AskersKept.{found_asks}
 use Rattle.lobby_model.proofs.BattlesKept.{own_battle}
 use Rattle.lobby_view.proofs.Basics.{Seen, AllSeen, SeenOutcome, IsQuiet}
 use Rattle.lobby_view.proofs.Left.{leaves_battle_seen}
-use Rattle.lobby_view.proofs.Entering.{enters_seen}
+use Rattle.lobby_view.proofs.Entering.{joins_battle_seen, let_into_seen}
+use Rattle.lobby_view.proofs.Users.{status_seen}
 use Rattle.lobby_view.proofs.Channels.{joins_seen, leaves_seen}
 use Rattle.lobby_view.proofs.InRoom as room
 use Rattle.lobby_view.proofs.Opening.{opens_seen, info_seen}
-use Rattle.lobby_view.proofs.Quiet.{QuietLetters, told_seen, quiet_list}
+use Rattle.lobby_view.proofs.Quiet.{QuietLetters, told_seen, hidden_seen, quiet_list}
 
 module _ (s : State) (sound : Sound s) (me : List ℕ) (mine : Bool) (u : List ℕ) where
   abbrev Holds : Outcome → Type 0
@@ -83,6 +88,18 @@ module _ (s : State) (sound : Sound s) (me : List ℕ) (mine : Bool) (u : List �
       (λ id battle there.
       demand (has_member name battle.room) (message no_such_member) (Done (happenings id battle)) (λ v. refl) (λ in_it. seen id battle there))
 
+  on_asker : (name : List ℕ) (happening : Asker → ℕ → Battle → Happening)
+      → ((id : ℕ) (battle : Battle) (asker : Asker) → at_number s.battles id ≡ Some battle → has_asker asker.name battle.room ≡ true
+      → Seen s mine u (happening asker id battle))
+      → Holds (with_asker_of s me name happening)
+  on_asker name happening seen =
+      its_founder (λ id battle. if_asks (asker_of name battle.room) (λ asker. done (happening asker id battle)))
+      (λ id battle there.
+      elim (asker_of name battle.room) as (λ o. asker_of name battle.room ≡ o → Holds (if_asks o (λ asker. done (happening asker id battle)))) [
+        | None ↦ λ none v. refl
+        | Some asker ↦ λ found. (seen id battle asker there (found_asks name battle asker found), tt)
+      ] refl)
+
   on_bot : (name : List ℕ) (happening : ℕ → Battle → Bot → Happening)
       → ((id : ℕ) (battle : Battle) (bot : Bot) → at_number s.battles id ≡ Some battle → Seen s mine u (happening id battle bot))
       → Holds (with_own_bot s me name happening)
@@ -110,16 +127,16 @@ module _ (s : State) (sound : Sound s) (me : List ℕ) (mine : Bool) (u : List �
   -- the table of commands, but for those by which one comes or goes
   abbrev Stays : Command → Type 0
   Stays command.Exit = ⊥
-  Stays (command.Login name password cpu local_ip lobby) = ⊥
+  Stays (command.Login name password cpu local_ip lobby authorises) = ⊥
   Stays command = Unit {0}
 
   pub answer_seen : (c : ℕ) (command : Command) → Stays command → Holds (answer s c (Some me) command)
   answer_seen c command.Exit stays = absurd stays
-  answer_seen c (command.Login name password cpu local_ip lobby) stays = absurd stays
+  answer_seen c (command.Login name password cpu local_ip lobby authorises) stays = absurd stays
   answer_seen c command.Blank stays = tt
   answer_seen c (command.Unread fault) stays = λ v. refl
   answer_seen c command.Ping stays = (told (tell issuer (reply.Pong ∷ []) ∷ []) (((λ v. refl), tt), tt), tt)
-  answer_seen c (command.MyStatus asked) stays = (refl, tt)
+  answer_seen c (command.MyStatus asked) stays = (status_seen s mine u me (merge user_table (status_in (at_name s.users me)) asked), tt)
   answer_seen c (command.Join channel key) stays =
       refuse (is_among me (names_in s.channels channel)) (reply.JoinFailed channel already_in_channel) _ (λ v. refl)
       (λ out. (joins_seen s sound.channels.in_order me channel mine out u, tt))
@@ -138,7 +155,8 @@ module _ (s : State) (sound : Sound s) (me : List ℕ) (mine : Bool) (u : List �
       (told (tell issuer (map (λ e. reply.Channel e.0 (length e.1)) s.channels ++ reply.EndOfChannels ∷ []) ∷ []) (quiet_list s.channels, tt), tt)
   answer_seen c (command.OpenBattle battle_type nat_type password port max_players game_hash rank map_hash engine_name engine_version map title game_name) stays =
       demand_none (battle_of s me) (reply.OpenBattleFailed already_in_battle) _ (λ v. refl)
-      (λ none. refuse (s.last_battle == 2147483647) (reply.OpenBattleFailed no_number_left) _ (λ v. refl) (λ left. (
+      (λ none. demand_none (asked_by s me) (reply.OpenBattleFailed already_asking) _ (λ v. refl)
+      (λ silent. refuse (s.last_battle == 2147483647) (reply.OpenBattleFailed no_number_left) _ (λ v. refl) (λ left. (
         opens_seen s (s.last_battle + 1) next_is_free
             (record {
               battle_type = battle_type;
@@ -159,7 +177,7 @@ module _ (s : State) (sound : Sound s) (me : List ℕ) (mine : Bool) (u : List �
               locked = false;
             }) refl password game_hash mine none u,
         tt,
-      )))
+      ))))
     where
       next_is_free : at_number s.battles (s.last_battle + 1) ≡ None
       next_is_free = elim (at_number s.battles (s.last_battle + 1)) as (λ o. at_number s.battles (s.last_battle + 1) ≡ o → o ≡ None) [
@@ -168,11 +186,30 @@ module _ (s : State) (sound : Sound s) (me : List ℕ) (mine : Bool) (u : List �
       ] refl
   answer_seen c (command.JoinBattle id password script_password) stays =
       demand_none (battle_of s me) (reply.JoinBattleFailed already_in_battle) _ (λ v. refl)
-      (λ none. if_battle (at_number s.battles id) _
+      (λ none. demand_none (asked_by s me) (reply.JoinBattleFailed already_asking) _ (λ v. refl)
+      (λ silent. if_battle (at_number s.battles id) _
       (λ battle there. refuse battle.info.locked (reply.JoinBattleFailed battle_is_locked) _ (λ v. refl)
       (λ unlocked. demand (lets_in battle.password password) (reply.JoinBattleFailed wrong_password) _ (λ v. refl)
-      (λ let_in. (enters_seen s me id battle script_password mine sound there none u, tt)))))
-  answer_seen c command.LeaveBattle stays = in_a_battle _ (λ id battle there in_it. (leaves_battle_seen s sound u id battle there me in_it mine, tt))
+      (λ let_in. (joining (address (at_number s.clients c)) battle there none (is_authorising (at_name s.users battle.info.founder)), tt))))))
+    where
+      -- it joins, or asks to
+      joining : (ip : List ℕ) (battle : Battle) → at_number s.battles id ≡ Some battle → battle_of s me ≡ None → (asks : Bool)
+          → Seen s mine u (joins_or_asks asks me id battle script_password ip)
+      joining ip battle there none true =
+          hidden_seen s mine u id (with_asker me script_password) (λ room. refl)
+          (tell (user battle.info.founder) (reply.JoinBattleRequest me ip ∷ []) ∷ []) (((λ v. refl), tt), tt)
+      joining ip battle there none false = joins_battle_seen s sound mine u id battle there me script_password none
+  answer_seen c command.LeaveBattle stays =
+      elim (asked_by s me) as (λ o. Holds (leave_or_drop s me o)) [
+        | None ↦ in_a_battle _ (λ id battle there in_it. (leaves_battle_seen s sound u id battle there me in_it mine, tt))
+        | Some e ↦ (hidden_seen s mine u e.0 (without_asker me) (λ room. refl) [] tt, tt)
+      ]
+  answer_seen c (command.JoinBattleAccept name) stays =
+      on_asker name let_into (λ id battle asker there asks. let_into_seen s sound mine u id battle there asker asks)
+  answer_seen c (command.JoinBattleDeny name reason) stays =
+      on_asker name (λ asker id battle. turned_away name (reason_or_default reason) id)
+      (λ id battle asker there asks. hidden_seen s mine u id (without_asker name) (λ room. refl)
+      (tell (user name) (reply.JoinBattleFailed (reason_or_default reason) ∷ []) ∷ []) (((λ v. refl), tt), tt))
   answer_seen c (command.UpdateBattleInfo spectators locked map_hash map) stays =
       its_founder _ (λ id battle there. (info_seen s mine u id battle spectators locked map_hash map, tt))
   answer_seen c (command.MyBattleStatus asked colour) stays =
@@ -200,6 +237,12 @@ module _ (s : State) (sound : Sound s) (me : List ℕ) (mine : Bool) (u : List �
       (λ few. (room.tags_set_seen s sound id battle there mine u pairs, tt)))
   answer_seen c (command.RemoveScriptTags keys) stays =
       its_founder _ (λ id battle there. (room.tags_removed_seen s sound id battle there mine u keys, tt))
+  answer_seen c (command.DisableUnits words) stays =
+      its_founder _ (λ id battle there. refuse (has_too_many_units (with_units battle.room.units words)) (message too_many_units) _ (λ v. refl)
+      (λ few. (room.units_disabled_seen s sound id battle there mine u words, tt)))
+  answer_seen c (command.EnableUnits words) stays =
+      its_founder _ (λ id battle there. (room.units_enabled_seen s sound id battle there mine u words, tt))
+  answer_seen c command.EnableAllUnits stays = its_founder _ (λ id battle there. (room.all_enabled_seen s sound id battle there mine u, tt))
   answer_seen c (command.Handicap name value) stays =
       on_member name _ (λ id battle there. (room.status_seen s sound id battle there mine u name _ _, tt))
   answer_seen c (command.ForceTeamNo name number) stays =

@@ -5,9 +5,9 @@ use Rattle.std.specs.List.{AllByRecursion}
 use Rattle.command_grammar.specs.declared.command.Command.{Command}
 use Rattle.command_grammar.specs.declared.command.Command.TheVariants as command
 use Rattle.line_words.specs.Table.{ByNumber}
-use Rattle.lobby_model.specs.State.{State, Client, Battle, battle_of}
+use Rattle.lobby_model.specs.State.{State, Client, Battle, asked_by, battle_of}
 use Rattle.lobby_model.specs.Outcome.{Happening, Outcome, Refused, Done, all_after}
-use Rattle.lobby_model.specs.Battles.{leaves_battle, leaves_own}
+use Rattle.lobby_model.specs.Battles.{drops_own, leaves_battle, leaves_own}
 use Rattle.lobby_model.specs.Sessions.{is_gone, logs_out, unseen}
 use Rattle.lobby_model.specs.Commands.{answer}
 use Rattle.lobby_model.proofs.Inside.{IsInside, StaysInside, leaving_is_inside, answer_stays}
@@ -53,23 +53,27 @@ leaving_is_blind name id battle = inside_is_blind (leaves_battle name id battle)
 -- a log out
 pub logs_out_blind : (s : State) (me : Option (List ℕ)) → AllByRecursion IsBlind (logs_out s me)
 logs_out_blind s None = tt
-logs_out_blind s (Some me) = ((λ clients s. refl), own (battle_of s me))
+logs_out_blind s (Some me) = ((λ clients s. refl), dropping (asked_by s me) (battle_of s me))
   where
-    own : (o : Option (ℕ × Battle)) → AllByRecursion IsBlind (map unseen (leaves_own me o ++ is_gone me ∷ []))
-    own None = ((λ clients s. refl), tt)
-    own (Some e) = (leaving_is_blind me e.0 e.1, ((λ clients s. refl), tt))
+    leaving : (own : Option (ℕ × Battle)) → AllByRecursion IsBlind (map unseen (leaves_own me own ++ is_gone me ∷ []))
+    leaving None = ((λ clients s. refl), tt)
+    leaving (Some e) = (leaving_is_blind me e.0 e.1, ((λ clients s. refl), tt))
+
+    dropping : (asked own : Option (ℕ × Battle)) → AllByRecursion IsBlind (map unseen (drops_own me asked ++ (leaves_own me own ++ is_gone me ∷ [])))
+    dropping None own = leaving own
+    dropping (Some e) own = ((λ clients s. refl), leaving own)
 
 -- the commands by which one comes or goes
 abbrev pub changes_clients : Command → Bool
 changes_clients command.Exit = true
-changes_clients (command.Login name password cpu local_ip lobby) = true
+changes_clients (command.Login name password cpu local_ip lobby authorises) = true
 changes_clients command = false
 
 -- whatever else a client says
 pub answer_is_blind : (s : State) (c : ℕ) (me : Option (List ℕ)) (command : Command)
     → changes_clients command ≡ false → AreBlind (answer s c me command)
 answer_is_blind s c me command.Exit e = absurd (cc)
-answer_is_blind s c me (command.Login name password cpu local_ip lobby) e = absurd (cc)
+answer_is_blind s c me (command.Login name password cpu local_ip lobby authorises) e = absurd (cc)
 answer_is_blind s c None (command.MyStatus asked) e = tt
 answer_is_blind s c (Some me) (command.MyStatus asked) e = ((λ clients s. refl), tt)
 answer_is_blind s c me command e = stays_blind (answer s c me command) (answer_stays s c me command e)

@@ -1,14 +1,16 @@
 -- A change of one battle's room, as each user observes it.
 use Rattle.std.proofs.Common.{◌≡◌, ℕ, List, [], ◌∷◌, refl, ap, ◌∙◌, Bool, true, false}
 use Rattle.std.specs.Prelude.{Option, Some, None, find, if◌then◌else◌}
+use Rattle.std.specs.Ordering.{nat_cmp}
 use Rattle.line_words.specs.Table.{ByNumber, change_number, map_values, same_number, is_among}
 use Rattle.battle_room.specs.Room.{Room, has_member, member_names}
 use Rattle.lobby_model.specs.State.{State, Battle, battle_of}
 use Rattle.lobby_model.specs.Battles.{change_room}
-use Rattle.lobby_view.specs.View.{Listed, change_members, in_room_of}
-use Rattle.lobby_view.specs.Observe.{observe, listed, own_room}
+use Rattle.lobby_view.specs.View.{Listed, OwnRoom, change_members, in_room_of}
+use Rattle.lobby_view.specs.Observe.{observe, shared, listed, own_room}
 use Rattle.lobby_view.proofs.Basics.{owned}
 use Rattle.lobby_view.proofs.OwnBattle.{is_of}
+use Rattle.lobby_view.proofs.Ordered.{values_changed}
 
 abbrev pub roomed : (Room → Room) → Battle → Battle
 roomed f battle = record battle { room = f battle.room }
@@ -26,14 +28,10 @@ own_in u battles = find (λ e. has_member u e.1.room) battles
 
 -- f changes the names of the members as g does
 module _ (id : ℕ) (f : Room → Room) (g : List (List ℕ) → List (List ℕ)) (names : (room : Room) → member_names (f room) ≡ g (member_names room)) where
-  listed_one : (b : Bool) (battle : Battle)
-      → listed (if b then roomed f battle else battle) ≡ (if b then change_members g (listed battle) else listed battle)
-  listed_one true battle = ap (λ members. record { info = battle.info; members = members }) (names battle.room)
-  listed_one false battle = refl
-
   pub listed_changed : (m : ByNumber Battle) → all_listed (change_number m id (roomed f)) ≡ change_number (all_listed m) id (change_members g)
-  listed_changed [] = refl
-  listed_changed (e ∷ m) = λ i. (e.0, listed_one (same_number id e.0) e.1 i) ∷ listed_changed m i
+  listed_changed m =
+      values_changed nat_cmp listed (roomed f) (change_members g)
+      (λ battle. ap (λ members. record { info = battle.info; members = members }) (names battle.room)) m id
 
   -- and u stays in or out
   module _ (u : List ℕ) (same : (names : List (List ℕ)) → is_among u (g names) ≡ is_among u names) where
@@ -52,28 +50,30 @@ module _ (id : ℕ) (f : Room → Room) (g : List (List ℕ) → List (List ℕ)
           | false ↦ own_changed m
         ]
 
-    own_room_changed : (o : Option (ℕ × Battle)) → own_room (roomed_at id f o) ≡ in_room_of id f (own_room o)
-    own_room_changed None = refl
-    own_room_changed (Some own) =
-        elim (same_number id own.0) as
-        (λ b. Some (owned own.0 (if b then roomed f own.1 else own.1).room)
-        ≡ (if b then Some (owned own.0 (f own.1.room)) else Some (owned own.0 own.1.room))) [
-          | true ↦ refl
-          | false ↦ refl
-        ]
+    -- and what members share changes as by h
+    module _ (h : Room → Room) (shares : (room : Room) → shared (f room) ≡ h (shared room)) where
+      own_room_changed : (o : Option (ℕ × Battle)) → own_room (roomed_at id f o) ≡ in_room_of id h (own_room o)
+      own_room_changed None = refl
+      own_room_changed (Some own) =
+          elim (same_number id own.0) as
+          (λ b. Some (owned own.0 (shared (if b then roomed f own.1 else own.1).room))
+          ≡ (if b then Some (owned own.0 (h (shared own.1.room))) else Some (owned own.0 (shared own.1.room)))) [
+            | true ↦ ap (λ room. Some (owned own.0 room)) (shares own.1.room)
+            | false ↦ refl
+          ]
 
-    -- to u it is as if its view were changed so
-    pub room_changed : (s : State) → observe (change_room s id f) u
-        ≡ record (observe s u) { battles = change_number (observe s u).battles id (change_members g); own = in_room_of id f (observe s u).own }
-    room_changed s = λ i. record (observe s u) {
-      battles = listed_changed s.battles i;
-      own = (ap own_room (own_changed s.battles) ∙ own_room_changed (battle_of s u)) i;
-    }
+      -- to u it is as if its view were changed so
+      pub room_changed : (s : State) → observe (change_room s id f) u
+          ≡ record (observe s u) { battles = change_number (observe s u).battles id (change_members g); own = in_room_of id h (observe s u).own }
+      room_changed s = λ i. record (observe s u) {
+        battles = listed_changed s.battles i;
+        own = (ap own_room (own_changed s.battles) ∙ own_room_changed (battle_of s u)) i;
+      }
 
 -- of a battle that is not one's own nothing changes in one's room
 pub not_own : (id : ℕ) (f : Room → Room) (o : Option (ℕ × Battle)) → is_of id o ≡ false → in_room_of id f (own_room o) ≡ own_room o
 not_own id f None other = refl
-not_own id f (Some own) other = ap (λ b. if b then Some (owned own.0 (f own.1.room)) else Some (owned own.0 own.1.room)) other
+not_own id f (Some own) other = ap (λ b. if b then Some (owned own.0 (f (shared own.1.room))) else Some (owned own.0 (shared own.1.room))) other
 
 -- a change of nothing
 pub unchanged : {X : Type 0} (id : ℕ) (f : X → X) → ((x : X) → f x ≡ x) → (m : ByNumber X) → change_number m id f ≡ m
@@ -83,3 +83,23 @@ unchanged id f is (e ∷ m) = λ i. (e.0, here (same_number id e.0) i) ∷ uncha
     here : (b : Bool) → (if b then f e.1 else e.1) ≡ e.1
     here true = is e.1
     here false = refl
+
+-- the members stay, and what they share changes as by h
+pub room_of_same : (id : ℕ) (f h : Room → Room) → ((room : Room) → member_names (f room) ≡ member_names room)
+    → ((room : Room) → shared (f room) ≡ h (shared room)) → (u : List ℕ) (s : State)
+    → observe (change_room s id f) u ≡ record (observe s u) { own = in_room_of id h (observe s u).own }
+room_of_same id f h keeps shares u s =
+    room_changed id f (λ names. names) keeps u (λ names. refl) h shares s
+    ∙ ap (λ battles. record (observe s u) { battles = battles; own = in_room_of id h (observe s u).own })
+    (unchanged id (λ listed. listed) (λ listed. refl) (observe s u).battles)
+
+-- nothing that members share changes
+pub not_shared : (id : ℕ) (f : Room → Room) → ((room : Room) → shared (f room) ≡ shared room) → (u : List ℕ) (s : State)
+    → observe (change_room s id f) u ≡ observe s u
+not_shared id f hides u s =
+    room_of_same id f (λ room. room) (λ room. ap member_names (hides room)) hides u s
+    ∙ ap (λ own. record (observe s u) { own = own }) (same_room (observe s u).own)
+  where
+    same_room : (own : Option OwnRoom) → in_room_of id (λ room. room) own ≡ own
+    same_room None = refl
+    same_room (Some own) = elim (same_number id own.battle) as (λ b. (if b then Some own else Some own) ≡ Some own) [ true ↦ refl | false ↦ refl ]

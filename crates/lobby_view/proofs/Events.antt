@@ -143,13 +143,13 @@ module _ (s : State) (sound : Sound s) (d : ℕ) (u : List ℕ) (v : View) (know
         its_name None same e = absurd (cc)
         its_name (Some x) same e = same_Some name u (ap (λ b. name_of_client (Some (if b then in_phase (In name) x else x))) (sym same) ∙ e)
 
-    log_in_stays : (cpu : ℤ) (result : Result Account LoginFault) → Stays c (log_in s c cpu result)
-    log_in_stays cpu (Err fault) = seen_stays c (log_in s c cpu (Err fault)) refl (λ mine w. refl)
-    log_in_stays cpu (Ok account) =
+    log_in_stays : (cpu : ℤ) (authorises : Bool) (result : Result Account LoginFault) → Stays c (log_in s c cpu authorises result)
+    log_in_stays cpu authorises (Err fault) = seen_stays c (log_in s c cpu authorises (Err fault)) refl (λ mine w. refl)
+    log_in_stays cpu authorises (Ok account) =
         elim (is_some (at_name s.users account.name)) as (λ b. is_some (at_name s.users account.name) ≡ b
-        → Stays c (if b then Refused (reply.Denied user_is_in) else done (logs_in c account.name (user_of account cpu) s))) [
+        → Stays c (if b then Refused (reply.Denied user_is_in) else done (logs_in c account.name (user_of account cpu authorises) s))) [
           | true ↦ λ taken. seen_stays c (Refused (reply.Denied user_is_in)) refl (λ mine w. refl)
-          | false ↦ λ free. logs_in_stays account.name (user_of account cpu) free
+          | false ↦ λ free. logs_in_stays account.name (user_of account cpu authorises) free
         ] refl
 
     unnamed_stays : (command : Command) → Stays c (answer s c None command)
@@ -160,14 +160,14 @@ module _ (s : State) (sound : Sound s) (d : ℕ) (u : List ℕ) (v : View) (know
         (λ mine. (told_seen s mine u (tell issuer (reply.Pong ∷ []) ∷ []) (((λ w. refl), tt), tt), tt))
     unnamed_stays command.Exit =
         departs_stays c (λ clients. set_phase clients c Ended) (ends_unnames c) (change_spares c (in_phase Ended)) None own
-    unnamed_stays (command.Login name password cpu local_ip lobby) = log_in_stays cpu (login s.accounts name password)
+    unnamed_stays (command.Login name password cpu local_ip lobby authorises) = log_in_stays cpu authorises (login s.accounts name password)
     unnamed_stays command = seen_stays c (answer s c None command) refl (λ mine w. refl)
 
   named_stays : (c : ℕ) (me : List ℕ) → name_of s c ≡ Some me → (command : Command) → Stays c (answer s c (Some me) command)
   named_stays c me own command.Exit =
       departs_stays c (λ clients. set_phase clients c Ended) (ends_unnames c) (change_spares c (in_phase Ended)) (Some me) own
-  named_stays c me own (command.Login name password cpu local_ip lobby) =
-      seen_stays c (answer s c (Some me) (command.Login name password cpu local_ip lobby)) refl (λ mine w. refl)
+  named_stays c me own (command.Login name password cpu local_ip lobby authorises) =
+      seen_stays c (answer s c (Some me) (command.Login name password cpu local_ip lobby authorises)) refl (λ mine w. refl)
   named_stays c me own (command.MyStatus asked) =
       seen_stays c (answer s c (Some me) (command.MyStatus asked)) refl (λ mine. answer_seen s sound me mine u c (command.MyStatus asked) tt)
   named_stays c me own command =

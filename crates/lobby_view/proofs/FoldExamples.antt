@@ -4,14 +4,14 @@ use Rattle.std.specs.Prelude.{ℤ, pos, negsuc, codes, None}
 use Prim.Native.String.{String}
 use Rattle.reply_grammar.specs.declared.Reply.{Reply}
 use Rattle.reply_grammar.specs.declared.Reply.TheVariants as reply
-use Rattle.lobby_model.specs.State.{User, Info}
+use Rattle.lobby_model.specs.State.{Info}
 use Rattle.lobby_model.proofs.Fixture.{anna, bert, cleo, main}
-use Rattle.lobby_view.specs.View.{View, Listed, new_view, shown_all}
+use Rattle.lobby_view.specs.View.{View, Known, Listed, new_view, shown_all}
 
 abbrev folded : List Reply → View
 folded replies = shown_all (new_view []) replies
 
-abbrev user : String → ℤ → ℕ → ℕ → User
+abbrev user : String → ℤ → ℕ → ℕ → Known
 user country cpu account status = record { country = codes country; cpu = cpu; account = account; status = status }
 
 -- users: each comes with status 0
@@ -124,7 +124,7 @@ talk =
     ∷ reply.LoginInfoEnd ∷ reply.Pong ∷ reply.JoinFailed main (codes "no") ∷ reply.Said main bert (codes "hi")
     ∷ reply.SaidEx main bert (codes "waves") ∷ reply.SayPrivate bert (codes "hi") ∷ reply.SaidPrivate bert (codes "hi") ∷ reply.Channel (codes "other") 3 ∷ reply.EndOfChannels
     ∷ reply.OpenBattleFailed (codes "no") ∷ reply.JoinBattleFailed (codes "no") ∷ reply.RequestBattleStatus ∷ reply.SaidBattle bert (codes "hi")
-    ∷ reply.SaidBattleEx bert (codes "waves") ∷ reply.ForceQuitBattle ∷ reply.Ring bert ∷ []
+    ∷ reply.SaidBattleEx bert (codes "waves") ∷ reply.ForceQuitBattle ∷ reply.Ring bert ∷ reply.JoinBattleRequest bert (codes "10.0.0.2") ∷ []
 
 talk_changes_nothing : folded (in_main ++ opened 7 ∷ reply.JoinBattle 7 (pos 0) ∷ talk)
     ≡ folded (in_main ++ opened 7 ∷ reply.JoinBattle 7 (pos 0) ∷ [])

@@ -16,7 +16,7 @@ use Rattle.lobby_model.specs.declared.event.Phase.TheVariants.{In, Ended}
 use Rattle.lobby_model.specs.State.{State, Client, hears, name_of, set_phase}
 use Rattle.lobby_model.specs.Texts.{user_is_in}
 use Rattle.lobby_model.specs.Outcome.{Outcome, Refused, Done, nothing, done, happens, all_after, state_after, letters_of, lines_for}
-use Rattle.lobby_model.specs.Battles.{open_battle, no_password}
+use Rattle.lobby_model.specs.Battles.{open_battle, join_battle, no_password}
 use Rattle.lobby_model.specs.Sessions.{log_in, logs_in, user_of, logs_out, departs, connects, has_place, disconnects}
 use Rattle.lobby_model.specs.Commands.{answer}
 use Rattle.lobby_model.specs.Events.{outcome, effect, issuer_of, under, line_id}
@@ -28,15 +28,16 @@ use Rattle.lobby_view.proofs.Blind.{AreBlind, all_blind, all_clients_stay, logs_
 
 module _ (who : ℕ → Bool) (s : State) where
   -- what it comes to
-  login_same : (c : ℕ) (cpu : ℤ) (result : Result Account LoginFault) → log_in (masked who s) c cpu result ≡ log_in s c cpu result
-  login_same c cpu (Err fault) = refl
-  login_same c cpu (Ok account) = refl
+  login_same : (c : ℕ) (cpu : ℤ) (authorises : Bool) (result : Result Account LoginFault)
+      → log_in (masked who s) c cpu authorises result ≡ log_in s c cpu authorises result
+  login_same c cpu authorises (Err fault) = refl
+  login_same c cpu authorises (Ok account) = refl
 
-  -- OPENBATTLE alone looks at a client, for its address
+  -- OPENBATTLE and JOINBATTLE alone look at a client, for its address
   answer_same : (c : ℕ) (me : Option (List ℕ)) (command : Command) → answer (masked who s) c me command ≡ answer s c me command
   answer_same c None command.Exit = refl
   answer_same c (Some me) command.Exit = refl
-  answer_same c None (command.Login name password cpu local_ip lobby) = login_same c cpu (login s.accounts name password)
+  answer_same c None (command.Login name password cpu local_ip lobby authorises) = login_same c cpu authorises (login s.accounts name password)
   answer_same c (Some me) (command.OpenBattle battle_type nat_type password port max_players game_hash rank map_hash engine_name engine_version map title game_name) =
       ap (λ ip. open_battle s me (record {
         info = record {
@@ -61,6 +62,8 @@ module _ (who : ℕ → Bool) (s : State) where
         game_hash = game_hash;
         room = new_room me;
       })) (address_hidden who s c)
+  answer_same c (Some me) (command.JoinBattle id password script_password) =
+      ap (λ ip. join_battle s me ip id password script_password) (address_hidden who s c)
   answer_same c me command = refl
 
   logs_out_same : (me : Option (List ℕ)) → logs_out (masked who s) me ≡ logs_out s me
@@ -101,10 +104,10 @@ module _ (who : ℕ → Bool) (s : State) where
       ∙ ap (λ clients. record gone { clients = clients }) (same gone.clients)
       ∙ ap (masked who) (sym (all_after-append s (logs_out s me) (last ∷ [])))
 
-  logging_in : (c : ℕ) (cpu : ℤ) (result : Result Account LoginFault) → Follows (log_in s c cpu result)
-  logging_in c cpu (Err fault) = refl
-  logging_in c cpu (Ok account) =
-      let comes = logs_in c account.name (user_of account cpu) s in
+  logging_in : (c : ℕ) (cpu : ℤ) (authorises : Bool) (result : Result Account LoginFault) → Follows (log_in s c cpu authorises result)
+  logging_in c cpu authorises (Err fault) = refl
+  logging_in c cpu authorises (Ok account) =
+      let comes = logs_in c account.name (user_of account cpu authorises) s in
       elim (is_some (at_name s.users account.name)) as (λ b. Follows (if b then Refused (reply.Denied user_is_in) else done comes)) [
         | true ↦ refl
         | false ↦ ap (λ clients. record (comes.after s) { clients = clients }) (phase_hidden who c (In account.name) s.clients)
@@ -113,8 +116,8 @@ module _ (who : ℕ → Bool) (s : State) where
   said : (c : ℕ) (me : Option (List ℕ)) (command : Command) → Follows (answer s c me command)
   said c None command.Exit = goes None (λ m. set_phase m c Ended) (phase_hidden who c Ended)
   said c (Some me) command.Exit = goes (Some me) (λ m. set_phase m c Ended) (phase_hidden who c Ended)
-  said c None (command.Login name password cpu local_ip lobby) = logging_in c cpu (login s.accounts name password)
-  said c (Some me) (command.Login name password cpu local_ip lobby) = refl
+  said c None (command.Login name password cpu local_ip lobby authorises) = logging_in c cpu authorises (login s.accounts name password)
+  said c (Some me) (command.Login name password cpu local_ip lobby authorises) = refl
   said c me command = of_blind (answer s c me command) (answer_is_blind s c me command refl)
 
   follows : (e : Event) → Follows (outcome s e)

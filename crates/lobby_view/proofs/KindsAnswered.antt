@@ -11,8 +11,8 @@ use Rattle.command_grammar.specs.declared.command.Command.{Command}
 use Rattle.command_grammar.specs.declared.command.Command.TheVariants as command
 use Rattle.command_grammar.specs.declared.command.ReadFault.{ReadFault}
 use Rattle.command_grammar.specs.declared.command.ReadFault.TheVariants.{UnknownCommand, MissingArgument, BadNumber, BadName, BadByte, BadPair}
-use Rattle.command_grammar.specs.Kinds.{keeps_kinds, is_up_to}
-use Rattle.command_grammar.specs.Sizes.{argument_bytes}
+use Rattle.command_grammar.specs.Kinds.{keeps_kinds, is_up_to, is_some_text}
+use Rattle.command_grammar.specs.Sizes.{argument_bytes, optional_size}
 use Rattle.status_bits.specs.Fields.{merge}
 use Rattle.status_bits.specs.UserWord.{user_table}
 use Rattle.status_bits.specs.BattleWord.{battle_table, team, ally, player, handicap}
@@ -22,23 +22,24 @@ use Rattle.line_words.specs.declared.lists.Pair.{Pair}
 use Rattle.line_words.specs.Table.{ByName, at_number, at_name, same_name, is_among}
 use Rattle.channel_book.specs.Channels.{names_in}
 use Rattle.battle_room.specs.Tags.{with_tags, keys_there}
-use Rattle.battle_room.specs.Room.{has_too_many_tags, has_member, with_bot, with_bot_status, without_bot, with_rect, without_rect, set_tags, remove_tags, status_of, bot_of, is_full_of_bots}
-use Rattle.lobby_model.specs.State.{State, battle_of}
-use Rattle.lobby_model.specs.Texts.{fault_text, already_in_channel, no_such_user, already_in_battle, battle_is_locked, wrong_password, no_such_member, cannot_kick_yourself, bot_name_taken, too_many_bots, no_number_left, too_many_tags}
-use Rattle.lobby_model.specs.Outcome.{Outcome, done, refuse_if, tell, users, only_told}
+use Rattle.battle_room.specs.Units.{with_units, words_new, words_there}
+use Rattle.battle_room.specs.Room.{has_too_many_tags, has_member, with_bot, with_bot_status, without_bot, with_rect, without_rect, set_tags, remove_tags, status_of, bot_of, is_full_of_bots, has_too_many_units, disable_units, enable_units, enable_all}
+use Rattle.lobby_model.specs.State.{State, Battle, asked_by, battle_of}
+use Rattle.lobby_model.specs.Texts.{fault_text, already_in_channel, no_such_user, already_in_battle, already_asking, denied_by_founder, battle_is_locked, wrong_password, no_such_member, cannot_kick_yourself, bot_name_taken, too_many_bots, no_number_left, too_many_tags, too_many_units}
+use Rattle.lobby_model.specs.Outcome.{Happening, Outcome, done, refuse_if, tell, users, only_told}
 use Rattle.lobby_model.specs.Channels.{joins, leaves, say_in_channel}
-use Rattle.lobby_model.specs.Battles.{address, bot_line, rect_line, if_there, lets_in, joins_battle}
-use Rattle.lobby_model.specs.Rooms.{new_bot, removed_line}
+use Rattle.lobby_model.specs.Battles.{address, bot_line, rect_line, if_there, is_authorising, lets_in, joins_or_asks, leave_or_drop, reason_or_default}
+use Rattle.lobby_model.specs.Rooms.{new_bot, removed_line, disabled_line, enabled_line}
 use Rattle.lobby_model.specs.Sessions.{status_in}
 use Rattle.lobby_model.specs.Commands.{answer}
 use Rattle.lobby_view.proofs.Everywhere.{Each}
 use Rattle.lobby_view.proofs.Clean.{Clean}
 use Rattle.lobby_view.proofs.StatusWords.{user_merge_fits, battle_merge_fits}
 use Rattle.lobby_view.proofs.KindsOfUsers.{IsName, ChannelKinds}
-use Rattle.lobby_view.proofs.KindsOfBattles.{BotKinds, RectKinds, bot_kinds, bot_status_kinds, bot_gone_kinds, rect_kinds, rect_gone_kinds, tags_kinds, tags_gone_kinds, clean_bot, clean_rect}
-use Rattle.lobby_view.proofs.KindsOfHappenings.{Kinds, message_clean, room_clean, status_kinds, joins_kinds, leaves_kinds, leaves_battle_kinds, info_clean, enters_kinds, opens_kinds}
+use Rattle.lobby_view.proofs.KindsOfBattles.{BotKinds, RectKinds, AskerKinds, units_kinds, units_gone_kinds, all_units_gone_kinds, bot_kinds, bot_status_kinds, bot_gone_kinds, rect_kinds, rect_gone_kinds, tags_kinds, tags_gone_kinds, clean_bot, clean_rect}
+use Rattle.lobby_view.proofs.KindsOfHappenings.{Kinds, CleanAll, asks_kinds, let_into_kinds, turned_away_kinds, no_more_kinds, message_clean, room_clean, status_kinds, joins_kinds, leaves_kinds, leaves_battle_kinds, info_clean, enters_kinds, opens_kinds}
 use Rattle.lobby_view.proofs.KindsChecked as checked
-use Rattle.lobby_view.proofs.KindsChecked.{CleanOutcome, optional_room, pairs_room, pairs_kinds, there_words, removed_clean, status_of_kinds}
+use Rattle.lobby_view.proofs.KindsChecked.{CleanOutcome, optional_room, pairs_room, pairs_kinds, some_keys, some_there, some_new, removed_clean, disabled_clean, enabled_clean, words_kinds, status_of_kinds}
 
 pub fault_clean : (fault : ReadFault) → Clean (reply.ServerMsg (fault_text fault))
 fault_clean UnknownCommand = message_clean (codes "Unknown command") refl (omega arith)
@@ -106,16 +107,42 @@ module _ (s : State) (k : Kinds s) (me : List ℕ) (n : IsName me) (c : ℕ) (co
   join_battle id password script_password kinds short =
       let p = and_parts (is_up_to 2147483647 id && is_some_word password) (is_some_word script_password) kinds in
       let size = optional_room script_password in
+      let its : AskerKinds (record { name = me; script_password = script_password }) = record { name = n; script_password = p.1; short = omega arith } in
+      let comes : Battle → Bool → Happening = λ b asks. joins_or_asks asks me id b script_password (address (at_number s.clients c)) in
+      let authorised : Battle → Bool = λ b. is_authorising (at_name s.users b.info.founder) in
       checked.refuse s k me n (is_some (battle_of s me)) (reply.JoinBattleFailed already_in_battle) _ (battle_refused already_in_battle refl (omega arith))
-      (λ free. elim (at_number s.battles id) as (λ o. at_number s.battles id ≡ o
+      (λ free. checked.refuse s k me n (is_some (asked_by s me)) (reply.JoinBattleFailed already_asking) _ (battle_refused already_asking refl (omega arith))
+      (λ silent. elim (at_number s.battles id) as (λ o. at_number s.battles id ≡ o
       → CleanOutcome s (if_there o (λ b. refuse_if b.info.locked (reply.JoinBattleFailed battle_is_locked)
-      (refuse_if (not (lets_in b.password password)) (reply.JoinBattleFailed wrong_password) (done (joins_battle me id b script_password)))))) [
+      (refuse_if (not (lets_in b.password password)) (reply.JoinBattleFailed wrong_password) (done (comes b (authorised b))))))) [
         | None ↦ λ e. record { fits = refl; short = omega arith }
         | Some b ↦ λ there.
             checked.refuse s k me n b.info.locked (reply.JoinBattleFailed battle_is_locked) _ (battle_refused battle_is_locked refl (omega arith))
             (λ open_to. checked.refuse s k me n (not (lets_in b.password password)) (reply.JoinBattleFailed wrong_password) _
-            (battle_refused wrong_password refl (omega arith)) (λ let_in. enters_kinds s k me id b script_password n there p.1 (omega arith)))
-      ] refl)
+            (battle_refused wrong_password refl (omega arith)) (λ let_in. elim (authorised b) as (λ asks. CleanAll s (comes b asks ∷ [])) [
+              | true ↦ asks_kinds s k me id b script_password (address (at_number s.clients c)) its ip ip_short
+              | false ↦ enters_kinds s k me id b script_password n there p.1 (omega arith)
+            ]))
+      ] refl))
+
+  leave_battle : Answers command.LeaveBattle
+  leave_battle kinds short =
+      elim (asked_by s me) as (λ o. CleanOutcome s (leave_or_drop s me o)) [
+        | None ↦ checked.in_a_battle s k me n _ (λ id b was. leaves_battle_kinds s k me id b n was)
+        | Some e ↦ no_more_kinds s k me e.0
+      ]
+
+  accept : (name : List ℕ) → Answers (command.JoinBattleAccept name)
+  accept name kinds short = checked.with_an_asker s k me n name _ (λ id b asker was its. let_into_kinds s k asker id b its was)
+
+  deny : (name : List ℕ) (reason : Option (List ℕ)) → Answers (command.JoinBattleDeny name reason)
+  deny name reason kinds short =
+      checked.with_an_asker s k me n name _ (λ id b asker was its. turned_away_kinds s k name (reason_or_default reason) id (told reason
+      (and_parts (is_name name) (is_some_text reason) kinds).1 (omega arith)))
+    where
+      told : (o : Option (List ℕ)) → is_some_text o ≡ true → optional_size o ≤ 8192 → Clean (reply.JoinBattleFailed (reason_or_default o))
+      told None text small = battle_refused denied_by_founder refl (omega arith)
+      told (Some text) is small = battle_refused text is (omega arith)
 
   update_battle : (spectators : ℕ) (locked : Bool) (map_hash : ℤ) (map_name : List ℕ)
       → Answers (command.UpdateBattleInfo spectators locked map_hash map_name)
@@ -203,9 +230,33 @@ module _ (s : State) (k : Kinds s) (me : List ℕ) (n : IsName me) (c : ℕ) (co
   remove_script_tags keys kinds short =
       let parts = and_parts (nat_le 1 (length keys)) (list_all is_word keys) kinds in
       checked.as_its_founder s k me n _
-      (λ id b was. let there = there_words keys b.room.tags parts.1 in
+      (λ id b was. let there = some_keys keys b.room.tags parts.1 in
       room_clean s k id b (remove_tags keys) (removed_line (keys_there b.room.tags keys)) (λ room h. tags_gone_kinds room h keys)
-      (removed_clean (keys_there b.room.tags keys) there.0 (let r = there.1 in omega arith)))
+      (removed_clean (keys_there b.room.tags keys) there.are_words (let r = there.short in omega arith)))
+
+  disable : (units : List (List ℕ)) → Answers (command.DisableUnits units)
+  disable units kinds short =
+      let words = (and_parts (nat_le 1 (length units)) (list_all is_word units) kinds).1 in
+      checked.as_its_founder s k me n _
+      (λ id b was. let new = some_new units b.room.units words in
+      checked.demand s k me n (has_too_many_units (with_units b.room.units units)) too_many_units _ refl (omega arith)
+      (room_clean s k id b (disable_units units) (disabled_line (words_new b.room.units units))
+      (λ room h. units_kinds room h units (words_kinds units words (omega arith)))
+      (disabled_clean (words_new b.room.units units) new.are_words (let r = new.short in omega arith))))
+
+  enable : (units : List (List ℕ)) → Answers (command.EnableUnits units)
+  enable units kinds short =
+      let words = (and_parts (nat_le 1 (length units)) (list_all is_word units) kinds).1 in
+      checked.as_its_founder s k me n _
+      (λ id b was. let there = some_there units b.room.units words in
+      room_clean s k id b (enable_units units) (enabled_line (words_there b.room.units units)) (λ room h. units_gone_kinds room h units)
+      (enabled_clean (words_there b.room.units units) there.are_words (let r = there.short in omega arith)))
+
+  enable_every : Answers command.EnableAllUnits
+  enable_every kinds short =
+      checked.as_its_founder s k me n _
+      (λ id b was. room_clean s k id b enable_all (reply.EnableAllUnits ∷ []) (λ room h. all_units_gone_kinds room h)
+      (record { fits = refl; short = omega arith }, tt))
 
   give_handicap : (name : List ℕ) (value : ℕ) → Answers (command.Handicap name value)
   give_handicap name value kinds short =
@@ -270,7 +321,8 @@ module _ (s : State) (k : Kinds s) (me : List ℕ) (n : IsName me) (c : ℕ) (co
       let m = and_parts _ (is_word password) l.0 in
       let o = and_parts (is_up_to 1 battle_type) (is_up_to 2 nat_type) m.0 in
       checked.refuse s k me n (is_some (battle_of s me)) (reply.OpenBattleFailed already_in_battle) _ (record { fits = refl; short = omega arith })
-      (λ free. numbered (s.last_battle == 2147483647) refl _
+      (λ free. checked.refuse s k me n (is_some (asked_by s me)) (reply.OpenBattleFailed already_asking) _ (record { fits = refl; short = omega arith })
+      (λ silent. numbered (s.last_battle == 2147483647) refl _
       (λ small. opens_kinds s k me (s.last_battle + 1) _ (record {
         id = and_from (nat_le 1 (s.last_battle + 1)) (nat_le (s.last_battle + 1) 2147483647) (le-leb 1 (s.last_battle + 1) (omega arith))
             (le-leb (s.last_battle + 1) 2147483647 small);
@@ -294,8 +346,8 @@ module _ (s : State) (k : Kinds s) (me : List ℕ) (n : IsName me) (c : ℕ) (co
           spectators = refl;
         };
         hash = i.1;
-        room = record { members = (record { name = n; status = refl; colour = refl }, tt); bots = tt; rects = tt; tags = tt };
-      }) small))
+        room = record { members = (record { name = n; status = refl; colour = refl }, tt); bots = tt; rects = tt; tags = tt; units = tt; askers = tt };
+      }) small)))
 
   abbrev pub Remains : Command → Type 0
   Remains command.Exit = ⊥
@@ -307,7 +359,7 @@ module _ (s : State) (k : Kinds s) (me : List ℕ) (n : IsName me) (c : ℕ) (co
   answer_clean command.Blank own = λ kinds short. tt
   answer_clean (command.Unread fault) own = λ kinds short. fault_clean fault
   answer_clean command.Ping own = λ kinds short. (((record { fits = refl; short = omega arith }, tt), tt), k, tt)
-  answer_clean (command.Login name password cpu local_ip lobby) own = λ kinds short. record { fits = refl; short = omega arith }
+  answer_clean (command.Login name password cpu local_ip lobby authorises) own = λ kinds short. record { fits = refl; short = omega arith }
   answer_clean (command.MyStatus asked) own =
       λ kinds short. status_kinds s k me (merge user_table (status_in (at_name s.users me)) asked) n (user_merge_fits (status_in (at_name s.users me)) asked)
   answer_clean (command.Join channel key) own = join channel key
@@ -319,7 +371,9 @@ module _ (s : State) (k : Kinds s) (me : List ℕ) (n : IsName me) (c : ℕ) (co
   answer_clean (command.OpenBattle battle_type nat_type password port max_players game_hash rank map_hash engine_name engine_version map title game_name) own =
       open_battle battle_type nat_type password port max_players game_hash rank map_hash engine_name engine_version map title game_name
   answer_clean (command.JoinBattle id password script_password) own = join_battle id password script_password
-  answer_clean command.LeaveBattle own = λ kinds short. checked.in_a_battle s k me n _ (λ id b was. leaves_battle_kinds s k me id b n was)
+  answer_clean command.LeaveBattle own = leave_battle
+  answer_clean (command.JoinBattleAccept name) own = accept name
+  answer_clean (command.JoinBattleDeny name reason) own = deny name reason
   answer_clean (command.UpdateBattleInfo spectators locked map_hash map) own = update_battle spectators locked map_hash map
   answer_clean (command.MyBattleStatus asked colour) own = my_battle_status asked colour
   answer_clean (command.SayBattle text) own =
@@ -333,6 +387,9 @@ module _ (s : State) (k : Kinds s) (me : List ℕ) (n : IsName me) (c : ℕ) (co
   answer_clean (command.RemoveStartRect number) own = remove_rect number
   answer_clean (command.SetScriptTags pairs) own = set_script_tags pairs
   answer_clean (command.RemoveScriptTags keys) own = remove_script_tags keys
+  answer_clean (command.DisableUnits units) own = disable units
+  answer_clean (command.EnableUnits units) own = enable units
+  answer_clean command.EnableAllUnits own = enable_every
   answer_clean (command.Handicap name value) own = give_handicap name value
   answer_clean (command.ForceTeamNo name number) own = force_team name number
   answer_clean (command.ForceAllyNo name number) own = force_ally name number

@@ -1,6 +1,6 @@
 -- What a command comes to tells clean lines, where its refusals do and what happens once all checks are passed does: one lemma for each
 -- way of checking.
-use Rattle.std.proofs.Common.{◌≡◌, ℕ, ◌≤◌, ℤ, List, [], ◌∷◌, refl, Bool, true, false, not, length, arith}
+use Rattle.std.proofs.Common.{◌≡◌, ℕ, ◌≤◌, ℤ, List, [], ◌∷◌, ◌++◌, refl, Bool, true, false, not, length, arith}
 use Rattle.std.specs.Prelude.{Option, Some, None, find, if◌then◌else◌, ◌&&◌, ◌||◌, sum_by}
 use Rattle.std.proofs.lemmas.Bool.{and_parts, le-leb}
 use Rattle.std.proofs.lemmas.List.{length-append}
@@ -8,7 +8,7 @@ use Rattle.std.proofs.lemmas.List.Sums.{sum_by-cons}
 use Rattle.std.specs.List.{list_all}
 use Rattle.reply_grammar.specs.declared.Reply.{Reply}
 use Rattle.reply_grammar.specs.declared.Reply.TheVariants as reply
-use Rattle.reply_grammar.specs.Kinds.{fits, pairs_text, words_text, optional_text, pair_text}
+use Rattle.reply_grammar.specs.Kinds.{Words, fits, all_fit, pairs_text, words_text, optional_text, pair_text}
 use Rattle.reply_grammar.specs.Replies.{status_word}
 use Rattle.command_grammar.specs.Sizes.{size, pair_size, optional_size}
 use Rattle.status_bits.specs.Fields.{Field, with_number}
@@ -16,22 +16,24 @@ use Rattle.status_bits.specs.BattleWord.{battle_table}
 use Rattle.line_words.specs.Bytes.{is_word, is_text}
 use Rattle.line_words.specs.Kinds.{is_wide, is_pair}
 use Rattle.line_words.specs.declared.lists.Pair.{Pair}
-use Rattle.line_words.specs.Table.{same_name, is_among}
+use Rattle.line_words.specs.Table.{same_name, is_among, all_but}
 use Rattle.channel_book.specs.Channels.{names_in}
 use Rattle.battle_room.specs.Tags.{keys_there, has_tag, without_tag}
+use Rattle.battle_room.specs.Units.{words_new, words_there}
 use Rattle.battle_room.specs.Room as battle_room
-use Rattle.battle_room.specs.Room.{Member, Bot, has_member, bot_of, with_status, status_of, colour_of, colour_in}
+use Rattle.battle_room.specs.Room.{Member, Bot, Asker, has_member, bot_of, asker_of, with_status, status_of, colour_of, colour_in}
 use Rattle.lobby_model.specs.State.{State, Battle, battle_of}
 use Rattle.lobby_model.specs.Outcome.{Happening, Outcome, Refused, Done, done, refuse_if, message}
 use Rattle.lobby_model.specs.Channels.{in_channel}
-use Rattle.lobby_model.specs.Battles.{in_own, in_battle, as_founder, is_founder, member_has, say_in_battle}
-use Rattle.lobby_model.specs.Rooms.{removed_line, if_mine, with_own_bot, with_member_of, force_number}
-use Rattle.lobby_model.specs.Texts.{not_in_channel, not_in_battle, not_the_founder, no_such_member, no_such_bot, not_your_bot}
+use Rattle.lobby_model.specs.Battles.{in_own, in_battle, as_founder, is_founder, member_has, if_asks, with_asker_of, say_in_battle}
+use Rattle.lobby_model.specs.Rooms.{removed_line, disabled_line, enabled_line, if_mine, with_own_bot, with_member_of, force_number}
+use Rattle.lobby_model.specs.Texts.{not_in_channel, not_in_battle, not_the_founder, no_such_member, no_such_bot, not_your_bot, no_such_request}
 use Rattle.lobby_view.proofs.Everywhere.{Each, each_found}
+use Rattle.lobby_view.proofs.Lengths.{all_room}
 use Rattle.lobby_view.proofs.Clean.{Clean}
 use Rattle.lobby_view.proofs.StatusWords.{forced_fits}
 use Rattle.lobby_view.proofs.KindsOfUsers.{IsName}
-use Rattle.lobby_view.proofs.KindsOfBattles.{BattleKinds, MemberKinds, TagKinds, member_status_kinds}
+use Rattle.lobby_view.proofs.KindsOfBattles.{BattleKinds, MemberKinds, TagKinds, UnitKinds, AskerKinds, member_status_kinds}
 use Rattle.lobby_view.proofs.KindsOfHappenings.{Kinds, CleanAll, message_clean, room_clean}
 
 abbrev pub CleanOutcome : State → Outcome → Type 0
@@ -58,27 +60,79 @@ pairs_kinds (p ∷ ps) e short =
       pairs_kinds ps parts.1 (omega (arith, whole)),
     )
 
--- the keys that are there are some of those asked for
-pub there_words : (keys : List (List ℕ)) (tags : List Pair) → list_all is_word keys ≡ true
-    → (list_all is_word (keys_there tags keys) ≡ true) × (length (words_text (keys_there tags keys)) ≤ sum_by size keys)
-there_words [] tags e = (refl, omega arith)
-there_words (key ∷ keys) tags e =
+-- some of these words: they are words, and print in no more bytes
+pub record AreSome (told words : List (List ℕ)) : Type 0 where
+  pub are_words : list_all is_word told ≡ true
+  pub short : length (words_text told) ≤ sum_by size words
+
+one_more : (word : List ℕ) (told words : List (List ℕ)) → is_word word ≡ true → AreSome told words → AreSome (word ∷ told) (word ∷ words)
+one_more word told words w some = record {
+  are_words = λ i. w i && some.are_words i;
+  short = (let s = some.short in omega (arith, sum_by-cons size word words, length-append word (words_text told)));
+}
+
+one_left_out : (word : List ℕ) (told words : List (List ℕ)) → AreSome told words → AreSome told (word ∷ words)
+one_left_out word told words some =
+    record { are_words = some.are_words; short = (let s = some.short in omega (arith, sum_by-cons size word words)) }
+
+pub some_keys : (keys : List (List ℕ)) (tags : List Pair) → list_all is_word keys ≡ true → AreSome (keys_there tags keys) keys
+some_keys [] tags e = record { are_words = refl; short = omega arith }
+some_keys (key ∷ keys) tags e =
     let parts = and_parts (is_word key) (list_all is_word keys) e in
-    elim (has_tag key tags) as (λ b. (list_all is_word (if b then key ∷ keys_there (without_tag key tags) keys else keys_there tags keys) ≡ true)
-    × (length (words_text (if b then key ∷ keys_there (without_tag key tags) keys else keys_there tags keys)) ≤ sum_by size (key ∷ keys))) [
-      | true ↦
-          let rest = there_words keys (without_tag key tags) parts.1 in
-          let r = rest.1 in (
-            (λ i. parts.0 i && rest.0 i),
-            omega (arith, sum_by-cons size key keys, length-append key (words_text (keys_there (without_tag key tags) keys))),
-          )
-      | false ↦ let rest = there_words keys tags parts.1 in let r = rest.1 in (rest.0, omega (arith, sum_by-cons size key keys))
+    let left = without_tag key tags in
+    elim (has_tag key tags) as (λ b. AreSome (if b then key ∷ keys_there left keys else keys_there tags keys) (key ∷ keys)) [
+      | true ↦ one_more key (keys_there left keys) keys parts.0 (some_keys keys left parts.1)
+      | false ↦ one_left_out key (keys_there tags keys) keys (some_keys keys tags parts.1)
     ]
+
+pub some_there : (words units : List (List ℕ)) → list_all is_word words ≡ true → AreSome (words_there units words) words
+some_there [] units e = record { are_words = refl; short = omega arith }
+some_there (word ∷ words) units e =
+    let parts = and_parts (is_word word) (list_all is_word words) e in
+    let left = all_but word units in
+    elim (is_among word units) as (λ b. AreSome (if b then word ∷ words_there left words else words_there units words) (word ∷ words)) [
+      | true ↦ one_more word (words_there left words) words parts.0 (some_there words left parts.1)
+      | false ↦ one_left_out word (words_there units words) words (some_there words units parts.1)
+    ]
+
+pub some_new : (words units : List (List ℕ)) → list_all is_word words ≡ true → AreSome (words_new units words) words
+some_new [] units e = record { are_words = refl; short = omega arith }
+some_new (word ∷ words) units e =
+    let parts = and_parts (is_word word) (list_all is_word words) e in
+    let more = units ++ word ∷ [] in
+    elim (is_among word units) as (λ b. AreSome (if b then words_new units words else word ∷ words_new more words) (word ∷ words)) [
+      | true ↦ one_left_out word (words_new units words) words (some_new words units parts.1)
+      | false ↦ one_more word (words_new more words) words parts.0 (some_new words more parts.1)
+    ]
+
+-- a line of one or more words, each of which stood on one line
+record WordsFit (words : List (List ℕ)) : Type 0 where
+  fits : all_fit (Words ∷ []) (words, tt) ≡ true
+  short : all_room (Words ∷ []) (words, tt) ≤ 20448
+
+words_fit : (word : List ℕ) (words : List (List ℕ)) → list_all is_word (word ∷ words) ≡ true → length (words_text (word ∷ words)) ≤ 8192
+    → WordsFit (word ∷ words)
+words_fit word words e short =
+    record { fits = λ i. (e i && le-leb 1 (length (word ∷ words)) (omega arith) i) && true; short = omega arith }
 
 pub removed_clean : (keys : List (List ℕ)) → list_all is_word keys ≡ true → length (words_text keys) ≤ 8192 → Each Clean (removed_line keys)
 removed_clean [] e short = tt
-removed_clean (key ∷ keys) e short =
-    (record { fits = λ i. (e i && le-leb 1 (length (key ∷ keys)) (omega arith) i) && true; short = omega arith }, tt)
+removed_clean (key ∷ keys) e short = let line = words_fit key keys e short in (record { fits = line.fits; short = line.short }, tt)
+
+pub disabled_clean : (units : List (List ℕ)) → list_all is_word units ≡ true → length (words_text units) ≤ 8192 → Each Clean (disabled_line units)
+disabled_clean [] e short = tt
+disabled_clean (unit ∷ units) e short = let line = words_fit unit units e short in (record { fits = line.fits; short = line.short }, tt)
+
+pub enabled_clean : (units : List (List ℕ)) → list_all is_word units ≡ true → length (words_text units) ≤ 8192 → Each Clean (enabled_line units)
+enabled_clean [] e short = tt
+enabled_clean (unit ∷ units) e short = let line = words_fit unit units e short in (record { fits = line.fits; short = line.short }, tt)
+
+pub words_kinds : (words : List (List ℕ)) → list_all is_word words ≡ true → sum_by size words ≤ 8192 → Each UnitKinds words
+words_kinds [] e short = tt
+words_kinds (word ∷ words) e short =
+    let parts = and_parts (is_word word) (list_all is_word words) e in
+    let whole = sum_by-cons size word words in
+    (record { word = parts.0; short = omega (arith, whole) }, words_kinds words parts.1 (omega (arith, whole)))
 
 -- members
 status_in_kinds : (o : Option Member) → ((m : Member) → o ≡ Some m → MemberKinds m) → fits status_word (battle_room.status_in o) ≡ true
@@ -140,6 +194,16 @@ module _ (s : State) (k : Kinds s) (me : List ℕ) (n : IsName me) where
         | Some bot ↦
             demand (not (same_name me bot.owner || is_founder me b)) not_your_bot (done (happening id b bot)) refl (omega arith) (each id b bot was)
       ])
+
+  pub with_an_asker : (name : List ℕ) (happening : Asker → ℕ → Battle → Happening)
+      → ((id : ℕ) (b : Battle) (asker : Asker) → BattleKinds (id, b) → AskerKinds asker → CleanAll s (happening asker id b ∷ []))
+      → IsClean (with_asker_of s me name happening)
+  with_an_asker name happening each =
+      as_its_founder (λ id b. if_asks (asker_of name b.room) (λ asker. done (happening asker id b)))
+      (λ id b was. elim (asker_of name b.room) as (λ o. asker_of name b.room ≡ o → IsClean (if_asks o (λ asker. done (happening asker id b)))) [
+        | None ↦ λ e. message_clean no_such_request refl (omega arith)
+        | Some asker ↦ λ e. each id b asker was (each_found AskerKinds (λ a. same_name name a.name) b.room.askers asker was.room.askers e)
+      ] refl)
 
   pub said : (line : Reply) → Clean line → IsClean (say_in_battle s me line)
   said line clean = in_a_battle _ (λ id b was. room_clean s k id b (λ room. room) (line ∷ []) (λ room h. h) (clean, tt))

@@ -1,5 +1,5 @@
 -- Battles keep the kinds of their replies, and what happens in them tells clean lines.
-use Rattle.std.proofs.Common.{◌≡◌, ℕ, ◌≤◌, ◌+◌, ℤ, List, [], ◌∷◌, refl, true, false, not, length, arith}
+use Rattle.std.proofs.Common.{◌≡◌, ℕ, ◌≤◌, ◌+◌, ℤ, List, [], ◌∷◌, ◌++◌, refl, true, false, not, length, arith, length-append}
 use Rattle.std.specs.Prelude.{Option, None, if◌then◌else◌, ◌&&◌}
 use Rattle.std.specs.Ordering.{nat_cmp}
 use Rattle.std.specs.FinMap.{nat_cmp-IsAntisymmetric}
@@ -9,11 +9,12 @@ use Rattle.reply_grammar.specs.Replies.{status_word, port_number, battle_number,
 use Rattle.line_words.specs.Bytes.{is_word, is_sentence}
 use Rattle.line_words.specs.Kinds.{is_wide, is_pair, is_some_word}
 use Rattle.line_words.specs.declared.lists.Pair.{Pair}
-use Rattle.line_words.specs.Table.{same_name}
+use Rattle.line_words.specs.Table.{ByNumber, same_name, is_among, all_but}
 use Rattle.battle_room.specs.Tags.{with_tag, with_tags, without_tag, without_tags}
-use Rattle.battle_room.specs.Room.{Room, Member, Bot, Rect, member_names, member_with, bot_with, new_member, with_member, without_member, with_status, with_bot, with_bot_status, without_bot, with_rect, without_rect, set_tags, remove_tags, bots_of}
+use Rattle.battle_room.specs.Units.{with_unit, with_units, without_units}
+use Rattle.battle_room.specs.Room.{Room, Member, Bot, Rect, Asker, member_names, member_with, bot_with, new_member, with_member, without_member, with_status, with_bot, with_bot_status, without_bot, with_rect, without_rect, set_tags, remove_tags, bots_of, disable_units, enable_units, enable_all, with_asker, without_asker}
 use Rattle.lobby_model.specs.State.{Info, Battle}
-use Rattle.lobby_model.specs.Battles.{opened_line, updated_line, status_line, bot_line, rect_line, room_lines, battle_lines, joins_battle, member_leaves}
+use Rattle.lobby_model.specs.Battles.{opened_line, updated_line, status_line, bot_line, rect_line, room_lines, battle_lines, joining, member_leaves}
 use Rattle.lobby_view.proofs.Everywhere.{Each, each_put, each_filter, each_append, each_changed, each_map}
 use Rattle.lobby_view.proofs.Clean.{Clean, CleanLetters}
 use Rattle.lobby_view.proofs.KindsOfUsers.{IsName}
@@ -63,11 +64,24 @@ pub record TagKinds (t : Pair) : Type 0 where
   pub pair : is_pair t ≡ true
   pub short : length (pairs_text 32 (t ∷ [])) ≤ 8200
 
+-- a unit, which stood on one line
+pub record UnitKinds (unit : List ℕ) : Type 0 where
+  pub word : is_word unit ≡ true
+  pub short : length unit ≤ 8192
+
+-- one who asks to join, with what it gave on its line
+pub record AskerKinds (a : Asker) : Type 0 where
+  pub name : IsName a.name
+  pub script_password : is_some_word a.script_password ≡ true
+  pub short : length (optional_text a.script_password) ≤ 8193
+
 pub record RoomKinds (room : Room) : Type 0 where
   pub members : Each MemberKinds room.members
   pub bots : Each BotKinds room.bots
   pub rects : Each RectKinds room.rects
   pub tags : Each TagKinds room.tags
+  pub units : Each UnitKinds room.units
+  pub askers : Each AskerKinds room.askers
 
 -- a battle with its number
 pub record BattleKinds (e : ℕ × Battle) : Type 0 where
@@ -93,15 +107,37 @@ fewer_tags : (keys : List (List ℕ)) (tags : List Pair) → Each TagKinds tags 
 fewer_tags [] tags h = h
 fewer_tags (key ∷ keys) tags h = fewer_tags keys (without_tag key tags) (each_filter TagKinds (λ t. not (same_name key t.key)) tags h)
 
+all_units : (words units : List (List ℕ)) → Each UnitKinds units → Each UnitKinds words → Each UnitKinds (with_units units words)
+all_units [] units h k = h
+all_units (word ∷ words) units h k =
+    all_units words (with_unit units word)
+    (elim (is_among word units) as (λ b. Each UnitKinds (if b then units else units ++ word ∷ [])) [
+      | true ↦ h
+      | false ↦ each_append UnitKinds units (word ∷ []) h (k.0, tt)
+    ]) k.1
+
+fewer_units : (words units : List (List ℕ)) → Each UnitKinds units → Each UnitKinds (without_units units words)
+fewer_units [] units h = h
+fewer_units (word ∷ words) units h = fewer_units words (all_but word units) (each_filter UnitKinds (λ n. not (same_name word n)) units h)
+
 module _ (room : Room) (k : RoomKinds room) where
   with_members : (members : List Member) → Each MemberKinds members → RoomKinds (record room { members = members })
-  with_members members h = record { members = h; bots = k.bots; rects = k.rects; tags = k.tags }
+  with_members members h = record { members = h; bots = k.bots; rects = k.rects; tags = k.tags; units = k.units; askers = k.askers }
 
   with_bots : (bots : List Bot) → Each BotKinds bots → RoomKinds (record room { bots = bots })
-  with_bots bots h = record { members = k.members; bots = h; rects = k.rects; tags = k.tags }
+  with_bots bots h = record { members = k.members; bots = h; rects = k.rects; tags = k.tags; units = k.units; askers = k.askers }
+
+  with_rects : (rects : ByNumber Rect) → Each RectKinds rects → RoomKinds (record room { rects = rects })
+  with_rects rects h = record { members = k.members; bots = k.bots; rects = h; tags = k.tags; units = k.units; askers = k.askers }
 
   with_all_tags : (tags : List Pair) → Each TagKinds tags → RoomKinds (record room { tags = tags })
-  with_all_tags tags h = record { members = k.members; bots = k.bots; rects = k.rects; tags = h }
+  with_all_tags tags h = record { members = k.members; bots = k.bots; rects = k.rects; tags = h; units = k.units; askers = k.askers }
+
+  with_all_units : (units : List (List ℕ)) → Each UnitKinds units → RoomKinds (record room { units = units })
+  with_all_units units h = record { members = k.members; bots = k.bots; rects = k.rects; tags = k.tags; units = h; askers = k.askers }
+
+  with_askers : (askers : List Asker) → Each AskerKinds askers → RoomKinds (record room { askers = askers })
+  with_askers askers h = record { members = k.members; bots = k.bots; rects = k.rects; tags = k.tags; units = k.units; askers = h }
 
   pub entered_kinds : (me : List ℕ) → IsName me → RoomKinds (with_member me room)
   entered_kinds me n =
@@ -113,6 +149,8 @@ module _ (room : Room) (k : RoomKinds room) where
     bots = each_filter BotKinds _ room.bots k.bots;
     rects = k.rects;
     tags = k.tags;
+    units = k.units;
+    askers = k.askers;
   }
 
   pub member_status_kinds : (name : List ℕ) (status : ℕ) (colour : ℤ) → fits status_word status ≡ true → is_wide colour ≡ true
@@ -134,21 +172,32 @@ module _ (room : Room) (k : RoomKinds room) where
   bot_gone_kinds name = with_bots _ (each_filter BotKinds _ room.bots k.bots)
 
   pub rect_kinds : (ally : ℕ) (rect : Rect) → RectKinds (ally, rect) → RoomKinds (with_rect ally rect room)
-  rect_kinds ally rect h = record {
-    members = k.members;
-    bots = k.bots;
-    rects = each_put nat_cmp nat_cmp-IsAntisymmetric RectKinds ally rect room.rects k.rects h;
-    tags = k.tags;
-  }
+  rect_kinds ally rect h = with_rects _ (each_put nat_cmp nat_cmp-IsAntisymmetric RectKinds ally rect room.rects k.rects h)
 
   pub rect_gone_kinds : (ally : ℕ) → RoomKinds (without_rect ally room)
-  rect_gone_kinds ally = record { members = k.members; bots = k.bots; rects = each_filter RectKinds _ room.rects k.rects; tags = k.tags }
+  rect_gone_kinds ally = with_rects _ (each_filter RectKinds _ room.rects k.rects)
 
   pub tags_kinds : (pairs : List Pair) → Each TagKinds pairs → RoomKinds (set_tags pairs room)
   tags_kinds pairs h = with_all_tags _ (all_tags pairs room.tags k.tags h)
 
   pub tags_gone_kinds : (keys : List (List ℕ)) → RoomKinds (remove_tags keys room)
   tags_gone_kinds keys = with_all_tags _ (fewer_tags keys room.tags k.tags)
+
+  pub units_kinds : (words : List (List ℕ)) → Each UnitKinds words → RoomKinds (disable_units words room)
+  units_kinds words h = with_all_units _ (all_units words room.units k.units h)
+
+  pub units_gone_kinds : (words : List (List ℕ)) → RoomKinds (enable_units words room)
+  units_gone_kinds words = with_all_units _ (fewer_units words room.units k.units)
+
+  pub all_units_gone_kinds : RoomKinds (enable_all room)
+  all_units_gone_kinds = with_all_units [] tt
+
+  pub asking_kinds : (me : List ℕ) (password : Option (List ℕ)) → AskerKinds (record { name = me; script_password = password })
+      → RoomKinds (with_asker me password room)
+  asking_kinds me password h = with_askers _ (each_append AskerKinds room.askers (record { name = me; script_password = password } ∷ []) k.askers (h, tt))
+
+  pub asking_gone_kinds : (name : List ℕ) → RoomKinds (without_asker name room)
+  asking_gone_kinds name = with_askers _ (each_filter AskerKinds _ room.askers k.askers)
 
 -- lines
 pub clean_opened : (id : ℕ) (info : Info) → fits battle_number id ≡ true → InfoKinds info → Clean (opened_line id info)
@@ -175,6 +224,9 @@ clean_rect e k = record { fits = λ i. k.ally i && (k.left i && (k.top i && (k.r
 clean_tag : (t : Pair) → TagKinds t → Clean (reply.SetScriptTags (t ∷ []))
 clean_tag t k = record { fits = λ i. ((k.pair i && true) && true) && true; short = (let s = k.short in omega arith) }
 
+clean_unit : (unit : List ℕ) → UnitKinds unit → Clean (reply.DisableUnits (unit ∷ []))
+clean_unit unit k = record { fits = λ i. ((k.word i && true) && true) && true; short = (let s = k.short in omega (arith, length-append unit [])) }
+
 clean_entered : (id : ℕ) (name : List ℕ) (password : Option (List ℕ)) → fits battle_number id ≡ true → IsName name → is_some_word password ≡ true
     → length (optional_text password) ≤ 8193 → Clean (reply.JoinedBattle id name password)
 clean_entered id name password d n p short = record { fits = λ i. d i && (n i && (p i && true)); short = omega arith }
@@ -187,7 +239,8 @@ clean_room id room d k =
     each_append Clean _ _ (each_map MemberKinds Clean status_line clean_member room.members k.members)
     (each_append Clean _ _ (each_map BotKinds Clean (bot_line id) (λ b. clean_bot id b d) room.bots k.bots)
     (each_append Clean _ _ (each_map RectKinds Clean (λ e. rect_line e.0 e.1) clean_rect room.rects k.rects)
-    (each_map TagKinds Clean (λ t. reply.SetScriptTags (t ∷ [])) clean_tag room.tags k.tags)))
+    (each_append Clean _ _ (each_map TagKinds Clean (λ t. reply.SetScriptTags (t ∷ [])) clean_tag room.tags k.tags)
+    (each_map UnitKinds Clean (λ unit. reply.DisableUnits (unit ∷ [])) clean_unit room.units k.units))))
 
 pub clean_battle : (id : ℕ) (b : Battle) → BattleKinds (id, b) → Each Clean (battle_lines id b)
 clean_battle id b k = (
@@ -201,7 +254,7 @@ clean_battle id b k = (
 
 -- what happens
 pub enters_clean : (me : List ℕ) (id : ℕ) (b : Battle) (password : Option (List ℕ)) → IsName me → BattleKinds (id, b) → is_some_word password ≡ true
-    → length (optional_text password) ≤ 8193 → CleanLetters (joins_battle me id b password).told
+    → length (optional_text password) ≤ 8193 → CleanLetters (joining me id b password)
 enters_clean me id b password n k p short = (
   (
     record { fits = λ i. k.id i && (k.hash i && true); short = omega arith },

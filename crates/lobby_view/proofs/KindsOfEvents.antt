@@ -1,5 +1,5 @@
 -- Each event tells clean lines and keeps the kinds.
-use Rattle.std.proofs.Common.{◌≡◌, ℕ, ◌≤◌, ◌+◌, ℤ, List, [], ◌∷◌, ◌++◌, refl, subst, true, false, length, arith}
+use Rattle.std.proofs.Common.{◌≡◌, ℕ, ◌≤◌, ◌+◌, ℤ, List, [], ◌∷◌, ◌++◌, refl, subst, Bool, true, false, length, arith}
 use Rattle.std.specs.Prelude.{Option, Some, None, flat_map, if◌then◌else◌, ◌&&◌, is_some, Result, Ok, Err}
 use Rattle.std.proofs.lemmas.Bool.{and_parts}
 use Rattle.std.specs.Ordering.{nat_cmp}
@@ -103,18 +103,19 @@ module _ (s : State) (sound : Sound s) (k : Kinds s) (clients : ClientKinds s.cl
   denied : (text : List ℕ) → Clean (reply.Denied text) → CleanAfter (Refused (reply.Denied text))
   denied text clean = (((clean, tt), tt), k)
 
-  logging_in : (c : ℕ) (cpu : ℤ) (result : Result Account LoginFault) → is_wide cpu ≡ true
-      → ((account : Account) → result ≡ Ok account → MakesUser account) → CleanAfter (log_in s c cpu result)
-  logging_in c cpu (Err fault) wide makes = denied _ (record { fits = refl; short = omega arith })
-  logging_in c cpu (Ok account) wide makes =
-      let user = makes account refl cpu wide in
+  logging_in : (c : ℕ) (cpu : ℤ) (authorises : Bool) (result : Result Account LoginFault) → is_wide cpu ≡ true
+      → ((account : Account) → result ≡ Ok account → MakesUser account) → CleanAfter (log_in s c cpu authorises result)
+  logging_in c cpu authorises (Err fault) wide makes = denied _ (record { fits = refl; short = omega arith })
+  logging_in c cpu authorises (Ok account) wide makes =
+      let user = makes account refl cpu authorises wide in
+      let its = user_of account cpu authorises in
       elim (is_some (at_name s.users account.name)) as (λ b. CleanAfter (if b then Refused (reply.Denied user_is_in)
-      else done (logs_in c account.name (user_of account cpu) s))) [
+      else done (logs_in c account.name its s))) [
         | true ↦ denied _ (record { fits = refl; short = omega arith })
         | false ↦ (
-          each_append (λ (l : Letter). Each Clean l.lines) (logs_in c account.name (user_of account cpu) s).told []
-              (login_clean s k c account.name (user_of account cpu) user) tt,
-          logs_in_kinds s k c account.name (user_of account cpu) user,
+          each_append (λ (l : Letter). Each Clean l.lines) (logs_in c account.name its s).told []
+              (login_clean s k c account.name its user) tt,
+          logs_in_kinds s k c account.name its user,
         )
       ]
 
@@ -123,10 +124,11 @@ module _ (s : State) (sound : Sound s) (k : Kinds s) (clients : ClientKinds s.cl
   of_stranger c own (command.Unread fault) kinds = (((fault_clean fault, tt), tt), k)
   of_stranger c own command.Ping kinds = (((record { fits = refl; short = omega arith }, tt), tt), k)
   of_stranger c own command.Exit kinds = goes c None (λ m. set_phase m c Ended) own
-  of_stranger c own (command.Login name password cpu local_ip lobby) kinds =
-      let p = and_parts (is_word name && is_word password && is_wide cpu && is_word local_ip) (is_sentence lobby) kinds in
+  of_stranger c own (command.Login name password cpu local_ip lobby authorises) kinds =
+      let o = and_parts (is_word name && is_word password && is_wide cpu && is_word local_ip && is_sentence lobby) true kinds in
+      let p = and_parts (is_word name && is_word password && is_wide cpu && is_word local_ip) (is_sentence lobby) o.0 in
       let q = and_parts (is_word name && is_word password && is_wide cpu) (is_word local_ip) p.0 in
-      logging_in c cpu (login s.accounts name password) (and_parts (is_word name && is_word password) (is_wide cpu) q.0).1
+      logging_in c cpu authorises (login s.accounts name password) (and_parts (is_word name && is_word password) (is_wide cpu) q.0).1
       (λ account is. account_kinds name password account is)
   of_stranger c own command kinds = (((message_clean log_in_first refl (omega arith), tt), tt), k)
 

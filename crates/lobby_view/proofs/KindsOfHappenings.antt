@@ -7,26 +7,26 @@ use Rattle.reply_grammar.specs.declared.Reply.{Reply}
 use Rattle.reply_grammar.specs.declared.Reply.TheVariants as reply
 use Rattle.reply_grammar.specs.Kinds.{fits, optional_text}
 use Rattle.reply_grammar.specs.Replies.{status_word, port_number}
-use Rattle.line_words.specs.Bytes.{is_text, is_sentence}
+use Rattle.line_words.specs.Bytes.{is_word, is_text, is_sentence}
 use Rattle.line_words.specs.Kinds.{is_wide, is_some_word}
 use Rattle.line_words.specs.Table.{ByNumber, ByName, at_number, put_name, name_cmp, is_among, all_but, map_values}
 use Rattle.line_words.proofs.Tables.{name_cmp_same}
 use Rattle.channel_book.specs.Channels.{Channels, names_in, channels_of, all_left}
-use Rattle.battle_room.specs.Room.{Room, has_member, with_member, without_member}
+use Rattle.battle_room.specs.Room.{Room, Asker, has_member, with_member, without_member, with_asker, without_asker}
 use Rattle.account_book.specs.Account.{Account}
-use Rattle.lobby_model.specs.State.{State, User, user_with, Info, Battle, battle_of, updated}
+use Rattle.lobby_model.specs.State.{State, User, user_with, Info, Battle, asked_by, battle_of, updated}
 use Rattle.lobby_model.specs.Outcome.{Happening, Letter, happens, tell, user, users, everyone}
 use Rattle.lobby_model.specs.Channels.{joins, leaves, leaves_all}
-use Rattle.lobby_model.specs.Battles.{members, battle_lines, change_room, change_info, joins_battle, member_leaves, closes, opens, leaves_battle, leaves_own, is_founder, updated_line}
+use Rattle.lobby_model.specs.Battles.{members, battle_lines, change_room, change_info, joins_battle, let_into, asks_to_join, turned_away, asks_no_more, drops_own, member_leaves, closes, opens, leaves_battle, leaves_own, is_founder, updated_line}
 use Rattle.lobby_model.specs.Sessions.{added, shown_status, user_of, user_has, is_gone, greeting, logs_out, unseen, to_others, logs_in}
 use Rattle.lobby_view.proofs.Everywhere.{Each, each_put, each_change, each_at, each_found, each_filter, each_append, each_map}
 use Rattle.lobby_view.proofs.Clean.{Clean, CleanLetters}
 use Rattle.lobby_view.proofs.KindsOfUsers.{IsName, UserKinds, ChannelKinds, clean_status, clean_removed, clean_left, clean_arrival, clean_users, clean_statuses, joined_kinds, left_kinds, joins_clean, leaves_clean}
-use Rattle.lobby_view.proofs.KindsOfBattles.{InfoKinds, BattleKinds, RoomKinds, entered_kinds, left_room_kinds, clean_updated, clean_opened, clean_battle, enters_clean, member_leaves_clean}
+use Rattle.lobby_view.proofs.KindsOfBattles.{InfoKinds, BattleKinds, RoomKinds, AskerKinds, asking_kinds, asking_gone_kinds, entered_kinds, left_room_kinds, clean_updated, clean_opened, clean_battle, enters_clean, member_leaves_clean}
 
 -- an account makes a user of the right kinds
 abbrev pub MakesUser : Account → Type 0
-MakesUser account = (cpu : ℤ) → is_wide cpu ≡ true → UserKinds (account.name, user_of account cpu)
+MakesUser account = (cpu : ℤ) (authorises : Bool) → is_wide cpu ≡ true → UserKinds (account.name, user_of account cpu authorises)
 
 -- all that is in the lobby can be printed
 pub record Kinds (s : State) : Type 0 where
@@ -129,9 +129,37 @@ module _ (s : State) (k : Kinds s) where
   enters_kinds me id b password n there p short =
       (enters_clean me id b password n (battle_there id b there) p short, room_kinds id (with_member me) (λ room h. entered_kinds room h me n), tt)
 
-  closes_kinds : (id : ℕ) (b : Battle) → BattleKinds (id, b) → CleanAll s (closes id ∷ [])
-  closes_kinds id b was =
-      (((record { fits = λ i. was.id i && true; short = omega arith }, tt), tt), with_battles _ (each_filter BattleKinds _ s.battles k.battles), tt)
+  pub let_into_kinds : (asker : Asker) (id : ℕ) (b : Battle) → AskerKinds asker → BattleKinds (id, b) → CleanAll s (let_into asker id b ∷ [])
+  let_into_kinds asker id b its was = (
+    enters_clean asker.name id b asker.script_password its.name was its.script_password its.short,
+    room_kinds id (λ room. with_member asker.name (without_asker asker.name room))
+        (λ room h. entered_kinds (without_asker asker.name room) (asking_gone_kinds room h asker.name) asker.name its.name),
+    tt,
+  )
+
+  -- asking to join one
+  pub asks_kinds : (me : List ℕ) (id : ℕ) (b : Battle) (password : Option (List ℕ)) (ip : List ℕ)
+      → AskerKinds (record { name = me; script_password = password }) → is_word ip ≡ true → length ip ≤ 100
+      → CleanAll s (asks_to_join me id b password ip ∷ [])
+  asks_kinds me id b password ip its word short = (
+    ((record { fits = λ i. its.name i && (word i && true); short = omega arith }, tt), tt),
+    room_kinds id (with_asker me password) (λ room h. asking_kinds room h me password its),
+    tt,
+  )
+
+  pub no_more_kinds : (name : List ℕ) (id : ℕ) → CleanAll s (asks_no_more name id ∷ [])
+  no_more_kinds name id = (tt, room_kinds id (without_asker name) (λ room h. asking_gone_kinds room h name), tt)
+
+  pub turned_away_kinds : (name : List ℕ) (reason : List ℕ) (id : ℕ) → Clean (reply.JoinBattleFailed reason)
+      → CleanAll s (turned_away name reason id ∷ [])
+  turned_away_kinds name reason id clean = (((clean, tt), tt), (no_more_kinds name id).1, tt)
+
+  closes_kinds : (id : ℕ) (b : Battle) → BattleKinds (id, b) → CleanAll s (closes id b ∷ [])
+  closes_kinds id b was = (
+    ((record { fits = refl; short = omega arith }, tt), ((record { fits = λ i. was.id i && true; short = omega arith }, tt), tt)),
+    with_battles _ (each_filter BattleKinds _ s.battles k.battles),
+    tt,
+  )
 
   one_leaves_kinds : (name : List ℕ) (id : ℕ) (b : Battle) → IsName name → BattleKinds (id, b) → CleanAll s (member_leaves name id b ∷ [])
   one_leaves_kinds name id b n was =
@@ -139,7 +167,7 @@ module _ (s : State) (k : Kinds s) where
 
   pub leaves_battle_kinds : (name : List ℕ) (id : ℕ) (b : Battle) → IsName name → BattleKinds (id, b) → CleanAll s (leaves_battle name id b ∷ [])
   leaves_battle_kinds name id b n was =
-      elim (is_founder name b) as (λ t. CleanAll s ((if t then closes id else member_leaves name id b) ∷ [])) [
+      elim (is_founder name b) as (λ t. CleanAll s ((if t then closes id b else member_leaves name id b) ∷ [])) [
         | true ↦ closes_kinds id b was
         | false ↦ one_leaves_kinds name id b n was
       ]
@@ -247,7 +275,7 @@ logs_out_clean me s k n =
     let all = unseen_clean s (leaves_all me s) (leaves_all_kinds s k me n) in (
       all.0,
       all.1,
-      with_battle (record s { channels = all_left me s.channels }) all.1 (battle_of s me)
+      dropping (record s { channels = all_left me s.channels }) all.1 (asked_by s me) (battle_of s me)
           (λ e is. each_found BattleKinds (λ e. has_member me e.1.room) s.battles e k.battles is),
     )
   where
@@ -255,9 +283,9 @@ logs_out_clean me s k n =
         → CleanAll t (map unseen (leaves_own me o ++ is_gone me ∷ []))
     with_battle t kt None each = let gone = unseen_clean t (is_gone me) (gone_kinds t kt me n) in (gone.0, gone.1, tt)
     with_battle t kt (Some e) each =
-        elim (is_founder me e.1) as (λ b. CleanAll t (unseen (if b then closes e.0 else member_leaves me e.0 e.1) ∷ unseen (is_gone me) ∷ [])) [
+        elim (is_founder me e.1) as (λ b. CleanAll t (unseen (if b then closes e.0 e.1 else member_leaves me e.0 e.1) ∷ unseen (is_gone me) ∷ [])) [
           | true ↦
-              let closed = unseen_clean t (closes e.0) (closes_kinds t kt e.0 e.1 (each e refl)) in
+              let closed = unseen_clean t (closes e.0 e.1) (closes_kinds t kt e.0 e.1 (each e refl)) in
               let gone = unseen_clean _ (is_gone me) (gone_kinds _ closed.1 me n) in
               (closed.0, closed.1, (gone.0, gone.1, tt))
           | false ↦
@@ -265,3 +293,10 @@ logs_out_clean me s k n =
               let gone = unseen_clean _ (is_gone me) (gone_kinds _ left.1 me n) in
               (left.0, left.1, (gone.0, gone.1, tt))
         ]
+
+    dropping : (t : State) → Kinds t → (asked own : Option (ℕ × Battle)) → ((e : ℕ × Battle) → own ≡ Some e → BattleKinds e)
+        → CleanAll t (map unseen (drops_own me asked ++ (leaves_own me own ++ is_gone me ∷ [])))
+    dropping t kt None own each = with_battle t kt own each
+    dropping t kt (Some e) own each =
+        let dropped = unseen_clean t (asks_no_more me e.0) (no_more_kinds t kt me e.0) in
+        (dropped.0, dropped.1, with_battle ((asks_no_more me e.0).after t) dropped.1 own each)

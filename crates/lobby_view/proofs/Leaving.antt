@@ -14,7 +14,7 @@ use Rattle.lobby_model.specs.Sound.{Sound, bot_names}
 use Rattle.lobby_model.proofs.Delivered.{same_itself}
 use Rattle.lobby_model.proofs.RoomsKept.{names_without}
 use Rattle.lobby_view.specs.View.{View, OwnRoom, shown, shown_all, change_members, in_room_of}
-use Rattle.lobby_view.specs.Observe.{observe, own_room}
+use Rattle.lobby_view.specs.Observe.{observe, shared, own_room}
 use Rattle.lobby_view.proofs.Basics.{Seen, shown_all-append, owned, inside, all_done, room_lines_shown}
 use Rattle.lobby_view.proofs.OwnBattle.{its_battle, not_its_battle}
 use Rattle.lobby_view.proofs.Changed.{room_changed, not_own}
@@ -74,26 +74,26 @@ in_its_own id f room = ap (λ b. if b then Some (owned id (f room)) else Some (o
 
 module _ (s : State) (sound : Sound s) (u : List ℕ) (id : ℕ) (battle : Battle) (there : at_number s.battles id ≡ Some battle) (name : List ℕ) where
   abbrev bots_left : Room
-  bots_left = record battle.room { bots = others_of name battle.room.bots }
+  bots_left = record (shared battle.room) { bots = others_of name battle.room.bots }
 
   abbrev removals : List Reply
   removals = map (removed id) (bots_of name battle.room)
 
   -- to a member, the bots of one who leaves go first
-  pub bots_gone : (v : View) → shown_all (inside v id battle.room) removals ≡ inside v id bots_left
+  pub bots_gone : (v : View) → shown_all (inside v id (shared battle.room)) removals ≡ inside v id bots_left
   bots_gone v =
       room_lines_shown (removed id) (λ b. without_bot b.name) id
       (λ v b room. ap (λ own. record v { own = own }) (in_its_own id (without_bot b.name) room))
-      v (bots_of name battle.room) battle.room
-      ∙ ap (inside v id) (drop_done id (bots_of name battle.room) battle.room
-      ∙ ap (λ bots. record battle.room { bots = bots }) (drop_mine name battle.room.bots (sound.battles.each id battle there).room.bots))
+      v (bots_of name battle.room) (shared battle.room)
+      ∙ ap (inside v id) (drop_done id (bots_of name battle.room) (shared battle.room)
+      ∙ ap (λ bots. record (shared battle.room) { bots = bots }) (drop_mine name battle.room.bots (sound.battles.each id battle there).room.bots))
 
   module _ (apart : same_name u name ≡ false) where
     abbrev left_view : Option OwnRoom → View
     left_view own = record (observe s u) { battles = change_number (observe s u).battles id (change_members (all_but name)); own = own }
 
     observed : observe (change_room s id (without_member name)) u ≡ left_view (in_room_of id (without_member name) (own_room (battle_of s u)))
-    observed = room_changed id (without_member name) (all_but name) (names_without name) u (stays name u apart) s
+    observed = room_changed id (without_member name) (all_but name) (names_without name) u (stays name u apart) (without_member name) (λ room. refl) s
 
     left_shown : (own : Option OwnRoom)
         → shown (record (observe s u) { own = own }) (reply.LeftBattle id name) ≡ left_view (in_room_of id (all_members_but name) own)
@@ -109,7 +109,7 @@ module _ (s : State) (sound : Sound s) (u : List ℕ) (id : ℕ) (battle : Battl
         ∙ ap (λ w. shown w (reply.LeftBattle id name))
         (ap (λ o. shown_all (record (observe s u) { own = own_room o }) removals) own ∙ bots_gone (observe s u))
         ∙ left_shown (Some (owned id bots_left))
-        ∙ ap left_view (in_its_own id (all_members_but name) bots_left ∙ sym (in_its_own id (without_member name) battle.room)
+        ∙ ap left_view (in_its_own id (all_members_but name) bots_left ∙ sym (in_its_own id (without_member name) (shared battle.room))
         ∙ ap (λ o. in_room_of id (without_member name) (own_room o)) (sym own))
         ∙ sym observed
 

@@ -6,16 +6,18 @@ use Rattle.std.specs.Cmp.{nat_cmp_total}
 use Rattle.reply_grammar.specs.declared.Reply.TheVariants as reply
 use Rattle.line_words.specs.Table.{ByNumber, at_number, without_number, change_number, same_number, same_name, is_among, all_but}
 use Rattle.line_words.proofs.Tables.{same_name_is, same_name_itself, is_sorted-change, is_sorted-without, map_values-without}
-use Rattle.battle_room.specs.Room.{Room, has_member, without_member, all_members_but, bots_of}
+use Rattle.battle_room.specs.Room.{Room, has_member, has_asker, without_member, all_members_but, bots_of}
 use Rattle.lobby_model.specs.State.{State, Battle, battle_of}
+use Rattle.lobby_model.specs.Texts.{battle_was_closed}
 use Rattle.lobby_model.specs.Battles.{change_room, members, member_leaves, closes, is_founder, leaves_battle}
 use Rattle.lobby_model.specs.Sound.{Sound}
 use Rattle.lobby_model.proofs.Delivered.{same_number_is, same_itself}
 use Rattle.lobby_model.proofs.Finding.{of_without}
 use Rattle.lobby_model.proofs.RoomsKept.{names_without}
-use Rattle.lobby_model.proofs.BattlesKept.{IsNowhere, own_battle, left_nowhere}
+use Rattle.lobby_model.proofs.AskersKept.{IsNowhere}
+use Rattle.lobby_model.proofs.BattlesKept.{own_battle, left_nowhere}
 use Rattle.lobby_view.specs.View.{View, OwnRoom, shown, shown_all, change_members, if_of}
-use Rattle.lobby_view.specs.Observe.{observe, own_room, listed}
+use Rattle.lobby_view.specs.Observe.{observe, shared, own_room, listed}
 use Rattle.lobby_view.proofs.Basics.{Seen, shown_all-append, owned}
 use Rattle.lobby_view.proofs.Finding.{find_none}
 use Rattle.lobby_view.proofs.OwnBattle.{is_of, its_battle, not_elsewhere}
@@ -54,16 +56,26 @@ module _ (s : State) (sound : Sound s) (u : List ℕ) (id : ℕ) where
   closed_own None e = sym (ap own_room (kept s.battles (ap (is_of id) e) ∙ e))
   closed_own (Some own) e =
       elim (same_number id own.0) as (λ t. same_number id own.0 ≡ t
-      → (if t then None else Some (owned own.0 own.1.room)) ≡ own_room (own_in u (without_number s.battles id))) [
+      → (if t then None else Some (owned own.0 (shared own.1.room))) ≡ own_room (own_in u (without_number s.battles id))) [
         | true ↦ λ t. sym (ap own_room (none_left own.1 (e ∙ ap (λ n. Some (n, own.1)) (sym (same_number_is id own.0 t)))))
         | false ↦ λ t. sym (ap own_room (kept s.battles (ap (is_of id) e ∙ t) ∙ e))
       ] refl
 
-  pub closes_seen : (mine : Bool) → Seen s mine u (closes id)
-  closes_seen mine = λ i. record (observe s u) {
+  closed : shown (observe s u) (reply.BattleClosed id) ≡ observe (record s { battles = without_number s.battles id }) u
+  closed = λ i. record (observe s u) {
     battles = sym (map_values-without nat_cmp (λ n b. listed b) s.battles id) i;
     own = closed_own (battle_of s u) refl i;
   }
+
+  -- what those who ask to join it are told before changes no view
+  pub closes_seen : (battle : Battle) (mine : Bool) → Seen s mine u (closes id battle)
+  closes_seen battle mine =
+      elim (has_asker u battle.room) as
+      (λ b. shown_all (observe s u) ((if b then reply.JoinBattleFailed battle_was_closed ∷ [] else []) ++ reply.BattleClosed id ∷ [])
+      ≡ observe (record s { battles = without_number s.battles id }) u) [
+        | true ↦ closed
+        | false ↦ closed
+      ]
 
 module _ (s : State) (sound : Sound s) (u : List ℕ) (id : ℕ) (battle : Battle) (there : at_number s.battles id ≡ Some battle) where
   -- a member that leaves, and is not the founder
@@ -72,7 +84,7 @@ module _ (s : State) (sound : Sound s) (u : List ℕ) (id : ℕ) (battle : Battl
     left_its_battle =
         find_none nat_cmp nat_cmp_total (λ b. has_member u b.room) (change_number s.battles id (roomed (without_member u)))
         (is_sorted-change nat_cmp (roomed (without_member u)) s.battles id sound.battles.in_order)
-        (subst (λ b. IsNowhere ((if b then closes id else member_leaves u id battle).after s).battles u) guest
+        (subst (λ b. IsNowhere ((if b then closes id battle else member_leaves u id battle).after s).battles u) guest
         (left_nowhere s sound id battle there u in_it))
 
     abbrev left_view : Option OwnRoom → View
@@ -81,7 +93,7 @@ module _ (s : State) (sound : Sound s) (u : List ℕ) (id : ℕ) (battle : Battl
     leaver_seen : (mine : Bool) → Seen s mine u (member_leaves u id battle)
     leaver_seen mine =
         let removals = map (λ b. reply.RemoveBot id b.name) (bots_of u battle.room) in
-        let bots_left : Room = record battle.room { bots = filter (λ b. not (same_name u b.owner)) battle.room.bots } in
+        let bots_left : Room = record (shared battle.room) { bots = filter (λ b. not (same_name u b.owner)) battle.room.bots } in
         let rest = Some (owned id (all_members_but u bots_left)) in
         ap (λ b. shown_all (observe s u) ((if b then removals else []) ++ reply.LeftBattle id u ∷ [])) in_it
         ∙ shown_all-append (observe s u) removals (reply.LeftBattle id u ∷ [])
@@ -108,7 +120,7 @@ module _ (s : State) (sound : Sound s) (u : List ℕ) (id : ℕ) (battle : Battl
 
     pub leaves_battle_seen : Seen s mine u (leaves_battle name id battle)
     leaves_battle_seen =
-        elim (is_founder name battle) as (λ b. is_founder name battle ≡ b → Seen s mine u (if b then closes id else member_leaves name id battle)) [
-          | true ↦ λ founds. closes_seen s sound u id mine
+        elim (is_founder name battle) as (λ b. is_founder name battle ≡ b → Seen s mine u (if b then closes id battle else member_leaves name id battle)) [
+          | true ↦ λ founds. closes_seen s sound u id battle mine
           | false ↦ λ guest. guest_leaves_seen guest
         ] refl

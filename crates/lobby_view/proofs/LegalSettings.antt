@@ -87,7 +87,7 @@ bit true n = omega arith
 bit false n = omega arith
 
 makes_user : (account : Account) → IsHeld account → MakesUser account
-makes_user account legal cpu wide =
+makes_user account legal cpu authorises wide =
     let p = and_parts (is_name account.name && is_password_word account.password && nat_le account.rank 7) (is_country account.country) legal.0 in
     let q = and_parts (is_name account.name && is_password_word account.password) (nat_le account.rank 7) p.0 in
     let r = and_parts (is_name account.name) (is_password_word account.password) q.0 in

@@ -134,6 +134,10 @@ word_room command.SetScriptTags = refl
 word_room command.RemoveScriptTags = refl
 word_room command.ForceQuitBattle = refl
 word_room command.Ring = refl
+word_room command.JoinBattleRequest = refl
+word_room command.DisableUnits = refl
+word_room command.EnableUnits = refl
+word_room command.EnableAllUnits = refl
 
 id_room : (id : Option ℕ) → IsId id → length (id_text id) ≤ 12
 id_room None h = omega arith

@@ -32,6 +32,7 @@ pub mod Leaving
 pub mod Left
 pub mod RoomShown
 pub mod Entering
+pub mod Users
 pub mod LogsIn
 pub mod LongestExamples
 pub mod Channels

@@ -9,29 +9,30 @@ use Rattle.std.proofs.lemmas.List.{map-append}
 use Rattle.reply_grammar.specs.declared.Reply.{Reply}
 use Rattle.reply_grammar.specs.declared.Reply.TheVariants as reply
 use Rattle.line_words.specs.Table.{ByName, ByNumber, at_name, at_number, put_name, change_number, name_cmp, same_name, is_among, all_but, map_values}
-use Rattle.line_words.proofs.Tables.{name_cmp_total, name_cmp_same, same_name_itself}
+use Rattle.line_words.proofs.Tables.{name_cmp_total, name_cmp_same, same_name_itself, is_sorted-map_values, map_values-put}
 use Rattle.channel_book.specs.Channels.{channels_of}
 use Rattle.battle_room.specs.Room.{has_member, member_names}
-use Rattle.lobby_model.specs.State.{State, User, Info, Battle, battle_of, updated, user_with}
+use Rattle.lobby_model.specs.State.{State, User, Info, Battle, battle_of, updated}
 use Rattle.lobby_model.specs.Battles.{battle_lines}
 use Rattle.lobby_model.specs.Sessions.{added, shown_status, burst, logs_in}
 use Rattle.lobby_model.specs.Outcome.{lines_for}
 use Rattle.lobby_model.specs.Sound.{Sound, SoundBattle}
-use Rattle.lobby_view.specs.View.{View, Listed, shown_all, new_view, change_members, at_end, change_listed_info}
-use Rattle.lobby_view.specs.Observe.{observe, own_room, listed}
+use Rattle.lobby_view.specs.View.{View, Known, known_with, Listed, shown_all, new_view, change_members, at_end, change_listed_info}
+use Rattle.lobby_view.specs.Observe.{observe, known, own_room, listed}
 use Rattle.lobby_view.proofs.Basics.{Seen, shown_all-append}
 use Rattle.lobby_view.proofs.Finding.{find_none, filter_none}
 use Rattle.lobby_view.proofs.Places.{Before, before_values, below_values, sorted_before, sorted_behind, put_last, find_middle, change_middle}
 use Rattle.lobby_view.proofs.Ordered.{change_put}
+use Rattle.lobby_view.proofs.Users.{all_known, at_users}
 use Rattle.lobby_view.proofs.Changed.{all_listed}
 use Rattle.lobby_view.proofs.Distinct.{first_apart, none_dropped}
 
 -- users, each of status 0 at first
-abbrev zeroed : ByName User → ByName User
-zeroed users = map_values (λ name user. user_with 0 user) users
+abbrev newly_known : User → Known
+newly_known user = known_with 0 (known user)
 
-abbrev at_users : View → ByName User → View
-at_users v users = record v { users = users }
+abbrev zeroed : ByName User → ByName Known
+zeroed users = map_values (λ name user. newly_known user) users
 
 abbrev added_line : List ℕ × User → Reply
 added_line e = added e.0 e.1
@@ -43,43 +44,42 @@ motd_shown : (v : View) (texts : List (List ℕ)) → shown_all v (map (λ t. re
 motd_shown v [] = refl
 motd_shown v (t ∷ texts) = motd_shown v texts
 
-zeroed-append : (xs ys : ByName User) → zeroed (xs ++ ys) ≡ zeroed xs ++ zeroed ys
-zeroed-append [] ys = refl
-zeroed-append (x ∷ xs) ys = ap (λ es. (x.0, user_with 0 x.1) ∷ es) (zeroed-append xs ys)
-
 added_shown : (v : View) (done rest : ByName User) → T (is_sorted name_cmp (done ++ rest))
     → shown_all (at_users v (zeroed done)) (map added_line rest) ≡ at_users v (zeroed (done ++ rest))
 added_shown v done [] h = ap (λ users. at_users v (zeroed users)) (sym (append-nil done))
 added_shown v done (e ∷ rest) h =
-    let before = before_values name_cmp (λ name user. user_with 0 user) e.0 done (sorted_before name_cmp name_cmp_total done e rest h) in
+    let before = before_values name_cmp (λ name user. newly_known user) e.0 done (sorted_before name_cmp name_cmp_total done e rest h) in
     ap (λ users. shown_all (at_users v users) (map added_line rest))
-    (put_last name_cmp e.0 (user_with 0 e.1) (zeroed done) before ∙ sym (zeroed-append done (e ∷ [])))
+    (put_last name_cmp e.0 (newly_known e.1) (zeroed done) before ∙ sym (map-append (λ x. (x.0, newly_known x.1)) done (e ∷ [])))
     ∙ added_shown v (done ++ e ∷ []) rest (subst (λ m. T (is_sorted name_cmp m)) (sym (append_assoc done (e ∷ []) rest)) h)
     ∙ ap (λ users. at_users v (zeroed users)) (append_assoc done (e ∷ []) rest)
 
 -- one line of status, or none where it is 0
-one_status : (v : View) (done : ByName User) (e : List ℕ × User) (rest : ByName User) → Before name_cmp e.0 done → T (below_all name_cmp e.0 rest)
-    → shown_all (at_users v (done ++ (e.0, user_with 0 e.1) ∷ zeroed rest)) (shown_status e.0 e.1) ≡ at_users v (done ++ e ∷ zeroed rest)
+one_status : (v : View) (done : ByName Known) (e : List ℕ × User) (rest : ByName User) → Before name_cmp e.0 done → T (below_all name_cmp e.0 rest)
+    → shown_all (at_users v (done ++ (e.0, newly_known e.1) ∷ zeroed rest)) (shown_status e.0 e.1)
+    ≡ at_users v (done ++ (e.0, known e.1) ∷ zeroed rest)
 one_status v done e rest before above =
     elim (e.1.status == 0) as (λ b. e.1.status == 0 ≡ b
-    → shown_all (at_users v (done ++ (e.0, user_with 0 e.1) ∷ zeroed rest)) (if b then [] else reply.ClientStatus e.0 e.1.status ∷ [])
-    ≡ at_users v (done ++ e ∷ zeroed rest)) [
-      | true ↦ λ t. ap (λ n. at_users v (done ++ (e.0, user_with n e.1) ∷ zeroed rest)) (sym (eqb→eq e.1.status 0 (subst T (sym t) tt)))
+    → shown_all (at_users v (done ++ (e.0, newly_known e.1) ∷ zeroed rest)) (if b then [] else reply.ClientStatus e.0 e.1.status ∷ [])
+    ≡ at_users v (done ++ (e.0, known e.1) ∷ zeroed rest)) [
+      | true ↦ λ t. ap (λ n. at_users v (done ++ (e.0, known_with n (known e.1)) ∷ zeroed rest)) (sym (eqb→eq e.1.status 0 (subst T (sym t) tt)))
       | false ↦ λ t. ap (at_users v)
-          (change_middle name_cmp name_cmp_total e.0 (user_with e.1.status) (user_with 0 e.1) done (zeroed rest) before
-          (below_values name_cmp (λ name user. user_with 0 user) e.0 rest above))
+          (change_middle name_cmp name_cmp_total e.0 (known_with e.1.status) (newly_known e.1) done (zeroed rest) before
+          (below_values name_cmp (λ name user. newly_known user) e.0 rest above))
     ] refl
 
 statuses_shown : (v : View) (done rest : ByName User) → T (is_sorted name_cmp (done ++ rest))
-    → shown_all (at_users v (done ++ zeroed rest)) (flat_map status_lines rest) ≡ at_users v (done ++ rest)
-statuses_shown v done [] h = refl
+    → shown_all (at_users v (all_known done ++ zeroed rest)) (flat_map status_lines rest) ≡ at_users v (all_known (done ++ rest))
+statuses_shown v done [] h = ap (at_users v) (sym (map-append (λ x. (x.0, known x.1)) done []))
 statuses_shown v done (e ∷ rest) h =
-    shown_all-append (at_users v (done ++ (e.0, user_with 0 e.1) ∷ zeroed rest)) (shown_status e.0 e.1) (flat_map status_lines rest)
+    let before = before_values name_cmp (λ name user. known user) e.0 done (sorted_before name_cmp name_cmp_total done e rest h) in
+    shown_all-append (at_users v (all_known done ++ (e.0, newly_known e.1) ∷ zeroed rest)) (shown_status e.0 e.1) (flat_map status_lines rest)
     ∙ ap (λ w. shown_all w (flat_map status_lines rest))
-    (one_status v done e rest (sorted_before name_cmp name_cmp_total done e rest h) (sorted_behind name_cmp done e rest h)
-    ∙ ap (at_users v) (sym (append_assoc done (e ∷ []) (zeroed rest))))
+    (one_status v (all_known done) e rest before (sorted_behind name_cmp done e rest h)
+    ∙ ap (at_users v) (sym (append_assoc (all_known done) ((e.0, known e.1) ∷ []) (zeroed rest))
+    ∙ ap (λ users. users ++ zeroed rest) (sym (map-append (λ x. (x.0, known x.1)) done (e ∷ [])))))
     ∙ statuses_shown v (done ++ e ∷ []) rest (subst (λ m. T (is_sorted name_cmp m)) (sym (append_assoc done (e ∷ []) rest)) h)
-    ∙ ap (at_users v) (append_assoc done (e ∷ []) rest)
+    ∙ ap (λ users. at_users v (all_known users)) (append_assoc done (e ∷ []) rest)
 
 -- battles, to one who is in none
 module _ (users : ByName User) (v : View) where
@@ -176,9 +176,9 @@ module _ (s : State) (sound : Sound s) (c : ℕ) (name : List ℕ) (user : User)
         ∙ ap (λ w. shown_all w (statuses ++ rest)) (added_shown (new_view name) [] there sorted)
         ∙ shown_all-append (at_users (new_view name) (zeroed there)) statuses rest
         ∙ ap (λ w. shown_all w rest) (statuses_shown (new_view name) [] there sorted)
-        ∙ shown_all-append (at_users (new_view name) there) (flat_map (λ e. battle_lines e.0 e.1) s.battles) (reply.LoginInfoEnd ∷ [])
-        ∙ battles_shown s.users (at_users (new_view name) there) [] s.battles sound.battles.in_order sound.battles.each
-        ∙ (λ i. record (at_users (new_view name) there) {
+        ∙ shown_all-append (at_users (new_view name) (all_known there)) (flat_map (λ e. battle_lines e.0 e.1) s.battles) (reply.LoginInfoEnd ∷ [])
+        ∙ battles_shown s.users (at_users (new_view name) (all_known there)) [] s.battles sound.battles.in_order sound.battles.each
+        ∙ (λ i. record (at_users (new_view name) (all_known there)) {
           battles = all_listed s.battles;
           channels = sym no_channels i;
           own = own_room (sym no_battle i);
@@ -187,10 +187,13 @@ module _ (s : State) (sound : Sound s) (c : ℕ) (name : List ℕ) (user : User)
   -- others
   pub arrival_seen : (u : List ℕ) → Seen s false u (logs_in c name user s)
   arrival_seen u =
+      let were = all_known s.users in
       elim (user.status == 0) as (λ b. user.status == 0 ≡ b
       → shown_all (observe s u) ((added name user ∷ (if b then [] else reply.ClientStatus name user.status ∷ [])) ++ [])
-      ≡ at_users (observe s u) (put_name s.users name user)) [
-        | true ↦ λ t. ap (λ n. at_users (observe s u) (put_name s.users name (user_with n user))) (sym (eqb→eq user.status 0 (subst T (sym t) tt)))
+      ≡ at_users (observe s u) (put_name were name (known user))) [
+        | true ↦ λ t. ap (λ n. at_users (observe s u) (put_name were name (known_with n (known user)))) (sym (eqb→eq user.status 0 (subst T (sym t) tt)))
         | false ↦ λ t. ap (at_users (observe s u))
-            (change_put name_cmp name_cmp_total name_cmp_same name (user_with 0 user) (user_with user.status) s.users sound.clients.users_in_order)
+            (change_put name_cmp name_cmp_total name_cmp_same name (newly_known user) (known_with user.status) were
+            (is_sorted-map_values name_cmp (λ name user. known user) s.users sound.clients.users_in_order))
       ] refl
+      ∙ ap (at_users (observe s u)) (sym (map_values-put name_cmp known s.users name user))

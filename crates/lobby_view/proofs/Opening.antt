@@ -18,6 +18,7 @@ use Rattle.lobby_model.proofs.Delivered.{same_itself}
 use Rattle.lobby_view.specs.View.{View, shown, shown_all, change_listed_info, entered}
 use Rattle.lobby_view.specs.Observe.{observe, own_room, listed}
 use Rattle.lobby_view.proofs.Basics.{Seen}
+use Rattle.lobby_view.proofs.Ordered.{values_changed}
 use Rattle.lobby_view.proofs.Changed.{all_listed, own_in}
 
 -- a value that is put where none was, and passes a test or does not
@@ -100,15 +101,7 @@ module _ (id : ℕ) (f : Info → Info) (u : List ℕ) where
   informed battle = record battle { info = f battle.info }
 
   info_listed : (m : ByNumber Battle) → all_listed (change_number m id informed) ≡ change_number (all_listed m) id (change_listed_info f)
-  info_listed [] = refl
-  info_listed (e ∷ m) =
-      λ i. (
-        e.0,
-        elim (same_number id e.0) as (λ b. listed (if b then informed e.1 else e.1) ≡ (if b then change_listed_info f (listed e.1) else listed e.1)) [
-          | true ↦ refl
-          | false ↦ refl
-        ] i,
-      ) ∷ info_listed m i
+  info_listed m = values_changed nat_cmp listed informed (change_listed_info f) (λ battle. refl) m id
 
   info_own : (m : ByNumber Battle) → own_room (own_in u (change_number m id informed)) ≡ own_room (own_in u m)
   info_own [] = refl

@@ -1,5 +1,5 @@
--- A value that is put into a map and changed there, or put where one is.
-use Rattle.std.proofs.Common.{◌≡◌, List, refl, sym, ap, ◌∙◌, true, false, cond, T}
+-- A value that is put into a map and changed there, or put where one is; one that is changed, as it is shown.
+use Rattle.std.proofs.Common.{◌≡◌, List, [], ◌∷◌, refl, sym, ap, ◌∙◌, Bool, true, false, cond, T}
 use Rattle.std.specs.Prelude.{Option, Some, None, if◌then◌else◌}
 use Rattle.std.specs.declared.cmp.Ordering.{Ordering}
 use Rattle.std.specs.declared.cmp.Ordering.TheVariants.{Equal}
@@ -8,7 +8,7 @@ use Rattle.std.specs.Option.{option_map}
 use Rattle.std.specs.Cmp.{IsTotalOrder}
 use Rattle.std.proofs.lemmas.Cmp.{eq_by_cmp_equiv}
 use Rattle.std.specs.FinMap.Entries.{is_sorted, is_sorted-put, same_entries}
-use Rattle.line_words.specs.Table.{at, put, change}
+use Rattle.line_words.specs.Table.{at, put, change, map_values}
 use Rattle.line_words.proofs.Tables.{Equal_of, at-put, at-change, is_sorted-change}
 
 module _ {K X : Type 0} (R : K → K → Ordering) (o : IsTotalOrder R) (same : (x y : K) → R x y ≡ Equal → x ≡ y) where
@@ -41,3 +41,13 @@ module _ {K X : Type 0} (R : K → K → Ordering) (o : IsTotalOrder R) (same : 
         | false ↦ λ t. sym (at_itself k q f (at R m q) t)
       ] refl
       ∙ sym (at-change R same f m k q))
+
+-- where f changes a value as g changes what is shown of it
+pub values_changed : {K X Y : Type 0} (R : K → K → Ordering) (shows : X → Y) (f : X → X) (g : Y → Y) → ((x : X) → shows (f x) ≡ g (shows x))
+    → (m : List (K × X)) (k : K) → map_values (λ key x. shows x) (change R m k f) ≡ change R (map_values (λ key x. shows x) m) k g
+values_changed R shows f g same [] k = refl
+values_changed R shows f g same (e ∷ m) k = λ i. (e.0, one (eq_by_cmp R k e.0) i) ∷ values_changed R shows f g same m k i
+  where
+    one : (b : Bool) → shows (if b then f e.1 else e.1) ≡ (if b then g (shows e.1) else shows e.1)
+    one true = same e.1
+    one false = refl

@@ -1,14 +1,17 @@
--- What is only said, asked or refused changes no view.
-use Rattle.std.proofs.Common.{◌≡◌, ℕ, List, [], ◌∷◌, ◌++◌, refl, ap, ◌∙◌, Bool, true, false}
+-- What is only said, asked or refused changes no view, nor does who asks to join a battle.
+use Rattle.std.proofs.Common.{◌≡◌, ℕ, List, [], ◌∷◌, ◌++◌, refl, sym, ap, ◌∙◌, Bool, true, false}
 use Rattle.std.specs.Prelude.{if◌then◌else◌, map, length}
 use Rattle.reply_grammar.specs.declared.Reply.{Reply}
 use Rattle.reply_grammar.specs.declared.Reply.TheVariants as reply
 use Rattle.channel_book.specs.Channels.{Channels}
+use Rattle.battle_room.specs.Room.{Room}
 use Rattle.lobby_model.specs.State.{State}
-use Rattle.lobby_model.specs.Outcome.{Letter, only_told, lines_for}
+use Rattle.lobby_model.specs.Outcome.{Letter, happens, only_told, lines_for}
+use Rattle.lobby_model.specs.Battles.{change_room}
 use Rattle.lobby_view.specs.View.{View, shown_all}
-use Rattle.lobby_view.specs.Observe.{observe}
+use Rattle.lobby_view.specs.Observe.{observe, shared}
 use Rattle.lobby_view.proofs.Basics.{Seen, IsQuiet, reader}
+use Rattle.lobby_view.proofs.Changed.{not_shared}
 
 abbrev pub AllQuiet : List Reply → Type 0
 AllQuiet [] = Unit {0}
@@ -34,6 +37,11 @@ quiet_for mine u (l ∷ letters) quiet =
 
 pub told_seen : (s : State) (mine : Bool) (u : List ℕ) (letters : List Letter) → QuietLetters letters → Seen s mine u (only_told letters)
 told_seen s mine u letters quiet = quiet_shown (observe s u) (lines_for (reader mine u) letters) (quiet_for mine u letters quiet)
+
+-- a change of nothing that members share
+pub hidden_seen : (s : State) (mine : Bool) (u : List ℕ) (id : ℕ) (f : Room → Room) → ((room : Room) → shared (f room) ≡ shared room)
+    → (letters : List Letter) → QuietLetters letters → Seen s mine u (happens (λ t. change_room t id f) letters)
+hidden_seen s mine u id f hides letters quiet = told_seen s mine u letters quiet ∙ sym (not_shared id f hides u s)
 
 pub quiet_list : (channels : Channels) → AllQuiet (map (λ e. reply.Channel e.0 (length e.1)) channels ++ reply.EndOfChannels ∷ [])
 quiet_list [] = ((λ v. refl), tt)

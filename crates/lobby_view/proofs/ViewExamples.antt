@@ -7,9 +7,11 @@ use Rattle.line_words.specs.Table.{ByNumber}
 use Rattle.battle_room.specs.Room.{Room, Member, Bot}
 use Rattle.reply_reader.specs.Reading.{piece_at, natural, whole, number_in, number_at, wide_at, flag_at, word_at, words_at, name_at, names_at, optional_at, sentence_at, text_at, pair_in, pairs_at, many, shaped}
 use Rattle.reply_reader.specs.Lines.{named, read_body, read_numbered, read_line}
-use Rattle.lobby_model.specs.State.{User}
-use Rattle.lobby_model.proofs.Fixture.{anna, bert, cleo, main, lines, tag}
-use Rattle.lobby_view.specs.View.{View, Listed, OwnRoom, new_view}
+use Rattle.command_grammar.specs.declared.command.Command.TheVariants as command
+use Rattle.lobby_model.specs.declared.event.Event.{Event}
+use Rattle.lobby_model.proofs.Fixture as fixture
+use Rattle.lobby_model.proofs.Fixture.{anna, bert, cleo, main, lines, tag, says, three, opens, gets}
+use Rattle.lobby_view.specs.View.{View, Known, Listed, OwnRoom, new_view}
 use Rattle.lobby_view.specs.Bytes.{view}
 
 -- what is known after some lines, and of some part after these and each of some more
@@ -20,7 +22,7 @@ abbrev after_each : {A : Type 0} → (View → A) → List String → List (List
 after_each part before mores = map (λ more. part (view (lines before ++ lines more))) mores
 
 -- users
-abbrev user : String → ℕ → ℕ → User
+abbrev user : String → ℕ → ℕ → Known
 user country account status = record { country = codes country; cpu = pos 0; account = account; status = status }
 
 abbrev users_come : List String
@@ -113,17 +115,22 @@ abbrev own : ℕ → Room → Option OwnRoom
 own id room = Some (record { battle = id; room = room })
 
 abbrev members_alone : List Member → Room
-members_alone members = record { members = members; bots = []; rects = []; tags = [] }
+members_alone members = record { members = members; bots = []; rects = []; tags = []; units = []; askers = [] }
 
 abbrev joins : List String
 joins = battle_opens ++ ("JOINEDBATTLE 1 Bert" ∷ "JOINBATTLE 1 5" ∷ "JOINEDBATTLE 1 Cleo" ∷ "CLIENTBATTLESTATUS Anna 1024 7" ∷ [])
 
--- pairs go from left to right, and a key that is there keeps its place
+-- Anna and two who joined, and these units
+abbrev with_units : List (List ℕ) → Room
+with_units units = record (members_alone (member anna 1024 7 ∷ member bert 0 0 ∷ member cleo 0 0 ∷ [])) { units = units }
+
+-- pairs and units go from left to right, and what is there keeps its place
 abbrev room_changes : List String
 room_changes =
     "ADDBOT 1 Robo Bert 4 5 KAIK" ∷ "UPDATEBOT 1 Robo 6 7" ∷ "ADDBOT 1 Droid Cleo 0 0 RAI" ∷ "REMOVEBOT 1 Droid"
     ∷ "ADDSTARTRECT 2 0 0 200 60" ∷ "ADDSTARTRECT 1 0 140 200 200" ∷ "REMOVESTARTRECT 2"
-    ∷ "SETSCRIPTTAGS a=1\tb=2\ta=3" ∷ "SETSCRIPTTAGS c=4\tb=5" ∷ "REMOVESCRIPTTAGS c d" ∷ []
+    ∷ "SETSCRIPTTAGS a=1\tb=2\ta=3" ∷ "SETSCRIPTTAGS c=4\tb=5" ∷ "REMOVESCRIPTTAGS c d"
+    ∷ "DISABLEUNITS armcom corcom armcom" ∷ "DISABLEUNITS corcom armflash" ∷ "ENABLEUNITS armcom armpw" ∷ []
 
 abbrev changed : List Member → Room
 changed members = record {
@@ -131,6 +138,8 @@ changed members = record {
   bots = robo 6 7 ∷ [];
   rects = (1, record { left = 0; top = 140; right = 200; bottom = 200 }) ∷ [];
   tags = tag "a" "3" ∷ tag "b" "5" ∷ [];
+  units = codes "corcom" ∷ codes "armflash" ∷ [];
+  askers = [];
 }
 
 -- one who leaves takes its status along and leaves its bots, for which lines of their own come
@@ -139,7 +148,7 @@ others_go =
     "LEFTBATTLE 1 Bert" ∷ "JOINEDBATTLE 2 Dora" ∷ "LEFTBATTLE 2 Cleo" ∷ "LEFTBATTLE 2 Anna" ∷ "ADDBOT 2 Droid Cleo 0 0 RAI"
     ∷ "UPDATEBOT 2 Robo 1 1" ∷ "REMOVEBOT 2 Robo" ∷ "UPDATEBOT 1 Droid 1 1" ∷ "CLIENTBATTLESTATUS Dora 1 1" ∷ "BATTLECLOSED 2" ∷ "FORCEQUITBATTLE" ∷ []
 
--- status and colour are 0 until they are told; bots, rectangles and tags come; others go, and lines of another battle, of a bot or of a
+-- status and colour are 0 until they are told; bots, rectangles, tags and units come; others go, and lines of another battle, of a bot or of a
 -- member that is not there change nothing
 room_known : after_each (λ v. v.own) joins ([] ∷ room_changes ∷ (room_changes ++ others_go) ∷ [])
     ≡ own 1 (members_alone (member anna 1024 7 ∷ member bert 0 0 ∷ member cleo 0 0 ∷ []))
@@ -148,6 +157,29 @@ room_known : after_each (λ v. v.own) joins ([] ∷ room_changes ∷ (room_chang
 unfolding digits piece_at natural whole number_in number_at wide_at flag_at word_at words_at name_at names_at optional_at sentence_at text_at
     pair_in pairs_at many shaped named read_body read_numbered read_line
 room_known = refl
+
+-- one who joins is told of each unit that is disabled, and then of all changes
+abbrev units_told : List String
+units_told = "DISABLEUNITS corcom" ∷ "DISABLEUNITS armflash" ∷ "REQUESTBATTLESTATUS" ∷ []
+
+units_known : after_each (λ v. v.own) joins (units_told ∷ (units_told ++ ("ENABLEUNITS corcom" ∷ [])) ∷ (units_told ++ ("ENABLEALLUNITS" ∷ [])) ∷ [])
+    ≡ own 1 (with_units (codes "corcom" ∷ codes "armflash" ∷ [])) ∷ own 1 (with_units (codes "armflash" ∷ [])) ∷ own 1 (with_units []) ∷ []
+unfolding digits piece_at natural whole number_in number_at wide_at flag_at word_at words_at name_at names_at optional_at sentence_at text_at
+    pair_in pairs_at many shaped named read_body read_numbered read_line
+units_known = refl
+
+-- the same from the bytes that the lobby puts to Bert
+abbrev bert_joins : List Event
+bert_joins =
+    three ++ (says 1 opens ∷ says 1 (command.DisableUnits (codes "armcom" ∷ codes "corcom" ∷ codes "armcom" ∷ []))
+    ∷ says 1 (command.DisableUnits (codes "armflash" ∷ [])) ∷ says 1 (command.EnableUnits (codes "armcom" ∷ [])) ∷ says 2 (fixture.joins 1) ∷ [])
+
+joiner_knows : (view (gets [] bert_joins 2)).own ≡ own 1 (record (members_alone (member anna 0 0 ∷ member bert 0 0 ∷ [])) {
+  units = codes "corcom" ∷ codes "armflash" ∷ [];
+})
+unfolding digits piece_at natural whole number_in number_at wide_at flag_at word_at words_at name_at names_at optional_at sentence_at text_at
+    pair_in pairs_at many shaped named read_body read_numbered read_line
+joiner_knows = refl
 
 -- one leaves, or the battle closes: lines of a room change nothing then
 room_gone : after_each (λ v. v.own) joins (("LEFTBATTLE 1 Anna" ∷ room_changes) ∷ ("BATTLECLOSED 1" ∷ room_changes) ∷ []) ≡ None ∷ None ∷ []
@@ -173,7 +205,7 @@ abbrev talk : List String
 talk =
     "SERVERMSG hi" ∷ "DENIED no" ∷ "PONG" ∷ "SAID main Bert hi" ∷ "SAIDEX main Bert waves" ∷ "SAYPRIVATE Bert hi" ∷ "SAIDPRIVATE Bert hi"
     ∷ "CHANNEL big 4" ∷ "ENDOFCHANNELS" ∷ "JOINFAILED big no" ∷ "OPENBATTLEFAILED no" ∷ "JOINBATTLEFAILED no" ∷ "REQUESTBATTLESTATUS"
-    ∷ "SAIDBATTLE Bert hi" ∷ "SAIDBATTLEEX Bert waves" ∷ "RING Bert" ∷ "TASSERVER 0.38 * 8201 0" ∷ []
+    ∷ "SAIDBATTLE Bert hi" ∷ "SAIDBATTLEEX Bert waves" ∷ "RING Bert" ∷ "JOINBATTLEREQUEST Bert 10.0.0.2" ∷ "TASSERVER 0.38 * 8201 0" ∷ []
 
 -- both change nothing, and a login starts all anew
 all_known : after_each (λ v. v) joins (no_lines ∷ talk ∷ ("ACCEPTED Bert" ∷ []) ∷ []) ≡ knows joins ∷ knows joins ∷ new_view bert ∷ []

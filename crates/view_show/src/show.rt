@@ -124,6 +124,9 @@ fn show_room<W: Write>(room: &OwnRoom, out: &mut W) -> io::Result<()> {
         out.write_all(tag.value.as_slice())?;
         out.write_all(b"\n")?;
     }
+    for unit in room.units() {
+        put_below(b"unit", unit.as_slice(), out)?;
+    }
     Ok(())
 }
 

@@ -126,6 +126,57 @@ fn the_room_has_what_its_members_share(rt: HostRuntime) -> Result<(), Fail> {
     seen
 }
 
+/// A line that Anna is sent in her room, and the units that are disabled behind it.
+const UNITS: [(&[u8], &[&[u8]]); 9] = [
+    (b"DISABLEUNITS armcom corcom\n", &[b"armcom", b"corcom"]),
+    (
+        b"#7 DISABLEUNITS armflash\n",
+        &[b"armcom", b"corcom", b"armflash"],
+    ),
+    (
+        b"DISABLEUNITS corcom armpw armpw\n",
+        &[b"armcom", b"corcom", b"armflash", b"armpw"],
+    ),
+    (b"ENABLEUNITS armcom armpw x\n", &[b"corcom", b"armflash"]),
+    (
+        b"DISABLEUNITS armcom\n",
+        &[b"corcom", b"armflash", b"armcom"],
+    ),
+    (
+        b"JOINBATTLEREQUEST Cleo 10.0.0.3\n",
+        &[b"corcom", b"armflash", b"armcom"],
+    ),
+    (b"ENABLEALLUNITS\n", &[]),
+    (b"DISABLEUNITS corcom\n", &[b"corcom"]),
+    (b"OPENBATTLE 1\n", &[]),
+];
+
+fn has_units(view: &View, wanted: &[&[u8]]) -> bool {
+    let Some(room) = view.room() else {
+        return false;
+    };
+    let mut same = room.units().len() == wanted.len();
+    for (unit, bytes) in room.units().iter().zip(wanted) {
+        same = same && unit.as_slice() == *bytes;
+    }
+    same
+}
+
+fn see_units(rt: &impl Abort, view: &mut View) {
+    same(rt, view.feed(SENT), Ok(24));
+    for (line, units) in UNITS {
+        same(rt, view.feed(line), Ok(1));
+        assert!(rt; has_units(view, units));
+    }
+}
+
+#[test]
+fn the_room_has_the_units_that_are_disabled(rt: HostRuntime) {
+    let mut view = View::new(rt.alloc());
+    see_units(&rt, &mut view);
+    drop(view);
+}
+
 fn see_pieces(rt: &impl Abort, view: &mut View) -> Result<(), Fail> {
     let mut folded: usize = 0;
     for k in 0..SENT.len() {

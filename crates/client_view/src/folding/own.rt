@@ -9,7 +9,7 @@ use crate::bots::Bot;
 use crate::own_room::OwnRoom;
 use battle_room::Rect;
 use line_words::{NameBuf, PairList, WordBuf, WordList};
-use std::alloc::AllocError;
+use std::alloc::{AllocError, Global};
 
 pub(super) fn add_member(
     own: &mut Option<OwnRoom>,
@@ -139,5 +139,35 @@ pub(super) fn remove_tags(own: &mut Option<OwnRoom>, keys: &WordList)
 {
     if let Some(room) = own {
         room.remove_tags(keys);
+    }
+}
+
+pub(super) fn put_units(
+    own: &mut Option<OwnRoom>,
+    alloc: Global,
+    units: WordList,
+) -> Result<(), AllocError>
+    ensures ok { OnOk result (own.new ≡ in_own_room (room.disable_units units) own.old) }
+    ensures err { OnErr result (own.new ≡ own.old) }
+{
+    if let Some(room) = own {
+        room.put_units(alloc, units)?;
+    }
+    Ok(())
+}
+
+pub(super) fn remove_units(own: &mut Option<OwnRoom>, units: &WordList)
+    ensures { own.new ≡ in_own_room (room.enable_units units.now) own.old }
+{
+    if let Some(room) = own {
+        room.remove_units(units);
+    }
+}
+
+pub(super) fn clear_units(own: &mut Option<OwnRoom>)
+    ensures { own.new ≡ in_own_room room.enable_all own.old }
+{
+    if let Some(room) = own {
+        room.clear_units();
     }
 }

@@ -65,8 +65,14 @@ impl Known {
             Reply::AddStartRect { .. }
             | Reply::RemoveStartRect { .. }
             | Reply::SetScriptTags { .. }
-            | Reply::RemoveScriptTags { .. } => self.fold_game(reply),
-            Reply::SaidBattle { .. } | Reply::SaidBattleEx { .. } | Reply::Ring { .. } => {
+            | Reply::RemoveScriptTags { .. }
+            | Reply::DisableUnits { .. }
+            | Reply::EnableUnits { .. }
+            | Reply::EnableAllUnits => self.fold_game(reply),
+            Reply::SaidBattle { .. }
+            | Reply::SaidBattleEx { .. }
+            | Reply::Ring { .. }
+            | Reply::JoinBattleRequest { .. } => {
                 reply.discard();
                 Ok(())
             }
@@ -74,7 +80,7 @@ impl Known {
         }
     }
 
-    // The reply is one of start rectangles and script tags.
+    // The reply is one of start rectangles, script tags and disabled units.
     fn fold_game(&mut self, reply: Reply) -> Result<(), AllocError>
         requires { IsTrue (is_of_game reply) }
         ensures ok { OnOk result (self.new ≡ shown self.old reply) }
@@ -103,6 +109,15 @@ impl Known {
             Reply::SetScriptTags { pairs } => self.set_script_tags(pairs),
             Reply::RemoveScriptTags { keys } => {
                 self.remove_script_tags(&keys);
+                Ok(())
+            }
+            Reply::DisableUnits { units } => self.disable_units(units),
+            Reply::EnableUnits { units } => {
+                self.enable_units(&units);
+                Ok(())
+            }
+            Reply::EnableAllUnits => {
+                self.enable_all_units();
                 Ok(())
             }
             _ => unreachable!(),
@@ -158,5 +173,24 @@ impl Known {
         ensures { self.new ≡ shown self.old (reply.RemoveScriptTags keys.now) }
     {
         own::remove_tags(&mut self.own, keys);
+    }
+
+    fn disable_units(&mut self, units: WordList) -> Result<(), AllocError>
+        ensures ok { OnOk result (self.new ≡ shown self.old (reply.DisableUnits units)) }
+        ensures err { OnErr result (self.new ≡ self.old) }
+    {
+        own::put_units(&mut self.own, self.alloc, units)
+    }
+
+    fn enable_units(&mut self, units: &WordList)
+        ensures { self.new ≡ shown self.old (reply.EnableUnits units.now) }
+    {
+        own::remove_units(&mut self.own, units);
+    }
+
+    fn enable_all_units(&mut self)
+        ensures { self.new ≡ shown self.old reply.EnableAllUnits }
+    {
+        own::clear_units(&mut self.own);
     }
 }

@@ -3,18 +3,20 @@
 
 ghost use Rattle.std.specs.Prelude.{◌≡◌, ◌≤◌, ◌+◌, ◌||◌, ◌==◌, true, false, None, Some, IfOk, IfErr, is_some, option_copied};
 ghost use Rattle.line_words.specs.Table.{at_number, same_name};
-ghost use Rattle.battle_room.specs.Room.{bot_of, has_member, has_too_many_tags, is_full_of_bots, member_of};
+ghost use Rattle.battle_room.specs.Room.{asker_of, bot_of, has_asker, has_member, has_too_many_tags, has_too_many_units, is_full_of_bots, member_of};
 ghost use Rattle.battle_room.specs.Tags.{with_tags};
-ghost use Rattle.lobby_model.specs.State.{battle_of};
+ghost use Rattle.battle_room.specs.Units.{with_units};
+ghost use Rattle.lobby_model.specs.State.{asked_by, battle_of};
 ghost use Rattle.lobby_model.specs.Battles.{is_founder, lets_in};
 ghost use Rattle.lobby_machine.specs.Answers.{Refuses};
-ghost use Rattle.lobby_machine.specs.declared.refusal.Refusal.TheVariants.{OpensInBattle, NoNumberLeft, JoinsInBattle, NoSuchBattle, BattleIsLocked, WrongPassword, NotInBattle, NotTheFounder, NoSuchMember, CannotKickYourself, NoSuchBot, NotYourBot, BotNameTaken, TooManyBots, TooManyTags};
+ghost use Rattle.lobby_machine.specs.Battles.{AskOutside};
+ghost use Rattle.lobby_machine.specs.declared.refusal.Refusal.TheVariants.{OpensInBattle, OpensAsking, NoNumberLeft, JoinsInBattle, JoinsAsking, NoSuchBattle, BattleIsLocked, WrongPassword, NotInBattle, NotTheFounder, NoSuchRequest, NoSuchMember, CannotKickYourself, NoSuchBot, NotYourBot, BotNameTaken, TooManyBots, TooManyTags, TooManyUnits};
 
 use crate::battle::Battle;
 use crate::battles::LAST_NUMBER;
 use crate::maps::Maps;
 use crate::refusal::{Refusal, Stop};
-use battle_room::{Bot, Member};
+use battle_room::{Asker, Bot, Member};
 use line_words::{NameBuf, Pair, WordBuf};
 
 impl Maps {
@@ -25,6 +27,17 @@ impl Maps {
     {
         match self.battle_of(me) {
             Some(_) => Err(Stop::Refused(Refusal::OpensInBattle)),
+            None => Ok(()),
+        }
+    }
+
+    /// A user who opens a battle asks to join none.
+    pub fn opens_unasked(&self, me: &NameBuf) -> Result<(), Stop>
+        ensures ok { IfOk result (λ _. asked_by self.now.plain me.now ≡ None) }
+        ensures err { IfErr result (Refuses OpensAsking (is_some (asked_by self.now.plain me.now) ≡ true)) }
+    {
+        match self.asked_by(me) {
+            Some(_) => Err(Stop::Refused(Refusal::OpensAsking)),
             None => Ok(()),
         }
     }
@@ -54,6 +67,17 @@ impl Maps {
         }
     }
 
+    /// A user who joins a battle asks to join none.
+    pub fn joins_unasked(&self, me: &NameBuf) -> Result<(), Stop>
+        ensures ok { IfOk result (λ _. asked_by self.now.plain me.now ≡ None) }
+        ensures err { IfErr result (Refuses JoinsAsking (is_some (asked_by self.now.plain me.now) ≡ true)) }
+    {
+        match self.asked_by(me) {
+            Some(_) => Err(Stop::Refused(Refusal::JoinsAsking)),
+            None => Ok(()),
+        }
+    }
+
     /// The battle of a number.
     pub fn battle_numbered(&self, number: u32) -> Result<&Battle, Stop>
         ensures ok { IfOk result (λ battle. at_number self.now.plain.battles number ≡ Some battle.now) }
@@ -69,6 +93,7 @@ impl Maps {
     pub fn own_battle(&self, me: &NameBuf) -> Result<(u32, &Battle), Stop>
         ensures ok { IfOk result (λ own. battle_of self.now.plain me.now ≡ Some (own.0, own.1.now)) }
         ensures there { IfOk result (λ own. at_number self.now.plain.battles own.0 ≡ Some own.1.now) }
+        ensures outside { IfOk result (λ own. AskOutside own.1.now.room) }
         ensures err { IfErr result (Refuses NotInBattle (battle_of self.now.plain me.now ≡ None)) }
     {
         match self.battle_of(me) {
@@ -123,6 +148,19 @@ pub fn member_named<'a>(battle: &'a Battle, name: &NameBuf) -> Result<&'a Member
     match battle.room.member(name) {
         Some(member) => Ok(member),
         None => Err(Stop::Refused(Refusal::NoSuchMember)),
+    }
+}
+
+/// The one of a name who asks to join a battle.
+pub fn asker_named<'a>(battle: &'a Battle, name: &NameBuf) -> Result<&'a Asker, Stop>
+    ensures ok { IfOk result (λ asker. asker_of name.now battle.now.room ≡ Some asker.now) }
+    ensures name { IfOk result (λ asker. asker.now.name ≡ name.now) }
+    ensures has { IfOk result (λ _. has_asker name.now battle.now.room ≡ true) }
+    ensures err { IfErr result (Refuses NoSuchRequest (asker_of name.now battle.now.room ≡ None)) }
+{
+    match battle.room.asker(name) {
+        Some(asker) => Ok(asker),
+        None => Err(Stop::Refused(Refusal::NoSuchRequest)),
     }
 }
 
@@ -193,5 +231,17 @@ pub fn room_for_tags(battle: &Battle, pairs: &[Pair]) -> Result<(), Stop>
         Ok(())
     } else {
         Err(Stop::Refused(Refusal::TooManyTags))
+    }
+}
+
+/// There is room for these disabled units in a battle.
+pub fn room_for_units(battle: &Battle, units: &[WordBuf]) -> Result<(), Stop>
+    ensures ok { IfOk result (λ _. has_too_many_units (with_units battle.now.room.units units.now) ≡ false) }
+    ensures err { IfErr result (Refuses TooManyUnits (has_too_many_units (with_units battle.now.room.units units.now) ≡ true)) }
+{
+    if battle.room.has_room_for_units(units) {
+        Ok(())
+    } else {
+        Err(Stop::Refused(Refusal::TooManyUnits))
     }
 }

@@ -1,35 +1,36 @@
-//! Battles: opening, joining and leaving one, and what is said and shown in it.
+//! Battles: opening and leaving one, and what is said and shown in it.
 
-ghost use Rattle.std.specs.Prelude.{◌≡◌, [], ◌∷◌, ◌++◌, decimal, map, OnOk, IfOk, true, None, Some, is_some, option_copied};
+ghost use Rattle.std.specs.Prelude.{◌≡◌, [], ◌∷◌, ◌++◌, decimal, OnOk, IfOk, true, Some, is_some};
 ghost use Rattle.reply_grammar.specs.declared.Reply.TheVariants as reply;
 ghost use Rattle.line_words.specs.Table.{at_number};
 ghost use Rattle.reply_grammar.specs.Lent.{reply_of};
-ghost use Rattle.battle_room.specs.Room.{member_names, new_room};
+ghost use Rattle.battle_room.specs.Room.{asker_names, member_names, new_room};
 ghost use Rattle.lobby_model.specs.State.{name_of, updated};
-ghost use Rattle.lobby_model.specs.Outcome.{everyone, tell, user};
-ghost use Rattle.lobby_model.specs.Battles.{address, bot_line, ip_text, join_battle, leave_battle, leaves_battle, member_has, open_battle, opened_line, rect_line, room_lines, say_in_battle, set_own_status, status_line, update_battle};
+ghost use Rattle.lobby_model.specs.Outcome.{everyone, tell, user, users};
+ghost use Rattle.lobby_model.specs.Battles.{address, ip_text, leave_battle, leaves_battle, member_has, open_battle, opened_line, say_in_battle, set_own_status, update_battle};
+ghost use Rattle.lobby_model.specs.Texts.{battle_was_closed};
 ghost use Rattle.lobby_model.specs.Commands.{answer};
-ghost use Rattle.lobby_post.specs.Posted.{Told, with_own};
+ghost use Rattle.lobby_post.specs.Posted.{Told};
 ghost use Rattle.lobby_machine.specs.Answers.{Answers};
 ghost use Rattle.lobby_machine.specs.declared.change.Change.TheVariants.{InBattles};
 ghost use Rattle.lobby_machine.specs.declared.battles.BattleChange.TheVariants.{InRoom};
-ghost use Rattle.lobby_machine.specs.BattleTalk.{bots_gone, shown, shown_to, status_change};
+ghost use Rattle.lobby_machine.specs.Battles.{IsNew};
+ghost use Rattle.lobby_machine.specs.BattleTalk.{bots_gone, shown, shown_to, status_change, stops_asking};
 ghost use Rattle.lobby_machine.specs.Subjects.{opens_one};
 
-use super::battle_guards::{founded_by, not_locked, right_password};
+use super::battle_guards::founded_by;
 use crate::battle::{Battle, NO_PASSWORD};
 use crate::battles::{BattleChange, RoomChange};
 use crate::change::Change;
 use crate::maps::Maps;
 use crate::refusal::Stop;
-use battle_room::{ALLY_COUNT, Room};
+use battle_room::Room;
 use command_grammar::Command;
-use line_words::{NameBuf, SentenceBuf, WordBuf, write_number};
+use line_words::{NameBuf, SentenceBuf, Text, WordBuf, write_number};
 use lobby_post::Post;
 use reply_grammar::{LentReply, OpenedBattle};
 use status_bits::{BattleStatus, merge_battle};
 use std::alloc::{AllocError, Global};
-use std::slice;
 
 /// Who gets the lines of one who leaves.
 #[derive(Clone, Copy)]
@@ -71,7 +72,7 @@ struct Inside {
 }
 
 impl Maps {
-    /// `OPENBATTLE`: the user is in no battle, and a number is left.
+    /// `OPENBATTLE`: the user is in no battle and asks to join none, and a number is left.
     pub fn open_battle(
         &self,
         client: u64,
@@ -85,6 +86,7 @@ impl Maps {
         ensures { Answers self.now.plain client post.old post.new (answer self.now.plain client (Some me.now) command.now) result }
     {
         self.may_open(me)?;
+        self.opens_unasked(me)?;
         let number = self.next_number()?;
         let battle = self.new_battle(client, me, command)?;
         match self.tell_opening(me, number, &battle, post) {
@@ -121,7 +123,7 @@ impl Maps {
         requires me { name_of self.now.plain client ≡ Some me.now }
         requires opens { opens_one command.now ≡ true }
         ensures asked { IfOk result (λ battle. answer self.now.plain client (Some me.now) command.now ≡ open_battle self.now.plain me.now battle) }
-        ensures members { IfOk result (λ battle. member_names battle.room ≡ me.now ∷ []) }
+        ensures alone { IfOk result (λ battle. IsNew battle me.now) }
     {
         let Command::OpenBattle {
             battle_type,
@@ -214,7 +216,7 @@ impl Maps {
     }
 
     /// The address of a client that is there, as it is printed.
-    fn address_of(&self, client: u64) -> Result<WordBuf, AllocError>
+    pub fn address_of(&self, client: u64) -> Result<WordBuf, AllocError>
         requires { is_some (at_number self.now.plain.clients client) ≡ true }
         ensures { IfOk result (λ word. word ≡ address (at_number self.now.plain.clients client)) }
     {
@@ -236,66 +238,13 @@ impl Maps {
         Ok(())
     }
 
-    /// `JOINBATTLE`: the user is in no battle; there is a battle of that number, which is not locked and
-    /// lets it in.
-    pub fn join_battle<'a>(
-        &self,
-        client: u64,
-        me: &'a NameBuf,
-        number: u32,
-        password: Option<&WordBuf>,
-        script_password: Option<&'a WordBuf>,
-        post: &mut Post,
-    ) -> Result<Change, Stop>
-        requires me { name_of self.now.plain client ≡ Some me.now }
-        requires issuer { post.old.issuer ≡ client }
-        ensures { Answers self.now.plain client post.old post.new (join_battle self.now.plain me.now number (option_copied password.entry) (option_copied script_password.entry)) result }
-    {
-        self.may_join(me)?;
-        let battle = self.battle_numbered(number)?;
-        not_locked(battle)?;
-        right_password(battle, password)?;
-        self.tell_joiner(me, number, battle, post)?;
-        let founder = &battle.opened.founder;
-        self.tell_user(
-            founder,
-            LentReply::JoinedBattle(number, me, script_password),
-            post,
-        )?;
-        self.tell_all_but(me, founder, LentReply::JoinedBattle(number, me, None), post)?;
-        Ok(Change::InBattles(BattleChange::Join {
-            number,
-            name: me.copy(),
-        }))
-    }
-
-    /// Tells one who joins a battle what its members share, and asks for its status.
-    fn tell_joiner(
-        &self,
-        me: &NameBuf,
-        number: u32,
-        battle: &Battle,
-        post: &mut Post,
-    ) -> Result<(), AllocError>
-        requires { name_of self.now.plain post.old.issuer ≡ Some me.now }
-        ensures { OnOk result (Told self.now.plain post.old post.new (tell (user me.now) (reply.JoinBattle number battle.now.game_hash ∷ reply.JoinedBattle number me.now None ∷ (room_lines number battle.now.room ++ reply.RequestBattleStatus ∷ [])) ∷ [])) }
-    {
-        post.begin_own();
-        post.write_own(LentReply::JoinBattle(number, battle.game_hash))?;
-        post.write_own(LentReply::JoinedBattle(number, me, None))?;
-        write_statuses(&battle.room, post)?;
-        write_bots(number, &battle.room, post)?;
-        write_rects(&battle.room, post)?;
-        write_tags(&battle.room, post)?;
-        post.write_own(LentReply::RequestBattleStatus)?;
-        self.seats.address_user(me, post)?;
-        Ok(())
-    }
-
-    /// `LEAVEBATTLE`: the user is in a battle.
+    /// `LEAVEBATTLE`: the user is in a battle, or asks to join one, and asks no more.
     pub fn leave_battle(&self, client: u64, me: &NameBuf, post: &mut Post) -> Result<Change, Stop>
         ensures { Answers self.now.plain client post.old post.new (leave_battle self.now.plain me.now) result }
     {
+        if let Some(number) = self.asked_by(me) {
+            return Ok(stop_asking(number, me));
+        }
         let (number, battle) = self.own_battle(me)?;
         self.tell_leaving(me, number, battle, Leaving::Seen, post)?;
         Ok(Change::InBattles(BattleChange::Leave {
@@ -317,10 +266,29 @@ impl Maps {
         ensures { OnOk result (Told self.now.plain post.old post.new (shown leaving (leaves_battle name.now number battle.now)).told) }
     {
         if battle.is_founder(name) {
-            return self.tell_leaving_all(LentReply::BattleClosed(number), leaving, post);
+            return self.tell_closing(number, &battle.room, leaving, post);
         }
         self.tell_bots_gone(name, number, &battle.room, leaving, post)?;
         self.tell_leaving_all(LentReply::LeftBattle(number, name), leaving, post)
+    }
+
+    /// Tells that a battle closes: those who ask to join it first, and then all.
+    fn tell_closing(
+        &self,
+        number: u32,
+        room: &Room,
+        leaving: Leaving,
+        post: &mut Post,
+    ) -> Result<(), AllocError>
+        ensures { OnOk result (Told self.now.plain post.old post.new (shown_to leaving (tell (users (asker_names room.now)) (reply.JoinBattleFailed battle_was_closed ∷ [])) ∷ shown_to leaving (tell everyone (reply.BattleClosed number ∷ [])) ∷ [])) }
+    {
+        let text = Text::lend(b"The battle was closed");
+        let line = LentReply::JoinBattleFailed(&text);
+        match leaving {
+            Leaving::Seen => self.tell_askers(room, line, post)?,
+            Leaving::Unseen => self.tell_other_askers(room, line, post)?,
+        }
+        self.tell_leaving_all(LentReply::BattleClosed(number), leaving, post)
     }
 
     /// Tells the members of a battle that the bots of one of them go.
@@ -480,65 +448,21 @@ fn copy_labels(
     })
 }
 
+/// The change by which one who asks to join a battle asks no more.
+pub fn stop_asking(number: u32, name: &NameBuf) -> Change
+    ensures { result ≡ stops_asking number name.now }
+{
+    Change::InBattles(BattleChange::StopAsking {
+        number,
+        name: name.copy(),
+    })
+}
+
 /// A change of what the members of a battle share.
 pub fn in_room(number: u32, change: RoomChange) -> Change
     ensures { result ≡ InBattles (InRoom number change) }
 {
     Change::InBattles(BattleChange::InRoom { number, change })
-}
-
-/// Writes the status of each member of a battle.
-fn write_statuses(room: &Room, post: &mut Post) -> Result<(), AllocError>
-    ensures { OnOk result (post.new ≡ with_own post.old (map status_line room.now.members)) }
-{
-    for member in room.members() {
-        let status = member.status().word();
-        post.write_own(LentReply::ClientBattleStatus(member.name(), status, member.colour()))?;
-    }
-    Ok(())
-}
-
-/// Writes the bots of a battle.
-fn write_bots(number: u32, room: &Room, post: &mut Post) -> Result<(), AllocError>
-    ensures { OnOk result (post.new ≡ with_own post.old (map (bot_line number) room.now.bots)) }
-{
-    for bot in room.bots() {
-        let status = bot.status().word();
-        let line = LentReply::AddBot(
-            number,
-            bot.name(),
-            bot.owner(),
-            status,
-            bot.colour(),
-            bot.ai(),
-        );
-        post.write_own(line)?;
-    }
-    Ok(())
-}
-
-/// Writes the start rectangles of a battle.
-fn write_rects(room: &Room, post: &mut Post) -> Result<(), AllocError>
-    ensures { OnOk result (post.new ≡ with_own post.old (map (λ e. rect_line e.0 e.1) room.now.rects)) }
-{
-    let places = room.rects();
-    for ally in 0..ALLY_COUNT as u8 {
-        if let Some(rect) = places[usize::from(ally)] {
-            let line = LentReply::AddStartRect(ally, rect.left, rect.top, rect.right, rect.bottom);
-            post.write_own(line)?;
-        }
-    }
-    Ok(())
-}
-
-/// Writes the script tags of a battle, each in a line.
-fn write_tags(room: &Room, post: &mut Post) -> Result<(), AllocError>
-    ensures { OnOk result (post.new ≡ with_own post.old (map (λ t. reply.SetScriptTags (t ∷ [])) room.now.tags)) }
-{
-    for pair in room.tags() {
-        post.write_own(LentReply::SetScriptTags(slice::from_ref(pair)))?;
-    }
-    Ok(())
 }
 
 /// An IPv4 address as it is printed: four numbers with dots.

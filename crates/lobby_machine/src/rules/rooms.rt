@@ -1,18 +1,18 @@
-//! What members do in a battle's room: bots, start rectangles, script tags, and what the founder forces
-//! on members.
+//! What members do in a battle's room: bots, start rectangles, script tags, disabled units, and what the
+//! founder forces on members.
 
 ghost use Rattle.std.specs.Prelude.{◌≡◌, ◌<◌, [], ◌∷◌, IfOk, OnOk};
+ghost use Rattle.reply_grammar.specs.Lent.{reply_of};
 ghost use Rattle.battle_room.specs.Room.{member_names};
-ghost use Rattle.battle_room.specs.Tags.{keys_there};
 ghost use Rattle.lobby_model.specs.Outcome.{tell, users};
-ghost use Rattle.lobby_model.specs.Rooms.{add_bot, add_rect, kick, new_bot, remove_bot, remove_rect, remove_script_tags, removed_line, ring, set_script_tags, update_bot};
+ghost use Rattle.lobby_model.specs.Rooms.{add_bot, add_rect, disable, enable, enable_every, kick, new_bot, remove_bot, remove_rect, remove_script_tags, ring, set_script_tags, update_bot};
 ghost use Rattle.lobby_post.specs.Posted.{Told};
 ghost use Rattle.lobby_machine.specs.Answers.{Answers};
-ghost use Rattle.lobby_machine.specs.BattleTalk.{FitsForce, forced, forced_colour, forced_status};
+ghost use Rattle.lobby_machine.specs.BattleTalk.{FitsForce, forced, forced_colour, forced_status, words_line, words_told};
 
 use super::battle_guards::{
     bot_named, founded_by, free_bot_name, may_change, member_named, not_oneself, room_for_bot,
-    room_for_tags,
+    room_for_tags, room_for_units,
 };
 use super::battles::{Leaving, in_room};
 use crate::battles::{BattleChange, RoomChange};
@@ -66,6 +66,30 @@ impl Force {
             Force::Handicap(_) | Force::Team(_) | Force::Ally(_) | Force::Spectator => {
                 member.colour()
             }
+        }
+    }
+}
+
+/// What the members of a battle are told of words.
+#[derive(Clone, Copy)]
+pub enum Wording {
+    /// The script tags of these keys go.
+    TagsGone,
+    /// These units are disabled.
+    UnitsDisabled,
+    /// These units are disabled no more.
+    UnitsEnabled,
+}
+
+impl Wording {
+    /// The line that says so of words.
+    fn line(self, words: &[WordBuf]) -> LentReply<'_>
+        ensures { reply_of result ≡ words_line self words.now }
+    {
+        match self {
+            Wording::TagsGone => LentReply::RemoveScriptTags(words),
+            Wording::UnitsDisabled => LentReply::DisableUnits(words),
+            Wording::UnitsEnabled => LentReply::EnableUnits(words),
         }
     }
 }
@@ -213,27 +237,81 @@ impl Maps {
     {
         let (number, battle) = self.own_battle(me)?;
         founded_by(battle, me)?;
-        self.tell_tags_gone(&battle.room, keys.as_slice(), post)?;
+        let there = battle.room.keys_there(self.alloc, keys.as_slice())?;
+        self.tell_words(&battle.room, Wording::TagsGone, there, post)?;
         let keys = copy_words(self.alloc, keys.as_slice())?;
         Ok(in_room(number, RoomChange::RemoveTags { keys }))
     }
 
-    /// Tells the members of a battle which of these script tags go. They are told nothing where none
-    /// is there.
-    fn tell_tags_gone(
+    /// `DISABLEUNITS`: the user is in a battle, which it founded, and there is room for the units. Those
+    /// that are disabled already are left out.
+    pub fn disable_units(
+        &self,
+        client: u64,
+        me: &NameBuf,
+        units: &WordList,
+        post: &mut Post,
+    ) -> Result<Change, Stop>
+        ensures { Answers self.now.plain client post.old post.new (disable self.now.plain me.now units.now) result }
+    {
+        let (number, battle) = self.own_battle(me)?;
+        founded_by(battle, me)?;
+        room_for_units(battle, units.as_slice())?;
+        let new = battle.room.units_new(self.alloc, units.as_slice())?;
+        self.tell_words(&battle.room, Wording::UnitsDisabled, new, post)?;
+        let words = copy_words(self.alloc, units.as_slice())?;
+        Ok(in_room(number, RoomChange::DisableUnits { words }))
+    }
+
+    /// `ENABLEUNITS`: the user is in a battle, which it founded. Units that are not disabled are left out.
+    pub fn enable_units(
+        &self,
+        client: u64,
+        me: &NameBuf,
+        units: &WordList,
+        post: &mut Post,
+    ) -> Result<Change, Stop>
+        ensures { Answers self.now.plain client post.old post.new (enable self.now.plain me.now units.now) result }
+    {
+        let (number, battle) = self.own_battle(me)?;
+        founded_by(battle, me)?;
+        let there = battle.room.units_there(self.alloc, units.as_slice())?;
+        self.tell_words(&battle.room, Wording::UnitsEnabled, there, post)?;
+        let words = copy_words(self.alloc, units.as_slice())?;
+        Ok(in_room(number, RoomChange::EnableUnits { words }))
+    }
+
+    /// `ENABLEALLUNITS`: the user is in a battle, which it founded.
+    pub fn enable_all_units(
+        &self,
+        client: u64,
+        me: &NameBuf,
+        post: &mut Post,
+    ) -> Result<Change, Stop>
+        ensures { Answers self.now.plain client post.old post.new (enable_every self.now.plain me.now) result }
+    {
+        let (number, battle) = self.own_battle(me)?;
+        founded_by(battle, me)?;
+        self.tell_room(&battle.room, LentReply::EnableAllUnits, post)?;
+        Ok(in_room(number, RoomChange::EnableAllUnits))
+    }
+
+    /// Tells the members of a battle of words, or nothing where there are none.
+    fn tell_words(
         &self,
         room: &Room,
-        keys: &[WordBuf],
+        wording: Wording,
+        words: WordList,
         post: &mut Post,
     ) -> Result<(), AllocError>
-        ensures { OnOk result (Told self.now.plain post.old post.new (tell (users (member_names room.now)) (removed_line (keys_there room.now.tags keys.now)) ∷ [])) }
+        ensures { OnOk result (Told self.now.plain post.old post.new (tell (users (member_names room.now)) (words_told wording words) ∷ [])) }
     {
-        let there = room.keys_there(self.alloc, keys)?;
-        let there = there.as_slice();
-        if !there.is_empty() {
-            self.tell_room(room, LentReply::RemoveScriptTags(there), post)?;
+        if words.as_slice().is_empty() {
+            return Ok(());
         }
-        Ok(())
+        let told = self.tell_room(room, wording.line(words.as_slice()), post);
+        drop(words);
+        told
     }
 
     /// `HANDICAP` and the four `FORCE` commands: the user is in a battle, which it founded, and so is the

@@ -4,6 +4,7 @@ ghost use Rattle.std.specs.Prelude.{◌≡◌, ℕ, List, [], ◌∷◌, OnOk, I
 ghost use Rattle.line_words.specs.Table.{at_number};
 ghost use Rattle.command_grammar.specs.declared.command.Command.TheVariants as command;
 ghost use Rattle.reply_grammar.specs.declared.Reply.TheVariants as reply;
+ghost use Rattle.battle_room.specs.Room.{has_member};
 ghost use Rattle.lobby_model.specs.State.{Battle, battle_of, hears, name_of};
 ghost use Rattle.lobby_model.specs.Outcome.{done, only_told, tell, issuer, others};
 ghost use Rattle.lobby_model.specs.Sessions.{arrival, departs, set_user_status, user_of};
@@ -11,7 +12,7 @@ ghost use Rattle.lobby_model.specs.Commands.{answer};
 ghost use Rattle.lobby_post.specs.Posted.{Told, begun};
 ghost use Rattle.lobby_machine.specs.Answers.{Answers, Obeyed};
 ghost use Rattle.lobby_machine.specs.Battles.{IsOnly};
-ghost use Rattle.lobby_machine.specs.Changes.{number_of, parts};
+ghost use Rattle.lobby_machine.specs.Changes.{first_of, parts};
 ghost use Rattle.lobby_machine.specs.BattleTalk.{left_battle_letters};
 ghost use Rattle.lobby_machine.specs.Seats.{user_in};
 
@@ -45,17 +46,18 @@ impl Maps {
         user_name: &WordBuf,
         password: &WordBuf,
         cpu: i64,
+        authorises: bool,
         post: &mut Post,
     ) -> Result<Change, Stop>
         requires hears { hears self.now.plain client ≡ true }
         requires me { option_copied me ≡ name_of self.now.plain client }
-        ensures { (local_ip lobby : List ℕ) → Answers self.now.plain client post.old post.new (answer self.now.plain client (option_copied me.entry) (command.Login user_name.now password.now cpu local_ip lobby)) result }
+        ensures { (local_ip lobby : List ℕ) → Answers self.now.plain client post.old post.new (answer self.now.plain client (option_copied me.entry) (command.Login user_name.now password.now cpu local_ip lobby authorises)) result }
     {
         not_logged_in(me)?;
         let account = self.account_for(user_name, password)?;
         let name = self.free_name(account)?;
         let place = self.clients.place_of(client);
-        let seat = seat_of(self.alloc, client, place, account, cpu)?;
+        let seat = seat_of(self.alloc, client, place, account, cpu, authorises)?;
         self.tell_burst(&name, &seat, post)?;
         self.tell_arrival(&name, &seat, post)?;
         Ok(Change::LogIn { name, seat })
@@ -111,15 +113,18 @@ impl Maps {
         let Some(me) = me else {
             return Ok(Change::LogOut {
                 name: None,
+                asks: None,
                 battle: None,
                 stays,
             });
         };
         self.tell_left(me, post)?;
+        let asks = self.asked_by(me);
         let battle = self.tell_battle_left(me, post)?;
         self.tell_others(LentReply::RemoveUser(me), post)?;
         Ok(Change::LogOut {
             name: Some(me.copy()),
+            asks,
             battle,
             stays,
         })
@@ -129,8 +134,8 @@ impl Maps {
     /// number.
     fn tell_battle_left(&self, me: &NameBuf, post: &mut Post) -> Result<Option<u32>, AllocError>
         ensures told { OnOk result (Told self.now.plain post.old post.new (left_battle_letters me.now (battle_of self.now.plain me.now))) }
-        ensures number { IfOk result (λ number. number ≡ number_of (Some me.now) self.now.plain.battles) }
-        ensures only { IfOk result (λ number. IsOnly self.now.plain.battles number me.now) }
+        ensures number { IfOk result (λ number. number ≡ first_of (battle_of self.now.plain me.now)) }
+        ensures only { IfOk result (λ number. IsOnly (has_member me.now) self.now.plain.battles number) }
         ensures there { (own : ℕ × Battle) → battle_of self.now.plain me.now ≡ Some own → at_number self.now.plain.battles own.0 ≡ Some own.1 }
     {
         let Some((number, battle)) = self.battle_of(me) else {
@@ -157,10 +162,11 @@ fn seat_of(
     place: usize,
     account: &Account,
     cpu: i64,
+    authorises: bool,
 ) -> Result<Seat, AllocError>
     ensures here { IfOk result (λ seat. seat.client ≡ client) }
     ensures outside { IfOk result (λ seat. seat.battle ≡ None) }
-    ensures user { IfOk result (λ seat. user_in seat ≡ user_of account.now cpu) }
+    ensures user { IfOk result (λ seat. user_in seat ≡ user_of account.now cpu authorises) }
 {
     Ok(Seat {
         client,
@@ -169,6 +175,7 @@ fn seat_of(
         cpu,
         account: account.id(),
         status: UserStatus::of_account(account.rank(), account.access(), account.bot()),
+        authorises,
         battle: None,
     })
 }

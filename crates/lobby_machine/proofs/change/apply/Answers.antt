@@ -10,7 +10,7 @@ use Rattle.lobby_machine.specs.declared.seats.Seat.{Seat}
 use Rattle.lobby_machine.specs.Battles.{AreSeated}
 use Rattle.lobby_machine.proofs.Seated.{seated_changed, seated_added, seated_gone}
 use Rattle.lobby_post.specs.Mail.{plain, parted}
-use Rattle.lobby_machine.specs.Changes.{CanBe, IsFresh, left_own}
+use Rattle.lobby_machine.specs.Changes.{CanBe, IsFresh, left_own, unasked_own}
 use Rattle.lobby_machine.specs.Seats.{Agree, IsListed, IsSet, seat_with, user_in, users_of, where_some, without_one}
 use Rattle.lobby_machine.proofs.Agreed.{agree_changed, agree_log_in, users_changed, users_added, no_seat, agree_parted, listed_log_in, listed_undone, listed_parted, users_left}
 use Rattle.lobby_machine.proofs.Lists.{known_same, left_parted, left_same, waits_same}
@@ -33,16 +33,16 @@ returns-in-Status-clause-seated c =
     subst (λ (seats : ByName Seat). AreSeated c.args.battles.now.by_number.entries seats) (sym c.set_status.ensures.users)
     (seated_changed c.args.battles.now.by_number.entries c.args.seats.now.users.entries c.requires.seated c.in-Status.name (seat_with c.in-Status.status) (λ x. refl))
 
--- it is its user who logs out of a client, and leaves its battle
+-- it is its user who logs out of a client, and drops and leaves what is its own
 abbrev out : (m : ByNumber Client) (users : ByName User) (channels : Channels) (battles : ByNumber Battle) (c : ℕ) (change : Change)
-    (name : Option (List ℕ)) (battle : Option ℕ) (stays : Bool) → change ≡ LogOut name battle stays → CanBe m users channels battles c change
-    → CanBe m users channels battles c (LogOut name battle stays)
-out m users channels battles c change name battle stays is can = subst (λ (x : Change). CanBe m users channels battles c x) is can
+    (name : Option (List ℕ)) (asks battle : Option ℕ) (stays : Bool) → change ≡ LogOut name asks battle stays → CanBe m users channels battles c change
+    → CanBe m users channels battles c (LogOut name asks battle stays)
+out m users channels battles c change name asks battle stays is can = subst (λ (x : Change). CanBe m users channels battles c x) is can
 
 pub returns-in-LogOut-clause-agree : goal.returns-in-LogOut-clause-agree
 returns-in-LogOut-clause-agree c =
     let m : ByNumber Client = plain c.args.clients.now.slots in
-    let mine : c.in-LogOut.name ≡ name_at m c.args.client = (out m _ _ _ c.args.client c.args.change _ _ _ c.in-LogOut.is c.requires.can).0 in
+    let mine : c.in-LogOut.name ≡ name_at m c.args.client = (out m _ _ _ c.args.client c.args.change _ _ _ _ c.in-LogOut.is c.requires.can).0 in
     subst (λ (n : ByNumber Client). Agree n c.remove.new.self.users.entries) (sym c.part.ensures.clients)
     (subst (λ (seats : ByName Seat). Agree (parted m c.args.client c.in-LogOut.stays) seats)
     (sym (c.remove.ensures.users ∙ ap (λ me. where_some without_one me c.args.seats.now.users.entries) mine))
@@ -53,9 +53,9 @@ returns-in-LogOut-clause-seated c =
     let m : ByNumber Client = plain c.args.clients.now.slots in
     subst (λ (seats : ByName Seat). AreSeated c.leave_all.new.battles.by_number.entries seats) (sym c.remove.ensures.users)
     (subst (λ (bs : ByNumber Battle). AreSeated bs (where_some without_one c.in-LogOut.name c.args.seats.now.users.entries)) (sym (c.leave_all.ensures.battles
-    ∙ ap (λ me. left_own me c.in-LogOut.battle c.args.battles.now.by_number.entries) c.as_ref.ensures.value))
-    (seated_gone c.args.battles.now.by_number.entries c.args.seats.now.users.entries c.requires.seated c.in-LogOut.name c.in-LogOut.battle
-    (out m _ _ _ c.args.client c.args.change _ _ _ c.in-LogOut.is c.requires.can).1))
+    ∙ ap (λ me. left_own me c.in-LogOut.battle (unasked_own me c.in-LogOut.asks c.args.battles.now.by_number.entries)) c.as_ref.ensures.value))
+    (seated_gone c.args.battles.now.by_number.entries c.args.seats.now.users.entries c.requires.seated c.in-LogOut.name c.in-LogOut.asks c.in-LogOut.battle
+    (out m _ _ _ c.args.client c.args.change _ _ _ _ c.in-LogOut.is c.requires.can).1))
 
 pub returns-in-LogOut-clause-listed : goal.returns-in-LogOut-clause-listed
 returns-in-LogOut-clause-listed c = λ listed.
@@ -111,11 +111,14 @@ returns-in_err-add-in-LogIn-clause-listed c = λ listed.
     listed_undone m c.args.seats.now.clients.keys c.add.new.self.clients.keys c.args.client fresh.nobody set listed
 
 pub apply-requires : goal.apply-requires
-apply-requires c = (
-  plain c.args.clients.now.slots,
-  c.requires.agree,
-  subst (λ (x : Change). CanBe (plain c.args.clients.now.slots) (users_of c.args.seats.now.users.entries) c.args.channels.now c.args.battles.now.by_number.entries c.args.client x) c.in-InBattles.is c.requires.can,
-)
+apply-requires c = record {
+  can = (
+    plain c.args.clients.now.slots,
+    c.requires.agree,
+    subst (λ (x : Change). CanBe (plain c.args.clients.now.slots) (users_of c.args.seats.now.users.entries) c.args.channels.now c.args.battles.now.by_number.entries c.args.client x) c.in-InBattles.is c.requires.can,
+  );
+  seated = c.requires.seated;
+}
 
 pub returns-in-Nothing-clause-waits : goal.returns-in-Nothing-clause-waits
 returns-in-Nothing-clause-waits c = λ home within. left_same c.args.clients.now home _ refl

@@ -1,9 +1,10 @@
 use Rattle.std.proofs.Common.{rules}
-use Rattle.battle_room.proofs.Named.{index_left, members_left}
+use Rattle.battle_room.specs.Room as room
+use Rattle.battle_room.proofs.Named.{index_left, values_left}
 use Rattle.battle_room.proofs.members.Members.remove.Goals as goal
 
 pub invariant_of-self : goal.invariant_of-self
-invariant_of-self c = index_left c.args.name.now c.self.inside.by_name.entries _ c.self.invariant (search rules)
+invariant_of-self c = index_left (λ (m : room.Member). m.name) c.args.name.now c.self.inside.by_name.entries _ c.self.invariant (search rules)
 
 pub returns : goal.returns
-returns c = members_left c.args.name.now c.self.inside.by_name.entries _ c.self.invariant (search rules) c.args.self.now c.self.view_is c.len.ensures.unique
+returns c = values_left (λ (m : room.Member). m.name) c.args.name.now c.self.inside.by_name.entries _ c.self.invariant (search rules) c.args.self.now c.self.view_is c.len.ensures.unique

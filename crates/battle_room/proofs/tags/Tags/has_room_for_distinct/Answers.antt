@@ -1,20 +1,21 @@
 use Rattle.std.proofs.Common.{◌≡◌, ◌∙◌, ◌+◌, ◌<◌, ap, sym, rules, arith, take, length, cond, true, false}
 use Rattle.std.specs.Prelude.{ℕ, Bool, ◌||◌}
 use Rattle.battle_room.specs.Tags.{has_tag, with_tags}
-use Rattle.battle_room.proofs.Tagged.{counted, first_within, over_limit}
+use Rattle.battle_room.proofs.Counted.{counted, first_within, over_limit}
+use Rattle.battle_room.proofs.Tagged.{tags_set}
 use Rattle.battle_room.proofs.tags.Tags.has_room_for_distinct.Goals as goal
 use Rattle.battle_room.proofs.tags.Tags.has_room_for_distinct.Goals.{then-not-has_bytes+then-not-has_key, else-not-has_bytes, else-not-has_bytes-via-then-not-has_bytes+else-not-has_key, else-not-has_bytes-via-else-not-has_bytes}
 
 pub returns-then-count-gt-TAG_LIMIT : goal.returns-then-count-gt-TAG_LIMIT
 returns-then-count-gt-TAG_LIMIT c =
-    let within = first_within c.args.self.now c.args.pairs.now c.loop-k.k in
+    let within = first_within tags_set c.args.self.now c.args.pairs.now c.loop-k.k in
     let over : 512 < length (with_tags c.args.self.now c.args.pairs.now) = omega (arith, c.loop-k.invariant) in
-    over_limit _ over
+    over_limit 512 _ over
 
 pub loop-k-preserved : goal.loop-k-preserved
 loop-k-preserved c =
     let size = length (with_tags c.args.self.now (take c.loop-k.k c.args.pairs.now)) in
-    let step = counted c.args.self.now c.args.pairs.now c.loop-k.k c.index-pairs-k.result (search rules) c.index-pairs-k.is in
+    let step = counted tags_set c.args.self.now c.args.pairs.now c.loop-k.k c.index-pairs-k.result (search rules) c.index-pairs-k.is in
     let set : c.has_bytes.result ≡ has_tag c.index-pairs-k.result.key c.args.self.now = search rules in
     elim c.if-not-has_bytes.branch [
       | then-not-has_bytes+then-not-has_key w ↦

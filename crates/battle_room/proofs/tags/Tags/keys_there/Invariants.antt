@@ -1,9 +1,11 @@
 use Rattle.std.proofs.Common.{◌≡◌, ◌++◌, drop, map}
-use Rattle.battle_room.specs.Tags.{keys_there, without_tags}
+use Rattle.battle_room.specs.Tags.{keys_there}
+use Rattle.battle_room.proofs.Picked.{past_all}
+use Rattle.battle_room.proofs.Tagged.{keys_picked}
 use Rattle.battle_room.proofs.tags.Tags.keys_there.Given as goal
 
 abbrev pub invariant-loop-key : goal.invariant-loop-key
 invariant-loop-key l = record {
-  found : l.there.items ++ keys_there (without_tags l.self l.there.items) (drop l.key-index l.keys) ≡ keys_there l.self l.keys;
+  found : l.there.items ++ keys_there (past_all keys_picked l.self l.there.items) (drop l.key-index l.keys) ≡ keys_there l.self l.keys;
   seen : map (λ key. key.now) l.seen.keys ≡ l.there.items;
 }

@@ -7,6 +7,7 @@ use Rattle.lobby_model.specs.Commands.{answer}
 use Rattle.lobby_model.specs.Outcome.{Outcome}
 use Rattle.lobby_model.specs.Rooms.{force_colour}
 use Rattle.lobby_machine.specs.Answers.{Answers}
+use Rattle.lobby_model.specs.Battles.{deny}
 use Rattle.lobby_machine.proofs.maps.Maps.answer_on_member.Goals as goal
 
 pub returns-in-Handicap : goal.returns-in-Handicap
@@ -46,3 +47,9 @@ force-requires-in-ForceAllyNo c =
     let kinds = subst (λ (x : Command). IsTrue (keeps_kinds x)) c.in-ForceAllyNo.is c.requires.kinds in
     let small = leb-true c.in-ForceAllyNo.number 15 (and_parts (is_name c.in-ForceAllyNo.user) (is_up_to 15 c.in-ForceAllyNo.number) kinds).1 in
     omega arith
+
+pub returns-in-JoinBattleDeny : goal.returns-in-JoinBattleDeny
+returns-in-JoinBattleDeny c =
+    subst (λ (outcome : Outcome). Answers c.args.self.now.plain c.args.client c.args.post.now c.deny.new.post outcome c.deny.result)
+    (ap (deny c.args.self.now.plain c.args.me.now c.in-JoinBattleDeny.user) c.as_ref.ensures.value
+    ∙ sym (ap (answer c.args.self.now.plain c.args.client (Some c.args.me.now)) c.in-JoinBattleDeny.is)) c.deny.ensures

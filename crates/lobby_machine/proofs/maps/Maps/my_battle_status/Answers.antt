@@ -3,7 +3,7 @@ use Rattle.std.proofs.lemmas.Int.{to_z-of_z}
 use Rattle.std.specs.Prelude.{is_some}
 use Rattle.status_bits.specs.Fields.{merge}
 use Rattle.status_bits.specs.BattleWord.{battle_table}
-use Rattle.battle_room.specs.Room.{has_member, status_in, status_of}
+use Rattle.battle_room.specs.Room.{Member, has_member, status_in, status_of}
 use Rattle.battle_room.proofs.Named.{found_is_among}
 use Rattle.lobby_model.specs.State.{Battle}
 use Rattle.lobby_model.specs.Battles.{set_own_status}
@@ -13,7 +13,7 @@ use Rattle.lobby_machine.proofs.maps.Maps.my_battle_status.Goals as goal
 
 pub unreachable-requires : goal.unreachable-requires
 unreachable-requires c =
-    let no : false ≡ true = ap is_some c.in-None.ensures ∙ found_is_among c.args.me.now c.battle.inside.room.members
+    let no : false ≡ true = ap is_some c.in-None.ensures ∙ found_is_among (λ (m : Member). m.name) c.args.me.now c.battle.inside.room.members
     ∙ ap (λ (b : Battle). has_member c.args.me.now b.room) c.battle.view_is
     ∙ is_member c.args.self.now.plain c.args.me.now c.in_ok-number.number c.in_ok-number.battle.now c.in_ok-number.ensures.ok in
     absurd (cc)

@@ -1,0 +1,13 @@
+use Rattle.std.proofs.Common.{◌∙◌, ap, sym, subst}
+use Rattle.std.specs.Prelude.{ℕ, List, map}
+use Rattle.std.specs.List.{IsDistinct}
+use Rattle.std.specs.Map.{values_of}
+use Rattle.line_words.specs.Table.{same_name}
+use Rattle.battle_room.specs.Room as room
+use Rattle.battle_room.proofs.Indexed.{distinct_values}
+use Rattle.battle_room.proofs.askers.Askers.as_slice.Goals as goal
+
+pub returns-clause-distinct : goal.returns-clause-distinct
+returns-clause-distinct c =
+    subst (λ (ms : List room.Asker). IsDistinct same_name (map (λ a. a.name) ms)) (sym (c.as_slice-2.ensures ∙ c.values.ensures.rest ∙ ap values_of c.as_slice.ensures.entries))
+    (distinct_values (λ (name : List ℕ). name) (λ (a : room.Asker). a.name) c.self.inside.by_name.entries c.self.invariant c.as_slice.ensures.unique)
