@@ -2,3 +2,4 @@ pub mod Ended
 pub mod Follows
 pub mod Feeding
 pub mod Read
+pub mod Tagged

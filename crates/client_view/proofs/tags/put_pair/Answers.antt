@@ -4,7 +4,7 @@ use Rattle.std.specs.List.{position}
 use Rattle.std.proofs.lemmas.List.Quantifiers.{position-Some}
 use Rattle.line_words.specs.declared.lists.Pair.{Pair}
 use Rattle.line_words.specs.Table.{same_name}
-use Rattle.battle_room.proofs.Tagged.{in_place, at_end, none_there}
+use Rattle.client_view.proofs.Tagged.{in_place, at_end, none_there}
 use Rattle.client_view.proofs.tags.put_pair.Goals as goal
 
 pub returns-in-Some-clause-ok : goal.returns-in-Some-clause-ok
