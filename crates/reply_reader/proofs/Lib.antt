@@ -1,11 +1,5 @@
-pub mod Pieces
-pub mod Naturals
-pub mod NumberFields
-pub mod Several
 pub mod Rows
 pub mod Whole
-pub mod Signed
-pub mod Many
 pub mod Dispatch
 pub mod Named
 pub mod Behind

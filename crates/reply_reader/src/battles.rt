@@ -2,12 +2,13 @@
 
 ghost use Rattle.reply_grammar.specs.declared.command_word.CommandWord.TheVariants as command;
 ghost use Rattle.reply_reader.specs.Lines.{read_arguments};
-ghost use Rattle.reply_reader.specs.Reading.{Gives};
+ghost use Rattle.reply_fields.specs.Fields.{Gives};
 
-use crate::error::ReadError;
-use crate::fields::{ended, name_at, optional_at, sentence_at, word_at};
-use crate::numbers::{battle_at, flag_at, small_at, u16_at, wide_at};
 use crate::shapes::{nothing, only_battle, only_text};
+use reply_fields::{
+    ReadError, battle_at, ended, flag_at, name_at, optional_at, sentence_at, small_at, u16_at,
+    wide_at, word_at,
+};
 use reply_grammar::Reply;
 use std::alloc::Global;
 

@@ -2,13 +2,10 @@
 
 ghost use Rattle.reply_grammar.specs.declared.command_word.CommandWord.TheVariants as command;
 ghost use Rattle.reply_reader.specs.Lines.{read_arguments};
-ghost use Rattle.reply_reader.specs.Reading.{Gives};
+ghost use Rattle.reply_fields.specs.Fields.{Gives};
 
-use crate::error::ReadError;
-use crate::fields::{ended, name_at};
-use crate::lists::names_at;
-use crate::numbers::u32_at;
 use crate::shapes::{name_and_text, nothing, only_name, two_names, two_names_and_text};
+use reply_fields::{ReadError, ended, name_at, names_at, u32_at};
 use reply_grammar::Reply;
 use std::alloc::Global;
 

@@ -7,12 +7,11 @@ ghost use Rattle.reply_reader.specs.Heads.{with_id};
 ghost use Rattle.reply_reader.specs.Lines.{read_arguments, read_body, read_line, read_numbered};
 
 use crate::command_words::named;
-use crate::error::ReadError;
-use crate::numbers::id_of;
 use crate::reading::arguments;
 use crate::session::status_of;
 use crate::shapes::two_names_and_text;
 use line_words::{NameBuf, TextBuf, split_at_byte};
+use reply_fields::{ReadError, id_of};
 use reply_grammar::{CommandWord, Reply};
 use std::alloc::{AllocError, Global};
 

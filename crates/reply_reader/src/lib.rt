@@ -6,12 +6,8 @@
 mod battles;
 mod channels;
 mod command_words;
-mod error;
-mod fields;
 mod heads;
 mod laws;
-mod lists;
-mod numbers;
 mod reading;
 mod room;
 mod session;

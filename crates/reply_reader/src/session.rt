@@ -3,13 +3,11 @@
 ghost use Rattle.reply_grammar.specs.declared.Reply.TheVariants as reply;
 ghost use Rattle.reply_grammar.specs.declared.command_word.CommandWord.TheVariants as command;
 ghost use Rattle.reply_reader.specs.Lines.{read_arguments};
-ghost use Rattle.reply_reader.specs.Reading.{Gives};
+ghost use Rattle.reply_fields.specs.Fields.{Gives};
 
-use crate::error::ReadError;
-use crate::fields::{ended, name_at, word_at};
-use crate::numbers::{small_at, u16_at, u32_at, wide_at};
 use crate::shapes::{nothing, only_name, only_text};
 use line_words::NameBuf;
+use reply_fields::{ReadError, ended, name_at, small_at, u16_at, u32_at, wide_at, word_at};
 use reply_grammar::Reply;
 use std::alloc::Global;
 

@@ -2,13 +2,12 @@
 
 ghost use Rattle.std.specs.Prelude.{[], ◌∷◌};
 ghost use Rattle.reply_grammar.specs.Kinds.{Name, Text};
-ghost use Rattle.reply_reader.specs.Reading.{Gives, shaped};
+ghost use Rattle.reply_fields.specs.Fields.{Gives};
+ghost use Rattle.reply_reader.specs.Reading.{shaped};
 ghost use Rattle.reply_grammar.specs.Replies.{battle_number};
 
-use crate::error::ReadError;
-use crate::fields::{ended, name_at, text_at};
-use crate::numbers::battle_at;
 use line_words::{NameBuf, TextBuf};
+use reply_fields::{ReadError, battle_at, ended, name_at, text_at};
 use std::alloc::Global;
 
 #[tactic(auto, unfolding(crate::specs::Reading::shaped))]

@@ -8,10 +8,10 @@ use Rattle.std.proofs.lemmas.Int.{ints}
 use Rattle.line_words.specs.Bytes.{is_digit}
 use Rattle.line_words.specs.Numbers.{IsNumeral, is_digits, value_of}
 use Rattle.reply_grammar.proofs.Decimals.{all_digits}
-use Rattle.reply_reader.specs.Reading.{◌>>=◌, begins_with, is_canonical, is_plain, natural, negative, number_in, whole}
+use Rattle.reply_fields.specs.Fields.{◌>>=◌, begins_with, is_canonical, is_plain, natural, negative, number_in, whole}
 use Rattle.line_words.specs.Kinds.{is_wide}
-use Rattle.reply_reader.proofs.Pieces.{bind_some, some_is}
-use Rattle.reply_reader.proofs.Naturals.{digits_read, natural_takes}
+use Rattle.reply_fields.proofs.Pieces.{bind_some, some_is}
+use Rattle.reply_fields.proofs.Naturals.{digits_read, natural_takes}
 
 pub minus : (n : ℕ) (z : ℤ) → negative n ≡ Some z → (z ≡ neg_ℤ (pos n)) × (0 < n)
 minus zero z e = absurd cc

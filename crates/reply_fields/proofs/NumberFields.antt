@@ -8,9 +8,9 @@ use Rattle.line_words.specs.Bytes.{is_word_byte, is_digit}
 use Rattle.line_words.specs.Parts.{Ends}
 use Rattle.line_words.specs.Kinds.{is_wide}
 use Rattle.reply_grammar.proofs.Decimals.{all_digits, own, digits_words, signed_words}
-use Rattle.reply_reader.specs.Reading.{◌>>=◌, piece_at, number_in, number_at, wide_at, natural, negative, whole}
-use Rattle.reply_reader.proofs.Pieces.{bind_some, guard_some, some_is, piece_again, piece_takes}
-use Rattle.reply_reader.proofs.Naturals.{natural_again, natural_takes}
+use Rattle.reply_fields.specs.Fields.{◌>>=◌, piece_at, number_in, number_at, wide_at, natural, negative, whole}
+use Rattle.reply_fields.proofs.Pieces.{bind_some, guard_some, some_is, piece_again, piece_takes}
+use Rattle.reply_fields.proofs.Naturals.{natural_again, natural_takes}
 
 -- numbers
 

@@ -7,8 +7,8 @@ use Rattle.std.proofs.lemmas.Int.Digits.{digits_value-lt}
 use Rattle.std.proofs.lemmas.Fmt.{digits_decimal, digits_value-decimal, decimal-digits_value, decimal_nonempty, first_decimal, decimal_digit, length-decimal-le}
 use Rattle.line_words.specs.Numbers.{is_digits, value_of}
 use Rattle.reply_grammar.proofs.Decimals.{all_digits, own}
-use Rattle.reply_reader.specs.Reading.{is_plain, natural}
-use Rattle.reply_reader.proofs.Pieces.{guard_some}
+use Rattle.reply_fields.specs.Fields.{is_plain, natural}
+use Rattle.reply_fields.proofs.Pieces.{guard_some}
 
 -- up to ten digits have a value below 10 ^ 10
 pub value_small : (ds : List ℕ) → all_digits ds ≡ true → length ds ≤ 10 → value_of ds < 10000000000

@@ -1,44 +1,44 @@
 //! Reading one number, and the bytes behind it.
 
 ghost use Rattle.std.specs.Prelude.{◌≡◌, ◌≤◌, ℤ, ◌≤ℤ◌, IfErr, IfOk, Some, ◌==◌, not};
-ghost use Rattle.reply_reader.specs.Reading.{Gives, begins_with, flag_at, is_canonical, number_at, number_in, wide_at, whole};
+ghost use Rattle.reply_fields.specs.Fields.{Gives, begins_with, flag_at, is_canonical, number_at, number_in, wide_at, whole};
 
 use crate::error::ReadError;
 use crate::fields::piece_at;
 use line_words::read_number;
 
-/// The number of a battle.
-pub(crate) fn battle_at(bytes: &[u8]) -> Result<(u32, &[u8]), ReadError>
+/// The number of a battle, 1 to 2,147,483,647, behind one space.
+pub fn battle_at(bytes: &[u8]) -> Result<(u32, &[u8]), ReadError>
     ensures { Gives (λ x. (x.0, x.1.now)) result (number_at 1 2147483647 bytes.now) }
 {
     number_at(bytes, 1, 2147483647)
 }
 
-/// Any number of 32 bits.
-pub(crate) fn u32_at(bytes: &[u8]) -> Result<(u32, &[u8]), ReadError>
+/// A number of 32 bits, behind one space.
+pub fn u32_at(bytes: &[u8]) -> Result<(u32, &[u8]), ReadError>
     ensures { Gives (λ x. (x.0, x.1.now)) result (number_at 0 4294967295 bytes.now) }
 {
     number_at(bytes, 0, u32::MAX)
 }
 
-/// Any number of 16 bits.
-pub(crate) fn u16_at(bytes: &[u8]) -> Result<(u16, &[u8]), ReadError>
+/// A number of 16 bits, behind one space.
+pub fn u16_at(bytes: &[u8]) -> Result<(u16, &[u8]), ReadError>
     ensures { Gives (λ x. (x.0, x.1.now)) result (number_at 0 65535 bytes.now) }
 {
     let (number, rest) = number_at(bytes, 0, 65535)?;
     Ok((number as u16, rest))
 }
 
-/// A number from 0 to `high`.
-pub(crate) fn small_at(bytes: &[u8], high: u8) -> Result<(u8, &[u8]), ReadError>
+/// A number from 0 to `high`, behind one space.
+pub fn small_at(bytes: &[u8], high: u8) -> Result<(u8, &[u8]), ReadError>
     ensures { Gives (λ x. (x.0, x.1.now)) result (number_at 0 high bytes.now) }
 {
     let (number, rest) = number_at(bytes, 0, high as u32)?;
     Ok((number as u8, rest))
 }
 
-/// A message id.
-pub(crate) fn id_of(word: &[u8]) -> Option<u32>
+/// A message id, 0 to 2,147,483,647, that is the whole word, or `None`.
+pub fn id_of(word: &[u8]) -> Option<u32>
     ensures { result ≡ number_in 0 2147483647 word.now }
 {
     match number_in(word, 0, 2147483647) {
@@ -47,7 +47,7 @@ pub(crate) fn id_of(word: &[u8]) -> Option<u32>
     }
 }
 
-#[tactic(auto, unfolding(crate::specs::Reading::number_at))]
+#[tactic(auto, unfolding(crate::specs::Fields::number_at))]
 fn number_at(bytes: &[u8], low: u32, high: u32) -> Result<(u32, &[u8]), ReadError>
     ensures value { Gives (λ x. (x.0, x.1.now)) result (number_at low high bytes.now) }
     ensures range { IfOk result (λ x. (low ≤ x.0) × (x.0 ≤ high)) }
@@ -65,9 +65,9 @@ fn number_in(word: &[u8], low: u32, high: u32) -> Result<u32, ReadError>
     Ok(number as u32)
 }
 
-/// A number of either sign and 32 bits.
-#[tactic(auto, unfolding(crate::specs::Reading::wide_at))]
-pub(crate) fn wide_at(bytes: &[u8]) -> Result<(i64, &[u8]), ReadError>
+/// A number of either sign and 32 bits, from -2,147,483,648 to 4,294,967,295, behind one space.
+#[tactic(auto, unfolding(crate::specs::Fields::wide_at))]
+pub fn wide_at(bytes: &[u8]) -> Result<(i64, &[u8]), ReadError>
     ensures { Gives (λ x. (x.0, x.1.now)) result (wide_at bytes.now) }
 {
     let (word, rest) = piece_at(bytes, b' ', b' ')?;
@@ -75,9 +75,9 @@ pub(crate) fn wide_at(bytes: &[u8]) -> Result<(i64, &[u8]), ReadError>
     Ok((number, rest))
 }
 
-/// 0 or 1.
-#[tactic(auto, unfolding(crate::specs::Reading::flag_at))]
-pub(crate) fn flag_at(bytes: &[u8]) -> Result<(bool, &[u8]), ReadError>
+/// A flag, 0 or 1, behind one space.
+#[tactic(auto, unfolding(crate::specs::Fields::flag_at))]
+pub fn flag_at(bytes: &[u8]) -> Result<(bool, &[u8]), ReadError>
     ensures { Gives (λ x. (x.0, x.1.now)) result (flag_at bytes.now) }
 {
     let (number, rest) = number_at(bytes, 0, 1)?;
