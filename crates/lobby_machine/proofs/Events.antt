@@ -11,10 +11,10 @@ use Rattle.lobby_model.specs.Outcome.{nothing, letters_of, lines_for, state_afte
 use Rattle.lobby_model.specs.Commands.{answer}
 use Rattle.lobby_model.specs.Events.{effect, reader_of, under}
 use Rattle.lobby_model.specs.Next.{next}
-use Rattle.lobby_machine.specs.declared.change.Change.{Change}
+use Rattle.lobby_maps.specs.declared.change.Change.{Change}
 use Rattle.lobby_post.specs.Posted.{Posted, begun}
 use Rattle.lobby_post.specs.Mail.{IsWakes}
-use Rattle.lobby_machine.specs.Changes.{changed}
+use Rattle.lobby_maps.specs.Changes.{changed}
 use Rattle.lobby_machine.specs.Answers.{Obeyed, Matches}
 
 module _ (s : State) (c : ℕ) (request : Request) where

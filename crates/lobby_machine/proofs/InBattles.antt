@@ -16,7 +16,6 @@ use Rattle.line_words.specs.Bytes.{is_word, is_word_byte}
 use Rattle.reply_grammar.proofs.Bytes.{all_append}
 use Rattle.reply_grammar.proofs.Decimals.{own, digits_words}
 use Rattle.line_words.specs.Table.{ByName, ByNumber, at_name, at_number, change_number, without_number, same_name, same_number}
-use Rattle.line_words.proofs.Tables.{same_name_itself}
 use Rattle.battle_room.specs.Room.{Bot, asker_names, bots_of, has_member, member_names, status_of, with_member, without_member}
 use Rattle.status_bits.specs.Fields.{merge}
 use Rattle.status_bits.specs.BattleWord.{battle_table}
@@ -25,40 +24,25 @@ use Rattle.lobby_model.specs.Texts.{already_asking, already_in_battle, battle_wa
 use Rattle.lobby_model.specs.Outcome.{Letter, Outcome, Reader, Refused, message, done, everyone, is_named, lines_for, refuse_if, tell, user, users}
 use Rattle.lobby_model.specs.Events.{reader_of, under}
 use Rattle.lobby_model.specs.Battles.{asks_no_more, asks_to_join, change_room, closes, is_authorising, joining, joins_or_asks, leave_or_drop, member_leaves, join_battle, if_there, lets_in, in_battle, in_own, in_room, ip_text, is_founder, leaves_battle, leave_battle, member_has, open_battle, opened_line, opens, say_in_battle, set_own_status}
-use Rattle.lobby_model.proofs.Delivered.{same_number_is}
 use Rattle.lobby_post.specs.Mail.{bytes_for}
-use Rattle.lobby_post.specs.Posted.{Posted, Reaches, Told, addressed, blank, has_number, with_own}
+use Rattle.lobby_post.specs.Posted.{Posted, Reaches, Told, blank, with_own}
 use Rattle.lobby_post.proofs.Telling.{told_nothing, told_own, told_then}
-use Rattle.lobby_machine.specs.declared.seats.Seat.{Seat}
 use Rattle.lobby_machine.specs.declared.rules.battles.Leaving.{Leaving}
 use Rattle.lobby_machine.specs.declared.rules.battles.Leaving.TheVariants.{Seen, Unseen}
-use Rattle.lobby_machine.specs.declared.battles.BattleChange.TheVariants.{Open, Join, Ask, Leave}
-use Rattle.lobby_machine.specs.declared.change.Change.{Change}
-use Rattle.lobby_machine.specs.declared.change.Change.TheVariants.{Nothing, InBattles}
-use Rattle.lobby_machine.specs.Seats.{Agree, client_in}
+use Rattle.lobby_maps.specs.declared.battles.BattleChange.TheVariants.{Open, Join, Ask, Leave}
+use Rattle.lobby_maps.specs.declared.change.Change.{Change}
+use Rattle.lobby_maps.specs.declared.change.Change.TheVariants.{Nothing, InBattles}
+use Rattle.lobby_maps.specs.Seats.{IsOwn}
 use Rattle.lobby_machine.specs.Answers.{Obeyed}
-use Rattle.lobby_machine.specs.Battles.{CanEnter, IsNew, left_at, room_changed}
+use Rattle.lobby_maps.specs.Battles.{CanEnter, IsNew, left_at, room_changed}
 use Rattle.lobby_machine.specs.BattleTalk.{bots_gone, shown, shown_to, status_change, stops_asking}
-use Rattle.lobby_machine.proofs.Walks.{reaches_user}
 
--- one whose event it is, and who is logged in, is the one who gets its own lines
-own_client : (seats : ByName Seat) (s : State) (c : ℕ) (me : List ℕ) → Agree s.clients seats → name_of s c ≡ Some me
-    → client_in (at_name seats me) ≡ c ∷ []
-own_client seats s c me agree mine =
-    elim (at_name seats me) as (λ o. has_number (client_in o) c ≡ true → client_in o ≡ c ∷ []) [
-      | None ↦ λ h. absurd (cc)
-      | Some seat ↦ λ h. ap (λ d. d ∷ []) (sym (same_number_is c seat.client (elim (same_number c seat.client) as (λ b. b
-          ≡ (b || false)) [ true ↦ refl | false ↦ refl ] ∙ h)))
-    ] (agree me c ∙ ap (is_named (same_name me)) mine ∙ same_name_itself me)
-
-pub told_own_user : (s : State) (seats : ByName Seat) (old mid new : Posted) (me : List ℕ) (lines : List Reply) → Agree s.clients seats
-    → name_of s old.issuer ≡ Some me → mid ≡ with_own (blank old) lines → new ≡ addressed mid (client_in (at_name seats me))
+-- one whose event it is gets its own lines
+pub told_own_user : (s : State) (old mid new : Posted) (me : List ℕ) (lines : List Reply) → IsOwn s mid new me → mid ≡ with_own (blank old) lines
     → Told s old new (tell (user me) lines ∷ [])
-told_own_user s seats old mid new me lines agree mine written is =
-    let here : client_in (at_name seats me) ≡ old.issuer ∷ [] = own_client seats s old.issuer me agree mine in
+told_own_user s old mid new me lines sent written =
     told_own s old mid new _ _ written lines (user me)
-    (subst (λ cs. Reaches s old.issuer cs (user me)) here (reaches_user s old.issuer seats me agree))
-    (is ∙ ap (addressed mid) (here ∙ ap (λ (p : Posted). p.issuer ∷ []) (sym written))) refl
+    (subst (λ c. Reaches s c (c ∷ []) (user me)) (ap (λ (p : Posted). p.issuer) written) sent.0) sent.1 refl
 
 -- letters that give each client the same lines, and each reader
 pub told_same : (s : State) (a b : Posted) (xs ys : List Letter)

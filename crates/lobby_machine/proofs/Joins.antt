@@ -4,7 +4,7 @@ use Rattle.std.specs.Prelude.{Option, Some, None, if◌then◌else◌, ◌&&◌}
 use Rattle.reply_grammar.specs.declared.Reply.{Reply}
 use Rattle.reply_grammar.specs.declared.Reply.TheVariants as reply
 use Rattle.reply_grammar.specs.Replies.{print_all}
-use Rattle.line_words.specs.Table.{ByName, at_name, same_name, same_number}
+use Rattle.line_words.specs.Table.{same_name, same_number}
 use Rattle.line_words.proofs.Tables.{same_name_is}
 use Rattle.line_words.proofs.Once.{same_name_equiv}
 use Rattle.battle_room.specs.Room.{Room}
@@ -13,16 +13,14 @@ use Rattle.lobby_model.specs.Outcome.{is_named, lines_for, tell, user}
 use Rattle.lobby_model.specs.Events.{reader_of, under}
 use Rattle.lobby_model.specs.Battles.{bot_line, rect_line, room_lines, status_line}
 use Rattle.lobby_model.proofs.Delivered.{same_number_is}
-use Rattle.lobby_post.specs.Posted.{Posted, Told, addressed, blank, but_issuer}
+use Rattle.lobby_post.specs.Posted.{Posted, Sends, Told, blank, but_issuer}
 use Rattle.lobby_post.proofs.Telling.{print-append, told_lines_to_others, with_own_more}
 use Rattle.lobby_machine.specs.declared.rules.joining.Recipient.{Recipient}
 use Rattle.lobby_machine.specs.declared.rules.joining.Recipient.TheVariants.{Issuer, Other}
-use Rattle.lobby_machine.specs.declared.seats.Seat.{Seat}
-use Rattle.lobby_machine.specs.Seats.{Agree, client_in}
+use Rattle.lobby_maps.specs.Seats.{IsOwn}
 use Rattle.lobby_machine.specs.BattleTalk.{is_issuer, written}
 use Rattle.lobby_machine.proofs.InBattles.{told_own_user, told_same}
-use Rattle.lobby_machine.proofs.Rooms.{put_then}
-use Rattle.lobby_machine.proofs.Walks.{reaches_user}
+use Rattle.lobby_maps.proofs.Rooms.{put_then}
 
 pub written_more : (r : Recipient) (p : Posted) (xs ys : List Reply) → written r (written r p xs) ys ≡ written r p (xs ++ ys)
 written_more Issuer p xs ys = with_own_more p xs ys
@@ -53,18 +51,15 @@ not_named : (name : List ℕ) (o : Option (List ℕ)) → is_named (same_name na
 not_named name None h = refl
 not_named name (Some n) h = same_name_equiv.symm n name ∙ h
 
-pub told_recipient : (s : State) (seats : ByName Seat) (old mid new : Posted) (name : List ℕ) (lines : List Reply) (recipient : Recipient)
-    → Agree s.clients seats → is_named (same_name name) (name_of s old.issuer) ≡ is_issuer recipient
-    → mid ≡ written recipient (blank old) lines → new ≡ addressed mid (client_in (at_name seats name)) → Told s old new (tell (user name) lines ∷ [])
-told_recipient s seats old mid new name lines Issuer agree mine is at =
-    told_own_user s seats old mid new name lines agree (named_so name (name_of s old.issuer) mine) is at
-told_recipient s seats old mid new name lines Other agree other is at =
+pub told_recipient : (s : State) (old mid new : Posted) (name : List ℕ) (lines : List Reply) (recipient : Recipient)
+    → is_named (same_name name) (name_of s old.issuer) ≡ is_issuer recipient → mid ≡ written recipient (blank old) lines
+    → (name_of s mid.issuer ≡ Some name → IsOwn s mid new name) → Sends s mid new (user name) → Told s old new (tell (user name) lines ∷ [])
+told_recipient s old mid new name lines Issuer mine is own sends =
+    told_own_user s old mid new name lines
+    (own (ap (λ (p : Posted). name_of s p.issuer) is ∙ named_so name (name_of s old.issuer) mine)) is
+told_recipient s old mid new name lines Other other is own sends =
     told_same s old new (tell (but_issuer (user name)) lines ∷ []) (tell (user name) lines ∷ []) alike
-    (told_lines_to_others s old mid new _ _ is lines (user name) (record {
-      clients = client_in (at_name seats name);
-      reached = reaches_user s mid.issuer seats name agree;
-      is = at;
-    }) refl refl)
+    (told_lines_to_others s old mid new _ _ is lines (user name) sends refl refl)
   where
     alike : (d : ℕ) → lines_for (reader_of s old.issuer d) (tell (but_issuer (user name)) lines ∷ [])
         ≡ lines_for (reader_of s old.issuer d) (tell (user name) lines ∷ [])

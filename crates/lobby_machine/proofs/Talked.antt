@@ -9,9 +9,9 @@ use Rattle.lobby_model.specs.Outcome.{Happening, done, refuse_if, tell, user, us
 use Rattle.lobby_model.specs.Channels.{name_lines, join, joins, list_channels}
 use Rattle.lobby_post.specs.Posted.{Posted, Told, addressed, blank, with_own}
 use Rattle.lobby_post.proofs.Telling.{told_then, told_as_one, told_own_lines, with_own_more}
-use Rattle.lobby_machine.specs.declared.change.Change.{Change}
-use Rattle.lobby_machine.specs.declared.change.Change.TheVariants.{Nothing, Join}
-use Rattle.lobby_machine.specs.Changes.{CanBe, changed}
+use Rattle.lobby_maps.specs.declared.change.Change.{Change}
+use Rattle.lobby_maps.specs.declared.change.Change.TheVariants.{Nothing, Join}
+use Rattle.lobby_maps.specs.Changes.{CanBe, changed}
 use Rattle.lobby_machine.specs.Answers.{Obeyed}
 use Rattle.lobby_machine.specs.Talk.{channel_lines}
 

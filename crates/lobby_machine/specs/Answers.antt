@@ -2,19 +2,16 @@
 use Rattle.std.specs.Prelude.{◌≡◌, ℕ, List, Result, Ok, Err}
 use Rattle.reply_grammar.specs.declared.Reply.{Reply}
 use Rattle.reply_grammar.specs.declared.Reply.TheVariants as reply
-use Rattle.lobby_model.specs.declared.event.Event.{Event}
 use Rattle.lobby_model.specs.State.{State}
 use Rattle.lobby_model.specs.Texts.{fault_text, log_in_first, already_in, invalid_login, user_is_in, already_in_channel, not_in_channel, no_such_user, already_in_battle, already_asking, no_number_left, no_such_battle, battle_is_locked, wrong_password, not_in_battle, not_the_founder, no_such_request, no_such_member, cannot_kick_yourself, no_such_bot, not_your_bot, bot_name_taken, too_many_bots, too_many_tags, too_many_units}
 use Rattle.lobby_model.specs.Outcome.{Outcome, Refused, letters_of, state_after}
-use Rattle.lobby_model.specs.Next.{batch}
-use Rattle.lobby_post.specs.Mail.{bytes_for}
 use Rattle.lobby_post.specs.Posted.{Posted, Told}
 use Rattle.lobby_machine.specs.declared.refusal.Refusal.{Refusal}
 use Rattle.lobby_machine.specs.declared.refusal.Refusal.TheVariants.{Fault, LogInFirst, AlreadyIn, InvalidLogin, UserIsIn, AlreadyInChannel, NotInChannel, NoSuchUser, OpensInBattle, OpensAsking, NoNumberLeft, JoinsInBattle, JoinsAsking, NoSuchBattle, BattleIsLocked, WrongPassword, NotInBattle, NotTheFounder, NoSuchRequest, NoSuchMember, CannotKickYourself, NoSuchBot, NotYourBot, BotNameTaken, TooManyBots, TooManyTags, TooManyUnits}
 use Rattle.lobby_machine.specs.declared.refusal.Stop.{Stop}
 use Rattle.lobby_machine.specs.declared.refusal.Stop.TheVariants as stop
-use Rattle.lobby_machine.specs.declared.change.Change.{Change}
-use Rattle.lobby_machine.specs.Changes.{CanBe, changed}
+use Rattle.lobby_maps.specs.declared.change.Change.{Change}
+use Rattle.lobby_maps.specs.Changes.{CanBe, changed}
 
 -- why, in words
 abbrev pub refusal_text : Refusal → List ℕ
@@ -94,10 +91,6 @@ abbrev pub Answers : State → ℕ → Posted → Posted → Outcome → Result 
 Answers s c old new outcome (Ok done) = Obeyed s c old new done outcome
 Answers s c old new outcome (Err (stop.Refused refusal)) = Denied old new refusal outcome
 Answers s c old new outcome (Err stop.Memory) = Unit {0}
-
--- the pieces are those of an event
-abbrev pub Matches : State → Event → Posted → Type 0
-Matches s e post = (d : ℕ) → bytes_for post.sent d ≡ batch s e d
 
 -- why a guard stops: memory was refused, or its command is, and then this holds
 abbrev pub Refuses : Refusal → Type 0 → Stop → Type 0

@@ -19,10 +19,10 @@ use Rattle.lobby_machine.specs.declared.rules.rooms.Wording.{Wording}
 use Rattle.lobby_machine.specs.declared.rules.rooms.Wording.TheVariants.{TagsGone, UnitsDisabled, UnitsEnabled}
 use Rattle.lobby_machine.specs.declared.rules.rooms.Force.{Force}
 use Rattle.lobby_machine.specs.declared.rules.rooms.Force.TheVariants as force
-use Rattle.lobby_machine.specs.declared.battles.BattleChange.TheVariants.{InRoom, StopAsking}
-use Rattle.lobby_machine.specs.declared.battles.RoomChange.TheVariants as room
-use Rattle.lobby_machine.specs.declared.change.Change.{Change}
-use Rattle.lobby_machine.specs.declared.change.Change.TheVariants.{InBattles}
+use Rattle.lobby_maps.specs.declared.battles.BattleChange.TheVariants.{InRoom, StopAsking}
+use Rattle.lobby_maps.specs.declared.battles.RoomChange.TheVariants as room
+use Rattle.lobby_maps.specs.declared.change.Change.{Change}
+use Rattle.lobby_maps.specs.declared.change.Change.TheVariants.{InBattles}
 
 -- what happens as one leaves, as its lines are sent
 abbrev pub shown : Leaving → Happening → Happening

@@ -1,11 +1,6 @@
-pub mod Info
-pub mod Battles
-pub mod Seats
-pub mod Parts
 pub mod Shown
 pub mod Dirty
 pub mod Subjects
 pub mod Talk
-pub mod Changes
 pub mod Answers
 pub mod BattleTalk

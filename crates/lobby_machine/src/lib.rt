@@ -6,16 +6,9 @@
 //! before the first change alone, so that want of it changes nothing.
 #![tactic(auto)]
 
-mod battle;
-mod battles;
-mod change;
-mod entered;
-mod greeting;
 mod lobby;
-mod maps;
 mod refusal;
 mod rules;
-mod seats;
 
 pub use lobby::{Lobby, OpenError};
 pub use lobby_post::{Drained, Wakes};

@@ -9,12 +9,13 @@ ghost use Rattle.lobby_model.specs.State.{empty_lobby};
 ghost use Rattle.lobby_model.specs.Sessions.{has_place};
 ghost use Rattle.lobby_model.specs.Next.{next};
 ghost use Rattle.lobby_post.specs.Mail.{IsWakes};
-ghost use Rattle.lobby_machine.specs.Dirty.{DirtyAfter};
-ghost use Rattle.lobby_machine.specs.Shown.{dirty_at, unread_of, is_finished};
+ghost use Rattle.lobby_maps.specs.Dirty.{DirtyAfter};
+ghost use Rattle.lobby_maps.specs.Shown.{dirty_at, unread_of, is_finished};
 
-use crate::maps::{Maps, Place};
+use crate::rules;
 use account_book::AccountBook;
 use command_grammar::Request;
+use lobby_maps::{Maps, Place};
 use lobby_model::Settings;
 use lobby_post::{Drained, Post, Wakes};
 use std::alloc::{AllocError, Global};
@@ -45,7 +46,7 @@ pub struct Lobby {
 }
 
 impl Model for Lobby {
-    ghost use Rattle.lobby_machine.specs.Shown.{Shown};
+    ghost use Rattle.lobby_maps.specs.Shown.{Shown};
 
     ghost Value = { Shown };
 
@@ -101,9 +102,14 @@ impl Lobby {
         let Some(me) = self.maps.issuer(client) else {
             return Ok(Wakes::none());
         };
-        let change = self
-            .maps
-            .decide(client, me, request.id, &request.command, &mut self.post)?;
+        let change = rules::decide(
+            &self.maps,
+            client,
+            me,
+            request.id,
+            &request.command,
+            &mut self.post,
+        )?;
         self.maps.carry_out(client, change, &mut self.post)
     }
 
@@ -116,7 +122,7 @@ impl Lobby {
         ensures dirty { OnOk result ((home : ℕ) → home ≤ 63 → DirtyAfter self.old.plain (event.Shut client) home (dirty_at self.old home) (dirty_at self.new home)) }
         ensures err { OnErr result (self.new ≡ self.old) }
     {
-        let change = self.maps.close(client, &mut self.post)?;
+        let change = rules::close(&self.maps, client, &mut self.post)?;
         self.maps.carry_out(client, change, &mut self.post)
     }
 

@@ -9,97 +9,93 @@ ghost use Rattle.battle_room.specs.Units.{with_units};
 ghost use Rattle.lobby_model.specs.State.{asked_by, battle_of};
 ghost use Rattle.lobby_model.specs.Battles.{is_founder, lets_in};
 ghost use Rattle.lobby_machine.specs.Answers.{Refuses};
-ghost use Rattle.lobby_machine.specs.Battles.{AskOutside};
+ghost use Rattle.lobby_maps.specs.Battles.{AskOutside};
 ghost use Rattle.lobby_machine.specs.declared.refusal.Refusal.TheVariants.{OpensInBattle, OpensAsking, NoNumberLeft, JoinsInBattle, JoinsAsking, NoSuchBattle, BattleIsLocked, WrongPassword, NotInBattle, NotTheFounder, NoSuchRequest, NoSuchMember, CannotKickYourself, NoSuchBot, NotYourBot, BotNameTaken, TooManyBots, TooManyTags, TooManyUnits};
 
-use crate::battle::Battle;
-use crate::battles::LAST_NUMBER;
-use crate::maps::Maps;
 use crate::refusal::{Refusal, Stop};
 use battle_room::{Asker, Bot, Member};
 use line_words::{NameBuf, Pair, WordBuf};
+use lobby_maps::{Battle, LAST_NUMBER, Maps};
 
-impl Maps {
-    /// A user who opens a battle is in none.
-    pub fn may_open(&self, me: &NameBuf) -> Result<(), Stop>
-        ensures ok { IfOk result (λ _. battle_of self.now.plain me.now ≡ None) }
-        ensures err { IfErr result (Refuses OpensInBattle (is_some (battle_of self.now.plain me.now) ≡ true)) }
-    {
-        match self.battle_of(me) {
-            Some(_) => Err(Stop::Refused(Refusal::OpensInBattle)),
-            None => Ok(()),
-        }
+/// A user who opens a battle is in none.
+pub fn may_open(maps: &Maps, me: &NameBuf) -> Result<(), Stop>
+    ensures ok { IfOk result (λ _. battle_of maps.now.plain me.now ≡ None) }
+    ensures err { IfErr result (Refuses OpensInBattle (is_some (battle_of maps.now.plain me.now) ≡ true)) }
+{
+    match maps.battle_of(me) {
+        Some(_) => Err(Stop::Refused(Refusal::OpensInBattle)),
+        None => Ok(()),
     }
+}
 
-    /// A user who opens a battle asks to join none.
-    pub fn opens_unasked(&self, me: &NameBuf) -> Result<(), Stop>
-        ensures ok { IfOk result (λ _. asked_by self.now.plain me.now ≡ None) }
-        ensures err { IfErr result (Refuses OpensAsking (is_some (asked_by self.now.plain me.now) ≡ true)) }
-    {
-        match self.asked_by(me) {
-            Some(_) => Err(Stop::Refused(Refusal::OpensAsking)),
-            None => Ok(()),
-        }
+/// A user who opens a battle asks to join none.
+pub fn opens_unasked(maps: &Maps, me: &NameBuf) -> Result<(), Stop>
+    ensures ok { IfOk result (λ _. asked_by maps.now.plain me.now ≡ None) }
+    ensures err { IfErr result (Refuses OpensAsking (is_some (asked_by maps.now.plain me.now) ≡ true)) }
+{
+    match maps.asked_by(me) {
+        Some(_) => Err(Stop::Refused(Refusal::OpensAsking)),
+        None => Ok(()),
     }
+}
 
-    /// The number of the battle that is opened next.
-    pub fn next_number(&self) -> Result<u32, Stop>
-        ensures ok { IfOk result (λ number. (self.now.plain.last_battle == 2147483647) ≡ false) }
-        ensures number { IfOk result (λ number. number ≡ self.now.plain.last_battle + 1) }
-        ensures last { IfOk result (λ number. number ≤ 2147483647) }
-        ensures err { IfErr result (Refuses NoNumberLeft ((self.now.plain.last_battle == 2147483647) ≡ true)) }
-    {
-        if self.battles.last >= LAST_NUMBER {
-            Err(Stop::Refused(Refusal::NoNumberLeft))
-        } else {
-            Ok(self.battles.last + 1)
-        }
+/// The number of the battle that is opened next.
+pub fn next_number(maps: &Maps) -> Result<u32, Stop>
+    ensures ok { IfOk result (λ number. (maps.now.plain.last_battle == 2147483647) ≡ false) }
+    ensures number { IfOk result (λ number. number ≡ maps.now.plain.last_battle + 1) }
+    ensures last { IfOk result (λ number. number ≤ 2147483647) }
+    ensures err { IfErr result (Refuses NoNumberLeft ((maps.now.plain.last_battle == 2147483647) ≡ true)) }
+{
+    if maps.last_battle() >= LAST_NUMBER {
+        Err(Stop::Refused(Refusal::NoNumberLeft))
+    } else {
+        Ok(maps.last_battle() + 1)
     }
+}
 
-    /// A user who joins a battle is in none.
-    pub fn may_join(&self, me: &NameBuf) -> Result<(), Stop>
-        ensures ok { IfOk result (λ _. battle_of self.now.plain me.now ≡ None) }
-        ensures err { IfErr result (Refuses JoinsInBattle (is_some (battle_of self.now.plain me.now) ≡ true)) }
-    {
-        match self.battle_of(me) {
-            Some(_) => Err(Stop::Refused(Refusal::JoinsInBattle)),
-            None => Ok(()),
-        }
+/// A user who joins a battle is in none.
+pub fn may_join(maps: &Maps, me: &NameBuf) -> Result<(), Stop>
+    ensures ok { IfOk result (λ _. battle_of maps.now.plain me.now ≡ None) }
+    ensures err { IfErr result (Refuses JoinsInBattle (is_some (battle_of maps.now.plain me.now) ≡ true)) }
+{
+    match maps.battle_of(me) {
+        Some(_) => Err(Stop::Refused(Refusal::JoinsInBattle)),
+        None => Ok(()),
     }
+}
 
-    /// A user who joins a battle asks to join none.
-    pub fn joins_unasked(&self, me: &NameBuf) -> Result<(), Stop>
-        ensures ok { IfOk result (λ _. asked_by self.now.plain me.now ≡ None) }
-        ensures err { IfErr result (Refuses JoinsAsking (is_some (asked_by self.now.plain me.now) ≡ true)) }
-    {
-        match self.asked_by(me) {
-            Some(_) => Err(Stop::Refused(Refusal::JoinsAsking)),
-            None => Ok(()),
-        }
+/// A user who joins a battle asks to join none.
+pub fn joins_unasked(maps: &Maps, me: &NameBuf) -> Result<(), Stop>
+    ensures ok { IfOk result (λ _. asked_by maps.now.plain me.now ≡ None) }
+    ensures err { IfErr result (Refuses JoinsAsking (is_some (asked_by maps.now.plain me.now) ≡ true)) }
+{
+    match maps.asked_by(me) {
+        Some(_) => Err(Stop::Refused(Refusal::JoinsAsking)),
+        None => Ok(()),
     }
+}
 
-    /// The battle of a number.
-    pub fn battle_numbered(&self, number: u32) -> Result<&Battle, Stop>
-        ensures ok { IfOk result (λ battle. at_number self.now.plain.battles number ≡ Some battle.now) }
-        ensures err { IfErr result (Refuses NoSuchBattle (at_number self.now.plain.battles number ≡ None)) }
-    {
-        match self.battles.by_number.get(&number) {
-            Some(battle) => Ok(battle),
-            None => Err(Stop::Refused(Refusal::NoSuchBattle)),
-        }
+/// The battle of a number.
+pub fn battle_numbered(maps: &Maps, number: u32) -> Result<&Battle, Stop>
+    ensures ok { IfOk result (λ battle. at_number maps.now.plain.battles number ≡ Some battle.now) }
+    ensures err { IfErr result (Refuses NoSuchBattle (at_number maps.now.plain.battles number ≡ None)) }
+{
+    match maps.battle(number) {
+        Some(battle) => Ok(battle),
+        None => Err(Stop::Refused(Refusal::NoSuchBattle)),
     }
+}
 
-    /// The battle that a user is in, with its number.
-    pub fn own_battle(&self, me: &NameBuf) -> Result<(u32, &Battle), Stop>
-        ensures ok { IfOk result (λ own. battle_of self.now.plain me.now ≡ Some (own.0, own.1.now)) }
-        ensures there { IfOk result (λ own. at_number self.now.plain.battles own.0 ≡ Some own.1.now) }
-        ensures outside { IfOk result (λ own. AskOutside own.1.now.room) }
-        ensures err { IfErr result (Refuses NotInBattle (battle_of self.now.plain me.now ≡ None)) }
-    {
-        match self.battle_of(me) {
-            Some(own) => Ok(own),
-            None => Err(Stop::Refused(Refusal::NotInBattle)),
-        }
+/// The battle that a user is in, with its number.
+pub fn own_battle<'a>(maps: &'a Maps, me: &NameBuf) -> Result<(u32, &'a Battle), Stop>
+    ensures ok { IfOk result (λ own. battle_of maps.now.plain me.now ≡ Some (own.0, own.1.now)) }
+    ensures there { IfOk result (λ own. at_number maps.now.plain.battles own.0 ≡ Some own.1.now) }
+    ensures outside { IfOk result (λ own. AskOutside own.1.now.room) }
+    ensures err { IfErr result (Refuses NotInBattle (battle_of maps.now.plain me.now ≡ None)) }
+{
+    match maps.battle_of(me) {
+        Some(own) => Ok(own),
+        None => Err(Stop::Refused(Refusal::NotInBattle)),
     }
 }
 

@@ -12,21 +12,18 @@ ghost use Rattle.lobby_model.specs.Texts.{battle_was_closed};
 ghost use Rattle.lobby_model.specs.Commands.{answer};
 ghost use Rattle.lobby_post.specs.Posted.{Told};
 ghost use Rattle.lobby_machine.specs.Answers.{Answers};
-ghost use Rattle.lobby_machine.specs.declared.change.Change.TheVariants.{InBattles};
-ghost use Rattle.lobby_machine.specs.declared.battles.BattleChange.TheVariants.{InRoom};
-ghost use Rattle.lobby_machine.specs.Battles.{IsNew};
+ghost use Rattle.lobby_maps.specs.declared.change.Change.TheVariants.{InBattles};
+ghost use Rattle.lobby_maps.specs.declared.battles.BattleChange.TheVariants.{InRoom};
+ghost use Rattle.lobby_maps.specs.Battles.{IsNew};
 ghost use Rattle.lobby_machine.specs.BattleTalk.{bots_gone, shown, shown_to, status_change, stops_asking};
 ghost use Rattle.lobby_machine.specs.Subjects.{opens_one};
 
-use super::battle_guards::founded_by;
-use crate::battle::{Battle, NO_PASSWORD};
-use crate::battles::{BattleChange, RoomChange};
-use crate::change::Change;
-use crate::maps::Maps;
+use super::battle_guards::{founded_by, may_open, next_number, opens_unasked, own_battle};
 use crate::refusal::Stop;
 use battle_room::Room;
 use command_grammar::Command;
 use line_words::{NameBuf, SentenceBuf, Text, WordBuf, write_number};
+use lobby_maps::{Battle, BattleChange, Change, Maps, NO_PASSWORD, RoomChange};
 use lobby_post::Post;
 use reply_grammar::{LentReply, OpenedBattle};
 use status_bits::{BattleStatus, merge_battle};
@@ -71,348 +68,359 @@ struct Inside {
     room: Room,
 }
 
-impl Maps {
-    /// `OPENBATTLE`: the user is in no battle and asks to join none, and a number is left.
-    pub fn open_battle(
-        &self,
-        client: u64,
-        me: &NameBuf,
-        command: &Command,
-        post: &mut Post,
-    ) -> Result<Change, Stop>
-        requires me { name_of self.now.plain client ≡ Some me.now }
-        requires issuer { post.old.issuer ≡ client }
-        requires opens { opens_one command.now ≡ true }
-        ensures { Answers self.now.plain client post.old post.new (answer self.now.plain client (Some me.now) command.now) result }
-    {
-        self.may_open(me)?;
-        self.opens_unasked(me)?;
-        let number = self.next_number()?;
-        let battle = self.new_battle(client, me, command)?;
-        match self.tell_opening(me, number, &battle, post) {
-            Ok(()) => Ok(Change::InBattles(BattleChange::Open {
-                number,
-                name: me.copy(),
-                battle,
-            })),
-            Err(refused) => {
-                drop(battle);
-                Err(Stop::from(refused))
-            }
-        }
-    }
-
-    /// Tells all that a user opens a battle, and the user what it has to know.
-    fn tell_opening(
-        &self,
-        me: &NameBuf,
-        number: u32,
-        battle: &Battle,
-        post: &mut Post,
-    ) -> Result<(), AllocError>
-        requires { name_of self.now.plain post.old.issuer ≡ Some me.now }
-        ensures { OnOk result (Told self.now.plain post.old post.new (tell everyone (opened_line number battle.now.info ∷ []) ∷ tell (user me.now) (reply.OpenBattle number ∷ reply.RequestBattleStatus ∷ []) ∷ [])) }
-    {
-        self.tell_all(LentReply::BattleOpened(number, &battle.opened), post)?;
-        self.tell_opener(me, number, post)?;
-        Ok(())
-    }
-
-    /// The battle that a user opens by a command.
-    fn new_battle(&self, client: u64, me: &NameBuf, command: &Command) -> Result<Battle, AllocError>
-        requires me { name_of self.now.plain client ≡ Some me.now }
-        requires opens { opens_one command.now ≡ true }
-        ensures asked { IfOk result (λ battle. answer self.now.plain client (Some me.now) command.now ≡ open_battle self.now.plain me.now battle) }
-        ensures alone { IfOk result (λ battle. IsNew battle me.now) }
-    {
-        let Command::OpenBattle {
-            battle_type,
-            nat_type,
-            password,
-            port,
-            max_players,
-            game_hash,
-            rank,
-            map_hash,
-            engine_name,
-            engine_version,
-            map,
-            title,
-            game_name,
-        } = command
-        else {
-            unreachable!()
-        };
-        let texts = self.texts_of(client, engine_name, engine_version, map, title, game_name)?;
-        match self.inside_of(me, password) {
-            Ok(inside) => Ok(Battle {
-                opened: OpenedBattle {
-                    battle_type: *battle_type,
-                    nat_type: *nat_type,
-                    founder: me.copy(),
-                    ip: texts.ip,
-                    port: *port,
-                    max_players: *max_players,
-                    passworded: password.as_slice() != NO_PASSWORD,
-                    rank: *rank,
-                    map_hash: *map_hash,
-                    engine_name: texts.engine.name,
-                    engine_version: texts.engine.version,
-                    map: texts.labels.map,
-                    title: texts.labels.title,
-                    game_name: texts.labels.game_name,
-                },
-                spectators: 0,
-                locked: false,
-                password: inside.password,
-                game_hash: *game_hash,
-                room: inside.room,
-            }),
-            Err(refused) => {
-                drop(texts);
-                Err(refused)
-            }
-        }
-    }
-
-    /// What a battle that a user opens keeps from those outside.
-    fn inside_of(&self, me: &NameBuf, password: &WordBuf) -> Result<Inside, AllocError>
-        ensures password { IfOk result (λ inside. inside.password ≡ password.now) }
-        ensures room { IfOk result (λ inside. inside.room ≡ new_room me.now) }
-    {
-        let password = WordBuf::copy_of(self.alloc, password.as_slice())?;
-        let room = Room::new(self.alloc, me.copy(), self.seats.place_of(me))?;
-        Ok(Inside { password, room })
-    }
-
-    /// The texts that all are told of a battle which this client opens.
-    fn texts_of(
-        &self,
-        client: u64,
-        engine_name: &SentenceBuf,
-        engine_version: &SentenceBuf,
-        map: &SentenceBuf,
-        title: &SentenceBuf,
-        game_name: &SentenceBuf,
-    ) -> Result<Texts, AllocError>
-        requires { is_some (at_number self.now.plain.clients client) ≡ true }
-        ensures ip { IfOk result (λ texts. texts.ip ≡ address (at_number self.now.plain.clients client)) }
-        ensures engine_name { IfOk result (λ texts. texts.engine.name ≡ engine_name.now) }
-        ensures engine_version { IfOk result (λ texts. texts.engine.version ≡ engine_version.now) }
-        ensures map { IfOk result (λ texts. texts.labels.map ≡ map.now) }
-        ensures title { IfOk result (λ texts. texts.labels.title ≡ title.now) }
-        ensures game_name { IfOk result (λ texts. texts.labels.game_name ≡ game_name.now) }
-    {
-        let ip = self.address_of(client)?;
-        let engine = copy_engine(self.alloc, engine_name, engine_version)?;
-        match copy_labels(self.alloc, map, title, game_name) {
-            Ok(labels) => Ok(Texts { ip, engine, labels }),
-            Err(refused) => {
-                drop(ip);
-                drop(engine);
-                Err(refused)
-            }
-        }
-    }
-
-    /// The address of a client that is there, as it is printed.
-    pub fn address_of(&self, client: u64) -> Result<WordBuf, AllocError>
-        requires { is_some (at_number self.now.plain.clients client) ≡ true }
-        ensures { IfOk result (λ word. word ≡ address (at_number self.now.plain.clients client)) }
-    {
-        match self.clients.ip_of(client) {
-            Some(ip) => ip_word(self.alloc, ip),
-            None => unreachable!(),
-        }
-    }
-
-    /// Tells one who opens a battle its number, and asks for its status.
-    fn tell_opener(&self, me: &NameBuf, number: u32, post: &mut Post) -> Result<(), AllocError>
-        requires { name_of self.now.plain post.old.issuer ≡ Some me.now }
-        ensures { OnOk result (Told self.now.plain post.old post.new (tell (user me.now) (reply.OpenBattle number ∷ reply.RequestBattleStatus ∷ []) ∷ [])) }
-    {
-        post.begin_own();
-        post.write_own(LentReply::OpenBattle(number))?;
-        post.write_own(LentReply::RequestBattleStatus)?;
-        self.seats.address_user(me, post)?;
-        Ok(())
-    }
-
-    /// `LEAVEBATTLE`: the user is in a battle, or asks to join one, and asks no more.
-    pub fn leave_battle(&self, client: u64, me: &NameBuf, post: &mut Post) -> Result<Change, Stop>
-        ensures { Answers self.now.plain client post.old post.new (leave_battle self.now.plain me.now) result }
-    {
-        if let Some(number) = self.asked_by(me) {
-            return Ok(stop_asking(number, me));
-        }
-        let (number, battle) = self.own_battle(me)?;
-        self.tell_leaving(me, number, battle, Leaving::Seen, post)?;
-        Ok(Change::InBattles(BattleChange::Leave {
+/// `OPENBATTLE`: the user is in no battle and asks to join none, and a number is left.
+pub fn open_battle(
+    maps: &Maps,
+    client: u64,
+    me: &NameBuf,
+    command: &Command,
+    post: &mut Post,
+) -> Result<Change, Stop>
+    requires me { name_of maps.now.plain client ≡ Some me.now }
+    requires issuer { post.old.issuer ≡ client }
+    requires opens { opens_one command.now ≡ true }
+    ensures { Answers maps.now.plain client post.old post.new (answer maps.now.plain client (Some me.now) command.now) result }
+{
+    may_open(maps, me)?;
+    opens_unasked(maps, me)?;
+    let number = next_number(maps)?;
+    let battle = new_battle(maps, client, me, command)?;
+    match tell_opening(maps, me, number, &battle, post) {
+        Ok(()) => Ok(Change::InBattles(BattleChange::Open {
             number,
             name: me.copy(),
-        }))
-    }
-
-    /// Tells that a member leaves a battle: that the battle closes, where it is the founder, and else
-    /// that its bots go and that it leaves.
-    pub fn tell_leaving(
-        &self,
-        name: &NameBuf,
-        number: u32,
-        battle: &Battle,
-        leaving: Leaving,
-        post: &mut Post,
-    ) -> Result<(), AllocError>
-        ensures { OnOk result (Told self.now.plain post.old post.new (shown leaving (leaves_battle name.now number battle.now)).told) }
-    {
-        if battle.is_founder(name) {
-            return self.tell_closing(number, &battle.room, leaving, post);
+            battle,
+        })),
+        Err(refused) => {
+            drop(battle);
+            Err(Stop::from(refused))
         }
-        self.tell_bots_gone(name, number, &battle.room, leaving, post)?;
-        self.tell_leaving_all(LentReply::LeftBattle(number, name), leaving, post)
     }
+}
 
-    /// Tells that a battle closes: those who ask to join it first, and then all.
-    fn tell_closing(
-        &self,
-        number: u32,
-        room: &Room,
-        leaving: Leaving,
-        post: &mut Post,
-    ) -> Result<(), AllocError>
-        ensures { OnOk result (Told self.now.plain post.old post.new (shown_to leaving (tell (users (asker_names room.now)) (reply.JoinBattleFailed battle_was_closed ∷ [])) ∷ shown_to leaving (tell everyone (reply.BattleClosed number ∷ [])) ∷ [])) }
-    {
-        let text = Text::lend(b"The battle was closed");
-        let line = LentReply::JoinBattleFailed(&text);
-        match leaving {
-            Leaving::Seen => self.tell_askers(room, line, post)?,
-            Leaving::Unseen => self.tell_other_askers(room, line, post)?,
+/// Tells all that a user opens a battle, and the user what it has to know.
+fn tell_opening(
+    maps: &Maps,
+    me: &NameBuf,
+    number: u32,
+    battle: &Battle,
+    post: &mut Post,
+) -> Result<(), AllocError>
+    requires { name_of maps.now.plain post.old.issuer ≡ Some me.now }
+    ensures { OnOk result (Told maps.now.plain post.old post.new (tell everyone (opened_line number battle.now.info ∷ []) ∷ tell (user me.now) (reply.OpenBattle number ∷ reply.RequestBattleStatus ∷ []) ∷ [])) }
+{
+    maps.tell_all(LentReply::BattleOpened(number, &battle.opened), post)?;
+    tell_opener(maps, me, number, post)?;
+    Ok(())
+}
+
+/// The battle that a user opens by a command.
+fn new_battle(
+    maps: &Maps,
+    client: u64,
+    me: &NameBuf,
+    command: &Command,
+) -> Result<Battle, AllocError>
+    requires me { name_of maps.now.plain client ≡ Some me.now }
+    requires opens { opens_one command.now ≡ true }
+    ensures asked { IfOk result (λ battle. answer maps.now.plain client (Some me.now) command.now ≡ open_battle maps.now.plain me.now battle) }
+    ensures alone { IfOk result (λ battle. IsNew battle me.now) }
+{
+    let Command::OpenBattle {
+        battle_type,
+        nat_type,
+        password,
+        port,
+        max_players,
+        game_hash,
+        rank,
+        map_hash,
+        engine_name,
+        engine_version,
+        map,
+        title,
+        game_name,
+    } = command
+    else {
+        unreachable!()
+    };
+    let texts = texts_of(
+        maps,
+        client,
+        engine_name,
+        engine_version,
+        map,
+        title,
+        game_name,
+    )?;
+    match inside_of(maps, me, password) {
+        Ok(inside) => Ok(Battle {
+            opened: OpenedBattle {
+                battle_type: *battle_type,
+                nat_type: *nat_type,
+                founder: me.copy(),
+                ip: texts.ip,
+                port: *port,
+                max_players: *max_players,
+                passworded: password.as_slice() != NO_PASSWORD,
+                rank: *rank,
+                map_hash: *map_hash,
+                engine_name: texts.engine.name,
+                engine_version: texts.engine.version,
+                map: texts.labels.map,
+                title: texts.labels.title,
+                game_name: texts.labels.game_name,
+            },
+            spectators: 0,
+            locked: false,
+            password: inside.password,
+            game_hash: *game_hash,
+            room: inside.room,
+        }),
+        Err(refused) => {
+            drop(texts);
+            Err(refused)
         }
-        self.tell_leaving_all(LentReply::BattleClosed(number), leaving, post)
     }
+}
 
-    /// Tells the members of a battle that the bots of one of them go.
-    fn tell_bots_gone(
-        &self,
-        owner: &NameBuf,
-        number: u32,
-        room: &Room,
-        leaving: Leaving,
-        post: &mut Post,
-    ) -> Result<(), AllocError>
-        ensures { OnOk result (Told self.now.plain post.old post.new (bots_gone leaving number owner.now room.now)) }
-    {
-        for bot in room.bots() {
-            if owner.cmp(bot.owner()).is_eq() {
-                let line = LentReply::RemoveBot(number, bot.name());
-                match leaving {
-                    Leaving::Seen => self.tell_room(room, line, post)?,
-                    Leaving::Unseen => self.tell_others_in_room(room, line, post)?,
-                }
+/// What a battle that a user opens keeps from those outside.
+fn inside_of(maps: &Maps, me: &NameBuf, password: &WordBuf) -> Result<Inside, AllocError>
+    ensures password { IfOk result (λ inside. inside.password ≡ password.now) }
+    ensures room { IfOk result (λ inside. inside.room ≡ new_room me.now) }
+{
+    let password = WordBuf::copy_of(maps.alloc(), password.as_slice())?;
+    let room = Room::new(maps.alloc(), me.copy(), maps.user_place(me))?;
+    Ok(Inside { password, room })
+}
+
+/// The texts that all are told of a battle which this client opens.
+fn texts_of(
+    maps: &Maps,
+    client: u64,
+    engine_name: &SentenceBuf,
+    engine_version: &SentenceBuf,
+    map: &SentenceBuf,
+    title: &SentenceBuf,
+    game_name: &SentenceBuf,
+) -> Result<Texts, AllocError>
+    requires { is_some (at_number maps.now.plain.clients client) ≡ true }
+    ensures ip { IfOk result (λ texts. texts.ip ≡ address (at_number maps.now.plain.clients client)) }
+    ensures engine_name { IfOk result (λ texts. texts.engine.name ≡ engine_name.now) }
+    ensures engine_version { IfOk result (λ texts. texts.engine.version ≡ engine_version.now) }
+    ensures map { IfOk result (λ texts. texts.labels.map ≡ map.now) }
+    ensures title { IfOk result (λ texts. texts.labels.title ≡ title.now) }
+    ensures game_name { IfOk result (λ texts. texts.labels.game_name ≡ game_name.now) }
+{
+    let ip = address_of(maps, client)?;
+    let engine = copy_engine(maps.alloc(), engine_name, engine_version)?;
+    match copy_labels(maps.alloc(), map, title, game_name) {
+        Ok(labels) => Ok(Texts { ip, engine, labels }),
+        Err(refused) => {
+            drop(ip);
+            drop(engine);
+            Err(refused)
+        }
+    }
+}
+
+/// The address of a client that is there, as it is printed.
+pub fn address_of(maps: &Maps, client: u64) -> Result<WordBuf, AllocError>
+    requires { is_some (at_number maps.now.plain.clients client) ≡ true }
+    ensures { IfOk result (λ word. word ≡ address (at_number maps.now.plain.clients client)) }
+{
+    match maps.ip_of(client) {
+        Some(ip) => ip_word(maps.alloc(), ip),
+        None => unreachable!(),
+    }
+}
+
+/// Tells one who opens a battle its number, and asks for its status.
+fn tell_opener(maps: &Maps, me: &NameBuf, number: u32, post: &mut Post) -> Result<(), AllocError>
+    requires { name_of maps.now.plain post.old.issuer ≡ Some me.now }
+    ensures { OnOk result (Told maps.now.plain post.old post.new (tell (user me.now) (reply.OpenBattle number ∷ reply.RequestBattleStatus ∷ []) ∷ [])) }
+{
+    post.begin_own();
+    post.write_own(LentReply::OpenBattle(number))?;
+    post.write_own(LentReply::RequestBattleStatus)?;
+    maps.address_user(me, post)?;
+    Ok(())
+}
+
+/// `LEAVEBATTLE`: the user is in a battle, or asks to join one, and asks no more.
+pub fn leave_battle(maps: &Maps, client: u64, me: &NameBuf, post: &mut Post) -> Result<Change, Stop>
+    ensures { Answers maps.now.plain client post.old post.new (leave_battle maps.now.plain me.now) result }
+{
+    if let Some(number) = maps.asked_by(me) {
+        return Ok(stop_asking(number, me));
+    }
+    let (number, battle) = own_battle(maps, me)?;
+    tell_leaving(maps, me, number, battle, Leaving::Seen, post)?;
+    Ok(Change::InBattles(BattleChange::Leave {
+        number,
+        name: me.copy(),
+    }))
+}
+
+/// Tells that a member leaves a battle: that the battle closes, where it is the founder, and else
+/// that its bots go and that it leaves.
+pub fn tell_leaving(
+    maps: &Maps,
+    name: &NameBuf,
+    number: u32,
+    battle: &Battle,
+    leaving: Leaving,
+    post: &mut Post,
+) -> Result<(), AllocError>
+    ensures { OnOk result (Told maps.now.plain post.old post.new (shown leaving (leaves_battle name.now number battle.now)).told) }
+{
+    if battle.is_founder(name) {
+        return tell_closing(maps, number, &battle.room, leaving, post);
+    }
+    tell_bots_gone(maps, name, number, &battle.room, leaving, post)?;
+    tell_leaving_all(maps, LentReply::LeftBattle(number, name), leaving, post)
+}
+
+/// Tells that a battle closes: those who ask to join it first, and then all.
+fn tell_closing(
+    maps: &Maps,
+    number: u32,
+    room: &Room,
+    leaving: Leaving,
+    post: &mut Post,
+) -> Result<(), AllocError>
+    ensures { OnOk result (Told maps.now.plain post.old post.new (shown_to leaving (tell (users (asker_names room.now)) (reply.JoinBattleFailed battle_was_closed ∷ [])) ∷ shown_to leaving (tell everyone (reply.BattleClosed number ∷ [])) ∷ [])) }
+{
+    let text = Text::lend(b"The battle was closed");
+    let line = LentReply::JoinBattleFailed(&text);
+    match leaving {
+        Leaving::Seen => maps.tell_askers(room, line, post)?,
+        Leaving::Unseen => maps.tell_other_askers(room, line, post)?,
+    }
+    tell_leaving_all(maps, LentReply::BattleClosed(number), leaving, post)
+}
+
+/// Tells the members of a battle that the bots of one of them go.
+fn tell_bots_gone(
+    maps: &Maps,
+    owner: &NameBuf,
+    number: u32,
+    room: &Room,
+    leaving: Leaving,
+    post: &mut Post,
+) -> Result<(), AllocError>
+    ensures { OnOk result (Told maps.now.plain post.old post.new (bots_gone leaving number owner.now room.now)) }
+{
+    for bot in room.bots() {
+        if owner.cmp(bot.owner()).is_eq() {
+            let line = LentReply::RemoveBot(number, bot.name());
+            match leaving {
+                Leaving::Seen => maps.tell_room(room, line, post)?,
+                Leaving::Unseen => maps.tell_others_in_room(room, line, post)?,
             }
         }
-        Ok(())
     }
+    Ok(())
+}
 
-    /// Tells all users that one leaves, itself among them or not.
-    fn tell_leaving_all(
-        &self,
-        line: LentReply,
-        leaving: Leaving,
-        post: &mut Post,
-    ) -> Result<(), AllocError>
-        ensures { OnOk result (Told self.now.plain post.old post.new (shown_to leaving (tell everyone (reply_of line.entry ∷ [])) ∷ [])) }
-    {
-        match leaving {
-            Leaving::Seen => self.tell_all(line, post),
-            Leaving::Unseen => self.tell_others(line, post),
-        }
+/// Tells all users that one leaves, itself among them or not.
+fn tell_leaving_all(
+    maps: &Maps,
+    line: LentReply,
+    leaving: Leaving,
+    post: &mut Post,
+) -> Result<(), AllocError>
+    ensures { OnOk result (Told maps.now.plain post.old post.new (shown_to leaving (tell everyone (reply_of line.entry ∷ [])) ∷ [])) }
+{
+    match leaving {
+        Leaving::Seen => maps.tell_all(line, post),
+        Leaving::Unseen => maps.tell_others(line, post),
     }
+}
 
-    /// `UPDATEBATTLEINFO`: the user is in a battle, which it founded.
-    pub fn update_battle(
-        &self,
-        client: u64,
-        me: &NameBuf,
-        spectators: u16,
-        locked: bool,
-        map_hash: i64,
-        map: &SentenceBuf,
-        post: &mut Post,
-    ) -> Result<Change, Stop>
-        ensures { Answers self.now.plain client post.old post.new (update_battle self.now.plain me.now (updated spectators locked map_hash map.now)) result }
-    {
-        let (number, battle) = self.own_battle(me)?;
-        founded_by(battle, me)?;
-        let line = LentReply::UpdateBattleInfo(number, spectators, locked, map_hash, map);
-        self.tell_all(line, post)?;
-        Ok(Change::InBattles(BattleChange::Update {
-            number,
-            spectators,
-            locked,
-            map_hash,
-            map: SentenceBuf::copy_of(self.alloc, map.as_slice())?,
-        }))
-    }
+/// `UPDATEBATTLEINFO`: the user is in a battle, which it founded.
+pub fn update_battle(
+    maps: &Maps,
+    client: u64,
+    me: &NameBuf,
+    spectators: u16,
+    locked: bool,
+    map_hash: i64,
+    map: &SentenceBuf,
+    post: &mut Post,
+) -> Result<Change, Stop>
+    ensures { Answers maps.now.plain client post.old post.new (update_battle maps.now.plain me.now (updated spectators locked map_hash map.now)) result }
+{
+    let (number, battle) = own_battle(maps, me)?;
+    founded_by(battle, me)?;
+    let line = LentReply::UpdateBattleInfo(number, spectators, locked, map_hash, map);
+    maps.tell_all(line, post)?;
+    Ok(Change::InBattles(BattleChange::Update {
+        number,
+        spectators,
+        locked,
+        map_hash,
+        map: SentenceBuf::copy_of(maps.alloc(), map.as_slice())?,
+    }))
+}
 
-    /// `MYBATTLESTATUS`: the user is in a battle. Its handicap stays.
-    pub fn my_battle_status(
-        &self,
-        client: u64,
-        me: &NameBuf,
-        asked: u32,
-        colour: i64,
-        post: &mut Post,
-    ) -> Result<Change, Stop>
-        ensures { Answers self.now.plain client post.old post.new (set_own_status self.now.plain me.now asked colour) result }
-    {
-        let (number, battle) = self.own_battle(me)?;
-        let status = match battle.room.member(me) {
-            Some(member) => merge_battle(member.status(), asked),
-            None => unreachable!(),
-        };
-        Ok(self.give_status(number, battle, me, status, colour, post)?)
-    }
+/// `MYBATTLESTATUS`: the user is in a battle. Its handicap stays.
+pub fn my_battle_status(
+    maps: &Maps,
+    client: u64,
+    me: &NameBuf,
+    asked: u32,
+    colour: i64,
+    post: &mut Post,
+) -> Result<Change, Stop>
+    ensures { Answers maps.now.plain client post.old post.new (set_own_status maps.now.plain me.now asked colour) result }
+{
+    let (number, battle) = own_battle(maps, me)?;
+    let status = match battle.room.member(me) {
+        Some(member) => merge_battle(member.status(), asked),
+        None => unreachable!(),
+    };
+    Ok(give_status(maps, number, battle, me, status, colour, post)?)
+}
 
-    /// A member of a battle has this status and colour from now on.
-    pub fn give_status(
-        &self,
-        number: u32,
-        battle: &Battle,
-        name: &NameBuf,
-        status: BattleStatus,
-        colour: i64,
-        post: &mut Post,
-    ) -> Result<Change, AllocError>
-        ensures told { IfOk result (λ _. Told self.now.plain post.old post.new (member_has name.now status colour number battle.now).told) }
-        ensures change { IfOk result (λ change. change ≡ status_change number name.now status colour) }
-    {
-        let line = LentReply::ClientBattleStatus(name, status.word(), colour);
-        self.tell_room(&battle.room, line, post)?;
-        Ok(in_room(
-            number,
-            RoomChange::Status {
-                name: name.copy(),
-                status,
-                colour,
-            },
-        ))
-    }
+/// A member of a battle has this status and colour from now on.
+pub fn give_status(
+    maps: &Maps,
+    number: u32,
+    battle: &Battle,
+    name: &NameBuf,
+    status: BattleStatus,
+    colour: i64,
+    post: &mut Post,
+) -> Result<Change, AllocError>
+    ensures told { IfOk result (λ _. Told maps.now.plain post.old post.new (member_has name.now status colour number battle.now).told) }
+    ensures change { IfOk result (λ change. change ≡ status_change number name.now status colour) }
+{
+    let line = LentReply::ClientBattleStatus(name, status.word(), colour);
+    maps.tell_room(&battle.room, line, post)?;
+    Ok(in_room(
+        number,
+        RoomChange::Status {
+            name: name.copy(),
+            status,
+            colour,
+        },
+    ))
+}
 
-    /// `SAYBATTLE` and `SAYBATTLEEX`: the user is in a battle.
-    pub fn say_in_battle(
-        &self,
-        client: u64,
-        me: &NameBuf,
-        line: LentReply,
-        post: &mut Post,
-    ) -> Result<Change, Stop>
-        ensures { Answers self.now.plain client post.old post.new (say_in_battle self.now.plain me.now (reply_of line.entry)) result }
-    {
-        let (_, battle) = self.own_battle(me)?;
-        self.tell_room(&battle.room, line, post)?;
-        Ok(Change::Nothing)
-    }
+/// `SAYBATTLE` and `SAYBATTLEEX`: the user is in a battle.
+pub fn say_in_battle(
+    maps: &Maps,
+    client: u64,
+    me: &NameBuf,
+    line: LentReply,
+    post: &mut Post,
+) -> Result<Change, Stop>
+    ensures { Answers maps.now.plain client post.old post.new (say_in_battle maps.now.plain me.now (reply_of line.entry)) result }
+{
+    let (_, battle) = own_battle(maps, me)?;
+    maps.tell_room(&battle.room, line, post)?;
+    Ok(Change::Nothing)
 }
 
 /// Copies the engine of a battle.

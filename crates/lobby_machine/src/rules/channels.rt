@@ -8,139 +8,137 @@ ghost use Rattle.lobby_post.specs.Posted.{Told, with_own};
 ghost use Rattle.lobby_machine.specs.Answers.{Answers};
 ghost use Rattle.lobby_machine.specs.Talk.{channel_lines, left_letters};
 
-use crate::change::Change;
-use crate::maps::Maps;
+use super::guards::{members_with, names_without, user_named};
 use crate::refusal::Stop;
 use line_words::{NameBuf, TextBuf};
+use lobby_maps::{Change, Maps};
 use lobby_post::Post;
 use reply_grammar::LentReply;
 use std::alloc::AllocError;
 
-impl Maps {
-    /// `JOIN`: the user is not in the channel.
-    pub fn join(
-        &self,
-        client: u64,
-        me: &NameBuf,
-        channel: &NameBuf,
-        post: &mut Post,
-    ) -> Result<Change, Stop>
-        ensures { Answers self.now.plain client post.old post.new (join self.now.plain me.now channel.now) result }
-    {
-        let names = self.names_without(me, channel)?;
-        let places = self.channels.marks_in(channel);
-        self.tell_user(me, LentReply::Join(channel), post)?;
-        self.tell_members(channel, names, me, post)?;
-        self.tell_users(names, places, LentReply::Joined(channel, me), post)?;
-        Ok(Change::Join {
-            channel: channel.copy(),
-            name: me.copy(),
-        })
-    }
+/// `JOIN`: the user is not in the channel.
+pub fn join(
+    maps: &Maps,
+    client: u64,
+    me: &NameBuf,
+    channel: &NameBuf,
+    post: &mut Post,
+) -> Result<Change, Stop>
+    ensures { Answers maps.now.plain client post.old post.new (join maps.now.plain me.now channel.now) result }
+{
+    let names = names_without(maps, me, channel)?;
+    let places = maps.channels().marks_in(channel);
+    maps.tell_user(me, LentReply::Join(channel), post)?;
+    tell_members(maps, channel, names, me, post)?;
+    maps.tell_users(names, places, LentReply::Joined(channel, me), post)?;
+    Ok(Change::Join {
+        channel: channel.copy(),
+        name: me.copy(),
+    })
+}
 
-    /// `LEAVE`: the user is in the channel.
-    pub fn leave(
-        &self,
-        client: u64,
-        me: &NameBuf,
-        channel: &NameBuf,
-        post: &mut Post,
-    ) -> Result<Change, Stop>
-        ensures { Answers self.now.plain client post.old post.new (leave self.now.plain me.now channel.now) result }
-    {
-        let members = self.members_with(me, channel)?;
-        let (names, places) = (members.as_slice(), members.marks());
-        self.tell_users(names, places, LentReply::Left(channel, me), post)?;
-        Ok(Change::Leave {
-            channel: channel.copy(),
-            name: me.copy(),
-        })
-    }
+/// `LEAVE`: the user is in the channel.
+pub fn leave(
+    maps: &Maps,
+    client: u64,
+    me: &NameBuf,
+    channel: &NameBuf,
+    post: &mut Post,
+) -> Result<Change, Stop>
+    ensures { Answers maps.now.plain client post.old post.new (leave maps.now.plain me.now channel.now) result }
+{
+    let members = members_with(maps, me, channel)?;
+    let (names, places) = (members.as_slice(), members.marks());
+    maps.tell_users(names, places, LentReply::Left(channel, me), post)?;
+    Ok(Change::Leave {
+        channel: channel.copy(),
+        name: me.copy(),
+    })
+}
 
-    /// `SAY` and `SAYEX`: the user is in the channel.
-    pub fn say_in_channel(
-        &self,
-        client: u64,
-        me: &NameBuf,
-        channel: &NameBuf,
-        line: LentReply,
-        post: &mut Post,
-    ) -> Result<Change, Stop>
-        ensures { Answers self.now.plain client post.old post.new (say_in_channel self.now.plain me.now channel.now (reply_of line.entry)) result }
-    {
-        let members = self.members_with(me, channel)?;
-        let (names, places) = (members.as_slice(), members.marks());
-        self.tell_users(names, places, line, post)?;
-        Ok(Change::Nothing)
-    }
+/// `SAY` and `SAYEX`: the user is in the channel.
+pub fn say_in_channel(
+    maps: &Maps,
+    client: u64,
+    me: &NameBuf,
+    channel: &NameBuf,
+    line: LentReply,
+    post: &mut Post,
+) -> Result<Change, Stop>
+    ensures { Answers maps.now.plain client post.old post.new (say_in_channel maps.now.plain me.now channel.now (reply_of line.entry)) result }
+{
+    let members = members_with(maps, me, channel)?;
+    let (names, places) = (members.as_slice(), members.marks());
+    maps.tell_users(names, places, line, post)?;
+    Ok(Change::Nothing)
+}
 
-    /// `SAYPRIVATE`: somebody of that name is logged in.
-    pub fn say_private(
-        &self,
-        client: u64,
-        me: &NameBuf,
-        target: &NameBuf,
-        text: &TextBuf,
-        post: &mut Post,
-    ) -> Result<Change, Stop>
-        ensures { Answers self.now.plain client post.old post.new (say_private self.now.plain me.now target.now text.now) result }
-    {
-        self.user_named(target)?;
-        post.tell_issuer(LentReply::SayPrivate(target, text))?;
-        self.tell_user(target, LentReply::SaidPrivate(me, text), post)?;
-        Ok(Change::Nothing)
-    }
+/// `SAYPRIVATE`: somebody of that name is logged in.
+pub fn say_private(
+    maps: &Maps,
+    client: u64,
+    me: &NameBuf,
+    target: &NameBuf,
+    text: &TextBuf,
+    post: &mut Post,
+) -> Result<Change, Stop>
+    ensures { Answers maps.now.plain client post.old post.new (say_private maps.now.plain me.now target.now text.now) result }
+{
+    user_named(maps, target)?;
+    post.tell_issuer(LentReply::SayPrivate(target, text))?;
+    maps.tell_user(target, LentReply::SaidPrivate(me, text), post)?;
+    Ok(Change::Nothing)
+}
 
-    /// `CHANNELS`.
-    pub fn list_channels(&self, client: u64, post: &mut Post) -> Result<Change, Stop>
-        ensures { Answers self.now.plain client post.old post.new (list_channels self.now.plain) result }
-    {
-        post.begin_own();
-        self.write_channels(post)?;
-        post.write_own(LentReply::EndOfChannels)?;
-        post.address_issuer()?;
-        Ok(Change::Nothing)
-    }
+/// `CHANNELS`.
+pub fn list_channels(maps: &Maps, client: u64, post: &mut Post) -> Result<Change, Stop>
+    ensures { Answers maps.now.plain client post.old post.new (list_channels maps.now.plain) result }
+{
+    post.begin_own();
+    write_channels(maps, post)?;
+    post.write_own(LentReply::EndOfChannels)?;
+    post.address_issuer()?;
+    Ok(Change::Nothing)
+}
 
-    /// Writes a line for each channel, with how many are in it.
-    fn write_channels(&self, post: &mut Post) -> Result<(), AllocError>
-        ensures { OnOk result (post.new ≡ with_own post.old (channel_lines self.now.plain.channels)) }
-    {
-        for (channel, members) in &self.channels {
-            post.write_own(LentReply::Channel(channel, members.as_slice().len()))?;
+/// Writes a line for each channel, with how many are in it.
+fn write_channels(maps: &Maps, post: &mut Post) -> Result<(), AllocError>
+    ensures { OnOk result (post.new ≡ with_own post.old (channel_lines maps.now.plain.channels)) }
+{
+    for (channel, members) in maps.channels() {
+        post.write_own(LentReply::Channel(channel, members.as_slice().len()))?;
+    }
+    Ok(())
+}
+
+/// Tells the others of each channel that a user is in, channel by channel, that it leaves.
+pub fn tell_left(maps: &Maps, me: &NameBuf, post: &mut Post) -> Result<(), AllocError>
+    ensures { OnOk result (Told maps.now.plain post.old post.new (left_letters me.now maps.now.plain.channels)) }
+{
+    for (channel, members) in maps.channels() {
+        if members.has_member(me) {
+            let (names, places) = (members.as_slice(), members.marks());
+            maps.tell_other_users(names, places, LentReply::Left(channel, me), post)?;
         }
-        Ok(())
     }
+    Ok(())
+}
 
-    /// Tells the others of each channel that a user is in, channel by channel, that it leaves.
-    pub fn tell_left(&self, me: &NameBuf, post: &mut Post) -> Result<(), AllocError>
-        ensures { OnOk result (Told self.now.plain post.old post.new (left_letters me.now self.now.plain.channels)) }
-    {
-        for (channel, members) in &self.channels {
-            if members.has_member(me) {
-                let (names, places) = (members.as_slice(), members.marks());
-                self.tell_other_users(names, places, LentReply::Left(channel, me), post)?;
-            }
-        }
-        Ok(())
+/// Tells one who joins a channel who is in it, itself the last, 32 names a line.
+fn tell_members(
+    maps: &Maps,
+    channel: &NameBuf,
+    names: &[NameBuf],
+    me: &NameBuf,
+    post: &mut Post,
+) -> Result<(), AllocError>
+    ensures { OnOk result (Told maps.now.plain post.old post.new (tell (user me.now) (name_lines channel.now (names.now ++ me.now ∷ [])) ∷ [])) }
+{
+    let mut rest = names;
+    while rest.len() >= 32 {
+        maps.tell_user(me, LentReply::Clients(channel, &rest[..32]), post)?;
+        rest = &rest[32..];
     }
-
-    /// Tells one who joins a channel who is in it, itself the last, 32 names a line.
-    fn tell_members(
-        &self,
-        channel: &NameBuf,
-        names: &[NameBuf],
-        me: &NameBuf,
-        post: &mut Post,
-    ) -> Result<(), AllocError>
-        ensures { OnOk result (Told self.now.plain post.old post.new (tell (user me.now) (name_lines channel.now (names.now ++ me.now ∷ [])) ∷ [])) }
-    {
-        let mut rest = names;
-        while rest.len() >= 32 {
-            self.tell_user(me, LentReply::Clients(channel, &rest[..32]), post)?;
-            rest = &rest[32..];
-        }
-        self.tell_user(me, LentReply::LastClients(channel, rest, me), post)?;
-        Ok(())
-    }
+    maps.tell_user(me, LentReply::LastClients(channel, rest, me), post)?;
+    Ok(())
 }

@@ -9,19 +9,19 @@ ghost use Rattle.lobby_model.specs.Outcome.{is_named, tell, user};
 ghost use Rattle.lobby_model.specs.Battles.{accept, address, asks_to_join, bot_line, deny, join_battle, joining, rect_line, reason_or_default, room_lines, status_line};
 ghost use Rattle.lobby_post.specs.Posted.{Told};
 ghost use Rattle.lobby_machine.specs.Answers.{Answers};
-ghost use Rattle.lobby_machine.specs.declared.change.Change.TheVariants.{InBattles};
-ghost use Rattle.lobby_machine.specs.declared.battles.BattleChange.TheVariants.{Ask};
+ghost use Rattle.lobby_maps.specs.declared.change.Change.TheVariants.{InBattles};
+ghost use Rattle.lobby_maps.specs.declared.battles.BattleChange.TheVariants.{Ask};
 ghost use Rattle.lobby_machine.specs.BattleTalk.{is_issuer, written};
 
-use super::battle_guards::{asker_named, founded_by, not_locked, right_password};
-use super::battles::stop_asking;
-use crate::battle::Battle;
-use crate::battles::BattleChange;
-use crate::change::Change;
-use crate::maps::Maps;
+use super::battle_guards::{
+    asker_named, battle_numbered, founded_by, joins_unasked, may_join, not_locked, own_battle,
+    right_password,
+};
+use super::battles::{address_of, stop_asking};
 use crate::refusal::Stop;
 use battle_room::{ALLY_COUNT, Room};
 use line_words::{NameBuf, Text, TextBuf, WordBuf};
+use lobby_maps::{Battle, BattleChange, Change, Maps};
 use lobby_post::Post;
 use reply_grammar::LentReply;
 use std::alloc::{AllocError, Global};
@@ -36,158 +36,165 @@ pub enum Recipient {
     Other,
 }
 
-impl Maps {
-    /// `JOINBATTLE`: the user is in no battle and asks to join none; there is a battle of that number,
-    /// which is not locked and lets it in. It joins, or, where the founder authorises who does, it asks.
-    pub fn join_battle<'a>(
-        &self,
-        client: u64,
-        me: &'a NameBuf,
-        number: u32,
-        password: Option<&WordBuf>,
-        script_password: Option<&'a WordBuf>,
-        post: &mut Post,
-    ) -> Result<Change, Stop>
-        requires me { name_of self.now.plain client ≡ Some me.now }
-        requires issuer { post.old.issuer ≡ client }
-        ensures { Answers self.now.plain client post.old post.new (join_battle self.now.plain me.now (address (at_number self.now.plain.clients client)) number (option_copied password.entry) (option_copied script_password.entry)) result }
-    {
-        self.may_join(me)?;
-        self.joins_unasked(me)?;
-        let battle = self.battle_numbered(number)?;
-        not_locked(battle)?;
-        right_password(battle, password)?;
-        if self.seats.is_authorising(&battle.opened.founder) {
-            return Ok(self.ask_to_join(client, me, number, battle, script_password, post)?);
-        }
-        self.tell_joining(me, number, battle, script_password, Recipient::Issuer, post)?;
-        Ok(Change::InBattles(BattleChange::Join {
-            number,
-            name: me.copy(),
-        }))
+/// `JOINBATTLE`: the user is in no battle and asks to join none; there is a battle of that number,
+/// which is not locked and lets it in. It joins, or, where the founder authorises who does, it asks.
+pub fn join_battle<'a>(
+    maps: &Maps,
+    client: u64,
+    me: &'a NameBuf,
+    number: u32,
+    password: Option<&WordBuf>,
+    script_password: Option<&'a WordBuf>,
+    post: &mut Post,
+) -> Result<Change, Stop>
+    requires me { name_of maps.now.plain client ≡ Some me.now }
+    requires issuer { post.old.issuer ≡ client }
+    ensures { Answers maps.now.plain client post.old post.new (join_battle maps.now.plain me.now (address (at_number maps.now.plain.clients client)) number (option_copied password.entry) (option_copied script_password.entry)) result }
+{
+    may_join(maps, me)?;
+    joins_unasked(maps, me)?;
+    let battle = battle_numbered(maps, number)?;
+    not_locked(battle)?;
+    right_password(battle, password)?;
+    if maps.is_authorising(&battle.opened.founder) {
+        return Ok(ask_to_join(maps, client, me, number, battle, script_password, post)?);
     }
+    tell_joining(
+        maps,
+        me,
+        number,
+        battle,
+        script_password,
+        Recipient::Issuer,
+        post,
+    )?;
+    Ok(Change::InBattles(BattleChange::Join {
+        number,
+        name: me.copy(),
+    }))
+}
 
-    /// A user asks to join a battle, with the script password that it gave, and the founder is told.
-    fn ask_to_join(
-        &self,
-        client: u64,
-        me: &NameBuf,
-        number: u32,
-        battle: &Battle,
-        script_password: Option<&WordBuf>,
-        post: &mut Post,
-    ) -> Result<Change, AllocError>
-        requires { name_of self.now.plain client ≡ Some me.now }
-        ensures told { IfOk result (λ _. Told self.now.plain post.old post.new (asks_to_join me.now number battle.now (option_copied script_password.entry) (address (at_number self.now.plain.clients client))).told) }
-        ensures change { IfOk result (λ change. change ≡ InBattles (Ask number me.now (option_copied script_password.entry))) }
-    {
-        let ip = self.address_of(client)?;
-        let line = LentReply::JoinBattleRequest(me, &ip);
-        let told = self.tell_user(&battle.opened.founder, line, post);
-        drop(ip);
-        told?;
-        Ok(Change::InBattles(BattleChange::Ask {
-            number,
-            name: me.copy(),
-            script_password: copy_word(self.alloc, script_password)?,
-        }))
-    }
+/// A user asks to join a battle, with the script password that it gave, and the founder is told.
+fn ask_to_join(
+    maps: &Maps,
+    client: u64,
+    me: &NameBuf,
+    number: u32,
+    battle: &Battle,
+    script_password: Option<&WordBuf>,
+    post: &mut Post,
+) -> Result<Change, AllocError>
+    requires { name_of maps.now.plain client ≡ Some me.now }
+    ensures told { IfOk result (λ _. Told maps.now.plain post.old post.new (asks_to_join me.now number battle.now (option_copied script_password.entry) (address (at_number maps.now.plain.clients client))).told) }
+    ensures change { IfOk result (λ change. change ≡ InBattles (Ask number me.now (option_copied script_password.entry))) }
+{
+    let ip = address_of(maps, client)?;
+    let line = LentReply::JoinBattleRequest(me, &ip);
+    let told = maps.tell_user(&battle.opened.founder, line, post);
+    drop(ip);
+    told?;
+    Ok(Change::InBattles(BattleChange::Ask {
+        number,
+        name: me.copy(),
+        script_password: copy_word(maps.alloc(), script_password)?,
+    }))
+}
 
-    /// `JOINBATTLEACCEPT`: the user is in a battle, which it founded, and the one who joins asks to.
-    pub fn accept(
-        &self,
-        client: u64,
-        me: &NameBuf,
-        name: &NameBuf,
-        post: &mut Post,
-    ) -> Result<Change, Stop>
-        requires me { name_of self.now.plain client ≡ Some me.now }
-        requires issuer { post.old.issuer ≡ client }
-        ensures { Answers self.now.plain client post.old post.new (accept self.now.plain me.now name.now) result }
-    {
-        let (number, battle) = self.own_battle(me)?;
-        founded_by(battle, me)?;
-        let asker = asker_named(battle, name)?;
-        let script_password = asker.script_password();
-        self.tell_joining(
-            name,
-            number,
-            battle,
-            script_password,
-            Recipient::Other,
-            post,
-        )?;
-        Ok(Change::InBattles(BattleChange::LetIn {
-            number,
-            name: name.copy(),
-        }))
-    }
+/// `JOINBATTLEACCEPT`: the user is in a battle, which it founded, and the one who joins asks to.
+pub fn accept(
+    maps: &Maps,
+    client: u64,
+    me: &NameBuf,
+    name: &NameBuf,
+    post: &mut Post,
+) -> Result<Change, Stop>
+    requires me { name_of maps.now.plain client ≡ Some me.now }
+    requires issuer { post.old.issuer ≡ client }
+    ensures { Answers maps.now.plain client post.old post.new (accept maps.now.plain me.now name.now) result }
+{
+    let (number, battle) = own_battle(maps, me)?;
+    founded_by(battle, me)?;
+    let asker = asker_named(battle, name)?;
+    let script_password = asker.script_password();
+    tell_joining(
+        maps,
+        name,
+        number,
+        battle,
+        script_password,
+        Recipient::Other,
+        post,
+    )?;
+    Ok(Change::InBattles(BattleChange::LetIn {
+        number,
+        name: name.copy(),
+    }))
+}
 
-    /// `JOINBATTLEDENY`: the user is in a battle, which it founded, and the one who is denied it asks to
-    /// join. It is told the reason, if one is given.
-    pub fn deny(
-        &self,
-        client: u64,
-        me: &NameBuf,
-        name: &NameBuf,
-        reason: Option<&TextBuf>,
-        post: &mut Post,
-    ) -> Result<Change, Stop>
-        ensures { Answers self.now.plain client post.old post.new (deny self.now.plain me.now name.now (option_copied reason.entry)) result }
-    {
-        let (number, battle) = self.own_battle(me)?;
-        founded_by(battle, me)?;
-        asker_named(battle, name)?;
-        let reason = reason_given(reason);
-        self.tell_user(name, LentReply::JoinBattleFailed(&reason), post)?;
-        Ok(stop_asking(number, name))
-    }
+/// `JOINBATTLEDENY`: the user is in a battle, which it founded, and the one who is denied it asks to
+/// join. It is told the reason, if one is given.
+pub fn deny(
+    maps: &Maps,
+    client: u64,
+    me: &NameBuf,
+    name: &NameBuf,
+    reason: Option<&TextBuf>,
+    post: &mut Post,
+) -> Result<Change, Stop>
+    ensures { Answers maps.now.plain client post.old post.new (deny maps.now.plain me.now name.now (option_copied reason.entry)) result }
+{
+    let (number, battle) = own_battle(maps, me)?;
+    founded_by(battle, me)?;
+    asker_named(battle, name)?;
+    let reason = reason_given(reason);
+    maps.tell_user(name, LentReply::JoinBattleFailed(&reason), post)?;
+    Ok(stop_asking(number, name))
+}
 
-    /// Tells that one joins a battle: itself, the founder, who gets the script password too, and all others.
-    fn tell_joining(
-        &self,
-        name: &NameBuf,
-        number: u32,
-        battle: &Battle,
-        script_password: Option<&WordBuf>,
-        recipient: Recipient,
-        post: &mut Post,
-    ) -> Result<(), AllocError>
-        requires { is_named (same_name name.now) (name_of self.now.plain post.old.issuer) ≡ is_issuer recipient }
-        ensures { OnOk result (Told self.now.plain post.old post.new (joining name.now number battle.now (option_copied script_password.entry))) }
-    {
-        self.tell_joiner(name, number, battle, recipient, post)?;
-        let founder = &battle.opened.founder;
-        let line = LentReply::JoinedBattle(number, name, script_password);
-        self.tell_user(founder, line, post)?;
-        let line = LentReply::JoinedBattle(number, name, None);
-        self.tell_all_but(name, founder, line, post)
-    }
+/// Tells that one joins a battle: itself, the founder, who gets the script password too, and all others.
+fn tell_joining(
+    maps: &Maps,
+    name: &NameBuf,
+    number: u32,
+    battle: &Battle,
+    script_password: Option<&WordBuf>,
+    recipient: Recipient,
+    post: &mut Post,
+) -> Result<(), AllocError>
+    requires { is_named (same_name name.now) (name_of maps.now.plain post.old.issuer) ≡ is_issuer recipient }
+    ensures { OnOk result (Told maps.now.plain post.old post.new (joining name.now number battle.now (option_copied script_password.entry))) }
+{
+    tell_joiner(maps, name, number, battle, recipient, post)?;
+    let founder = &battle.opened.founder;
+    let line = LentReply::JoinedBattle(number, name, script_password);
+    maps.tell_user(founder, line, post)?;
+    let line = LentReply::JoinedBattle(number, name, None);
+    maps.tell_all_but(name, founder, line, post)
+}
 
-    /// Tells one who joins a battle what its members share, and asks for its status.
-    fn tell_joiner(
-        &self,
-        name: &NameBuf,
-        number: u32,
-        battle: &Battle,
-        recipient: Recipient,
-        post: &mut Post,
-    ) -> Result<(), AllocError>
-        requires { is_named (same_name name.now) (name_of self.now.plain post.old.issuer) ≡ is_issuer recipient }
-        ensures { OnOk result (Told self.now.plain post.old post.new (tell (user name.now) (reply.JoinBattle number battle.now.game_hash ∷ reply.JoinedBattle number name.now None ∷ (room_lines number battle.now.room ++ reply.RequestBattleStatus ∷ [])) ∷ [])) }
-    {
-        post.begin_own();
-        write(
-            recipient,
-            LentReply::JoinBattle(number, battle.game_hash),
-            post,
-        )?;
-        write(recipient, LentReply::JoinedBattle(number, name, None), post)?;
-        write_room(recipient, number, &battle.room, post)?;
-        write(recipient, LentReply::RequestBattleStatus, post)?;
-        self.seats.address_user(name, post)?;
-        Ok(())
-    }
+/// Tells one who joins a battle what its members share, and asks for its status.
+fn tell_joiner(
+    maps: &Maps,
+    name: &NameBuf,
+    number: u32,
+    battle: &Battle,
+    recipient: Recipient,
+    post: &mut Post,
+) -> Result<(), AllocError>
+    requires { is_named (same_name name.now) (name_of maps.now.plain post.old.issuer) ≡ is_issuer recipient }
+    ensures { OnOk result (Told maps.now.plain post.old post.new (tell (user name.now) (reply.JoinBattle number battle.now.game_hash ∷ reply.JoinedBattle number name.now None ∷ (room_lines number battle.now.room ++ reply.RequestBattleStatus ∷ [])) ∷ [])) }
+{
+    post.begin_own();
+    write(
+        recipient,
+        LentReply::JoinBattle(number, battle.game_hash),
+        post,
+    )?;
+    write(recipient, LentReply::JoinedBattle(number, name, None), post)?;
+    write_room(recipient, number, &battle.room, post)?;
+    write(recipient, LentReply::RequestBattleStatus, post)?;
+    maps.address_user(name, post)?;
+    Ok(())
 }
 
 /// Why one was denied a battle, in words.

@@ -11,16 +11,14 @@ ghost use Rattle.lobby_machine.specs.Answers.{Answers};
 ghost use Rattle.lobby_machine.specs.BattleTalk.{FitsForce, forced, forced_colour, forced_status, words_line, words_told};
 
 use super::battle_guards::{
-    bot_named, founded_by, free_bot_name, may_change, member_named, not_oneself, room_for_bot,
-    room_for_tags, room_for_units,
+    bot_named, founded_by, free_bot_name, may_change, member_named, not_oneself, own_battle,
+    room_for_bot, room_for_tags, room_for_units,
 };
-use super::battles::{Leaving, in_room};
-use crate::battles::{BattleChange, RoomChange};
-use crate::change::Change;
-use crate::maps::Maps;
+use super::battles::{Leaving, give_status, in_room, tell_leaving};
 use crate::refusal::Stop;
 use battle_room::{Bot, Member, Rect, Room};
 use line_words::{KeyBuf, NameBuf, Pair, PairList, SentenceBuf, WordBuf, WordList};
+use lobby_maps::{BattleChange, Change, Maps, RoomChange};
 use lobby_post::Post;
 use reply_grammar::LentReply;
 use status_bits::{BattleStatus, merge_battle};
@@ -94,285 +92,283 @@ impl Wording {
     }
 }
 
-impl Maps {
-    /// `ADDBOT`: the user is in a battle; no bot has that name, and there is room for one more.
-    pub fn add_bot(
-        &self,
-        client: u64,
-        me: &NameBuf,
-        name: &WordBuf,
-        asked: u32,
-        colour: i64,
-        ai: &SentenceBuf,
-        post: &mut Post,
-    ) -> Result<Change, Stop>
-        ensures { Answers self.now.plain client post.old post.new (add_bot self.now.plain me.now (new_bot name.now me.now asked colour ai.now)) result }
-    {
-        let (number, battle) = self.own_battle(me)?;
-        free_bot_name(battle, name)?;
-        room_for_bot(battle)?;
-        let status = merge_battle(BattleStatus::zero(), asked);
-        let line = LentReply::AddBot(number, name, me, status.word(), colour, ai);
-        self.tell_room(&battle.room, line, post)?;
-        let name = WordBuf::copy_of(self.alloc, name.as_slice())?;
-        let ai = SentenceBuf::copy_of(self.alloc, ai.as_slice())?;
-        let bot = Bot::new(me.copy(), name, status, colour, ai);
-        Ok(in_room(number, RoomChange::AddBot { bot }))
-    }
+/// `ADDBOT`: the user is in a battle; no bot has that name, and there is room for one more.
+pub fn add_bot(
+    maps: &Maps,
+    client: u64,
+    me: &NameBuf,
+    name: &WordBuf,
+    asked: u32,
+    colour: i64,
+    ai: &SentenceBuf,
+    post: &mut Post,
+) -> Result<Change, Stop>
+    ensures { Answers maps.now.plain client post.old post.new (add_bot maps.now.plain me.now (new_bot name.now me.now asked colour ai.now)) result }
+{
+    let (number, battle) = own_battle(maps, me)?;
+    free_bot_name(battle, name)?;
+    room_for_bot(battle)?;
+    let status = merge_battle(BattleStatus::zero(), asked);
+    let line = LentReply::AddBot(number, name, me, status.word(), colour, ai);
+    maps.tell_room(&battle.room, line, post)?;
+    let name = WordBuf::copy_of(maps.alloc(), name.as_slice())?;
+    let ai = SentenceBuf::copy_of(maps.alloc(), ai.as_slice())?;
+    let bot = Bot::new(me.copy(), name, status, colour, ai);
+    Ok(in_room(number, RoomChange::AddBot { bot }))
+}
 
-    /// `UPDATEBOT`: the user is in a battle; a bot has that name, and the user owns it or founded the
-    /// battle.
-    pub fn update_bot(
-        &self,
-        client: u64,
-        me: &NameBuf,
-        name: &WordBuf,
-        asked: u32,
-        colour: i64,
-        post: &mut Post,
-    ) -> Result<Change, Stop>
-        ensures { Answers self.now.plain client post.old post.new (update_bot self.now.plain me.now name.now asked colour) result }
-    {
-        let (number, battle) = self.own_battle(me)?;
-        let bot = bot_named(battle, name)?;
-        may_change(me, battle, bot)?;
-        let status = merge_battle(bot.status(), asked);
-        let line = LentReply::UpdateBot(number, name, status.word(), colour);
-        self.tell_room(&battle.room, line, post)?;
-        let name = WordBuf::copy_of(self.alloc, name.as_slice())?;
-        let change = RoomChange::BotStatus {
-            name,
-            status,
-            colour,
-        };
-        Ok(in_room(number, change))
-    }
+/// `UPDATEBOT`: the user is in a battle; a bot has that name, and the user owns it or founded the
+/// battle.
+pub fn update_bot(
+    maps: &Maps,
+    client: u64,
+    me: &NameBuf,
+    name: &WordBuf,
+    asked: u32,
+    colour: i64,
+    post: &mut Post,
+) -> Result<Change, Stop>
+    ensures { Answers maps.now.plain client post.old post.new (update_bot maps.now.plain me.now name.now asked colour) result }
+{
+    let (number, battle) = own_battle(maps, me)?;
+    let bot = bot_named(battle, name)?;
+    may_change(me, battle, bot)?;
+    let status = merge_battle(bot.status(), asked);
+    let line = LentReply::UpdateBot(number, name, status.word(), colour);
+    maps.tell_room(&battle.room, line, post)?;
+    let name = WordBuf::copy_of(maps.alloc(), name.as_slice())?;
+    let change = RoomChange::BotStatus {
+        name,
+        status,
+        colour,
+    };
+    Ok(in_room(number, change))
+}
 
-    /// `REMOVEBOT`: as `UPDATEBOT`.
-    pub fn remove_bot(
-        &self,
-        client: u64,
-        me: &NameBuf,
-        name: &WordBuf,
-        post: &mut Post,
-    ) -> Result<Change, Stop>
-        ensures { Answers self.now.plain client post.old post.new (remove_bot self.now.plain me.now name.now) result }
-    {
-        let (number, battle) = self.own_battle(me)?;
-        let bot = bot_named(battle, name)?;
-        may_change(me, battle, bot)?;
-        self.tell_room(&battle.room, LentReply::RemoveBot(number, name), post)?;
-        let name = WordBuf::copy_of(self.alloc, name.as_slice())?;
-        Ok(in_room(number, RoomChange::RemoveBot { name }))
-    }
+/// `REMOVEBOT`: as `UPDATEBOT`.
+pub fn remove_bot(
+    maps: &Maps,
+    client: u64,
+    me: &NameBuf,
+    name: &WordBuf,
+    post: &mut Post,
+) -> Result<Change, Stop>
+    ensures { Answers maps.now.plain client post.old post.new (remove_bot maps.now.plain me.now name.now) result }
+{
+    let (number, battle) = own_battle(maps, me)?;
+    let bot = bot_named(battle, name)?;
+    may_change(me, battle, bot)?;
+    maps.tell_room(&battle.room, LentReply::RemoveBot(number, name), post)?;
+    let name = WordBuf::copy_of(maps.alloc(), name.as_slice())?;
+    Ok(in_room(number, RoomChange::RemoveBot { name }))
+}
 
-    /// `ADDSTARTRECT`: the user is in a battle, which it founded.
-    pub fn add_rect(
-        &self,
-        client: u64,
-        me: &NameBuf,
-        ally: u8,
-        rect: Rect,
-        post: &mut Post,
-    ) -> Result<Change, Stop>
-        requires { ally < 16 }
-        ensures { Answers self.now.plain client post.old post.new (add_rect self.now.plain me.now ally rect) result }
-    {
-        let (number, battle) = self.own_battle(me)?;
-        founded_by(battle, me)?;
-        let line = LentReply::AddStartRect(ally, rect.left, rect.top, rect.right, rect.bottom);
-        self.tell_room(&battle.room, line, post)?;
-        Ok(in_room(number, RoomChange::SetRect { ally, rect }))
-    }
+/// `ADDSTARTRECT`: the user is in a battle, which it founded.
+pub fn add_rect(
+    maps: &Maps,
+    client: u64,
+    me: &NameBuf,
+    ally: u8,
+    rect: Rect,
+    post: &mut Post,
+) -> Result<Change, Stop>
+    requires { ally < 16 }
+    ensures { Answers maps.now.plain client post.old post.new (add_rect maps.now.plain me.now ally rect) result }
+{
+    let (number, battle) = own_battle(maps, me)?;
+    founded_by(battle, me)?;
+    let line = LentReply::AddStartRect(ally, rect.left, rect.top, rect.right, rect.bottom);
+    maps.tell_room(&battle.room, line, post)?;
+    Ok(in_room(number, RoomChange::SetRect { ally, rect }))
+}
 
-    /// `REMOVESTARTRECT`: the user is in a battle, which it founded.
-    pub fn remove_rect(
-        &self,
-        client: u64,
-        me: &NameBuf,
-        ally: u8,
-        post: &mut Post,
-    ) -> Result<Change, Stop>
-        requires { ally < 16 }
-        ensures { Answers self.now.plain client post.old post.new (remove_rect self.now.plain me.now ally) result }
-    {
-        let (number, battle) = self.own_battle(me)?;
-        founded_by(battle, me)?;
-        self.tell_room(&battle.room, LentReply::RemoveStartRect(ally), post)?;
-        Ok(in_room(number, RoomChange::RemoveRect { ally }))
-    }
+/// `REMOVESTARTRECT`: the user is in a battle, which it founded.
+pub fn remove_rect(
+    maps: &Maps,
+    client: u64,
+    me: &NameBuf,
+    ally: u8,
+    post: &mut Post,
+) -> Result<Change, Stop>
+    requires { ally < 16 }
+    ensures { Answers maps.now.plain client post.old post.new (remove_rect maps.now.plain me.now ally) result }
+{
+    let (number, battle) = own_battle(maps, me)?;
+    founded_by(battle, me)?;
+    maps.tell_room(&battle.room, LentReply::RemoveStartRect(ally), post)?;
+    Ok(in_room(number, RoomChange::RemoveRect { ally }))
+}
 
-    /// `SETSCRIPTTAGS`: the user is in a battle, which it founded, and there is room for the tags.
-    pub fn set_script_tags(
-        &self,
-        client: u64,
-        me: &NameBuf,
-        pairs: &PairList,
-        post: &mut Post,
-    ) -> Result<Change, Stop>
-        ensures { Answers self.now.plain client post.old post.new (set_script_tags self.now.plain me.now pairs.now) result }
-    {
-        let (number, battle) = self.own_battle(me)?;
-        founded_by(battle, me)?;
-        room_for_tags(battle, pairs.as_slice())?;
-        self.tell_room(
-            &battle.room,
-            LentReply::SetScriptTags(pairs.as_slice()),
-            post,
-        )?;
-        let pairs = copy_pairs(self.alloc, pairs.as_slice())?;
-        Ok(in_room(number, RoomChange::SetTags { pairs }))
-    }
+/// `SETSCRIPTTAGS`: the user is in a battle, which it founded, and there is room for the tags.
+pub fn set_script_tags(
+    maps: &Maps,
+    client: u64,
+    me: &NameBuf,
+    pairs: &PairList,
+    post: &mut Post,
+) -> Result<Change, Stop>
+    ensures { Answers maps.now.plain client post.old post.new (set_script_tags maps.now.plain me.now pairs.now) result }
+{
+    let (number, battle) = own_battle(maps, me)?;
+    founded_by(battle, me)?;
+    room_for_tags(battle, pairs.as_slice())?;
+    maps.tell_room(
+        &battle.room,
+        LentReply::SetScriptTags(pairs.as_slice()),
+        post,
+    )?;
+    let pairs = copy_pairs(maps.alloc(), pairs.as_slice())?;
+    Ok(in_room(number, RoomChange::SetTags { pairs }))
+}
 
-    /// `REMOVESCRIPTTAGS`: the user is in a battle, which it founded. Keys that are not there are left
-    /// out.
-    pub fn remove_script_tags(
-        &self,
-        client: u64,
-        me: &NameBuf,
-        keys: &WordList,
-        post: &mut Post,
-    ) -> Result<Change, Stop>
-        ensures { Answers self.now.plain client post.old post.new (remove_script_tags self.now.plain me.now keys.now) result }
-    {
-        let (number, battle) = self.own_battle(me)?;
-        founded_by(battle, me)?;
-        let there = battle.room.keys_there(self.alloc, keys.as_slice())?;
-        self.tell_words(&battle.room, Wording::TagsGone, there, post)?;
-        let keys = copy_words(self.alloc, keys.as_slice())?;
-        Ok(in_room(number, RoomChange::RemoveTags { keys }))
-    }
+/// `REMOVESCRIPTTAGS`: the user is in a battle, which it founded. Keys that are not there are left
+/// out.
+pub fn remove_script_tags(
+    maps: &Maps,
+    client: u64,
+    me: &NameBuf,
+    keys: &WordList,
+    post: &mut Post,
+) -> Result<Change, Stop>
+    ensures { Answers maps.now.plain client post.old post.new (remove_script_tags maps.now.plain me.now keys.now) result }
+{
+    let (number, battle) = own_battle(maps, me)?;
+    founded_by(battle, me)?;
+    let there = battle.room.keys_there(maps.alloc(), keys.as_slice())?;
+    tell_words(maps, &battle.room, Wording::TagsGone, there, post)?;
+    let keys = copy_words(maps.alloc(), keys.as_slice())?;
+    Ok(in_room(number, RoomChange::RemoveTags { keys }))
+}
 
-    /// `DISABLEUNITS`: the user is in a battle, which it founded, and there is room for the units. Those
-    /// that are disabled already are left out.
-    pub fn disable_units(
-        &self,
-        client: u64,
-        me: &NameBuf,
-        units: &WordList,
-        post: &mut Post,
-    ) -> Result<Change, Stop>
-        ensures { Answers self.now.plain client post.old post.new (disable self.now.plain me.now units.now) result }
-    {
-        let (number, battle) = self.own_battle(me)?;
-        founded_by(battle, me)?;
-        room_for_units(battle, units.as_slice())?;
-        let new = battle.room.units_new(self.alloc, units.as_slice())?;
-        self.tell_words(&battle.room, Wording::UnitsDisabled, new, post)?;
-        let words = copy_words(self.alloc, units.as_slice())?;
-        Ok(in_room(number, RoomChange::DisableUnits { words }))
-    }
+/// `DISABLEUNITS`: the user is in a battle, which it founded, and there is room for the units. Those
+/// that are disabled already are left out.
+pub fn disable_units(
+    maps: &Maps,
+    client: u64,
+    me: &NameBuf,
+    units: &WordList,
+    post: &mut Post,
+) -> Result<Change, Stop>
+    ensures { Answers maps.now.plain client post.old post.new (disable maps.now.plain me.now units.now) result }
+{
+    let (number, battle) = own_battle(maps, me)?;
+    founded_by(battle, me)?;
+    room_for_units(battle, units.as_slice())?;
+    let new = battle.room.units_new(maps.alloc(), units.as_slice())?;
+    tell_words(maps, &battle.room, Wording::UnitsDisabled, new, post)?;
+    let words = copy_words(maps.alloc(), units.as_slice())?;
+    Ok(in_room(number, RoomChange::DisableUnits { words }))
+}
 
-    /// `ENABLEUNITS`: the user is in a battle, which it founded. Units that are not disabled are left out.
-    pub fn enable_units(
-        &self,
-        client: u64,
-        me: &NameBuf,
-        units: &WordList,
-        post: &mut Post,
-    ) -> Result<Change, Stop>
-        ensures { Answers self.now.plain client post.old post.new (enable self.now.plain me.now units.now) result }
-    {
-        let (number, battle) = self.own_battle(me)?;
-        founded_by(battle, me)?;
-        let there = battle.room.units_there(self.alloc, units.as_slice())?;
-        self.tell_words(&battle.room, Wording::UnitsEnabled, there, post)?;
-        let words = copy_words(self.alloc, units.as_slice())?;
-        Ok(in_room(number, RoomChange::EnableUnits { words }))
-    }
+/// `ENABLEUNITS`: the user is in a battle, which it founded. Units that are not disabled are left out.
+pub fn enable_units(
+    maps: &Maps,
+    client: u64,
+    me: &NameBuf,
+    units: &WordList,
+    post: &mut Post,
+) -> Result<Change, Stop>
+    ensures { Answers maps.now.plain client post.old post.new (enable maps.now.plain me.now units.now) result }
+{
+    let (number, battle) = own_battle(maps, me)?;
+    founded_by(battle, me)?;
+    let there = battle.room.units_there(maps.alloc(), units.as_slice())?;
+    tell_words(maps, &battle.room, Wording::UnitsEnabled, there, post)?;
+    let words = copy_words(maps.alloc(), units.as_slice())?;
+    Ok(in_room(number, RoomChange::EnableUnits { words }))
+}
 
-    /// `ENABLEALLUNITS`: the user is in a battle, which it founded.
-    pub fn enable_all_units(
-        &self,
-        client: u64,
-        me: &NameBuf,
-        post: &mut Post,
-    ) -> Result<Change, Stop>
-        ensures { Answers self.now.plain client post.old post.new (enable_every self.now.plain me.now) result }
-    {
-        let (number, battle) = self.own_battle(me)?;
-        founded_by(battle, me)?;
-        self.tell_room(&battle.room, LentReply::EnableAllUnits, post)?;
-        Ok(in_room(number, RoomChange::EnableAllUnits))
-    }
+/// `ENABLEALLUNITS`: the user is in a battle, which it founded.
+pub fn enable_all_units(
+    maps: &Maps,
+    client: u64,
+    me: &NameBuf,
+    post: &mut Post,
+) -> Result<Change, Stop>
+    ensures { Answers maps.now.plain client post.old post.new (enable_every maps.now.plain me.now) result }
+{
+    let (number, battle) = own_battle(maps, me)?;
+    founded_by(battle, me)?;
+    maps.tell_room(&battle.room, LentReply::EnableAllUnits, post)?;
+    Ok(in_room(number, RoomChange::EnableAllUnits))
+}
 
-    /// Tells the members of a battle of words, or nothing where there are none.
-    fn tell_words(
-        &self,
-        room: &Room,
-        wording: Wording,
-        words: WordList,
-        post: &mut Post,
-    ) -> Result<(), AllocError>
-        ensures { OnOk result (Told self.now.plain post.old post.new (tell (users (member_names room.now)) (words_told wording words) ∷ [])) }
-    {
-        if words.as_slice().is_empty() {
-            return Ok(());
-        }
-        let told = self.tell_room(room, wording.line(words.as_slice()), post);
-        drop(words);
-        told
+/// Tells the members of a battle of words, or nothing where there are none.
+fn tell_words(
+    maps: &Maps,
+    room: &Room,
+    wording: Wording,
+    words: WordList,
+    post: &mut Post,
+) -> Result<(), AllocError>
+    ensures { OnOk result (Told maps.now.plain post.old post.new (tell (users (member_names room.now)) (words_told wording words) ∷ [])) }
+{
+    if words.as_slice().is_empty() {
+        return Ok(());
     }
+    let told = maps.tell_room(room, wording.line(words.as_slice()), post);
+    drop(words);
+    told
+}
 
-    /// `HANDICAP` and the four `FORCE` commands: the user is in a battle, which it founded, and so is the
-    /// one on whom it is forced.
-    pub fn force(
-        &self,
-        client: u64,
-        me: &NameBuf,
-        name: &NameBuf,
-        force: Force,
-        post: &mut Post,
-    ) -> Result<Change, Stop>
-        requires { FitsForce force }
-        ensures { Answers self.now.plain client post.old post.new (forced self.now.plain me.now name.now force) result }
-    {
-        let (number, battle) = self.own_battle(me)?;
-        founded_by(battle, me)?;
-        let member = member_named(battle, name)?;
-        let status = force.status(member);
-        let colour = force.colour(member);
-        Ok(self.give_status(number, battle, name, status, colour, post)?)
-    }
+/// `HANDICAP` and the four `FORCE` commands: the user is in a battle, which it founded, and so is the
+/// one on whom it is forced.
+pub fn force_on_member(
+    maps: &Maps,
+    client: u64,
+    me: &NameBuf,
+    name: &NameBuf,
+    force: Force,
+    post: &mut Post,
+) -> Result<Change, Stop>
+    requires { FitsForce force }
+    ensures { Answers maps.now.plain client post.old post.new (forced maps.now.plain me.now name.now force) result }
+{
+    let (number, battle) = own_battle(maps, me)?;
+    founded_by(battle, me)?;
+    let member = member_named(battle, name)?;
+    let status = force.status(member);
+    let colour = force.colour(member);
+    Ok(give_status(maps, number, battle, name, status, colour, post)?)
+}
 
-    /// `KICKFROMBATTLE`: the user is in a battle, which it founded, and so is the other one who leaves.
-    pub fn kick(
-        &self,
-        client: u64,
-        me: &NameBuf,
-        name: &NameBuf,
-        post: &mut Post,
-    ) -> Result<Change, Stop>
-        ensures { Answers self.now.plain client post.old post.new (kick self.now.plain me.now name.now) result }
-    {
-        let (number, battle) = self.own_battle(me)?;
-        founded_by(battle, me)?;
-        not_oneself(me, name)?;
-        member_named(battle, name)?;
-        self.tell_user(name, LentReply::ForceQuitBattle, post)?;
-        self.tell_leaving(name, number, battle, Leaving::Seen, post)?;
-        Ok(Change::InBattles(BattleChange::Leave {
-            number,
-            name: name.copy(),
-        }))
-    }
+/// `KICKFROMBATTLE`: the user is in a battle, which it founded, and so is the other one who leaves.
+pub fn kick(
+    maps: &Maps,
+    client: u64,
+    me: &NameBuf,
+    name: &NameBuf,
+    post: &mut Post,
+) -> Result<Change, Stop>
+    ensures { Answers maps.now.plain client post.old post.new (kick maps.now.plain me.now name.now) result }
+{
+    let (number, battle) = own_battle(maps, me)?;
+    founded_by(battle, me)?;
+    not_oneself(me, name)?;
+    member_named(battle, name)?;
+    maps.tell_user(name, LentReply::ForceQuitBattle, post)?;
+    tell_leaving(maps, name, number, battle, Leaving::Seen, post)?;
+    Ok(Change::InBattles(BattleChange::Leave {
+        number,
+        name: name.copy(),
+    }))
+}
 
-    /// `RING`: the user is in a battle, which it founded, and so is the one who hears it.
-    pub fn ring(
-        &self,
-        client: u64,
-        me: &NameBuf,
-        name: &NameBuf,
-        post: &mut Post,
-    ) -> Result<Change, Stop>
-        ensures { Answers self.now.plain client post.old post.new (ring self.now.plain me.now name.now) result }
-    {
-        let (_, battle) = self.own_battle(me)?;
-        founded_by(battle, me)?;
-        member_named(battle, name)?;
-        self.tell_user(name, LentReply::Ring(me), post)?;
-        Ok(Change::Nothing)
-    }
+/// `RING`: the user is in a battle, which it founded, and so is the one who hears it.
+pub fn ring(
+    maps: &Maps,
+    client: u64,
+    me: &NameBuf,
+    name: &NameBuf,
+    post: &mut Post,
+) -> Result<Change, Stop>
+    ensures { Answers maps.now.plain client post.old post.new (ring maps.now.plain me.now name.now) result }
+{
+    let (_, battle) = own_battle(maps, me)?;
+    founded_by(battle, me)?;
+    member_named(battle, name)?;
+    maps.tell_user(name, LentReply::Ring(me), post)?;
+    Ok(Change::Nothing)
 }
 
 /// Pairs as a list of their own.

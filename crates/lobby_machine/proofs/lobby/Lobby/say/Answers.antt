@@ -3,10 +3,10 @@ use Rattle.std.specs.Prelude.{is_some}
 use Rattle.lobby_model.specs.declared.event.Event.TheVariants as event
 use Rattle.lobby_model.specs.State.{State, hears}
 use Rattle.lobby_model.proofs.Quiet.{effect_unheard, next_unheard, quiet_touches, unheard_sends}
-use Rattle.lobby_machine.specs.Changes.{changed}
-use Rattle.lobby_machine.specs.Dirty.{DirtyAfter}
-use Rattle.lobby_machine.specs.Shown.{Shown, dirty_at}
-use Rattle.lobby_machine.proofs.Dirtied.{dirty_quiet}
+use Rattle.lobby_maps.specs.Changes.{changed}
+use Rattle.lobby_maps.specs.Dirty.{DirtyAfter}
+use Rattle.lobby_maps.specs.Shown.{Shown, dirty_at}
+use Rattle.lobby_maps.proofs.Dirtied.{dirty_quiet}
 use Rattle.lobby_machine.proofs.Events.{on_dirty, on_ok, on_wakes, said_effect, said_matches}
 use Rattle.lobby_machine.proofs.lobby.Lobby.say.Goals as goal
 

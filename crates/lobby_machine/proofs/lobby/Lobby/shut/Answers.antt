@@ -1,9 +1,9 @@
 use Rattle.std.proofs.Common.{ℕ, ◌≤◌}
 use Rattle.lobby_model.specs.declared.event.Event.TheVariants as event
 use Rattle.lobby_model.specs.State.{State}
-use Rattle.lobby_machine.specs.Changes.{changed}
-use Rattle.lobby_machine.specs.Dirty.{DirtyAfter}
-use Rattle.lobby_machine.specs.Shown.{dirty_at}
+use Rattle.lobby_maps.specs.Changes.{changed}
+use Rattle.lobby_maps.specs.Dirty.{DirtyAfter}
+use Rattle.lobby_maps.specs.Shown.{dirty_at}
 use Rattle.lobby_machine.proofs.Events.{on_dirty, on_ok, on_wakes}
 use Rattle.lobby_machine.proofs.lobby.Lobby.shut.Goals as goal
 

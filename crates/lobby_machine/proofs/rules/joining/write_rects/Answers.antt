@@ -5,7 +5,7 @@ use Rattle.battle_room.specs.Room.{Rect}
 use Rattle.lobby_model.specs.Battles.{rect_line}
 use Rattle.lobby_machine.specs.BattleTalk.{written}
 use Rattle.lobby_machine.proofs.Joins.{settled, written_more}
-use Rattle.lobby_machine.proofs.Rooms.{rect_told, rects_told, placed, same_place}
+use Rattle.lobby_maps.proofs.Rooms.{rect_told, rects_told, placed, same_place}
 use Rattle.lobby_machine.proofs.rules.joining.write_rects.Goals as goal
 use Rattle.lobby_machine.proofs.rules.joining.write_rects.Goals.{in-Some+in_ok-write, in_default}
 

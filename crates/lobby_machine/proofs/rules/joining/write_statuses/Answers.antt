@@ -4,7 +4,7 @@ use Rattle.lobby_model.specs.Battles.{status_line}
 use Rattle.std.proofs.lemmas.List.{take_all}
 use Rattle.lobby_machine.specs.BattleTalk.{written}
 use Rattle.lobby_machine.proofs.Joins.{written_more}
-use Rattle.lobby_machine.proofs.Rooms.{put_one_line}
+use Rattle.lobby_maps.proofs.Rooms.{put_one_line}
 use Rattle.lobby_machine.proofs.rules.joining.write_statuses.Goals as goal
 
 pub loop-member-init : goal.loop-member-init

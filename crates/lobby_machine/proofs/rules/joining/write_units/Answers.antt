@@ -3,7 +3,7 @@ use Rattle.reply_grammar.specs.declared.Reply.TheVariants as reply
 use Rattle.std.proofs.lemmas.List.{take_all}
 use Rattle.lobby_machine.specs.BattleTalk.{written}
 use Rattle.lobby_machine.proofs.Joins.{written_more}
-use Rattle.lobby_machine.proofs.Rooms.{put_one_line}
+use Rattle.lobby_maps.proofs.Rooms.{put_one_line}
 use Rattle.lobby_machine.proofs.rules.joining.write_units.Goals as goal
 
 pub loop-unit-init : goal.loop-unit-init

@@ -1,9 +1,0 @@
-use Rattle.lobby_machine.proofs.InBattles.{opened_so}
-use Rattle.lobby_machine.proofs.maps.Maps.open_battle.Goals as goal
-
-pub returns-in-Ok : goal.returns-in-Ok
-returns-in-Ok c =
-    opened_so c.args.self.now.plain c.args.client c.args.post.now c.tell_opening.new.post c.args.me.now c.in_ok-number.number
-    c.copy.result c.in_ok-battle.battle _ c.in_ok-battle.ensures.asked c.in_ok-may_open.ensures.ok c.in_ok-opens_unasked.ensures.ok c.in_ok-number.ensures.ok
-    c.in_ok-number.ensures.number c.in_ok-number.ensures.last c.copy.ensures c.requires.me c.in_ok-battle.ensures.alone
-    c.in-Ok.ensures

@@ -1,9 +1,0 @@
-use Rattle.std.proofs.Common.{length}
-use Rattle.lobby_machine.proofs.Members.{Continues}
-use Rattle.lobby_machine.proofs.maps.Maps.tell_members.Given as goal
-
-abbrev pub invariant-loop-rest : goal.invariant-loop-rest
-invariant-loop-rest l = Continues l.self.plain l.channel l.me l.initial.post l.post l.initial.rest l.rest
-
-abbrev pub decreases-loop-rest : goal.decreases-loop-rest
-decreases-loop-rest l = length l.rest

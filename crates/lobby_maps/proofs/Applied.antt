@@ -1,0 +1,32 @@
+-- From what a delivery makes of the clients to the next state, and from whom it touched to the workers.
+use Rattle.std.proofs.Common.{◌≡◌, ℕ, sym, ap, ◌∙◌}
+use Rattle.std.specs.Prelude.{◌&&◌}
+use Rattle.std.specs.List.{list_any}
+use Rattle.line_words.specs.Table.{ByNumber, map_values, same_number}
+use Rattle.lobby_model.specs.declared.event.Event.{Event}
+use Rattle.lobby_model.specs.State.{State, Client}
+use Rattle.lobby_model.specs.Events.{effect}
+use Rattle.lobby_model.specs.Next.{next, batch, delivered, with_batch}
+use Rattle.lobby_model.specs.Touched.{is_touched}
+use Rattle.lobby_model.proofs.Quiet.{touched_is}
+use Rattle.lobby_post.specs.Mask.{has_home}
+use Rattle.lobby_post.specs.Mail.{deliver, touched, wakes_home, IsWakes}
+use Rattle.lobby_post.specs.Posted.{Posted}
+use Rattle.lobby_maps.specs.Changes.{Matches}
+
+-- t are the maps after the event, before its lines are put
+module _ (s t : State) (e : Event) (post : Posted) (changed : effect s e ≡ t) (matches : Matches s e post) where
+  pub sent_so : (clients : ByNumber Client) → clients ≡ deliver s.settings.outbox_limit post.sent t.clients
+      → record t { clients = clients } ≡ next s e
+  sent_so clients is =
+      ap (λ (m : ByNumber Client). record t { clients = m }) (is
+      ∙ (λ i. map_values (λ d x. with_batch s.settings.outbox_limit (matches d i) x) t.clients))
+      ∙ sym (ap (delivered s e) changed)
+
+  pub woken_so : (mask : ℕ) → ((home : ℕ) → has_home mask home ≡ wakes_home post.sent t.clients home) → IsWakes s e mask
+  woken_so mask marks = λ home.
+      marks home
+      ∙ (λ i. list_any (λ x. same_number x.1.home home && touched (matches x.0 i) x.1) t.clients)
+      ∙ (λ i. list_any (λ x. same_number x.1.home home && sym (touched_is s.settings.outbox_limit (batch s e x.0) x.1) i) t.clients)
+      ∙ ap (λ (u : State). list_any (λ x. same_number x.1.home home && is_touched s.settings.outbox_limit (batch s e x.0) x.1) u.clients)
+      (sym changed)

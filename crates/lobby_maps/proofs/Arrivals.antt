@@ -1,0 +1,39 @@
+-- What others are told of one who logs in.
+use Rattle.std.proofs.Common.{◌≡◌, ◌≢◌, ◌==◌, ℕ, List, [], ◌∷◌, ◌++◌, refl, sym, ap, ◌∙◌, true, false, append-nil, arith}
+use Rattle.std.specs.Prelude.{None, Bool, if◌then◌else◌}
+use Rattle.reply_grammar.specs.Replies.{print_all, printed_line}
+use Rattle.reply_grammar.specs.declared.Reply.TheVariants as reply
+use Rattle.lobby_model.specs.State.{State, User}
+use Rattle.lobby_model.specs.Outcome.{tell, everyone, others}
+use Rattle.lobby_model.specs.Sessions.{added, shown_status, arrival}
+use Rattle.lobby_model.specs.Events.{under}
+use Rattle.lobby_post.specs.Posted.{Posted, Sends, Told, with_others}
+use Rattle.lobby_post.proofs.Telling.{told_lines_to_others}
+
+-- its status, where that is not 0
+pub not_zero : (n : ℕ) → n ≢ 0 → (n == 0) ≡ false
+not_zero n h = grind (arith)
+
+module _ (s : State) (old first mid new : Posted) (name : List ℕ) (user : User) (word : ℕ) (same : word ≡ user.status) where
+  abbrev pub arrived : Bool → Posted
+  arrived at_zero = if at_zero then first else with_others first (reply.ClientStatus name word ∷ [])
+
+  pub arrival_told : first ≡ record old { own = []; shared = printed_line None (added name user) } → mid ≡ arrived (word == 0)
+      → Sends s mid new everyone → Told s old new (tell others (arrival name user) ∷ [])
+  arrival_told one is sends =
+      let written : mid ≡ record old { own = []; shared = printed_line None (added name user) ++ print_all (under None (shown_status name user)) } =
+      is
+      ∙ elim (word == 0) as (λ b. arrived b ≡ record old {
+        own = [];
+        shared = printed_line None (added name user) ++ print_all
+            (under None (if b then [] else reply.ClientStatus name word ∷ []));
+      }) [
+        | true ↦ one ∙ (λ i. record old { own = []; shared = sym (append-nil (printed_line None (added name user))) i })
+        | false ↦ ap (λ p. with_others p (reply.ClientStatus name word ∷ [])) one
+      ]
+      ∙ (λ i. record old {
+        own = [];
+        shared = printed_line None (added name user) ++ print_all
+            (under None (if same i == 0 then [] else reply.ClientStatus name (same i) ∷ []));
+      }) in
+      told_lines_to_others s old mid new _ _ written (arrival name user) everyone sends refl refl

@@ -1,0 +1,13 @@
+-- The plain lobby of what contracts see.
+use Rattle.std.proofs.Common.{◌≡◌, ℕ, List, ap}
+use Rattle.line_words.specs.Table.{ByNumber}
+use Rattle.lobby_model.specs.State.{State, Client}
+use Rattle.lobby_maps.specs.Shown.{Shown}
+
+pub plainly : {v w : Shown} → v ≡ w → v.plain ≡ w.plain
+plainly same = ap (λ (lobby : Shown). lobby.plain) same
+
+-- clients and lists that are as they were
+pub shown_same : (s : State) (clients : ByNumber Client) (was now : List (List ℕ)) → clients ≡ s.clients → now ≡ was
+    → ◌≡◌ {A = Shown} (record { plain = record s { clients = clients }; dirty = now }) (record { plain = s; dirty = was })
+shown_same s clients was now same lists = λ i. record { plain = record s { clients = same i }; dirty = lists i }

@@ -1,0 +1,146 @@
+-- Walks: client after client is addressed.
+use Rattle.std.proofs.Common.{◌≡◌, ℕ, ◌+◌, ◌<◌, List, [], ◌∷◌, ◌++◌, length, take, refl, sym, ap, ◌∙◌, true, false, append_assoc, append-nil, slice_index_or, add-one, subst}
+use Rattle.std.specs.Prelude.{Option, Some, None, ◌||◌}
+use Rattle.std.specs.List.{AllByRecursion, IsDistinct}
+use Rattle.std.specs.List.Sorted.{IsStrictlySortedBy}
+use Rattle.std.specs.Ordering.{nat_cmp, is_eq}
+use Rattle.std.specs.declared.cmp.Ordering.TheVariants.{Less}
+use Rattle.std.proofs.lemmas.List.{map-append}
+use Rattle.std.proofs.lemmas.Grind.{flat_map-append}
+use Rattle.std.proofs.Math.Seq.{take-suc}
+use Rattle.line_words.specs.Table.{ByName, ByNumber, at_name, same_name, same_number, is_among}
+use Rattle.line_words.proofs.Tables.{same_name_is}
+use Rattle.line_words.proofs.Once.{same_name_equiv}
+use Rattle.lobby_model.specs.State.{State, Client, name_at, name_of}
+use Rattle.lobby_model.specs.Outcome.{is_named, everyone, user, users}
+use Rattle.lobby_model.proofs.Delivered.{same_itself, same_number_is}
+use Rattle.lobby_post.specs.Posted.{Posted, copy_to, addressed, has_number, AreApart, Reaches}
+use Rattle.lobby_maps.specs.declared.seats.Seat.{Seat}
+use Rattle.lobby_maps.specs.Seats.{client_in, clients_of, Agree, IsListed, IsOwn}
+
+pub addressed_none : (post : Posted) → post ≡ addressed post []
+addressed_none post = ap (λ ps. record post { sent = ps }) (sym (append-nil post.sent))
+
+pub addressed_more : (post : Posted) (cs ds : List ℕ) → addressed (addressed post cs) ds ≡ addressed post (cs ++ ds)
+addressed_more post cs ds = ap (λ ps. record post { sent = ps }) (append_assoc post.sent _ _
+    ∙ ap (λ ps. post.sent ++ ps) (sym (map-append (copy_to post) cs ds)))
+
+pub addressed_next : (post mid new : Posted) (cs : List ℕ) (c : ℕ) → mid ≡ addressed post cs
+    → new ≡ record mid { sent = mid.sent ++ copy_to mid c ∷ [] } → new ≡ addressed post (cs ++ c ∷ [])
+addressed_next post mid new cs c before is = is ∙ ap (λ p. addressed p (c ∷ [])) before ∙ addressed_more post cs (c ∷ [])
+
+-- all users: their clients' numbers rise, and are those of the clients that are logged in
+none_above : (d : ℕ) (cs : List ℕ) → AllByRecursion (λ k. nat_cmp d k ≡ Less) cs → has_number cs d ≡ false
+none_above d [] above = refl
+none_above d (c ∷ cs) above = (λ i. is_eq (above.0 i) || has_number cs d) ∙ none_above d cs above.1
+
+pub apart_rising : (cs : List ℕ) → IsStrictlySortedBy nat_cmp cs → AreApart cs
+unfolding IsStrictlySortedBy
+apart_rising [] rising = tt
+apart_rising (c ∷ cs) rising = (none_above c cs rising.0, apart_rising cs rising.1)
+
+pub reaches_everyone : (s : State) (issuer : ℕ) (cs : List ℕ) → IsStrictlySortedBy nat_cmp cs → IsListed cs s.clients → Reaches s issuer cs everyone
+reaches_everyone s issuer cs rising listed = record { once = apart_rising cs rising; exact = listed }
+
+-- users by their names
+module _ (seats : ByName Seat) where
+  pub clients-next : (names : List (List ℕ)) (name : List ℕ)
+      → clients_of seats (names ++ name ∷ []) ≡ clients_of seats names ++ client_in (at_name seats name)
+  clients-next names name = flat_map-append _ names (name ∷ []) ∙ ap (λ cs. clients_of seats names ++ cs) (append-nil _)
+
+  module _ (names : List (List ℕ)) (default : List ℕ) (i : ℕ) (within : i < length names) (post mid : Posted)
+      (before : mid ≡ addressed post (clients_of seats (take i names))) where
+    abbrev name : List ℕ
+    name = slice_index_or names i default
+
+    taken : clients_of seats (take (i + 1) names) ≡ clients_of seats (take i names) ++ client_in (at_name seats name)
+    taken =
+        let t : take (i + 1) names ≡ take i names ++ (name ∷ []) = rw add-one (take-suc names i default within) in
+        ap (clients_of seats) t ∙ clients-next (take i names) name
+
+    pub name_addressed : (new : Posted) → new ≡ addressed mid (client_in (at_name seats name))
+        → new ≡ addressed post (clients_of seats (take (i + 1) names))
+    name_addressed new is =
+        is ∙ ap (λ p. addressed p (client_in (at_name seats name))) before ∙ addressed_more post (clients_of seats (take i names)) (client_in (at_name seats name))
+        ∙ ap (addressed post) (sym taken)
+
+any-append : (c : ℕ) (xs ys : List ℕ) → has_number (xs ++ ys) c ≡ (has_number xs c || has_number ys c)
+any-append c [] ys = refl
+any-append c (x ∷ xs) ys = elim (same_number c x) as (λ b. (b || has_number (xs ++ ys) c) ≡ ((b || has_number xs c) || has_number ys c)) [
+  | true ↦ refl
+  | false ↦ any-append c xs ys
+]
+
+out_of : (me : List ℕ) (names : List (List ℕ)) → AllByRecursion (λ n. same_name me n ≡ false) names → is_among me names ≡ false
+out_of me [] h = refl
+out_of me (n ∷ names) h = (λ i. h.0 i || is_among me names) ∙ out_of me names h.1
+
+module _ (clients : ByNumber Client) (seats : ByName Seat) (agree : Agree clients seats) where
+  named_so : (name : List ℕ) (o : Option (List ℕ)) → is_named (same_name name) o ≡ true → o ≡ Some name
+  named_so name None h = absurd (cc)
+  named_so name (Some n) h = ap (λ x. Some x) (sym (same_name_is name n h))
+
+  seated : (name : List ℕ) (seat : Seat) → at_name seats name ≡ Some seat → name_at clients seat.client ≡ Some name
+  seated name seat e = named_so name _ (sym (agree name seat.client)
+      ∙ ap (λ o. has_number (client_in o) seat.client) e ∙ ap (λ b. b || false) (same_itself seat.client))
+
+  -- the client that is logged in under a name is the one of its seat
+  pub sole_client : (name : List ℕ) (c : ℕ) → name_at clients c ≡ Some name → client_in (at_name seats name) ≡ c ∷ []
+  sole_client name c named =
+      elim (at_name seats name) as (λ o. has_number (client_in o) c ≡ true → client_in o ≡ c ∷ []) [
+        | None ↦ λ none. absurd (cc)
+        | Some seat ↦ λ has. ap (λ d. d ∷ []) (sym (same_number_is c seat.client (elim (same_number c seat.client) as (λ b. (b || false) ≡ true → b ≡ true) [
+          | true ↦ λ t. refl
+          | false ↦ λ t. t
+        ] has)))
+      ] (agree name c ∙ ap (is_named (same_name name)) named ∙ same_name_equiv.refl name)
+
+  named_exact : (names : List (List ℕ)) (d : ℕ) → has_number (clients_of seats names) d ≡ is_named (λ n. is_among n names) (name_at clients d)
+  named_exact [] d = elim (name_at clients d) as (λ o. false ≡ is_named (λ n. is_among n []) o) [ None ↦ refl | Some n ↦ refl ]
+  named_exact (name ∷ names) d =
+      any-append d (client_in (at_name seats name)) (clients_of seats names)
+      ∙ (λ i. agree name d i || named_exact names d i)
+      ∙ elim (name_at clients d) as (λ o. (is_named (same_name name) o || is_named (λ n. is_among n names) o)
+      ≡ is_named (λ n. is_among n (name ∷ names)) o) [
+        | None ↦ refl
+        | Some n ↦ ap (λ b. b || is_among n names) (same_name_equiv.symm name n)
+      ]
+
+  named_apart : (names : List (List ℕ)) → IsDistinct same_name names → AreApart (clients_of seats names)
+  unfolding IsDistinct
+  named_apart [] h = tt
+  named_apart (name ∷ names) h =
+      elim (at_name seats name) as (λ o. at_name seats name ≡ o → AreApart (client_in o ++ clients_of seats names)) [
+        | None ↦ λ e. named_apart names h.1
+        | Some seat ↦ λ e. (
+          named_exact names seat.client ∙ ap (is_named (λ n. is_among n names)) (seated name seat e)
+              ∙ out_of name names h.0,
+          named_apart names h.1,
+        )
+      ] refl
+
+pub reaches_users : (s : State) (issuer : ℕ) (seats : ByName Seat) (names : List (List ℕ)) → Agree s.clients seats
+    → IsDistinct same_name names → Reaches s issuer (clients_of seats names) (users names)
+reaches_users s issuer seats names agree distinct = record {
+  once = named_apart s.clients seats agree names distinct;
+  exact = named_exact s.clients seats agree names;
+}
+
+-- one user
+pub reaches_user : (s : State) (issuer : ℕ) (seats : ByName Seat) (name : List ℕ) → Agree s.clients seats
+    → Reaches s issuer (client_in (at_name seats name)) (user name)
+reaches_user s issuer seats name agree = record {
+  once = elim (at_name seats name) as (λ o. AreApart (client_in o)) [ None ↦ tt | Some seat ↦ (refl, tt) ];
+  exact = λ d. agree name d ∙ elim (name_at s.clients d) as (λ o. is_named (same_name name) o
+      ≡ is_named (λ n. same_name n name) o) [
+        | None ↦ refl
+        | Some n ↦ same_name_equiv.symm name n
+      ];
+}
+
+-- the user whose event it is
+pub reaches_own : (s : State) (seats : ByName Seat) (old new : Posted) (name : List ℕ) → Agree s.clients seats → name_of s old.issuer ≡ Some name
+    → new ≡ addressed old (client_in (at_name seats name)) → IsOwn s old new name
+reaches_own s seats old new name agree mine is =
+    let here : client_in (at_name seats name) ≡ old.issuer ∷ [] = sole_client s.clients seats agree name old.issuer mine in
+    (subst (λ cs. Reaches s old.issuer cs (user name)) here (reaches_user s old.issuer seats name agree), is ∙ ap (addressed old) here)

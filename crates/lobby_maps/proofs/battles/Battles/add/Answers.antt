@@ -1,0 +1,7 @@
+use Rattle.std.proofs.Common.{◌∙◌}
+use Rattle.std.specs.Ordering.{nat_cmp}
+use Rattle.line_words.proofs.Tables.{insert_is_put}
+use Rattle.lobby_maps.proofs.battles.Battles.add.Goals as goal
+
+pub returns-clause-battles : goal.returns-clause-battles
+returns-clause-battles c = c.in-Ok.ensures.entries ∙ insert_is_put nat_cmp c.args.self.now.by_number.entries c.args.number c.args.battle

@@ -1,0 +1,10 @@
+use Rattle.std.proofs.Common.{◌≡◌, map, take}
+use Rattle.std.specs.Prelude.{None}
+use Rattle.line_words.specs.Table.{all_but}
+use Rattle.reply_grammar.specs.declared.Reply.TheVariants as reply
+use Rattle.lobby_post.specs.Posted.{with_own}
+use Rattle.lobby_maps.proofs.burst.write_guests.Given as goal
+
+abbrev pub invariant-loop-member : goal.invariant-loop-member
+invariant-loop-member l = l.post
+    ≡ with_own l.initial.post (map (λ name. reply.JoinedBattle l.number name None) (all_but l.battle.info.founder (map (λ m. m.name) (take l.member-index l.member-items))))

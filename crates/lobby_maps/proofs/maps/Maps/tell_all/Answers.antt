@@ -1,0 +1,20 @@
+use Rattle.std.proofs.Common.{subst, [], ◌∷◌}
+use Rattle.reply_grammar.specs.Lent.{reply_of}
+use Rattle.lobby_model.specs.State.{State}
+use Rattle.lobby_model.specs.Outcome.{tell, everyone}
+use Rattle.lobby_post.specs.Posted.{Told}
+use Rattle.lobby_post.proofs.Telling.{told_all}
+use Rattle.lobby_maps.proofs.Walks.{reaches_everyone}
+use Rattle.lobby_maps.proofs.Plain.{plainly}
+use Rattle.lobby_maps.proofs.maps.Maps.tell_all.Goals as goal
+
+pub returns : goal.returns
+returns c =
+    subst (λ (s : State). Told s c.args.post.now c.address_all.new.post (tell everyone (reply_of c.args.line ∷ []) ∷ [])) (plainly c.self.view_is)
+    (told_all _ c.args.post.now c.write.new.self c.address_all.new.post (reply_of c.args.line) everyone
+    (record {
+      clients = _;
+      reached = reaches_everyone _ _ _ c.in_ok-address_all.ensures.rising c.self.invariant.1.listed;
+      is =
+          c.in_ok-address_all.ensures.sent;
+    }) c.in_ok-write.ensures)

@@ -1,0 +1,26 @@
+use Rattle.std.proofs.Common.{ℕ, ◌∙◌, ap, sym, subst, map, [], ◌∷◌}
+use Rattle.reply_grammar.specs.declared.Reply.TheVariants as reply
+use Rattle.line_words.specs.Table.{put_name}
+use Rattle.std.specs.Prelude.{flat_map}
+use Rattle.lobby_model.specs.State.{State, Battle}
+use Rattle.lobby_model.specs.Battles.{battle_lines}
+use Rattle.lobby_model.specs.Outcome.{tell, issuer}
+use Rattle.lobby_model.specs.Sessions.{burst}
+use Rattle.lobby_post.specs.Posted.{Told, with_own}
+use Rattle.lobby_maps.specs.Seats.{user_in}
+use Rattle.lobby_maps.proofs.Bursts.{burst_told}
+use Rattle.lobby_maps.proofs.Plain.{plainly}
+use Rattle.lobby_maps.proofs.maps.Maps.tell_burst.Goals as goal
+
+pub returns : goal.returns
+returns c =
+    subst (λ (s : State). Told s c.args.post.now c.address_issuer.new.self
+    (tell issuer (burst s.settings.motd c.args.name.now (put_name s.users c.args.name.now (user_in c.args.seat.now)) s.battles) ∷ []))
+    (plainly c.self.view_is)
+    (burst_told _ c.args.post.now c.begin_own.new.self c.write_own.new.self c.write_motd.new.post c.write_parts.new.post c.write_parts-2.new.post
+    c.write_battles.new.post c.write_own-2.new.self c.address_issuer.new.self _ _ _ _
+    c.begin_own.ensures c.in_ok-write_own.ensures
+    (c.in_ok-write_motd.ensures ∙ ap (λ motd. with_own c.write_own.new.self (map (λ line. reply.Motd line) motd)) (c.as_slice.ensures
+    ∙ c.motd.ensures))
+    c.in_ok-write_parts.ensures c.in_ok-write_parts-2.ensures
+    (c.in_ok-write_battles.ensures ∙ ap (λ (s : State). with_own c.write_parts-2.new.post (flat_map (λ (e : ℕ × Battle). battle_lines e.0 e.1) s.battles)) (sym (plainly c.self.view_is))) c.in_ok-write_own-2.ensures c.in_ok-address_issuer.ensures)

@@ -1,0 +1,7 @@
+pub mod Info
+pub mod Battles
+pub mod Seats
+pub mod Parts
+pub mod Shown
+pub mod Dirty
+pub mod Changes

@@ -1,0 +1,24 @@
+//! What the server keeps: the clients, users, channels and battles as maps, the changes of them, and how
+//! a change is carried out.
+//!
+//! A rule of a command, in a crate above, looks things up here, tells its audiences, and names a change.
+//! What it tells waits in the post. Then there is made room for all that is told, the maps are changed,
+//! and the post is delivered. Memory is asked for before the first change alone, so that want of it
+//! changes nothing.
+#![tactic(auto)]
+
+mod battle;
+mod battles;
+mod burst;
+mod change;
+mod entered;
+mod greeting;
+mod lookups;
+mod maps;
+mod seats;
+
+pub use battle::{Battle, NO_PASSWORD};
+pub use battles::{BattleChange, LAST_NUMBER, RoomChange};
+pub use change::Change;
+pub use maps::{Maps, Place};
+pub use seats::Seat;

@@ -1,0 +1,115 @@
+//! What rules look up in the maps, and how they tell a user what they wrote.
+
+ghost use Rattle.std.specs.Prelude.{◌≡◌, ℕ, ◌≤◌, [], ◌∷◌, OnOk, IfSome, Some, true, is_some, option_copied};
+ghost use Rattle.std.specs.Option.{option_map};
+ghost use Rattle.line_words.specs.Table.{at_name, at_number};
+ghost use Rattle.lobby_model.specs.State.{name_of};
+ghost use Rattle.lobby_model.specs.Outcome.{user};
+ghost use Rattle.lobby_model.specs.Sessions.{status_in};
+ghost use Rattle.lobby_model.specs.Battles.{is_authorising};
+ghost use Rattle.lobby_post.specs.Posted.{Sends};
+ghost use Rattle.lobby_maps.specs.Seats.{IsOwn};
+
+use crate::battle::Battle;
+use crate::maps::Maps;
+use account_book::AccountBook;
+use channel_book::ChannelBook;
+use line_words::NameBuf;
+use lobby_post::Post;
+use status_bits::UserStatus;
+use std::alloc::{AllocError, Global};
+
+impl Maps {
+    /// Where memory is taken.
+    pub fn alloc(&self) -> Global {
+        self.alloc
+    }
+
+    /// The accounts that let users in.
+    pub fn accounts(&self) -> &AccountBook
+        ensures { result.now ≡ self.now.plain.accounts }
+    {
+        &self.accounts
+    }
+
+    /// The channels, and who is in each.
+    pub fn channels(&self) -> &ChannelBook<usize>
+        ensures { result.now ≡ self.now.plain.channels }
+    {
+        &self.channels
+    }
+
+    /// The name under which a client is logged in, whether it hears or not.
+    pub fn name_of(&self, client: u64) -> Option<&NameBuf>
+        ensures { option_copied result ≡ name_of self.now.plain client }
+    {
+        self.clients.name_of(client)
+    }
+
+    /// The IPv4 address from which a client connected.
+    pub fn ip_of(&self, client: u64) -> Option<[u8; 4]>
+        ensures { result ≡ option_map (λ c. c.ip) (at_number self.now.plain.clients client) }
+    {
+        self.clients.ip_of(client)
+    }
+
+    /// The place at which a client is looked for first. A hint, of which no contract speaks.
+    pub fn client_place(&self, client: u64) -> usize {
+        self.clients.place_of(client)
+    }
+
+    /// The place at which a user's client is looked for first. A hint, of which no contract speaks.
+    pub fn user_place(&self, name: &NameBuf) -> usize {
+        self.seats.place_of(name)
+    }
+
+    /// Whether somebody of this name is logged in.
+    pub fn has_user(&self, name: &NameBuf) -> bool
+        ensures { result ≡ is_some (at_name self.now.plain.users name.now) }
+    {
+        self.seats.users.contains_key(name)
+    }
+
+    /// The status of the user of this name, where somebody of it is logged in.
+    pub fn status_of(&self, name: &NameBuf) -> Option<UserStatus>
+        ensures status { IfSome result (λ status. status ≡ status_in (at_name self.now.plain.users name.now)) }
+        ensures there { (client : ℕ) → name_of self.now.plain client ≡ Some name.now → is_some result ≡ true }
+    {
+        match self.seats.users.get(name) {
+            Some(seat) => Some(seat.status),
+            None => None,
+        }
+    }
+
+    /// Whether there is a user of this name who authorises who joins its battle.
+    pub fn is_authorising(&self, name: &NameBuf) -> bool
+        ensures { result ≡ is_authorising (at_name self.now.plain.users name.now) }
+    {
+        self.seats.is_authorising(name)
+    }
+
+    /// The battle of this number.
+    pub fn battle(&self, number: u32) -> Option<&Battle>
+        ensures { option_copied result ≡ at_number self.now.plain.battles number }
+    {
+        self.battles.by_number.get(&number)
+    }
+
+    /// The last battle number given, 0 at first.
+    pub fn last_battle(&self) -> u32
+        ensures number { result ≡ self.now.plain.last_battle }
+        ensures small { result ≤ 2147483647 }
+    {
+        self.battles.last
+    }
+
+    /// The user of this name, where there is one, gets the lines that were written. Where it is the one
+    /// whose event it is, its own client alone does.
+    pub fn address_user(&self, name: &NameBuf, post: &mut Post) -> Result<(), AllocError>
+        ensures sent { OnOk result (Sends self.now.plain post.old post.new (user name.now)) }
+        ensures own { OnOk result (name_of self.now.plain post.old.issuer ≡ Some name.now → IsOwn self.now.plain post.old post.new name.now) }
+    {
+        self.seats.address_user(name, post)?;
+        Ok(())
+    }
+}

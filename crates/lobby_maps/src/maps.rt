@@ -1,0 +1,419 @@
+//! The lobby's maps: how each audience is told, and how an event is carried out.
+
+ghost use Rattle.std.specs.Prelude.{◌≡◌, ℕ, ◌+◌, ◌-◌, ◌^◌, ◌<◌, ◌≤◌, ◌↔◌, [], ◌∷◌, ◌++◌, if◌then◌else◌, length, take, drop, min, OnOk, OnErr, IfNone, IfOk, IfSome, true, false, is_some, Some, None, option_copied};
+ghost use Rattle.std.specs.List.{IsDistinct};
+ghost use Rattle.std.specs.Option.{option_to_list};
+ghost use Rattle.line_words.specs.Table.{at_number, same_name, same_number};
+ghost use Rattle.reply_grammar.specs.Lent.{reply_of};
+ghost use Rattle.battle_room.specs.Room.{asker_names, has_asker, has_member, member_names};
+ghost use Rattle.lobby_model.specs.declared.event.Event.{Event};
+ghost use Rattle.lobby_model.specs.declared.event.Event.TheVariants as event;
+ghost use Rattle.lobby_model.specs.State.{Battle, asked_by, battle_of, empty_lobby, hears, name_of};
+ghost use Rattle.lobby_model.specs.Outcome.{tell, everyone, everyone_but, others, user, users};
+ghost use Rattle.lobby_model.specs.Sessions.{has_place};
+ghost use Rattle.lobby_model.specs.Events.{effect};
+ghost use Rattle.lobby_model.specs.Next.{next};
+ghost use Rattle.lobby_post.specs.Mail.{IsWakes};
+ghost use Rattle.lobby_post.specs.Posted.{Told, but_issuer};
+ghost use Rattle.lobby_maps.specs.Changes.{Matches};
+ghost use Rattle.lobby_maps.specs.Battles.{AskOutside, IsOnly};
+ghost use Rattle.lobby_maps.specs.Changes.{CanBe, changed};
+ghost use Rattle.lobby_maps.specs.Dirty.{DirtyAfter, those_there};
+ghost use Rattle.lobby_maps.specs.Shown.{dirty_at, unread_of, is_finished};
+
+use crate::battle::Battle;
+use crate::battles::Battles;
+use crate::change::{Change, apply};
+use crate::greeting::greeting_of;
+use crate::seats::Seats;
+use account_book::AccountBook;
+use battle_room::Room;
+use channel_book::ChannelBook;
+use line_words::NameBuf;
+use lobby_model::Settings;
+use lobby_post::{Clients, Drained, Post, Wakes};
+use reply_grammar::LentReply;
+use std::alloc::{AllocError, Global};
+use std::marker::Model;
+
+/// The most clients that are not yet disconnected. Without a limit connects alone could fill the
+/// memory, since each client has an outbox.
+pub const CLIENT_LIMIT: usize = 10_000;
+
+/// Whether an open gets a number.
+#[derive(Clone, Copy, PartialEq, Eq, Debug)]
+pub enum Place {
+    /// It does.
+    Free,
+    /// There are as many clients as there may be.
+    Full,
+    /// The last number was given.
+    NoNumber,
+}
+
+/// The maps. Contracts see the plain lobby, and the lists of changed clients.
+#[derive(Drop)]
+pub struct Maps {
+    pub(crate) alloc: Global,
+    pub(crate) settings: Settings,
+    pub(crate) accounts: AccountBook,
+    // what each client is greeted with, printed once
+    greeting_line: Vec<u8>,
+    pub(crate) clients: Clients,
+    pub(crate) seats: Seats,
+    pub(crate) channels: ChannelBook<usize>,
+    pub(crate) battles: Battles,
+    last_client: u64,
+}
+
+impl Model for Maps {
+    ghost use Rattle.std.specs.Prelude.{◌≡◌, None};
+    ghost use Rattle.reply_grammar.specs.Replies.{printed_line};
+    ghost use Rattle.lobby_model.specs.Sessions.{greeting};
+    ghost use Rattle.lobby_post.specs.Mail.{plain};
+    ghost use Rattle.lobby_maps.specs.Dirty.{lists_of};
+    ghost use Rattle.lobby_maps.specs.Seats.{users_of, Fit};
+    ghost use Rattle.lobby_maps.specs.Shown.{lobby_of, Shown};
+
+    ghost Value = { Shown };
+
+    ghost view = { λ m. record {
+      plain = lobby_of m.settings m.accounts (plain m.clients.slots) (users_of m.seats.users.entries) m.channels m.battles.by_number.entries m.last_client m.battles.last;
+      dirty = lists_of m.clients;
+    } };
+
+    ghost invariant = { λ m. (m.greeting_line.items ≡ printed_line None (greeting m.settings)) × Fit m.settings.outbox_limit m.clients m.seats.users.entries m.seats.clients.keys m.last_client m.battles.by_number.entries m.battles.last };
+}
+
+impl Maps {
+    /// The empty lobby.
+    pub fn new(alloc: Global, settings: Settings, accounts: AccountBook) -> Result<Maps, AllocError>
+        ensures plain { IfOk result (λ maps. maps.plain ≡ empty_lobby settings accounts) }
+        ensures dirty { IfOk result (λ maps. (home : ℕ) → home ≤ 63 → dirty_at maps home ≡ []) }
+    {
+        let greeting_line = greeting_of(alloc, &settings)?;
+        Ok(Maps {
+            alloc,
+            clients: Clients::new(alloc, settings.outbox_limit()),
+            settings,
+            accounts,
+            greeting_line,
+            seats: Seats::new(alloc),
+            channels: ChannelBook::with_marks(alloc),
+            battles: Battles::new(alloc),
+            last_client: 0,
+        })
+    }
+
+    /// Whether an open would get a number.
+    pub fn place(&self) -> Place
+        ensures full { (result ≡ Place.Full) ↔ (CLIENT_LIMIT ≤ length self.now.plain.clients) }
+        ensures no_number { result ≡ Place.NoNumber → self.now.plain.last_client ≡ 18446744073709551615 }
+        ensures free { (result ≡ Place.Free) ↔ (has_place self.now.plain ≡ true) }
+    {
+        if self.clients.len() >= CLIENT_LIMIT {
+            Place::Full
+        } else if self.last_client == u64::MAX {
+            Place::NoNumber
+        } else {
+            Place::Free
+        }
+    }
+
+    /// Adds a client under the next number, with its greeting.
+    pub fn open(&mut self, ip: [u8; 4], home: u8) -> Result<u64, AllocError>
+        requires home { home < 64 }
+        requires place { has_place self.old.plain ≡ true }
+        ensures number { IfOk result (λ number. number ≡ self.old.plain.last_client + 1) }
+        ensures ok { OnOk result (self.new.plain ≡ next self.old.plain (event.Open ip home)) }
+        ensures dirty { IfOk result (λ number. (worker : ℕ) → worker ≤ 63 → dirty_at self.new worker ≡ dirty_at self.old worker ++ (if same_number home worker then number ∷ [] else [])) }
+        ensures err { OnErr result (self.new ≡ self.old) }
+    {
+        let number = self.last_client + 1;
+        self.clients.insert(number, ip, home, &self.greeting_line)?;
+        self.last_client = number;
+        Ok(number)
+    }
+
+    /// A client that may give commands and get bytes: the name under which it is logged in, if it is.
+    pub fn issuer(&self, client: u64) -> Option<Option<&NameBuf>>
+        ensures hears { is_some result ≡ hears self.now.plain client }
+        ensures name { IfSome result (λ me. option_copied me ≡ name_of self.now.plain client) }
+        ensures waiting { (home : ℕ) → home ≤ 63 → those_there self.now.plain.clients (dirty_at self.now home) ≡ dirty_at self.now home }
+    {
+        self.clients.heard(client)
+    }
+
+    /// Makes room for all that is told, changes the maps, and delivers. Where memory is refused,
+    /// nothing changes.
+    pub fn carry_out(
+        &mut self,
+        client: u64,
+        change: Change,
+        post: &mut Post,
+    ) -> Result<Wakes, AllocError>
+        requires { CanBe self.old.plain.clients self.old.plain.users self.old.plain.channels self.old.plain.battles client change }
+        ensures ok { OnOk result ((e : Event) → effect self.old.plain e ≡ changed self.old.plain client change → Matches self.old.plain e post.old → self.new.plain ≡ next self.old.plain e) }
+        ensures wakes { IfOk result (λ wakes. (e : Event) → effect self.old.plain e ≡ changed self.old.plain client change → Matches self.old.plain e post.old → IsWakes self.old.plain e wakes) }
+        ensures dirty { OnOk result ((e : Event) → effect self.old.plain e ≡ changed self.old.plain client change → Matches self.old.plain e post.old → (home : ℕ) → home ≤ 63 → DirtyAfter self.old.plain e home (dirty_at self.old home) (dirty_at self.new home)) }
+        ensures err { OnErr result (self.new ≡ self.old) }
+    {
+        match post.make_room(&mut self.clients) {
+            Ok(()) => {}
+            Err(refused) => {
+                drop(change);
+                return Err(refused);
+            }
+        }
+        let done = apply(
+            &mut self.clients,
+            &mut self.seats,
+            &mut self.channels,
+            &mut self.battles,
+            client,
+            change,
+        );
+        match done {
+            Ok(()) => Ok(post.deliver(&mut self.clients)),
+            Err(refused) => {
+                post.forget(&mut self.clients);
+                Err(refused)
+            }
+        }
+    }
+
+    /// Tells all users.
+    pub fn tell_all(&self, line: LentReply, post: &mut Post) -> Result<(), AllocError>
+        ensures { OnOk result (Told self.now.plain post.old post.new (tell everyone (reply_of line.entry ∷ []) ∷ [])) }
+    {
+        post.write(line)?;
+        self.seats.address_all(&self.clients, post)?;
+        Ok(())
+    }
+
+    /// Tells all users but the issuer.
+    pub fn tell_others(&self, line: LentReply, post: &mut Post) -> Result<(), AllocError>
+        ensures { OnOk result (Told self.now.plain post.old post.new (tell others (reply_of line.entry ∷ []) ∷ [])) }
+    {
+        post.write_for_others(line)?;
+        self.seats.address_all(&self.clients, post)?;
+        Ok(())
+    }
+
+    /// Tells the users of these names, whose places these may be.
+    pub fn tell_users(
+        &self,
+        names: &[NameBuf],
+        places: &[usize],
+        line: LentReply,
+        post: &mut Post,
+    ) -> Result<(), AllocError>
+        requires { IsDistinct same_name names.now }
+        ensures { OnOk result (Told self.now.plain post.old post.new (tell (users names.now) (reply_of line.entry ∷ []) ∷ [])) }
+    {
+        post.write(line)?;
+        self.seats
+            .address_names(&self.clients, names, places, post)?;
+        Ok(())
+    }
+
+    /// Tells the users of these names, whose places these may be, but the issuer.
+    pub fn tell_other_users(
+        &self,
+        names: &[NameBuf],
+        places: &[usize],
+        line: LentReply,
+        post: &mut Post,
+    ) -> Result<(), AllocError>
+        requires { IsDistinct same_name names.now }
+        ensures { OnOk result (Told self.now.plain post.old post.new (tell (but_issuer (users names.now)) (reply_of line.entry ∷ []) ∷ [])) }
+    {
+        post.write_for_others(line)?;
+        self.seats
+            .address_names(&self.clients, names, places, post)?;
+        Ok(())
+    }
+
+    /// Tells all users but those of two names.
+    pub fn tell_all_but(
+        &self,
+        first: &NameBuf,
+        second: &NameBuf,
+        line: LentReply,
+        post: &mut Post,
+    ) -> Result<(), AllocError>
+        ensures { OnOk result (Told self.now.plain post.old post.new (tell (everyone_but (first.now ∷ second.now ∷ [])) (reply_of line.entry ∷ []) ∷ [])) }
+    {
+        post.write(line)?;
+        self.seats
+            .address_all_but(&self.clients, first, second, post)?;
+        Ok(())
+    }
+
+    /// Tells the members of a battle.
+    pub fn tell_room(&self, room: &Room, line: LentReply, post: &mut Post) -> Result<(), AllocError>
+        ensures { OnOk result (Told self.now.plain post.old post.new (tell (users (member_names room.now)) (reply_of line.entry ∷ []) ∷ [])) }
+    {
+        post.write(line)?;
+        self.seats
+            .address_members(&self.clients, room.members(), post)?;
+        Ok(())
+    }
+
+    /// Tells the members of a battle but the issuer.
+    pub fn tell_others_in_room(
+        &self,
+        room: &Room,
+        line: LentReply,
+        post: &mut Post,
+    ) -> Result<(), AllocError>
+        ensures { OnOk result (Told self.now.plain post.old post.new (tell (but_issuer (users (member_names room.now))) (reply_of line.entry ∷ []) ∷ [])) }
+    {
+        post.write_for_others(line)?;
+        self.seats
+            .address_members(&self.clients, room.members(), post)?;
+        Ok(())
+    }
+
+    /// Tells those who ask to join a battle.
+    pub fn tell_askers(
+        &self,
+        room: &Room,
+        line: LentReply,
+        post: &mut Post,
+    ) -> Result<(), AllocError>
+        ensures { OnOk result (Told self.now.plain post.old post.new (tell (users (asker_names room.now)) (reply_of line.entry ∷ []) ∷ [])) }
+    {
+        post.write(line)?;
+        self.seats.address_askers(room.askers(), post)?;
+        Ok(())
+    }
+
+    /// Tells those who ask to join a battle but the issuer.
+    pub fn tell_other_askers(
+        &self,
+        room: &Room,
+        line: LentReply,
+        post: &mut Post,
+    ) -> Result<(), AllocError>
+        ensures { OnOk result (Told self.now.plain post.old post.new (tell (but_issuer (users (asker_names room.now))) (reply_of line.entry ∷ []) ∷ [])) }
+    {
+        post.write_for_others(line)?;
+        self.seats.address_askers(room.askers(), post)?;
+        Ok(())
+    }
+
+    /// The battle that a user is in, with its number.
+    pub fn battle_of(&self, name: &NameBuf) -> Option<(u32, &Battle)>
+        ensures some { IfSome result (λ own. battle_of self.now.plain name.now ≡ Some (own.0, own.1.now)) }
+        ensures only { IfSome result (λ own. IsOnly (has_member name.now) self.now.plain.battles (Some own.0)) }
+        ensures there { IfSome result (λ own. at_number self.now.plain.battles own.0 ≡ Some own.1.now) }
+        ensures outside { IfSome result (λ own. AskOutside own.1.now.room) }
+        ensures none { result ≡ None → battle_of self.now.plain name.now ≡ None }
+    {
+        // Its contract says that the numbers rise, which the proof wants.
+        let _ = self.battles.by_number.len();
+        let likely = self.seats.entered.likely(name);
+        match self.battles.with_member(likely, name) {
+            Some(battle) => Some((likely, battle)),
+            None => self.battle_by_seat(name),
+        }
+    }
+
+    /// The same, by the number that the user's seat has.
+    fn battle_by_seat(&self, name: &NameBuf) -> Option<(u32, &Battle)>
+        ensures some { IfSome result (λ own. battle_of self.now.plain name.now ≡ Some (own.0, own.1.now)) }
+        ensures only { IfSome result (λ own. IsOnly (has_member name.now) self.now.plain.battles (Some own.0)) }
+        ensures there { IfSome result (λ own. at_number self.now.plain.battles own.0 ≡ Some own.1.now) }
+        ensures outside { IfSome result (λ own. AskOutside own.1.now.room) }
+        ensures none { result ≡ None → battle_of self.now.plain name.now ≡ None }
+    {
+        // Its contract says that the numbers rise, which the proof wants however this ends.
+        let _ = self.battles.by_number.len();
+        let number = self.seats.users.get(name)?.battle?;
+        let battle = self.battles.with_member(number, name)?;
+        Some((number, battle))
+    }
+
+    /// The number of the battle that a user asks to join.
+    pub fn asked_by(&self, name: &NameBuf) -> Option<u32>
+        ensures some { IfSome result (λ number. (battle : Battle) × (asked_by self.now.plain name.now ≡ Some (number, battle))) }
+        ensures only { IsOnly (has_asker name.now) self.now.plain.battles result }
+        ensures none { result ≡ None → asked_by self.now.plain name.now ≡ None }
+    {
+        // Its contract says that the numbers rise, which the proof wants however this ends.
+        let _ = self.battles.by_number.len();
+        let number = self.seats.users.get(name)?.battle?;
+        if self.battles.asks_at(number, name) {
+            Some(number)
+        } else {
+            None
+        }
+    }
+
+    /// Tells one user.
+    pub fn tell_user(
+        &self,
+        name: &NameBuf,
+        line: LentReply,
+        post: &mut Post,
+    ) -> Result<(), AllocError>
+        ensures { OnOk result (Told self.now.plain post.old post.new (tell (user name.now) (reply_of line.entry ∷ []) ∷ [])) }
+    {
+        post.write(line)?;
+        self.seats.address_user(name, post)?;
+        Ok(())
+    }
+
+    /// Takes bytes that a client has not read.
+    pub fn drain(&mut self, client: u64, into: &mut [u8]) -> Drained
+        ensures count { result.count ≡ min (length (unread_of self.old.plain client)) (length into.old) }
+        ensures given { into.new ≡ take result.count (unread_of self.old.plain client) ++ drop result.count into.old }
+        ensures finished { result.finished ≡ is_finished self.new.plain client }
+        ensures next { self.new.plain ≡ next self.old.plain (event.Drain client (length into.old)) }
+        ensures dirty { self.new.dirty ≡ self.old.dirty }
+    {
+        self.clients.drain(client, into)
+    }
+
+    /// Takes the first client out of a worker's list of those that changed.
+    pub fn next_dirty(&mut self, home: u8) -> Option<u64>
+        requires { home < 64 }
+        ensures plain { self.new.plain ≡ self.old.plain }
+        ensures first { dirty_at self.old home ≡ option_to_list result ++ dirty_at self.new home }
+        ensures nobody { IfNone result (dirty_at self.old home ≡ []) }
+        ensures others { (worker : ℕ) → worker ≤ 63 → same_number home worker ≡ false → dirty_at self.new worker ≡ dirty_at self.old worker }
+    {
+        self.clients.next_dirty(home)
+    }
+
+    /// The last client number given, 0 at first.
+    pub fn last_client(&self) -> u64
+        ensures { result ≡ self.now.plain.last_client }
+    {
+        self.last_client
+    }
+
+    /// Whether a client is there.
+    pub fn has_client(&self, client: u64) -> bool
+        ensures { result ≡ is_some (at_number self.now.plain.clients client) }
+    {
+        self.clients.contains(client)
+    }
+
+    /// How many bytes a client has not read.
+    pub fn unread(&self, client: u64) -> usize
+        ensures count { result ≡ length (unread_of self.now.plain client) }
+        ensures small { result < 2 ^ 63 }
+    {
+        self.clients.unread(client)
+    }
+
+    /// Copies bytes that a client has not read into a slice, beginning `from` bytes behind the first.
+    pub fn copy_unread(&self, client: u64, from: usize, into: &mut [u8]) -> usize
+        ensures count { result ≡ min (length (unread_of self.now.plain client) - from) (length into.old) }
+        ensures given { into.new ≡ take result (drop from (unread_of self.now.plain client)) ++ drop result into.old }
+    {
+        self.clients.copy_unread(client, from, into)
+    }
+}
