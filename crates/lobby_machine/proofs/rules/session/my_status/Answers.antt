@@ -1,5 +1,4 @@
-use Rattle.std.proofs.Common.{◌≡◌, ◌∙◌, ap, sym, false, true}
-use Rattle.std.specs.Prelude.{is_some}
+use Rattle.std.proofs.Common.{◌≡◌, ◌∙◌, ap, false, true}
 use Rattle.status_bits.specs.Fields.{merge}
 use Rattle.status_bits.specs.UserWord.{user_table}
 use Rattle.lobby_machine.proofs.Spoken.{status_set}
@@ -9,10 +8,10 @@ pub returns : goal.returns
 returns c =
     status_set c.args.maps.now.plain c.args.client c.args.me.now c.copy.result c.args.asked c.merge_user-status.result c.word.result c.args.post.now
     c.tell_all.new.post c.copy.ensures
-    (c.merge_user-status.ensures.word ∙ ap (λ status. merge user_table status c.args.asked) c.status_of.ensures.status) c.word.ensures.same
+    (c.merge_user-status.ensures.word ∙ ap (λ status. merge user_table status c.args.asked) c.in-Some.ensures.status) c.word.ensures.same
     c.in_ok-tell_all.ensures
 
 pub unreachable-requires : goal.unreachable-requires
 unreachable-requires c =
-    let no : false ≡ true = ap is_some c.in-None.is ∙ c.status_of.ensures.there c.args.client c.requires in
+    let no : false ≡ true = c.in-None.ensures.there c.args.client c.requires in
     absurd (cc)
