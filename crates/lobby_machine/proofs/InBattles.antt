@@ -1,6 +1,6 @@
 -- What is told and done as users open, join and leave battles.
 use Rattle.std.proofs.Common.{◌≡◌, ◌==◌, ℕ, ℤ, ◌+◌, ◌^◌, ◌<◌, ◌≤◌, suc, List, [], ◌∷◌, ◌++◌, length, take, map, filter, refl, sym, ap, subst, ◌∙◌, Bool, true, false, slice_index_or, add-one, append-nil, arith, append_assoc}
-use Rattle.std.specs.Prelude.{Option, Some, None, is_some, find, not, ◌||◌, ◌&&◌, if◌then◌else◌, Result, Ok, Err, OnOk, decimal, nat_le}
+use Rattle.std.specs.Prelude.{Option, Some, None, is_some, find, not, ◌&&◌, if◌then◌else◌, Result, Ok, Err, OnOk, decimal, nat_le}
 use Rattle.std.specs.Ordering.{nat_cmp, eq_by_cmp}
 use Rattle.std.proofs.lemmas.List.{map-append}
 use Rattle.std.proofs.lemmas.List.Elements.{filter-append}
@@ -15,13 +15,13 @@ use Rattle.std.proofs.lemmas.Fmt.{digits_decimal}
 use Rattle.line_words.specs.Bytes.{is_word, is_word_byte}
 use Rattle.reply_grammar.proofs.Bytes.{all_append}
 use Rattle.reply_grammar.proofs.Decimals.{own, digits_words}
-use Rattle.line_words.specs.Table.{ByName, ByNumber, at_name, at_number, change_number, without_number, same_name, same_number}
+use Rattle.line_words.specs.Table.{ByNumber, at_name, at_number, change_number, without_number, same_name, same_number}
 use Rattle.battle_room.specs.Room.{Bot, asker_names, bots_of, has_member, member_names, status_of, with_member, without_member}
 use Rattle.status_bits.specs.Fields.{merge}
 use Rattle.status_bits.specs.BattleWord.{battle_table}
 use Rattle.lobby_model.specs.State.{State, Battle, asked_by, battle_of, name_of}
 use Rattle.lobby_model.specs.Texts.{already_asking, already_in_battle, battle_was_closed, no_number_left, not_in_battle, battle_is_locked, wrong_password}
-use Rattle.lobby_model.specs.Outcome.{Letter, Outcome, Reader, Refused, message, done, everyone, is_named, lines_for, refuse_if, tell, user, users}
+use Rattle.lobby_model.specs.Outcome.{Letter, Outcome, Reader, Refused, message, done, everyone, lines_for, refuse_if, tell, user, users}
 use Rattle.lobby_model.specs.Events.{reader_of, under}
 use Rattle.lobby_model.specs.Battles.{asks_no_more, asks_to_join, change_room, closes, is_authorising, joining, joins_or_asks, leave_or_drop, member_leaves, join_battle, if_there, lets_in, in_battle, in_own, in_room, ip_text, is_founder, leaves_battle, leave_battle, member_has, open_battle, opened_line, opens, say_in_battle, set_own_status}
 use Rattle.lobby_post.specs.Mail.{bytes_for}
