@@ -3,7 +3,7 @@ SCRIPT ?= examples/ping.play
 SETTINGS ?= examples/lobby.toml
 ACCOUNTS ?= examples/accounts.toml
 
-.PHONY: play serve setup hash view build test check bench memory soak connections counts
+.PHONY: play serve setup hash view build test check bench memory soak connections counts hostile
 
 play:
 	@tools/run.sh lobby_play < $(SCRIPT)
@@ -43,3 +43,6 @@ counts:
 
 connections:
 	@for workers in 1 4; do checks/connections.py $$workers && checks/played.py $$workers && checks/mixed.py $$workers && checks/crowd.py $$workers || exit 1; done
+
+hostile:
+	@for workers in 1 4; do checks/hostile.py $$workers || exit 1; done

@@ -308,7 +308,8 @@ impl Connections {
         pass
     }
 
-    /// Those get their turn that were left in the round before.
+    /// Those get their turn that were left in the round before. It is called before any other turn of a round: who is
+    /// left over in this one would lose its place in the list, since it gets no second turn.
     pub fn turn_left<R: Wait, G: Gate>(
         &mut self,
         rt: &R,

@@ -184,8 +184,9 @@ impl Station {
         } else {
             pass
         };
-        let pass = self.connections.turn_named(rt, shared, pass);
+        // Before all other turns: whom these leave over is left for the next round.
         let pass = self.connections.turn_left(rt, shared, pass);
+        let pass = self.connections.turn_named(rt, shared, pass);
         self.turn_ready(rt, shared, pass)
     }
 }

@@ -4,7 +4,7 @@ use crate::gates::Hold;
 use crate::plays::Step::*;
 use crate::plays::{Act, play};
 use crate::running::{
-    ANNA, ANNA_IS_IN, ANNA_LOGS_IN, BERT, BERT_COMES, BERT_IS_IN, BERT_LOGS_IN, PING, PONG,
+    ANNA, ANNA_IS_IN, ANNA_LOGS_IN, BERT, BERT_COMES, BERT_IS_IN, BERT_LOGS_IN, PING, PONG, THIRD,
 };
 
 const BURST: [Act; 2] = [
@@ -137,9 +137,6 @@ const CROWDED: [Act; 2] = [
 fn a_line_reaches_its_client_among_many_quiet_ones(rt: HostRuntime) {
     drop(play(&rt, rt, 2, Hold::Open, &CROWDED));
 }
-
-/// Who comes only to turn the order of workers, or to keep one busy.
-const THIRD: usize = 2;
 
 const HOMES: [Act; 1] = [Act {
     times: 1,

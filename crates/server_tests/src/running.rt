@@ -35,6 +35,9 @@ pub const ANNA: usize = 0;
 /// Bert's number in a play.
 pub const BERT: usize = 1;
 
+/// The number of one who comes only to turn the order of workers, or to keep one busy.
+pub const THIRD: usize = 2;
+
 /// What a server says to whom it accepts.
 pub const GREETING: &[u8] = b"TASSERVER 0.38 * 8201 0\n";
 

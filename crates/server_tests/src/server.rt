@@ -7,7 +7,7 @@ use crate::plays::Step::*;
 use crate::plays::{Act, play};
 use crate::running::{
     ANNA, ANNA_IS_IN, ANNA_LOGS_IN, BERT, BERT_COMES, BERT_IS_IN, BERT_LOGS_IN, Input, PING, PONG,
-    Told, listen, run, service,
+    THIRD, Told, listen, run, service,
 };
 use crate::verdict::{fail, same};
 use lobby_workers::Service;
@@ -244,6 +244,59 @@ const LATE: [Act; 30] = [
 #[test]
 fn a_client_that_reads_late_gets_all(rt: HostRuntime) {
     drop(play(&rt, rt, 1, Hold::Open, &LATE));
+}
+
+const MUCH: [Act; 7] = [
+    BOTH_LOG_IN,
+    Act {
+        times: 1,
+        steps: &[Enters(THIRD), Sends(THIRD, PING), IsKept],
+    },
+    Act {
+        times: 12,
+        steps: &[
+            Sends(ANNA, b"SAYPRIVATE Anna "),
+            SendsOften(ANNA, TEXT, 250),
+            Sends(ANNA, b"\n"),
+        ],
+    },
+    Act {
+        times: 12,
+        steps: &[
+            Sends(BERT, b"SAYPRIVATE Anna "),
+            SendsOften(BERT, TEXT, 250),
+            Sends(BERT, b"\n"),
+        ],
+    },
+    Act {
+        times: 1,
+        steps: &[GoesOn],
+    },
+    Act {
+        times: 12,
+        steps: &[
+            Reads(ANNA, b"SAYPRIVATE Anna "),
+            ReadsOften(ANNA, TEXT, 250),
+            Reads(ANNA, b"\nSAIDPRIVATE Anna "),
+            ReadsOften(ANNA, TEXT, 250),
+            Reads(ANNA, b"\n"),
+        ],
+    },
+    Act {
+        times: 12,
+        steps: &[
+            Reads(ANNA, b"SAIDPRIVATE Bert "),
+            ReadsOften(ANNA, TEXT, 250),
+            Reads(ANNA, b"\n"),
+        ],
+    },
+];
+
+/// Anna and Bert each say her 48 kB while their worker stands still. What she is then told takes three turns: the first for what she
+/// sent, the second since she is named as changed, and the third for nothing but that the second stopped at its limit.
+#[test]
+fn who_is_named_and_left_over_gets_both_turns(rt: HostRuntime) {
+    drop(play(&rt, rt, 1, Hold::Write, &MUCH));
 }
 
 const NO_MORE: [Act; 1] = [Act {
