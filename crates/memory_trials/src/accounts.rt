@@ -23,6 +23,10 @@ name = \"Cleo\"
 password = \"X03MO1qnZdYdgyfeuILPmQ==\"
 id = 3
 country = \"FR\"
+[[account]]
+name = \"Dora\"
+password = \"X03MO1qnZdYdgyfeuILPmQ==\"
+id = 4
 ";
 
 /// The default settings, but for the least limit of an outbox and a message of the day.
@@ -31,7 +35,7 @@ pub fn settings(alloc: Global) -> Option<Settings> {
     Settings::new(alloc, b"0.38", b"*", 8201, 0, &motd, LEAST_OUTBOX_LIMIT).ok()
 }
 
-/// The book of the three accounts.
+/// The book of these accounts.
 pub fn book(alloc: Global) -> Option<AccountBook> {
     AccountBook::from_toml(alloc, ACCOUNTS).ok()
 }

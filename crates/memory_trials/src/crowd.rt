@@ -1,22 +1,26 @@
-//! A channel of 33 users, whose last one joins.
+//! A crowd of users who are logged in, and a channel of 33 whose last one joins.
 
 use crate::accounts::lobby_of;
 use crate::deeds::{Deed, Subject, try_deeds};
 use crate::hog::Hog;
-use crate::lobbies::{HOME, act, are_alike, say, show_unread};
+use crate::lobbies::{HOME, act, are_alike, read_some, say, show_unread};
 use crate::notes::Notes;
 use account_book::{Account, AccountBook};
 use lobby_machine::Lobby;
 use std::alloc::Global;
 use std::io;
 
-const USERS: u32 = 33;
-
 const WORD: &[u8] = b"X03MO1qnZdYdgyfeuILPmQ==";
 
 const DEEDS: [(u64, Deed); 2] = [
     (33, Deed::Send(b"JOIN main")),
     (1, Deed::Send(b"SAY main hello")),
+];
+
+/// The channel's members are told, and the list of channels has their number.
+const LOOKS: [(u64, Deed); 2] = [
+    (2, Deed::Send(b"SAY main who is there")),
+    (33, Deed::Send(b"CHANNELS")),
 ];
 
 fn add_user(accounts: &mut AccountBook, alloc: Global, user: u32) -> bool {
@@ -29,8 +33,8 @@ fn add_user(accounts: &mut AccountBook, alloc: Global, user: u32) -> bool {
     }
 }
 
-fn add_users(accounts: &mut AccountBook, alloc: Global) -> bool {
-    for user in 1..=USERS {
+fn add_users(accounts: &mut AccountBook, alloc: Global, users: u32) -> bool {
+    for user in 1..=users {
         if !add_user(accounts, alloc, user) {
             return false;
         }
@@ -38,10 +42,10 @@ fn add_users(accounts: &mut AccountBook, alloc: Global) -> bool {
     true
 }
 
-/// The accounts u01 to u33, in the order of their clients.
-fn accounts(alloc: Global) -> Option<AccountBook> {
+/// The accounts u01, u02 and so on of so many users, in the order of their clients.
+fn accounts(alloc: Global, users: u32) -> Option<AccountBook> {
     let mut accounts = AccountBook::new(alloc);
-    if add_users(&mut accounts, alloc) {
+    if add_users(&mut accounts, alloc, users) {
         Some(accounts)
     } else {
         drop(accounts);
@@ -49,44 +53,46 @@ fn accounts(alloc: Global) -> Option<AccountBook> {
     }
 }
 
-fn read_all(lobby: &mut Lobby) {
-    for client in 1..=u64::from(USERS) {
-        let _ = lobby.drain(client, &mut [0; 4096]);
+fn read_all(lobby: &mut Lobby, users: u32) {
+    for client in 1..=u64::from(users) {
+        read_some(lobby, client, 4096);
     }
 }
 
-/// A user connects, logs in, and joins the channel, where it is not the last.
-fn enter(lobby: &mut Lobby, alloc: Global, user: u32) -> bool {
+/// A user connects, logs in as one who is asked by those who would join its battle, and joins the channel, where it is not the last
+/// of so many users.
+fn enter(lobby: &mut Lobby, alloc: Global, user: u32, users: u32) -> bool {
     let client = u64::from(user);
-    let Ok(line) = format!(in alloc; "LOGIN u{user:02} X03MO1qnZdYdgyfeuILPmQ== 0 * TestLobby 1.0")
-    else {
+    let Ok(line) = format!(in alloc;
+        "LOGIN u{user:02} X03MO1qnZdYdgyfeuILPmQ== 0 * TestLobby 1.0\t0\tb"
+    ) else {
         return false;
     };
     lobby.open([10, 0, 0, 1], HOME) == Ok(client)
         && say(lobby, alloc, client, line.as_bytes())
-        && (user == USERS || say(lobby, alloc, client, b"JOIN main"))
+        && (user == users || say(lobby, alloc, client, b"JOIN main"))
 }
 
-fn enter_all(lobby: &mut Lobby, alloc: Global) -> bool {
-    for user in 1..=USERS {
-        if !enter(lobby, alloc, user) {
+fn enter_all(lobby: &mut Lobby, alloc: Global, users: u32) -> bool {
+    for user in 1..=users {
+        if !enter(lobby, alloc, user, users) {
             return false;
         }
-        read_all(lobby);
+        read_all(lobby, users);
     }
     true
 }
 
-/// A lobby of 33 users who read all, where all but the last are in a channel.
+/// A lobby of so many users who have read all, where all but the last are in a channel.
 #[derive(Drop)]
-struct Crowd {
+pub struct Crowd<const USERS: u32> {
     lobby: Lobby,
 }
 
-impl Subject for Crowd {
-    fn new(alloc: Global) -> Option<Crowd> {
-        let mut lobby = lobby_of(alloc, accounts(alloc))?;
-        if enter_all(&mut lobby, alloc) {
+impl<const USERS: u32> Subject for Crowd<USERS> {
+    fn new(alloc: Global) -> Option<Crowd<USERS>> {
+        let mut lobby = lobby_of(alloc, accounts(alloc, USERS))?;
+        if enter_all(&mut lobby, alloc, USERS) {
             Some(Crowd { lobby })
         } else {
             drop(lobby);
@@ -98,7 +104,7 @@ impl Subject for Crowd {
         act(&mut self.lobby, alloc, client, deed)
     }
 
-    fn is_as(&mut self, other: &mut Crowd) -> bool {
+    fn is_as(&mut self, other: &mut Crowd<USERS>) -> bool {
         are_alike(&mut self.lobby, &mut other.lobby)
     }
 
@@ -108,5 +114,5 @@ impl Subject for Crowd {
 }
 
 pub fn try_out<R: Print + AllocGlobal>(rt: &R, hog: &mut Hog, notes: &mut Notes) -> io::Result<()> {
-    try_deeds::<Crowd, R>(rt, &DEEDS, hog, notes)
+    try_deeds::<Crowd<33>, R>(rt, &DEEDS, &LOOKS, hog, notes)
 }

@@ -60,6 +60,42 @@ impl<S: Subject> Pair<S> {
         }
     }
 
+    /// A new pair, of which both have done these deeds.
+    fn after(alloc: Global, deeds: &[(u64, Deed)]) -> Option<Pair<S>> {
+        let mut pair = Pair::<S>::new(alloc)?;
+        if pair.do_all(alloc, deeds) {
+            Some(pair)
+        } else {
+            drop(pair);
+            None
+        }
+    }
+
+    /// Both do it, and memory suffices, or not.
+    fn do_both(&mut self, alloc: Global, client: u64, deed: Deed) -> bool {
+        self.tried.act(alloc, client, deed) && self.other.act(alloc, client, deed)
+    }
+
+    /// Both do these deeds, and memory suffices, or not.
+    fn do_all(&mut self, alloc: Global, deeds: &[(u64, Deed)]) -> bool {
+        for (client, deed) in deeds {
+            if !self.do_both(alloc, *client, *deed) {
+                return false;
+            }
+        }
+        true
+    }
+
+    /// Whether both tell the same, and still do after each of these deeds.
+    fn is_alike_after(&mut self, alloc: Global, deeds: &[(u64, Deed)]) -> bool {
+        for (client, deed) in deeds {
+            if !self.tried.is_as(&mut self.other) || !self.do_both(alloc, *client, *deed) {
+                return false;
+            }
+        }
+        self.tried.is_as(&mut self.other)
+    }
+
     /// Does it with more and more memory, until that suffices. After each refusal the two are compared, of which the other one has
     /// not done it. Says whether memory sufficed.
     fn try_out(
@@ -95,10 +131,56 @@ impl<S: Subject> Pair<S> {
     }
 }
 
-/// Tries the deeds on a new subject, and shows what came of them.
+/// Whether the last of these deeds, done with memory for so many steps by one of a new pair that has done the others, is refused.
+/// Then the two are compared, and again after each look.
+fn is_refused<S: Subject>(
+    alloc: Global,
+    (before, client, deed): (&[(u64, Deed)], u64, Deed),
+    looks: &[(u64, Deed)],
+    steps: usize,
+    hog: &mut Hog,
+    notes: &mut Notes,
+) -> bool {
+    let Some(mut pair) = Pair::<S>::after(alloc, before) else {
+        notes.give_up();
+        return false;
+    };
+    hog.leave(steps);
+    let is_done = pair.tried.act(alloc, client, deed);
+    hog.release();
+    if !is_done {
+        notes.refuse(pair.is_alike_after(alloc, looks));
+    }
+    drop(pair);
+    !is_done
+}
+
+/// Tries each deed on new pairs, with more and more memory until that suffices. Each refusal has a pair of its own, so that looks,
+/// which are deeds that make more be told, find what the refused deed left and a later one would hide.
+fn try_anew<S: Subject>(
+    alloc: Global,
+    deeds: &[(u64, Deed)],
+    looks: &[(u64, Deed)],
+    hog: &mut Hog,
+    notes: &mut Notes,
+) {
+    for number in 0..deeds.len() {
+        let (client, deed) = deeds[number];
+        let tried = (&deeds[..number], client, deed);
+        for steps in 0..=MOST_STEPS {
+            if !is_refused::<S>(alloc, tried, looks, steps, hog, notes) {
+                break;
+            }
+        }
+    }
+}
+
+/// Tries the deeds on a new subject, one after another, and shows what came of them; then each on subjects of its own, at which the
+/// looks are done after a refusal.
 pub fn try_deeds<S: Subject, R: Print + AllocGlobal>(
     rt: &R,
     deeds: &[(u64, Deed)],
+    looks: &[(u64, Deed)],
     hog: &mut Hog,
     notes: &mut Notes,
 ) -> io::Result<()> {
@@ -107,6 +189,7 @@ pub fn try_deeds<S: Subject, R: Print + AllocGlobal>(
             pair.try_all(rt.alloc(), deeds, hog, notes);
             let shown = pair.tried.show(rt);
             drop(pair);
+            try_anew::<S>(rt.alloc(), deeds, looks, hog, notes);
             shown
         }
         None => {

@@ -161,7 +161,7 @@ fn serve_both<R: Wait>(
     pass
 }
 
-/// A desk with a lobby of three accounts.
+/// A desk with a new lobby.
 fn new_desk<R: Wait + AllocGlobal>(rt: &R) -> Option<(Desk, Pass)>
     ensures { IfSome result (λ r. r.1.desk ≡ r.0) }
 {

@@ -19,9 +19,9 @@ pub const HOME: u8 = 0;
 /// How many bytes are compared at a time.
 const PIECE: usize = 512;
 
-/// They log in, one after another, and talk in two channels; then Anna opens a battle and furnishes it, Cleo joins it, and leaves
-/// with two bots; Bert goes with his channels, and is shut.
-const DEEDS: [(u64, Deed); 33] = [
+/// They log in, one after another, and talk in two channels; then Anna opens a battle and furnishes it, Cleo joins it, is forced this
+/// and that, and leaves with two bots; Bert goes with his channels, and is shut.
+const DEEDS: [(u64, Deed); 51] = [
     (1, Deed::Open),
     (2, Deed::Open),
     (3, Deed::Open),
@@ -46,6 +46,10 @@ const DEEDS: [(u64, Deed); 33] = [
     (2, Deed::Send(b"JOIN big")),
     (1, Deed::Send(b"JOIN big")),
     (2, Deed::Send(b"#7 SAY main hello")),
+    (3, Deed::Send(b"SAYEX main waves")),
+    (1, Deed::Send(b"#8 SAYPRIVATE Cleo hi")),
+    (3, Deed::Send(b"CHANNELS")),
+    (3, Deed::Send(b"PING")),
     (
         1,
         Deed::Send(
@@ -60,7 +64,21 @@ const DEEDS: [(u64, Deed); 33] = [
     (3, Deed::Send(b"MYBATTLESTATUS 1024 7")),
     (3, Deed::Send(b"ADDBOT Rex 1024 0 KAIK")),
     (3, Deed::Send(b"ADDBOT Tik 1088 -1 KAIK")),
+    (1, Deed::Send(b"KICKFROMBATTLE Cleo")),
+    (3, Deed::Send(b"JOINBATTLE 1 secret")),
+    (3, Deed::Send(b"ADDBOT Rex 1024 0 KAIK")),
+    (3, Deed::Send(b"ADDBOT Tik 1088 -1 KAIK")),
     (1, Deed::Send(b"SAYBATTLE go")),
+    (3, Deed::Send(b"SAYBATTLEEX goes")),
+    (1, Deed::Send(b"HANDICAP Cleo 10")),
+    (1, Deed::Send(b"FORCETEAMNO Cleo 3")),
+    (1, Deed::Send(b"FORCEALLYNO Cleo 1")),
+    (1, Deed::Send(b"FORCETEAMCOLOR Cleo 255")),
+    (1, Deed::Send(b"FORCESPECTATORMODE Cleo")),
+    (1, Deed::Send(b"RING Cleo")),
+    (3, Deed::Send(b"UPDATEBOT Rex 1088 9")),
+    (1, Deed::Send(b"REMOVEBOT Robo")),
+    (1, Deed::Send(b"REMOVESTARTRECT 0")),
     (1, Deed::Send(b"SETSCRIPTTAGS a=3\tc=4")),
     (1, Deed::Send(b"REMOVESCRIPTTAGS b")),
     (3, Deed::Send(b"EXIT")),
@@ -72,6 +90,23 @@ const DEEDS: [(u64, Deed); 33] = [
         Deed::Send(b"LOGIN Bert X03MO1qnZdYdgyfeuILPmQ== 0 * TestLobby 1.0"),
     ),
     (1, Deed::Send(b"LEAVEBATTLE")),
+];
+
+/// Five more connect, so that a client 5 is there, however many there were. Dora logs in at it, and is told the users, the battles
+/// and their members; then who is in the channels, and what the members of the battle share.
+const LOOKS: [(u64, Deed); 9] = [
+    (1, Deed::Open),
+    (2, Deed::Open),
+    (3, Deed::Open),
+    (4, Deed::Open),
+    (5, Deed::Open),
+    (
+        5,
+        Deed::Send(b"LOGIN Dora X03MO1qnZdYdgyfeuILPmQ== 0 * TestLobby 1.0"),
+    ),
+    (5, Deed::Send(b"JOIN main")),
+    (5, Deed::Send(b"JOIN big")),
+    (5, Deed::Send(b"JOINBATTLE 1 secret")),
 ];
 
 /// What a line asks for, with arguments of their kinds.
@@ -94,10 +129,10 @@ pub fn say(lobby: &mut Lobby, alloc: Global, client: u64, line: &[u8]) -> bool {
     }
 }
 
-/// A client reads up to so many bytes, and at most 64.
-fn read_some(lobby: &mut Lobby, client: u64, count: usize) {
-    let mut bytes = [0; 64];
-    let _ = lobby.drain(client, &mut bytes[..count.min(64)]);
+/// A client reads up to so many bytes, and at most 4,096.
+pub fn read_some(lobby: &mut Lobby, client: u64, count: usize) {
+    let mut bytes = [0; 4096];
+    let _ = lobby.drain(client, &mut bytes[..count.min(4096)]);
 }
 
 /// Does it, and says whether memory sufficed.
@@ -197,5 +232,5 @@ impl Subject for Lobby {
 }
 
 pub fn try_out<R: Print + AllocGlobal>(rt: &R, hog: &mut Hog, notes: &mut Notes) -> io::Result<()> {
-    try_deeds::<Lobby, R>(rt, &DEEDS, hog, notes)
+    try_deeds::<Lobby, R>(rt, &DEEDS, &LOOKS, hog, notes)
 }

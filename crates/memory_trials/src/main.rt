@@ -4,12 +4,15 @@
 #![tactic(auto)]
 
 mod accounts;
+mod asking;
 mod crowd;
 mod deeds;
+mod halls;
 mod hog;
 mod links;
 mod lobbies;
 mod notes;
+mod scripts;
 mod sessions;
 
 use hog::Hog;
@@ -37,7 +40,10 @@ fn try_all<R: Wait + Print + AllocGlobal>(
 ) -> io::Result<()> {
     lobbies::try_out(rt, hog, notes)?;
     crowd::try_out(rt, hog, notes)?;
+    asking::try_out(rt, hog, notes)?;
+    halls::try_out(rt, hog, notes)?;
     sessions::try_out(rt, hog, notes)?;
+    scripts::try_out(rt, hog, notes)?;
     hog.release();
     links::try_out(rt, hog, notes)
 }

@@ -32,6 +32,14 @@ const DEEDS: [(u64, Deed); 12] = [
     (1, Deed::Send(b"PING\n")),
 ];
 
+/// An unfinished line is ended, and the lines that are there are taken, one after another.
+const LOOKS: [(u64, Deed); 4] = [
+    (1, Deed::Send(b"\n")),
+    (1, Deed::Take),
+    (1, Deed::Take),
+    (1, Deed::Take),
+];
+
 impl Subject for Framer {
     fn new(alloc: Global) -> Option<Framer> {
         Some(Framer::new(alloc, 8192))
@@ -128,6 +136,6 @@ impl Subject for Session {
 }
 
 pub fn try_out<R: Print + AllocGlobal>(rt: &R, hog: &mut Hog, notes: &mut Notes) -> io::Result<()> {
-    try_deeds::<Framer, R>(rt, &DEEDS, hog, notes)?;
-    try_deeds::<Session, R>(rt, &DEEDS, hog, notes)
+    try_deeds::<Framer, R>(rt, &DEEDS, &LOOKS, hog, notes)?;
+    try_deeds::<Session, R>(rt, &DEEDS, &LOOKS, hog, notes)
 }
