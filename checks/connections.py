@@ -467,11 +467,12 @@ def restarts(workers):
 
 
 def open_files(workers):
-    """Where the system gives no more connections, those that are there are served, and the next wait until some have left."""
+    """Where the system gives no more connections, those that are there are served, and the next wait until some have left. The
+    server waits meanwhile too, and does not try without end."""
     files = 40 + 4 * workers
     with Server(workers, [], files=files) as server:
         waiting = [Client(server) for _ in range(300)]
-        count, begun = 0, server.seconds()
+        count, begun, start = 0, server.seconds(), time.monotonic()
         for _ in range(100):
             time.sleep(0.2)
             ready = select.select([it.socket for it in waiting], [], [], 1)[0]
@@ -489,7 +490,10 @@ def open_files(workers):
                 break
         if count != 300:
             raise Difference(f"{count} of 300 were greeted")
-        print(f"  300 were greeted in turn, and the server took {server.seconds() - begun:.2f} s of processors")
+        used, lasted = server.seconds() - begun, time.monotonic() - start
+        if used > lasted / 4:
+            raise Difference(f"the server took {used:.2f} s of processors in {lasted:.2f} s, in which it had next to nothing to do")
+        print(f"  300 were greeted in turn, and the server took {used:.2f} s of processors")
 
 
 CHECKS = [slow_reader, slow_readers, half_closed, late_readers, resets, resets_at_once, hasty_logins, one_by_one, line_limits, flood, burst]
