@@ -4,15 +4,19 @@
 //! promise for a server over sockets. That a socket delivers is not proved.
 #![tactic(auto)]
 
+mod lingering;
+
 ghost use Rattle.std.specs.Prelude.{◌≡◌, ◌≤◌, ◌++◌, ℕ, length, take};
 ghost use Rattle.wire_link.specs.Gathered.{gathered};
 ghost use Rattle.lobby_turns.specs.Wire.{got_count, sent_count, untouched};
 
 use http_server::Log;
+pub use lingering::Lingering;
 use lobby_turns::{Got, Link, PIECE, Sent};
 use mio::net::TcpStream;
 use mio::{Interest, Registry, Token};
 use std::io::{self, ErrorKind, Read, Write};
+use std::net::Shutdown;
 
 /// So often a call that a signal broke off is tried before it counts as a failure.
 const TRIES: u32 = 16;
@@ -61,6 +65,34 @@ impl WireLink {
             token,
             Interest::READABLE | Interest::WRITABLE,
         )
+    }
+
+    /// Ends what is written, and gives the socket for what may still come. None, and the socket is closed, where the other side has
+    /// ended or did not take all, or the system refuses it.
+    fn into_lingering(self) -> Option<TcpStream> {
+        let may_linger = may_send(self.last_got) && takes_all(self.last_sent);
+        let stream = self.stream;
+        if may_linger && stream.shutdown(Shutdown::Write).is_ok() {
+            Some(stream)
+        } else {
+            None
+        }
+    }
+}
+
+/// Whether more may come behind such a read.
+fn may_send(last_got: Option<Got>) -> bool {
+    match last_got {
+        None | Some(Got::Bytes(_)) | Some(Got::Later) => true,
+        Some(Got::End) | Some(Got::Fault) => false,
+    }
+}
+
+/// Whether a link takes more behind such a write.
+fn takes_all(last_sent: Option<Sent>) -> bool {
+    match last_sent {
+        None | Some(Sent::Took(_)) => true,
+        Some(Sent::Later) | Some(Sent::Fault) => false,
     }
 }
 
