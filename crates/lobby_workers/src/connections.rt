@@ -15,7 +15,7 @@ use std::collections::HashMap;
 use std::mem;
 use std::sync::Wait;
 use std::time::Duration;
-use wire_link::WireLink;
+use wire_link::{Lingering, WireLink};
 
 /// The greatest number of a worker.
 const LAST_WORKER: u64 = 63;
@@ -91,6 +91,8 @@ pub struct Connections {
     spare: Vec<usize>,
     // whether someone found no place in that list
     is_someone_missed: bool,
+    // those whose clients were shut
+    lingering: Lingering,
     pause: Pause,
 }
 
@@ -107,6 +109,7 @@ impl Connections {
             left: Vec::new(alloc),
             spare: Vec::new(alloc),
             is_someone_missed: false,
+            lingering: Lingering::new(alloc),
             pause: Pause::Long,
         }
     }
@@ -178,12 +181,18 @@ impl Connections {
         pass
     }
 
+    /// Lets go what came for a connection that lingers. Whether a poll's token is of one.
+    pub fn let_go(&mut self, registry: &Registry, token: Token) -> bool {
+        self.lingering.turn(registry, token)
+    }
+
     /// The connection under a key gets its turn of this round. Nothing happens where there is none.
     pub fn turn<R: Wait, G: Gate>(
         &mut self,
         rt: &R,
         shared: &Shared<'_, G>,
         pass: Pass,
+        registry: &Registry,
         key: usize,
     ) -> Pass
         requires { pass.desk ≡ shared.now.desk.now }
@@ -200,7 +209,7 @@ impl Connections {
         let (conn, link) = (&mut connection.conn, &mut connection.link);
         let (pass, turn) = serve_or_shut(rt, shared, pass, conn, link);
         self.pass_on(shared.crew, pass.number(), turn.wakes);
-        self.end_turn(key, turn.state);
+        self.end_turn(registry, key, turn.state);
         pass
     }
 
@@ -210,15 +219,18 @@ impl Connections {
         crew.wake_others(worker, wakes);
     }
 
-    /// Sees to it that a connection goes on as its turn ended.
-    fn end_turn(&mut self, key: usize, state: TurnState) {
+    /// Sees to it that a connection goes on as its turn ended. One whose client was shut lingers.
+    fn end_turn(&mut self, registry: &Registry, key: usize, state: TurnState) {
         match state {
             TurnState::Idle => {}
             TurnState::Again => self.leave(key, Pause::None),
             TurnState::Memory => self.leave(key, Pause::Short),
             TurnState::Closed => {
                 if let Some(connection) = self.slab.try_remove(key) {
-                    self.keys.remove(&connection.conn.client());
+                    let Connection { conn, link, .. } = connection;
+                    self.keys.remove(&conn.client());
+                    drop(conn);
+                    self.lingering.begin(registry, link);
                 }
             }
         }
@@ -290,6 +302,7 @@ impl Connections {
         rt: &R,
         shared: &Shared<'_, G>,
         pass: Pass,
+        registry: &Registry,
     ) -> Pass
         requires { pass.desk ≡ shared.now.desk.now }
         ensures desk { result.desk ≡ pass.desk }
@@ -300,7 +313,7 @@ impl Connections {
         for client in &named {
             // Who has no connection has gone meanwhile.
             if let Some(key) = self.keys.get(client).copied() {
-                pass = self.turn(rt, shared, pass, key);
+                pass = self.turn(rt, shared, pass, registry, key);
             }
         }
         named.clear();
@@ -315,19 +328,20 @@ impl Connections {
         rt: &R,
         shared: &Shared<'_, G>,
         pass: Pass,
+        registry: &Registry,
     ) -> Pass
         requires { pass.desk ≡ shared.now.desk.now }
         ensures desk { result.desk ≡ pass.desk }
         ensures number { result.worker.number ≡ pass.worker.number }
     {
         if self.is_someone_missed {
-            return self.turn_each(rt, shared, pass);
+            return self.turn_each(rt, shared, pass, registry);
         }
         let spare = mem::replace(&mut self.spare, Vec::new(self.alloc));
         let mut keys = mem::replace(&mut self.left, spare);
         let mut pass = pass;
         for key in &keys {
-            pass = self.turn(rt, shared, pass, *key);
+            pass = self.turn(rt, shared, pass, registry, *key);
         }
         keys.clear();
         self.spare = keys;
@@ -335,7 +349,13 @@ impl Connections {
     }
 
     /// Each connection gets its turn.
-    fn turn_each<R: Wait, G: Gate>(&mut self, rt: &R, shared: &Shared<'_, G>, pass: Pass) -> Pass
+    fn turn_each<R: Wait, G: Gate>(
+        &mut self,
+        rt: &R,
+        shared: &Shared<'_, G>,
+        pass: Pass,
+        registry: &Registry,
+    ) -> Pass
         requires { pass.desk ≡ shared.now.desk.now }
         ensures desk { result.desk ≡ pass.desk }
         ensures number { result.worker.number ≡ pass.worker.number }
@@ -344,7 +364,7 @@ impl Connections {
         self.is_someone_missed = false;
         let mut pass = pass;
         for key in 0..self.slab.capacity() {
-            pass = self.turn(rt, shared, pass, key);
+            pass = self.turn(rt, shared, pass, registry, key);
         }
         pass
     }

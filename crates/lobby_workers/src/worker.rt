@@ -145,15 +145,19 @@ impl Station {
         pass
     }
 
-    /// Gives turns to those of whom the last poll told.
+    /// Gives turns to those of whom the last poll told, and lets go what came for those who linger.
     fn turn_ready<R: Wait, G: Gate>(&mut self, rt: &R, shared: &Shared<'_, G>, pass: Pass) -> Pass
         requires { pass.desk ≡ shared.now.desk.now }
         ensures desk { result.desk ≡ pass.desk }
         ensures number { result.worker.number ≡ pass.worker.number }
     {
+        let registry = self.poll.registry();
         let mut pass = pass;
         for event in &self.events {
-            pass = self.connections.turn(rt, shared, pass, event.token().0);
+            let token = event.token();
+            if !self.connections.let_go(registry, token) {
+                pass = self.connections.turn(rt, shared, pass, registry, token.0);
+            }
         }
         pass
     }
@@ -184,9 +188,10 @@ impl Station {
         } else {
             pass
         };
+        let registry = self.poll.registry();
         // Before all other turns: whom these leave over is left for the next round.
-        let pass = self.connections.turn_left(rt, shared, pass);
-        let pass = self.connections.turn_named(rt, shared, pass);
+        let pass = self.connections.turn_left(rt, shared, pass, registry);
+        let pass = self.connections.turn_named(rt, shared, pass, registry);
         self.turn_ready(rt, shared, pass)
     }
 }

@@ -107,4 +107,16 @@ impl Client {
         }
         None
     }
+
+    /// Whether the other side breaks the connection off while these bytes are sent again and again, once a look and within so many
+    /// looks. Nothing is read meanwhile.
+    pub fn is_broken_off<C: Clock>(&mut self, clock: &C, bytes: &[u8]) -> bool {
+        for _ in 0..LOOKS {
+            match outcome(self.stream.write(bytes)) {
+                Moved::Some(_) | Moved::Nothing => thread::sleep(clock, Duration::from_millis(1)),
+                Moved::Ended | Moved::Broken => return true,
+            }
+        }
+        false
+    }
 }

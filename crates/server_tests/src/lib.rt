@@ -9,6 +9,8 @@ mod gates;
 #[cfg(test)]
 mod hostile;
 #[cfg(test)]
+mod leavers;
+#[cfg(test)]
 mod plays;
 #[cfg(test)]
 mod running;

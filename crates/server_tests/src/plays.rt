@@ -40,6 +40,8 @@ pub enum Step {
     Ends(usize),
     /// The server closes a client's connection, whatever bytes come before that.
     IsClosed(usize),
+    /// The server breaks a client's connection off while these bytes, so many times over, are sent again and again.
+    IsBrokenOff(usize, &'static [u8], usize),
     /// One more client connects, joins the crowd, and does not wait for it.
     JoinsCrowd,
     /// Each client of the crowd is greeted.
@@ -153,6 +155,16 @@ impl Cast<'_> {
         }
     }
 
+    fn is_broken_off(&mut self, who: usize, bytes: &[u8], times: usize) -> bool {
+        match (
+            self.clients.get_mut(who),
+            times_over(self.clock.alloc(), bytes, times),
+        ) {
+            (Some(Some(client)), Ok(all)) => client.is_broken_off(&self.clock, all.as_slice()),
+            _ => false,
+        }
+    }
+
     fn joins_crowd<R: Net>(&mut self, rt: &R) -> bool {
         match Client::connect(rt, self.address) {
             Some(client) => self.crowd.push(client).is_ok(),
@@ -185,6 +197,7 @@ impl Cast<'_> {
             Step::BreaksOff(who) => self.breaks_off(who),
             Step::Ends(who) => matches!(self.ends(who), Some(0)),
             Step::IsClosed(who) => self.ends(who).is_some(),
+            Step::IsBrokenOff(who, bytes, times) => self.is_broken_off(who, bytes, times),
             Step::JoinsCrowd => self.joins_crowd(rt),
             Step::CrowdIsGreeted => self.crowd_is_greeted(),
             Step::GateShuts => self.stage.gate.shut(),

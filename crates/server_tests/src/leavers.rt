@@ -1,0 +1,139 @@
+//! What a client gets that is logged out while more of what it sent is on its way, and how long its connection lingers.
+
+use crate::gates::Hold;
+use crate::plays::Step::*;
+use crate::plays::{Act, play};
+use crate::running::{
+    ANNA, ANNA_IS_IN, ANNA_LOGS_IN, BERT, BERT_COMES, BERT_IS_IN, BERT_LOGS_IN, PING, PONG,
+};
+
+const BOTH_LOG_IN: Act = Act {
+    times: 1,
+    steps: &[
+        Enters(ANNA),
+        Sends(ANNA, ANNA_LOGS_IN),
+        Reads(ANNA, ANNA_IS_IN),
+        Enters(BERT),
+        Sends(BERT, BERT_LOGS_IN),
+        Reads(BERT, BERT_IS_IN),
+        Reads(ANNA, BERT_COMES),
+    ],
+};
+
+/// Sixteen bytes of a long text.
+const TEXT: &[u8] = b"0123456789abcdef";
+
+/// So often Bert says something to Anna.
+const LINES: u32 = 64;
+
+/// Behind the answer to his PING the line was written to Anna's link, since her turn comes before his.
+const BERT_SAYS: Act = Act {
+    times: LINES,
+    steps: &[
+        Sends(BERT, b"SAYPRIVATE Anna "),
+        SendsOften(BERT, TEXT, 250),
+        Sends(BERT, b"\n"),
+        Reads(BERT, b"SAYPRIVATE Anna "),
+        ReadsOften(BERT, TEXT, 250),
+        Reads(BERT, b"\n"),
+        Sends(BERT, PING),
+        Reads(BERT, PONG),
+    ],
+};
+
+const ANNA_IS_OUT: Act = Act {
+    times: 1,
+    steps: &[Reads(BERT, b"REMOVEUSER Anna\n")],
+};
+
+const ANNA_READS: Act = Act {
+    times: LINES,
+    steps: &[
+        Reads(ANNA, b"SAIDPRIVATE Bert "),
+        ReadsOften(ANNA, TEXT, 250),
+        Reads(ANNA, b"\n"),
+    ],
+};
+
+const BERT_GOES_ON: Act = Act {
+    times: 1,
+    steps: &[Ends(ANNA), Sends(BERT, PING), Reads(BERT, PONG)],
+};
+
+const EXITS: [Act; 6] = [
+    BOTH_LOG_IN,
+    BERT_SAYS,
+    Act {
+        times: 1,
+        steps: &[Sends(ANNA, b"EXIT\n"), SendsOften(ANNA, TEXT, 12_500)],
+    },
+    ANNA_IS_OUT,
+    ANNA_READS,
+    BERT_GOES_ON,
+];
+
+/// Anna reads nothing of what Bert says until she is out, and that is more than most systems keep for a client that does not read.
+/// Behind her EXIT she sends more than her last turn reads.
+#[test]
+fn who_exits_with_more_behind_it_gets_its_last_lines(rt: HostRuntime) {
+    drop(play(&rt, rt, 1, Hold::Open, &EXITS));
+}
+
+const SPOILS: [Act; 6] = [
+    BOTH_LOG_IN,
+    BERT_SAYS,
+    Act {
+        times: 1,
+        steps: &[SendsOften(ANNA, TEXT, 12_500)],
+    },
+    ANNA_IS_OUT,
+    ANNA_READS,
+    BERT_GOES_ON,
+];
+
+/// The same behind a line that is too long.
+#[test]
+fn whose_line_is_too_long_gets_its_last_lines(rt: HostRuntime) {
+    drop(play(&rt, rt, 1, Hold::Open, &SPOILS));
+}
+
+const SENDS_ON: [Act; 1] = [Act {
+    times: 1,
+    steps: &[
+        Enters(0),
+        Enters(1),
+        Sends(0, b"EXIT\n"),
+        Ends(0),
+        IsBrokenOff(0, TEXT, 4_096),
+        Sends(1, PING),
+        Reads(1, PONG),
+    ],
+}];
+
+/// What is sent behind an EXIT is read, but not without end.
+#[test]
+fn who_sends_on_behind_an_exit_is_broken_off(rt: HostRuntime) {
+    drop(play(&rt, rt, 1, Hold::Open, &SENDS_ON));
+}
+
+const OTHERS_LEAVE: [Act; 3] = [
+    Act {
+        times: 1,
+        steps: &[Enters(0), Sends(0, b"EXIT\n"), Ends(0)],
+    },
+    Act {
+        times: 64,
+        steps: &[Enters(1), Sends(1, b"EXIT\n"), Ends(1)],
+    },
+    Act {
+        times: 1,
+        steps: &[IsBrokenOff(0, TEXT, 1)],
+    },
+];
+
+/// Who keeps its connection behind an EXIT is closed once so many others have left. What it sends until then is far less than what is
+/// read of one client.
+#[test]
+fn who_keeps_its_connection_gives_way_to_others(rt: HostRuntime) {
+    drop(play(&rt, rt, 1, Hold::Open, &OTHERS_LEAVE));
+}
