@@ -82,6 +82,15 @@ def slow_reader(workers):
         print(f"  cut behind {len(whole) / 1e6:.2f} MB, of which it could read {len(found) / 1e6:.2f} MB")
 
 
+def wait_for_sockets(server, count):
+    """Waits until the server has so many sockets open, that at which it listens among them."""
+    for _ in range(500):
+        if server.sockets() == count:
+            return
+        time.sleep(0.01)
+    raise Difference(f"the server has {server.sockets()} sockets, and not {count}")
+
+
 def talk_until_cut(clients, count):
     """The first speaks, line by line, up to some lines behind the one at which all are told that so many are gone."""
     said, told, rest = [], [[] for _ in clients], 20
@@ -124,11 +133,7 @@ def slow_readers(workers):
         bert.expect_nothing_more()
         # What the system still holds for them it may give them slowly; the server has closed them all, and has three sockets:
         # the one at which it listens, and those of the two who are left.
-        for _ in range(500):
-            if server.sockets() == 3:
-                return
-            time.sleep(0.01)
-        raise Difference(f"the server has {server.sockets()} sockets for two clients")
+        wait_for_sockets(server, 3)
 
 
 def half_closed(workers):
@@ -496,8 +501,57 @@ def open_files(workers):
         print(f"  300 were greeted in turn, and the server took {used:.2f} s of processors")
 
 
+def talk_until_silent(client, text):
+    """The client says this in its channel and asks for an answer, again and again, until nothing comes: the number of the last time."""
+    for number in range(100_000):
+        client.send(f"SAY busy {text}\n#{number} PING\n")
+        if not select.select([client.socket], [], [], 3)[0]:
+            return number
+        client.expect(f"SAID busy Anna {text}\n#{number} PONG\n")
+    raise Difference("the server's memory does not run out")
+
+
+def short_memory(workers):
+    """Twenty of a channel read nothing until the system gives the server no more memory. Who speaks there then waits, and is told
+    without another byte of its own once they have gone. All are told of each of them, and the server has its memory back."""
+    crowd = [Account(f"Eve{number:02}", 100 + number) for number in range(20)]
+    with Server(workers, [ANNA, BERT, *crowd], "outbox_limit = 67108864\n") as server:
+        anna = logged_in(server, ANNA, [])
+        anna.send("JOIN busy\n")
+        anna.expect("JOIN busy\nCLIENTS busy Anna\n")
+        slow = []
+        for account in crowd:
+            slow.append(greeted(server, room=4_096))
+            slow[-1].send(account.login() + "JOIN busy\n")
+            anna.expect(f"{account.arrival()}JOINED busy {account.name}\n")
+        bert = logged_in(server, BERT, [ANNA, *crowd])
+        anna.expect(BERT.arrival())
+        before = server.memory()[0]
+        server.allow_more(16)
+        text = "x" * 1_000
+        number = talk_until_silent(anna, text)
+        most = server.memory()[0]
+        for client in slow:
+            client.reset()
+        told = lines_until(anna, f"#{number} PONG\n".encode())
+        wait_for_sockets(server, 3)
+        anna.send("PING\n")
+        told += lines_until(anna, b"PONG\n")
+        gone = [f"REMOVEUSER {account.name}\n".encode() for account in crowd]
+        left = [f"LEFT busy {account.name}\n".encode() for account in crowd]
+        if sorted(told) != sorted([f"SAID busy Anna {text}\n".encode(), *gone, *left]):
+            raise Difference(f"of twenty who went Anna is told {told}")
+        bert.send("PING\n")
+        if sorted(lines_until(bert, b"PONG\n")) != gone:
+            raise Difference("Bert is not told of each of twenty who went")
+        after = server.memory()[0]
+        if after - before > (most - before) / 4:
+            raise Difference(f"the server has {after:.1f} MB, of {before:.1f} before and {most:.1f} at most")
+        print(f"  silent behind {number} lines; {before:.1f} MB before, {most:.1f} at most, {after:.1f} after")
+
+
 CHECKS = [slow_reader, slow_readers, half_closed, late_readers, resets, resets_at_once, hasty_logins, one_by_one, line_limits, flood, burst]
-CHECKS += [restarts, open_files]
+CHECKS += [restarts, open_files, short_memory]
 
 
 def check(workers="4", *names):

@@ -132,6 +132,12 @@ class Server:
         sizes = dict(line.split(":", 1) for line in lines)
         return tuple(int(sizes[it].split()[0]) / 1024 for it in ("VmRSS", "VmHWM"))
 
+    def allow_more(self, megabytes):
+        """From now on the system gives it no more than so much memory besides what it has."""
+        pages = int(Path(f"/proc/{self.process.pid}/statm").read_text().split()[0])
+        most = pages * resource.getpagesize() + megabytes * 1_048_576
+        resource.prlimit(self.process.pid, resource.RLIMIT_AS, (most, most))
+
     def sockets(self):
         """How many sockets it has open."""
         count = 0

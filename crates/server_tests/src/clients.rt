@@ -87,6 +87,24 @@ impl Client {
         false
     }
 
+    /// Whether so many bytes come, whatever they are, within so many looks.
+    pub fn reads_any<C: Clock>(&mut self, clock: &C, count: usize) -> bool {
+        let mut left = count;
+        let mut piece = [0u8; PIECE];
+        for _ in 0..LOOKS {
+            if left == 0 {
+                return true;
+            }
+            let room = left.min(PIECE);
+            match outcome(self.stream.read(&mut piece[..room])) {
+                Moved::Some(more) => left = left.saturating_sub(more),
+                Moved::Nothing => thread::sleep(clock, Duration::from_millis(1)),
+                Moved::Ended | Moved::Broken => return false,
+            }
+        }
+        false
+    }
+
     /// Ends what is sent, and goes on reading. Whether the system allowed it.
     pub fn finishes(&mut self) -> bool {
         self.stream.shutdown(Shutdown::Write).is_ok()

@@ -2,10 +2,8 @@
 
 use crate::gates::Hold;
 use crate::plays::Step::*;
-use crate::plays::{Act, play};
-use crate::running::{
-    ANNA, ANNA_IS_IN, ANNA_LOGS_IN, BERT, BERT_COMES, BERT_IS_IN, BERT_LOGS_IN, PING, PONG, THIRD,
-};
+use crate::plays::{Act, BOTH_LOG_IN, play};
+use crate::running::{ANNA, BERT, BERT_COMES, BERT_IS_IN, BERT_LOGS_IN, PING, PONG, THIRD};
 
 const BURST: [Act; 2] = [
     Act {
@@ -83,49 +81,45 @@ fn all_who_are_left_over_get_their_turns(rt: HostRuntime) {
     drop(play(&rt, rt, 1, Hold::Write, &LEFT_OVER));
 }
 
-const SAME_ROUND: [Act; 1] = [Act {
-    times: 1,
-    steps: &[
-        Enters(ANNA),
-        Sends(ANNA, ANNA_LOGS_IN),
-        Reads(ANNA, ANNA_IS_IN),
-        Enters(BERT),
-        Sends(BERT, BERT_LOGS_IN),
-        Reads(BERT, BERT_IS_IN),
-        Reads(ANNA, BERT_COMES),
-        Enters(THIRD),
-        Sends(THIRD, PING),
-        IsKept,
-        Sends(ANNA, PING),
-        Sends(BERT, b"SAYPRIVATE Anna on\n"),
-        GoesOn,
-        Reads(ANNA, b"PONG\nSAIDPRIVATE Bert on\n"),
-    ],
-}];
+const SAME_ROUND: [Act; 2] = [
+    BOTH_LOG_IN,
+    Act {
+        times: 1,
+        steps: &[
+            Enters(THIRD),
+            Sends(THIRD, PING),
+            IsKept,
+            Sends(ANNA, PING),
+            Sends(BERT, b"SAYPRIVATE Anna on\n"),
+            GoesOn,
+            ReadsAny(ANNA, BOTH_LINES),
+        ],
+    },
+];
 
-/// Anna and Bert send while their worker stands still, so both get their turns in one round, Anna first. What Bert's turn then has
-/// for her comes without another byte from anyone.
+/// The bytes of `PONG` and of `SAIDPRIVATE Bert on`, which come in the order of the turns.
+const BOTH_LINES: usize = 25;
+
+/// Anna and Bert send while their worker stands still, so both get their turns in one round, mostly Anna first. What Bert's turn then
+/// has for her comes without another byte from anyone.
 #[test]
 fn who_had_a_turn_is_told_what_a_later_turn_brings(rt: HostRuntime) {
     drop(play(&rt, rt, 1, Hold::Write, &SAME_ROUND));
 }
 
-const CROWDED: [Act; 2] = [
+const CROWDED: [Act; 4] = [
     Act {
         times: 200,
         steps: &[JoinsCrowd],
     },
     Act {
         times: 1,
+        steps: &[CrowdIsGreeted],
+    },
+    BOTH_LOG_IN,
+    Act {
+        times: 1,
         steps: &[
-            CrowdIsGreeted,
-            Enters(ANNA),
-            Sends(ANNA, ANNA_LOGS_IN),
-            Reads(ANNA, ANNA_IS_IN),
-            Enters(BERT),
-            Sends(BERT, BERT_LOGS_IN),
-            Reads(BERT, BERT_IS_IN),
-            Reads(ANNA, BERT_COMES),
             Sends(ANNA, b"SAYPRIVATE Bert on\n"),
             Reads(BERT, b"SAIDPRIVATE Anna on\n"),
         ],
@@ -138,27 +132,23 @@ fn a_line_reaches_its_client_among_many_quiet_ones(rt: HostRuntime) {
     drop(play(&rt, rt, 2, Hold::Open, &CROWDED));
 }
 
-const HOMES: [Act; 1] = [Act {
-    times: 1,
-    steps: &[
-        Enters(ANNA),
-        Sends(ANNA, ANNA_LOGS_IN),
-        Reads(ANNA, ANNA_IS_IN),
-        Enters(BERT),
-        Sends(BERT, BERT_LOGS_IN),
-        Reads(BERT, BERT_IS_IN),
-        Reads(ANNA, BERT_COMES),
-        Sends(BERT, b"EXIT\n"),
-        Reads(ANNA, b"REMOVEUSER Bert\n"),
-        Enters(THIRD),
-        Enters(BERT),
-        Sends(BERT, BERT_LOGS_IN),
-        Reads(BERT, BERT_IS_IN),
-        Reads(ANNA, BERT_COMES),
-        Sends(ANNA, b"EXIT\n"),
-        Reads(BERT, b"REMOVEUSER Anna\n"),
-    ],
-}];
+const HOMES: [Act; 2] = [
+    BOTH_LOG_IN,
+    Act {
+        times: 1,
+        steps: &[
+            Sends(BERT, b"EXIT\n"),
+            Reads(ANNA, b"REMOVEUSER Bert\n"),
+            Enters(THIRD),
+            Enters(BERT),
+            Sends(BERT, BERT_LOGS_IN),
+            Reads(BERT, BERT_IS_IN),
+            Reads(ANNA, BERT_COMES),
+            Sends(ANNA, b"EXIT\n"),
+            Reads(BERT, b"REMOVEUSER Anna\n"),
+        ],
+    },
+];
 
 /// A log out is told to the others alone. So who is told of one was woken for it, by the home of its own client.
 #[test]
@@ -166,28 +156,24 @@ fn each_client_is_at_home_at_its_worker(rt: HostRuntime) {
     drop(play(&rt, rt, 2, Hold::Open, &HOMES));
 }
 
-const BYTES: [Act; 1] = [Act {
-    times: 1,
-    steps: &[
-        Enters(ANNA),
-        Sends(ANNA, ANNA_LOGS_IN),
-        Reads(ANNA, ANNA_IS_IN),
-        Enters(BERT),
-        Sends(BERT, BERT_LOGS_IN),
-        Reads(BERT, BERT_IS_IN),
-        Reads(ANNA, BERT_COMES),
-        Sends(ANNA, b"JOIN main\n"),
-        Reads(ANNA, b"JOIN main\nCLIENTS main Anna\n"),
-        Sends(BERT, b"JOIN main\n"),
-        Reads(BERT, b"JOIN main\nCLIENTS main Anna Bert\n"),
-        Reads(ANNA, b"JOINED main Bert\n"),
-        Sends(ANNA, b"#7 SAY main a\rADDUSER Eve DE 0 9\n"),
-        Reads(ANNA, b"#7 SERVERMSG Bad byte in line\n"),
-        Sends(ANNA, b"SAY main \xC3\xA4\xFF\x00\n"),
-        Reads(ANNA, b"SAID main Anna \xC3\xA4\xFF\x00\n"),
-        Reads(BERT, b"SAID main Anna \xC3\xA4\xFF\x00\n"),
-    ],
-}];
+const BYTES: [Act; 2] = [
+    BOTH_LOG_IN,
+    Act {
+        times: 1,
+        steps: &[
+            Sends(ANNA, b"JOIN main\n"),
+            Reads(ANNA, b"JOIN main\nCLIENTS main Anna\n"),
+            Sends(BERT, b"JOIN main\n"),
+            Reads(BERT, b"JOIN main\nCLIENTS main Anna Bert\n"),
+            Reads(ANNA, b"JOINED main Bert\n"),
+            Sends(ANNA, b"#7 SAY main a\rADDUSER Eve DE 0 9\n"),
+            Reads(ANNA, b"#7 SERVERMSG Bad byte in line\n"),
+            Sends(ANNA, b"SAY main \xC3\xA4\xFF\x00\n"),
+            Reads(ANNA, b"SAID main Anna \xC3\xA4\xFF\x00\n"),
+            Reads(BERT, b"SAID main Anna \xC3\xA4\xFF\x00\n"),
+        ],
+    },
+];
 
 /// A line with a CR in it is answered to its client alone, as the next line for the other shows. All other bytes of a text are told
 /// as they came.

@@ -2,26 +2,8 @@
 
 use crate::gates::Hold;
 use crate::plays::Step::*;
-use crate::plays::{Act, play};
-use crate::running::{
-    ANNA, ANNA_IS_IN, ANNA_LOGS_IN, BERT, BERT_COMES, BERT_IS_IN, BERT_LOGS_IN, PING, PONG,
-};
-
-const BOTH_LOG_IN: Act = Act {
-    times: 1,
-    steps: &[
-        Enters(ANNA),
-        Sends(ANNA, ANNA_LOGS_IN),
-        Reads(ANNA, ANNA_IS_IN),
-        Enters(BERT),
-        Sends(BERT, BERT_LOGS_IN),
-        Reads(BERT, BERT_IS_IN),
-        Reads(ANNA, BERT_COMES),
-    ],
-};
-
-/// Sixteen bytes of a long text.
-const TEXT: &[u8] = b"0123456789abcdef";
+use crate::plays::{Act, BOTH_LOG_IN, play};
+use crate::running::{ANNA, BERT, PING, PONG, TEXT};
 
 /// So often Bert says something to Anna.
 const LINES: u32 = 64;

@@ -4,7 +4,10 @@ ghost use Rattle.std.specs.Prelude.{◌≡◌, ◌≤◌};
 
 use crate::clients::Client;
 use crate::gates::{Hold, Watch, is_set_soon};
-use crate::running::{GREETING, Input, PATIENCE, Told, listen, run, service};
+use crate::running::{
+    ANNA, ANNA_IS_IN, ANNA_LOGS_IN, BERT, BERT_COMES, BERT_IS_IN, BERT_LOGS_IN, GREETING, Input,
+    PATIENCE, Told, listen, run, service,
+};
 use crate::verdict::{fail, same};
 use lobby_workers::Service;
 use mio::net::TcpListener;
@@ -32,6 +35,8 @@ pub enum Step {
     Reads(usize, &'static [u8]),
     /// Exactly these bytes come next, so many times over.
     ReadsOften(usize, &'static [u8], usize),
+    /// So many bytes come next, whatever they are.
+    ReadsAny(usize, usize),
     /// A client ends what it sends, and goes on reading.
     Finishes(usize),
     /// A client is gone. What came and was not read makes the system send a reset and no end.
@@ -70,6 +75,20 @@ pub struct Act {
     pub times: u32,
     pub steps: &'static [Step],
 }
+
+/// Anna logs in, and then Bert.
+pub const BOTH_LOG_IN: Act = Act {
+    times: 1,
+    steps: &[
+        Step::Enters(ANNA),
+        Step::Sends(ANNA, ANNA_LOGS_IN),
+        Step::Reads(ANNA, ANNA_IS_IN),
+        Step::Enters(BERT),
+        Step::Sends(BERT, BERT_LOGS_IN),
+        Step::Reads(BERT, BERT_IS_IN),
+        Step::Reads(ANNA, BERT_COMES),
+    ],
+};
 
 /// What a server and those who play share.
 #[derive(Drop)]
@@ -127,6 +146,13 @@ impl Cast<'_> {
         match times_over(self.clock.alloc(), bytes, times) {
             Ok(all) => self.reads(who, all.as_slice()),
             Err(AllocError) => false,
+        }
+    }
+
+    fn reads_any(&mut self, who: usize, count: usize) -> bool {
+        match self.clients.get_mut(who) {
+            Some(Some(client)) => client.reads_any(&self.clock, count),
+            _ => false,
         }
     }
 
@@ -193,6 +219,7 @@ impl Cast<'_> {
             Step::SendsOften(who, bytes, times) => self.sends_often(who, bytes, times),
             Step::Reads(who, bytes) => self.reads(who, bytes),
             Step::ReadsOften(who, bytes, times) => self.reads_often(who, bytes, times),
+            Step::ReadsAny(who, count) => self.reads_any(who, count),
             Step::Finishes(who) => self.finishes(who),
             Step::BreaksOff(who) => self.breaks_off(who),
             Step::Ends(who) => matches!(self.ends(who), Some(0)),

@@ -47,6 +47,9 @@ pub const PING: &[u8] = b"PING\n";
 /// The answer to it.
 pub const PONG: &[u8] = b"PONG\n";
 
+/// Sixteen bytes of a long text.
+pub const TEXT: &[u8] = b"0123456789abcdef";
+
 /// What a client says that logs in as Anna.
 pub const ANNA_LOGS_IN: &[u8] = b"LOGIN Anna X03MO1qnZdYdgyfeuILPmQ== 0 * TestLobby 1.0\n";
 

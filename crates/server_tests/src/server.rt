@@ -4,11 +4,8 @@ ghost use Rattle.std.specs.Prelude.{◌≡◌, ◌≤◌};
 
 use crate::gates::{Hold, Watch};
 use crate::plays::Step::*;
-use crate::plays::{Act, play};
-use crate::running::{
-    ANNA, ANNA_IS_IN, ANNA_LOGS_IN, BERT, BERT_COMES, BERT_IS_IN, BERT_LOGS_IN, Input, PING, PONG,
-    THIRD, Told, listen, run, service,
-};
+use crate::plays::{Act, BOTH_LOG_IN, play};
+use crate::running::{ANNA, BERT, Input, PING, PONG, TEXT, THIRD, Told, listen, run, service};
 use crate::verdict::{fail, same};
 use lobby_workers::Service;
 use mio::net::TcpListener;
@@ -155,22 +152,6 @@ fn a_burst_is_answered_whole(rt: HostRuntime) {
     }
 }
 
-const BOTH_LOG_IN: Act = Act {
-    times: 1,
-    steps: &[
-        Enters(ANNA),
-        Sends(ANNA, ANNA_LOGS_IN),
-        Reads(ANNA, ANNA_IS_IN),
-        Enters(BERT),
-        Sends(BERT, BERT_LOGS_IN),
-        Reads(BERT, BERT_IS_IN),
-        Reads(ANNA, BERT_COMES),
-    ],
-};
-
-/// Sixteen bytes of a long text.
-const TEXT: &[u8] = b"0123456789abcdef";
-
 const ANNA_SAYS: Act = Act {
     times: 100,
     steps: &[
@@ -246,7 +227,7 @@ fn a_client_that_reads_late_gets_all(rt: HostRuntime) {
     drop(play(&rt, rt, 1, Hold::Open, &LATE));
 }
 
-const MUCH: [Act; 7] = [
+const MUCH: [Act; 5] = [
     BOTH_LOG_IN,
     Act {
         times: 1,
@@ -270,29 +251,14 @@ const MUCH: [Act; 7] = [
     },
     Act {
         times: 1,
-        steps: &[GoesOn],
-    },
-    Act {
-        times: 12,
-        steps: &[
-            Reads(ANNA, b"SAYPRIVATE Anna "),
-            ReadsOften(ANNA, TEXT, 250),
-            Reads(ANNA, b"\nSAIDPRIVATE Anna "),
-            ReadsOften(ANNA, TEXT, 250),
-            Reads(ANNA, b"\n"),
-        ],
-    },
-    Act {
-        times: 12,
-        steps: &[
-            Reads(ANNA, b"SAIDPRIVATE Bert "),
-            ReadsOften(ANNA, TEXT, 250),
-            Reads(ANNA, b"\n"),
-        ],
+        steps: &[GoesOn, ReadsAny(ANNA, MUCH_IN_ALL)],
     },
 ];
 
-/// Anna and Bert each say her 48 kB while their worker stands still. What she is then told takes three turns: the first for what she
+/// What Anna is told: of each of her lines `SAYPRIVATE` and `SAIDPRIVATE` with 4,000 bytes of text, of each of Bert's `SAIDPRIVATE`.
+const MUCH_IN_ALL: usize = 12 * (4_017 + 4_018 + 4_018);
+
+/// Anna and Bert each say her 48 kB while their worker stands still. What she is then told takes three turns: the first for what was
 /// sent, the second since she is named as changed, and the third for nothing but that the second stopped at its limit.
 #[test]
 fn who_is_named_and_left_over_gets_both_turns(rt: HostRuntime) {

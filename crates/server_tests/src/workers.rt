@@ -2,10 +2,8 @@
 
 use crate::gates::Hold;
 use crate::plays::Step::*;
-use crate::plays::{Act, play};
-use crate::running::{
-    ANNA, ANNA_IS_IN, ANNA_LOGS_IN, BERT, BERT_COMES, BERT_IS_IN, BERT_LOGS_IN, PING, PONG,
-};
+use crate::plays::{Act, BOTH_LOG_IN, play};
+use crate::running::{ANNA, ANNA_IS_IN, ANNA_LOGS_IN, BERT, BERT_COMES, BERT_LOGS_IN, PING, PONG};
 
 const TWO_CLIENTS: [Act; 1] = [Act {
     times: 1,
@@ -116,26 +114,22 @@ fn a_reset_in_mid_line_logs_out_its_own_user_alone(rt: HostRuntime) {
     drop(play(&rt, rt, 2, Hold::Open, &RESETS));
 }
 
-const STOP: [Act; 1] = [Act {
-    times: 1,
-    steps: &[
-        Enters(ANNA),
-        Sends(ANNA, ANNA_LOGS_IN),
-        Reads(ANNA, ANNA_IS_IN),
-        Enters(BERT),
-        Sends(BERT, BERT_LOGS_IN),
-        Reads(BERT, BERT_IS_IN),
-        Reads(ANNA, BERT_COMES),
-        GateShuts,
-        Sends(ANNA, b"SAYPRIVATE Bert on\n"),
-        Reads(ANNA, b"SAYPRIVATE Bert on\n"),
-        IsKept,
-        InputEnds,
-        Ends(ANNA),
-        GoesOn,
-        Reads(BERT, b"SAIDPRIVATE Anna on\nREMOVEUSER Anna\n"),
-    ],
-}];
+const STOP: [Act; 2] = [
+    BOTH_LOG_IN,
+    Act {
+        times: 1,
+        steps: &[
+            GateShuts,
+            Sends(ANNA, b"SAYPRIVATE Bert on\n"),
+            Reads(ANNA, b"SAYPRIVATE Bert on\n"),
+            IsKept,
+            InputEnds,
+            Ends(ANNA),
+            GoesOn,
+            Reads(BERT, b"SAIDPRIVATE Anna on\nREMOVEUSER Anna\n"),
+        ],
+    },
+];
 
 /// Worker 1 stands still while worker 0 ends. Whose connection is closed by then was logged out, and worker 1's client is told.
 #[test]
