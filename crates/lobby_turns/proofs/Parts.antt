@@ -1,7 +1,6 @@
 -- How one part of a turn follows another, and what the smallest parts do.
-use Rattle.std.proofs.Common.{◌≡◌, ℕ, ◌+◌, List, [], ◌∷◌, ◌++◌, length, take, drop, refl, sym, ap, ◌∙◌, subst, arith, append_assoc, append-nil, length-append}
+use Rattle.std.proofs.Common.{◌≡◌, ℕ, ◌+◌, List, [], ◌∷◌, ◌++◌, length, refl, sym, ap, ◌∙◌, subst, arith, append_assoc, append-nil, length-append}
 use Rattle.std.specs.Prelude.{Option, Some, None}
-use Rattle.std.proofs.lemmas.List.{take-append-drop, drop-drop}
 use Rattle.command_grammar.specs.declared.command.Request.{Request}
 use Rattle.lobby_model.specs.declared.event.Event.TheVariants as event
 use Rattle.lobby_model.specs.State.{State}
@@ -197,11 +196,6 @@ went_shut conn wire p q s joined = record {
 }
 
 -- ---- what a write took
-
-pub front_back : (rest xs : List ℕ) (at n : ℕ) → rest ≡ drop at xs → rest ≡ take n rest ++ drop (at + n) xs
-front_back rest xs at n e =
-    let behind : drop n (drop at xs) ≡ drop (at + n) xs = grind (arith, drop-drop) in
-    sym (take-append-drop n rest) ∙ ap (λ l. take n rest ++ l) (ap (drop n) e ∙ behind)
 
 pub nothing_sent : (r : Sent) → ((n : ℕ) → r ≡ sent.Took n → ⊥) → sent_count r ≡ 0
 nothing_sent (sent.Took n) f = absurd (f n refl)

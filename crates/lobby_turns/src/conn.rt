@@ -1,6 +1,6 @@
 //! The connection of a client.
 
-ghost use Rattle.std.specs.Prelude.{◌≡◌, ◌≢◌, ◌↔◌, ◌+◌, ◌≤◌, ◌<◌, ℕ, List, [], ◌++◌, OnOk, OnErr, IfOk, IsTrue, Some};
+ghost use Rattle.std.specs.Prelude.{◌≡◌, ◌≢◌, ◌↔◌, ◌+◌, ◌≤◌, ◌<◌, ℕ, List, [], ◌++◌, length, drop, OnOk, OnErr, IfOk, IsTrue, Some};
 ghost use Rattle.lobby_lock.specs.Passes.{ShownPass};
 ghost use Rattle.client_session.specs.OneSession.{Accepted, IsNextOf};
 ghost use Rattle.client_session.specs.Sessions.{Heard, KeepsKinds};
@@ -19,7 +19,8 @@ use std::marker::Model;
 pub const PIECE: usize = 4_096;
 
 /// The connection of one client: its session, and the bytes that are on their way. Contracts see
-/// those that were read and not yet fed, and those that were drained and not yet written.
+/// those that were read and not yet fed, and those that were drained and not yet written. While none
+/// are to be written, it holds no buffer for them.
 #[derive(Drop)]
 pub struct Conn {
     pub(crate) alloc: Global,
@@ -31,14 +32,14 @@ pub struct Conn {
 }
 
 impl Model for Conn {
-    ghost use Rattle.std.specs.Prelude.{◌≤◌, drop, vec_len};
+    ghost use Rattle.std.specs.Prelude.{◌≡◌, ◌≤◌, drop, vec_len, vec_capacity};
     ghost use Rattle.lobby_turns.specs.Seat.{Carried};
 
     ghost Value = { Carried };
 
     ghost view = { λ c. record { session = c.session; unfed = c.unfed.items; unwritten = drop c.written c.drained.items } };
 
-    ghost invariant = { λ c. c.written ≤ vec_len c.drained };
+    ghost invariant = { λ c. (c.written ≤ vec_len c.drained) × (vec_len c.drained ≤ c.written → vec_capacity c.drained ≡ 0) };
 }
 
 impl Conn {
@@ -87,13 +88,29 @@ impl Conn {
         self.rest().is_empty()
     }
 
-    /// Gives the buffer of drained bytes back, once all were written.
-    fn release(&mut self)
-        ensures { self.new ≡ self.old }
+    /// Has these bytes wait to be written, and no others.
+    pub(crate) fn set_drained(&mut self, drained: Vec<u8>)
+        ensures { self.new ≡ record self.old { unwritten = drained.items } }
     {
-        if self.written == self.drained.len() {
+        self.written = 0;
+        if drained.is_empty() {
             self.drained = Vec::new(self.alloc);
+        } else {
+            self.drained = drained;
+        }
+    }
+
+    /// So many bytes more were written.
+    fn count_written(&mut self, count: usize)
+        requires { count ≤ length self.old.unwritten }
+        ensures { self.new ≡ record self.old { unwritten = drop count self.old.unwritten } }
+    {
+        let written = self.written + count;
+        if written < self.drained.len() {
+            self.written = written;
+        } else {
             self.written = 0;
+            self.drained = Vec::new(self.alloc);
         }
     }
 
@@ -150,8 +167,7 @@ impl Conn {
         let sent = link.write(rest);
         if let Sent::Took(count) = sent {
             gate.after_write(worker, &rest[..count]);
-            self.written += count;
-            self.release();
+            self.count_written(count);
         }
         sent
     }

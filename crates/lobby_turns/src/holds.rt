@@ -220,8 +220,7 @@ pub(crate) fn drain<R: Wait, G: Gate>(
     let mut bytes = [0u8; PIECE];
     let (pass, piece) = drain_into(rt, conn.client(), desk, pass, gate, &mut bytes);
     let _ = unwritten.extend_from_slice(&bytes[..piece.count]);
-    conn.drained = unwritten;
-    conn.written = 0;
+    conn.set_drained(unwritten);
     (pass, Ok(piece))
 }
 

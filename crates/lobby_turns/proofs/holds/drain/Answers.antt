@@ -1,4 +1,4 @@
-use Rattle.std.proofs.Common.{◌≡◌, ◌≤◌, ◌+◌, length, take, sym, ap, arith}
+use Rattle.std.proofs.Common.{◌≡◌, ◌≤◌, ◌+◌, ◌∙◌, length, take, sym, ap, arith}
 use Rattle.std.specs.Prelude.{vec_len, vec_capacity}
 use Rattle.std.proofs.lemmas.List.{length-take-le}
 use Rattle.lobby_turns.specs.Seat.{Carried}
@@ -18,9 +18,9 @@ returns-clause-ok g c = λ wire.
     let into = c.drain_into-pass.new.into in
     let long : length (take piece.count into) ≡ piece.count = length-take-le piece.count into e.few in
     let room : vec_len c.in-Ok.unwritten + length (take piece.count into) ≤ vec_capacity c.in-Ok.unwritten = omega (arith, long, e.within, c.in-Ok.ensures.capacity, c.in-Ok.ensures.len) in
-    let new : Carried = record { session = c.conn.inside.session; unfed = c.conn.inside.unfed.items; unwritten = c.extend_from_slice.new.self.items } in
-    drained_piece c.args.conn.now new wire c.args.pass c.drain_into-pass.result.0 c.client.result 4096 into piece (omega arith) c.client.ensures e
-    (ap (λ (x : Carried). x.session) c.conn.view_is)
-    (ap (λ (x : Carried). x.unfed) c.conn.view_is)
+    let new = c.set_drained.ensures in
+    drained_piece c.args.conn.now c.set_drained.new.self wire c.args.pass c.drain_into-pass.result.0 c.client.result 4096 into piece (omega arith) c.client.ensures e
+    (ap (λ (x : Carried). x.session) new)
+    (ap (λ (x : Carried). x.unfed) new)
     c.requires.written
-    (copied c.extend_from_slice.result c.extend_from_slice.new.self.items c.in-Ok.unwritten.items (take piece.count into) (c.extend_from_slice.ensures.succeeds room) c.extend_from_slice.ensures.items c.in-Ok.ensures.items)
+    (ap (λ (x : Carried). x.unwritten) new ∙ copied c.extend_from_slice.result c.extend_from_slice.new.self.items c.in-Ok.unwritten.items (take piece.count into) (c.extend_from_slice.ensures.succeeds room) c.extend_from_slice.ensures.items c.in-Ok.ensures.items)

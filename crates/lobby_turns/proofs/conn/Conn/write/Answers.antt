@@ -1,19 +1,21 @@
-use Rattle.std.proofs.Common.{[], ◌++◌, take, refl, sym, ap, ◌∙◌}
+use Rattle.std.proofs.Common.{[], ◌++◌, take, drop, refl, sym, ap, ◌∙◌}
+use Rattle.std.proofs.lemmas.List.{take-append-drop}
 use Rattle.lobby_turns.specs.Wire.{and_more}
 use Rattle.lobby_turns.specs.Seat.{Carried}
-use Rattle.lobby_turns.proofs.Parts.{went_written, front_back, nothing_sent}
+use Rattle.lobby_turns.proofs.Parts.{went_written, nothing_sent}
 use Rattle.lobby_turns.proofs.conn.Conn.write.Goals as goal
 
 pub returns-in-Took-clause-went : goal.returns-in-Took-clause-went
 returns-in-Took-clause-went g c = λ pass.
     let rest = c.rest-rest.result.now in
     let n = c.in-Took.count in
-    went_written c.args.self.now c.release.new.self _ _ pass (take n rest)
-    (ap (λ (x : Carried). x.session) c.release.ensures ∙ ap (λ (x : Carried). x.session) c.self.view_is)
-    (ap (λ (x : Carried). x.unfed) c.release.ensures ∙ ap (λ (x : Carried). x.unfed) c.self.view_is)
+    let new = c.count_written.ensures in
+    went_written c.args.self.now c.count_written.new.self _ _ pass (take n rest)
+    (ap (λ (x : Carried). x.session) new)
+    (ap (λ (x : Carried). x.unfed) new)
     (sym c.rest-rest.ensures
-    ∙ front_back rest c.self.inside.drained.items c.self.inside.written n (c.rest-rest.ensures ∙ sym (ap (λ (x : Carried). x.unwritten) c.self.view_is))
-    ∙ ap (λ l. take n rest ++ l) (sym (ap (λ (x : Carried). x.unwritten) c.release.ensures)))
+    ∙ sym (take-append-drop n rest)
+    ∙ ap (λ l. take n rest ++ l) (ap (drop n) c.rest-rest.ensures ∙ sym (ap (λ (x : Carried). x.unwritten) new)))
     c.in-Took.ensures.told
     c.in-Took.ensures.heard
 
