@@ -7,7 +7,7 @@ program=$(realpath -m "${1:-$(dirname "$0")/../crates/memory_trials/out/memory_t
 [ -x "$program" ] || { echo "there is no $program: make test builds it"; exit 1; }
 cd "$(dirname "$0")/.."
 # How many refusals there are at least: fewer say that memory was not scarce. And how much memory the trials may have, in kB.
-least=1000
+least=10000
 limit=16384
 room=$(mktemp -d)
 trap 'rm -rf "$room"' EXIT
