@@ -12,6 +12,7 @@ mod hog;
 mod links;
 mod lobbies;
 mod notes;
+mod repeats;
 mod scripts;
 mod sessions;
 
@@ -44,6 +45,7 @@ fn try_all<R: Wait + Print + AllocGlobal>(
     halls::try_out(rt, hog, notes)?;
     sessions::try_out(rt, hog, notes)?;
     scripts::try_out(rt, hog, notes)?;
+    repeats::try_out(rt, hog, notes)?;
     hog.release();
     links::try_out(rt, hog, notes)
 }
