@@ -7,6 +7,8 @@ root=$(cd "$(dirname "$0")/.." && pwd)
 name=$1
 shift
 program=$root/bin/$name
+# The C library is to return large blocks at once, so that what a storm of logins took is given back.
+if [ "${1:-}" = serve ]; then export MALLOC_MMAP_THRESHOLD_=${MALLOC_MMAP_THRESHOLD_:-16384}; fi
 if [ -x "$program" ] && [ -z "$(find "$root/crates.txt" "$root/crates" \( -name out -prune \) -o \
     \( -name '*.rt' -o -name '*.antt' -o -name crates.txt \) -newer "$program" -print -quit)" ]; then
     exec "$program" "$@"
