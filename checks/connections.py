@@ -501,19 +501,33 @@ def open_files(workers):
         print(f"  300 were greeted in turn, and the server took {used:.2f} s of processors")
 
 
-def talk_until_silent(client, text):
-    """The client says this in its channel and asks for an answer, again and again, until nothing comes: the number of the last time."""
+def talk_until_silent(client, text, times):
+    """The client says this in its channel, so often at a time, and asks for an answer, again and again, until nothing comes: what
+    it waits for then."""
     for number in range(100_000):
-        client.send(f"SAY busy {text}\n#{number} PING\n")
+        wanted = f"SAID busy Anna {text}\n" * times + f"#{number} PONG\n"
+        client.send(f"SAY busy {text}\n" * times + f"#{number} PING\n")
         if not select.select([client.socket], [], [], 3)[0]:
-            return number
-        client.expect(f"SAID busy Anna {text}\n#{number} PONG\n")
+            return wanted
+        if not is_told(client, wanted):
+            return wanted[len(client.heard) - client.checked :]
     raise Difference("the server's memory does not run out")
 
 
-def short_memory(workers):
-    """Twenty of a channel read nothing until the system gives the server no more memory. Who speaks there then waits, and is told
-    without another byte of its own once they have gone. All are told of each of them, and the server has its memory back."""
+def is_told(client, wanted):
+    """Whether this comes, without a break of three seconds."""
+    while len(client.heard) < client.checked + len(wanted):
+        if not select.select([client.socket], [], [], 3)[0]:
+            return False
+        client.receive()
+    client.expect(wanted)
+    return True
+
+
+def with_twenty_who_read_nothing(workers, text, times, all_go):
+    """Twenty of a channel read nothing until the system gives the server no more memory, for all that Anna says there. Then they
+    are gone, and Anna too, or else she is told what she waits for without another byte of hers. Whoever is left is told of each,
+    and the server has its memory back."""
     crowd = [Account(f"Eve{number:02}", 100 + number) for number in range(20)]
     with Server(workers, [ANNA, BERT, *crowd], "outbox_limit = 67108864\n") as server:
         anna = logged_in(server, ANNA, [])
@@ -528,30 +542,38 @@ def short_memory(workers):
         anna.expect(BERT.arrival())
         before = server.memory()[0]
         server.allow_more(16)
-        text = "x" * 1_000
-        number = talk_until_silent(anna, text)
+        wanted = talk_until_silent(anna, text, times)
         most = server.memory()[0]
-        for client in slow:
+        for client in [*slow, *[anna] * all_go]:
             client.reset()
-        told = lines_until(anna, f"#{number} PONG\n".encode())
-        wait_for_sockets(server, 3)
-        anna.send("PING\n")
-        told += lines_until(anna, b"PONG\n")
-        gone = [f"REMOVEUSER {account.name}\n".encode() for account in crowd]
-        left = [f"LEFT busy {account.name}\n".encode() for account in crowd]
-        if sorted(told) != sorted([f"SAID busy Anna {text}\n".encode(), *gone, *left]):
-            raise Difference(f"of twenty who went Anna is told {told}")
+        wait_for_sockets(server, 3 - all_go)
+        gone = [f"REMOVEUSER {account.name}\n".encode() for account in [*[ANNA] * all_go, *crowd]]
         bert.send("PING\n")
         if sorted(lines_until(bert, b"PONG\n")) != gone:
-            raise Difference("Bert is not told of each of twenty who went")
+            raise Difference("Bert is not told of each who went")
+        if not all_go:
+            left = [f"LEFT busy {account.name}\n".encode() for account in crowd]
+            anna.send("PING\n")
+            if sorted(lines_until(anna, b"PONG\n")) != sorted([*wanted.encode().splitlines(True), *gone, *left]):
+                raise Difference("Anna is not told all that she waited for, and of each who went")
         after = server.memory()[0]
         if after - before > (most - before) / 4:
             raise Difference(f"the server has {after:.1f} MB, of {before:.1f} before and {most:.1f} at most")
-        print(f"  silent behind {number} lines; {before:.1f} MB before, {most:.1f} at most, {after:.1f} after")
+        print(f"  {before:.1f} MB before, {most:.1f} at most, {after:.1f} after")
+
+
+def short_memory(workers):
+    """Who speaks stays."""
+    with_twenty_who_read_nothing(workers, "x" * 1_000, 1, False)
+
+
+def all_gone(workers):
+    """All go, behind lines so short that few outboxes have a place for what a log out tells."""
+    with_twenty_who_read_nothing(workers, "xy", 30, True)
 
 
 CHECKS = [slow_reader, slow_readers, half_closed, late_readers, resets, resets_at_once, hasty_logins, one_by_one, line_limits, flood, burst]
-CHECKS += [restarts, open_files, short_memory]
+CHECKS += [restarts, open_files, short_memory, all_gone]
 
 
 def check(workers="4", *names):
