@@ -501,33 +501,24 @@ def open_files(workers):
         print(f"  300 were greeted in turn, and the server took {used:.2f} s of processors")
 
 
-def talk_until_silent(client, text, times):
-    """The client says this in its channel, so often at a time, and asks for an answer, again and again, until nothing comes: what
-    it waits for then."""
+def talk_until_silent(client, text):
+    """The client says this in its channel and asks for an answer, again and again, until it has to wait: what it waits for then."""
     for number in range(100_000):
-        wanted = f"SAID busy Anna {text}\n" * times + f"#{number} PONG\n"
-        client.send(f"SAY busy {text}\n" * times + f"#{number} PING\n")
-        if not select.select([client.socket], [], [], 3)[0]:
-            return wanted
-        if not is_told(client, wanted):
-            return wanted[len(client.heard) - client.checked :]
+        wanted = f"SAID busy Anna {text}\n#{number} PONG\n"
+        client.send(f"SAY busy {text}\n#{number} PING\n")
+        while len(client.heard) < client.checked + len(wanted):
+            if not select.select([client.socket], [], [], 10)[0]:
+                return wanted
+            client.receive()
+        client.expect(wanted)
     raise Difference("the server's memory does not run out")
 
 
-def is_told(client, wanted):
-    """Whether this comes, without a break of three seconds."""
-    while len(client.heard) < client.checked + len(wanted):
-        if not select.select([client.socket], [], [], 3)[0]:
-            return False
-        client.receive()
-    client.expect(wanted)
-    return True
-
-
-def with_twenty_who_read_nothing(workers, text, times, all_go):
-    """Twenty of a channel read nothing until the system gives the server no more memory, for all that Anna says there. Then they
-    are gone, and Anna too, or else she is told what she waits for without another byte of hers. Whoever is left is told of each,
-    and the server has its memory back."""
+def short_memory(workers):
+    """Twenty of a channel read nothing until the system gives the server no more memory, for all that Anna says there. Once they have
+    gone, she is told what she waits for without another byte of hers. All are told of each who went, and the server has its memory
+    back."""
+    text = "x" * 1_000
     crowd = [Account(f"Eve{number:02}", 100 + number) for number in range(20)]
     with Server(workers, [ANNA, BERT, *crowd], "outbox_limit = 67108864\n") as server:
         anna = logged_in(server, ANNA, [])
@@ -542,38 +533,25 @@ def with_twenty_who_read_nothing(workers, text, times, all_go):
         anna.expect(BERT.arrival())
         before = server.memory()[0]
         server.allow_more(16)
-        wanted = talk_until_silent(anna, text, times)
+        wanted = talk_until_silent(anna, text)
         most = server.memory()[0]
-        for client in [*slow, *[anna] * all_go]:
+        for client in slow:
             client.reset()
-        wait_for_sockets(server, 3 - all_go)
-        gone = [f"REMOVEUSER {account.name}\n".encode() for account in [*[ANNA] * all_go, *crowd]]
-        bert.send("PING\n")
-        if sorted(lines_until(bert, b"PONG\n")) != gone:
-            raise Difference("Bert is not told of each who went")
-        if not all_go:
-            left = [f"LEFT busy {account.name}\n".encode() for account in crowd]
-            anna.send("PING\n")
-            if sorted(lines_until(anna, b"PONG\n")) != sorted([*wanted.encode().splitlines(True), *gone, *left]):
-                raise Difference("Anna is not told all that she waited for, and of each who went")
+        wait_for_sockets(server, 3)
+        gone = [f"REMOVEUSER {account.name}\n".encode() for account in crowd]
+        left = [f"LEFT busy {account.name}\n".encode() for account in crowd]
+        for client, told in ((anna, [*wanted.encode().splitlines(True), *gone, *left]), (bert, gone)):
+            client.send("PING\n")
+            if sorted(lines_until(client, b"PONG\n")) != sorted(told):
+                raise Difference("not all is told that was waited for, and of each who went")
         after = server.memory()[0]
-        if after - before > (most - before) / 4:
+        if after - before > 2 + (most - before) / 4:
             raise Difference(f"the server has {after:.1f} MB, of {before:.1f} before and {most:.1f} at most")
         print(f"  {before:.1f} MB before, {most:.1f} at most, {after:.1f} after")
 
 
-def short_memory(workers):
-    """Who speaks stays."""
-    with_twenty_who_read_nothing(workers, "x" * 1_000, 1, False)
-
-
-def all_gone(workers):
-    """All go, behind lines so short that few outboxes have a place for what a log out tells."""
-    with_twenty_who_read_nothing(workers, "xy", 30, True)
-
-
 CHECKS = [slow_reader, slow_readers, half_closed, late_readers, resets, resets_at_once, hasty_logins, one_by_one, line_limits, flood, burst]
-CHECKS += [restarts, open_files, short_memory, all_gone]
+CHECKS += [restarts, open_files, short_memory]
 
 
 def check(workers="4", *names):

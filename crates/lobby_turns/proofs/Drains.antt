@@ -15,8 +15,8 @@ use Rattle.lobby_turns.specs.declared.holds.Piece.{Piece}
 use Rattle.lobby_turns.specs.Wire.{Wire}
 use Rattle.lobby_turns.specs.Moments.{moment, drained_for, tells_end, told_end}
 use Rattle.lobby_turns.specs.Seat.{Carried, seat}
-use Rattle.lobby_turns.specs.Holds.{Stands, Drains, DrainedInto, LetsGo}
-use Rattle.lobby_turns.proofs.Joins.{IsTaken, held_none, joined_none, joined_then, joined_more}
+use Rattle.lobby_turns.specs.Holds.{Stands, Drains, DrainedInto}
+use Rattle.lobby_turns.proofs.Joins.{IsTaken, held_none, joined_then, joined_more}
 use Rattle.lobby_turns.proofs.Parts.{drained-append, went_drains}
 use Rattle.lobby_turns.proofs.Talks.{are_drains-append, told_end-append, dry_behind, or_false}
 
@@ -155,17 +155,3 @@ drained_held p q h k c n into piece taken is d =
 pub copied : {A B : Type 0} (r : Result A B) (new old piece : List ℕ) → IsOk r → new ≡ (if is_ok r then old ++ piece else old) → old ≡ [] → new ≡ piece
 copied (Ok x) new old piece ok is none = is ∙ ap (λ l. l ++ piece) none
 copied (Err x) new old piece ok is none = absurd (true≢false (sym ok))
-
--- ---- letting go
-
-pub lets_none : (p : ShownPass) (c : ℕ) → LetsGo p p c
-lets_none p c = record { talk = []; joined = joined_none p; own = tt }
-
-pub lets_more : (p q r : ShownPass) (c d n : ℕ) (into : List ℕ) (piece : Piece) → d ≡ c → LetsGo p q c → DrainedInto q r d n into piece → LetsGo p r c
-lets_more p q r c d n into piece same h k =
-    let e : DrainedInto q r c n into piece = subst (λ (x : ℕ). DrainedInto q r x n into piece) same k in
-    record {
-      talk = h.talk ++ e.talk;
-      joined = joined_then p q r h.talk e.talk h.joined e.joined;
-      own = are_drains-append c h.talk e.talk h.own e.own;
-    }

@@ -57,9 +57,3 @@ pub record DrainedInto (old new : ShownPass) (c n : ℕ) (into : List ℕ) (piec
   pub bytes : take piece.count into ≡ drained_for c talk
   pub finished_is : told_end talk ≡ piece.finished
   pub dry_is : piece.dry ≡ true → 0 < n → EndsDry c talk
-
--- it drained for client c, and did nothing else
-pub record LetsGo (old new : ShownPass) (c : ℕ) : Type 0 where
-  pub talk : List Moment
-  pub joined : Joined old new talk
-  pub own : AreDrains c talk

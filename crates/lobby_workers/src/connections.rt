@@ -7,7 +7,7 @@ ghost use Rattle.slab.specs.Slab.{HasRoomFor};
 use crate::crew::{Arrival, Crew};
 use lobby_lock::{Desk, Held, MOST_EVENTS, Pass};
 use lobby_machine::{OpenError, Wakes};
-use lobby_turns::{Conn, Gate, Got, Link, Sent, Turn, TurnState, serve};
+use lobby_turns::{Conn, Gate, Link, Turn, TurnState, serve};
 use mio::{Registry, Token};
 use slab::Slab;
 use std::alloc::{AllocError, Global};
@@ -70,8 +70,6 @@ struct Connection {
     link: WireLink,
     // the last round in which it got a turn
     round: u64,
-    // its link failed, and what waited for its client was let go: it is to be shut
-    is_over: bool,
 }
 
 /// The connections of a worker, each under the key that its events bear. A worker goes round again
@@ -174,7 +172,6 @@ impl Connections {
                 conn: Conn::new(self.alloc, client),
                 link,
                 round: self.round.wrapping_sub(1),
-                is_over: false,
             });
             match self.keys.insert(client, key) {
                 Ok(_) => {}
@@ -209,7 +206,8 @@ impl Connections {
             return pass;
         }
         connection.round = self.round;
-        let (pass, turn) = serve_or_shut(rt, shared, pass, connection);
+        let (conn, link) = (&mut connection.conn, &mut connection.link);
+        let (pass, turn) = serve_or_shut(rt, shared, pass, conn, link);
         self.pass_on(shared.crew, pass.number(), turn.wakes);
         self.end_turn(registry, key, turn.state);
         pass
@@ -461,35 +459,23 @@ fn open<R: Wait, G: Gate>(
     (held.give(rt, shared.desk), opened)
 }
 
-/// One turn of a connection. The client of a link that has no room for a turn is shut. Where a link failed and the shut of its client
-/// was refused memory, what waits for that client is let go, and it is only shut from then on.
+/// One turn of a connection. The client of a link that has no room for a turn is shut.
 fn serve_or_shut<R: Wait, G: Gate>(
     rt: &R,
     shared: &Shared<'_, G>,
     pass: Pass,
-    connection: &mut Connection,
+    conn: &mut Conn,
+    link: &mut WireLink,
 ) -> (Pass, Turn)
     requires { pass.desk ≡ shared.now.desk.now }
     ensures desk { result.0.desk ≡ pass.desk }
     ensures number { result.0.worker.number ≡ pass.worker.number }
 {
-    let (conn, link) = (&mut connection.conn, &mut connection.link);
-    let (pass, turn) = if connection.is_over || !link.fresh() {
-        shut(rt, shared, pass, conn)
-    } else {
+    if link.fresh() {
         serve(rt, conn, link, shared.desk, pass, shared.gate)
-    };
-    if turn.state == TurnState::Memory && (connection.is_over || has_failed(link)) {
-        connection.is_over = true;
-        let pass = lobby_turns::let_go(rt, conn, shared.desk, pass, shared.gate);
-        return (pass, turn);
+    } else {
+        shut(rt, shared, pass, conn)
     }
-    (pass, turn)
-}
-
-/// Whether a link failed at its last read or its last write.
-fn has_failed(link: &WireLink) -> bool {
-    link.last_got() == Some(Got::Fault) || link.last_sent() == Some(Sent::Fault)
 }
 
 /// Shuts the client of a connection.
