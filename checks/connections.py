@@ -84,11 +84,11 @@ def slow_reader(workers):
 
 def wait_for_sockets(server, count):
     """Waits until the server has so many sockets open, that at which it listens among them."""
-    for _ in range(500):
-        if server.sockets() == count:
-            return
+    end = time.monotonic() + PATIENCE
+    while server.sockets() != count:
+        if time.monotonic() > end:
+            raise Difference(f"the server has {server.sockets()} sockets, and not {count}")
         time.sleep(0.01)
-    raise Difference(f"the server has {server.sockets()} sockets, and not {count}")
 
 
 def talk_until_cut(clients, count):
