@@ -83,6 +83,20 @@ fn enter_all(lobby: &mut Lobby, alloc: Global, users: u32) -> bool {
     true
 }
 
+/// The channel's members are told, and read, more than a buffer has that is kept: so what they are told next takes memory.
+fn use_buffers_up(lobby: &mut Lobby, alloc: Global, users: u32) -> bool {
+    let Ok(mut line) = Vec::from_slice(alloc, b"SAY main ") else {
+        return false;
+    };
+    let is_said = line.resize(1_900, b'x').is_ok()
+        && say(lobby, alloc, 1, &line)
+        && say(lobby, alloc, 1, &line)
+        && say(lobby, alloc, 1, &line);
+    read_all(lobby, users);
+    read_all(lobby, users);
+    is_said
+}
+
 /// A lobby of so many users who have read all, where all but the last are in a channel.
 #[derive(Drop)]
 pub struct Crowd<const USERS: u32> {
@@ -92,7 +106,7 @@ pub struct Crowd<const USERS: u32> {
 impl<const USERS: u32> Subject for Crowd<USERS> {
     fn new(alloc: Global) -> Option<Crowd<USERS>> {
         let mut lobby = lobby_of(alloc, accounts(alloc, USERS))?;
-        if enter_all(&mut lobby, alloc, USERS) {
+        if enter_all(&mut lobby, alloc, USERS) && use_buffers_up(&mut lobby, alloc, USERS) {
             Some(Crowd { lobby })
         } else {
             drop(lobby);
