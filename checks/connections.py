@@ -514,10 +514,23 @@ def talk_until_silent(client, text):
     raise Difference("the server's memory does not run out")
 
 
+def read_until_told(clients, other):
+    """These read, until something comes for the other."""
+    end = time.monotonic() + PATIENCE
+    ready = []
+    while other.socket not in ready:
+        ready = select.select([other.socket, *(it.socket for it in clients)], [], [], PATIENCE)[0]
+        if not ready or time.monotonic() > end:
+            raise Difference("who waits for memory is told nothing though others have read")
+        for client in clients:
+            if client.socket in ready:
+                client.receive()
+
+
 def short_memory(workers):
-    """Twenty of a channel read nothing until the system gives the server no more memory, for all that Anna says there. Once they have
-    gone, she is told what she waits for without another byte of hers. All are told of each who went, and the server has its memory
-    back."""
+    """Twenty of a channel read nothing until the system gives the server no more memory, for all that Anna says there. Then they read,
+    and she is told what she waits for without another byte of hers and without any other event. Then they go. All are told of each,
+    and the server has its memory back."""
     text = "x" * 1_000
     crowd = [Account(f"Eve{number:02}", 100 + number) for number in range(20)]
     with Server(workers, [ANNA, BERT, *crowd], "outbox_limit = 67108864\n") as server:
@@ -535,15 +548,17 @@ def short_memory(workers):
         server.allow_more(16)
         wanted = talk_until_silent(anna, text)
         most = server.memory()[0]
+        read_until_told(slow, anna)
+        anna.expect(wanted)
         for client in slow:
             client.reset()
         wait_for_sockets(server, 3)
         gone = [f"REMOVEUSER {account.name}\n".encode() for account in crowd]
         left = [f"LEFT busy {account.name}\n".encode() for account in crowd]
-        for client, told in ((anna, [*wanted.encode().splitlines(True), *gone, *left]), (bert, gone)):
+        for client, told in ((anna, gone + left), (bert, gone)):
             client.send("PING\n")
             if sorted(lines_until(client, b"PONG\n")) != sorted(told):
-                raise Difference("not all is told that was waited for, and of each who went")
+                raise Difference("not all are told of each who went")
         after = server.memory()[0]
         if after - before > 2 + (most - before) / 4:
             raise Difference(f"the server has {after:.1f} MB, of {before:.1f} before and {most:.1f} at most")
