@@ -6,13 +6,13 @@
 
 mod lingering;
 
-ghost use Rattle.std.specs.Prelude.{◌≡◌, ◌≤◌, ◌++◌, ℕ, length, take};
+ghost use Rattle.std.specs.Prelude.{◌≡◌, ◌≤◌, ◌++◌, length};
 ghost use Rattle.wire_link.specs.Gathered.{gathered};
 ghost use Rattle.lobby_turns.specs.Wire.{got_count, sent_count, untouched};
 
 use http_server::Log;
 pub use lingering::Lingering;
-use lobby_turns::{Got, Link, PIECE, Sent};
+use lobby_turns::{Got, Link, Sent};
 use mio::net::TcpStream;
 use mio::{Interest, Registry, Token};
 use std::io::{self, ErrorKind, Read, Write};
@@ -34,8 +34,8 @@ pub struct WireLink {
     failures: u64,
     last_got: Option<Got>,
     last_sent: Option<Sent>,
-    heard: Log<[u8; PIECE], usize>,
-    told: Log<[u8; PIECE], usize>,
+    heard: Log<u8, ()>,
+    told: Log<u8, ()>,
 }
 
 impl WireLink {
@@ -129,41 +129,13 @@ fn try_write(stream: &mut TcpStream, from: &[u8]) -> Sent
     Sent::Fault
 }
 
-/// Reads up to so many bytes. They stand at the front of the piece.
-fn read_piece(stream: &mut TcpStream, room: usize) -> (Got, [u8; PIECE])
-    requires { room ≤ PIECE }
-    ensures { got_count result.0 ≤ room }
+/// Notes these bytes in a log. It keeps none when the program runs, and the loop is no work then.
+fn note(log: &mut Log<u8, ()>, bytes: &[u8])
+    ensures { gathered log.new.items ≡ gathered log.old.items ++ bytes.now }
 {
-    let mut piece = [0u8; PIECE];
-    let got = try_read(stream, &mut piece[..room]);
-    (got, piece)
-}
-
-/// A piece with so many of these bytes at its front.
-#[tactic(auto, using(crate::proofs::Logs::front_of))]
-fn fill_piece(from: &[u8], size: usize) -> [u8; PIECE]
-    requires room { size ≤ PIECE }
-    requires bytes { size ≤ length from.now }
-    ensures { (n : ℕ) → n ≤ size → take n result ≡ take n from.now }
-{
-    let mut piece = [0u8; PIECE];
-    piece[..size].copy_from_slice(&from[..size]);
-    piece
-}
-
-fn write_piece(stream: &mut TcpStream, piece: &[u8; PIECE], size: usize) -> Sent
-    requires { size ≤ PIECE }
-    ensures { sent_count result ≤ size }
-{
-    try_write(stream, &piece[..size])
-}
-
-/// The log with so many bytes more, which stand at the front of a piece.
-#[tactic(auto, using(crate::proofs::Logs::gathered_more))]
-fn note(log: &Log<[u8; PIECE], usize>, piece: &[u8; PIECE], count: usize) -> Log<[u8; PIECE], usize>
-    ensures { gathered result.items ≡ gathered log.now.items ++ take count piece.now }
-{
-    log.and(piece, &count)
+    for byte in bytes {
+        *log = log.and(byte, &());
+    }
 }
 
 impl Link for WireLink {
@@ -172,15 +144,11 @@ impl Link for WireLink {
 
     ghost wire = { λ l. record { reads = l.reads; writes = l.writes; failures = l.failures; heard = Some (gathered l.heard.items); told = Some (gathered l.told.items); last_got = l.last_got; last_sent = l.last_sent } };
 
-    #[tactic(auto, using(crate::proofs::Logs::copied))]
     fn read(&mut self, into: &mut [u8]) -> Got {
         self.reads += 1;
-        let (got, piece) = read_piece(&mut self.stream, into.len().min(PIECE));
+        let got = try_read(&mut self.stream, into);
         match got {
-            Got::Bytes(count) => {
-                into[..count].copy_from_slice(&piece[..count]);
-                self.heard = note(&self.heard, &piece, count);
-            }
+            Got::Bytes(count) => note(&mut self.heard, &into[..count]),
             Got::Fault => self.failures += 1,
             Got::Later | Got::End => {}
         }
@@ -190,11 +158,9 @@ impl Link for WireLink {
 
     fn write(&mut self, from: &[u8]) -> Sent {
         self.writes += 1;
-        let size = from.len().min(PIECE);
-        let piece = fill_piece(from, size);
-        let sent = write_piece(&mut self.stream, &piece, size);
+        let sent = try_write(&mut self.stream, from);
         match sent {
-            Sent::Took(count) => self.told = note(&self.told, &piece, count),
+            Sent::Took(count) => note(&mut self.told, &from[..count]),
             Sent::Fault => self.failures += 1,
             Sent::Later => {}
         }
