@@ -8,47 +8,56 @@ use std::thread;
 /// by then, and a sleep costs several times such a hold.
 const YIELDS: u64 = 16;
 
-/// Rings at each give.
+/// What the bell shows where a give has nobody to wake.
+const NOBODY: u64 = 0;
+
+/// What it shows where somebody may be asleep.
+const SLEEPERS: u64 = 1;
+
+/// Wakes one of those who sleep, at a give.
 ///
-/// A worker reads how often it rang, looks for the lobby, and sleeps while that number is what it
-/// read. A give puts the lobby back, rings, and then looks for sleepers. So a worker that found the
-/// place empty either sees the number move or is seen asleep.
+/// Who is about to sleep shows it here, looks for the lobby once more, and sleeps while it is still
+/// shown. A give puts the lobby back, then shows that nobody sleeps, and wakes one where somebody
+/// might. Who wakes shows it again, for those who sleep on. So while somebody sleeps, either that is
+/// shown or one who was woken is on its way to show it; and a give that meets no sleeper makes no
+/// call of the system, also while one who was woken has not come to run.
 #[derive(Drop)]
 pub struct Bell {
-    rings: AtomicU64,
-    sleepers: AtomicU64,
+    shows: AtomicU64,
 }
 
 impl Bell {
-    /// Before the first give.
+    /// Nobody sleeps.
     pub fn new() -> Bell {
         Bell {
-            rings: AtomicU64::new(0),
-            sleepers: AtomicU64::new(0),
+            shows: AtomicU64::new(NOBODY),
         }
     }
 
-    /// How often it rang, which a worker reads before it looks for the lobby.
-    pub fn rings(&self) -> u64 {
-        self.rings.load(Ordering::SeqCst)
+    /// Before a look for the lobby, after so many in vain: shows a sleeper where a further one in
+    /// vain is followed by sleep.
+    pub fn announce(&self, looks: u64) {
+        if looks >= YIELDS {
+            self.shows.store(SLEEPERS, Ordering::SeqCst);
+        }
     }
 
-    /// Waits a little, or, after so many rounds in vain, until it has rung more often than this.
-    pub fn wait<R: Wait>(&self, rt: &R, rounds: u64, rings: u64) {
-        if rounds < YIELDS {
+    /// After a look in vain: waits a little, or, after so many looks before it, sleeps until a give.
+    /// Gives how many looks were in vain since the last sleep.
+    pub fn wait<R: Wait>(&self, rt: &R, looks: u64) -> u64 {
+        if looks < YIELDS {
             thread::yield_now();
-            return;
+            return looks + 1;
         }
-        self.sleepers.fetch_add(1, Ordering::SeqCst);
-        self.rings.park(rt, (rings % (1 << 32)) as u32);
-        self.sleepers.fetch_sub(1, Ordering::SeqCst);
+        self.shows.park(rt, SLEEPERS as u32);
+        self.shows.store(SLEEPERS, Ordering::SeqCst);
+        0
     }
 
-    /// Rings: one of those who sleep wakes.
+    /// Rings at a give: one of those who sleep wakes.
     pub fn ring(&self) {
-        self.rings.fetch_add(1, Ordering::SeqCst);
-        if self.sleepers.load(Ordering::SeqCst) > 0 {
-            self.rings.wake_one();
+        if self.shows.swap(NOBODY, Ordering::SeqCst) == SLEEPERS {
+            self.shows.wake_one();
         }
     }
 }

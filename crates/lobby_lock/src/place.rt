@@ -60,14 +60,13 @@ pub fn fetch<M: Outcome<BoxedLobby, View>, R: Wait>(
     ensures queue { IsSamePass pass.old pass.new }
     ensures rule { M.then (view pass.old) result (view pass.new) }
 {
-    let mut rounds = 0u64;
+    let mut looks = 0;
     for _ in rt.forever() {
-        let rings = bell.rings();
+        bell.announce(looks);
         if let Some(lobby) = place.try_pop_as::<M>(pass) {
             return lobby;
         }
-        bell.wait(rt, rounds, rings);
-        rounds = rounds.saturating_add(1);
+        looks = bell.wait(rt, looks);
     }
     unreachable!()
 }
