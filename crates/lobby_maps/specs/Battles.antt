@@ -45,7 +45,7 @@ abbrev pub left_battle : ℕ → List ℕ → ByNumber Battle → ByNumber Battl
 left_battle number name battles = left_at battles number name (at_number battles number)
 
 abbrev pub battles_after : BattleChange → ByNumber Battle → ByNumber Battle
-battles_after (Open number name battle) battles = put_number battles number battle
+battles_after (Open number name battle) battles = put_number battles number battle.value
 battles_after (Join number name) battles = change_number battles number (room_changed (with_member name))
 battles_after (Ask number name script_password) battles = change_number battles number (room_changed (with_asker name script_password))
 battles_after (LetIn number name) battles = change_number battles number (room_changed (let_in name))
@@ -111,7 +111,7 @@ FitsRoom room.EnableAllUnits = Unit {0}
 
 -- a change that these battles can take
 abbrev pub CanChange : ByNumber Client → ByNumber Battle → ℕ → BattleChange → Type 0
-CanChange clients battles c (Open number name battle) = CanEnter clients battles c name × IsNew battle name × (number ≤ 2147483647)
+CanChange clients battles c (Open number name battle) = CanEnter clients battles c name × IsNew battle.value name × (number ≤ 2147483647)
 CanChange clients battles c (Join number name) = CanEnter clients battles c name
 CanChange clients battles c (Ask number name script_password) = CanEnter clients battles c name
 CanChange clients battles c (LetIn number name) = asks_at (at_number battles number) name ≡ true

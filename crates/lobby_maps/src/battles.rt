@@ -22,11 +22,12 @@ pub const LAST_NUMBER: u32 = 2_147_483_647;
 /// What becomes of the battles.
 #[derive(Drop)]
 pub enum BattleChange {
-    /// A battle opens with its founder as the only member.
+    /// A battle opens with its founder as the only member. It is boxed, since it is many times as large as
+    /// what other changes hold, and a change is moved at each event.
     Open {
         number: u32,
         name: NameBuf,
-        battle: Battle,
+        battle: Box<Battle>,
     },
     /// A user joins a battle.
     Join {
@@ -218,12 +219,12 @@ impl Battles {
     }
 
     /// A battle opens. Where memory is refused, nothing changes.
-    fn add(&mut self, number: u32, battle: Battle) -> Result<(), AllocError>
-        ensures battles { OnOk result (self.new.by_number.entries ≡ put_number self.old.by_number.entries number battle) }
+    fn add(&mut self, number: u32, battle: Box<Battle>) -> Result<(), AllocError>
+        ensures battles { OnOk result (self.new.by_number.entries ≡ put_number self.old.by_number.entries number battle.value) }
         ensures last { OnOk result (self.new.last ≡ number) }
         ensures err { OnErr result ((self.new.by_number.entries ≡ self.old.by_number.entries) × (self.new.last ≡ self.old.last)) }
     {
-        match self.by_number.insert(number, battle) {
+        match self.by_number.insert(number, Box::into_inner(battle)) {
             Ok(old) => drop(old),
             Err(failed) => {
                 drop(failed);

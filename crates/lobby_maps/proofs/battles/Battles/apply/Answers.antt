@@ -24,11 +24,11 @@ returns-in_ok-add-in-Open-clause-agree c = λ clients agree.
 
 pub returns-in_ok-add-in-Open-clause-seated : goal.returns-in_ok-add-in-Open-clause-seated
 returns-in_ok-add-in-Open-clause-seated c =
-    let can : CanEnter c.requires.can.0 c.args.self.now.by_number.entries c.args.client c.in-Open.name × IsNew c.in-Open.battle c.in-Open.name × (c.in-Open.number ≤ 2147483647) = subst (λ (x : BattleChange). CanChange c.requires.can.0 c.args.self.now.by_number.entries c.args.client x) c.in-Open.is c.requires.can.2 in
+    let can : CanEnter c.requires.can.0 c.args.self.now.by_number.entries c.args.client c.in-Open.name × IsNew c.in-Open.battle.value c.in-Open.name × (c.in-Open.number ≤ 2147483647) = subst (λ (x : BattleChange). CanChange c.requires.can.0 c.args.self.now.by_number.entries c.args.client x) c.in-Open.is c.requires.can.2 in
     subst (λ (m : ByNumber Battle). AreSeated m c.enter_battle.new.self.users.entries) (sym c.in_ok-add-in-Open.ensures.battles)
-    (subst (λ (seats : ByName Seat). AreSeated (put_number c.args.self.now.by_number.entries c.in-Open.number c.in-Open.battle) seats) (sym c.enter_battle.ensures.users)
+    (subst (λ (seats : ByName Seat). AreSeated (put_number c.args.self.now.by_number.entries c.in-Open.number c.in-Open.battle.value) seats) (sym c.enter_battle.ensures.users)
     (seated_opened c.args.self.now.by_number.entries c.args.seats.now.users.entries c.requires.seated c.requires.can.0 c.requires.can.1 c.args.client
-    c.in-Open.name can.0 c.in-Open.number c.in-Open.battle can.1))
+    c.in-Open.name can.0 c.in-Open.number c.in-Open.battle.value can.1))
 
 -- joining
 pub add_member-requires : goal.add_member-requires
