@@ -1,6 +1,7 @@
 -- What is told and done as users open, join and leave battles.
 use Rattle.std.proofs.Common.{◌≡◌, ◌==◌, ℕ, ℤ, ◌+◌, ◌^◌, ◌<◌, ◌≤◌, suc, List, [], ◌∷◌, ◌++◌, length, take, map, filter, refl, sym, ap, subst, ◌∙◌, Bool, true, false, slice_index_or, add-one, append-nil, arith, append_assoc}
 use Rattle.std.specs.Prelude.{Option, Some, None, is_some, find, not, ◌&&◌, if◌then◌else◌, Result, Ok, Err, OnOk, decimal, nat_le}
+use Rattle.std.specs.Global.{Box}
 use Rattle.std.specs.Ordering.{nat_cmp, eq_by_cmp}
 use Rattle.std.proofs.lemmas.List.{map-append}
 use Rattle.std.proofs.lemmas.List.Elements.{filter-append}
@@ -164,23 +165,23 @@ can_enter s c me name named mine free unasked = record {
 }
 
 -- one who opens a battle
-pub opened_so : (s : State) (c : ℕ) (old new : Posted) (me : List ℕ) (number : ℕ) (name : List ℕ) (battle : Battle) (outcome : Outcome)
-    → outcome ≡ open_battle s me battle → battle_of s me ≡ None → asked_by s me ≡ None → (s.last_battle == 2147483647) ≡ false → number ≡ s.last_battle + 1
-    → number ≤ 2147483647 → name ≡ me → name_of s c ≡ Some me → IsNew battle me
-    → Told s old new (tell everyone (opened_line number battle.info ∷ []) ∷ tell (user me) (reply.OpenBattle number ∷ reply.RequestBattleStatus ∷ []) ∷ [])
-    → Obeyed s c old new (InBattles (Open number name battle)) outcome
-opened_so s c old new me number name battle outcome is free unasked left numbered small named mine alone told =
-    let comes : outcome ≡ done (opens name number battle) =
+pub opened_so : (s : State) (c : ℕ) (old new : Posted) (me : List ℕ) (number : ℕ) (name : List ℕ) (boxed : Box Battle) (outcome : Outcome)
+    → outcome ≡ open_battle s me boxed.value → battle_of s me ≡ None → asked_by s me ≡ None → (s.last_battle == 2147483647) ≡ false → number ≡ s.last_battle + 1
+    → number ≤ 2147483647 → name ≡ me → name_of s c ≡ Some me → IsNew boxed.value me
+    → Told s old new (tell everyone (opened_line number boxed.value.info ∷ []) ∷ tell (user me) (reply.OpenBattle number ∷ reply.RequestBattleStatus ∷ []) ∷ [])
+    → Obeyed s c old new (InBattles (Open number name boxed)) outcome
+opened_so s c old new me number name boxed outcome is free unasked left numbered small named mine alone told =
+    let comes : outcome ≡ done (opens name number boxed.value) =
     is
     ∙ (λ i. refuse_if (is_some (free i)) (reply.OpenBattleFailed already_in_battle) (refuse_if (is_some (unasked i)) (reply.OpenBattleFailed already_asking)
-    (refuse_if (left i) (reply.OpenBattleFailed no_number_left) (done (opens me (s.last_battle + 1) battle)))))
-    ∙ (λ i. done (opens (sym named i) (sym numbered i) battle)) in
-    subst (λ o. Obeyed s c old new (InBattles (Open number name battle)) o) (sym comes) (record {
-      told = subst (λ n. Told s old new (opens n number battle).told) (sym named) told;
+    (refuse_if (left i) (reply.OpenBattleFailed no_number_left) (done (opens me (s.last_battle + 1) boxed.value)))))
+    ∙ (λ i. done (opens (sym named i) (sym numbered i) boxed.value)) in
+    subst (λ o. Obeyed s c old new (InBattles (Open number name boxed)) o) (sym comes) (record {
+      told = subst (λ n. Told s old new (opens n number boxed.value).told) (sym named) told;
       effect = refl;
       can_be = (
         can_enter s c me name named mine free unasked,
-        subst (λ n. IsNew battle n) (sym named) alone,
+        subst (λ n. IsNew boxed.value n) (sym named) alone,
         small,
       );
     })

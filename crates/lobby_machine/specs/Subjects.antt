@@ -1,16 +1,8 @@
 -- What each command is on, as the answering of them is parted.
-use Rattle.std.specs.Prelude.{Bool, true, false}
 use Rattle.command_grammar.specs.declared.command.Command.{Command}
 use Rattle.command_grammar.specs.declared.command.Command.TheVariants as command
-
--- the session and the user itself, the channels and private talk, the battles as all see them, what the members of one
--- share, and one of its members, or one who asks to be
-pub data Subject : Type 0 where
-  Session : Subject
-  Channels : Subject
-  Battles : Subject
-  Rooms : Subject
-  Members : Subject
+use Rattle.lobby_machine.specs.declared.rules.subjects.Subject.{Subject}
+use Rattle.lobby_machine.specs.declared.rules.subjects.Subject.TheVariants.{Session, Channels, Battles, Rooms, Members}
 
 -- the subject of a command; each is named, so that none is forgotten
 abbrev pub subject_of : Command → Subject
@@ -52,8 +44,3 @@ subject_of (command.KickFromBattle user) = Members
 subject_of (command.Ring user) = Members
 subject_of (command.JoinBattleAccept user) = Members
 subject_of (command.JoinBattleDeny user reason) = Members
-
--- the command is OPENBATTLE
-abbrev pub opens_one : Command → Bool
-opens_one (command.OpenBattle battle_type nat_type password port max_players game_hash rank map_hash engine_name engine_version map title game_name) = true
-opens_one other = false

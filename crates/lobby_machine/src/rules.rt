@@ -7,7 +7,8 @@ ghost use Rattle.lobby_model.specs.Outcome.{tell, issuer};
 ghost use Rattle.lobby_model.specs.Commands.{answer};
 ghost use Rattle.lobby_post.specs.Posted.{begun, Told};
 ghost use Rattle.lobby_machine.specs.Answers.{Answers, Obeyed, refusal_reply};
-ghost use Rattle.lobby_machine.specs.Subjects.{subject_of, Session, Channels, Battles, Rooms, Members};
+ghost use Rattle.lobby_machine.specs.declared.rules.subjects.Subject.TheVariants.{Session, Channels, Battles, Rooms, Members};
+ghost use Rattle.lobby_machine.specs.Subjects.{subject_of};
 
 mod battle_guards;
 mod battles;
@@ -16,6 +17,7 @@ mod guards;
 mod joining;
 mod rooms;
 mod session;
+mod subjects;
 
 use crate::refusal::{Refusal, Stop};
 use battle_room::Rect;
@@ -28,6 +30,7 @@ use reply_grammar::LentReply;
 use rooms::Force;
 pub use session::close;
 use std::alloc::AllocError;
+use subjects::{Subject, subject_of};
 
 /// What a command of a client that hears comes to, told under the id of its request; a refusal is
 /// told too. `me` is the name under which the client is logged in, if it is.
@@ -69,53 +72,12 @@ fn answer(
     requires issuer { post.old.issuer ≡ client }
     ensures { Answers maps.now.plain client post.old post.new (answer maps.now.plain client (name_of maps.now.plain client) command.now) result }
 {
-    match command {
-        Command::Blank
-        | Command::Unread(_)
-        | Command::Ping
-        | Command::Exit
-        | Command::Login { .. }
-        | Command::MyStatus { .. } => answer_in_session(maps, client, me, command, post),
-        Command::Join { .. }
-        | Command::Leave { .. }
-        | Command::Say { .. }
-        | Command::SayEx { .. }
-        | Command::SayPrivate { .. }
-        | Command::Channels => answer_in_channel(maps, client, logged_in(me)?, command, post),
-        Command::OpenBattle { .. }
-        | Command::JoinBattle { .. }
-        | Command::LeaveBattle
-        | Command::UpdateBattleInfo { .. }
-        | Command::MyBattleStatus { .. }
-        | Command::SayBattle { .. }
-        | Command::SayBattleEx { .. } => {
-            answer_in_battle(maps, client, logged_in(me)?, command, post)
-        }
-        Command::AddBot { .. }
-        | Command::UpdateBot { .. }
-        | Command::RemoveBot { .. }
-        | Command::AddStartRect { .. }
-        | Command::RemoveStartRect { .. }
-        | Command::SetScriptTags { .. }
-        | Command::RemoveScriptTags { .. }
-        | Command::DisableUnits { .. }
-        | Command::EnableUnits { .. }
-        | Command::EnableAllUnits => { answer_in_room(maps, client, logged_in(me)?, command, post) }
-        Command::Handicap { .. }
-        | Command::ForceTeamNo { .. }
-        | Command::ForceAllyNo { .. }
-        | Command::ForceTeamColor { .. }
-        | Command::ForceSpectatorMode { .. }
-        | Command::KickFromBattle { .. }
-        | Command::Ring { .. }
-        | Command::JoinBattleAccept { .. }
-        | Command::JoinBattleDeny { .. } => answer_on_member(
-            maps,
-            client,
-            logged_in(me)?,
-            command,
-            post,
-        ),
+    match subject_of(command) {
+        Subject::Session => answer_in_session(maps, client, me, command, post),
+        Subject::Channels => answer_in_channel(maps, client, logged_in(me)?, command, post),
+        Subject::Battles => answer_in_battle(maps, client, logged_in(me)?, command, post),
+        Subject::Rooms => answer_in_room(maps, client, logged_in(me)?, command, post),
+        Subject::Members => answer_on_member(maps, client, logged_in(me)?, command, post),
     }
 }
 

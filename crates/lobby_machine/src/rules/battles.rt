@@ -16,7 +16,7 @@ ghost use Rattle.lobby_maps.specs.declared.change.Change.TheVariants.{InBattles}
 ghost use Rattle.lobby_maps.specs.declared.battles.BattleChange.TheVariants.{InRoom};
 ghost use Rattle.lobby_maps.specs.Battles.{IsNew};
 ghost use Rattle.lobby_machine.specs.BattleTalk.{bots_gone, shown, shown_to, status_change, stops_asking};
-ghost use Rattle.lobby_machine.specs.Subjects.{opens_one};
+ghost use Rattle.lobby_machine.specs.Opening.{game_hash_in, opens_one, password_in, started, HasTexts};
 
 use super::battle_guards::{founded_by, may_open, next_number, opens_unasked, own_battle};
 use crate::refusal::Stop;
@@ -65,6 +65,7 @@ struct Labels {
 #[derive(Drop)]
 struct Inside {
     password: WordBuf,
+    game_hash: i64,
     room: Room,
 }
 
@@ -120,11 +121,57 @@ fn new_battle(
     client: u64,
     me: &NameBuf,
     command: &Command,
-) -> Result<Battle, AllocError>
+) -> Result<Box<Battle>, AllocError>
     requires me { name_of maps.now.plain client ≡ Some me.now }
     requires opens { opens_one command.now ≡ true }
-    ensures asked { IfOk result (λ battle. answer maps.now.plain client (Some me.now) command.now ≡ open_battle maps.now.plain me.now battle) }
-    ensures alone { IfOk result (λ battle. IsNew battle me.now) }
+    ensures asked { IfOk result (λ battle. answer maps.now.plain client (Some me.now) command.now ≡ open_battle maps.now.plain me.now battle.value) }
+    ensures alone { IfOk result (λ battle. IsNew battle.value me.now) }
+{
+    let opened = opened_by(maps, client, me, command)?;
+    match inside_of(maps, me, command) {
+        Ok(inside) => boxed_battle(maps.alloc(), opened, inside),
+        Err(refused) => {
+            drop(opened);
+            Err(refused)
+        }
+    }
+}
+
+/// A battle as it opens, which nobody watches and all may join, in memory of its own.
+fn boxed_battle(
+    alloc: Global,
+    opened: OpenedBattle,
+    inside: Inside,
+) -> Result<Box<Battle>, AllocError>
+    ensures { IfOk result (λ battle. battle.value ≡ started opened inside.password inside.game_hash inside.room) }
+{
+    let battle = Battle {
+        opened,
+        spectators: 0,
+        locked: false,
+        password: inside.password,
+        game_hash: inside.game_hash,
+        room: inside.room,
+    };
+    match Box::new(alloc, battle) {
+        Ok(boxed) => Ok(boxed),
+        Err(failed) => {
+            drop(failed);
+            Err(AllocError)
+        }
+    }
+}
+
+/// What all are told of the battle that a user opens by a command.
+fn opened_by(
+    maps: &Maps,
+    client: u64,
+    me: &NameBuf,
+    command: &Command,
+) -> Result<OpenedBattle, AllocError>
+    requires there { is_some (at_number maps.now.plain.clients client) ≡ true }
+    requires opens { opens_one command.now ≡ true }
+    ensures { IfOk result (λ opened. answer maps.now.plain client (Some me.now) command.now ≡ open_battle maps.now.plain me.now (started opened (password_in command.now) (game_hash_in command.now) (new_room me.now))) }
 {
     let Command::OpenBattle {
         battle_type,
@@ -132,86 +179,74 @@ fn new_battle(
         password,
         port,
         max_players,
-        game_hash,
         rank,
         map_hash,
-        engine_name,
-        engine_version,
-        map,
-        title,
-        game_name,
+        ..
     } = command
     else {
         unreachable!()
     };
-    let texts = texts_of(
-        maps,
-        client,
+    let texts = texts_of(maps, client, command)?;
+    Ok(OpenedBattle {
+        battle_type: *battle_type,
+        nat_type: *nat_type,
+        founder: me.copy(),
+        ip: texts.ip,
+        port: *port,
+        max_players: *max_players,
+        passworded: password.as_slice() != NO_PASSWORD,
+        rank: *rank,
+        map_hash: *map_hash,
+        engine_name: texts.engine.name,
+        engine_version: texts.engine.version,
+        map: texts.labels.map,
+        title: texts.labels.title,
+        game_name: texts.labels.game_name,
+    })
+}
+
+/// What the battle that a user opens by a command keeps from those outside.
+fn inside_of(maps: &Maps, me: &NameBuf, command: &Command) -> Result<Inside, AllocError>
+    requires { opens_one command.now ≡ true }
+    ensures password { IfOk result (λ inside. inside.password ≡ password_in command.now) }
+    ensures game_hash { IfOk result (λ inside. inside.game_hash ≡ game_hash_in command.now) }
+    ensures room { IfOk result (λ inside. inside.room ≡ new_room me.now) }
+{
+    let Command::OpenBattle {
+        password,
+        game_hash,
+        ..
+    } = command
+    else {
+        unreachable!()
+    };
+    let password = WordBuf::copy_of(maps.alloc(), password.as_slice())?;
+    let room = Room::new(maps.alloc(), me.copy(), maps.user_place(me))?;
+    Ok(Inside {
+        password,
+        game_hash: *game_hash,
+        room,
+    })
+}
+
+/// The texts that all are told of a battle which this client opens by a command.
+fn texts_of(maps: &Maps, client: u64, command: &Command) -> Result<Texts, AllocError>
+    requires there { is_some (at_number maps.now.plain.clients client) ≡ true }
+    requires opens { opens_one command.now ≡ true }
+    ensures ip { IfOk result (λ texts. texts.ip ≡ address (at_number maps.now.plain.clients client)) }
+    ensures given { IfOk result (λ texts. HasTexts command.now texts) }
+{
+    let Command::OpenBattle {
         engine_name,
         engine_version,
         map,
         title,
         game_name,
-    )?;
-    match inside_of(maps, me, password) {
-        Ok(inside) => Ok(Battle {
-            opened: OpenedBattle {
-                battle_type: *battle_type,
-                nat_type: *nat_type,
-                founder: me.copy(),
-                ip: texts.ip,
-                port: *port,
-                max_players: *max_players,
-                passworded: password.as_slice() != NO_PASSWORD,
-                rank: *rank,
-                map_hash: *map_hash,
-                engine_name: texts.engine.name,
-                engine_version: texts.engine.version,
-                map: texts.labels.map,
-                title: texts.labels.title,
-                game_name: texts.labels.game_name,
-            },
-            spectators: 0,
-            locked: false,
-            password: inside.password,
-            game_hash: *game_hash,
-            room: inside.room,
-        }),
-        Err(refused) => {
-            drop(texts);
-            Err(refused)
-        }
-    }
-}
-
-/// What a battle that a user opens keeps from those outside.
-fn inside_of(maps: &Maps, me: &NameBuf, password: &WordBuf) -> Result<Inside, AllocError>
-    ensures password { IfOk result (λ inside. inside.password ≡ password.now) }
-    ensures room { IfOk result (λ inside. inside.room ≡ new_room me.now) }
-{
-    let password = WordBuf::copy_of(maps.alloc(), password.as_slice())?;
-    let room = Room::new(maps.alloc(), me.copy(), maps.user_place(me))?;
-    Ok(Inside { password, room })
-}
-
-/// The texts that all are told of a battle which this client opens.
-fn texts_of(
-    maps: &Maps,
-    client: u64,
-    engine_name: &SentenceBuf,
-    engine_version: &SentenceBuf,
-    map: &SentenceBuf,
-    title: &SentenceBuf,
-    game_name: &SentenceBuf,
-) -> Result<Texts, AllocError>
-    requires { is_some (at_number maps.now.plain.clients client) ≡ true }
-    ensures ip { IfOk result (λ texts. texts.ip ≡ address (at_number maps.now.plain.clients client)) }
-    ensures engine_name { IfOk result (λ texts. texts.engine.name ≡ engine_name.now) }
-    ensures engine_version { IfOk result (λ texts. texts.engine.version ≡ engine_version.now) }
-    ensures map { IfOk result (λ texts. texts.labels.map ≡ map.now) }
-    ensures title { IfOk result (λ texts. texts.labels.title ≡ title.now) }
-    ensures game_name { IfOk result (λ texts. texts.labels.game_name ≡ game_name.now) }
-{
+        ..
+    } = command
+    else {
+        unreachable!()
+    };
     let ip = address_of(maps, client)?;
     let engine = copy_engine(maps.alloc(), engine_name, engine_version)?;
     match copy_labels(maps.alloc(), map, title, game_name) {

@@ -1,39 +1,28 @@
-use Rattle.std.proofs.Common.{◌≡◌, ◌∙◌, sym, ap, w64, rules, false, not, List, ℕ}
-use Rattle.std.proofs.lemmas.Int.{to_z-of_z}
-use Rattle.std.proofs.lemmas.Map.Text.{is_eq-slice_cmp}
-use Rattle.std.specs.Prelude.{Some}
-use Rattle.std.specs.Str.{bytes_eq}
-use Rattle.line_words.specs.Table.{same_name}
-use Rattle.lobby_model.specs.Battles.{no_password, open_battle}
-use Rattle.lobby_model.specs.Commands.{answer}
+use Rattle.std.proofs.Common.{◌∙◌, sym, ap, refl, subst}
+use Rattle.std.specs.Prelude.{Some, Result, Ok, Err, IfOk}
+use Rattle.std.specs.Global.{Box}
+use Rattle.battle_room.specs.Room.{Room}
+use Rattle.lobby_model.specs.Battles.{open_battle}
+use Rattle.lobby_model.specs.State.{Battle}
+use Rattle.lobby_maps.specs.Battles.{IsNew}
+use Rattle.lobby_machine.specs.Opening.{started}
 use Rattle.lobby_machine.proofs.rules.battles.new_battle.Goals as goal
+
+-- what holds of a value that there may be
+if_ok : {A E : Type 0} (r : Result A E) (P Q : A → Type 0) → ((x : A) → P x → Q x) → IfOk r P → IfOk r Q
+if_ok (Ok x) P Q f h = f x h
+if_ok (Err e) P Q f h = tt
 
 pub returns-in-Ok-clause-asked : goal.returns-in-Ok-clause-asked
 returns-in-Ok-clause-asked c =
-    let passworded : c.ne.result ≡ not (same_name c.in-OpenBattle.password no_password) = c.ne.ensures
-    ∙ ap (λ (bytes : List ℕ). not (bytes_eq bytes no_password)) c.as_slice.ensures.value
-    ∙ ap not (sym (is_eq-slice_cmp c.in-OpenBattle.password no_password)) in
-    ap (answer c.args.maps.now.plain c.args.client (Some c.args.me.now)) c.in-OpenBattle.is
-    ∙ (λ i. open_battle c.args.maps.now.plain c.args.me.now (record {
-      info = record {
-        battle_type = c.in-OpenBattle.battle_type;
-        nat_type = c.in-OpenBattle.nat_type;
-        founder = sym c.copy.ensures i;
-        ip = sym c.in_ok-texts.ensures.ip i;
-        port = c.in-OpenBattle.port;
-        max_players = c.in-OpenBattle.max_players;
-        passworded = sym passworded i;
-        rank = sym (to_z-of_z w64 c.in-OpenBattle.rank (search rules)) i;
-        map_hash = sym (to_z-of_z w64 c.in-OpenBattle.map_hash (search rules)) i;
-        engine_name = sym c.in_ok-texts.ensures.engine_name i;
-        engine_version = sym c.in_ok-texts.ensures.engine_version i;
-        map = sym c.in_ok-texts.ensures.map i;
-        title = sym c.in_ok-texts.ensures.title i;
-        game_name = sym c.in_ok-texts.ensures.game_name i;
-        spectators = 0;
-        locked = false;
-      };
-      password = sym c.in-Ok.ensures.password i;
-      game_hash = sym (to_z-of_z w64 c.in-OpenBattle.game_hash (search rules)) i;
-      room = sym c.in-Ok.ensures.room i;
-    }))
+    if_ok c.boxed_battle.result _ _ (λ (battle : Box Battle) is.
+    c.in_ok-opened.ensures
+    ∙ (λ i. open_battle c.args.maps.now.plain c.args.me.now
+    (started c.in_ok-opened.opened (sym c.in-Ok.ensures.password i) (sym c.in-Ok.ensures.game_hash i) (sym c.in-Ok.ensures.room i)))
+    ∙ ap (open_battle c.args.maps.now.plain c.args.me.now) (sym is)) c.boxed_battle.ensures
+
+pub returns-in-Ok-clause-alone : goal.returns-in-Ok-clause-alone
+returns-in-Ok-clause-alone c =
+    if_ok c.boxed_battle.result _ _ (λ (battle : Box Battle) is. subst (λ (b : Battle). IsNew b c.args.me.now) (sym is)
+    (subst (λ (room : Room). IsNew (started c.in_ok-opened.opened c.in-Ok.inside.password c.in-Ok.inside.game_hash room) c.args.me.now) (sym c.in-Ok.ensures.room)
+    (record { members = refl; askers = refl }))) c.boxed_battle.ensures
