@@ -1,30 +1,47 @@
 -- Which replies are folded together.
-use Rattle.std.specs.Prelude.{Bool, true, false}
 use Rattle.reply_grammar.specs.declared.Reply.{Reply}
 use Rattle.reply_grammar.specs.declared.Reply.TheVariants as reply
 
--- the login, and who comes and goes
-abbrev pub is_of_session : Reply → Bool
-is_of_session (reply.Accepted user) = true
-is_of_session (reply.AddUser user country cpu account) = true
-is_of_session (reply.RemoveUser user) = true
-is_of_session r = false
+-- what a reply changes of what a client knows: the own name and the users, who is in which channel, the battles and who is in
+-- them, the list by a battle that opens; in the own room the members' statuses, the bots, the start rectangles, the script tags
+-- and the disabled units; or nothing
+pub data Kind : Type 0 where
+  Session : Kind
+  Channels : Kind
+  Battles : Kind
+  Opening : Kind
+  Members : Kind
+  Bots : Kind
+  Rects : Kind
+  Tags : Kind
+  Units : Kind
+  Nothing : Kind
 
--- who is in which channel
-abbrev pub is_of_channels : Reply → Bool
-is_of_channels (reply.Join channel) = true
-is_of_channels (reply.Clients channel names) = true
-is_of_channels (reply.Joined channel user) = true
-is_of_channels (reply.Left channel user) = true
-is_of_channels r = false
-
--- the lines of start rectangles, script tags and disabled units
-abbrev pub is_of_game : Reply → Bool
-is_of_game (reply.AddStartRect ally left top right bottom) = true
-is_of_game (reply.RemoveStartRect ally) = true
-is_of_game (reply.SetScriptTags pairs) = true
-is_of_game (reply.RemoveScriptTags keys) = true
-is_of_game (reply.DisableUnits units) = true
-is_of_game (reply.EnableUnits units) = true
-is_of_game reply.EnableAllUnits = true
-is_of_game r = false
+abbrev pub kind_of : Reply → Kind
+kind_of (reply.Accepted user) = Session
+kind_of (reply.AddUser user country cpu account) = Session
+kind_of (reply.RemoveUser user) = Session
+kind_of (reply.ClientStatus user status) = Session
+kind_of (reply.Join channel) = Channels
+kind_of (reply.Clients channel names) = Channels
+kind_of (reply.Joined channel user) = Channels
+kind_of (reply.Left channel user) = Channels
+kind_of (reply.OpenBattle battle) = Battles
+kind_of (reply.BattleClosed battle) = Battles
+kind_of (reply.JoinBattle battle game_hash) = Battles
+kind_of (reply.JoinedBattle battle user script_password) = Battles
+kind_of (reply.LeftBattle battle user) = Battles
+kind_of (reply.UpdateBattleInfo battle spectator_count locked map_hash map) = Battles
+kind_of (reply.BattleOpened battle battle_type nat_type founder ip port max_players passworded rank map_hash engine_name engine_version map title game_name) = Opening
+kind_of (reply.ClientBattleStatus user status colour) = Members
+kind_of (reply.AddBot battle bot owner status colour ai) = Bots
+kind_of (reply.UpdateBot battle bot status colour) = Bots
+kind_of (reply.RemoveBot battle bot) = Bots
+kind_of (reply.AddStartRect ally left top right bottom) = Rects
+kind_of (reply.RemoveStartRect ally) = Rects
+kind_of (reply.SetScriptTags pairs) = Tags
+kind_of (reply.RemoveScriptTags keys) = Tags
+kind_of (reply.DisableUnits units) = Units
+kind_of (reply.EnableUnits units) = Units
+kind_of reply.EnableAllUnits = Units
+kind_of r = Nothing

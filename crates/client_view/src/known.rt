@@ -71,32 +71,10 @@ impl Known {
         ensures err { OnErr result (self.new ≡ self.old) }
     {
         match reply {
-            // The kinds of line that come most stand here, so that their replies are moved no further.
-            Reply::ClientStatus { user, status } => {
-                self.client_status(&user, status);
-                Ok(())
-            }
-            Reply::TasServer { .. }
-            | Reply::Motd { .. }
-            | Reply::LoginInfoEnd
-            | Reply::Pong
-            | Reply::Said { .. }
-            | Reply::SaidEx { .. }
-            | Reply::SayPrivate { .. }
-            | Reply::SaidPrivate { .. }
-            | Reply::Channel { .. }
-            | Reply::EndOfChannels
-            | Reply::Denied { .. }
-            | Reply::ServerMsg { .. }
-            | Reply::JoinFailed { .. }
-            | Reply::OpenBattleFailed { .. }
-            | Reply::JoinBattleFailed { .. } => {
-                reply.discard();
-                Ok(())
-            }
-            Reply::Accepted { .. } | Reply::AddUser { .. } | Reply::RemoveUser { .. } => {
-                self.fold_session(reply)
-            }
+            Reply::Accepted { .. }
+            | Reply::AddUser { .. }
+            | Reply::RemoveUser { .. }
+            | Reply::ClientStatus { .. } => self.fold_session(reply),
             Reply::Join { .. }
             | Reply::Clients { .. }
             | Reply::Joined { .. }
@@ -106,25 +84,20 @@ impl Known {
             | Reply::JoinBattle { .. }
             | Reply::JoinedBattle { .. }
             | Reply::LeftBattle { .. }
-            | Reply::UpdateBattleInfo { .. }
-            | Reply::RequestBattleStatus
-            | Reply::ForceQuitBattle => self.fold_battles(reply),
+            | Reply::UpdateBattleInfo { .. } => self.fold_battles(reply),
             Reply::BattleOpened { .. } => self.battle_opened(reply),
-            Reply::ClientBattleStatus { .. }
-            | Reply::SaidBattle { .. }
-            | Reply::SaidBattleEx { .. }
-            | Reply::AddBot { .. }
-            | Reply::UpdateBot { .. }
-            | Reply::RemoveBot { .. }
-            | Reply::AddStartRect { .. }
-            | Reply::RemoveStartRect { .. }
-            | Reply::SetScriptTags { .. }
-            | Reply::RemoveScriptTags { .. }
-            | Reply::Ring { .. }
-            | Reply::JoinBattleRequest { .. }
-            | Reply::DisableUnits { .. }
-            | Reply::EnableUnits { .. }
-            | Reply::EnableAllUnits => self.fold_room(reply),
+            Reply::ClientBattleStatus { .. } => self.fold_members(reply),
+            Reply::AddBot { .. } | Reply::UpdateBot { .. } | Reply::RemoveBot { .. } =>
+                self.fold_bots(reply),
+            Reply::AddStartRect { .. } | Reply::RemoveStartRect { .. } => self.fold_rects(reply),
+            Reply::SetScriptTags { .. } | Reply::RemoveScriptTags { .. } => self.fold_tags(reply),
+            Reply::DisableUnits { .. } | Reply::EnableUnits { .. } | Reply::EnableAllUnits =>
+                self.fold_units(reply),
+            // What is said, asked or refused. By the contract it is only what changes nothing.
+            _ => {
+                reply.discard();
+                Ok(())
+            }
         }
     }
 }

@@ -3,10 +3,9 @@
 ghost use Rattle.std.specs.Prelude.{◌≡◌, ℕ, List, Option, OnOk, OnErr};
 ghost use Rattle.line_words.specs.Table.{put_number};
 ghost use Rattle.reply_grammar.specs.declared.Reply.TheVariants as reply;
-ghost use Rattle.reply_grammar.specs.Groups.{Battles, Opening, group_of};
-ghost use Rattle.reply_grammar.specs.Replies.{command_of};
 ghost use Rattle.lobby_view.specs.View.{shown, in_room_of, entered};
 ghost use Rattle.battle_room.specs.Room as room;
+ghost use Rattle.client_view.specs.Kinds.{Battles, Opening, kind_of};
 
 use crate::battles::Battle;
 use crate::folding::own;
@@ -18,10 +17,10 @@ use reply_grammar::Reply;
 use std::alloc::AllocError;
 
 impl Known {
-    // The reply is one of the group.
+    // Who is in a battle, or what it is.
     #[inline(never)]
     pub(crate) fn fold_battles(&mut self, reply: Reply) -> Result<(), AllocError>
-        requires { group_of (command_of reply) ≡ Battles }
+        requires { kind_of reply ≡ Battles }
         ensures ok { OnOk result (self.new ≡ shown self.old reply) }
         ensures err { OnErr result (self.new ≡ self.old) }
     {
@@ -51,7 +50,6 @@ impl Known {
                 self.update_battle_info(battle, spectator_count, locked, map_hash, map);
                 Ok(())
             }
-            Reply::RequestBattleStatus | Reply::ForceQuitBattle => Ok(()),
             _ => unreachable!(),
         }
     }
@@ -59,7 +57,7 @@ impl Known {
     // The reply tells all of a battle that opens.
     #[inline(never)]
     pub(crate) fn battle_opened(&mut self, reply: Reply) -> Result<(), AllocError>
-        requires { group_of (command_of reply) ≡ Opening }
+        requires { kind_of reply ≡ Opening }
         ensures ok { OnOk result (self.new ≡ shown self.old reply) }
         ensures err { OnErr result (self.new ≡ self.old) }
     {

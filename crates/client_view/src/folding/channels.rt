@@ -1,9 +1,9 @@
 //! The lines of channels.
 
-ghost use Rattle.std.specs.Prelude.{◌≡◌, OnOk, OnErr, IsTrue};
+ghost use Rattle.std.specs.Prelude.{◌≡◌, OnOk, OnErr};
 ghost use Rattle.reply_grammar.specs.declared.Reply.TheVariants as reply;
 ghost use Rattle.lobby_view.specs.View.{shown};
-ghost use Rattle.client_view.specs.Kinds.{is_of_channels};
+ghost use Rattle.client_view.specs.Kinds.{Channels, kind_of};
 
 use crate::known::Known;
 use line_words::{NameBuf, NameList};
@@ -14,7 +14,7 @@ impl Known {
     // The reply tells who is in which channel.
     #[inline(never)]
     pub(crate) fn fold_channels(&mut self, reply: Reply) -> Result<(), AllocError>
-        requires { IsTrue (is_of_channels reply) }
+        requires { kind_of reply ≡ Channels }
         ensures ok { OnOk result (self.new ≡ shown self.old reply) }
         ensures err { OnErr result (self.new ≡ self.old) }
     {

@@ -1,11 +1,9 @@
 //! The lines of the client's own room.
 
-ghost use Rattle.std.specs.Prelude.{◌≡◌, OnOk, OnErr, IsTrue};
+ghost use Rattle.std.specs.Prelude.{◌≡◌, OnOk, OnErr};
 ghost use Rattle.reply_grammar.specs.declared.Reply.TheVariants as reply;
-ghost use Rattle.reply_grammar.specs.Groups.{Room, group_of};
-ghost use Rattle.reply_grammar.specs.Replies.{command_of};
 ghost use Rattle.lobby_view.specs.View.{shown};
-ghost use Rattle.client_view.specs.Kinds.{is_of_game};
+ghost use Rattle.client_view.specs.Kinds.{Members, Bots, Rects, Tags, Units, kind_of};
 
 use crate::bots::Bot;
 use crate::folding::own;
@@ -16,10 +14,10 @@ use reply_grammar::Reply;
 use std::alloc::AllocError;
 
 impl Known {
-    // The reply is one of the group.
+    // The status of a member.
     #[inline(never)]
-    pub(crate) fn fold_room(&mut self, reply: Reply) -> Result<(), AllocError>
-        requires { group_of (command_of reply) ≡ Room }
+    pub(crate) fn fold_members(&mut self, reply: Reply) -> Result<(), AllocError>
+        requires { kind_of reply ≡ Members }
         ensures ok { OnOk result (self.new ≡ shown self.old reply) }
         ensures err { OnErr result (self.new ≡ self.old) }
     {
@@ -32,6 +30,24 @@ impl Known {
                 self.client_battle_status(&user, battle_status, team_color);
                 Ok(())
             }
+            _ => unreachable!(),
+        }
+    }
+
+    fn client_battle_status(&mut self, name: &NameBuf, status: u32, colour: i64)
+        ensures { self.new ≡ shown self.old (reply.ClientBattleStatus name.now status colour) }
+    {
+        own::put_status(&mut self.own, name, status, colour);
+    }
+
+    // A bot comes, changes or goes.
+    #[inline(never)]
+    pub(crate) fn fold_bots(&mut self, reply: Reply) -> Result<(), AllocError>
+        requires { kind_of reply ≡ Bots }
+        ensures ok { OnOk result (self.new ≡ shown self.old reply) }
+        ensures err { OnErr result (self.new ≡ self.old) }
+    {
+        match reply {
             Reply::AddBot {
                 battle,
                 bot,
@@ -62,27 +78,33 @@ impl Known {
                 self.remove_bot(battle, &bot);
                 Ok(())
             }
-            Reply::AddStartRect { .. }
-            | Reply::RemoveStartRect { .. }
-            | Reply::SetScriptTags { .. }
-            | Reply::RemoveScriptTags { .. }
-            | Reply::DisableUnits { .. }
-            | Reply::EnableUnits { .. }
-            | Reply::EnableAllUnits => self.fold_game(reply),
-            Reply::SaidBattle { .. }
-            | Reply::SaidBattleEx { .. }
-            | Reply::Ring { .. }
-            | Reply::JoinBattleRequest { .. } => {
-                reply.discard();
-                Ok(())
-            }
             _ => unreachable!(),
         }
     }
 
-    // The reply is one of start rectangles, script tags and disabled units.
-    fn fold_game(&mut self, reply: Reply) -> Result<(), AllocError>
-        requires { IsTrue (is_of_game reply) }
+    fn add_bot(&mut self, number: u32, bot: Bot) -> Result<(), AllocError>
+        ensures ok { OnOk result (self.new ≡ shown self.old (reply.AddBot number bot.name bot.owner bot.status bot.colour bot.ai)) }
+        ensures err { OnErr result (self.new ≡ self.old) }
+    {
+        own::add_bot(&mut self.own, number, bot)
+    }
+
+    fn update_bot(&mut self, number: u32, name: &WordBuf, status: u32, colour: i64)
+        ensures { self.new ≡ shown self.old (reply.UpdateBot number name.now status colour) }
+    {
+        own::put_bot_status(&mut self.own, number, name, status, colour);
+    }
+
+    fn remove_bot(&mut self, number: u32, name: &WordBuf)
+        ensures { self.new ≡ shown self.old (reply.RemoveBot number name.now) }
+    {
+        own::remove_bot(&mut self.own, number, name);
+    }
+
+    // A start rectangle is set or goes.
+    #[inline(never)]
+    pub(crate) fn fold_rects(&mut self, reply: Reply) -> Result<(), AllocError>
+        requires { kind_of reply ≡ Rects }
         ensures ok { OnOk result (self.new ≡ shown self.old reply) }
         ensures err { OnErr result (self.new ≡ self.old) }
     {
@@ -106,47 +128,8 @@ impl Known {
                 self.remove_start_rect(ally_no);
                 Ok(())
             }
-            Reply::SetScriptTags { pairs } => self.set_script_tags(pairs),
-            Reply::RemoveScriptTags { keys } => {
-                self.remove_script_tags(&keys);
-                Ok(())
-            }
-            Reply::DisableUnits { units } => self.disable_units(units),
-            Reply::EnableUnits { units } => {
-                self.enable_units(&units);
-                Ok(())
-            }
-            Reply::EnableAllUnits => {
-                self.enable_all_units();
-                Ok(())
-            }
             _ => unreachable!(),
         }
-    }
-
-    fn client_battle_status(&mut self, name: &NameBuf, status: u32, colour: i64)
-        ensures { self.new ≡ shown self.old (reply.ClientBattleStatus name.now status colour) }
-    {
-        own::put_status(&mut self.own, name, status, colour);
-    }
-
-    fn add_bot(&mut self, number: u32, bot: Bot) -> Result<(), AllocError>
-        ensures ok { OnOk result (self.new ≡ shown self.old (reply.AddBot number bot.name bot.owner bot.status bot.colour bot.ai)) }
-        ensures err { OnErr result (self.new ≡ self.old) }
-    {
-        own::add_bot(&mut self.own, number, bot)
-    }
-
-    fn update_bot(&mut self, number: u32, name: &WordBuf, status: u32, colour: i64)
-        ensures { self.new ≡ shown self.old (reply.UpdateBot number name.now status colour) }
-    {
-        own::put_bot_status(&mut self.own, number, name, status, colour);
-    }
-
-    fn remove_bot(&mut self, number: u32, name: &WordBuf)
-        ensures { self.new ≡ shown self.old (reply.RemoveBot number name.now) }
-    {
-        own::remove_bot(&mut self.own, number, name);
     }
 
     fn add_start_rect(&mut self, ally: u8, rect: Rect) -> Result<(), AllocError>
@@ -162,6 +145,23 @@ impl Known {
         own::remove_rect(&mut self.own, ally);
     }
 
+    // Script tags are set or go.
+    #[inline(never)]
+    pub(crate) fn fold_tags(&mut self, reply: Reply) -> Result<(), AllocError>
+        requires { kind_of reply ≡ Tags }
+        ensures ok { OnOk result (self.new ≡ shown self.old reply) }
+        ensures err { OnErr result (self.new ≡ self.old) }
+    {
+        match reply {
+            Reply::SetScriptTags { pairs } => self.set_script_tags(pairs),
+            Reply::RemoveScriptTags { keys } => {
+                self.remove_script_tags(&keys);
+                Ok(())
+            }
+            _ => unreachable!(),
+        }
+    }
+
     fn set_script_tags(&mut self, pairs: PairList) -> Result<(), AllocError>
         ensures ok { OnOk result (self.new ≡ shown self.old (reply.SetScriptTags pairs)) }
         ensures err { OnErr result (self.new ≡ self.old) }
@@ -173,6 +173,27 @@ impl Known {
         ensures { self.new ≡ shown self.old (reply.RemoveScriptTags keys.now) }
     {
         own::remove_tags(&mut self.own, keys);
+    }
+
+    // Units are disabled or enabled.
+    #[inline(never)]
+    pub(crate) fn fold_units(&mut self, reply: Reply) -> Result<(), AllocError>
+        requires { kind_of reply ≡ Units }
+        ensures ok { OnOk result (self.new ≡ shown self.old reply) }
+        ensures err { OnErr result (self.new ≡ self.old) }
+    {
+        match reply {
+            Reply::DisableUnits { units } => self.disable_units(units),
+            Reply::EnableUnits { units } => {
+                self.enable_units(&units);
+                Ok(())
+            }
+            Reply::EnableAllUnits => {
+                self.enable_all_units();
+                Ok(())
+            }
+            _ => unreachable!(),
+        }
     }
 
     fn disable_units(&mut self, units: WordList) -> Result<(), AllocError>

@@ -1,9 +1,9 @@
 //! The lines of the session and its users.
 
-ghost use Rattle.std.specs.Prelude.{◌≡◌, OnOk, OnErr, IsTrue};
+ghost use Rattle.std.specs.Prelude.{◌≡◌, OnOk, OnErr};
 ghost use Rattle.reply_grammar.specs.declared.Reply.TheVariants as reply;
 ghost use Rattle.lobby_view.specs.View.{shown};
-ghost use Rattle.client_view.specs.Kinds.{is_of_session};
+ghost use Rattle.client_view.specs.Kinds.{Session, kind_of};
 
 use crate::known::Known;
 use crate::users::User;
@@ -15,7 +15,7 @@ impl Known {
     // A login, or who comes and goes. Not inlined, as the others: what comes most is folded without their moves.
     #[inline(never)]
     pub(crate) fn fold_session(&mut self, reply: Reply) -> Result<(), AllocError>
-        requires { IsTrue (is_of_session reply) }
+        requires { kind_of reply ≡ Session }
         ensures ok { OnOk result (self.new ≡ shown self.old reply) }
         ensures err { OnErr result (self.new ≡ self.old) }
     {
@@ -32,6 +32,10 @@ impl Known {
             } => self.add_user(user, country, cpu, account),
             Reply::RemoveUser { user } => {
                 self.remove_user(&user);
+                Ok(())
+            }
+            Reply::ClientStatus { user, status } => {
+                self.client_status(&user, status);
                 Ok(())
             }
             _ => unreachable!(),

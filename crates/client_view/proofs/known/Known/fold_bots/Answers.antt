@@ -4,7 +4,7 @@ use Rattle.std.proofs.lemmas.Int.{to_z-of_z}
 use Rattle.reply_grammar.specs.declared.Reply.{Reply}
 use Rattle.reply_grammar.specs.declared.Reply.TheVariants as reply
 use Rattle.lobby_view.specs.View.{shown}
-use Rattle.client_view.proofs.known.Known.fold_room.Goals as goal
+use Rattle.client_view.proofs.known.Known.fold_bots.Goals as goal
 
 pub returns-in-AddBot-clause-ok : goal.returns-in-AddBot-clause-ok
 returns-in-AddBot-clause-ok c =
