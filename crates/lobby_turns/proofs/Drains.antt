@@ -1,22 +1,30 @@
 -- What a drain takes.
-use Rattle.std.proofs.Common.{◌≡◌, ℕ, zero, suc, ◌+◌, ◌-◌, ◌<◌, ◌≤◌, true, false, List, [], ◌∷◌, ◌++◌, length, take, drop, min, refl, sym, ap, ◌∙◌, arith, append-nil, length-append, subst, true≢false}
+use Rattle.std.proofs.Common.{◌≡◌, ℕ, zero, suc, ◌+◌, ◌-◌, ◌*◌, ◌<◌, ◌≤◌, true, false, List, [], ◌∷◌, ◌++◌, length, take, drop, min, refl, sym, ap, ◌∙◌, arith, append-nil, length-append, subst, true≢false, inl, inr}
 use Rattle.std.specs.Prelude.{◌||◌, Option, Some, None, Result, Ok, Err, is_ok, if◌then◌else◌}
 use Rattle.std.proofs.Math.Seq.{take-append-add}
-use Rattle.std.proofs.lemmas.List.{length-drop, take_at, take-append-le, length-take-le}
+use Rattle.std.proofs.lemmas.List.{length-drop, take_at, take-append-le, length-take-le, drop_all}
+use Rattle.std.specs.FinMap.{nat_cmp-IsAntisymmetric}
+use Rattle.std.specs.Ordering.{nat_cmp}
+use Rattle.std.specs.Option.{option_map}
 use Rattle.std.specs.Result.{IsOk}
 use Rattle.line_words.specs.Table.{at_number}
+use Rattle.line_words.proofs.Tables.{at-change}
 use Rattle.lobby_model.specs.declared.event.Event.TheVariants as event
 use Rattle.lobby_model.specs.State.{State, Client}
+use Rattle.lobby_model.specs.Sessions.{drained}
 use Rattle.lobby_model.specs.Next.{next, taken_by, taken_from}
 use Rattle.lobby_model.proofs.Delivered.{same_itself}
+use Rattle.lobby_model.proofs.Quiet.{next_drain}
 use Rattle.lobby_machine.specs.Shown.{unread_of, unread_in, is_finished}
 use Rattle.lobby_lock.specs.Passes.{ShownPass, ShownHold, pass_after}
 use Rattle.lobby_turns.specs.declared.holds.Piece.{Piece}
 use Rattle.lobby_turns.specs.Wire.{Wire}
-use Rattle.lobby_turns.specs.Moments.{moment, drained_for, tells_end, told_end}
+use Rattle.lobby_turns.specs.Moments.{Moment, moment, drained_for, tells_end, told_end}
 use Rattle.lobby_turns.specs.Seat.{Carried, seat}
-use Rattle.lobby_turns.specs.Holds.{Stands, Drains, DrainedInto}
-use Rattle.lobby_turns.proofs.Joins.{IsTaken, held_none, joined_then, joined_more}
+use Rattle.lobby_turns.specs.Talk.{AreDrains}
+use Rattle.lobby_turns.specs.Went.{Joined}
+use Rattle.lobby_turns.specs.Holds.{Stands, Drains, HasNoneFor, DrainedInto, LetsGo}
+use Rattle.lobby_turns.proofs.Joins.{IsTaken, held_none, joined_none, joined_then, joined_more, stands_more}
 use Rattle.lobby_turns.proofs.Parts.{drained-append, went_drains}
 use Rattle.lobby_turns.proofs.Talks.{are_drains-append, told_end-append, dry_behind, or_false}
 
@@ -88,6 +96,19 @@ drained_none conn wire p q c into piece same d =
       dry_is = λ e. absurd (true≢false (sym e));
     }
 
+drained_all : (n : ℕ) (o : Option Client) → length (unread_in o) ≤ n → unread_in (option_map (drained n) o) ≡ []
+drained_all n None few = refl
+drained_all n (Some client) few = drop_all n client.unread few
+
+-- behind a drain that got less than it asked for nothing is left
+none_left : (s : State) (c n count : ℕ) → count ≡ min (length (unread_of s c)) n → count < n → unread_of (next s (event.Drain c n)) c ≡ []
+none_left s c n count count_is less =
+    let few : length (unread_of s c) ≤ n = omega (arith, count_is, less) in
+    ap (λ t. unread_of t c) (next_drain s c n)
+    ∙ ap unread_in (at-change nat_cmp nat_cmp-IsAntisymmetric (drained n) s.clients c c)
+    ∙ ap (λ b. unread_in (option_map (λ x. if b then drained n x else x) (at_number s.clients c))) (same_itself c)
+    ∙ drained_all n (at_number s.clients c) few
+
 -- a drain of a hold that goes on
 pub drained_once : (h k : ShownHold) (c n : ℕ) (into rest : List ℕ) (piece : Piece) → Stands h → k ≡ record h { lobby = k.lobby; events = h.events ++ event.Drain c n ∷ [] }
     → k.lobby.plain ≡ next h.lobby.plain (event.Drain c n) → piece.count ≡ min (length (unread_of h.lobby.plain c)) n
@@ -102,6 +123,7 @@ drained_once h k c n into rest piece stands one goes count given finished dry = 
   bytes = bytes ∙ sym (append-nil (taken_by h.lobby.plain (event.Drain c n) c));
   finished_is = or_false (tells_end h.lobby.plain (event.Drain c n)) ∙ ap (λ s. is_finished s c) (sym goes) ∙ sym finished;
   dry_is = λ e some. ([], h.lobby.plain, n, refl, some, sym bytes ∙ ap (λ x. take x into) (dry e));
+  all = λ less. ap (λ s. unread_of s c) (sym (stands_more h k (event.Drain c n) stands one goes) ∙ goes) ∙ none_left h.lobby.plain c n piece.count count less;
 }
   where
     bytes : take piece.count into ≡ taken_by h.lobby.plain (event.Drain c n) c
@@ -131,6 +153,7 @@ drained_twice p q r c n m front back tail first rest both h k goes_on some lengt
       ∙ sym (drained-append c h.talk k.talk);
   finished_is = told_end-append h.talk k.talk ∙ ap (λ b. b || told_end k.talk) (h.finished_is ∙ goes_on) ∙ k.finished_is ∙ sym finished;
   dry_is = λ e _. dry_behind c h.talk k.talk (k.dry_is (sym dry ∙ e) some);
+  all = λ less. k.all (omega (arith, count, lengths, less));
 }
   where
     long : length (take first.count front) ≡ first.count
@@ -149,9 +172,60 @@ drained_held p q h k c n into piece taken is d =
       bytes = d.bytes;
       finished_is = d.finished_is;
       dry_is = d.dry_is;
+      all = d.all;
     })
 
 -- what was copied behind nothing
 pub copied : {A B : Type 0} (r : Result A B) (new old piece : List ℕ) → IsOk r → new ≡ (if is_ok r then old ++ piece else old) → old ≡ [] → new ≡ piece
 copied (Ok x) new old piece ok is none = is ∙ ap (λ l. l ++ piece) none
 copied (Err x) new old piece ok is none = absurd (true≢false (sym ok))
+
+-- ---- letting go
+
+-- so many pieces were drained, each of them full
+pub record LetsFull (old new : ShownPass) (c pieces : ℕ) : Type 0 where
+  pub talk : List Moment
+  pub joined : Joined old new talk
+  pub own : AreDrains c talk
+  pub full : length (drained_for c talk) ≡ 4096 * pieces
+
+pub lets_none : (p : ShownPass) (c : ℕ) → LetsFull p p c 0
+lets_none p c = record { talk = []; joined = joined_none p; own = tt; full = refl }
+
+module _ (p q r : ShownPass) (c d pieces : ℕ) (into : List ℕ) (piece : Piece) (same : d ≡ c) (h : LetsFull p q c pieces) (k : DrainedInto q r d 4096 into piece) where
+  own_piece : DrainedInto q r c 4096 into piece
+  own_piece = subst (λ (x : ℕ). DrainedInto q r x 4096 into piece) same k
+
+  -- another full piece
+  pub lets_full : 4096 ≤ piece.count → LetsFull p r c (pieces + 1)
+  lets_full enough =
+      let e = own_piece in
+      let came : length (drained_for c e.talk) ≡ piece.count = ap length (sym e.bytes) ∙ length-take-le piece.count into e.few in
+      let both : length (drained_for c (h.talk ++ e.talk)) ≡ length (drained_for c h.talk) + length (drained_for c e.talk) =
+      ap length (drained-append c h.talk e.talk) ∙ length-append (drained_for c h.talk) (drained_for c e.talk) in
+      record {
+        talk = h.talk ++ e.talk;
+        joined = joined_then p q r h.talk e.talk h.joined e.joined;
+        own = are_drains-append c h.talk e.talk h.own e.own;
+        full = omega (arith, both, came, h.full, enough, e.within);
+      }
+
+  -- a piece that is not full, behind which nothing is left
+  pub lets_last : piece.count < 4096 → LetsGo p r c
+  lets_last less =
+      let e = own_piece in
+      record {
+        talk = h.talk ++ e.talk;
+        joined = joined_then p q r h.talk e.talk h.joined e.joined;
+        own = are_drains-append c h.talk e.talk h.own e.own;
+        enough = inl (e.all less);
+      }
+
+-- as many pieces as may be let go at once
+pub lets_most : (p q : ShownPass) (c pieces : ℕ) → 1024 ≤ pieces → LetsFull p q c pieces → LetsGo p q c
+lets_most p q c pieces most h = record {
+  talk = h.talk;
+  joined = h.joined;
+  own = h.own;
+  enough = inr (omega (arith, h.full, most));
+}

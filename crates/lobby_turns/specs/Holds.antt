@@ -1,9 +1,11 @@
 -- What a hold of a turn did.
-use Rattle.std.specs.Prelude.{◌≡◌, ℕ, ◌<◌, ◌≤◌, Bool, true, false, List, [], ◌∷◌, length, take}
+use Rattle.std.specs.Prelude.{◌≡◌, ◌⊎◌, ℕ, ◌<◌, ◌≤◌, Bool, true, false, List, [], ◌∷◌, length, take}
 use Rattle.lobby_model.specs.declared.event.Event.{Event}
 use Rattle.lobby_model.specs.State.{State}
 use Rattle.lobby_post.specs.Mask.{has_home}
 use Rattle.lobby_post.specs.Mail.{IsWakes}
+use Rattle.lobby_machine.specs.Shown.{unread_of}
+use Rattle.lobby_lock.specs.History.{after_history}
 use Rattle.lobby_lock.specs.Passes.{ShownPass, ShownHold, lobby_after}
 use Rattle.lobby_turns.specs.declared.holds.Said.{Said}
 use Rattle.lobby_turns.specs.declared.holds.Piece.{Piece}
@@ -47,7 +49,11 @@ pub record Drains (old new : Seat) (finished dry : Bool) : Type 0 where
   pub finished_is : told_end talk ≡ finished
   pub dry_is : dry ≡ true → EndsDry old.conn.session.client talk
 
--- the same of a pass alone, for client c into a slice of n bytes: those that came stand at its front
+-- nothing waits unread for client c, in the plain lobby after all that the pass has seen
+abbrev pub HasNoneFor : ℕ → ShownPass → Type 0
+HasNoneFor c pass = unread_of (after_history pass.start pass.worker.seen) c ≡ []
+
+-- the same of a pass alone, for client c into a slice of n bytes: those that came stand at its front, and where fewer came, these were all
 pub record DrainedInto (old new : ShownPass) (c n : ℕ) (into : List ℕ) (piece : Piece) : Type 0 where
   pub talk : List Moment
   pub joined : Joined old new talk
@@ -57,3 +63,11 @@ pub record DrainedInto (old new : ShownPass) (c n : ℕ) (into : List ℕ) (piec
   pub bytes : take piece.count into ≡ drained_for c talk
   pub finished_is : told_end talk ≡ piece.finished
   pub dry_is : piece.dry ≡ true → 0 < n → EndsDry c talk
+  pub all : piece.count < n → HasNoneFor c new
+
+-- it drained for client c, and did nothing else, until nothing was left unread for that client, or 4 MiB were drained
+pub record LetsGo (old new : ShownPass) (c : ℕ) : Type 0 where
+  pub talk : List Moment
+  pub joined : Joined old new talk
+  pub own : AreDrains c talk
+  pub enough : HasNoneFor c new ⊎ (4194304 ≤ length (drained_for c talk))

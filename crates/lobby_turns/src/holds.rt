@@ -10,7 +10,7 @@ ghost use Rattle.client_session.specs.OneSession.{IsNextOf};
 ghost use Rattle.lobby_turns.specs.Wire.{Wire};
 ghost use Rattle.lobby_turns.specs.Seat.{seat};
 ghost use Rattle.lobby_turns.specs.Went.{Went};
-ghost use Rattle.lobby_turns.specs.Holds.{Stands, Made, SaysLines, IsWithin, Drains, DrainedInto};
+ghost use Rattle.lobby_turns.specs.Holds.{Stands, Made, SaysLines, IsWithin, Drains, DrainedInto, LetsGo};
 
 use crate::conn::{Conn, PIECE};
 use crate::gate::Gate;
@@ -237,6 +237,29 @@ pub(crate) fn is_finished<R: Wait, G: Gate>(
 {
     let (pass, piece) = drain_into(rt, conn.client(), desk, pass, gate, &mut []);
     (pass, piece.finished)
+}
+
+/// The most pieces that are let go at once, 4 MiB in all.
+const PIECES: usize = 1_024;
+
+/// Lets go what waits unread for a client: all of it, or 4 MiB where there is more. It takes no memory. It is for a client whose link
+/// has failed and whose shut was refused memory: what it will never read makes room for what others are told.
+pub fn let_go<R: Wait, G: Gate>(rt: &R, conn: &Conn, desk: &Desk, pass: Pass, gate: &G) -> Pass
+    requires { pass.desk ≡ desk.now }
+    ensures lets_go { LetsGo pass result conn.now.session.client }
+    ensures desk { result.desk ≡ pass.desk }
+    ensures number { result.worker.number ≡ pass.worker.number }
+{
+    let mut pass = pass;
+    for _ in 0..PIECES {
+        let mut piece = [0u8; PIECE];
+        let (next, drained) = drain_into(rt, conn.client(), desk, pass, gate, &mut piece);
+        pass = next;
+        if drained.count < PIECE {
+            return pass;
+        }
+    }
+    pass
 }
 
 /// Shuts the client.

@@ -19,7 +19,7 @@ mod turn;
 
 pub use conn::{Conn, PIECE};
 pub use gate::Gate;
-pub use holds::shut;
+pub use holds::{let_go, shut};
 pub use link::{Got, Link, Sent};
 pub use memory::MemoryLink;
 pub use serving::serve;
