@@ -4,10 +4,10 @@
 //! tells and of who is woken when nothing is proved but that it is safe.
 #![tactic(auto)]
 
-mod connections;
 mod crew;
 mod error;
 mod server;
+mod turns;
 mod worker;
 
 pub use error::ServerError;

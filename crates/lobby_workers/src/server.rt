@@ -3,9 +3,9 @@
 ghost use Rattle.std.specs.Prelude.{◌≡◌, ◌≤◌, [], IfOk, IfErr, OnOk, vec_len, vec_capacity};
 ghost use Rattle.std.specs.List.{All};
 
-use crate::connections::Shared;
 use crate::crew::Crew;
 use crate::error::ServerError;
+use crate::turns::Shared;
 use crate::worker::{Station, run_worker};
 use account_book::AccountBook;
 use lobby_lock::{Closing, Count, Desk, DeskError, Pass};

@@ -2,9 +2,10 @@
 
 ghost use Rattle.std.specs.Prelude.{◌≡◌};
 
-use crate::connections::{Connections, Pause, Shared};
 use crate::crew::{Arrival, Crew};
 use crate::error::ServerError;
+use crate::turns::{self, Shared};
+use lobby_connections::{Connections, Pause};
 use lobby_lock::Pass;
 use lobby_turns::Gate;
 use mio::net::TcpListener;
@@ -140,7 +141,8 @@ impl Station {
                 return pass;
             };
             let registry = self.poll.registry();
-            pass = self.connections.adopt(rt, shared, pass, registry, arrival);
+            let connections = &mut self.connections;
+            pass = turns::adopt(rt, shared, pass, connections, registry, arrival);
         }
         pass
     }
@@ -152,11 +154,15 @@ impl Station {
         ensures number { result.worker.number ≡ pass.worker.number }
     {
         let registry = self.poll.registry();
+        let connections = &mut self.connections;
         let mut pass = pass;
         for event in &self.events {
             let token = event.token();
-            if !self.connections.let_go(registry, token) {
-                pass = self.connections.turn(rt, shared, pass, registry, token.0);
+            if !connections.let_go(registry, token) {
+                if event.is_write_closed() {
+                    connections.lose(token.0);
+                }
+                pass = turns::turn(rt, shared, pass, connections, registry, token.0);
             }
         }
         pass
@@ -168,7 +174,7 @@ impl Station {
         ensures desk { result.desk ≡ pass.desk }
         ensures number { result.worker.number ≡ pass.worker.number }
     {
-        let pass = self.connections.look_for_own(rt, shared, pass);
+        let pass = turns::look_for_own(rt, shared, pass, &mut self.connections);
         let timeout = self.connections.pause().timeout();
         let polled = self.poll.poll(&mut self.events, timeout);
         let news = self.news();
@@ -184,14 +190,15 @@ impl Station {
         }
         let pass = if news.woken {
             let pass = self.look_into_inbox(rt, shared, pass);
-            self.connections.take_names(rt, shared, pass)
+            turns::take_names(rt, shared, pass, &mut self.connections)
         } else {
             pass
         };
         let registry = self.poll.registry();
+        let connections = &mut self.connections;
         // Before all other turns: whom these leave over is left for the next round.
-        let pass = self.connections.turn_left(rt, shared, pass, registry);
-        let pass = self.connections.turn_named(rt, shared, pass, registry);
+        let pass = turns::turn_left(rt, shared, pass, connections, registry);
+        let pass = turns::turn_named(rt, shared, pass, connections, registry);
         self.turn_ready(rt, shared, pass)
     }
 }
@@ -258,7 +265,7 @@ pub fn run_worker<R: Wait, G: Gate>(
         }
         pass = station.go_round(rt, shared, pass);
     }
-    let pass = station.connections.shut_all(rt, shared, pass);
+    let pass = turns::shut_all(rt, shared, pass, &station.connections);
     drop(station);
     pass
 }

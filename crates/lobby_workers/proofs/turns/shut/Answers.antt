@@ -1,5 +1,5 @@
 use Rattle.lobby_turns.proofs.Kept.{kept, unused}
-use Rattle.lobby_workers.proofs.connections.shut.Goals as goal
+use Rattle.lobby_workers.proofs.turns.shut.Goals as goal
 
 pub returns-in-Ok : goal.returns-in-Ok
 returns-in-Ok g c = let made = rw c.in-Ok.is at c.shut-pass.ensures.ok in kept _ _ _ (made unused).went.joined

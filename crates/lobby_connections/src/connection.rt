@@ -1,0 +1,53 @@
+//! The connection of a client.
+
+ghost use Rattle.std.specs.Prelude.{◌≡◌, true};
+
+use lobby_turns::{Conn, Got, Link, Sent};
+use wire_link::WireLink;
+
+/// A client and its link.
+#[derive(Drop)]
+pub struct Connection {
+    pub conn: Conn,
+    pub link: WireLink,
+    // the last round in which it got a turn
+    pub(crate) round: u64,
+    // a poll told that its link is gone
+    pub(crate) is_gone: bool,
+    // its link is gone and memory was refused since
+    is_over: bool,
+}
+
+impl Connection {
+    /// A connection that had its last turn in this round.
+    pub(crate) fn new(conn: Conn, link: WireLink, round: u64) -> Connection {
+        Connection {
+            conn,
+            link,
+            round,
+            is_gone: false,
+            is_over: false,
+        }
+    }
+
+    /// Whether its client is only to be shut, and no more to be served: its link is gone, and memory was refused since.
+    pub fn is_over(&self) -> bool
+        ensures { result ≡ self.now.is_over }
+    {
+        self.is_over
+    }
+
+    /// Memory was refused in its turn. Whether its link is gone: then it is over from now on.
+    pub fn refuse(&mut self) -> bool
+        ensures over { result ≡ self.new.is_over }
+        ensures stays { self.old.is_over ≡ true → self.new.is_over ≡ true }
+    {
+        self.is_over |= self.is_gone || has_failed(&self.link);
+        self.is_over
+    }
+}
+
+/// Whether a link failed at its last read or its last write.
+fn has_failed(link: &WireLink) -> bool {
+    link.last_got() == Some(Got::Fault) || link.last_sent() == Some(Sent::Fault)
+}

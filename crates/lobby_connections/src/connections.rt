@@ -1,0 +1,332 @@
+//! The connections of a worker, and who gets the next turn.
+
+ghost use Rattle.std.specs.Prelude.{◌≡◌, ◌<◌, ◌≤◌, [], true, false, length, slice_index_or, OnOk, OnSome};
+ghost use Rattle.lobby_connections.specs.Table.{Leaves, Stays};
+
+use crate::connection::Connection;
+use crate::pause::Pause;
+use lobby_lock::{Held, MOST_EVENTS};
+use lobby_machine::Wakes;
+use lobby_turns::{Conn, TurnState};
+use mio::net::TcpStream;
+use mio::{Registry, Token};
+use slab::Slab;
+use std::alloc::{AllocError, Global};
+use std::collections::HashMap;
+use std::marker::Model;
+use std::mem;
+use wire_link::{Lingering, WireLink};
+
+/// The most names that are taken in a hold, so that no other worker waits long for the lobby.
+pub const NAMES_IN_HOLD: usize = 64;
+
+/// The connections of a worker, each under the key that its events bear. A worker goes round again
+/// and again, and gives each connection one turn in a round at most.
+#[derive(Drop)]
+pub struct Connections {
+    alloc: Global,
+    slab: Slab<Connection>,
+    // the key of each client's connection, by the client's number
+    keys: HashMap<u64, usize>,
+    round: u64,
+    // the clients that were named as changed, for the turns to come; there is room for all
+    named: Vec<u64>,
+    // whether the lobby may name more, of which no other worker tells
+    is_marked: bool,
+    // who stopped at a limit or for want of memory in the round before, and so gets a turn though nothing new comes
+    due: Vec<usize>,
+    // whether someone found no place in that list
+    is_each_due: bool,
+    // the same of this round
+    left: Vec<usize>,
+    is_each_left: bool,
+    // those whose clients were shut
+    lingering: Lingering,
+    pause: Pause,
+}
+
+impl Model for Connections {
+    ghost use Rattle.std.specs.Prelude.{◌-◌, min};
+    ghost use Rattle.std.specs.HashMap.{spare};
+    ghost use Rattle.slab.specs.Slab.{slab_len};
+    ghost use Rattle.lobby_connections.specs.Table.{Table};
+
+    ghost Value = { Table };
+
+    ghost view = { λ c. record { due = c.due.items; is_each_due = c.is_each_due; left = c.left.items; is_each_left = c.is_each_left; room = min (c.slab.capacity - slab_len c.slab) (spare c.keys) } };
+}
+
+impl Connections {
+    /// No connection.
+    pub fn new(alloc: Global) -> Connections
+        ensures due { (result.due ≡ []) × (result.is_each_due ≡ false) }
+        ensures left { (result.left ≡ []) × (result.is_each_left ≡ false) }
+    {
+        Connections {
+            alloc,
+            slab: Slab::new(alloc),
+            keys: HashMap::new(alloc),
+            round: 1,
+            named: Vec::new(alloc),
+            is_marked: false,
+            due: Vec::new(alloc),
+            is_each_due: false,
+            left: Vec::new(alloc),
+            is_each_left: false,
+            lingering: Lingering::new(alloc),
+            pause: Pause::Long,
+        }
+    }
+
+    /// How long the worker may wait before the next round.
+    pub fn pause(&self) -> Pause {
+        self.pause
+    }
+
+    /// Has the worker wait no longer than this before the next round.
+    pub fn hurry(&mut self, pause: Pause)
+        ensures { self.new ≡ self.old }
+    {
+        self.pause = self.pause.or(pause);
+    }
+
+    /// A round begins: those are due who were left in the round before.
+    pub fn begin_round(&mut self)
+        ensures due { (self.new.due ≡ self.old.left) × (self.new.is_each_due ≡ self.old.is_each_left) }
+        ensures left { (self.new.left ≡ []) × (self.new.is_each_left ≡ false) }
+        ensures room { self.new.room ≡ self.old.room }
+    {
+        self.round = self.round.wrapping_add(1);
+        self.pause = Pause::Long;
+        self.due.clear();
+        mem::swap(&mut self.due, &mut self.left);
+        self.is_each_due = self.is_each_left;
+        self.is_each_left = false;
+    }
+
+    /// How many connections there are.
+    pub fn len(&self) -> usize {
+        self.slab.len()
+    }
+
+    /// More than any key of a connection.
+    pub fn places(&self) -> usize {
+        self.slab.capacity()
+    }
+
+    /// How many are due in this round. Where someone found no place in the list of those, each is.
+    pub fn due(&self) -> usize
+        ensures { self.now.is_each_due ≡ false → result ≡ length self.now.due }
+    {
+        if self.is_each_due {
+            self.slab.capacity()
+        } else {
+            self.due.len()
+        }
+    }
+
+    /// The key of one that is due in this round, by its place from 0. Of a place that is not below `due` it is 0.
+    pub fn due_at(&self, place: usize) -> usize
+        ensures each { self.now.is_each_due ≡ true → result ≡ place }
+        ensures listed { self.now.is_each_due ≡ false → result ≡ slice_index_or self.now.due place 0 }
+    {
+        if self.is_each_due {
+            return place;
+        }
+        match self.due.get(place) {
+            Some(key) => *key,
+            None => 0,
+        }
+    }
+
+    /// Room for one connection more: for itself, its key and its name. Fails only where memory is refused.
+    fn make_room(&mut self) -> Result<(), AllocError>
+        ensures room { OnOk result (0 < self.new.room) }
+        ensures rest { Stays self.old self.new }
+    {
+        self.slab.reserve(1)?;
+        self.keys.reserve(1)?;
+        let more = self.slab.capacity().saturating_sub(self.named.len());
+        self.named.reserve(more)
+    }
+
+    /// A connection comes: from now on a poll tells of it under its key, and there is room for it. None, and it is closed, where the
+    /// system or memory does not allow it.
+    pub fn prepare(&mut self, registry: &Registry, stream: TcpStream) -> Option<WireLink>
+        ensures room { OnSome result (0 < self.new.room) }
+        ensures rest { Stays self.old self.new }
+    {
+        if self.make_room().is_err() {
+            return None;
+        }
+        // A line is to leave at once, also while an earlier one is on its way.
+        let _ = stream.set_nodelay(true);
+        let mut link = WireLink::new(stream);
+        let key = self.slab.vacant_key();
+        match link.register(registry, Token(key)) {
+            Ok(()) => Some(link),
+            Err(_) => None,
+        }
+    }
+
+    /// Takes in a connection that was prepared, behind which none was, and whose client was opened.
+    pub fn put(&mut self, client: u64, link: WireLink)
+        requires { 0 < self.old.room }
+        ensures { Stays self.old self.new }
+    {
+        let conn = Conn::new(self.alloc, client);
+        let connection = Connection::new(conn, link, self.round.wrapping_sub(1));
+        let key = self.slab.insert_reserved(connection);
+        match self.keys.insert(client, key) {
+            Ok(_) => {}
+            Err(_) => unreachable!(),
+        }
+    }
+
+    /// Lets go what came for a connection that lingers. Whether a poll's token is of one.
+    pub fn let_go(&mut self, registry: &Registry, token: Token) -> bool
+        ensures { self.new ≡ self.old }
+    {
+        self.lingering.turn(registry, token)
+    }
+
+    /// The link of the connection under a key is gone, as a poll told. Nothing happens where there is none.
+    pub fn lose(&mut self, key: usize)
+        ensures { self.new ≡ self.old }
+    {
+        if let Some(connection) = self.slab.get_mut(key) {
+            connection.is_gone = true;
+        }
+    }
+
+    /// The client of the connection under a key.
+    pub fn conn_at(&self, key: usize) -> Option<&Conn> {
+        match self.slab.get(key) {
+            Some(connection) => Some(&connection.conn),
+            None => None,
+        }
+    }
+
+    /// The connection under a key, whose turn of this round begins. None where there is none, or it had its turn.
+    pub fn begin_turn(&mut self, key: usize) -> Option<&mut Connection> {
+        let connection = self.slab.get_mut(key)?;
+        if connection.round == self.round {
+            return None;
+        }
+        connection.round = self.round;
+        Some(connection)
+    }
+
+    /// Sees to it that a connection goes on as its turn ended: where it stopped at a limit or for want of memory, it is left for the
+    /// next round. One whose client was shut lingers.
+    pub fn end_turn(&mut self, registry: &Registry, key: usize, state: TurnState)
+        ensures again { state ≡ TurnState.Again → Leaves self.old self.new key }
+        ensures memory { state ≡ TurnState.Memory → Leaves self.old self.new key }
+        ensures idle { state ≡ TurnState.Idle → self.new ≡ self.old }
+        ensures closed { state ≡ TurnState.Closed → Stays self.old self.new }
+    {
+        match state {
+            TurnState::Idle => {}
+            TurnState::Again => self.leave(key, Pause::None),
+            TurnState::Memory => self.leave(key, Pause::Short),
+            TurnState::Closed => self.close(registry, key),
+        }
+    }
+
+    /// A connection is left for the next round.
+    fn leave(&mut self, key: usize, pause: Pause)
+        ensures { Leaves self.old self.new key }
+    {
+        self.hurry(pause);
+        if self.left.push(key).is_err() {
+            self.is_each_left = true;
+        }
+    }
+
+    /// A connection whose client was shut goes on as one that lingers.
+    fn close(&mut self, registry: &Registry, key: usize)
+        ensures { Stays self.old self.new }
+    {
+        if let Some(connection) = self.slab.try_remove(key) {
+            let Connection { conn, link, .. } = connection;
+            self.keys.remove(&conn.client());
+            drop(conn);
+            self.lingering.begin(registry, link);
+        }
+    }
+
+    /// Marks the worker where a turn touched its clients, which are those of this home: the lobby may name more of them.
+    pub fn mark(&mut self, home: u8, wakes: Wakes)
+        requires { home ≤ 63 }
+        ensures { self.new ≡ self.old }
+    {
+        self.is_marked |= wakes.has(home);
+    }
+
+    /// Whether the lobby may name more clients, of which no other worker tells.
+    pub fn is_marked(&self) -> bool {
+        self.is_marked
+    }
+
+    /// Says whether the lobby may name more clients.
+    pub fn set_marked(&mut self, is_marked: bool)
+        ensures { self.new ≡ self.old }
+    {
+        self.is_marked = is_marked;
+    }
+
+    /// Takes names of changed clients in a hold that goes on, while there is room, and keeps those of clients
+    /// for which a turn has something to do. Whether these are all.
+    pub fn take_names(&mut self, held: &mut Held, home: u8) -> bool
+        requires { home ≤ 63 }
+        ensures pass { held.new.pass ≡ held.old.pass }
+        ensures table { self.new ≡ self.old }
+    {
+        names_in(held, home, &mut self.named)
+    }
+
+    /// How many clients are named.
+    pub fn named(&self) -> usize {
+        self.named.len()
+    }
+
+    /// The key of the connection of one that is named, by its place from 0. None where there is none: it has gone meanwhile.
+    pub fn named_at(&self, place: usize) -> Option<usize> {
+        self.keys.get(self.named.get(place)?).copied()
+    }
+
+    /// Nobody is named any more.
+    pub fn forget_named(&mut self)
+        ensures { self.new ≡ self.old }
+    {
+        self.named.clear();
+    }
+}
+
+/// Takes names of changed clients in a hold that goes on, while there is room, and keeps those of clients
+/// for which a turn has something to do. Whether these are all.
+fn names_in(held: &mut Held, home: u8, named: &mut Vec<u64>) -> bool
+    requires { home ≤ 63 }
+    ensures { held.new.pass ≡ held.old.pass }
+{
+    for _ in 0..NAMES_IN_HOLD {
+        if named.len() == named.capacity() || held.count() >= MOST_EVENTS {
+            return false;
+        }
+        match held.next_dirty(home) {
+            Some(client) if has_news(held, client) => named.push_reserved(client),
+            Some(_) => {}
+            None => return true,
+        }
+    }
+    false
+}
+
+/// Whether bytes wait for a client, or nothing will ever come of it. Who was told everything in the turn
+/// that touched it has no news.
+fn has_news(held: &mut Held, client: u64) -> bool
+    requires { length held.old.events < MOST_EVENTS }
+    ensures { held.new.pass ≡ held.old.pass }
+{
+    held.unread(client) > 0 || held.drain(client, &mut []).finished
+}

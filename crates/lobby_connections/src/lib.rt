@@ -1,0 +1,12 @@
+//! The connections of a worker: each client's with its link, who gets the next turn, and those that linger.
+//!
+//! Nothing here waits: a worker takes the lobby itself, and makes the turns (`lobby_workers`).
+#![tactic(auto)]
+
+mod connection;
+mod connections;
+mod pause;
+
+pub use connection::Connection;
+pub use connections::{Connections, NAMES_IN_HOLD};
+pub use pause::Pause;

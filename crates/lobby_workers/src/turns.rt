@@ -1,0 +1,295 @@
+//! The turns of a worker's connections. A worker takes the lobby for them, which may wait.
+
+ghost use Rattle.std.specs.Prelude.{◌≡◌, [], ◌∷◌, ◌++◌, min, OnOk, OnErr};
+ghost use Rattle.lobby_model.specs.declared.event.Event.TheVariants as event;
+
+use crate::crew::{Arrival, Crew};
+use lobby_connections::{Connection, Connections, NAMES_IN_HOLD, Pause};
+use lobby_lock::{Desk, Pass};
+use lobby_machine::{OpenError, Wakes};
+use lobby_turns::{Conn, Gate, Link, Turn, TurnState, serve};
+use mio::Registry;
+use std::sync::Wait;
+
+/// The greatest number of a worker.
+const LAST_WORKER: u64 = 63;
+
+/// What all workers of a server use.
+#[derive(Drop)]
+pub struct Shared<'a, G> {
+    /// Where the lobby lies.
+    pub desk: &'a Desk,
+    pub crew: &'a Crew,
+    pub gate: &'a G,
+}
+
+/// A connection begins: its client is opened, with its worker's number as home. It is closed
+/// without a byte where its client is refused, or the system or memory do not allow it.
+pub fn adopt<R: Wait, G: Gate>(
+    rt: &R,
+    shared: &Shared<'_, G>,
+    pass: Pass,
+    connections: &mut Connections,
+    registry: &Registry,
+    arrival: Arrival,
+) -> Pass
+    requires { pass.desk ≡ shared.now.desk.now }
+    ensures desk { result.desk ≡ pass.desk }
+    ensures number { result.worker.number ≡ pass.worker.number }
+{
+    let Arrival { stream, ip } = arrival;
+    let Some(link) = connections.prepare(registry, stream) else {
+        return pass;
+    };
+    let (pass, opened) = open(rt, shared, pass, ip);
+    match opened {
+        Ok(client) => connections.put(client, link),
+        Err(_) => drop(link),
+    }
+    pass
+}
+
+/// The connection under a key gets its turn of this round. Nothing happens where there is none.
+pub fn turn<R: Wait, G: Gate>(
+    rt: &R,
+    shared: &Shared<'_, G>,
+    pass: Pass,
+    connections: &mut Connections,
+    registry: &Registry,
+    key: usize,
+) -> Pass
+    requires { pass.desk ≡ shared.now.desk.now }
+    ensures desk { result.desk ≡ pass.desk }
+    ensures number { result.worker.number ≡ pass.worker.number }
+{
+    let Some(connection) = connections.begin_turn(key) else {
+        return pass;
+    };
+    let (pass, turn) = serve_or_shut(rt, shared, pass, connection);
+    connections.end_turn(registry, key, turn.state);
+    pass_on(shared, connections, pass.number(), turn.wakes);
+    pass
+}
+
+/// Tells the workers whose clients a turn touched: the others by their wakers, this one by its mark.
+fn pass_on<G: Gate>(
+    shared: &Shared<'_, G>,
+    connections: &mut Connections,
+    worker: u64,
+    wakes: Wakes,
+) {
+    connections.mark(home_of(worker), wakes);
+    shared.crew.wake_others(worker, wakes);
+}
+
+/// Those get their turn that were left in the round before. It is called before any other turn of a round: who is
+/// left over in this one would lose its place in the list, since it gets no second turn.
+pub fn turn_left<R: Wait, G: Gate>(
+    rt: &R,
+    shared: &Shared<'_, G>,
+    pass: Pass,
+    connections: &mut Connections,
+    registry: &Registry,
+) -> Pass
+    requires { pass.desk ≡ shared.now.desk.now }
+    ensures desk { result.desk ≡ pass.desk }
+    ensures number { result.worker.number ≡ pass.worker.number }
+{
+    let mut pass = pass;
+    for place in 0..connections.due() {
+        let key = connections.due_at(place);
+        pass = turn(rt, shared, pass, connections, registry, key);
+    }
+    pass
+}
+
+/// Those get their turn who were named.
+pub fn turn_named<R: Wait, G: Gate>(
+    rt: &R,
+    shared: &Shared<'_, G>,
+    pass: Pass,
+    connections: &mut Connections,
+    registry: &Registry,
+) -> Pass
+    requires { pass.desk ≡ shared.now.desk.now }
+    ensures desk { result.desk ≡ pass.desk }
+    ensures number { result.worker.number ≡ pass.worker.number }
+{
+    let mut pass = pass;
+    for place in 0..connections.named() {
+        if let Some(key) = connections.named_at(place) {
+            pass = turn(rt, shared, pass, connections, registry, key);
+        }
+    }
+    connections.forget_named();
+    pass
+}
+
+/// Before the worker waits: where its own turns touched its clients, takes the names of those, and has
+/// it not wait if there are any.
+pub fn look_for_own<R: Wait, G: Gate>(
+    rt: &R,
+    shared: &Shared<'_, G>,
+    pass: Pass,
+    connections: &mut Connections,
+) -> Pass
+    requires { pass.desk ≡ shared.now.desk.now }
+    ensures desk { result.desk ≡ pass.desk }
+    ensures number { result.worker.number ≡ pass.worker.number }
+{
+    if !connections.is_marked() {
+        return pass;
+    }
+    let pass = take_names(rt, shared, pass, connections);
+    if connections.is_marked() || connections.named() > 0 {
+        connections.hurry(Pause::None);
+    }
+    pass
+}
+
+/// Takes the names of changed clients, as many as there is room for, and is marked where there may be
+/// more. It is called between rounds or before the first turn of one: what changes behind a client's
+/// turn gets it a turn in the next round.
+pub fn take_names<R: Wait, G: Gate>(
+    rt: &R,
+    shared: &Shared<'_, G>,
+    pass: Pass,
+    connections: &mut Connections,
+) -> Pass
+    requires { pass.desk ≡ shared.now.desk.now }
+    ensures desk { result.desk ≡ pass.desk }
+    ensures number { result.worker.number ≡ pass.worker.number }
+{
+    connections.set_marked(false);
+    let count = connections.len();
+    // Without a connection nobody is named.
+    if count == 0 {
+        return pass;
+    }
+    let mut pass = pass;
+    for _ in 0..=count / NAMES_IN_HOLD {
+        let (after, are_all) = take_some_names(rt, shared, pass, connections);
+        pass = after;
+        if are_all {
+            return pass;
+        }
+    }
+    connections.set_marked(true);
+    pass
+}
+
+/// Shuts the clients of all connections. A client whose shut is refused memory is left out.
+pub fn shut_all<R: Wait, G: Gate>(
+    rt: &R,
+    shared: &Shared<'_, G>,
+    pass: Pass,
+    connections: &Connections,
+) -> Pass
+    requires { pass.desk ≡ shared.now.desk.now }
+    ensures desk { result.desk ≡ pass.desk }
+    ensures number { result.worker.number ≡ pass.worker.number }
+{
+    let mut pass = pass;
+    for key in 0..connections.places() {
+        if let Some(conn) = connections.conn_at(key) {
+            let (after, turn) = shut(rt, shared, pass, conn);
+            pass = after;
+            shared.crew.wake_others(pass.number(), turn.wakes);
+        }
+    }
+    pass
+}
+
+/// A worker as the home of its clients. No desk hands out a greater number than 63.
+fn home_of(worker: u64) -> u8
+    ensures { result ≡ min worker 63 }
+{
+    worker.min(LAST_WORKER) as u8
+}
+
+/// Takes names of changed clients in one hold. Whether these are all.
+fn take_some_names<R: Wait, G: Gate>(
+    rt: &R,
+    shared: &Shared<'_, G>,
+    pass: Pass,
+    connections: &mut Connections,
+) -> (Pass, bool)
+    requires { pass.desk ≡ shared.now.desk.now }
+    ensures desk { result.0.desk ≡ pass.desk }
+    ensures number { result.0.worker.number ≡ pass.worker.number }
+{
+    let worker = pass.number();
+    shared.gate.before_take(worker);
+    let mut held = shared.desk.take(rt, pass);
+    let are_all = connections.take_names(&mut held, home_of(worker));
+    (held.give(rt, shared.desk), are_all)
+}
+
+/// Opens a client, with its worker's number as home.
+fn open<R: Wait, G: Gate>(
+    rt: &R,
+    shared: &Shared<'_, G>,
+    pass: Pass,
+    ip: [u8; 4],
+) -> (Pass, Result<u64, OpenError>)
+    requires { pass.desk ≡ shared.now.desk.now }
+    ensures desk { result.0.desk ≡ pass.desk }
+    ensures number { result.0.worker.number ≡ pass.worker.number }
+    ensures home { OnOk result.1 (result.0.worker.mine ≡ pass.worker.mine ++ event.Open ip (min pass.worker.number 63) ∷ []) }
+    ensures refused { OnErr result.1 (result.0.worker.mine ≡ pass.worker.mine) }
+{
+    let worker = pass.number();
+    shared.gate.before_take(worker);
+    let mut held = shared.desk.take(rt, pass);
+    let opened = held.open(ip, home_of(worker));
+    (held.give(rt, shared.desk), opened)
+}
+
+/// One turn of a connection. The client of a link that has no room for a turn is shut. Where a link is gone and memory was refused,
+/// what waits for its client is let go, and from then on the client is not served but only shut.
+fn serve_or_shut<R: Wait, G: Gate>(
+    rt: &R,
+    shared: &Shared<'_, G>,
+    pass: Pass,
+    connection: &mut Connection,
+) -> (Pass, Turn)
+    requires { pass.desk ≡ shared.now.desk.now }
+    ensures desk { result.0.desk ≡ pass.desk }
+    ensures number { result.0.worker.number ≡ pass.worker.number }
+{
+    let (pass, turn) = if connection.is_over() || !connection.link.fresh() {
+        shut(rt, shared, pass, &connection.conn)
+    } else {
+        let (conn, link) = (&mut connection.conn, &mut connection.link);
+        serve(rt, conn, link, shared.desk, pass, shared.gate)
+    };
+    if turn.state != TurnState::Memory || !connection.refuse() {
+        return (pass, turn);
+    }
+    let pass = lobby_turns::let_go(rt, &connection.conn, shared.desk, pass, shared.gate);
+    (pass, turn)
+}
+
+/// Shuts the client of a connection.
+fn shut<R: Wait, G: Gate>(rt: &R, shared: &Shared<'_, G>, pass: Pass, conn: &Conn) -> (Pass, Turn)
+    requires { pass.desk ≡ shared.now.desk.now }
+    ensures { (result.0.desk ≡ pass.desk) × (result.0.worker.number ≡ pass.worker.number) }
+{
+    let (pass, shut) = lobby_turns::shut(rt, conn, shared.desk, pass, shared.gate);
+    match shut {
+        Ok(wakes) => {
+            let turn = Turn {
+                state: TurnState::Closed,
+                wakes,
+            };
+            (pass, turn)
+        }
+        Err(_) => {
+            let turn = Turn {
+                state: TurnState::Memory,
+                wakes: Wakes::none(),
+            };
+            (pass, turn)
+        }
+    }
+}
