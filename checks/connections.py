@@ -21,6 +21,7 @@ from pathlib import Path
 from lobby_server import ADDRESS, GREETING, PATIENCE, Account, Client, Difference, Server, greeted, logged_in, run
 
 ANNA, BERT, EVE = Account("Anna", 1, 0, "DE"), Account("Bert", 2, 3), Account("Eve", 9, 1, "FR")
+CROWD = [Account(f"Eve{number:02}", 100 + number) for number in range(20)]
 OPEN = "OPENBATTLE 0 0 * 8452 8 -1 0 123 Spring\t104.0\tComet Catcher\tEve's game\tBA 9.46\n"
 
 
@@ -501,13 +502,50 @@ def open_files(workers):
         print(f"  300 were greeted in turn, and the server took {used:.2f} s of processors")
 
 
-def talk_until_silent(client, text):
-    """The client says this in its channel and asks for an answer, again and again, until it has to wait: what it waits for then."""
+@contextlib.contextmanager
+def crowded(workers):
+    """A server with Anna and twenty more in a channel, where the twenty read nothing, and with Bert in none. The system gives it no more
+    than 16 MB besides what it has then; it has one arena, since the C library takes 64 MB ahead for each that threads have of their own.
+    In the end it has its memory back."""
+    with Server(workers, [ANNA, BERT, *CROWD], "outbox_limit = 67108864\n", MALLOC_ARENA_MAX="1") as server:
+        anna = logged_in(server, ANNA, [])
+        anna.send("JOIN busy\n")
+        anna.expect("JOIN busy\nCLIENTS busy Anna\n")
+        slow = []
+        for account in CROWD:
+            slow.append(greeted(server, room=4_096))
+            slow[-1].send(account.login() + "JOIN busy\n")
+            anna.expect(f"{account.arrival()}JOINED busy {account.name}\n")
+        bert = logged_in(server, BERT, [ANNA, *CROWD])
+        anna.expect(BERT.arrival())
+        before = server.memory()[0]
+        server.allow_more(16)
+        yield server, anna, bert, slow
+        after, most = server.memory()
+        if after - before > 2 + (most - before) / 4:
+            raise Difference(f"the server has {after:.1f} MB, of {before:.1f} before and {most:.1f} at most")
+        print(f"  {before:.1f} MB before, {most:.1f} at most, {after:.1f} after")
+
+
+def is_refused(server, client):
+    """Whether the server tries again and again, and tells the client nothing."""
+    end, tries = time.monotonic() + PATIENCE, server.waits() + 50
+    while server.waits() < tries:
+        if select.select([client.socket], [], [], 0.1)[0]:
+            return False
+        if time.monotonic() > end:
+            raise Difference("the server tells nothing and does not try")
+    return True
+
+
+def talk_until_refused(server, client, text):
+    """The client says this in its channel and asks for an answer, again and again, until the server gets no memory for it: what the client
+    waits for then."""
     for number in range(100_000):
         wanted = f"SAID busy Anna {text}\n#{number} PONG\n"
         client.send(f"SAY busy {text}\n#{number} PING\n")
         while len(client.heard) < client.checked + len(wanted):
-            if not select.select([client.socket], [], [], 10)[0]:
+            if is_refused(server, client):
                 return wanted
             client.receive()
         client.expect(wanted)
@@ -527,46 +565,60 @@ def read_until_told(clients, other):
                 client.receive()
 
 
+def removed(accounts):
+    """What is told of those who are gone."""
+    return [f"REMOVEUSER {account.name}\n".encode() for account in accounts]
+
+
+def expect_in_any_order(client, lines):
+    """What came is these lines."""
+    client.send("PING\n")
+    if sorted(lines_until(client, b"PONG\n")) != sorted(lines):
+        raise Difference("not all are told of each who went")
+
+
 def short_memory(workers):
-    """Twenty of a channel read nothing until the system gives the server no more memory, for all that Anna says there. Then they read,
-    and she is told what she waits for without another byte of hers and without any other event. Then they go. All are told of each,
-    and the server has its memory back."""
-    text = "x" * 1_000
-    crowd = [Account(f"Eve{number:02}", 100 + number) for number in range(20)]
-    with Server(workers, [ANNA, BERT, *crowd], "outbox_limit = 67108864\n") as server:
-        anna = logged_in(server, ANNA, [])
-        anna.send("JOIN busy\n")
-        anna.expect("JOIN busy\nCLIENTS busy Anna\n")
-        slow = []
-        for account in crowd:
-            slow.append(greeted(server, room=4_096))
-            slow[-1].send(account.login() + "JOIN busy\n")
-            anna.expect(f"{account.arrival()}JOINED busy {account.name}\n")
-        bert = logged_in(server, BERT, [ANNA, *crowd])
-        anna.expect(BERT.arrival())
-        before = server.memory()[0]
-        server.allow_more(16)
-        wanted = talk_until_silent(anna, text)
-        most = server.memory()[0]
+    """Anna speaks until there is no more memory. Then the twenty read, and she is told what she waits for without another byte of hers
+    and without any other event. Then they go. All are told of each."""
+    with crowded(workers) as (server, anna, bert, slow):
+        wanted = talk_until_refused(server, anna, "x" * 1_000)
         read_until_told(slow, anna)
         anna.expect(wanted)
         for client in slow:
             client.reset()
         wait_for_sockets(server, 3)
-        gone = [f"REMOVEUSER {account.name}\n".encode() for account in crowd]
-        left = [f"LEFT busy {account.name}\n".encode() for account in crowd]
-        for client, told in ((anna, gone + left), (bert, gone)):
-            client.send("PING\n")
-            if sorted(lines_until(client, b"PONG\n")) != sorted(told):
-                raise Difference("not all are told of each who went")
-        after = server.memory()[0]
-        if after - before > 2 + (most - before) / 4:
-            raise Difference(f"the server has {after:.1f} MB, of {before:.1f} before and {most:.1f} at most")
-        print(f"  {before:.1f} MB before, {most:.1f} at most, {after:.1f} after")
+        left = [f"LEFT busy {account.name}\n".encode() for account in CROWD]
+        expect_in_any_order(anna, removed(CROWD) + left)
+        expect_in_any_order(bert, removed(CROWD))
+
+
+def say_what_fits(client, line):
+    """The client says this again and again, as long as the system takes it at once."""
+    client.socket.setblocking(False)
+    with contextlib.suppress(BlockingIOError):
+        for _ in range(4_000):
+            client.socket.send(line.encode())
+
+
+def all_gone(workers):
+    """Anna speaks until there is no more memory, and each of the twenty to the next of them, at last in short lines, until hardly any
+    outbox has a place for what a log out tells. Then all but Bert are gone at once. He is told of each."""
+    with crowded(workers) as (server, anna, bert, slow):
+        text = "x" * 1_000
+        talk_until_refused(server, anna, text)
+        for said in (text, "xy"):
+            for client, other in zip(slow, [*CROWD[1:], CROWD[0]]):
+                say_what_fits(client, f"SAYPRIVATE {other.name} {said}\n")
+            if not is_refused(server, bert):
+                raise Difference("Bert is told what others say")
+        for client in [*slow, anna]:
+            client.reset()
+        wait_for_sockets(server, 2)
+        expect_in_any_order(bert, removed([ANNA, *CROWD]))
 
 
 CHECKS = [slow_reader, slow_readers, half_closed, late_readers, resets, resets_at_once, hasty_logins, one_by_one, line_limits, flood, burst]
-CHECKS += [restarts, open_files, short_memory]
+CHECKS += [restarts, open_files, short_memory, all_gone]
 
 
 def check(workers="4", *names):

@@ -71,19 +71,20 @@ class Account:
 
 
 class Server:
-    """A server that runs until `stop`."""
+    """A server that runs until `stop`, in an environment that has these words more."""
 
-    def __init__(self, workers, accounts, settings="", port=0, files=0):
+    def __init__(self, workers, accounts, settings="", port=0, files=0, **words):
         self.folder = tempfile.TemporaryDirectory(prefix="lobby-check-")
         self.port, self.is_stopped, self.workers, self.counts = port or free_port(), False, workers, []
         room = Path(self.folder.name)
         head = f'address = "{ADDRESS}:{self.port}"\nworkers = {workers}\nstop_at_input_end = true\n'
         (room / "settings.toml").write_text(head + settings)
         (room / "accounts.toml").write_text("\n".join(it.table() for it in accounts))
-        words = [program("LOBBY_MAIN", "lobby_main"), "serve", str(room / "settings.toml"), str(room / "accounts.toml")]
+        call = [program("LOBBY_MAIN", "lobby_main"), "serve", str(room / "settings.toml"), str(room / "accounts.toml")]
         self.errors = (room / "errors").open("w+b")
         how = {"preexec_fn": lambda: resource.setrlimit(resource.RLIMIT_NOFILE, (files, files))} if files else {}
-        self.process = subprocess.Popen(words, stdin=subprocess.PIPE, stdout=subprocess.PIPE, stderr=self.errors, **how)
+        how["env"] = {**os.environ, **words}
+        self.process = subprocess.Popen(call, stdin=subprocess.PIPE, stdout=subprocess.PIPE, stderr=self.errors, **how)
         if not select.select([self.process.stdout], [], [], PATIENCE)[0] or self.process.stdout.readline() != b"listening\n":
             self.process.kill()
             raise Difference(f"the server does not listen: {self.told()}")
@@ -137,6 +138,15 @@ class Server:
         pages = int(Path(f"/proc/{self.process.pid}/statm").read_text().split()[0])
         most = pages * resource.getpagesize() + megabytes * 1_048_576
         resource.prlimit(self.process.pid, resource.RLIMIT_AS, (most, most))
+
+    def waits(self):
+        """How often its threads have waited for something."""
+        count = 0
+        for thread in Path(f"/proc/{self.process.pid}/task").iterdir():
+            with contextlib.suppress(FileNotFoundError):
+                found = re.search("^voluntary_ctxt_switches:(.*)", (thread / "status").read_text(), re.M)
+                count += int(found[1])
+        return count
 
     def sockets(self):
         """How many sockets it has open."""
