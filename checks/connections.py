@@ -132,8 +132,12 @@ def slow_readers(workers):
         bert.expect("".join(line for it in found for line in it.splitlines(True) if not line.startswith("LEFT ")))
         anna.expect_nothing_more()
         bert.expect_nothing_more()
-        # What the system still holds for them it may give them slowly; the server has closed them all, and has three sockets:
-        # the one at which it listens, and those of the two who are left.
+        # Three sockets are left: the one at which the server listens, and those of the two who stay. One worker cuts a client whose
+        # link takes nothing, and closes its socket at once. Where another worker's event cuts it, its link may have taken all that
+        # was written till then; its connection lingers until it ends.
+        if workers > 1:
+            for client in slow:
+                client.socket.close()
         wait_for_sockets(server, 3)
 
 
@@ -438,9 +442,8 @@ def held_up(server):
         busy.wait()
 
 
-def burst(workers):
-    """Three thousand connections come at once, to workers that are held up: each is greeted, or closed without a byte as it
-    meets a full inbox, and comes again."""
+def one_burst(workers):
+    """Three thousand connections come at once, to workers that are held up. How many of them met a full inbox."""
     with Server(workers, []) as server:
         begun = time.monotonic()
         with held_up(server):
@@ -448,8 +451,6 @@ def burst(workers):
             crowd.wait(1_500)
         crowd.wait(3_000)
         print(f"  3,000 greeted in {time.monotonic() - begun:.1f} s; {crowd.closed} were closed without a byte and came again")
-        if workers > 1 and not crowd.closed:
-            raise Difference("no inbox was full, so nothing is seen of that")
         for link in crowd.open.values():
             link.setblocking(True)
             link.settimeout(PATIENCE)
@@ -458,6 +459,16 @@ def burst(workers):
             raise Difference("one who was greeted is not served")
         for link in crowd.open.values():
             link.close()
+        return crowd.closed
+
+
+def burst(workers):
+    """Many connect at once: each is greeted, or closed without a byte as it meets a full inbox, and comes again. Workers that keep
+    up have none that is full, so it is tried until one was."""
+    for _ in range(20):
+        if one_burst(workers) or workers == 1:
+            return
+    raise Difference("no inbox was full in 20 tries, so nothing is seen of that")
 
 
 def restarts(workers):
