@@ -3,6 +3,7 @@
 ghost use Rattle.std.specs.Prelude.{◌≡◌, ℕ, ◌+◌, ◌↔◌, List, [], ◌++◌, IfOk, OnErr, IsSome, IsTrue, true};
 ghost use Rattle.line_framer.specs.Feeding.{IsJudged};
 ghost use Rattle.line_framer.specs.Framed.{next_line};
+ghost use Rattle.client_session.specs.OneSession.{AcceptsNext};
 ghost use Rattle.client_session.specs.Sessions.{Heard, IsNext, KeepsKinds, NeedsMemory, has_next};
 
 use command_grammar::{Request, read_request};
@@ -122,5 +123,14 @@ impl Session {
         ensures heard { (bytes : List ℕ) (accepted : ℕ) → Heard self.old.framed bytes accepted → Heard self.new.framed bytes (accepted + 1) }
     {
         self.framer.drop_line();
+    }
+
+    /// Accepts the next line, where one is there, as `accept_request` does.
+    pub fn accept_next(&mut self)
+        ensures { AcceptsNext self.old self.new }
+    {
+        if self.has_line() {
+            self.accept_request();
+        }
     }
 }

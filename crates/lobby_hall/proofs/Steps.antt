@@ -28,6 +28,7 @@ use Rattle.client_session.specs.Serving.{Serving}
 use Rattle.client_session.specs.declared.session.Next.TheVariants.{Nothing, Line, Spoilt}
 use Rattle.client_session.specs.Sessions.{Heard, NextAt}
 use Rattle.client_session.specs.OneSession.{Fed, Accepted, IsNextOf}
+use Rattle.client_session.proofs.Lines.{line_asked}
 use Rattle.lobby_hall.specs.Standing.{Kept, session_of, session_at, SessionOf, Stands, StandsAfter}
 use Rattle.lobby_hall.specs.Copied.{completed, completed_log, IsWithin, changed_at, caught_up, read_on, no_log}
 use Rattle.lobby_hall.proofs.Each.{at_each, not_same}
@@ -59,10 +60,6 @@ first_drop (l ∷ ls) (suc k) = first_drop ls k
 pub has_next : (f : Framed) (bytes : List ℕ) (k : ℕ) → Heard f bytes k → IsSome (slice_get (frames bytes line_limit) k) → IsSome (next_line f)
 has_next f bytes k heard some =
     subst (λ o. IsSome o) (sym (ap first heard.1.lines ∙ first_drop (frames bytes f.limit) k ∙ ap (λ n. slice_get (frames bytes n) k) heard.0)) some
-
-some_line : (o : Option (List ℕ)) (bytes : List ℕ) (request : Request) → NextAt o bytes (Line request) → IsSome o
-some_line None bytes request h = absurd h
-some_line (Some line) bytes request h = refl
 
 module _ (settings : Configuration) (accounts : List Account) (events : List Event) (w : World) where
   -- a step that gives no event and leaves the world
@@ -229,10 +226,10 @@ module _ (settings : Configuration) (accounts : List Account) (events : List Eve
         issuer : (o n : Option Serving) → SessionOf o (is_open w c) (input w c) → IsNextOf o (Line request) → Accepted o n → SessionOf n (is_open (moved (with_taken w c) (event.Say c request ∷ [])) c) (input (moved (with_taken w c) (event.Say c request ∷ [])) c)
         issuer None n there h a = absurd (cc)
         issuer (Some old) n there h a =
-            let line : IsSome (slice_get (frames (input w c).bytes line_limit) (input w c).taken) = some_line (slice_get (frames (input w c).bytes line_limit) (input w c).taken) (input w c).bytes request (h (input w c).bytes (input w c).taken there.1) in
+            let line : IsSome (slice_get (frames (input w c).bytes line_limit) (input w c).taken) = line_asked (slice_get (frames (input w c).bytes line_limit) (input w c).taken) (input w c).bytes request (h (input w c).bytes (input w c).taken there.1) in
             subst (λ o. SessionOf o (is_open (moved (with_taken w c) (event.Say c request ∷ [])) c) (input (moved (with_taken w c) (event.Say c request ∷ [])) c)) (sym a.1)
             (subst (λ (given : Input). (is_open (moved (with_taken w c) (event.Say c request ∷ [])) c ≡ true) × Heard a.0.framed given.bytes given.taken) (sym (input_here w.inputs c _))
-            (open_still c ∙ there.0, a.2 (has_next old.framed (input w c).bytes (input w c).taken there.1 line) (input w c).bytes (input w c).taken there.1))
+            (open_still c ∙ there.0, a.2.line (has_next old.framed (input w c).bytes (input w c).taken there.1 line) (input w c).bytes (input w c).taken there.1))
 
         said_stands : Stands (record { lobby = next s (event.Say c request); sessions = new; record_so_far = completed rs (next s (event.Say c request)) }) settings accounts (events ++ event.Say c request ∷ []) (moved (with_taken w c) (event.Say c request ∷ []))
         said_stands =

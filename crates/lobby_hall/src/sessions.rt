@@ -64,10 +64,8 @@ pub(crate) fn accept(sessions: &mut Vec<Option<Session>>, client: u64)
 fn accept_one(session: &mut Option<Session>)
     ensures { Accepted session.old session.new }
 {
-    if let Some(session) = session
-        && session.has_line()
-    {
-        session.accept_request();
+    if let Some(session) = session {
+        session.accept_next();
     }
 }
 

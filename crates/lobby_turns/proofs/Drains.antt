@@ -23,7 +23,7 @@ use Rattle.lobby_turns.specs.Moments.{Moment, moment, drained_for, tells_end, to
 use Rattle.lobby_turns.specs.Seat.{Carried, seat}
 use Rattle.lobby_turns.specs.Talk.{AreDrains}
 use Rattle.lobby_turns.specs.Went.{Joined}
-use Rattle.lobby_turns.specs.Holds.{Stands, Drains, HasNoneFor, DrainedInto, LetsGo}
+use Rattle.lobby_turns.specs.Holds.{Stands, Drains, DrainedInto, LetsGo}
 use Rattle.lobby_turns.proofs.Joins.{IsTaken, held_none, joined_none, joined_then, joined_more, stands_more}
 use Rattle.lobby_turns.proofs.Parts.{drained-append, went_drains}
 use Rattle.lobby_turns.proofs.Talks.{are_drains-append, told_end-append, dry_behind, or_false}

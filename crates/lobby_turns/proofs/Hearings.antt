@@ -1,7 +1,8 @@
 -- How hearing a client goes on.
-use Rattle.std.proofs.Common.{◌≡◌, ◌⊎◌, ℕ, ◌+◌, ◌-◌, ◌<◌, ◌≤◌, false, List, [], ◌++◌, refl, sym, ap, ◌∙◌, subst, inl, inr, arith, append-nil}
-use Rattle.std.specs.Prelude.{◌||◌, Some}
+use Rattle.std.proofs.Common.{◌≡◌, ◌≢◌, ◌⊎◌, ℕ, ◌+◌, ◌-◌, ◌<◌, ◌≤◌, true, false, List, [], ◌++◌, refl, sym, ap, ◌∙◌, subst, inl, inr, arith, append-nil}
+use Rattle.std.specs.Prelude.{◌||◌, Option, Some}
 use Rattle.lobby_post.specs.Mask.{has_home}
+use Rattle.lobby_turns.specs.declared.link.Got.{Got}
 use Rattle.lobby_turns.specs.declared.link.Got.TheVariants as got
 use Rattle.lobby_turns.specs.declared.holds.Said.{Said}
 use Rattle.lobby_turns.specs.declared.hearing.Heard.{Heard}
@@ -11,10 +12,10 @@ use Rattle.lobby_turns.specs.declared.hearing.Step.TheVariants as step
 use Rattle.lobby_turns.specs.Moments.{Moment}
 use Rattle.lobby_turns.specs.Seat.{Carried, Seat}
 use Rattle.lobby_turns.specs.Went.{Went}
-use Rattle.lobby_turns.specs.Holds.{AreSaid, SaysLines, IsWithin}
+use Rattle.lobby_turns.specs.Holds.{AreSaid, SaysLines, IsWithin, StaysNext}
 use Rattle.client_session.specs.declared.session.Next.TheVariants.{Nothing, Spoilt}
 use Rattle.client_session.specs.OneSession.{IsNextOf}
-use Rattle.lobby_turns.specs.Hearing.{OnlyReads, IsAllHeard, SaysWithin, StepIs, HearsNext, HeardIs, Hears}
+use Rattle.lobby_turns.specs.Hearing.{OnlyReads, IsAllHeard, HasToHear, has_bytes, has_line, has_more, SaysWithin, StepIs, HearsNext, HeardIs, Hears}
 use Rattle.lobby_turns.proofs.Parts.{went_then}
 use Rattle.lobby_turns.proofs.Sayings.{says_none, says_then}
 
@@ -26,7 +27,7 @@ pub record Hearing (old new : Seat) (lines reads wakes : ℕ) : Type 0 where
 pub hearing_none : (a : Seat) (wakes : ℕ) → ((home : ℕ) → has_home wakes home ≡ false) → Hearing a a 0 0 wakes
 hearing_none a wakes none = record {
   says = says_none a wakes none;
-  only = record { reads_are = omega arith; writes = refl; failures = omega arith };
+  only = record { reads_are = omega arith; writes = refl; failures = omega arith; still = λ _. refl };
 }
 
 only_then : (a b c : Seat) (m n : ℕ) → OnlyReads a b m → OnlyReads b c n → OnlyReads a c (m + n)
@@ -34,6 +35,7 @@ only_then a b c m n h k = record {
   reads_are = omega (arith, h.reads_are, k.reads_are);
   writes = k.writes ∙ h.writes;
   failures = omega (arith, h.failures, k.failures);
+  still = λ e. k.still (omega (arith, e)) ∙ h.still (omega (arith, e));
 }
 
 -- what came without a line
@@ -114,17 +116,24 @@ hears_stop a b c m k wakes how is few_lines few h found =
     let s : HearsNext b c step.Stop = subst (λ (x : Step). HearsNext b c x) is found in
     ended a c m (k + s.reads) wakes heard.Stop few_lines (omega (arith, few, s.few)) (quietly a b c m k s.reads wakes s.talk h s.went s.only s.step_is.0) s.step_is.1
 
-pub hears_memory : (a b c : Seat) (m k wakes : ℕ) (how : Step) → how ≡ step.Memory → m ≤ 64 → k < 16 → Hearing a b m k wakes → HearsNext b c how → Hears a c heard.Memory wakes
-hears_memory a b c m k wakes how is few_lines few h found =
+-- without a read in between there is the same to hear since an earlier place
+to_hear : (a b c : Seat) → (b.wire.last_got ≡ Some got.Later → b.wire.reads ≡ a.wire.reads) → c.wire.last_got ≡ b.wire.last_got → HasToHear b c → HasToHear a c
+to_hear a b c late still (has_bytes h) = has_bytes h
+to_hear a b c late still (has_line h) = has_line h
+to_hear a b c late still (has_more h) = has_more (record { on = h.on; sound = h.sound; late = λ e. h.late e ∙ late (sym still ∙ e) })
+
+pub hears_memory : (a b c : Seat) (m k wakes : ℕ) (how : Step) → how ≡ step.Memory → m ≤ 64 → k < 16 → (b.wire.last_got ≡ Some got.Later → b.wire.reads ≡ a.wire.reads) → Hearing a b m k wakes → HearsNext b c how → Hears a c heard.Memory wakes
+hears_memory a b c m k wakes how is few_lines few late h found =
     let s : HearsNext b c step.Memory = subst (λ (x : Step). HearsNext b c x) is found in
-    ended a c m (k + s.reads) wakes heard.Memory few_lines (omega (arith, few, s.few)) (quietly a b c m k s.reads wakes s.talk h s.went s.only s.step_is) tt
+    ended a c m (k + s.reads) wakes heard.Memory few_lines (omega (arith, few, s.few)) (quietly a b c m k s.reads wakes s.talk h s.went s.only s.step_is.0)
+    (to_hear a b c late (s.only.still s.step_is.1) s.step_is.2)
 
 -- where memory was refused behind some lines
-pub hears_refused : (a b c : Seat) (m k wakes : ℕ) (said : Said) (all : ℕ) (how : Step) → how ≡ step.Said said → m ≤ 64 → k ≤ 16 → SaysWithin (64 - m) how → Hearing a b m k wakes → HearsNext b c how
+pub hears_refused : (a b c : Seat) (m k wakes : ℕ) (said : Said) (all : ℕ) (how : Step) → how ≡ step.Said said → said.refused ≡ true → m ≤ 64 → k ≤ 16 → SaysWithin (64 - m) how → Hearing a b m k wakes → HearsNext b c how
     → ((home : ℕ) → has_home all home ≡ (has_home wakes home || has_home said.wakes home)) → Hears a c heard.Memory all
-hears_refused a b c m k wakes said all how is few_lines few within h found both =
+hears_refused a b c m k wakes said all how is refused few_lines few within h found both =
     let s : HearsNext b c (step.Said said) = subst (λ (x : Step). HearsNext b c x) is found in
-    ended a c (m + said.lines) k all heard.Memory (lines_fit m how said is few_lines within) few (hearing_said a b c m k wakes said all h s both) tt
+    ended a c (m + said.lines) k all heard.Memory (lines_fit m how said is few_lines within) few (hearing_said a b c m k wakes said all h s both) (has_line (s.step_is.2 refused))
 
 -- at a limit
 pub hears_again : (a c : Seat) (m k wakes : ℕ) → m ≤ 64 → k ≤ 16 → (m ≡ 64) ⊎ (k ≡ 16) → Hearing a c m k wakes → Hears a c heard.Again wakes
@@ -141,18 +150,19 @@ only_none a c same = record {
   reads_are = ap (λ w. w.reads) same ∙ none a.wire.reads;
   writes = ap (λ w. w.writes) same;
   failures = omega (arith, ap (λ w. w.failures) same);
+  still = λ _. ap (λ w. w.last_got) same;
 }
   where
     none : (n : ℕ) → n ≡ n + 0
     none n = omega arith
 
-step_behind : (a b c : Seat) (talk : List Moment) (reads : ℕ) (how : Step) → a.wire.reads ≤ b.wire.reads → b.conn.session.client ≡ a.conn.session.client
+step_behind : (a b c : Seat) (talk : List Moment) (reads : ℕ) (how : Step) → b.wire ≡ a.wire → b.conn.session.client ≡ a.conn.session.client → OnlyReads b c reads
     → StepIs b c talk reads how → StepIs a c talk reads how
-step_behind a b c talk reads (step.Said said) rises client is = (is.0, subst (λ (d : ℕ). AreSaid d talk said.lines said.wakes) client is.1)
-step_behind a b c talk reads step.Read rises client is = is
-step_behind a b c talk reads step.All rises client is = (is.0, since a b c rises is.1)
-step_behind a b c talk reads step.Stop rises client is = is
-step_behind a b c talk reads step.Memory rises client is = is
+step_behind a b c talk reads (step.Said said) same client only is = (is.0, subst (λ (d : ℕ). AreSaid d talk said.lines said.wakes) client is.1, is.2)
+step_behind a b c talk reads step.Read same client only is = is
+step_behind a b c talk reads step.All same client only is = (is.0, since a b c (rises a b 0 (only_none a b same)) is.1)
+step_behind a b c talk reads step.Stop same client only is = is
+step_behind a b c talk reads step.Memory same client only is = (is.0, is.1, to_hear a b c (λ _. ap (λ w. w.reads) same) (only.still is.1) is.2)
 
 -- a step behind feeding
 pub fed_first : (a b c : Seat) (how : Step) → Went a b [] → b.wire ≡ a.wire → HearsNext b c how → HearsNext a c how
@@ -162,30 +172,33 @@ fed_first a b c how went same s = record {
   reads = s.reads;
   few = s.few;
   only = subst (λ (n : ℕ). OnlyReads a c n) (none_add s.reads) (only_then a b c 0 s.reads (only_none a b same) s.only);
-  step_is = step_behind a b c s.talk s.reads how (rises a b 0 (only_none a b same)) went.client s.step_is;
+  step_is = step_behind a b c s.talk s.reads how same went.client s.only s.step_is;
 }
 
-pub said_next : (a b : Seat) (said : Said) → b.wire ≡ a.wire → SaysLines a b said.lines said.wakes → HearsNext a b (step.Said said)
-said_next a b said same s = record {
+pub said_next : (a b : Seat) (said : Said) → b.wire ≡ a.wire → StaysNext b.conn.session said → SaysLines a b said.lines said.wakes → HearsNext a b (step.Said said)
+said_next a b said same stays s = record {
   talk = s.talk;
   went = s.went;
   reads = 0;
   few = omega arith;
   only = only_none a b same;
-  step_is = (refl, s.said);
+  step_is = (refl, s.said, stays);
 }
 
-pub none_done : (a b : Seat) → b.wire ≡ a.wire → Went a b [] → HearsNext a b step.Memory
-none_done a b same went = next_quiet a b 0 step.Memory (omega arith) went (only_none a b same) refl
+pub none_done : (a b : Seat) → b.wire ≡ a.wire → Went a b [] → HasToHear a b → HearsNext a b step.Memory
+none_done a b same went left = next_quiet a b 0 step.Memory (omega arith) went (only_none a b same) (refl, refl, left)
 
 pub none_left : (a b : Seat) → b.wire ≡ a.wire → Went a b [] → IsNextOf (Some b.conn.session) Spoilt → HearsNext a b step.Stop
 none_left a b same went next = next_quiet a b 0 step.Stop (omega arith) went (only_none a b same) (refl, inl next)
 
 pub only_one : (a b : Seat) → b.wire.reads ≡ a.wire.reads + 1 → b.wire.writes ≡ a.wire.writes → b.wire.failures ≤ a.wire.failures + 1 → OnlyReads a b 1
-only_one a b reads writes failures = record { reads_are = reads; writes = writes; failures = failures }
+only_one a b reads writes failures = record { reads_are = reads; writes = writes; failures = failures; still = λ e. absurd (omega (arith, e)) }
 
-pub link_read : (a b : Seat) → Went a b [] → OnlyReads a b 1 → HearsNext a b step.Read
-link_read a b went only = next_quiet a b 1 step.Read (omega arith) went only (refl, refl)
+pub bytes_came : (n : ℕ) (last : Option Got) → last ≡ Some (got.Bytes n) → last ≢ Some got.Later
+bytes_came n last is e = absurd (cc (is, e))
+
+pub link_read : (a b : Seat) → Went a b [] → OnlyReads a b 1 → b.wire.last_got ≢ Some got.Later → HearsNext a b step.Read
+link_read a b went only some = next_quiet a b 1 step.Read (omega arith) went only (refl, refl, some)
 
 pub link_later : (a b : Seat) → Went a b [] → OnlyReads a b 1 → b.conn ≡ a.conn → a.conn.unfed ≡ [] → IsNextOf (Some a.conn.session) Nothing
     → b.wire.last_got ≡ Some got.Later → HearsNext a b step.All
@@ -216,31 +229,38 @@ link_fault a b went only last = next_quiet a b 1 step.Stop (omega arith) went on
 
 pub record IsHearing (old new : Seat) (lines reads wakes rounds : ℕ) : Type 0 where
   pub hearing : Hearing old new lines reads wakes
+  pub late : new.wire.last_got ≡ Some got.Later → new.wire.reads ≡ old.wire.reads
   pub rounds_are : rounds ≤ lines + reads
   pub few_lines : lines ≤ 64
   pub few_reads : reads ≤ 16
 
 pub begins : (a : Seat) (wakes : ℕ) → ((home : ℕ) → has_home wakes home ≡ false) → IsHearing a a 0 0 wakes 0
-begins a wakes none = record { hearing = hearing_none a wakes none; rounds_are = omega arith; few_lines = omega arith; few_reads = omega arith }
+begins a wakes none = record { hearing = hearing_none a wakes none; late = λ _. refl; rounds_are = omega arith; few_lines = omega arith; few_reads = omega arith }
 
 pub goes_on_said : (a b c : Seat) (m k wakes rounds : ℕ) (said : Said) (all : ℕ) (how : Step) → how ≡ step.Said said → said.refused ≡ false → SaysWithin (64 - m) how
     → IsHearing a b m k wakes rounds → HearsNext b c how
     → ((home : ℕ) → has_home all home ≡ (has_home wakes home || has_home said.wakes home)) → IsHearing a c (m + said.lines) k all (rounds + 1)
-goes_on_said a b c m k wakes rounds said all how is accepted within h s both = record {
-  hearing = hearing_said a b c m k wakes said all h.hearing (subst (λ (x : Step). HearsNext b c x) is s) both;
-  rounds_are = omega (arith, h.rounds_are, said_some m how said is within accepted);
-  few_lines = lines_fit m how said is h.few_lines within;
-  few_reads = h.few_reads;
-}
+goes_on_said a b c m k wakes rounds said all how is accepted within h found both =
+    let s : HearsNext b c (step.Said said) = subst (λ (x : Step). HearsNext b c x) is found in
+    record {
+      hearing = hearing_said a b c m k wakes said all h.hearing s both;
+      late = λ e. s.only.reads_are ∙ ap (λ n. b.wire.reads + n) s.step_is.0 ∙ add_none b.wire.reads ∙ h.late (sym (s.only.still s.step_is.0) ∙ e);
+      rounds_are = omega (arith, h.rounds_are, said_some m how said is within accepted);
+      few_lines = lines_fit m how said is h.few_lines within;
+      few_reads = h.few_reads;
+    }
 
 pub goes_on_read : (a b c : Seat) (m k wakes rounds : ℕ) (how : Step) → how ≡ step.Read → k + 1 ≤ 16 → IsHearing a b m k wakes rounds → HearsNext b c how
     → IsHearing a c m (k + 1) wakes (rounds + 1)
-goes_on_read a b c m k wakes rounds how is few h s = record {
-  hearing = hearing_read a b c m k wakes h.hearing (subst (λ (x : Step). HearsNext b c x) is s);
-  rounds_are = omega (arith, h.rounds_are);
-  few_lines = h.few_lines;
-  few_reads = few;
-}
+goes_on_read a b c m k wakes rounds how is few h found =
+    let s : HearsNext b c step.Read = subst (λ (x : Step). HearsNext b c x) is found in
+    record {
+      hearing = hearing_read a b c m k wakes h.hearing s;
+      late = λ e. absurd (s.step_is.2 e);
+      rounds_are = omega (arith, h.rounds_are);
+      few_lines = h.few_lines;
+      few_reads = few;
+    }
 
 -- the same with its numbers named anew
 pub renamed : (a b : Seat) (m k wakes rounds m' k' wakes' : ℕ) → m' ≡ m → k' ≡ k → wakes' ≡ wakes → IsHearing a b m k wakes rounds → IsHearing a b m' k' wakes' rounds

@@ -1,5 +1,5 @@
 -- The next lines, where more is fed and where some of them are accepted.
-use Rattle.std.proofs.Common.{◌≡◌, ℕ, zero, suc, ◌+◌, true, false, List, [], ◌∷◌, ◌++◌, length, refl, sym, ap, ◌∙◌, subst, arith, append-nil, rules}
+use Rattle.std.proofs.Common.{◌≡◌, ℕ, zero, suc, ◌+◌, true, false, List, [], ◌∷◌, ◌++◌, length, refl, sym, ap, ◌∙◌, subst, arith, append-nil}
 use Rattle.std.specs.Prelude.{Option, Some, None, IsSome, slice_get}
 use Rattle.line_framer.specs.Frames.{frames, is_spoilt, rest_of}
 use Rattle.line_framer.specs.Framed.{next_line}
@@ -10,6 +10,7 @@ use Rattle.client_session.specs.declared.session.Next.TheVariants.{Line}
 use Rattle.client_session.specs.Serving.{Serving}
 use Rattle.client_session.specs.Sessions.{Heard, IsNext, NextAt}
 use Rattle.client_session.specs.OneSession.{Accepted}
+use Rattle.client_session.proofs.Lines.{line_asked}
 use Rattle.lobby_turns.specs.Went.{AreNext}
 
 -- more bytes give more frames, behind those that there were
@@ -46,10 +47,6 @@ are_next-append fed k (r ∷ rs) qs h g =
     let same : k + length (r ∷ rs) ≡ (k + 1) + length rs = omega arith in
     (h.0, are_next-append fed (k + 1) rs qs h.1 (subst (λ (n : ℕ). AreNext fed n qs) same g))
 
-is_line : (o : Option (List ℕ)) (bytes : List ℕ) (request : Request) → NextAt o bytes (Line request) → IsSome o
-is_line None bytes request h = absurd h
-is_line (Some line) bytes request h = search rules
-
 -- where a line was next, it was accepted
 pub accepts : (old new : Serving) (request : Request) → Accepted (Some old) (Some new) → (bytes : List ℕ) (accepted : ℕ)
     → Heard old.framed bytes accepted → IsNext bytes accepted (Line request) → Heard new.framed bytes (accepted + 1)
@@ -57,5 +54,5 @@ accepts old new request a bytes accepted heard next =
     let same : a.0 ≡ new = cc (a.1) in
     let there : next_line old.framed ≡ slice_get (frames bytes line_limit) accepted =
     next_frame old.framed bytes accepted heard.1 ∙ ap (λ limit. slice_get (frames bytes limit) accepted) heard.0 in
-    let line : IsSome (next_line old.framed) = subst (λ (o : Option (List ℕ)). IsSome o) (sym there) (is_line (slice_get (frames bytes line_limit) accepted) bytes request next) in
-    subst (λ (s : Serving). Heard s.framed bytes (accepted + 1)) same (a.2 line bytes accepted heard)
+    let line : IsSome (next_line old.framed) = subst (λ (o : Option (List ℕ)). IsSome o) (sym there) (line_asked (slice_get (frames bytes line_limit) accepted) bytes request next) in
+    subst (λ (s : Serving). Heard s.framed bytes (accepted + 1)) same (a.2.line line bytes accepted heard)

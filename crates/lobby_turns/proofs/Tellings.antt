@@ -1,6 +1,7 @@
 -- How telling a client goes on.
 use Rattle.std.proofs.Common.{◌≡◌, ℕ, ◌+◌, ◌<◌, ◌≤◌, Bool, true, false, List, [], ◌++◌, refl, sym, ap, ◌∙◌, subst, arith, append-nil, true≢false}
-use Rattle.std.specs.Prelude.{Some}
+use Rattle.std.specs.Prelude.{Option, Some}
+use Rattle.lobby_turns.specs.declared.link.Sent.{Sent}
 use Rattle.lobby_turns.specs.declared.link.Sent.TheVariants as sent
 use Rattle.lobby_turns.specs.declared.telling.Told.{Told}
 use Rattle.lobby_turns.specs.declared.telling.Told.TheVariants as told
@@ -12,7 +13,7 @@ use Rattle.lobby_turns.specs.Seat.{Seat}
 use Rattle.lobby_turns.specs.Talk.{AreDrains, EndsDry}
 use Rattle.lobby_turns.specs.Went.{Went}
 use Rattle.lobby_turns.specs.Holds.{Drains}
-use Rattle.lobby_turns.specs.Telling.{MayTell, OnlyWrites, IsAllTold, StepIs, TellsNext, Writes, ToldIs, Tells}
+use Rattle.lobby_turns.specs.Telling.{MayTell, OnlyWrites, IsAllTold, StepIs, TellsNext, IsStop, IsWrittenOut, all_written, stopped, spent, Writes, ToldIs, Tells}
 use Rattle.lobby_turns.proofs.Parts.{went_none, went_then}
 use Rattle.lobby_turns.proofs.Talks.{are_drains-append, calm-append, finished-append, dry_behind}
 
@@ -107,10 +108,16 @@ tells_fault a b c k how is few h found =
 pub tells_memory : (a b c : Seat) (k : ℕ) (how : Step) → how ≡ step.Memory → k < 16 → Telling a b k → TellsNext b c how → Tells a c told.Memory
 tells_memory a b c k how is few h found =
     let s : TellsNext b c step.Memory = subst (λ (x : Step). TellsNext b c x) is found in
-    told_step a b c k step.Memory told.Memory few h s tt
+    told_step a b c k step.Memory told.Memory few h s s.step_is
+
+-- what was written out since a place between is since an earlier one too
+out_since : (a b c : Seat) (k most all : ℕ) → k + most ≡ all → OnlyWrites a b k → IsWrittenOut b c most → IsWrittenOut a c all
+out_since a b c k most all sum only (all_written e) = all_written e
+out_since a b c k most all sum only (stopped made stop) = stopped (omega (arith, made, only.writes_are)) stop
+out_since a b c k most all sum only (spent e) = spent (omega (arith, e, only.writes_are, sum))
 
 -- what was drained was written out behind it
-finished : (a b c d : Seat) (k most : ℕ) → k + most ≤ 16 → Telling a b k → TellsNext b c step.Finished → Writes c d most → Tells a d told.Finished
+finished : (a b c d : Seat) (k most : ℕ) → k + most ≡ 16 → Telling a b k → TellsNext b c step.Finished → Writes c d most → Tells a d told.Finished
 finished a b c d k most few h s w = record {
   talk = (h.talk ++ s.talk) ++ [];
   went = went_then a c d (h.talk ++ s.talk) [] (went_then a b c h.talk s.talk h.went s.went) w.went;
@@ -118,10 +125,13 @@ finished a b c d k most few h s w = record {
   writes = (k + s.writes) + w.writes;
   few = omega (arith, few, w.few, s.step_is.1);
   only = only_then a c d (k + s.writes) w.writes (only_then a b c k s.writes h.only s.only) w.only;
-  told_is = ap told_end (append-nil (h.talk ++ s.talk)) ∙ finished-append h.talk s.talk s.step_is.0;
+  told_is = (
+    ap told_end (append-nil (h.talk ++ s.talk)) ∙ finished-append h.talk s.talk s.step_is.0,
+    out_since a c d (k + s.writes) most 16 (omega (arith, few, s.step_is.1)) (only_then a b c k s.writes h.only s.only) w.out,
+  );
 }
 
-pub tells_finished : (a b c d : Seat) (k most : ℕ) (how : Step) → how ≡ step.Finished → k + most ≤ 16 → Telling a b k → TellsNext b c how → Writes c d most → Tells a d told.Finished
+pub tells_finished : (a b c d : Seat) (k most : ℕ) (how : Step) → how ≡ step.Finished → k + most ≡ 16 → Telling a b k → TellsNext b c how → Writes c d most → Tells a d told.Finished
 tells_finished a b c d k most how is few h s w = finished a b c d k most few h (subst (λ (x : Step). TellsNext b c x) is s) w
 
 pub tells_again : (a b : Seat) → Telling a b 16 → Tells a b told.Again
@@ -153,8 +163,8 @@ may_tell a b c k n most few may only more = record {
 
 -- ---- single steps
 
-pub next_memory : (a : Seat) → TellsNext a a step.Memory
-next_memory a = record { talk = []; went = went_none a; own = tt; writes = 0; few = omega arith; only = only_same a; step_is = tt }
+pub next_memory : (a : Seat) → a.conn.unwritten ≡ [] → TellsNext a a step.Memory
+next_memory a written = record { talk = []; went = went_none a; own = tt; writes = 0; few = omega arith; only = only_same a; step_is = written }
 
 -- ---- behind drains
 
@@ -233,23 +243,42 @@ telling_asked a b finished dry goes_on only d = record {
 
 -- ---- writing out
 
-pub writes_none : (a : Seat) → Writes a a 0
-writes_none a = record { went = went_none a; writes = 0; few = omega arith; only = only_same a }
+-- so many writes were made, without an event
+pub record Writing (old new : Seat) (writes : ℕ) : Type 0 where
+  pub went : Went old new []
+  pub only : OnlyWrites old new writes
 
-pub writes_more : (a b c : Seat) (k : ℕ) → Writes a b k → Went b c [] → OnlyWrites b c 1 → Writes a c (k + 1)
-writes_more a b c k h went only = record {
-  went = went_then a b c [] [] h.went went;
-  writes = h.writes + 1;
-  few = omega (arith, h.few);
-  only = only_then a b c h.writes 1 h.only only;
-}
+pub writing_none : (a : Seat) → Writing a a 0
+writing_none a = record { went = went_none a; only = only_same a }
 
-pub writes_within : (a b : Seat) (k most : ℕ) → k ≤ most → Writes a b k → Writes a b most
-writes_within a b k most few h = record { went = h.went; writes = h.writes; few = omega (arith, few, h.few); only = h.only }
+pub writing_more : (a b c : Seat) (k : ℕ) → Writing a b k → Went b c [] → OnlyWrites b c 1 → Writing a c (k + 1)
+writing_more a b c k h went only = record { went = went_then a b c [] [] h.went went; only = only_then a b c k 1 h.only only }
+
+writes_out : (a b : Seat) (k most : ℕ) → k ≤ most → Writing a b k → IsWrittenOut a b most → Writes a b most
+writes_out a b k most few h out = record { went = h.went; writes = k; few = few; only = h.only; out = out }
+
+-- a write that took nothing
+pub stops : (r : Sent) (last : Option Sent) → ((n : ℕ) → r ≡ sent.Took n → ⊥) → last ≡ Some r → IsStop last
+stops r last none is = subst IsStop (sym is) (stop r none)
+  where
+    stop : (r : Sent) → ((n : ℕ) → r ≡ sent.Took n → ⊥) → IsStop (Some r)
+    stop (sent.Took n) none = none n refl
+    stop sent.Later none = tt
+    stop sent.Fault none = tt
+
+pub writes_all : (a b : Seat) (k most : ℕ) → k < most → b.conn.unwritten ≡ [] → Writing a b k → Writes a b most
+writes_all a b k most few none h = writes_out a b k most (omega (arith, few)) h (all_written none)
+
+pub writes_stopped : (a b c : Seat) (k most : ℕ) → k < most → IsStop c.wire.last_sent → Writing a b k → Went b c [] → OnlyWrites b c 1 → Writes a c most
+writes_stopped a b c k most few stop h went only =
+    writes_out a c (k + 1) most (omega (arith, few)) (writing_more a b c k h went only) (stopped (omega (arith, h.only.writes_are, only.writes_are)) stop)
+
+pub writes_most : (a b : Seat) (k most : ℕ) → k ≡ most → Writing a b k → Writes a b most
+writes_most a b k most same h = writes_out a b k most (omega (arith, same)) h (spent (omega (arith, h.only.writes_are, same)))
 
 -- finished already when asked
-pub tells_asked : (a b c : Seat) (k : ℕ) → k ≤ 16 → TellsNext a b step.Finished → Writes b c k → Tells a c told.Finished
-tells_asked a b c k few s w = finished a a b c 0 k (omega (arith, few)) (telling_none a) s w
+pub tells_asked : (a b c : Seat) → TellsNext a b step.Finished → Writes b c 16 → Tells a c told.Finished
+tells_asked a b c s w = finished a a b c 0 16 (omega arith) (telling_none a) s w
 
 pub one_write : (a b : Seat) → b.wire.writes ≡ a.wire.writes + 1 → b.wire.reads ≡ a.wire.reads → b.wire.failures ≤ a.wire.failures + 1 → b.wire.last_got ≡ a.wire.last_got
     → b.conn.session ≡ a.conn.session → b.conn.unfed ≡ a.conn.unfed → OnlyWrites a b 1

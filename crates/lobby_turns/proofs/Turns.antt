@@ -6,7 +6,7 @@ use Rattle.lobby_model.specs.Touched.{touches}
 use Rattle.lobby_post.specs.Mask.{has_home}
 use Rattle.client_session.specs.Serving.{Serving}
 use Rattle.client_session.specs.declared.session.Next.TheVariants.{Nothing, Spoilt}
-use Rattle.client_session.specs.OneSession.{IsNextOf}
+use Rattle.client_session.specs.OneSession.{IsNextOf, HasLineNext}
 use Rattle.lobby_turns.specs.declared.link.Got.{Got}
 use Rattle.lobby_turns.specs.declared.link.Got.TheVariants as got
 use Rattle.lobby_turns.specs.declared.link.Sent.TheVariants as sent
@@ -17,13 +17,14 @@ use Rattle.lobby_turns.specs.declared.telling.Told.TheVariants as told
 use Rattle.lobby_turns.specs.declared.turn.TurnState.{TurnState}
 use Rattle.lobby_turns.specs.declared.turn.TurnState.TheVariants as state
 use Rattle.lobby_turns.specs.Moments.{Moment, moment, requests, touched, told_end}
+use Rattle.lobby_turns.specs.Wire.{Wire}
 use Rattle.lobby_turns.specs.Seat.{Seat}
 use Rattle.lobby_turns.specs.Talk.{AreTalk, AreDrains, EndsDry}
-use Rattle.lobby_turns.specs.Hearing.{IsAllHeard, IsOver, HeardIs, Hears}
-use Rattle.lobby_turns.specs.Telling.{IsAllTold, MustWait, ToldIs, Tells}
+use Rattle.lobby_turns.specs.Hearing.{IsAllHeard, HasToHear, has_bytes, has_line, has_more, IsOver, HeardIs, Hears}
+use Rattle.lobby_turns.specs.Telling.{OnlyWrites, IsStop, IsWrittenOut, all_written, stopped, spent, IsAllTold, MustWait, ToldIs, Tells}
 use Rattle.lobby_turns.specs.Went.{Went}
 use Rattle.lobby_turns.specs.Holds.{Made}
-use Rattle.lobby_turns.specs.Turned.{IsEmptied, MayShut, spoilt, unread, unsent, finished, ended, IsIdle, IsAtLimit, Ends, Turned, ClosesTo}
+use Rattle.lobby_turns.specs.Turned.{IsEmptied, MayShut, spoilt, unread, unsent, finished, ended, TakesMemory, for_hearing, for_drain, for_shut, IsIdle, IsAtLimit, Ends, Turned, ClosesTo}
 use Rattle.lobby_turns.proofs.Parts.{requests-append, went_then}
 use Rattle.lobby_turns.proofs.Talks.{are_talk-append, drains_are_talk, drains_ask, touched-append, touched_drained, calm-append, finished-append, dry_behind}
 
@@ -67,16 +68,23 @@ all_told b c talk far e h = subst (λ (x : Told). ToldIs b c talk x) e h
 abbrev pub MustShut : Seat → Heard → Told → Type 0
 MustShut c how far = (far ≡ told.Finished) ⊎ ((far ≡ told.Fault) ⊎ ((how ≡ heard.Stop) ⊎ ((how ≡ heard.All) × (far ≡ told.All) × (c.wire.last_got ≡ Some got.End))))
 
-over : (b c : Seat) (talk : List Moment) → c.conn.session ≡ b.conn.session → c.wire.last_got ≡ b.wire.last_got → IsOver b → MayShut c talk
-over b c talk session last (inl next) = spoilt (subst (λ (x : Serving). IsNextOf (Some x) Spoilt) (sym session) next)
-over b c talk session last (inr fault) = unread (last ∙ fault)
+-- hearing writes nothing
+out_before : (a b c : Seat) → b.wire.writes ≡ a.wire.writes → IsWrittenOut b c 16 → IsWrittenOut a c 16
+out_before a b c same (all_written e) = all_written e
+out_before a b c same (stopped made stop) = stopped (omega (arith, made, same)) stop
+out_before a b c same (spent e) = spent (omega (arith, e, same))
 
-may_shut : (a b c : Seat) (how : Heard) (far : Told) (wakes : ℕ) → (s : Spoken a b c how far wakes) → MustShut c how far → MayShut c (s.hears.talk ++ s.tells.talk)
+over : (a b c : Seat) (talk : List Moment) → c.conn.session ≡ b.conn.session → c.wire.last_got ≡ b.wire.last_got → IsOver b → MayShut a c talk
+over a b c talk session last (inl next) = spoilt (subst (λ (x : Serving). IsNextOf (Some x) Spoilt) (sym session) next)
+over a b c talk session last (inr fault) = unread (last ∙ fault)
+
+may_shut : (a b c : Seat) (how : Heard) (far : Told) (wakes : ℕ) → (s : Spoken a b c how far wakes) → MustShut c how far → MayShut a c (s.hears.talk ++ s.tells.talk)
 may_shut a b c how far wakes s (inl e) =
-    finished (finished-append s.hears.talk s.tells.talk (subst (λ (x : Told). ToldIs b c s.tells.talk x) e s.tells.told_is))
+    let told_is : ToldIs b c s.tells.talk told.Finished = subst (λ (x : Told). ToldIs b c s.tells.talk x) e s.tells.told_is in
+    finished (finished-append s.hears.talk s.tells.talk told_is.0) (out_before a b c s.hears.only.writes told_is.1)
 may_shut a b c how far wakes s (inr (inl e)) = unsent (subst (λ (x : Told). ToldIs b c s.tells.talk x) e s.tells.told_is)
 may_shut a b c how far wakes s (inr (inr (inl e))) =
-    over b c (s.hears.talk ++ s.tells.talk) s.tells.only.session s.tells.only.last_got (subst (λ (x : Heard). HeardIs a b s.hears.talk x) e s.hears.heard_is)
+    over a b c (s.hears.talk ++ s.tells.talk) s.tells.only.session s.tells.only.last_got (subst (λ (x : Heard). HeardIs a b s.hears.talk x) e s.hears.heard_is)
 may_shut a b c how far wakes s (inr (inr (inr e))) =
     let h : IsAllHeard a b = all_heard a b s.hears.talk how e.0 s.hears.heard_is in
     let t : IsAllTold c s.tells.talk = all_told b c s.tells.talk far e.1 s.tells.told_is in
@@ -90,7 +98,7 @@ abbrev pub MayRest : Seat → Heard → Told → TurnState → Type 0
 MayRest c how far state.Idle = (how ≡ heard.All) × ((far ≡ told.Later) ⊎ ((far ≡ told.All) × (c.wire.last_got ≢ Some got.End)))
 MayRest c how far state.Again = (how ≡ heard.Again) ⊎ (far ≡ told.Again)
 MayRest c how far state.Closed = ⊥
-MayRest c how far state.Memory = Unit {0}
+MayRest c how far state.Memory = (how ≡ heard.Memory) ⊎ (far ≡ told.Memory)
 
 still_heard : (a b c : Seat) → b.wire.reads ≡ c.wire.reads → c.wire.last_got ≡ b.wire.last_got
     → (b.wire.last_got ≡ Some got.End) ⊎ ((b.wire.last_got ≡ Some got.Later) × (a.wire.reads < b.wire.reads))
@@ -136,11 +144,24 @@ at_limit a b c how far wakes s (inr e) =
     let written : c.wire.writes ≡ b.wire.writes + 16 = subst (λ (x : Told). ToldIs b c s.tells.talk x) e s.tells.told_is in
     inr (inr (written ∙ ap (λ n. n + 16) s.hears.only.writes))
 
+-- telling reads nothing
+to_hear : (a b c : Seat) → c.conn.session ≡ b.conn.session → c.conn.unfed ≡ b.conn.unfed → c.wire.last_got ≡ b.wire.last_got → c.wire.reads ≡ b.wire.reads → HasToHear a b → HasToHear a c
+to_hear a b c session unfed last reads (has_bytes h) = has_bytes (λ e. h (sym unfed ∙ e))
+to_hear a b c session unfed last reads (has_line h) = has_line (subst HasLineNext (sym session) h)
+to_hear a b c session unfed last reads (has_more h) =
+    has_more (record { on = λ e. h.on (sym last ∙ e); sound = λ e. h.sound (sym last ∙ e); late = λ e. reads ∙ h.late (sym last ∙ e) })
+
+takes_memory : (a b c : Seat) (how : Heard) (far : Told) (wakes : ℕ) → (s : Spoken a b c how far wakes) → MayRest c how far state.Memory → TakesMemory a c (s.hears.talk ++ s.tells.talk)
+takes_memory a b c how far wakes s (inl e) =
+    let only : OnlyWrites b c s.tells.writes = s.tells.only in
+    for_hearing (to_hear a b c only.session only.unfed only.last_got only.reads (subst (λ (x : Heard). HeardIs a b s.hears.talk x) e s.hears.heard_is))
+takes_memory a b c how far wakes s (inr e) = for_drain (subst (λ (x : Told). ToldIs b c s.tells.talk x) e s.tells.told_is)
+
 rests : (a b c : Seat) (how : Heard) (far : Told) (wakes : ℕ) (x : TurnState) → (s : Spoken a b c how far wakes) → MayRest c how far x → Ends a c (s.hears.talk ++ s.tells.talk) [] x
 rests a b c how far wakes state.Idle s rest = (refl, idle a b c how far wakes s rest)
 rests a b c how far wakes state.Again s rest = (refl, at_limit a b c how far wakes s rest)
 rests a b c how far wakes state.Closed s rest = absurd rest
-rests a b c how far wakes state.Memory s rest = refl
+rests a b c how far wakes state.Memory s rest = (refl, takes_memory a b c how far wakes s rest)
 
 pub turned_open : (a b c : Seat) (how : Heard) (far : Told) (wakes : ℕ) (x : TurnState) → Hears a b how wakes → Tells b c far → MayRest c how far x
     → Turned a c (record { state = x; wakes = wakes })
@@ -162,12 +183,17 @@ turned_open a b c how far wakes x h t rest =
 
 -- ---- a turn that shuts its client
 
-moved_on : (c d : Seat) (talk : List Moment) → d.conn ≡ c.conn → d.wire ≡ c.wire → MayShut c talk → MayShut d talk
-moved_on c d talk conn wire (spoilt next) = spoilt (subst (λ (x : Serving). IsNextOf (Some x) Spoilt) (ap (λ x. x.session) (sym conn)) next)
-moved_on c d talk conn wire (unread e) = unread (ap (λ w. w.last_got) wire ∙ e)
-moved_on c d talk conn wire (unsent e) = unsent (ap (λ w. w.last_sent) wire ∙ e)
-moved_on c d talk conn wire (finished e) = finished e
-moved_on c d talk conn wire (ended h t) =
+out_still : (a c d : Seat) → d.conn ≡ c.conn → d.wire ≡ c.wire → IsWrittenOut a c 16 → IsWrittenOut a d 16
+out_still a c d conn wire (all_written e) = all_written (ap (λ x. x.unwritten) conn ∙ e)
+out_still a c d conn wire (stopped made stop) = stopped (subst (λ (w : Wire). a.wire.writes < w.writes) (sym wire) made) (subst (λ (w : Wire). IsStop w.last_sent) (sym wire) stop)
+out_still a c d conn wire (spent e) = spent (ap (λ w. w.writes) wire ∙ e)
+
+moved_on : (a c d : Seat) (talk : List Moment) → d.conn ≡ c.conn → d.wire ≡ c.wire → MayShut a c talk → MayShut a d talk
+moved_on a c d talk conn wire (spoilt next) = spoilt (subst (λ (x : Serving). IsNextOf (Some x) Spoilt) (ap (λ x. x.session) (sym conn)) next)
+moved_on a c d talk conn wire (unread e) = unread (ap (λ w. w.last_got) wire ∙ e)
+moved_on a c d talk conn wire (unsent e) = unsent (ap (λ w. w.last_sent) wire ∙ e)
+moved_on a c d talk conn wire (finished e out) = finished e (out_still a c d conn wire out)
+moved_on a c d talk conn wire (ended h t) =
     ended
     (record { fed = ap (λ x. x.unfed) conn ∙ h.fed; nothing = subst (λ (x : Serving). IsNextOf (Some x) Nothing) (ap (λ x. x.session) (sym conn)) h.nothing; last = ap (λ w. w.last_got) wire ∙ h.last })
     (record { written = ap (λ x. x.unwritten) conn ∙ t.written; dry = subst (λ (n : ℕ). EndsDry n talk) (ap (λ x. x.session.client) (sym conn)) t.dry })
@@ -190,7 +216,7 @@ turned_closed a b c d how far wakes more state.Closed h t must conn wire closes 
       end = last ∷ [];
       went = went_then a c d talk (last ∷ []) (went_both a b c how far wakes s) closes.1;
       own = subst (λ (x : ℕ). AreTalk x talk) (sym closes.1.client) (own_both a b c how far wakes s);
-      ends = (closes.0, ap (λ x. moment closes.0 (event.Shut x) ∷ []) (sym closes.1.client), moved_on c d talk conn wire (may_shut a b c how far wakes s must));
+      ends = (closes.0, ap (λ x. moment closes.0 (event.Shut x) ∷ []) (sym closes.1.client), moved_on a c d talk conn wire (may_shut a b c how far wakes s must));
       lines = subst (λ (l : List _). length l ≤ 64) (sym (lines_both a b c how far wakes s)) h.lines;
       reads = subst (λ (w : _). w.reads ≤ a.wire.reads + 16) (sym wire) (reads_both a b c how far wakes s);
       writes = subst (λ (w : _). w.writes ≤ a.wire.writes + 16) (sym wire) (writes_both a b c how far wakes s);
@@ -207,7 +233,7 @@ turned_closed a b c d how far wakes more state.Memory h t must conn wire closes 
       end = [];
       went = went_then a c d talk [] (went_both a b c how far wakes s) closes.0;
       own = subst (λ (x : ℕ). AreTalk x talk) (sym closes.0.client) (own_both a b c how far wakes s);
-      ends = refl;
+      ends = (refl, for_shut (moved_on a c d talk conn wire (may_shut a b c how far wakes s must)));
       lines = subst (λ (l : List _). length l ≤ 64) (sym (lines_both a b c how far wakes s)) h.lines;
       reads = subst (λ (w : _). w.reads ≤ a.wire.reads + 16) (sym wire) (reads_both a b c how far wakes s);
       writes = subst (λ (w : _). w.writes ≤ a.wire.writes + 16) (sym wire) (writes_both a b c how far wakes s);
@@ -233,10 +259,11 @@ must_shut c how far last same must =
 pub may_rest : (c : Seat) (how : Heard) (far : Told) (x : TurnState) (last : Option Got) → last ≡ c.wire.last_got
     → (Some x ≡ Some state.Idle → (how ≡ heard.All) × ((far ≡ told.Later) ⊎ ((far ≡ told.All) × (last ≢ Some got.End))))
     → (Some x ≡ Some state.Again → (how ≡ heard.Again) ⊎ (far ≡ told.Again))
+    → (Some x ≡ Some state.Memory → (how ≡ heard.Memory) ⊎ (far ≡ told.Memory))
     → (Some x ≢ Some state.Closed)
     → MayRest c how far x
-may_rest c how far state.Idle last same idle again closed =
+may_rest c how far state.Idle last same idle again memory closed =
     subst (λ (o : Option Got). (how ≡ heard.All) × ((far ≡ told.Later) ⊎ ((far ≡ told.All) × (o ≢ Some got.End)))) same (idle refl)
-may_rest c how far state.Again last same idle again closed = again refl
-may_rest c how far state.Closed last same idle again closed = closed refl
-may_rest c how far state.Memory last same idle again closed = tt
+may_rest c how far state.Again last same idle again memory closed = again refl
+may_rest c how far state.Closed last same idle again memory closed = closed refl
+may_rest c how far state.Memory last same idle again memory closed = memory refl

@@ -7,6 +7,8 @@ use Rattle.lobby_post.specs.Mail.{IsWakes}
 use Rattle.lobby_machine.specs.Shown.{unread_of}
 use Rattle.lobby_lock.specs.History.{after_history}
 use Rattle.lobby_lock.specs.Passes.{ShownPass, ShownHold, lobby_after}
+use Rattle.client_session.specs.Serving.{Serving}
+use Rattle.client_session.specs.OneSession.{HasLineNext}
 use Rattle.lobby_turns.specs.declared.holds.Said.{Said}
 use Rattle.lobby_turns.specs.declared.holds.Piece.{Piece}
 use Rattle.lobby_turns.specs.Moments.{Moment, moment, requests, drained_for, touched, told_end}
@@ -40,6 +42,10 @@ pub record SaysLines (old new : Seat) (lines wakes : ℕ) : Type 0 where
 -- at most so many lines, and one at least unless memory was refused
 abbrev pub IsWithin : ℕ → Said → Type 0
 IsWithin most said = (said.lines ≤ most) × (said.refused ≡ false → 1 ≤ said.lines)
+
+-- where memory was refused behind them, the line that it was refused for is next
+abbrev pub StaysNext : Serving → Said → Type 0
+StaysNext session said = said.refused ≡ true → HasLineNext session
 
 -- it drained for its client: whether nothing will ever come of it; where it is dry, the last drain asked for some bytes and gave none
 pub record Drains (old new : Seat) (finished dry : Bool) : Type 0 where

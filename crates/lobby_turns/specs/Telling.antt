@@ -1,5 +1,6 @@
 -- What telling a client did.
-use Rattle.std.specs.Prelude.{◌≡◌, ℕ, ◌+◌, ◌-◌, ◌^◌, ◌<◌, ◌≤◌, true, false, List, [], Some}
+use Rattle.std.specs.Prelude.{◌≡◌, ℕ, ◌+◌, ◌-◌, ◌^◌, ◌<◌, ◌≤◌, true, false, List, [], Option, Some, None}
+use Rattle.lobby_turns.specs.declared.link.Sent.{Sent}
 use Rattle.lobby_turns.specs.declared.link.Sent.TheVariants as sent
 use Rattle.lobby_turns.specs.declared.telling.Told.{Told}
 use Rattle.lobby_turns.specs.declared.telling.Told.TheVariants as told
@@ -45,7 +46,7 @@ StepIs old new talk writes step.All = IsAllTold new talk
 StepIs old new talk writes step.Later = MustWait old new talk
 StepIs old new talk writes step.Finished = (told_end talk ≡ true) × (writes ≡ 0)
 StepIs old new talk writes step.Fault = new.wire.last_sent ≡ Some sent.Fault
-StepIs old new talk writes step.Memory = Unit {0}
+StepIs old new talk writes step.Memory = new.conn.unwritten ≡ []
 
 pub record TellsNext (old new : Seat) (step : Step) : Type 0 where
   pub talk : List Moment
@@ -56,21 +57,35 @@ pub record TellsNext (old new : Seat) (step : Step) : Type 0 where
   pub only : OnlyWrites old new writes
   pub step_is : StepIs old new talk writes step
 
+-- the link did not take what was last written
+abbrev pub IsStop : Option Sent → Type 0
+IsStop None = ⊥
+IsStop (Some (sent.Took n)) = ⊥
+IsStop (Some sent.Later) = Unit {0}
+IsStop (Some sent.Fault) = Unit {0}
+
+-- all that was drained was written, or the last write was put off or failed, or so many were made
+pub data IsWrittenOut (old new : Seat) (most : ℕ) : Type 0 where
+  all_written : new.conn.unwritten ≡ [] → IsWrittenOut old new most
+  stopped : old.wire.writes < new.wire.writes → IsStop new.wire.last_sent → IsWrittenOut old new most
+  spent : new.wire.writes ≡ old.wire.writes + most → IsWrittenOut old new most
+
 -- what was drained was written, without an event
 pub record Writes (old new : Seat) (most : ℕ) : Type 0 where
   pub went : Went old new []
   pub writes : ℕ
   pub few : writes ≤ most
   pub only : OnlyWrites old new writes
+  pub out : IsWrittenOut old new most
 
 -- how far the client was told
 abbrev pub ToldIs : Seat → Seat → List Moment → Told → Type 0
 ToldIs old new talk told.All = IsAllTold new talk
 ToldIs old new talk told.Later = MustWait old new talk
 ToldIs old new talk told.Again = new.wire.writes ≡ old.wire.writes + 16
-ToldIs old new talk told.Finished = told_end talk ≡ true
+ToldIs old new talk told.Finished = (told_end talk ≡ true) × IsWrittenOut old new 16
 ToldIs old new talk told.Fault = new.wire.last_sent ≡ Some sent.Fault
-ToldIs old new talk told.Memory = Unit {0}
+ToldIs old new talk told.Memory = new.conn.unwritten ≡ []
 
 pub record Tells (old new : Seat) (told : Told) : Type 0 where
   pub talk : List Moment

@@ -15,6 +15,8 @@ use Rattle.lobby_turns.specs.Moments.{Moment, moment, requests, touched, told_en
 use Rattle.lobby_turns.specs.Seat.{Seat}
 use Rattle.lobby_turns.specs.Talk.{AreTalk, EndsDry}
 use Rattle.lobby_turns.specs.Went.{Went}
+use Rattle.lobby_turns.specs.Hearing.{HasToHear}
+use Rattle.lobby_turns.specs.Telling.{IsWrittenOut}
 
 -- all that came was told the lobby, and the link has no more, ever
 pub record HasEnded (at : Seat) : Type 0 where
@@ -27,14 +29,14 @@ pub record IsEmptied (at : Seat) (talk : List Moment) : Type 0 where
   pub written : at.conn.unwritten ≡ []
   pub dry : EndsDry at.conn.session.client talk
 
--- A client is shut where its stream is spoilt at this place, or its link failed, or the lobby said that nothing will ever come of it,
--- or it has ended and has been told everything
-pub data MayShut (at : Seat) (talk : List Moment) : Type 0 where
-  spoilt : IsNextOf (Some at.conn.session) Spoilt → MayShut at talk
-  unread : at.wire.last_got ≡ Some got.Fault → MayShut at talk
-  unsent : at.wire.last_sent ≡ Some sent.Fault → MayShut at talk
-  finished : told_end talk ≡ true → MayShut at talk
-  ended : HasEnded at → IsEmptied at talk → MayShut at talk
+-- A client is shut where its stream is spoilt at this place, or its link failed, or the lobby said that nothing will ever come of it
+-- and what it had for it was written as far as the link takes it and a turn may write, or it has ended and has been told everything
+pub data MayShut (old at : Seat) (talk : List Moment) : Type 0 where
+  spoilt : IsNextOf (Some at.conn.session) Spoilt → MayShut old at talk
+  unread : at.wire.last_got ≡ Some got.Fault → MayShut old at talk
+  unsent : at.wire.last_sent ≡ Some sent.Fault → MayShut old at talk
+  finished : told_end talk ≡ true → IsWrittenOut old at 16 → MayShut old at talk
+  ended : HasEnded at → IsEmptied at talk → MayShut old at talk
 
 -- Nothing more can be done now: all that came was told the lobby, and the link has no more, or said so in this turn; and the link took
 -- nothing in this turn, or the client has been told everything and may still say more
@@ -45,6 +47,12 @@ pub record IsIdle (old new : Seat) (talk : List Moment) : Type 0 where
   pub heard : (new.wire.last_got ≡ Some got.End) ⊎ ((new.wire.last_got ≡ Some got.Later) × (old.wire.reads < new.wire.reads))
   pub told : ((new.wire.last_sent ≡ Some sent.Later) × (old.wire.writes < new.wire.writes)) ⊎ (IsEmptied new talk × (new.wire.last_got ≢ Some got.End))
 
+-- Memory may be refused where the client is to be heard, where a piece is to be drained for it, and where it is to be shut
+pub data TakesMemory (old new : Seat) (talk : List Moment) : Type 0 where
+  for_hearing : HasToHear old new → TakesMemory old new talk
+  for_drain : new.conn.unwritten ≡ [] → TakesMemory old new talk
+  for_shut : MayShut old new talk → TakesMemory old new talk
+
 -- 64 lines were told the lobby, or 16 reads or 16 writes were made
 abbrev pub IsAtLimit : Seat → Seat → List Moment → Type 0
 IsAtLimit old new talk = (length (requests talk) ≡ 64) ⊎ ((new.wire.reads ≡ old.wire.reads + 16) ⊎ (new.wire.writes ≡ old.wire.writes + 16))
@@ -53,8 +61,8 @@ IsAtLimit old new talk = (length (requests talk) ≡ 64) ⊎ ((new.wire.reads �
 abbrev pub Ends : Seat → Seat → List Moment → List Moment → TurnState → Type 0
 Ends old new talk end state.Idle = (end ≡ []) × IsIdle old new talk
 Ends old new talk end state.Again = (end ≡ []) × IsAtLimit old new talk
-Ends old new talk end state.Closed = (met : State) × (end ≡ moment met (event.Shut new.conn.session.client) ∷ []) × MayShut new talk
-Ends old new talk end state.Memory = end ≡ []
+Ends old new talk end state.Closed = (met : State) × (end ≡ moment met (event.Shut new.conn.session.client) ∷ []) × MayShut old new talk
+Ends old new talk end state.Memory = (end ≡ []) × TakesMemory old new talk
 
 -- A turn: the client's next lines were told the lobby and bytes were drained for it, and then it ended. The woken workers are those
 -- whose clients its events touched

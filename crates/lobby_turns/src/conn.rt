@@ -2,7 +2,7 @@
 
 ghost use Rattle.std.specs.Prelude.{◌≡◌, ◌≢◌, ◌↔◌, ◌+◌, ◌≤◌, ◌<◌, ℕ, List, [], ◌++◌, length, drop, OnOk, OnErr, IfOk, IsTrue, Some};
 ghost use Rattle.lobby_lock.specs.Passes.{ShownPass};
-ghost use Rattle.client_session.specs.OneSession.{Accepted, IsNextOf};
+ghost use Rattle.client_session.specs.OneSession.{Accepted, HasLineNext, IsNextOf};
 ghost use Rattle.client_session.specs.Sessions.{Heard, KeepsKinds};
 ghost use Rattle.lobby_turns.specs.Wire.{Wire, MayGoOn, got_count};
 ghost use Rattle.lobby_turns.specs.Seat.{seat, Carries};
@@ -70,6 +70,7 @@ impl Conn {
     pub(crate) fn next_request(&self) -> Result<Next, AllocError>
         ensures ok { IfOk result (λ next. IsNextOf (Some self.now.session) next) }
         ensures kinds { IfOk result KeepsKinds }
+        ensures line { OnErr result (HasLineNext self.now.session) }
     {
         self.session.next_request()
     }
@@ -119,8 +120,11 @@ impl Conn {
         ensures went { OnOk result ((wire : Wire) (pass : ShownPass) → Went (seat self.old wire pass) (seat self.new wire pass) []) }
         ensures fed { OnOk result (self.new.unfed ≡ []) }
         ensures unwritten { self.new.unwritten ≡ self.old.unwritten }
-        ensures err { OnErr result (self.new ≡ self.old) }
+        ensures err { OnErr result ((self.new ≡ self.old) × (self.old.unfed ≢ [])) }
     {
+        if self.unfed.is_empty() {
+            return Ok(());
+        }
         feed_session(&mut self.session, &self.unfed)?;
         self.unfed = Vec::new(self.alloc);
         Ok(())
@@ -172,16 +176,14 @@ impl Conn {
         sent
     }
 
-    /// Accepts the next line, where one is there.
+    /// Accepts the next line, where one is there; else nothing changes.
     pub(crate) fn accept(&mut self)
         ensures session { Accepted (Some self.old.session) (Some self.new.session) }
         ensures client { self.new.session.client ≡ self.old.session.client }
         ensures unfed { self.new.unfed ≡ self.old.unfed }
         ensures unwritten { self.new.unwritten ≡ self.old.unwritten }
     {
-        if self.session.has_line() {
-            self.session.accept_request();
-        }
+        self.session.accept_next();
     }
 }
 

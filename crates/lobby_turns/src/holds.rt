@@ -6,11 +6,11 @@ ghost use Rattle.command_grammar.specs.Kinds.{keeps_kinds};
 ghost use Rattle.lobby_model.specs.declared.event.Event.TheVariants as event;
 ghost use Rattle.lobby_lock.specs.Passes.{pass_after};
 ghost use Rattle.client_session.specs.declared.session.Next.TheVariants.{Line};
-ghost use Rattle.client_session.specs.OneSession.{IsNextOf};
+ghost use Rattle.client_session.specs.OneSession.{IsNextOf, HasLineNext};
 ghost use Rattle.lobby_turns.specs.Wire.{Wire};
 ghost use Rattle.lobby_turns.specs.Seat.{seat};
 ghost use Rattle.lobby_turns.specs.Went.{Went};
-ghost use Rattle.lobby_turns.specs.Holds.{Stands, Made, SaysLines, IsWithin, Drains, DrainedInto, LetsGo};
+ghost use Rattle.lobby_turns.specs.Holds.{Stands, Made, SaysLines, IsWithin, StaysNext, Drains, DrainedInto, LetsGo};
 
 use crate::conn::{Conn, PIECE};
 use crate::gate::Gate;
@@ -68,6 +68,7 @@ fn say_next(conn: &mut Conn, held: &mut Held) -> Result<Option<Wakes>, AllocErro
     ensures says { IfOk result (λ said. IfSome said (λ wakes. (wire : Wire) → SaysLines (seat conn.old wire (pass_after held.old)) (seat conn.new wire (pass_after held.new)) 1 wakes)) }
     ensures none { IfOk result (λ said. said ≡ None → (conn.new ≡ conn.old) × (held.new ≡ held.old)) }
     ensures err { OnErr result ((conn.new ≡ conn.old) × (held.new ≡ held.old)) }
+    ensures line { OnErr result (HasLineNext conn.new.session) }
     ensures pass { held.new.pass ≡ held.old.pass }
 {
     if held.count() >= MOST_EVENTS {
@@ -92,6 +93,7 @@ fn say_lines(conn: &mut Conn, held: &mut Held, request: Request, most: usize) ->
     requires some { 1 ≤ most }
     ensures says { (wire : Wire) → SaysLines (seat conn.old wire (pass_after held.old)) (seat conn.new wire (pass_after held.new)) result.lines result.wakes }
     ensures within { IsWithin most result }
+    ensures stays { StaysNext conn.new.session result }
     ensures pass { held.new.pass ≡ held.old.pass }
 {
     let mut wakes = match say_line(conn, held, request) {
@@ -147,6 +149,7 @@ pub(crate) fn say<R: Wait, G: Gate>(
     requires some { 1 ≤ most }
     ensures says { (wire : Wire) → SaysLines (seat conn.old wire pass) (seat conn.new wire result.0) result.1.lines result.1.wakes }
     ensures within { IsWithin most result.1 }
+    ensures stays { StaysNext conn.new.session result.1 }
 {
     gate.before_take(pass.number());
     let mut held = desk.take(rt, pass);

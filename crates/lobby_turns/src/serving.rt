@@ -22,6 +22,7 @@ fn state_of(last_got: Option<Got>, heard: Heard, told: Told) -> Option<TurnState
     ensures shut { result ≡ None → (told ≡ Told.Finished) ⊎ ((told ≡ Told.Fault) ⊎ ((heard ≡ Heard.Stop) ⊎ ((heard ≡ Heard.All) × (told ≡ Told.All) × (last_got ≡ Some Got.End)))) }
     ensures idle { result ≡ Some TurnState.Idle → (heard ≡ Heard.All) × ((told ≡ Told.Later) ⊎ ((told ≡ Told.All) × (last_got ≢ Some Got.End))) }
     ensures again { result ≡ Some TurnState.Again → (heard ≡ Heard.Again) ⊎ (told ≡ Told.Again) }
+    ensures memory { result ≡ Some TurnState.Memory → (heard ≡ Heard.Memory) ⊎ (told ≡ Told.Memory) }
     ensures closed { result ≢ Some TurnState.Closed }
 {
     match (heard, told) {

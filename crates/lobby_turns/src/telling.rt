@@ -116,10 +116,9 @@ fn write_out<L: Link, G: Gate>(conn: &mut Conn, link: &mut L, pass: &Pass, gate:
         if conn.is_written() {
             return;
         }
-        match conn.write(link, gate, pass.number()) {
-            Sent::Took(_) => {}
-            Sent::Later | Sent::Fault => return,
-        }
+        let Sent::Took(_) = conn.write(link, gate, pass.number()) else {
+            return;
+        };
     }
 }
 

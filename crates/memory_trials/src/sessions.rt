@@ -107,8 +107,8 @@ impl Subject for Session {
             Deed::Send(bytes) => self.feed(bytes) != Err(FeedError::Memory),
             Deed::Take => {
                 let is_read = next_id(self).is_ok();
-                if is_read && self.has_line() {
-                    self.accept_request();
+                if is_read {
+                    self.accept_next();
                 }
                 is_read
             }
@@ -127,9 +127,7 @@ impl Subject for Session {
         println!(rt; "the session of client {}", self.client())?;
         for _ in 0..9 {
             println!(rt; "ready: {}, id: {:?}", self.is_ready(), next_id(self))?;
-            if self.has_line() {
-                self.accept_request();
-            }
+            self.accept_next();
         }
         Ok(())
     }

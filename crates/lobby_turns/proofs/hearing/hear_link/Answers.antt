@@ -1,12 +1,12 @@
 use Rattle.std.proofs.Common.{ap, ◌∙◌, Some}
 use Rattle.lobby_turns.specs.Wire.{got_count}
-use Rattle.lobby_turns.proofs.Hearings.{only_one, link_read, link_later, link_end, link_fault}
+use Rattle.lobby_turns.proofs.Hearings.{only_one, bytes_came, link_read, link_later, link_end, link_fault}
 use Rattle.lobby_turns.proofs.hearing.hear_link.Goals as goal
 
 pub returns-in-Ok-Bytes-clause-heard : goal.returns-in-Ok-Bytes-clause-heard
 returns-in-Ok-Bytes-clause-heard g c =
     let e = c.in-Ok-Bytes.ensures in
-    link_read _ _ (e.went c.args.pass) (only_one _ _ e.reads e.writes e.failures)
+    link_read _ _ (e.went c.args.pass) (only_one _ _ e.reads e.writes e.failures) (bytes_came _ _ (e.last_got ∙ ap (λ x. Some x) c.in-Ok-Bytes.field-0-is))
 
 pub returns-in-Ok-Later-clause-heard : goal.returns-in-Ok-Later-clause-heard
 returns-in-Ok-Later-clause-heard g c =

@@ -3,7 +3,7 @@ use Rattle.lobby_turns.specs.declared.hearing.Step.TheVariants as step
 use Rattle.client_session.specs.declared.session.Next.{Next}
 use Rattle.client_session.specs.OneSession.{IsNextOf}
 use Rattle.lobby_turns.specs.Seat.{Carried, seat}
-use Rattle.lobby_turns.specs.Hearing.{HearsNext}
+use Rattle.lobby_turns.specs.Hearing.{has_bytes, has_line, HearsNext}
 use Rattle.lobby_turns.proofs.Parts.{went_none}
 use Rattle.lobby_turns.proofs.Hearings.{said_next, none_done, none_left, fed_first}
 use Rattle.lobby_turns.proofs.hearing.hear_next.Goals as goal
@@ -11,10 +11,10 @@ use Rattle.lobby_turns.proofs.hearing.hear_next.Goals as goal
 pub returns-in-Err-clause-heard : goal.returns-in-Err-clause-heard
 returns-in-Err-clause-heard g c =
     let before = seat c.args.conn.now (g.L.Link.wire c.args.link.now) c.args.pass in
-    subst (λ (x : Carried). HearsNext before (seat x (g.L.Link.wire c.args.link.now) c.args.pass) step.Memory) (sym c.in-Err.ensures.err) (none_done _ _ refl (went_none before))
+    subst (λ (x : Carried). HearsNext before (seat x (g.L.Link.wire c.args.link.now) c.args.pass) step.Memory) (sym c.in-Err.ensures.err.0) (none_done _ _ refl (went_none before) (has_bytes c.in-Err.ensures.err.1))
 
 pub returns-in-Ok-Line-clause-heard : goal.returns-in-Ok-Line-clause-heard
-returns-in-Ok-Line-clause-heard g c = fed_first _ _ _ _ (c.in-Ok.ensures.went (g.L.Link.wire c.args.link.now) c.args.pass) refl (said_next _ _ _ refl (c.say-pass.ensures.says (g.L.Link.wire c.args.link.now)))
+returns-in-Ok-Line-clause-heard g c = fed_first _ _ _ _ (c.in-Ok.ensures.went (g.L.Link.wire c.args.link.now) c.args.pass) refl (said_next _ _ _ refl c.say-pass.ensures.stays (c.say-pass.ensures.says (g.L.Link.wire c.args.link.now)))
 
 pub returns-in-Ok-Nothing-clause-heard : goal.returns-in-Ok-Nothing-clause-heard
 returns-in-Ok-Nothing-clause-heard g c = fed_first _ _ _ _ (c.in-Ok.ensures.went (g.L.Link.wire c.args.link.now) c.args.pass) refl c.hear_link.ensures.heard
@@ -25,7 +25,7 @@ returns-in-Ok-Spoilt-clause-heard g c =
     (subst (λ (x : Next). IsNextOf (Some c.feed.new.self.session) x) c.in-Ok-Spoilt.field-0-is c.in-Ok-Spoilt.ensures.ok)
 
 pub returns-in-Err-next_request-clause-heard : goal.returns-in-Err-next_request-clause-heard
-returns-in-Err-next_request-clause-heard g c = none_done _ _ refl (c.in-Ok.ensures.went (g.L.Link.wire c.args.link.now) c.args.pass)
+returns-in-Err-next_request-clause-heard g c = none_done _ _ refl (c.in-Ok.ensures.went (g.L.Link.wire c.args.link.now) c.args.pass) (has_line c.in-Err-next_request.ensures.line)
 
 pub returns-in-Ok-Nothing-clause-within : goal.returns-in-Ok-Nothing-clause-within
 returns-in-Ok-Nothing-clause-within g c = c.hear_link.ensures.within c.args.most

@@ -8,7 +8,7 @@ pub returns-in-Some-clause-turned : goal.returns-in-Some-clause-turned
 returns-in-Some-clause-turned g c =
     let e = c.in-Some.ensures in
     let told = seat c.tell-pass.new.conn (g.L.Link.wire c.tell-pass.new.link) c.tell-pass.result.0 in
-    turned_open _ _ _ _ _ _ _ c.hear-pass.ensures c.tell-pass.ensures (may_rest told _ _ _ c.last_got.result c.last_got.ensures e.idle e.again e.closed)
+    turned_open _ _ _ _ _ _ _ c.hear-pass.ensures c.tell-pass.ensures (may_rest told _ _ _ c.last_got.result c.last_got.ensures e.idle e.again e.memory e.closed)
 
 pub returns-in-None-clause-turned : goal.returns-in-None-clause-turned
 returns-in-None-clause-turned g c =

@@ -8,7 +8,7 @@ use Rattle.lobby_turns.proofs.telling.tell.Goals as goal
 pub returns-then-finished : goal.returns-then-finished
 returns-then-finished g c =
     let wire = g.L.Link.wire c.args.link.now in
-    tells_asked _ _ _ _ (omega arith) (next_finished _ _ _ _ c.if-finished.true (no_write _ _ refl refl refl) (c.is_finished-next.ensures wire)) c.write_out.ensures
+    tells_asked _ _ _ (next_finished _ _ _ _ c.if-finished.true (no_write _ _ refl refl refl) (c.is_finished-next.ensures wire)) c.write_out.ensures
 
 pub loop-writes-init : goal.loop-writes-init
 loop-writes-init g c =

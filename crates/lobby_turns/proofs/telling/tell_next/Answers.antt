@@ -21,7 +21,7 @@ returns-in-Err g c =
     let wire = g.L.Link.wire c.args.link.now in
     let err = from_err _ _ _ c.in-Err.is c.drain-pass.ensures.err in
     let before = seat c.args.conn.now wire c.args.pass in
-    subst (λ (x : Carried × ShownPass). TellsNext before (seat x.0 wire x.1) step.Memory) (λ i. (sym err.0 i, sym err.1 i)) (next_memory before)
+    subst (λ (x : Carried × ShownPass). TellsNext before (seat x.0 wire x.1) step.Memory) (λ i. (sym err.0 i, sym err.1 i)) (next_memory before (c.is_written.ensures.0 c.if-not-is_written.false))
 
 pub returns-then-is_written : goal.returns-then-is_written
 returns-then-is_written g c =

@@ -1,16 +1,22 @@
 use Rattle.std.proofs.Common.{arith}
-use Rattle.lobby_turns.proofs.Tellings.{writes_none, writes_more, writes_within, one_write}
+use Rattle.lobby_turns.proofs.Tellings.{writing_none, writing_more, stops, writes_all, writes_stopped, writes_most, one_write}
 use Rattle.lobby_turns.proofs.telling.write_out.Goals as goal
 
 pub loop-init : goal.loop-init
-loop-init g c = writes_none _
+loop-init g c = writing_none _
 
-pub returns-in-Later : goal.returns-in-Later
-returns-in-Later g c =
+pub returns-then-is_written : goal.returns-then-is_written
+returns-then-is_written g c = writes_all _ _ _ _ c.loop-test.true (c.is_written.ensures.0 c.if-is_written.true) c.loop.invariant
+
+pub returns-in_default : goal.returns-in_default
+returns-in_default g c =
     let e = c.write.ensures in
-    writes_within _ _ _ _ (omega (arith, c.loop-test.true)) (writes_more _ _ _ _ c.loop.invariant (e.went _) (one_write _ _ e.writes e.reads e.failures e.last_got e.session e.unfed))
+    writes_stopped _ _ _ _ _ c.loop-test.true (stops c.write.result _ c.in_default.not-Took e.last_sent) c.loop.invariant (e.went _) (one_write _ _ e.writes e.reads e.failures e.last_got e.session e.unfed)
 
 pub loop-preserved : goal.loop-preserved
 loop-preserved g c =
     let e = c.write.ensures in
-    writes_more _ _ _ _ c.loop.invariant (e.went _) (one_write _ _ e.writes e.reads e.failures e.last_got e.session e.unfed)
+    writing_more _ _ _ _ c.loop.invariant (e.went _) (one_write _ _ e.writes e.reads e.failures e.last_got e.session e.unfed)
+
+pub returns : goal.returns
+returns g c = writes_most _ _ _ _ (omega (arith, c.loop-test.false)) c.loop.invariant
