@@ -1,5 +1,5 @@
 -- What a drain takes.
-use Rattle.std.proofs.Common.{◌≡◌, ℕ, zero, suc, ◌+◌, ◌-◌, ◌*◌, ◌<◌, ◌≤◌, true, false, List, [], ◌∷◌, ◌++◌, length, take, drop, min, refl, sym, ap, ◌∙◌, arith, append-nil, length-append, subst, true≢false, inl, inr}
+use Rattle.std.proofs.Common.{◌≡◌, ℕ, zero, suc, ◌+◌, ◌-◌, ◌*◌, ◌<◌, ◌≤◌, true, false, List, [], ◌∷◌, ◌++◌, length, take, drop, min, refl, sym, ap, ◌∙◌, arith, append_assoc, append-nil, length-append, subst, true≢false, inl, inr}
 use Rattle.std.specs.Prelude.{◌||◌, Option, Some, None, Result, Ok, Err, is_ok, if◌then◌else◌}
 use Rattle.std.proofs.Math.Seq.{take-append-add}
 use Rattle.std.proofs.lemmas.List.{length-drop, take_at, take-append-le, length-take-le, drop_all}
@@ -23,7 +23,7 @@ use Rattle.lobby_turns.specs.Moments.{Moment, moment, drained_for, tells_end, to
 use Rattle.lobby_turns.specs.Seat.{Carried, seat}
 use Rattle.lobby_turns.specs.Talk.{AreDrains}
 use Rattle.lobby_turns.specs.Went.{Joined}
-use Rattle.lobby_turns.specs.Holds.{Stands, Drains, DrainedInto, LetsGo}
+use Rattle.lobby_turns.specs.Holds.{Stands, Drains, DrainedInto, DrainedBehind, LetsGo}
 use Rattle.lobby_turns.proofs.Joins.{IsTaken, held_none, joined_none, joined_then, joined_more, stands_more}
 use Rattle.lobby_turns.proofs.Parts.{drained-append, went_drains}
 use Rattle.lobby_turns.proofs.Talks.{are_drains-append, told_end-append, dry_behind, or_false}
@@ -64,17 +64,44 @@ few_came s c n count into rest count_is given =
     let few : count ≤ length u = omega (arith, count_is) in
     omega (arith, ap length given, length-append (take count u) rest, length-take-le count u few)
 
-pub drained_piece : (old new : Carried) (wire : Wire) (p q : ShownPass) (c n : ℕ) (into : List ℕ) (piece : Piece) → 0 < n → c ≡ old.session.client
-    → DrainedInto p q c n into piece → new.session ≡ old.session → new.unfed ≡ old.unfed → old.unwritten ≡ [] → new.unwritten ≡ take piece.count into
-    → Drains (seat old wire p) (seat new wire q) piece.finished piece.dry
-drained_piece old new wire p q c n into piece some same d session unfed none unwritten =
-    let e : DrainedInto p q old.session.client n into piece = subst (λ (x : ℕ). DrainedInto p q x n into piece) same d in
+-- what came into a slice was copied behind what stood in a buffer
+pub drained_behind : (p q : ShownPass) (c n : ℕ) (into before after : List ℕ) (piece : Piece) → 0 < n → DrainedInto p q c n into piece → after ≡ before ++ take piece.count into
+    → DrainedBehind p q c before after piece
+drained_behind p q c n into before after piece some d is = record {
+  talk = d.talk;
+  joined = d.joined;
+  own = d.own;
+  bytes = is ∙ ap (λ l. before ++ l) d.bytes;
+  finished_is = d.finished_is;
+  dry_is = λ dry. d.dry_is dry some;
+}
+
+-- and more behind it
+pub drained_further : (p q r : ShownPass) (c : ℕ) (before between after : List ℕ) (first rest : Piece) → first.finished ≡ false → DrainedBehind p q c before between first
+    → DrainedBehind q r c between after rest → DrainedBehind p r c before after rest
+drained_further p q r c before between after first rest goes_on h k = record {
+  talk = h.talk ++ k.talk;
+  joined = joined_then p q r h.talk k.talk h.joined k.joined;
+  own = are_drains-append c h.talk k.talk h.own k.own;
+  bytes = k.bytes ∙ ap (λ l. l ++ drained_for c k.talk) h.bytes ∙ append_assoc before _ _ ∙ ap (λ l. before ++ l) (sym (drained-append c h.talk k.talk));
+  finished_is = told_end-append h.talk k.talk ∙ ap (λ b. b || told_end k.talk) (h.finished_is ∙ goes_on) ∙ k.finished_is;
+  dry_is = λ e. dry_behind c h.talk k.talk (k.dry_is e);
+}
+
+-- the whole hold, from the take to the give, for a connection that had nothing to write
+pub drains_held : (old new : Carried) (wire : Wire) (p q : ShownPass) (h k : ShownHold) (c : ℕ) (before after : List ℕ) (piece : Piece) → IsTaken p h → q ≡ pass_after k
+    → c ≡ old.session.client → DrainedBehind (pass_after h) (pass_after k) c before after piece → new.session ≡ old.session → new.unfed ≡ old.unfed
+    → old.unwritten ≡ before → new.unwritten ≡ after → Drains (seat old wire p) (seat new wire q) piece.finished piece.dry
+drains_held old new wire p q h k c before after piece taken is same d session unfed none unwritten =
+    let e : DrainedBehind (pass_after h) q old.session.client before after piece =
+    subst (λ (x : ShownPass). DrainedBehind (pass_after h) x old.session.client before after piece) (sym is) (subst (λ (x : ℕ). DrainedBehind (pass_after h) (pass_after k) x before after piece) same d) in
     record {
       talk = e.talk;
-      went = went_drains old new wire p q e.talk e.own session unfed (unwritten ∙ e.bytes ∙ ap (λ l. l ++ drained_for old.session.client e.talk) (sym none)) e.joined;
+      went = went_drains old new wire p q e.talk e.own session unfed (unwritten ∙ e.bytes ∙ ap (λ l. l ++ drained_for old.session.client e.talk) (sym none))
+          (joined_then p (pass_after h) q [] e.talk (held_none p (pass_after h) h h taken refl refl) e.joined);
       own = e.own;
       finished_is = e.finished_is;
-      dry_is = λ dry. e.dry_is dry some;
+      dry_is = e.dry_is;
     }
 
 take_none : (n : ℕ) (xs : List ℕ) → n ≤ 0 → take n xs ≡ []
@@ -175,10 +202,10 @@ drained_held p q h k c n into piece taken is d =
       all = d.all;
     })
 
--- what was copied behind nothing
-pub copied : {A B : Type 0} (r : Result A B) (new old piece : List ℕ) → IsOk r → new ≡ (if is_ok r then old ++ piece else old) → old ≡ [] → new ≡ piece
-copied (Ok x) new old piece ok is none = is ∙ ap (λ l. l ++ piece) none
-copied (Err x) new old piece ok is none = absurd (true≢false (sym ok))
+-- what was copied
+pub copied : {A B : Type 0} (r : Result A B) (new old piece : List ℕ) → IsOk r → new ≡ (if is_ok r then old ++ piece else old) → new ≡ old ++ piece
+copied (Ok x) new old piece ok is = is
+copied (Err x) new old piece ok is = absurd (true≢false (sym ok))
 
 -- ---- letting go
 

@@ -1,5 +1,5 @@
 -- What a hold of a turn did.
-use Rattle.std.specs.Prelude.{◌≡◌, ◌⊎◌, ℕ, ◌<◌, ◌≤◌, Bool, true, false, List, [], ◌∷◌, length, take}
+use Rattle.std.specs.Prelude.{◌≡◌, ◌⊎◌, ℕ, ◌<◌, ◌≤◌, Bool, true, false, List, [], ◌∷◌, ◌++◌, length, take}
 use Rattle.lobby_model.specs.declared.event.Event.{Event}
 use Rattle.lobby_model.specs.State.{State}
 use Rattle.lobby_post.specs.Mask.{has_home}
@@ -70,6 +70,15 @@ pub record DrainedInto (old new : ShownPass) (c n : ℕ) (into : List ℕ) (piec
   pub finished_is : told_end talk ≡ piece.finished
   pub dry_is : piece.dry ≡ true → 0 < n → EndsDry c talk
   pub all : piece.count < n → HasNoneFor c new
+
+-- the same behind what stands in a buffer
+pub record DrainedBehind (old new : ShownPass) (c : ℕ) (before after : List ℕ) (piece : Piece) : Type 0 where
+  pub talk : List Moment
+  pub joined : Joined old new talk
+  pub own : AreDrains c talk
+  pub bytes : after ≡ before ++ drained_for c talk
+  pub finished_is : told_end talk ≡ piece.finished
+  pub dry_is : piece.dry ≡ true → EndsDry c talk
 
 -- it drained for client c, and did nothing else, until nothing was left unread for that client, or 4 MiB were drained
 pub record LetsGo (old new : ShownPass) (c : ℕ) : Type 0 where

@@ -1,7 +1,7 @@
 //! The holds of a turn. Each says the next lines, or drains, or shuts the client, and no link is read
 //! or written in it.
 
-ghost use Rattle.std.specs.Prelude.{◌≡◌, ◌+◌, ◌<◌, ◌≤◌, [], length, OnErr, IfOk, IfSome, IsTrue, Some, None, false};
+ghost use Rattle.std.specs.Prelude.{◌≡◌, ◌+◌, ◌<◌, ◌≤◌, [], length, vec_len, vec_capacity, OnErr, IfOk, IfSome, IsTrue, Some, None, false};
 ghost use Rattle.command_grammar.specs.Kinds.{keeps_kinds};
 ghost use Rattle.lobby_model.specs.declared.event.Event.TheVariants as event;
 ghost use Rattle.lobby_lock.specs.Passes.{pass_after};
@@ -10,7 +10,7 @@ ghost use Rattle.client_session.specs.OneSession.{IsNextOf, HasLineNext};
 ghost use Rattle.lobby_turns.specs.Wire.{Wire};
 ghost use Rattle.lobby_turns.specs.Seat.{seat};
 ghost use Rattle.lobby_turns.specs.Went.{Went};
-ghost use Rattle.lobby_turns.specs.Holds.{Stands, Made, SaysLines, IsWithin, StaysNext, Drains, DrainedInto, LetsGo};
+ghost use Rattle.lobby_turns.specs.Holds.{Stands, Made, SaysLines, IsWithin, StaysNext, Drains, DrainedInto, DrainedBehind, LetsGo};
 
 use crate::conn::{Conn, PIECE};
 use crate::gate::Gate;
@@ -20,6 +20,9 @@ use lobby_lock::{Desk, Held, MOST_EVENTS, Pass};
 use lobby_machine::Wakes;
 use std::alloc::AllocError;
 use std::sync::Wait;
+
+/// The most pieces that one hold drains for a client: 16 KiB, which one write carries.
+const PIECES: usize = 4;
 
 /// What was said in a hold.
 #[derive(Clone, Copy)]
@@ -174,8 +177,66 @@ fn drain_once(held: &mut Held, client: u64, into: &mut [u8]) -> Piece
     }
 }
 
-/// Drains into a slice, and where less came than it has room for, once more into the rest of it: a
-/// client that has been told everything is known by a drain that gives nothing.
+/// Drains into a slice, in a hold that goes on, and where less came than it has room for, once more
+/// into the rest of it: a client that has been told everything is known by a drain that gives nothing.
+fn drain_all(held: &mut Held, client: u64, into: &mut [u8]) -> Piece
+    requires few { length held.old.events + 2 ≤ MOST_EVENTS }
+    requires stands { Stands held.old }
+    ensures drained { DrainedInto (pass_after held.old) (pass_after held.new) client (length into.old) into.new result }
+    ensures stands { Stands held.new }
+    ensures count { length held.new.events ≤ length held.old.events + 2 }
+    ensures pass { held.new.pass ≡ held.old.pass }
+{
+    let first = drain_once(held, client, into);
+    if first.finished || first.count == 0 || first.count == into.len() {
+        return first;
+    }
+    let rest = drain_once(held, client, &mut into[first.count..]);
+    Piece {
+        count: first.count + rest.count,
+        finished: rest.finished,
+        dry: rest.dry,
+    }
+}
+
+/// Drains a piece behind what stands in a buffer, in a hold that goes on. The piece comes by way of a
+/// slice of its length.
+fn drain_behind(held: &mut Held, client: u64, bytes: &mut [u8], unwritten: &mut Vec<u8>) -> Piece
+    requires few { length held.old.events + 2 ≤ MOST_EVENTS }
+    requires stands { Stands held.old }
+    requires piece { length bytes.old ≡ PIECE }
+    requires room { vec_len unwritten.old + PIECE ≤ vec_capacity unwritten.old }
+    ensures drained { DrainedBehind (pass_after held.old) (pass_after held.new) client unwritten.old.items unwritten.new.items result }
+    ensures stands { Stands held.new }
+    ensures count { length held.new.events ≤ length held.old.events + 2 }
+    ensures pass { held.new.pass ≡ held.old.pass }
+{
+    let piece = drain_all(held, client, bytes);
+    let _ = unwritten.extend_from_slice(&bytes[..piece.count]);
+    piece
+}
+
+/// Drains behind what stands in a buffer that has room for a piece, in a new hold: one piece, and as long
+/// as they are full and memory is there, further ones, so that one write carries more.
+fn drain_pieces(held: &mut Held, client: u64, unwritten: &mut Vec<u8>) -> Piece
+    requires new { held.old.events ≡ [] }
+    requires stands { Stands held.old }
+    requires room { vec_len unwritten.old + PIECE ≤ vec_capacity unwritten.old }
+    ensures drained { DrainedBehind (pass_after held.old) (pass_after held.new) client unwritten.old.items unwritten.new.items result }
+    ensures pass { held.new.pass ≡ held.old.pass }
+{
+    let mut bytes = [0u8; PIECE];
+    let mut piece = drain_behind(held, client, &mut bytes, unwritten);
+    for _ in 1..PIECES {
+        if piece.finished || piece.count < PIECE || unwritten.reserve(PIECE).is_err() {
+            return piece;
+        }
+        piece = drain_behind(held, client, &mut bytes, unwritten);
+    }
+    piece
+}
+
+/// Drains into a slice, in a hold.
 fn drain_into<R: Wait, G: Gate>(
     rt: &R,
     client: u64,
@@ -189,20 +250,11 @@ fn drain_into<R: Wait, G: Gate>(
 {
     gate.before_take(pass.number());
     let mut held = desk.take(rt, pass);
-    let first = drain_once(&mut held, client, into);
-    if first.finished || first.count == 0 || first.count == into.len() {
-        return (held.give(rt, desk), first);
-    }
-    let rest = drain_once(&mut held, client, &mut into[first.count..]);
-    let piece = Piece {
-        count: first.count + rest.count,
-        finished: rest.finished,
-        dry: rest.dry,
-    };
+    let piece = drain_all(&mut held, client, into);
     (held.give(rt, desk), piece)
 }
 
-/// Drains a piece for the client. All that was drained before was written.
+/// Drains what one write carries for the client, in a hold. All that was drained before was written.
 pub(crate) fn drain<R: Wait, G: Gate>(
     rt: &R,
     conn: &mut Conn,
@@ -220,9 +272,10 @@ pub(crate) fn drain<R: Wait, G: Gate>(
     let Ok(mut unwritten) = Vec::with_capacity(conn.alloc, PIECE) else {
         return (pass, Err(AllocError));
     };
-    let mut bytes = [0u8; PIECE];
-    let (pass, piece) = drain_into(rt, conn.client(), desk, pass, gate, &mut bytes);
-    let _ = unwritten.extend_from_slice(&bytes[..piece.count]);
+    gate.before_take(pass.number());
+    let mut held = desk.take(rt, pass);
+    let piece = drain_pieces(&mut held, conn.client(), &mut unwritten);
+    let pass = held.give(rt, desk);
     conn.set_drained(unwritten);
     (pass, Ok(piece))
 }
@@ -243,7 +296,7 @@ pub(crate) fn is_finished<R: Wait, G: Gate>(
 }
 
 /// The most pieces that are let go at once, 4 MiB in all.
-const PIECES: usize = 1_024;
+const PIECES_LET_GO: usize = 1_024;
 
 /// Lets go what waits unread for a client: all of it, or 4 MiB where there is more. It takes no memory. It is for a client whose link
 /// has failed and whose shut was refused memory: what it will never read makes room for what others are told.
@@ -254,7 +307,7 @@ pub fn let_go<R: Wait, G: Gate>(rt: &R, conn: &Conn, desk: &Desk, pass: Pass, ga
     ensures number { result.worker.number ≡ pass.worker.number }
 {
     let mut pass = pass;
-    for _ in 0..PIECES {
+    for _ in 0..PIECES_LET_GO {
         let mut piece = [0u8; PIECE];
         let (next, drained) = drain_into(rt, conn.client(), desk, pass, gate, &mut piece);
         pass = next;
