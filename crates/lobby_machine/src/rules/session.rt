@@ -76,7 +76,13 @@ pub fn my_status(
         Some(status) => merge_user(status, asked),
         None => unreachable!(),
     };
-    maps.tell_all(LentReply::ClientStatus(me, status.word()), post)?;
+    maps.tell_all(
+        LentReply::ClientStatus {
+            user: me,
+            status: status.word(),
+        },
+        post,
+    )?;
     Ok(Change::Status {
         name: me.copy(),
         status,
@@ -106,7 +112,7 @@ pub fn log_out(
     tell_left(maps, me, post)?;
     let asks = maps.asked_by(me);
     let battle = tell_battle_left(maps, me, post)?;
-    maps.tell_others(LentReply::RemoveUser(me), post)?;
+    maps.tell_others(LentReply::RemoveUser { user: me }, post)?;
     Ok(Change::LogOut {
         name: Some(me.copy()),
         asks,
