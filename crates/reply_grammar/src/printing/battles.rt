@@ -83,7 +83,7 @@ pub(super) fn put(out: &mut Vec<u8>, id: Option<u32>, reply: LentReply) -> Resul
             battle,
             user,
             script_password,
-        } => { put_joined_battle(out, id, battle, user, script_password) }
+        } => put_joined_battle(out, id, battle, user, script_password),
         LentReply::LeftBattle { battle, user } => put_left_battle(out, id, battle, user),
         LentReply::UpdateBattleInfo {
             battle,
@@ -91,7 +91,7 @@ pub(super) fn put(out: &mut Vec<u8>, id: Option<u32>, reply: LentReply) -> Resul
             locked,
             map_hash,
             map,
-        } => { put_update_battle_info(out, id, battle, spectator_count, locked, &map_hash, map) }
+        } => put_update_battle_info(out, id, battle, spectator_count, locked, &map_hash, map),
         LentReply::RequestBattleStatus => put_bare(out, id, CommandWord::RequestBattleStatus),
         LentReply::ForceQuitBattle => put_bare(out, id, CommandWord::ForceQuitBattle),
         _ => unreachable!(),

@@ -75,7 +75,7 @@ pub(super) fn put(out: &mut Vec<u8>, id: Option<u32>, reply: LentReply) -> Resul
             channel,
             names,
             last,
-        } => { put_last_clients(out, id, channel, names, last) }
+        } => put_last_clients(out, id, channel, names, last),
         LentReply::Joined { channel, user } => {
             put_two_names(out, id, CommandWord::Joined, channel, user)
         }
@@ -86,7 +86,7 @@ pub(super) fn put(out: &mut Vec<u8>, id: Option<u32>, reply: LentReply) -> Resul
             channel,
             user,
             text,
-        } => { put_two_names_and_text(out, id, CommandWord::Said, channel, user, &text.as_text()) }
+        } => put_two_names_and_text(out, id, CommandWord::Said, channel, user, &text.as_text()),
         LentReply::SaidEx {
             channel,
             user,
@@ -103,7 +103,7 @@ pub(super) fn put(out: &mut Vec<u8>, id: Option<u32>, reply: LentReply) -> Resul
         LentReply::Channel {
             channel,
             user_count,
-        } => { put_channel(out, id, channel, user_count) }
+        } => put_channel(out, id, channel, user_count),
         LentReply::EndOfChannels => put_bare(out, id, CommandWord::EndOfChannels),
         _ => unreachable!(),
     }

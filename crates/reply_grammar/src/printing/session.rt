@@ -85,7 +85,7 @@ pub(super) fn put(out: &mut Vec<u8>, id: Option<u32>, reply: LentReply) -> Resul
             country,
             cpu,
             account,
-        } => { put_add_user(out, id, user, country, &cpu, account) }
+        } => put_add_user(out, id, user, country, &cpu, account),
         LentReply::RemoveUser { user } => put_only_name(out, id, CommandWord::RemoveUser, user),
         LentReply::ClientStatus { user, status } => put_client_status(out, id, user, status),
         LentReply::LoginInfoEnd => put_bare(out, id, CommandWord::LoginInfoEnd),
