@@ -213,22 +213,12 @@ fn answer_in_battle(
             team_color,
         } => battles::my_battle_status(maps, client, me, *battle_status, *team_color, post),
         Command::SayBattle { text } => {
-            battles::say_in_battle(
-                maps,
-                client,
-                me,
-                LentReply::SaidBattle { user: me, text },
-                post,
-            )
+            let line = LentReply::SaidBattle { user: me, text };
+            battles::say_in_battle(maps, client, me, line, post)
         }
         Command::SayBattleEx { text } => {
-            battles::say_in_battle(
-                maps,
-                client,
-                me,
-                LentReply::SaidBattleEx { user: me, text },
-                post,
-            )
+            let line = LentReply::SaidBattleEx { user: me, text };
+            battles::say_in_battle(maps, client, me, line, post)
         }
         _ => unreachable!(),
     }

@@ -110,13 +110,11 @@ fn tell_opening(
     requires { name_of maps.now.plain post.old.issuer ≡ Some me.now }
     ensures { OnOk result (Told maps.now.plain post.old post.new (tell everyone (opened_line number battle.now.info ∷ []) ∷ tell (user me.now) (reply.OpenBattle number ∷ reply.RequestBattleStatus ∷ []) ∷ [])) }
 {
-    maps.tell_all(
-        LentReply::BattleOpened {
-            battle: number,
-            opened: &battle.opened,
-        },
-        post,
-    )?;
+    let line = LentReply::BattleOpened {
+        battle: number,
+        opened: &battle.opened,
+    };
+    maps.tell_all(line, post)?;
     tell_opener(maps, me, number, post)?;
     Ok(())
 }
@@ -319,15 +317,11 @@ pub fn tell_leaving(
         return tell_closing(maps, number, &battle.room, leaving, post);
     }
     tell_bots_gone(maps, name, number, &battle.room, leaving, post)?;
-    tell_leaving_all(
-        maps,
-        LentReply::LeftBattle {
-            battle: number,
-            user: name,
-        },
-        leaving,
-        post,
-    )
+    let line = LentReply::LeftBattle {
+        battle: number,
+        user: name,
+    };
+    tell_leaving_all(maps, line, leaving, post)
 }
 
 /// Tells that a battle closes: those who ask to join it first, and then all.
@@ -346,12 +340,8 @@ fn tell_closing(
         Leaving::Seen => maps.tell_askers(room, line, post)?,
         Leaving::Unseen => maps.tell_other_askers(room, line, post)?,
     }
-    tell_leaving_all(
-        maps,
-        LentReply::BattleClosed { battle: number },
-        leaving,
-        post,
-    )
+    let line = LentReply::BattleClosed { battle: number };
+    tell_leaving_all(maps, line, leaving, post)
 }
 
 /// Tells the members of a battle that the bots of one of them go.

@@ -139,24 +139,18 @@ fn tell_members(
 {
     let mut rest = names;
     while rest.len() >= 32 {
-        maps.tell_user(
-            me,
-            LentReply::Clients {
-                channel,
-                names: &rest[..32],
-            },
-            post,
-        )?;
+        let line = LentReply::Clients {
+            channel,
+            names: &rest[..32],
+        };
+        maps.tell_user(me, line, post)?;
         rest = &rest[32..];
     }
-    maps.tell_user(
-        me,
-        LentReply::LastClients {
-            channel,
-            names: rest,
-            last: me,
-        },
-        post,
-    )?;
+    let line = LentReply::LastClients {
+        channel,
+        names: rest,
+        last: me,
+    };
+    maps.tell_user(me, line, post)?;
     Ok(())
 }

@@ -193,23 +193,17 @@ fn tell_joiner(
     ensures { OnOk result (Told maps.now.plain post.old post.new (tell (user name.now) (reply.JoinBattle number battle.now.game_hash ∷ reply.JoinedBattle number name.now None ∷ (room_lines number battle.now.room ++ reply.RequestBattleStatus ∷ [])) ∷ [])) }
 {
     post.begin_own();
-    write(
-        recipient,
-        LentReply::JoinBattle {
-            battle: number,
-            game_hash: battle.game_hash,
-        },
-        post,
-    )?;
-    write(
-        recipient,
-        LentReply::JoinedBattle {
-            battle: number,
-            user: name,
-            script_password: None,
-        },
-        post,
-    )?;
+    let line = LentReply::JoinBattle {
+        battle: number,
+        game_hash: battle.game_hash,
+    };
+    write(recipient, line, post)?;
+    let line = LentReply::JoinedBattle {
+        battle: number,
+        user: name,
+        script_password: None,
+    };
+    write(recipient, line, post)?;
     write_room(recipient, number, &battle.room, post)?;
     write(recipient, LentReply::RequestBattleStatus, post)?;
     maps.address_user(name, post)?;

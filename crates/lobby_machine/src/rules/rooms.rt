@@ -170,14 +170,11 @@ pub fn remove_bot(
     let (number, battle) = own_battle(maps, me)?;
     let bot = bot_named(battle, name)?;
     may_change(me, battle, bot)?;
-    maps.tell_room(
-        &battle.room,
-        LentReply::RemoveBot {
-            battle: number,
-            bot: name,
-        },
-        post,
-    )?;
+    let line = LentReply::RemoveBot {
+        battle: number,
+        bot: name,
+    };
+    maps.tell_room(&battle.room, line, post)?;
     let name = WordBuf::copy_of(maps.alloc(), name.as_slice())?;
     Ok(in_room(number, RoomChange::RemoveBot { name }))
 }
@@ -220,11 +217,8 @@ pub fn remove_rect(
 {
     let (number, battle) = own_battle(maps, me)?;
     founded_by(battle, me)?;
-    maps.tell_room(
-        &battle.room,
-        LentReply::RemoveStartRect { ally_no: ally },
-        post,
-    )?;
+    let line = LentReply::RemoveStartRect { ally_no: ally };
+    maps.tell_room(&battle.room, line, post)?;
     Ok(in_room(number, RoomChange::RemoveRect { ally }))
 }
 
@@ -241,13 +235,10 @@ pub fn set_script_tags(
     let (number, battle) = own_battle(maps, me)?;
     founded_by(battle, me)?;
     room_for_tags(battle, pairs.as_slice())?;
-    maps.tell_room(
-        &battle.room,
-        LentReply::SetScriptTags {
-            pairs: pairs.as_slice(),
-        },
-        post,
-    )?;
+    let line = LentReply::SetScriptTags {
+        pairs: pairs.as_slice(),
+    };
+    maps.tell_room(&battle.room, line, post)?;
     let pairs = copy_pairs(maps.alloc(), pairs.as_slice())?;
     Ok(in_room(number, RoomChange::SetTags { pairs }))
 }

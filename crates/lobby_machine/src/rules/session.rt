@@ -76,13 +76,11 @@ pub fn my_status(
         Some(status) => merge_user(status, asked),
         None => unreachable!(),
     };
-    maps.tell_all(
-        LentReply::ClientStatus {
-            user: me,
-            status: status.word(),
-        },
-        post,
-    )?;
+    let line = LentReply::ClientStatus {
+        user: me,
+        status: status.word(),
+    };
+    maps.tell_all(line, post)?;
     Ok(Change::Status {
         name: me.copy(),
         status,
