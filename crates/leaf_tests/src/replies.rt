@@ -169,7 +169,7 @@ fn a_lent_reply_prints_as_an_owned_one(rt: HostRuntime) {
 // A fixed text.
 fn print_refusal(out: &mut Vec<u8>) -> Result<(), AllocError> {
     let refusal = Text::lend(b"Log in first");
-    print_lent(LentReply::ServerMsg(&refusal), Some(7), out)
+    print_lent(LentReply::ServerMsg { text: &refusal }, Some(7), out)
 }
 
 // Numbers at their ends.
@@ -177,7 +177,12 @@ fn print_user(alloc: Global, out: &mut Vec<u8>) -> Result<(), AllocError> {
     let user = NameBuf::copy_of(alloc, b"Bert")?;
     let country = WordBuf::copy_of(alloc, b"??")?;
     print_lent(
-        LentReply::AddUser(&user, &country, -1, 4294967295),
+        LentReply::AddUser {
+            user: &user,
+            country: &country,
+            cpu: -1,
+            account: 4294967295,
+        },
         None,
         out,
     )
@@ -187,7 +192,14 @@ fn print_user(alloc: Global, out: &mut Vec<u8>) -> Result<(), AllocError> {
 fn print_private(alloc: Global, out: &mut Vec<u8>) -> Result<(), AllocError> {
     let user = NameBuf::copy_of(alloc, b"Bert")?;
     let text = TextBuf::copy_of(alloc, b"hi  there")?;
-    print_lent(LentReply::SayPrivate(&user, &text), Some(9), out)
+    print_lent(
+        LentReply::SayPrivate {
+            user: &user,
+            text: &text,
+        },
+        Some(9),
+        out,
+    )
 }
 
 #[test]
@@ -208,8 +220,23 @@ fn print_names(alloc: Global, out: &mut Vec<u8>) -> Result<(), AllocError> {
         NameBuf::copy_of(alloc, b"u01")?,
         NameBuf::copy_of(alloc, b"u02")?,
     ];
-    print_lent(LentReply::Clients(&main, &names), Some(3), out)?;
-    print_lent(LentReply::LastClients(&main, &names, &last), None, out)
+    print_lent(
+        LentReply::Clients {
+            channel: &main,
+            names: &names,
+        },
+        Some(3),
+        out,
+    )?;
+    print_lent(
+        LentReply::LastClients {
+            channel: &main,
+            names: &names,
+            last: &last,
+        },
+        None,
+        out,
+    )
 }
 
 #[test]

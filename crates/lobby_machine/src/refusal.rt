@@ -109,17 +109,20 @@ impl Refusal {
     {
         match self {
             Refusal::AlreadyIn | Refusal::InvalidLogin | Refusal::UserIsIn => {
-                LentReply::Denied(text)
+                LentReply::Denied { text }
             }
-            Refusal::AlreadyInChannel(channel) => LentReply::JoinFailed(channel, text),
+            Refusal::AlreadyInChannel(channel) => LentReply::JoinFailed {
+                channel,
+                reason: text,
+            },
             Refusal::OpensInBattle | Refusal::OpensAsking | Refusal::NoNumberLeft => {
-                LentReply::OpenBattleFailed(text)
+                LentReply::OpenBattleFailed { text }
             }
             Refusal::JoinsInBattle
             | Refusal::JoinsAsking
             | Refusal::NoSuchBattle
             | Refusal::BattleIsLocked
-            | Refusal::WrongPassword => LentReply::JoinBattleFailed(text),
+            | Refusal::WrongPassword => LentReply::JoinBattleFailed { text },
             Refusal::Fault(_)
             | Refusal::LogInFirst
             | Refusal::NotInChannel
@@ -134,7 +137,7 @@ impl Refusal {
             | Refusal::BotNameTaken
             | Refusal::TooManyBots
             | Refusal::TooManyTags
-            | Refusal::TooManyUnits => LentReply::ServerMsg(text),
+            | Refusal::TooManyUnits => LentReply::ServerMsg { text },
         }
     }
 }

@@ -141,11 +141,19 @@ fn answer_in_channel(
         Command::Join { channel, .. } => channels::join(maps, client, me, channel, post),
         Command::Leave { channel } => channels::leave(maps, client, me, channel, post),
         Command::Say { channel, text } => {
-            let line = LentReply::Said(channel, me, text);
+            let line = LentReply::Said {
+                channel,
+                user: me,
+                text,
+            };
             channels::say_in_channel(maps, client, me, channel, line, post)
         }
         Command::SayEx { channel, text } => {
-            let line = LentReply::SaidEx(channel, me, text);
+            let line = LentReply::SaidEx {
+                channel,
+                user: me,
+                text,
+            };
             channels::say_in_channel(maps, client, me, channel, line, post)
         }
         Command::SayPrivate { user, text } => channels::say_private(
@@ -205,10 +213,12 @@ fn answer_in_battle(
             team_color,
         } => battles::my_battle_status(maps, client, me, *battle_status, *team_color, post),
         Command::SayBattle { text } => {
-            battles::say_in_battle(maps, client, me, LentReply::SaidBattle(me, text), post)
+            let line = LentReply::SaidBattle { user: me, text };
+            battles::say_in_battle(maps, client, me, line, post)
         }
         Command::SayBattleEx { text } => {
-            battles::say_in_battle(maps, client, me, LentReply::SaidBattleEx(me, text), post)
+            let line = LentReply::SaidBattleEx { user: me, text };
+            battles::say_in_battle(maps, client, me, line, post)
         }
         _ => unreachable!(),
     }

@@ -26,7 +26,7 @@ impl Maps {
         ensures { OnOk result (Told self.now.plain post.old post.new (tell issuer (burst self.now.plain.settings.motd name.now (put_name self.now.plain.users name.now (user_in seat.now)) self.now.plain.battles) ∷ [])) }
     {
         post.begin_own();
-        post.write_own(LentReply::Accepted(name))?;
+        post.write_own(LentReply::Accepted { user: name })?;
         write_motd(self.settings.motd().as_slice(), post)?;
         write_parts(&self.seats.users, name, seat, Part::Presence, post)?;
         write_parts(&self.seats.users, name, seat, Part::Status, post)?;
@@ -45,10 +45,15 @@ impl Maps {
     ) -> Result<(), AllocError>
         ensures { OnOk result (Told self.now.plain post.old post.new (tell others (arrival name.now (user_in seat.now)) ∷ [])) }
     {
-        post.write_for_others(LentReply::AddUser(name, &seat.country, seat.cpu, seat.account))?;
+        post.write_for_others(LentReply::AddUser {
+            user: name,
+            country: &seat.country,
+            cpu: seat.cpu,
+            account: seat.account,
+        })?;
         let status = seat.status.word();
         if status != 0 {
-            post.write_more_for_others(LentReply::ClientStatus(name, status))?;
+            post.write_more_for_others(LentReply::ClientStatus { user: name, status })?;
         }
         self.seats.address_all(&self.clients, post)?;
         Ok(())
@@ -69,14 +74,17 @@ impl Maps {
 fn write_battle(number: u32, battle: &Battle, post: &mut Post) -> Result<(), AllocError>
     ensures { OnOk result (post.new ≡ with_own post.old (battle_lines number battle.now)) }
 {
-    post.write_own(LentReply::BattleOpened(number, &battle.opened))?;
-    post.write_own(LentReply::UpdateBattleInfo(
-        number,
-        battle.spectators,
-        battle.locked,
-        battle.opened.map_hash,
-        &battle.opened.map,
-    ))?;
+    post.write_own(LentReply::BattleOpened {
+        battle: number,
+        opened: &battle.opened,
+    })?;
+    post.write_own(LentReply::UpdateBattleInfo {
+        battle: number,
+        spectator_count: battle.spectators,
+        locked: battle.locked,
+        map_hash: battle.opened.map_hash,
+        map: &battle.opened.map,
+    })?;
     write_guests(number, battle, post)?;
     Ok(())
 }
@@ -87,7 +95,11 @@ fn write_guests(number: u32, battle: &Battle, post: &mut Post) -> Result<(), All
 {
     for member in battle.room.members() {
         if !battle.is_founder(member.name()) {
-            post.write_own(LentReply::JoinedBattle(number, member.name(), None))?;
+            post.write_own(LentReply::JoinedBattle {
+                battle: number,
+                user: member.name(),
+                script_password: None,
+            })?;
         }
     }
     Ok(())
@@ -98,7 +110,7 @@ fn write_motd(motd: &[TextBuf], post: &mut Post) -> Result<(), AllocError>
     ensures { OnOk result (post.new ≡ with_own post.old (map (λ line. reply.Motd line) motd.now)) }
 {
     for line in motd {
-        post.write_own(LentReply::Motd(line))?;
+        post.write_own(LentReply::Motd { text: line })?;
     }
     Ok(())
 }
@@ -150,10 +162,18 @@ fn write_part(name: &NameBuf, seat: &Seat, part: Part, post: &mut Post) -> Resul
 {
     match part {
         Part::Presence => {
-            post.write_own(LentReply::AddUser(name, &seat.country, seat.cpu, seat.account))
+            post.write_own(LentReply::AddUser {
+                user: name,
+                country: &seat.country,
+                cpu: seat.cpu,
+                account: seat.account,
+            })
         }
         Part::Status if seat.status.word() != 0 => {
-            post.write_own(LentReply::ClientStatus(name, seat.status.word()))
+            post.write_own(LentReply::ClientStatus {
+                user: name,
+                status: seat.status.word(),
+            })
         }
         Part::Status => Ok(()),
     }

@@ -110,7 +110,11 @@ fn tell_opening(
     requires { name_of maps.now.plain post.old.issuer ≡ Some me.now }
     ensures { OnOk result (Told maps.now.plain post.old post.new (tell everyone (opened_line number battle.now.info ∷ []) ∷ tell (user me.now) (reply.OpenBattle number ∷ reply.RequestBattleStatus ∷ []) ∷ [])) }
 {
-    maps.tell_all(LentReply::BattleOpened(number, &battle.opened), post)?;
+    let line = LentReply::BattleOpened {
+        battle: number,
+        opened: &battle.opened,
+    };
+    maps.tell_all(line, post)?;
     tell_opener(maps, me, number, post)?;
     Ok(())
 }
@@ -276,7 +280,7 @@ fn tell_opener(maps: &Maps, me: &NameBuf, number: u32, post: &mut Post) -> Resul
     ensures { OnOk result (Told maps.now.plain post.old post.new (tell (user me.now) (reply.OpenBattle number ∷ reply.RequestBattleStatus ∷ []) ∷ [])) }
 {
     post.begin_own();
-    post.write_own(LentReply::OpenBattle(number))?;
+    post.write_own(LentReply::OpenBattle { battle: number })?;
     post.write_own(LentReply::RequestBattleStatus)?;
     maps.address_user(me, post)?;
     Ok(())
@@ -313,7 +317,11 @@ pub fn tell_leaving(
         return tell_closing(maps, number, &battle.room, leaving, post);
     }
     tell_bots_gone(maps, name, number, &battle.room, leaving, post)?;
-    tell_leaving_all(maps, LentReply::LeftBattle(number, name), leaving, post)
+    let line = LentReply::LeftBattle {
+        battle: number,
+        user: name,
+    };
+    tell_leaving_all(maps, line, leaving, post)
 }
 
 /// Tells that a battle closes: those who ask to join it first, and then all.
@@ -327,12 +335,13 @@ fn tell_closing(
     ensures { OnOk result (Told maps.now.plain post.old post.new (shown_to leaving (tell (users (asker_names room.now)) (reply.JoinBattleFailed battle_was_closed ∷ [])) ∷ shown_to leaving (tell everyone (reply.BattleClosed number ∷ [])) ∷ [])) }
 {
     let text = Text::lend(b"The battle was closed");
-    let line = LentReply::JoinBattleFailed(&text);
+    let line = LentReply::JoinBattleFailed { text: &text };
     match leaving {
         Leaving::Seen => maps.tell_askers(room, line, post)?,
         Leaving::Unseen => maps.tell_other_askers(room, line, post)?,
     }
-    tell_leaving_all(maps, LentReply::BattleClosed(number), leaving, post)
+    let line = LentReply::BattleClosed { battle: number };
+    tell_leaving_all(maps, line, leaving, post)
 }
 
 /// Tells the members of a battle that the bots of one of them go.
@@ -348,7 +357,10 @@ fn tell_bots_gone(
 {
     for bot in room.bots() {
         if owner.cmp(bot.owner()).is_eq() {
-            let line = LentReply::RemoveBot(number, bot.name());
+            let line = LentReply::RemoveBot {
+                battle: number,
+                bot: bot.name(),
+            };
             match leaving {
                 Leaving::Seen => maps.tell_room(room, line, post)?,
                 Leaving::Unseen => maps.tell_others_in_room(room, line, post)?,
@@ -388,7 +400,13 @@ pub fn update_battle(
 {
     let (number, battle) = own_battle(maps, me)?;
     founded_by(battle, me)?;
-    let line = LentReply::UpdateBattleInfo(number, spectators, locked, map_hash, map);
+    let line = LentReply::UpdateBattleInfo {
+        battle: number,
+        spectator_count: spectators,
+        locked,
+        map_hash,
+        map,
+    };
     maps.tell_all(line, post)?;
     Ok(Change::InBattles(BattleChange::Update {
         number,
@@ -431,7 +449,11 @@ pub fn give_status(
     ensures told { IfOk result (λ _. Told maps.now.plain post.old post.new (member_has name.now status colour number battle.now).told) }
     ensures change { IfOk result (λ change. change ≡ status_change number name.now status colour) }
 {
-    let line = LentReply::ClientBattleStatus(name, status.word(), colour);
+    let line = LentReply::ClientBattleStatus {
+        user: name,
+        battle_status: status.word(),
+        team_color: colour,
+    };
     maps.tell_room(&battle.room, line, post)?;
     Ok(in_room(
         number,

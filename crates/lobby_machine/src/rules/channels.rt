@@ -28,9 +28,9 @@ pub fn join(
 {
     let names = names_without(maps, me, channel)?;
     let places = maps.channels().marks_in(channel);
-    maps.tell_user(me, LentReply::Join(channel), post)?;
+    maps.tell_user(me, LentReply::Join { channel }, post)?;
     tell_members(maps, channel, names, me, post)?;
-    maps.tell_users(names, places, LentReply::Joined(channel, me), post)?;
+    maps.tell_users(names, places, LentReply::Joined { channel, user: me }, post)?;
     Ok(Change::Join {
         channel: channel.copy(),
         name: me.copy(),
@@ -49,7 +49,7 @@ pub fn leave(
 {
     let members = members_with(maps, me, channel)?;
     let (names, places) = (members.as_slice(), members.marks());
-    maps.tell_users(names, places, LentReply::Left(channel, me), post)?;
+    maps.tell_users(names, places, LentReply::Left { channel, user: me }, post)?;
     Ok(Change::Leave {
         channel: channel.copy(),
         name: me.copy(),
@@ -85,8 +85,8 @@ pub fn say_private(
     ensures { Answers maps.now.plain client post.old post.new (say_private maps.now.plain me.now target.now text.now) result }
 {
     user_named(maps, target)?;
-    post.tell_issuer(LentReply::SayPrivate(target, text))?;
-    maps.tell_user(target, LentReply::SaidPrivate(me, text), post)?;
+    post.tell_issuer(LentReply::SayPrivate { user: target, text })?;
+    maps.tell_user(target, LentReply::SaidPrivate { user: me, text }, post)?;
     Ok(Change::Nothing)
 }
 
@@ -106,7 +106,10 @@ fn write_channels(maps: &Maps, post: &mut Post) -> Result<(), AllocError>
     ensures { OnOk result (post.new ≡ with_own post.old (channel_lines maps.now.plain.channels)) }
 {
     for (channel, members) in maps.channels() {
-        post.write_own(LentReply::Channel(channel, members.as_slice().len()))?;
+        post.write_own(LentReply::Channel {
+            channel,
+            user_count: members.as_slice().len(),
+        })?;
     }
     Ok(())
 }
@@ -118,7 +121,7 @@ pub fn tell_left(maps: &Maps, me: &NameBuf, post: &mut Post) -> Result<(), Alloc
     for (channel, members) in maps.channels() {
         if members.has_member(me) {
             let (names, places) = (members.as_slice(), members.marks());
-            maps.tell_other_users(names, places, LentReply::Left(channel, me), post)?;
+            maps.tell_other_users(names, places, LentReply::Left { channel, user: me }, post)?;
         }
     }
     Ok(())
@@ -136,9 +139,18 @@ fn tell_members(
 {
     let mut rest = names;
     while rest.len() >= 32 {
-        maps.tell_user(me, LentReply::Clients(channel, &rest[..32]), post)?;
+        let line = LentReply::Clients {
+            channel,
+            names: &rest[..32],
+        };
+        maps.tell_user(me, line, post)?;
         rest = &rest[32..];
     }
-    maps.tell_user(me, LentReply::LastClients(channel, rest, me), post)?;
+    let line = LentReply::LastClients {
+        channel,
+        names: rest,
+        last: me,
+    };
+    maps.tell_user(me, line, post)?;
     Ok(())
 }

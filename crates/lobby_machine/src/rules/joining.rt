@@ -89,7 +89,7 @@ fn ask_to_join(
     ensures change { IfOk result (λ change. change ≡ InBattles (Ask number me.now (option_copied script_password.entry))) }
 {
     let ip = address_of(maps, client)?;
-    let line = LentReply::JoinBattleRequest(me, &ip);
+    let line = LentReply::JoinBattleRequest { user: me, ip: &ip };
     let told = maps.tell_user(&battle.opened.founder, line, post);
     drop(ip);
     told?;
@@ -147,7 +147,7 @@ pub fn deny(
     founded_by(battle, me)?;
     asker_named(battle, name)?;
     let reason = reason_given(reason);
-    maps.tell_user(name, LentReply::JoinBattleFailed(&reason), post)?;
+    maps.tell_user(name, LentReply::JoinBattleFailed { text: &reason }, post)?;
     Ok(stop_asking(number, name))
 }
 
@@ -166,9 +166,17 @@ fn tell_joining(
 {
     tell_joiner(maps, name, number, battle, recipient, post)?;
     let founder = &battle.opened.founder;
-    let line = LentReply::JoinedBattle(number, name, script_password);
+    let line = LentReply::JoinedBattle {
+        battle: number,
+        user: name,
+        script_password,
+    };
     maps.tell_user(founder, line, post)?;
-    let line = LentReply::JoinedBattle(number, name, None);
+    let line = LentReply::JoinedBattle {
+        battle: number,
+        user: name,
+        script_password: None,
+    };
     maps.tell_all_but(name, founder, line, post)
 }
 
@@ -185,12 +193,17 @@ fn tell_joiner(
     ensures { OnOk result (Told maps.now.plain post.old post.new (tell (user name.now) (reply.JoinBattle number battle.now.game_hash ∷ reply.JoinedBattle number name.now None ∷ (room_lines number battle.now.room ++ reply.RequestBattleStatus ∷ [])) ∷ [])) }
 {
     post.begin_own();
-    write(
-        recipient,
-        LentReply::JoinBattle(number, battle.game_hash),
-        post,
-    )?;
-    write(recipient, LentReply::JoinedBattle(number, name, None), post)?;
+    let line = LentReply::JoinBattle {
+        battle: number,
+        game_hash: battle.game_hash,
+    };
+    write(recipient, line, post)?;
+    let line = LentReply::JoinedBattle {
+        battle: number,
+        user: name,
+        script_password: None,
+    };
+    write(recipient, line, post)?;
     write_room(recipient, number, &battle.room, post)?;
     write(recipient, LentReply::RequestBattleStatus, post)?;
     maps.address_user(name, post)?;
@@ -251,7 +264,11 @@ fn write_statuses(recipient: Recipient, room: &Room, post: &mut Post) -> Result<
 {
     for member in room.members() {
         let status = member.status().word();
-        let line = LentReply::ClientBattleStatus(member.name(), status, member.colour());
+        let line = LentReply::ClientBattleStatus {
+            user: member.name(),
+            battle_status: status,
+            team_color: member.colour(),
+        };
         write(recipient, line, post)?;
     }
     Ok(())
@@ -269,14 +286,14 @@ fn write_bots(
 {
     for bot in room.bots() {
         let status = bot.status().word();
-        let line = LentReply::AddBot(
-            number,
-            bot.name(),
-            bot.owner(),
-            status,
-            bot.colour(),
-            bot.ai(),
-        );
+        let line = LentReply::AddBot {
+            battle: number,
+            bot: bot.name(),
+            owner: bot.owner(),
+            battle_status: status,
+            team_color: bot.colour(),
+            ai: bot.ai(),
+        };
         write(recipient, line, post)?;
     }
     Ok(())
@@ -290,7 +307,13 @@ fn write_rects(recipient: Recipient, room: &Room, post: &mut Post) -> Result<(),
     let places = room.rects();
     for ally in 0..ALLY_COUNT as u8 {
         if let Some(rect) = places[usize::from(ally)] {
-            let line = LentReply::AddStartRect(ally, rect.left, rect.top, rect.right, rect.bottom);
+            let line = LentReply::AddStartRect {
+                ally_no: ally,
+                left: rect.left,
+                top: rect.top,
+                right: rect.right,
+                bottom: rect.bottom,
+            };
             write(recipient, line, post)?;
         }
     }
@@ -303,7 +326,9 @@ fn write_tags(recipient: Recipient, room: &Room, post: &mut Post) -> Result<(), 
     ensures { OnOk result (post.new ≡ written recipient post.old (map (λ t. reply.SetScriptTags (t ∷ [])) room.now.tags)) }
 {
     for pair in room.tags() {
-        let line = LentReply::SetScriptTags(slice::from_ref(pair));
+        let line = LentReply::SetScriptTags {
+            pairs: slice::from_ref(pair),
+        };
         write(recipient, line, post)?;
     }
     Ok(())
@@ -315,7 +340,9 @@ fn write_units(recipient: Recipient, room: &Room, post: &mut Post) -> Result<(),
     ensures { OnOk result (post.new ≡ written recipient post.old (map (λ unit. reply.DisableUnits (unit ∷ [])) room.now.units)) }
 {
     for unit in room.units() {
-        let line = LentReply::DisableUnits(slice::from_ref(unit));
+        let line = LentReply::DisableUnits {
+            units: slice::from_ref(unit),
+        };
         write(recipient, line, post)?;
     }
     Ok(())

@@ -85,9 +85,9 @@ impl Wording {
         ensures { reply_of result ≡ words_line self words.now }
     {
         match self {
-            Wording::TagsGone => LentReply::RemoveScriptTags(words),
-            Wording::UnitsDisabled => LentReply::DisableUnits(words),
-            Wording::UnitsEnabled => LentReply::EnableUnits(words),
+            Wording::TagsGone => LentReply::RemoveScriptTags { keys: words },
+            Wording::UnitsDisabled => LentReply::DisableUnits { units: words },
+            Wording::UnitsEnabled => LentReply::EnableUnits { units: words },
         }
     }
 }
@@ -109,7 +109,14 @@ pub fn add_bot(
     free_bot_name(battle, name)?;
     room_for_bot(battle)?;
     let status = merge_battle(BattleStatus::zero(), asked);
-    let line = LentReply::AddBot(number, name, me, status.word(), colour, ai);
+    let line = LentReply::AddBot {
+        battle: number,
+        bot: name,
+        owner: me,
+        battle_status: status.word(),
+        team_color: colour,
+        ai,
+    };
     maps.tell_room(&battle.room, line, post)?;
     let name = WordBuf::copy_of(maps.alloc(), name.as_slice())?;
     let ai = SentenceBuf::copy_of(maps.alloc(), ai.as_slice())?;
@@ -134,7 +141,12 @@ pub fn update_bot(
     let bot = bot_named(battle, name)?;
     may_change(me, battle, bot)?;
     let status = merge_battle(bot.status(), asked);
-    let line = LentReply::UpdateBot(number, name, status.word(), colour);
+    let line = LentReply::UpdateBot {
+        battle: number,
+        bot: name,
+        battle_status: status.word(),
+        team_color: colour,
+    };
     maps.tell_room(&battle.room, line, post)?;
     let name = WordBuf::copy_of(maps.alloc(), name.as_slice())?;
     let change = RoomChange::BotStatus {
@@ -158,7 +170,11 @@ pub fn remove_bot(
     let (number, battle) = own_battle(maps, me)?;
     let bot = bot_named(battle, name)?;
     may_change(me, battle, bot)?;
-    maps.tell_room(&battle.room, LentReply::RemoveBot(number, name), post)?;
+    let line = LentReply::RemoveBot {
+        battle: number,
+        bot: name,
+    };
+    maps.tell_room(&battle.room, line, post)?;
     let name = WordBuf::copy_of(maps.alloc(), name.as_slice())?;
     Ok(in_room(number, RoomChange::RemoveBot { name }))
 }
@@ -177,7 +193,13 @@ pub fn add_rect(
 {
     let (number, battle) = own_battle(maps, me)?;
     founded_by(battle, me)?;
-    let line = LentReply::AddStartRect(ally, rect.left, rect.top, rect.right, rect.bottom);
+    let line = LentReply::AddStartRect {
+        ally_no: ally,
+        left: rect.left,
+        top: rect.top,
+        right: rect.right,
+        bottom: rect.bottom,
+    };
     maps.tell_room(&battle.room, line, post)?;
     Ok(in_room(number, RoomChange::SetRect { ally, rect }))
 }
@@ -195,7 +217,8 @@ pub fn remove_rect(
 {
     let (number, battle) = own_battle(maps, me)?;
     founded_by(battle, me)?;
-    maps.tell_room(&battle.room, LentReply::RemoveStartRect(ally), post)?;
+    let line = LentReply::RemoveStartRect { ally_no: ally };
+    maps.tell_room(&battle.room, line, post)?;
     Ok(in_room(number, RoomChange::RemoveRect { ally }))
 }
 
@@ -212,11 +235,10 @@ pub fn set_script_tags(
     let (number, battle) = own_battle(maps, me)?;
     founded_by(battle, me)?;
     room_for_tags(battle, pairs.as_slice())?;
-    maps.tell_room(
-        &battle.room,
-        LentReply::SetScriptTags(pairs.as_slice()),
-        post,
-    )?;
+    let line = LentReply::SetScriptTags {
+        pairs: pairs.as_slice(),
+    };
+    maps.tell_room(&battle.room, line, post)?;
     let pairs = copy_pairs(maps.alloc(), pairs.as_slice())?;
     Ok(in_room(number, RoomChange::SetTags { pairs }))
 }
@@ -367,7 +389,7 @@ pub fn ring(
     let (_, battle) = own_battle(maps, me)?;
     founded_by(battle, me)?;
     member_named(battle, name)?;
-    maps.tell_user(name, LentReply::Ring(me), post)?;
+    maps.tell_user(name, LentReply::Ring { user: me }, post)?;
     Ok(Change::Nothing)
 }
 

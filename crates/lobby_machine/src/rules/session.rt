@@ -76,7 +76,11 @@ pub fn my_status(
         Some(status) => merge_user(status, asked),
         None => unreachable!(),
     };
-    maps.tell_all(LentReply::ClientStatus(me, status.word()), post)?;
+    let line = LentReply::ClientStatus {
+        user: me,
+        status: status.word(),
+    };
+    maps.tell_all(line, post)?;
     Ok(Change::Status {
         name: me.copy(),
         status,
@@ -106,7 +110,7 @@ pub fn log_out(
     tell_left(maps, me, post)?;
     let asks = maps.asked_by(me);
     let battle = tell_battle_left(maps, me, post)?;
-    maps.tell_others(LentReply::RemoveUser(me), post)?;
+    maps.tell_others(LentReply::RemoveUser { user: me }, post)?;
     Ok(Change::LogOut {
         name: Some(me.copy()),
         asks,

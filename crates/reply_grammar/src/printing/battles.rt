@@ -27,22 +27,38 @@ pub(super) fn lend(reply: &Reply) -> LentReply
     ensures { reply_of result ≡ reply.now }
 {
     match reply {
-        Reply::OpenBattle { battle } => LentReply::OpenBattle(*battle),
-        Reply::BattleClosed { battle } => LentReply::BattleClosed(*battle),
-        Reply::JoinBattle { battle, game_hash } => LentReply::JoinBattle(*battle, *game_hash),
+        Reply::OpenBattle { battle } => LentReply::OpenBattle { battle: *battle },
+        Reply::BattleClosed { battle } => LentReply::BattleClosed { battle: *battle },
+        Reply::JoinBattle { battle, game_hash } => LentReply::JoinBattle {
+            battle: *battle,
+            game_hash: *game_hash,
+        },
         Reply::JoinedBattle {
             battle,
             user,
             script_password,
-        } => LentReply::JoinedBattle(*battle, user, script_password.as_ref()),
-        Reply::LeftBattle { battle, user } => LentReply::LeftBattle(*battle, user),
+        } => LentReply::JoinedBattle {
+            battle: *battle,
+            user,
+            script_password: script_password.as_ref(),
+        },
+        Reply::LeftBattle { battle, user } => LentReply::LeftBattle {
+            battle: *battle,
+            user,
+        },
         Reply::UpdateBattleInfo {
             battle,
             spectator_count,
             locked,
             map_hash,
             map,
-        } => LentReply::UpdateBattleInfo(*battle, *spectator_count, *locked, *map_hash, map),
+        } => LentReply::UpdateBattleInfo {
+            battle: *battle,
+            spectator_count: *spectator_count,
+            locked: *locked,
+            map_hash: *map_hash,
+            map,
+        },
         Reply::RequestBattleStatus => LentReply::RequestBattleStatus,
         Reply::ForceQuitBattle => LentReply::ForceQuitBattle,
         _ => unreachable!(),
@@ -56,20 +72,26 @@ pub(super) fn put(out: &mut Vec<u8>, id: Option<u32>, reply: LentReply) -> Resul
     ensures kept { take (length out.old.items) out.new.items ≡ out.old.items }
 {
     match reply {
-        LentReply::OpenBattle(battle) => {
+        LentReply::OpenBattle { battle } => {
             put_only_battle(out, id, CommandWord::OpenBattle, battle)
         }
-        LentReply::BattleClosed(battle) => {
+        LentReply::BattleClosed { battle } => {
             put_only_battle(out, id, CommandWord::BattleClosed, battle)
         }
-        LentReply::JoinBattle(battle, game_hash) => put_join_battle(out, id, battle, &game_hash),
-        LentReply::JoinedBattle(battle, user, script_password) => {
-            put_joined_battle(out, id, battle, user, script_password)
-        }
-        LentReply::LeftBattle(battle, user) => put_left_battle(out, id, battle, user),
-        LentReply::UpdateBattleInfo(battle, spectator_count, locked, map_hash, map) => {
-            put_update_battle_info(out, id, battle, spectator_count, locked, &map_hash, map)
-        }
+        LentReply::JoinBattle { battle, game_hash } => put_join_battle(out, id, battle, &game_hash),
+        LentReply::JoinedBattle {
+            battle,
+            user,
+            script_password,
+        } => put_joined_battle(out, id, battle, user, script_password),
+        LentReply::LeftBattle { battle, user } => put_left_battle(out, id, battle, user),
+        LentReply::UpdateBattleInfo {
+            battle,
+            spectator_count,
+            locked,
+            map_hash,
+            map,
+        } => put_update_battle_info(out, id, battle, spectator_count, locked, &map_hash, map),
         LentReply::RequestBattleStatus => put_bare(out, id, CommandWord::RequestBattleStatus),
         LentReply::ForceQuitBattle => put_bare(out, id, CommandWord::ForceQuitBattle),
         _ => unreachable!(),

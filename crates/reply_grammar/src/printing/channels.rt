@@ -23,26 +23,40 @@ pub(super) fn lend(reply: &Reply) -> LentReply
     ensures { reply_of result ≡ reply.now }
 {
     match reply {
-        Reply::Join { channel } => LentReply::Join(channel),
-        Reply::Clients { channel, names } => LentReply::Clients(channel, names.as_slice()),
-        Reply::Joined { channel, user } => LentReply::Joined(channel, user),
-        Reply::Left { channel, user } => LentReply::Left(channel, user),
+        Reply::Join { channel } => LentReply::Join { channel },
+        Reply::Clients { channel, names } => LentReply::Clients {
+            channel,
+            names: names.as_slice(),
+        },
+        Reply::Joined { channel, user } => LentReply::Joined { channel, user },
+        Reply::Left { channel, user } => LentReply::Left { channel, user },
         Reply::Said {
             channel,
             user,
             text,
-        } => LentReply::Said(channel, user, text),
+        } => LentReply::Said {
+            channel,
+            user,
+            text,
+        },
         Reply::SaidEx {
             channel,
             user,
             text,
-        } => LentReply::SaidEx(channel, user, text),
-        Reply::SayPrivate { user, text } => LentReply::SayPrivate(user, text),
-        Reply::SaidPrivate { user, text } => LentReply::SaidPrivate(user, text),
+        } => LentReply::SaidEx {
+            channel,
+            user,
+            text,
+        },
+        Reply::SayPrivate { user, text } => LentReply::SayPrivate { user, text },
+        Reply::SaidPrivate { user, text } => LentReply::SaidPrivate { user, text },
         Reply::Channel {
             channel,
             user_count,
-        } => LentReply::Channel(channel, *user_count as usize),
+        } => LentReply::Channel {
+            channel,
+            user_count: *user_count as usize,
+        },
         Reply::EndOfChannels => LentReply::EndOfChannels,
         _ => unreachable!(),
     }
@@ -55,30 +69,41 @@ pub(super) fn put(out: &mut Vec<u8>, id: Option<u32>, reply: LentReply) -> Resul
     ensures kept { take (length out.old.items) out.new.items ≡ out.old.items }
 {
     match reply {
-        LentReply::Join(channel) => put_only_name(out, id, CommandWord::Join, channel),
-        LentReply::Clients(channel, names) => put_clients(out, id, channel, names),
-        LentReply::LastClients(channel, names, last) => {
-            put_last_clients(out, id, channel, names, last)
-        }
-        LentReply::Joined(channel, user) => {
+        LentReply::Join { channel } => put_only_name(out, id, CommandWord::Join, channel),
+        LentReply::Clients { channel, names } => put_clients(out, id, channel, names),
+        LentReply::LastClients {
+            channel,
+            names,
+            last,
+        } => put_last_clients(out, id, channel, names, last),
+        LentReply::Joined { channel, user } => {
             put_two_names(out, id, CommandWord::Joined, channel, user)
         }
-        LentReply::Left(channel, user) => {
+        LentReply::Left { channel, user } => {
             put_two_names(out, id, CommandWord::Left, channel, user)
         }
-        LentReply::Said(channel, user, text) => {
-            put_two_names_and_text(out, id, CommandWord::Said, channel, user, &text.as_text())
-        }
-        LentReply::SaidEx(channel, user, text) => {
+        LentReply::Said {
+            channel,
+            user,
+            text,
+        } => put_two_names_and_text(out, id, CommandWord::Said, channel, user, &text.as_text()),
+        LentReply::SaidEx {
+            channel,
+            user,
+            text,
+        } => {
             put_two_names_and_text(out, id, CommandWord::SaidEx, channel, user, &text.as_text())
         }
-        LentReply::SayPrivate(user, text) => {
+        LentReply::SayPrivate { user, text } => {
             put_name_and_text(out, id, CommandWord::SayPrivate, user, &text.as_text())
         }
-        LentReply::SaidPrivate(user, text) => {
+        LentReply::SaidPrivate { user, text } => {
             put_name_and_text(out, id, CommandWord::SaidPrivate, user, &text.as_text())
         }
-        LentReply::Channel(channel, user_count) => { put_channel(out, id, channel, user_count) }
+        LentReply::Channel {
+            channel,
+            user_count,
+        } => put_channel(out, id, channel, user_count),
         LentReply::EndOfChannels => put_bare(out, id, CommandWord::EndOfChannels),
         _ => unreachable!(),
     }

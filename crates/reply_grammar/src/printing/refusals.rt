@@ -20,22 +20,41 @@ pub(super) fn put_reply(out: &mut Vec<u8>, id: Option<u32>, reply: &Reply) -> Re
     ensures kept { take (length out.old.items) out.new.items ≡ out.old.items }
 {
     match reply {
-        Reply::Denied { text } => put(out, id, LentReply::Denied(&text.as_text())),
-        Reply::ServerMsg { text } => put(out, id, LentReply::ServerMsg(&text.as_text())),
+        Reply::Denied { text } => put(
+            out,
+            id,
+            LentReply::Denied {
+                text: &text.as_text(),
+            },
+        ),
+        Reply::ServerMsg { text } => put(
+            out,
+            id,
+            LentReply::ServerMsg {
+                text: &text.as_text(),
+            },
+        ),
         Reply::JoinFailed { channel, reason } => put(
             out,
             id,
-            LentReply::JoinFailed(channel, &reason.as_text()),
+            LentReply::JoinFailed {
+                channel,
+                reason: &reason.as_text(),
+            },
         ),
         Reply::OpenBattleFailed { text } => put(
             out,
             id,
-            LentReply::OpenBattleFailed(&text.as_text()),
+            LentReply::OpenBattleFailed {
+                text: &text.as_text(),
+            },
         ),
         Reply::JoinBattleFailed { text } => put(
             out,
             id,
-            LentReply::JoinBattleFailed(&text.as_text()),
+            LentReply::JoinBattleFailed {
+                text: &text.as_text(),
+            },
         ),
         _ => unreachable!(),
     }
@@ -48,15 +67,15 @@ pub(super) fn put(out: &mut Vec<u8>, id: Option<u32>, reply: LentReply) -> Resul
     ensures kept { take (length out.old.items) out.new.items ≡ out.old.items }
 {
     match reply {
-        LentReply::Denied(text) => put_only_text(out, id, CommandWord::Denied, text),
-        LentReply::ServerMsg(text) => put_only_text(out, id, CommandWord::ServerMsg, text),
-        LentReply::JoinFailed(channel, reason) => {
+        LentReply::Denied { text } => put_only_text(out, id, CommandWord::Denied, text),
+        LentReply::ServerMsg { text } => put_only_text(out, id, CommandWord::ServerMsg, text),
+        LentReply::JoinFailed { channel, reason } => {
             put_name_and_text(out, id, CommandWord::JoinFailed, channel, reason)
         }
-        LentReply::OpenBattleFailed(text) => {
+        LentReply::OpenBattleFailed { text } => {
             put_only_text(out, id, CommandWord::OpenBattleFailed, text)
         }
-        LentReply::JoinBattleFailed(text) => {
+        LentReply::JoinBattleFailed { text } => {
             put_only_text(out, id, CommandWord::JoinBattleFailed, text)
         }
         _ => unreachable!(),

@@ -26,17 +26,30 @@ pub(super) fn lend(reply: &Reply) -> LentReply
             spring_version,
             udp_port,
             server_mode,
-        } => LentReply::TasServer(protocol_version, spring_version, *udp_port, *server_mode),
-        Reply::Accepted { user } => LentReply::Accepted(user),
-        Reply::Motd { text } => LentReply::Motd(text),
+        } => LentReply::TasServer {
+            protocol_version,
+            spring_version,
+            udp_port: *udp_port,
+            server_mode: *server_mode,
+        },
+        Reply::Accepted { user } => LentReply::Accepted { user },
+        Reply::Motd { text } => LentReply::Motd { text },
         Reply::AddUser {
             user,
             country,
             cpu,
             account,
-        } => LentReply::AddUser(user, country, *cpu, *account),
-        Reply::RemoveUser { user } => LentReply::RemoveUser(user),
-        Reply::ClientStatus { user, status } => LentReply::ClientStatus(user, *status),
+        } => LentReply::AddUser {
+            user,
+            country,
+            cpu: *cpu,
+            account: *account,
+        },
+        Reply::RemoveUser { user } => LentReply::RemoveUser { user },
+        Reply::ClientStatus { user, status } => LentReply::ClientStatus {
+            user,
+            status: *status,
+        },
         Reply::LoginInfoEnd => LentReply::LoginInfoEnd,
         Reply::Pong => LentReply::Pong,
         _ => unreachable!(),
@@ -50,7 +63,12 @@ pub(super) fn put(out: &mut Vec<u8>, id: Option<u32>, reply: LentReply) -> Resul
     ensures kept { take (length out.old.items) out.new.items ≡ out.old.items }
 {
     match reply {
-        LentReply::TasServer(protocol_version, spring_version, udp_port, server_mode) => {
+        LentReply::TasServer {
+            protocol_version,
+            spring_version,
+            udp_port,
+            server_mode,
+        } => {
             put_tas_server(
                 out,
                 id,
@@ -60,13 +78,16 @@ pub(super) fn put(out: &mut Vec<u8>, id: Option<u32>, reply: LentReply) -> Resul
                 server_mode,
             )
         }
-        LentReply::Accepted(user) => put_only_name(out, id, CommandWord::Accepted, user),
-        LentReply::Motd(text) => put_only_text(out, id, CommandWord::Motd, &text.as_text()),
-        LentReply::AddUser(user, country, cpu, account) => {
-            put_add_user(out, id, user, country, &cpu, account)
-        }
-        LentReply::RemoveUser(user) => put_only_name(out, id, CommandWord::RemoveUser, user),
-        LentReply::ClientStatus(user, status) => put_client_status(out, id, user, status),
+        LentReply::Accepted { user } => put_only_name(out, id, CommandWord::Accepted, user),
+        LentReply::Motd { text } => put_only_text(out, id, CommandWord::Motd, &text.as_text()),
+        LentReply::AddUser {
+            user,
+            country,
+            cpu,
+            account,
+        } => put_add_user(out, id, user, country, &cpu, account),
+        LentReply::RemoveUser { user } => put_only_name(out, id, CommandWord::RemoveUser, user),
+        LentReply::ClientStatus { user, status } => put_client_status(out, id, user, status),
         LentReply::LoginInfoEnd => put_bare(out, id, CommandWord::LoginInfoEnd),
         LentReply::Pong => put_bare(out, id, CommandWord::Pong),
         _ => unreachable!(),

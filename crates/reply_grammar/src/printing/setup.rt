@@ -1,0 +1,159 @@
+//! Printing the replies on what a founder sets up for the game.
+#![tactic(auto, using(crate::proofs::Kept::kept_then, crate::proofs::Kept::kept_more))]
+
+ghost use Rattle.std.specs.Prelude.{◌≡◌, ◌++◌, IfOk, length, take};
+ghost use Rattle.reply_grammar.specs.declared.Reply.TheVariants as reply;
+ghost use Rattle.reply_grammar.specs.Groups.{Setup, group_of};
+ghost use Rattle.reply_grammar.specs.Lent.{reply_of};
+ghost use Rattle.reply_grammar.specs.Replies.{command_of, printed_line};
+
+use super::lent::LentReply;
+use super::pieces::{put_command, put_end, put_number, put_pairs, put_words};
+use crate::Reply;
+use crate::command_word::CommandWord;
+use line_words::{Pair, WordBuf};
+use std::alloc::AllocError;
+
+// The reply is one of the group.
+pub(super) fn lend(reply: &Reply) -> LentReply
+    requires { group_of (command_of reply.now) ≡ Setup }
+    ensures { reply_of result ≡ reply.now }
+{
+    match reply {
+        Reply::AddStartRect {
+            ally_no,
+            left,
+            top,
+            right,
+            bottom,
+        } => LentReply::AddStartRect {
+            ally_no: *ally_no,
+            left: *left,
+            top: *top,
+            right: *right,
+            bottom: *bottom,
+        },
+        Reply::RemoveStartRect { ally_no } => LentReply::RemoveStartRect { ally_no: *ally_no },
+        Reply::SetScriptTags { pairs } => LentReply::SetScriptTags {
+            pairs: pairs.as_slice(),
+        },
+        Reply::RemoveScriptTags { keys } => LentReply::RemoveScriptTags {
+            keys: keys.as_slice(),
+        },
+        Reply::DisableUnits { units } => LentReply::DisableUnits {
+            units: units.as_slice(),
+        },
+        Reply::EnableUnits { units } => LentReply::EnableUnits {
+            units: units.as_slice(),
+        },
+        Reply::EnableAllUnits => LentReply::EnableAllUnits,
+        _ => unreachable!(),
+    }
+}
+
+// The reply is one of the group.
+pub(super) fn put(out: &mut Vec<u8>, id: Option<u32>, reply: LentReply) -> Result<(), AllocError>
+    requires { group_of (command_of (reply_of reply)) ≡ Setup }
+    ensures ok { IfOk result (λ _. out.new.items ≡ out.old.items ++ printed_line id (reply_of reply.entry)) }
+    ensures kept { take (length out.old.items) out.new.items ≡ out.old.items }
+{
+    match reply {
+        LentReply::AddStartRect {
+            ally_no,
+            left,
+            top,
+            right,
+            bottom,
+        } => put_add_start_rect(out, id, ally_no, left, top, right, bottom),
+        LentReply::RemoveStartRect { ally_no } => put_remove_start_rect(out, id, ally_no),
+        LentReply::SetScriptTags { pairs } => put_set_script_tags(out, id, pairs),
+        LentReply::RemoveScriptTags { keys } => put_remove_script_tags(out, id, keys),
+        LentReply::DisableUnits { units } => put_disable_units(out, id, units),
+        LentReply::EnableUnits { units } => put_enable_units(out, id, units),
+        LentReply::EnableAllUnits => put_enable_all_units(out, id),
+        _ => unreachable!(),
+    }
+}
+
+fn put_add_start_rect(
+    out: &mut Vec<u8>,
+    id: Option<u32>,
+    ally_no: u8,
+    left: u8,
+    top: u8,
+    right: u8,
+    bottom: u8,
+) -> Result<(), AllocError>
+    ensures ok { IfOk result (λ _. out.new.items ≡ out.old.items ++ printed_line id (reply.AddStartRect ally_no left top right bottom)) }
+    ensures kept { take (length out.old.items) out.new.items ≡ out.old.items }
+{
+    put_command(out, id, CommandWord::AddStartRect)?;
+    put_number(out, u32::from(ally_no))?;
+    put_number(out, u32::from(left))?;
+    put_number(out, u32::from(top))?;
+    put_number(out, u32::from(right))?;
+    put_number(out, u32::from(bottom))?;
+    put_end(out)?;
+    Ok(())
+}
+
+fn put_remove_start_rect(out: &mut Vec<u8>, id: Option<u32>, ally_no: u8) -> Result<(), AllocError>
+    ensures ok { IfOk result (λ _. out.new.items ≡ out.old.items ++ printed_line id (reply.RemoveStartRect ally_no)) }
+    ensures kept { take (length out.old.items) out.new.items ≡ out.old.items }
+{
+    put_command(out, id, CommandWord::RemoveStartRect)?;
+    put_number(out, u32::from(ally_no))?;
+    put_end(out)
+}
+
+fn put_set_script_tags(out: &mut Vec<u8>, id: Option<u32>, pairs: &[Pair]) -> Result<(), AllocError>
+    ensures ok { IfOk result (λ _. out.new.items ≡ out.old.items ++ printed_line id (reply.SetScriptTags pairs.now)) }
+    ensures kept { take (length out.old.items) out.new.items ≡ out.old.items }
+{
+    put_command(out, id, CommandWord::SetScriptTags)?;
+    put_pairs(out, pairs)?;
+    put_end(out)
+}
+
+fn put_remove_script_tags(
+    out: &mut Vec<u8>,
+    id: Option<u32>,
+    keys: &[WordBuf],
+) -> Result<(), AllocError>
+    ensures ok { IfOk result (λ _. out.new.items ≡ out.old.items ++ printed_line id (reply.RemoveScriptTags keys.now)) }
+    ensures kept { take (length out.old.items) out.new.items ≡ out.old.items }
+{
+    put_command(out, id, CommandWord::RemoveScriptTags)?;
+    put_words(out, keys)?;
+    put_end(out)
+}
+
+fn put_disable_units(
+    out: &mut Vec<u8>,
+    id: Option<u32>,
+    units: &[WordBuf],
+) -> Result<(), AllocError>
+    ensures ok { IfOk result (λ _. out.new.items ≡ out.old.items ++ printed_line id (reply.DisableUnits units.now)) }
+    ensures kept { take (length out.old.items) out.new.items ≡ out.old.items }
+{
+    put_command(out, id, CommandWord::DisableUnits)?;
+    put_words(out, units)?;
+    put_end(out)
+}
+
+fn put_enable_units(out: &mut Vec<u8>, id: Option<u32>, units: &[WordBuf]) -> Result<(), AllocError>
+    ensures ok { IfOk result (λ _. out.new.items ≡ out.old.items ++ printed_line id (reply.EnableUnits units.now)) }
+    ensures kept { take (length out.old.items) out.new.items ≡ out.old.items }
+{
+    put_command(out, id, CommandWord::EnableUnits)?;
+    put_words(out, units)?;
+    put_end(out)
+}
+
+fn put_enable_all_units(out: &mut Vec<u8>, id: Option<u32>) -> Result<(), AllocError>
+    ensures ok { IfOk result (λ _. out.new.items ≡ out.old.items ++ printed_line id (reply.EnableAllUnits)) }
+    ensures kept { take (length out.old.items) out.new.items ≡ out.old.items }
+{
+    put_command(out, id, CommandWord::EnableAllUnits)?;
+    put_end(out)
+}
