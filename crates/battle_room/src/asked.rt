@@ -14,7 +14,7 @@ use crate::room::Room;
 use line_words::{NameBuf, PairList, SentenceBuf, WordBuf, WordList};
 use status_bits::BattleStatus;
 
-impl Room {
+impl<M: Copy> Room<M> {
     /// Refuses one who is no member.
     fn check_member(&self, name: &NameBuf) -> Result<(), RoomError>
         ensures { result_err result ≡ status_refusal name.now self.now }

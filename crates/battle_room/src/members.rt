@@ -14,17 +14,17 @@ use std::marker::Model;
 
 /// A member of a room, with the status and the colour that it shows.
 ///
-/// It keeps the mark with which it joined: a number that is the caller's own, which the room does not
-/// read, and of which no contract speaks. It is for what a caller may look up, and checks.
+/// It keeps the mark with which it joined, a value of the caller's own. The room does not read it, and
+/// no contract speaks of it.
 #[derive(Drop)]
-pub struct Member {
+pub struct Member<M: Copy = ()> {
     name: NameBuf,
-    mark: usize,
+    mark: M,
     status: BattleStatus,
     colour: i64,
 }
 
-impl Model for Member {
+impl<M: Copy> Model for Member<M> {
     ghost use Rattle.battle_room.specs.Room as room;
 
     ghost Value = { room.Member };
@@ -32,9 +32,9 @@ impl Model for Member {
     ghost view = { λ m. record { name = m.name; status = m.status; colour = m.colour } };
 }
 
-impl Member {
+impl<M: Copy> Member<M> {
     /// One who has just joined.
-    fn new(name: NameBuf, mark: usize) -> Member
+    fn new(name: NameBuf, mark: M) -> Member<M>
         ensures { result ≡ room.new_member name }
     {
         Member {
@@ -52,8 +52,8 @@ impl Member {
         &self.name
     }
 
-    /// The mark that was given with the member: a hint, of which no contract speaks.
-    pub fn mark(&self) -> usize {
+    /// The mark that was given with the member.
+    pub fn mark(&self) -> M {
         self.mark
     }
 
@@ -85,11 +85,11 @@ impl Member {
 /// A look-up by name takes the same time however many there are. The index has each name once more as
 /// its key, which takes no memory of its own.
 #[derive(Drop)]
-pub(crate) struct Members {
-    by_name: IndexMap<NameBuf, Member>,
+pub(crate) struct Members<M: Copy> {
+    by_name: IndexMap<NameBuf, Member<M>>,
 }
 
-impl Model for Members {
+impl<M: Copy> Model for Members<M> {
     ghost use Rattle.std.specs.Prelude.{List, ℕ};
     ghost use Rattle.indexmap.specs.IndexMap.{values};
     ghost use Rattle.battle_room.specs.Room as room;
@@ -102,9 +102,9 @@ impl Model for Members {
     ghost invariant = { λ m. IsIndex (λ (name : List ℕ). name) (λ (member : room.Member). member.name) m.by_name.entries };
 }
 
-impl Members {
+impl<M: Copy> Members<M> {
     /// The founder alone.
-    pub(crate) fn one(alloc: Global, founder: NameBuf, mark: usize) -> Result<Members, AllocError>
+    pub(crate) fn one(alloc: Global, founder: NameBuf, mark: M) -> Result<Members<M>, AllocError>
         ensures { IfOk result (λ members. members ≡ room.new_member founder ∷ []) }
     {
         let mut members = Members {
@@ -115,7 +115,7 @@ impl Members {
     }
 
     /// The members.
-    pub(crate) fn as_slice(&self) -> &[Member]
+    pub(crate) fn as_slice(&self) -> &[Member<M>]
         ensures members { result.now ≡ self.now }
         ensures distinct { IsDistinct same_name (map (λ m. m.name) result.now) }
     {
@@ -123,7 +123,7 @@ impl Members {
     }
 
     /// The member of a name.
-    pub(crate) fn member(&self, name: &NameBuf) -> Option<&Member>
+    pub(crate) fn member(&self, name: &NameBuf) -> Option<&Member<M>>
         ensures { option_copied result ≡ find (λ m. same_name name.now m.name) self.now }
     {
         self.by_name.get(name)
@@ -157,7 +157,7 @@ impl Members {
     }
 
     /// One more, who is not among them. Where memory is refused, nothing changes.
-    pub(crate) fn add(&mut self, name: NameBuf, mark: usize) -> Result<(), AllocError>
+    pub(crate) fn add(&mut self, name: NameBuf, mark: M) -> Result<(), AllocError>
         requires { is_among name (map (λ m. m.name) self.old) ≡ false }
         ensures ok { OnOk result (self.new ≡ self.old ++ room.new_member name ∷ []) }
         ensures err { OnErr result (self.new ≡ self.old) }

@@ -23,10 +23,13 @@ use std::marker::Model;
 
 /// What the members of a battle share: who they are in order of joining, the founder first, bots,
 /// start rectangles, script tags and disabled units; and who asks to join, in order of asking.
+///
+/// Beside each member the room keeps a mark, a value of the caller's own. The room does not read it, and
+/// its contracts say nothing of it. A room whose callers have no use for marks keeps none: `M` is `()`.
 #[derive(Drop)]
-pub struct Room {
+pub struct Room<M: Copy = ()> {
     pub(crate) alloc: Global,
-    members: Members,
+    members: Members<M>,
     bots: Bots,
     rects: Rects,
     tags: Tags,
@@ -34,7 +37,7 @@ pub struct Room {
     askers: Askers,
 }
 
-impl Model for Room {
+impl<M: Copy> Model for Room<M> {
     ghost use Rattle.battle_room.specs.Room as room;
 
     ghost Value = { room.Room };
@@ -43,8 +46,36 @@ impl Model for Room {
 }
 
 impl Room {
+    /// A room with its founder alone, without bots, rectangles and tags.
+    pub fn new(alloc: Global, founder: NameBuf) -> Result<Room, AllocError>
+        ensures { IfOk result (λ r. r ≡ room.new_room founder) }
+    {
+        Room::with_mark(alloc, founder, ())
+    }
+
+    /// One who is no member joins, behind the others. Where memory is refused, nothing changes.
+    pub fn add_member(&mut self, name: NameBuf) -> Result<(), AllocError>
+        requires { room.has_member name self.old ≡ false }
+        ensures ok { OnOk result (self.new ≡ room.with_member name self.old) }
+        ensures err { OnErr result (self.new ≡ self.old) }
+    {
+        self.add_marked(name, ())
+    }
+
+    /// One who is no member, and may ask to join, asks no more and joins, behind the others. Where memory
+    /// is refused, nothing changes.
+    pub fn let_in(&mut self, name: &NameBuf) -> Result<(), AllocError>
+        requires { room.has_member name.now self.old ≡ false }
+        ensures ok { OnOk result (self.new ≡ room.with_member name.now (room.without_asker name.now self.old)) }
+        ensures err { OnErr result (self.new ≡ self.old) }
+    {
+        self.let_in_marked(name, ())
+    }
+}
+
+impl<M: Copy> Room<M> {
     /// A room with its founder alone, who has this mark, without bots, rectangles and tags.
-    pub fn new(alloc: Global, founder: NameBuf, mark: usize) -> Result<Room, AllocError>
+    pub fn with_mark(alloc: Global, founder: NameBuf, mark: M) -> Result<Room<M>, AllocError>
         ensures { IfOk result (λ r. r ≡ room.new_room founder) }
     {
         Ok(Room {
@@ -59,7 +90,7 @@ impl Room {
     }
 
     /// The members in order of joining, none of them twice.
-    pub fn members(&self) -> &[Member]
+    pub fn members(&self) -> &[Member<M>]
         ensures members { result.now ≡ self.now.members }
         ensures distinct { IsDistinct same_name (room.member_names self.now) }
     {
@@ -132,7 +163,7 @@ impl Room {
     }
 
     /// The member of a name.
-    pub fn member(&self, name: &NameBuf) -> Option<&Member>
+    pub fn member(&self, name: &NameBuf) -> Option<&Member<M>>
         ensures { option_copied result ≡ room.member_of name.now self.now }
     {
         self.members.member(name)
@@ -210,7 +241,7 @@ impl Room {
 
     /// One who is no member joins under a mark, behind the others. Where memory is refused, nothing
     /// changes.
-    pub fn add_member(&mut self, name: NameBuf, mark: usize) -> Result<(), AllocError>
+    pub fn add_marked(&mut self, name: NameBuf, mark: M) -> Result<(), AllocError>
         requires { room.has_member name self.old ≡ false }
         ensures ok { OnOk result (self.new ≡ room.with_member name self.old) }
         ensures err { OnErr result (self.new ≡ self.old) }
@@ -337,7 +368,7 @@ impl Room {
 
     /// One who is no member, and may ask to join, asks no more and joins under a mark, behind the others.
     /// Where memory is refused, nothing changes.
-    pub fn let_in(&mut self, name: &NameBuf, mark: usize) -> Result<(), AllocError>
+    pub fn let_in_marked(&mut self, name: &NameBuf, mark: M) -> Result<(), AllocError>
         requires { room.has_member name.now self.old ≡ false }
         ensures ok { OnOk result (self.new ≡ room.with_member name.now (room.without_asker name.now self.old)) }
         ensures err { OnErr result (self.new ≡ self.old) }

@@ -66,7 +66,7 @@ fn gives(room: &mut Room, user: &[u8], wanted: Result<Option<&[u8]>, RoomError>)
 /// One is let in, or joins without having asked, who is no member.
 fn lets_in(room: &mut Room, user: &[u8]) -> bool {
     match NameBuf::of(user) {
-        Some(user) => !room.has_member(&user) && room.let_in(&user, 0).is_ok(),
+        Some(user) => !room.has_member(&user) && room.let_in(&user).is_ok(),
         None => false,
     }
 }

@@ -18,7 +18,7 @@ fn sentence(alloc: Global, bytes: &[u8]) -> Option<SentenceBuf> {
 /// One more member, of a name that no member has.
 pub(crate) fn join(room: &mut Room, member: &[u8]) -> bool {
     match NameBuf::of(member) {
-        Some(member) => !room.has_member(&member) && room.add_member(member, 0).is_ok(),
+        Some(member) => !room.has_member(&member) && room.add_member(member).is_ok(),
         None => false,
     }
 }
@@ -57,7 +57,7 @@ fn fills(room: &mut Room, alloc: Global) -> bool {
 
 /// A room of Anna alone.
 pub(crate) fn new_room(alloc: Global) -> Option<Room> {
-    Room::new(alloc, NameBuf::of(b"Anna")?, 0).ok()
+    Room::new(alloc, NameBuf::of(b"Anna")?).ok()
 }
 
 #[test]

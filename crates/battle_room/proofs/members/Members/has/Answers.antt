@@ -6,7 +6,7 @@ use Rattle.battle_room.proofs.Indexed.{has_value}
 use Rattle.battle_room.proofs.members.Members.has.Goals as goal
 
 pub returns : goal.returns
-returns c =
+returns g c =
     c.contains_key.ensures
     ∙ has_value (λ (name : List ℕ). name) (λ (m : room.Member). m.name) c.args.name.now c.self.inside.by_name.entries c.self.invariant
     ∙ ap (λ (ms : List room.Member). is_among c.args.name.now (map (λ m. m.name) ms)) c.self.view_is

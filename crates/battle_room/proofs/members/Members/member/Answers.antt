@@ -6,7 +6,7 @@ use Rattle.battle_room.proofs.Indexed.{value_found}
 use Rattle.battle_room.proofs.members.Members.member.Goals as goal
 
 pub returns : goal.returns
-returns c =
+returns g c =
     c.get.ensures.value
     ∙ value_found (λ (name : List ℕ). name) (λ (m : room.Member). m.name) c.args.name.now c.self.inside.by_name.entries c.self.invariant
     ∙ ap (λ (ms : List room.Member). find (λ m. same_name c.args.name.now m.name) ms) c.self.view_is

@@ -12,7 +12,7 @@ use Rattle.battle_room.proofs.members.Members.put_status.Goals as goal
 use Rattle.battle_room.proofs.members.Members.put_status.Goals.{in-Some, in_default}
 
 pub invariant_of-self : goal.invariant_of-self
-invariant_of-self c =
+invariant_of-self g c =
     let change = room.member_with c.args.status c.args.colour in
     let test = stands_for (λ (name : List ℕ). name) c.args.name.now in
     let old = c.self.inside.by_name.entries in
@@ -26,7 +26,7 @@ invariant_of-self c =
     ]
 
 pub returns : goal.returns
-returns c =
+returns g c =
     let change = room.member_with c.args.status c.args.colour in
     let test = stands_for (λ (name : List ℕ). name) c.args.name.now in
     let old = c.self.inside.by_name.entries in
