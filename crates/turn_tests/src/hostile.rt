@@ -186,14 +186,14 @@ const SLOW_ANNA: Caller = Caller {
 const CLEO: Caller = Caller {
     sends: &[(CLEO_LOGS_IN, 1), (b"JOIN main\n", 1)],
     piece: 4_096,
-    room: 4_096,
+    room: 16_384,
     end: End::Open,
 };
 
 const BERT: Caller = Caller {
     sends: &[(BERT_LOGS_IN, 1), (b"JOIN main\n", 1), (SAYS, TIMES)],
     piece: 4_096,
-    room: 4_096,
+    room: 16_384,
     end: End::Open,
 };
 
