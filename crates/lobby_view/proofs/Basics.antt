@@ -1,8 +1,10 @@
 -- What a user is told of what happens, and what its view makes of it.
-use Rattle.std.proofs.Common.{◌≡◌, ℕ, List, [], ◌∷◌, ◌++◌, refl, ap, ◌∙◌, Bool, false}
+use Rattle.std.proofs.Common.{◌≡◌, ℕ, List, [], ◌∷◌, ◌++◌, refl, sym, ap, subst, ◌∙◌, Bool, true, false}
 use Rattle.std.specs.Prelude.{Some, map, flat_map, if◌then◌else◌}
 use Rattle.std.proofs.lemmas.Grind.{flat_map-append}
 use Rattle.reply_grammar.specs.declared.Reply.{Reply}
+use Rattle.line_words.specs.Table.{same_name}
+use Rattle.line_words.proofs.Tables.{same_name_is}
 use Rattle.battle_room.specs.Room.{Room}
 use Rattle.lobby_model.specs.State.{State}
 use Rattle.lobby_model.specs.Outcome.{Reader, Letter, Happening, Outcome, Refused, Done, lines_for, all_after}
@@ -17,6 +19,15 @@ reader mine u = record { mine = mine; name = Some u }
 -- what u is told of a thing that happens makes its view what the lobby then shows it
 abbrev pub Seen : State → Bool → List ℕ → Happening → Type 0
 Seen s mine u h = shown_all (observe s u) (lines_for (reader mine u) h.told) ≡ observe (h.after s) u
+
+-- one thing that a user does is seen by each, if by itself and by any other
+pub seen_by_each : (s : State) (mine : Bool) (me : List ℕ) (h : Happening) → Seen s mine me h
+    → ((u : List ℕ) → same_name u me ≡ false → Seen s mine u h) → (u : List ℕ) → Seen s mine u h
+seen_by_each s mine me h own other u =
+    elim (same_name u me) as (λ b. same_name u me ≡ b → Seen s mine u h) [
+      | true ↦ λ is. subst (λ n. Seen s mine n h) (sym (same_name_is u me is)) own
+      | false ↦ λ apart. other u apart
+    ] refl
 
 -- of each of them, in the state before it
 abbrev pub AllSeen : State → Bool → List ℕ → List Happening → Type 0

@@ -1,5 +1,5 @@
 -- Joining and leaving channels, seen by the one who does it and by others.
-use Rattle.std.proofs.Common.{◌≡◌, ℕ, zero, suc, List, [], ◌∷◌, ◌++◌, refl, sym, ap, subst, ◌∙◌, Bool, true, false, not, cond, T, append_assoc, append-nil}
+use Rattle.std.proofs.Common.{◌≡◌, ℕ, zero, suc, List, [], ◌∷◌, ◌++◌, refl, sym, ap, ◌∙◌, Bool, true, false, not, cond, T, append_assoc, append-nil}
 use Rattle.std.specs.Prelude.{Option, Some, None, map, if◌then◌else◌}
 use Rattle.std.proofs.lemmas.Map.Entries.{option_filter}
 use Rattle.std.specs.Ordering.{is_eq}
@@ -7,7 +7,7 @@ use Rattle.std.specs.FinMap.Entries.{is_sorted, below_all}
 use Rattle.reply_grammar.specs.declared.Reply.{Reply}
 use Rattle.reply_grammar.specs.declared.Reply.TheVariants as reply
 use Rattle.line_words.specs.Table.{at_name, put_name, without_name, change_name, name_cmp, same_name, is_among, all_but, map_values}
-use Rattle.line_words.proofs.Tables.{name_cmp_total, name_cmp_same, same_name_is, same_name_itself, filter-put, filter-put_unseen, find-filter, is_sorted-filter, change_absent, both, both_first, both_second}
+use Rattle.line_words.proofs.Tables.{name_cmp_total, name_cmp_same, same_name_itself, filter-put, filter-put_unseen, find-filter, is_sorted-filter, change_absent, both, both_first, both_second}
 use Rattle.line_words.proofs.Once.{apart_either_way, out_of_but}
 use Rattle.channel_book.specs.Channels.{Channels, names_of, names_in, channels_of, has_names, joined, lively, left}
 use Rattle.lobby_model.specs.State.{State}
@@ -15,7 +15,7 @@ use Rattle.lobby_model.specs.Outcome.{Letter, tell, users, lines_for}
 use Rattle.lobby_model.specs.Channels.{pieces_from, name_lines, joins, leaves, leaves_all}
 use Rattle.lobby_view.specs.View.{View, shown_all, at_end}
 use Rattle.lobby_view.specs.Observe.{observe}
-use Rattle.lobby_view.proofs.Basics.{Seen, reader}
+use Rattle.lobby_view.proofs.Basics.{Seen, seen_by_each, reader}
 use Rattle.lobby_view.proofs.Places.{less_of, change_above}
 use Rattle.lobby_view.proofs.Ordered.{change_put, put_is_change}
 use Rattle.lobby_view.proofs.Distinct.{stays, at_end_apart, is_at_end, none_dropped}
@@ -179,18 +179,10 @@ module _ (s : State) (in_order : InOrder s.channels) (me channel : List ℕ) (mi
 
   -- as each user sees it
   pub joins_seen : is_among me there ≡ false → (u : List ℕ) → Seen s mine u (joins me channel there)
-  joins_seen out u =
-      elim (same_name u me) as (λ b. same_name u me ≡ b → Seen s mine u (joins me channel there)) [
-        | true ↦ λ is. subst (λ n. Seen s mine n (joins me channel there)) (sym (same_name_is u me is)) (own_join_seen out)
-        | false ↦ λ apart. other_join_seen u apart
-      ] refl
+  joins_seen out = seen_by_each s mine me (joins me channel there) (own_join_seen out) other_join_seen
 
   pub leaves_seen : is_among me there ≡ true → (u : List ℕ) → Seen s mine u (leaves me channel there)
-  leaves_seen in_it u =
-      elim (same_name u me) as (λ b. same_name u me ≡ b → Seen s mine u (leaves me channel there)) [
-        | true ↦ λ is. subst (λ n. Seen s mine n (leaves me channel there)) (sym (same_name_is u me is)) (own_leave_seen in_it)
-        | false ↦ λ apart. other_leave_seen u apart
-      ] refl
+  leaves_seen in_it = seen_by_each s mine me (leaves me channel there) (own_leave_seen in_it) other_leave_seen
 
 -- one who leaves all channels, seen by another
 module _ (me u : List ℕ) (apart : same_name u me ≡ false) where

@@ -9,7 +9,7 @@ use Rattle.std.specs.FinMap.{nat_cmp-IsAntisymmetric}
 use Rattle.reply_grammar.specs.declared.Reply.{Reply}
 use Rattle.reply_grammar.specs.declared.Reply.TheVariants as reply
 use Rattle.line_words.specs.Table.{at_number, change_number, same_number, same_name, is_among}
-use Rattle.line_words.proofs.Tables.{same_name_is, same_name_itself, at-map_values, at-change, is_sorted-change}
+use Rattle.line_words.proofs.Tables.{same_name_itself, at-map_values, at-change, is_sorted-change}
 use Rattle.line_words.proofs.Once.{contradiction, once_with}
 use Rattle.battle_room.specs.Room.{Room, Member, Asker, has_member, has_asker, member_names, new_member, with_member, without_asker}
 use Rattle.lobby_model.specs.State.{State, Battle, battle_of}
@@ -23,7 +23,7 @@ use Rattle.lobby_model.proofs.AskersKept.{IsNowhere}
 use Rattle.lobby_model.proofs.BattlesKept.{nowhere}
 use Rattle.lobby_view.specs.View.{View, shown_all, at_end, change_members, entered, in_room_of}
 use Rattle.lobby_view.specs.Observe.{observe, shared, own_room, listed}
-use Rattle.lobby_view.proofs.Basics.{Seen, shown_all-append, owned, inside}
+use Rattle.lobby_view.proofs.Basics.{Seen, seen_by_each, shown_all-append, owned, inside}
 use Rattle.lobby_view.proofs.Finding.{find_only}
 use Rattle.lobby_view.proofs.Changed.{roomed, listed_changed, room_changed}
 use Rattle.lobby_view.proofs.Distinct.{neither, at_end_apart, is_at_end}
@@ -109,11 +109,7 @@ module _ (s : State) (me : List ℕ) (id : ℕ) (battle : Battle) (script_passwo
         (sym (listed_changed id f (at_end (me ∷ [])) names s.battles))
 
     enters_seen : (u : List ℕ) → Seen s mine u enters
-    enters_seen u =
-        elim (same_name u me) as (λ b. same_name u me ≡ b → Seen s mine u enters) [
-          | true ↦ λ is. subst (λ n. Seen s mine n enters) (sym (same_name_is u me is)) own_enters_seen
-          | false ↦ λ apart. other_enters_seen u apart
-        ] refl
+    enters_seen = seen_by_each s mine me enters own_enters_seen other_enters_seen
 
 module _ (s : State) (sound : Sound s) (mine : Bool) (u : List ℕ) (id : ℕ) (battle : Battle) (there : at_number s.battles id ≡ Some battle) where
   -- one who was in no battle joins

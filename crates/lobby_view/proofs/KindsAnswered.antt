@@ -13,7 +13,7 @@ use Rattle.command_grammar.specs.declared.command.ReadFault.{ReadFault}
 use Rattle.command_grammar.specs.declared.command.ReadFault.TheVariants.{UnknownCommand, MissingArgument, BadNumber, BadName, BadByte, BadPair}
 use Rattle.command_grammar.specs.Kinds.{keeps_kinds, is_up_to, is_some_text}
 use Rattle.command_grammar.specs.Sizes.{argument_bytes, optional_size}
-use Rattle.status_bits.specs.Fields.{merge}
+use Rattle.status_bits.specs.Fields.{Field, merge}
 use Rattle.status_bits.specs.UserWord.{user_table}
 use Rattle.status_bits.specs.BattleWord.{battle_table, team, ally, player, handicap}
 use Rattle.line_words.specs.Bytes.{is_name, is_word, is_text, is_sentence}
@@ -29,7 +29,7 @@ use Rattle.lobby_model.specs.Texts.{fault_text, already_in_channel, no_such_user
 use Rattle.lobby_model.specs.Outcome.{Happening, Outcome, done, refuse_if, tell, users, only_told}
 use Rattle.lobby_model.specs.Channels.{joins, leaves, say_in_channel}
 use Rattle.lobby_model.specs.Battles.{address, bot_line, rect_line, if_there, is_authorising, lets_in, joins_or_asks, leave_or_drop, reason_or_default}
-use Rattle.lobby_model.specs.Rooms.{new_bot, removed_line, disabled_line, enabled_line}
+use Rattle.lobby_model.specs.Rooms.{force_number, new_bot, removed_line, disabled_line, enabled_line}
 use Rattle.lobby_model.specs.Sessions.{status_in}
 use Rattle.lobby_model.specs.Commands.{answer}
 use Rattle.lobby_view.proofs.Everywhere.{Each}
@@ -258,23 +258,21 @@ module _ (s : State) (k : Kinds s) (me : List ℕ) (n : IsName me) (c : ℕ) (co
       (λ id b was. room_clean s k id b enable_all (reply.EnableAllUnits ∷ []) (λ room h. all_units_gone_kinds room h)
       (record { fits = refl; short = omega arith }, tt))
 
+  forces : (name : List ℕ) (field : Field) (most number : ℕ) → most ≤ 127 → (is_name name && is_up_to most number) ≡ true
+      → CleanOutcome s (force_number s me name field number)
+  forces name field most number few kinds =
+      let p = and_parts (is_name name) (is_up_to most number) kinds in
+      let small = leb-true number most p.1 in
+      checked.forces s k me n name field number p.0 (omega arith)
+
   give_handicap : (name : List ℕ) (value : ℕ) → Answers (command.Handicap name value)
-  give_handicap name value kinds short =
-      let p = and_parts (is_name name) (is_up_to 100 value) kinds in
-      let small = leb-true value 100 p.1 in
-      checked.forces s k me n name handicap value p.0 (omega arith)
+  give_handicap name value kinds short = forces name handicap 100 value (omega arith) kinds
 
   force_team : (name : List ℕ) (number : ℕ) → Answers (command.ForceTeamNo name number)
-  force_team name number kinds short =
-      let p = and_parts (is_name name) (is_up_to 15 number) kinds in
-      let small = leb-true number 15 p.1 in
-      checked.forces s k me n name team number p.0 (omega arith)
+  force_team name number kinds short = forces name team 15 number (omega arith) kinds
 
   force_ally : (name : List ℕ) (number : ℕ) → Answers (command.ForceAllyNo name number)
-  force_ally name number kinds short =
-      let p = and_parts (is_name name) (is_up_to 15 number) kinds in
-      let small = leb-true number 15 p.1 in
-      checked.forces s k me n name ally number p.0 (omega arith)
+  force_ally name number kinds short = forces name ally 15 number (omega arith) kinds
 
   force_colour : (name : List ℕ) (colour : ℤ) → Answers (command.ForceTeamColor name colour)
   force_colour name colour kinds short =

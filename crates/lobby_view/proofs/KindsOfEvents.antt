@@ -36,21 +36,13 @@ use Rattle.lobby_view.proofs.Everywhere.{Each, each_at, each_found, each_append}
 use Rattle.lobby_view.proofs.Clean.{Clean, CleanLetters}
 use Rattle.lobby_view.proofs.SoundEvents.{SoundEvent}
 use Rattle.lobby_view.proofs.KindsOfUsers.{IsName, UserKinds}
-use Rattle.lobby_view.proofs.KindsOfHappenings.{Kinds, CleanAll, MakesUser, message_clean, login_clean, logs_in_kinds, logs_out_clean}
+use Rattle.lobby_view.proofs.KindsOfHappenings.{Kinds, CleanAll, MakesUser, message_clean, login_clean, logs_in_kinds, logs_out_clean, kinds_with}
 use Rattle.lobby_view.proofs.KindsChecked.{CleanOutcome}
 use Rattle.lobby_view.proofs.KindsAnswered.{answer_clean, fault_clean}
 use Rattle.lobby_view.proofs.KindsOfClients.{ClientKinds, IsAddressed, counts_fit}
 
 kinds_with_clients : (s : State) → Kinds s → (clients : ByNumber Client) (last : ℕ) → Kinds (record s { clients = clients; last_client = last })
-kinds_with_clients s k clients last = record {
-  users = k.users;
-  channels = k.channels;
-  battles = k.battles;
-  last = k.last;
-  motd = k.motd;
-  greeted = k.greeted;
-  accounts = k.accounts;
-}
+kinds_with_clients s k clients last = kinds_with s k clients last s.users s.channels s.battles k.users k.channels k.battles
 
 all_letters : (s : State) (hs : List Happening) → CleanAll s hs → CleanLetters (flat_map (λ h. h.told) hs)
 all_letters s [] c = tt

@@ -14,7 +14,7 @@ use Rattle.line_words.proofs.Tables.{name_cmp_same}
 use Rattle.channel_book.specs.Channels.{Channels, names_in, channels_of, all_left}
 use Rattle.battle_room.specs.Room.{Room, Asker, has_member, with_member, without_member, with_asker, without_asker}
 use Rattle.account_book.specs.Account.{Account}
-use Rattle.lobby_model.specs.State.{State, User, user_with, Info, Battle, asked_by, battle_of, updated}
+use Rattle.lobby_model.specs.State.{State, Client, User, user_with, Info, Battle, asked_by, battle_of, updated}
 use Rattle.lobby_model.specs.Outcome.{Happening, Letter, happens, tell, user, users, everyone}
 use Rattle.lobby_model.specs.Channels.{joins, leaves, leaves_all}
 use Rattle.lobby_model.specs.Battles.{members, battle_lines, change_room, change_info, joins_battle, let_into, asks_to_join, turned_away, asks_no_more, drops_own, member_leaves, closes, opens, leaves_battle, leaves_own, is_founder, updated_line}
@@ -44,38 +44,28 @@ CleanAll s [] = Unit {0}
 CleanAll s (h ∷ hs) = CleanLetters h.told × Kinds (h.after s) × CleanAll (h.after s) hs
 
 module _ (s : State) (k : Kinds s) where
-  with_users : (users : ByName User) → Each UserKinds users → Kinds (record s { users = users })
-  with_users users h = record {
-    users = h;
-    channels = k.channels;
-    battles = k.battles;
+  -- with other clients, users, channels and battles
+  pub kinds_with : (clients : ByNumber Client) (last : ℕ) (users : ByName User) (channels : Channels) (battles : ByNumber Battle)
+      → Each UserKinds users → Each ChannelKinds channels → Each BattleKinds battles
+      → Kinds (record s { clients = clients; last_client = last; users = users; channels = channels; battles = battles })
+  kinds_with clients last users channels battles u c b = record {
+    users = u;
+    channels = c;
+    battles = b;
     last = k.last;
     motd = k.motd;
     greeted = k.greeted;
     accounts = k.accounts;
   }
+
+  with_users : (users : ByName User) → Each UserKinds users → Kinds (record s { users = users })
+  with_users users u = kinds_with s.clients s.last_client users s.channels s.battles u k.channels k.battles
 
   with_channels : (channels : Channels) → Each ChannelKinds channels → Kinds (record s { channels = channels })
-  with_channels channels h = record {
-    users = k.users;
-    channels = h;
-    battles = k.battles;
-    last = k.last;
-    motd = k.motd;
-    greeted = k.greeted;
-    accounts = k.accounts;
-  }
+  with_channels channels c = kinds_with s.clients s.last_client s.users channels s.battles k.users c k.battles
 
   with_battles : (battles : ByNumber Battle) → Each BattleKinds battles → Kinds (record s { battles = battles })
-  with_battles battles h = record {
-    users = k.users;
-    channels = k.channels;
-    battles = h;
-    last = k.last;
-    motd = k.motd;
-    greeted = k.greeted;
-    accounts = k.accounts;
-  }
+  with_battles battles b = kinds_with s.clients s.last_client s.users s.channels battles k.users k.channels b
 
   pub battle_there : (id : ℕ) (b : Battle) → at_number s.battles id ≡ Some b → BattleKinds (id, b)
   battle_there id b there = each_at nat_cmp nat_cmp-IsAntisymmetric BattleKinds s.battles id b k.battles there

@@ -1,5 +1,5 @@
 -- A battle is opened; what all know of one changes.
-use Rattle.std.proofs.Common.{◌≡◌, ℕ, ℤ, List, [], ◌∷◌, ◌++◌, refl, sym, ap, subst, ◌∙◌, Bool, true, false, cond}
+use Rattle.std.proofs.Common.{◌≡◌, ℕ, ℤ, List, [], ◌∷◌, ◌++◌, refl, sym, ap, ◌∙◌, Bool, true, false, cond}
 use Rattle.std.specs.Prelude.{Option, Some, None, find, ◌||◌, if◌then◌else◌}
 use Rattle.std.specs.declared.cmp.Ordering.{Ordering}
 use Rattle.std.specs.declared.cmp.Ordering.TheVariants.{Less, Equal, Greater}
@@ -9,7 +9,7 @@ use Rattle.std.specs.FinMap.Entries.{by_order}
 use Rattle.reply_grammar.specs.declared.Reply.{Reply}
 use Rattle.reply_grammar.specs.declared.Reply.TheVariants as reply
 use Rattle.line_words.specs.Table.{ByNumber, at, at_number, put, put_number, change_number, same_number, same_name}
-use Rattle.line_words.proofs.Tables.{map_values-put, at-put, same_name_is, same_name_itself}
+use Rattle.line_words.proofs.Tables.{map_values-put, at-put, same_name_itself}
 use Rattle.battle_room.specs.Room.{has_member, new_room}
 use Rattle.lobby_model.specs.State.{State, Info, Battle, battle_of, updated}
 use Rattle.lobby_model.specs.Outcome.{happens, tell, everyone}
@@ -17,7 +17,7 @@ use Rattle.lobby_model.specs.Battles.{opens, opened_line, updated_line, change_i
 use Rattle.lobby_model.proofs.Delivered.{same_itself}
 use Rattle.lobby_view.specs.View.{View, shown, shown_all, change_listed_info, entered}
 use Rattle.lobby_view.specs.Observe.{observe, own_room, listed}
-use Rattle.lobby_view.proofs.Basics.{Seen}
+use Rattle.lobby_view.proofs.Basics.{Seen, seen_by_each}
 use Rattle.lobby_view.proofs.Ordered.{values_changed}
 use Rattle.lobby_view.proofs.Changed.{all_listed, own_in}
 
@@ -89,11 +89,7 @@ module _ (s : State) (id : ℕ) (free : at_number s.battles id ≡ None) (info :
       })
 
   pub opens_seen : battle_of s info.founder ≡ None → (u : List ℕ) → Seen s mine u (opens info.founder id new_battle)
-  opens_seen none u =
-      elim (same_name u info.founder) as (λ b. same_name u info.founder ≡ b → Seen s mine u (opens info.founder id new_battle)) [
-        | true ↦ λ is. subst (λ n. Seen s mine n (opens info.founder id new_battle)) (sym (same_name_is u info.founder is)) (own_opens_seen none)
-        | false ↦ λ apart. other_opens_seen u apart
-      ] refl
+  opens_seen none = seen_by_each s mine info.founder (opens info.founder id new_battle) (own_opens_seen none) other_opens_seen
 
 -- what all know of a battle changes
 module _ (id : ℕ) (f : Info → Info) (u : List ℕ) where

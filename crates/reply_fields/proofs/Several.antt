@@ -102,25 +102,19 @@ joined-between stop [] = refl
 joined-between stop (b ∷ bs) = joined-between_at (b == stop) stop b bs refl (joined-between stop bs)
 
 module _ {A : Type 0} (one : List ℕ → Option A) (text : A → List ℕ) (fit : A → Bool) (test : ℕ → Bool) (stop : ℕ) (prints : Prints one text fit test) where
-  pub parts_take : (ss : List (List ℕ)) (xs : List A) → all_of one ss ≡ Some xs → (marked (λ s. s) stop stop ss ≡ marked text stop stop xs) × (list_all fit xs ≡ true)
-  parts_take [] xs e = subst (λ (ys : List A). ([] ≡ marked text stop stop ys) × (list_all fit ys ≡ true)) (some_is [] xs e) (refl, refl)
-  parts_take (s ∷ ss) xs e =
+  parts_take : (mark : ℕ) (ss : List (List ℕ)) (xs : List A) → all_of one ss ≡ Some xs → (marked (λ s. s) mark stop ss ≡ marked text mark stop xs) × (list_all fit xs ≡ true)
+  parts_take mark [] xs e = subst (λ (ys : List A). ([] ≡ marked text mark stop ys) × (list_all fit ys ≡ true)) (some_is [] xs e) (refl, refl)
+  parts_take mark (s ∷ ss) xs e =
       let x = bind_some (one s) (λ x. all_of one ss >>= λ xs. Some (x ∷ xs)) xs e in
       let ys = bind_some (all_of one ss) (λ xs. Some (x.0 ∷ xs)) xs x.2 in
       let first = prints.takes s x.0 x.1 in
-      let rest = parts_take ss ys.0 ys.1 in
-      subst (λ (zs : List A). (marked (λ s. s) stop stop (s ∷ ss) ≡ marked text stop stop zs) × (list_all fit zs ≡ true)) (some_is (x.0 ∷ ys.0) xs ys.2)
-      (both stop s (text x.0) (marked (λ s. s) stop stop ss) (marked text stop stop ys.0) first.0 rest.0, and_from (fit x.0) (list_all fit ys.0) first.1 rest.1)
+      let rest = parts_take stop ss ys.0 ys.1 in
+      subst (λ (zs : List A). (marked (λ s. s) mark stop (s ∷ ss) ≡ marked text mark stop zs) × (list_all fit zs ≡ true)) (some_is (x.0 ∷ ys.0) xs ys.2)
+      (both mark s (text x.0) (marked (λ s. s) stop stop ss) (marked text stop stop ys.0) first.0 rest.0, and_from (fit x.0) (list_all fit ys.0) first.1 rest.1)
 
   first_mark : (mark : ℕ) (ss : List (List ℕ)) (xs : List A) → HasParts ss → all_of one ss ≡ Some xs → (mark ∷ joined stop ss ≡ marked text mark stop xs) × (list_all fit xs ≡ true)
   first_mark mark [] xs h e = absurd h
-  first_mark mark (s ∷ ss) xs h e =
-      let x = bind_some (one s) (λ x. all_of one ss >>= λ xs. Some (x ∷ xs)) xs e in
-      let ys = bind_some (all_of one ss) (λ xs. Some (x.0 ∷ xs)) xs x.2 in
-      let first = prints.takes s x.0 x.1 in
-      let rest = parts_take ss ys.0 ys.1 in
-      subst (λ (zs : List A). (mark ∷ joined stop (s ∷ ss) ≡ marked text mark stop zs) × (list_all fit zs ≡ true)) (some_is (x.0 ∷ ys.0) xs ys.2)
-      (both mark s (text x.0) (marked (λ s. s) stop stop ss) (marked text stop stop ys.0) first.0 rest.0, and_from (fit x.0) (list_all fit ys.0) first.1 rest.1)
+  first_mark mark (s ∷ ss) xs h e = parts_take mark (s ∷ ss) xs e
 
   pub many_takes : (mark : ℕ) (bytes : List ℕ) (xs : List A) → many one mark stop bytes ≡ Some xs → (bytes ≡ marked text mark stop xs) × (list_all fit xs ≡ true)
   unfolding many

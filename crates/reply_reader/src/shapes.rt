@@ -1,13 +1,13 @@
 //! Reading the arguments that several replies share, to the end of the line.
 
 ghost use Rattle.std.specs.Prelude.{[], ◌∷◌};
-ghost use Rattle.reply_grammar.specs.Kinds.{Name, Text};
+ghost use Rattle.reply_grammar.specs.Kinds.{Name, Text, Words};
 ghost use Rattle.reply_fields.specs.Fields.{Gives};
 ghost use Rattle.reply_reader.specs.Reading.{shaped};
 ghost use Rattle.reply_grammar.specs.Replies.{battle_number};
 
-use line_words::{NameBuf, TextBuf};
-use reply_fields::{ReadError, battle_at, ended, name_at, text_at};
+use line_words::{NameBuf, TextBuf, WordList};
+use reply_fields::{ReadError, battle_at, ended, name_at, text_at, words_at};
 use std::alloc::Global;
 
 #[tactic(auto, unfolding(crate::specs::Reading::shaped))]
@@ -42,6 +42,15 @@ pub(crate) fn only_text(alloc: Global, bytes: &[u8]) -> Result<TextBuf, ReadErro
     let (text, rest) = text_at(alloc, bytes)?;
     ended(rest)?;
     Ok(text)
+}
+
+#[tactic(auto, unfolding(crate::specs::Reading::shaped))]
+pub(crate) fn only_words(alloc: Global, bytes: &[u8]) -> Result<WordList, ReadError>
+    ensures { Gives (λ x. (x, tt)) result (shaped (Words ∷ []) bytes.now) }
+{
+    let (words, rest) = words_at(alloc, bytes)?;
+    ended(rest)?;
+    Ok(words)
 }
 
 #[tactic(auto, unfolding(crate::specs::Reading::shaped))]

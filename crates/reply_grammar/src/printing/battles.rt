@@ -14,7 +14,7 @@ use super::pieces::{
     put_command, put_end, put_flag, put_name, put_next_sentence, put_number, put_optional,
     put_sentence, put_wide, put_word,
 };
-use super::shapes::{put_bare, put_only_battle, put_only_text};
+use super::shapes::{put_bare, put_only_number, put_only_text};
 use crate::Reply;
 use crate::command_word::CommandWord;
 use crate::opened_battle::OpenedBattle;
@@ -73,10 +73,10 @@ pub(super) fn put(out: &mut Vec<u8>, id: Option<u32>, reply: LentReply) -> Resul
 {
     match reply {
         LentReply::OpenBattle { battle } => {
-            put_only_battle(out, id, CommandWord::OpenBattle, battle)
+            put_only_number(out, id, CommandWord::OpenBattle, battle)
         }
         LentReply::BattleClosed { battle } => {
-            put_only_battle(out, id, CommandWord::BattleClosed, battle)
+            put_only_number(out, id, CommandWord::BattleClosed, battle)
         }
         LentReply::JoinBattle { battle, game_hash } => put_join_battle(out, id, battle, &game_hash),
         LentReply::JoinedBattle {

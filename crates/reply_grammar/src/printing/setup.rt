@@ -8,10 +8,11 @@ ghost use Rattle.reply_grammar.specs.Lent.{reply_of};
 ghost use Rattle.reply_grammar.specs.Replies.{command_of, printed_line};
 
 use super::lent::LentReply;
-use super::pieces::{put_command, put_end, put_number, put_pairs, put_words};
+use super::pieces::{put_command, put_end, put_number, put_pairs};
+use super::shapes::{put_bare, put_only_number, put_only_words};
 use crate::Reply;
 use crate::command_word::CommandWord;
-use line_words::{Pair, WordBuf};
+use line_words::Pair;
 use std::alloc::AllocError;
 
 // The reply is one of the group.
@@ -65,12 +66,32 @@ pub(super) fn put(out: &mut Vec<u8>, id: Option<u32>, reply: LentReply) -> Resul
             right,
             bottom,
         } => put_add_start_rect(out, id, ally_no, left, top, right, bottom),
-        LentReply::RemoveStartRect { ally_no } => put_remove_start_rect(out, id, ally_no),
+        LentReply::RemoveStartRect { ally_no } => put_only_number(
+            out,
+            id,
+            CommandWord::RemoveStartRect,
+            u32::from(ally_no),
+        ),
         LentReply::SetScriptTags { pairs } => put_set_script_tags(out, id, pairs),
-        LentReply::RemoveScriptTags { keys } => put_remove_script_tags(out, id, keys),
-        LentReply::DisableUnits { units } => put_disable_units(out, id, units),
-        LentReply::EnableUnits { units } => put_enable_units(out, id, units),
-        LentReply::EnableAllUnits => put_enable_all_units(out, id),
+        LentReply::RemoveScriptTags { keys } => put_only_words(
+            out,
+            id,
+            CommandWord::RemoveScriptTags,
+            keys,
+        ),
+        LentReply::DisableUnits { units } => put_only_words(
+            out,
+            id,
+            CommandWord::DisableUnits,
+            units,
+        ),
+        LentReply::EnableUnits { units } => put_only_words(
+            out,
+            id,
+            CommandWord::EnableUnits,
+            units,
+        ),
+        LentReply::EnableAllUnits => put_bare(out, id, CommandWord::EnableAllUnits),
         _ => unreachable!(),
     }
 }
@@ -97,63 +118,11 @@ fn put_add_start_rect(
     Ok(())
 }
 
-fn put_remove_start_rect(out: &mut Vec<u8>, id: Option<u32>, ally_no: u8) -> Result<(), AllocError>
-    ensures ok { IfOk result (λ _. out.new.items ≡ out.old.items ++ printed_line id (reply.RemoveStartRect ally_no)) }
-    ensures kept { take (length out.old.items) out.new.items ≡ out.old.items }
-{
-    put_command(out, id, CommandWord::RemoveStartRect)?;
-    put_number(out, u32::from(ally_no))?;
-    put_end(out)
-}
-
 fn put_set_script_tags(out: &mut Vec<u8>, id: Option<u32>, pairs: &[Pair]) -> Result<(), AllocError>
     ensures ok { IfOk result (λ _. out.new.items ≡ out.old.items ++ printed_line id (reply.SetScriptTags pairs.now)) }
     ensures kept { take (length out.old.items) out.new.items ≡ out.old.items }
 {
     put_command(out, id, CommandWord::SetScriptTags)?;
     put_pairs(out, pairs)?;
-    put_end(out)
-}
-
-fn put_remove_script_tags(
-    out: &mut Vec<u8>,
-    id: Option<u32>,
-    keys: &[WordBuf],
-) -> Result<(), AllocError>
-    ensures ok { IfOk result (λ _. out.new.items ≡ out.old.items ++ printed_line id (reply.RemoveScriptTags keys.now)) }
-    ensures kept { take (length out.old.items) out.new.items ≡ out.old.items }
-{
-    put_command(out, id, CommandWord::RemoveScriptTags)?;
-    put_words(out, keys)?;
-    put_end(out)
-}
-
-fn put_disable_units(
-    out: &mut Vec<u8>,
-    id: Option<u32>,
-    units: &[WordBuf],
-) -> Result<(), AllocError>
-    ensures ok { IfOk result (λ _. out.new.items ≡ out.old.items ++ printed_line id (reply.DisableUnits units.now)) }
-    ensures kept { take (length out.old.items) out.new.items ≡ out.old.items }
-{
-    put_command(out, id, CommandWord::DisableUnits)?;
-    put_words(out, units)?;
-    put_end(out)
-}
-
-fn put_enable_units(out: &mut Vec<u8>, id: Option<u32>, units: &[WordBuf]) -> Result<(), AllocError>
-    ensures ok { IfOk result (λ _. out.new.items ≡ out.old.items ++ printed_line id (reply.EnableUnits units.now)) }
-    ensures kept { take (length out.old.items) out.new.items ≡ out.old.items }
-{
-    put_command(out, id, CommandWord::EnableUnits)?;
-    put_words(out, units)?;
-    put_end(out)
-}
-
-fn put_enable_all_units(out: &mut Vec<u8>, id: Option<u32>) -> Result<(), AllocError>
-    ensures ok { IfOk result (λ _. out.new.items ≡ out.old.items ++ printed_line id (reply.EnableAllUnits)) }
-    ensures kept { take (length out.old.items) out.new.items ≡ out.old.items }
-{
-    put_command(out, id, CommandWord::EnableAllUnits)?;
     put_end(out)
 }

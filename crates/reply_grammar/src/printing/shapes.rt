@@ -4,11 +4,11 @@
 
 ghost use Rattle.std.specs.Prelude.{◌≡◌, [], ◌∷◌, ◌++◌, IfOk, length, take};
 ghost use Rattle.reply_grammar.specs.Kinds as kind;
-ghost use Rattle.reply_grammar.specs.Replies.{battle_number, line_with};
+ghost use Rattle.reply_grammar.specs.Replies.{line_with, status_word};
 
-use super::pieces::{put_command, put_end, put_name, put_number, put_text};
+use super::pieces::{put_command, put_end, put_name, put_number, put_text, put_words};
 use crate::command_word::CommandWord;
-use line_words::{NameBuf, Text};
+use line_words::{NameBuf, Text, WordBuf};
 use std::alloc::AllocError;
 
 #[inline(always)]
@@ -25,17 +25,17 @@ pub(super) fn put_bare(
 }
 
 #[inline(always)]
-pub(super) fn put_only_battle(
+pub(super) fn put_only_number(
     out: &mut Vec<u8>,
     id: Option<u32>,
     command: CommandWord,
-    battle: u32,
+    number: u32,
 ) -> Result<(), AllocError>
-    ensures ok { IfOk result (λ _. out.new.items ≡ out.old.items ++ line_with id command (battle_number ∷ []) (battle, tt)) }
+    ensures ok { IfOk result (λ _. out.new.items ≡ out.old.items ++ line_with id command (status_word ∷ []) (number, tt)) }
     ensures kept { take (length out.old.items) out.new.items ≡ out.old.items }
 {
     put_command(out, id, command)?;
-    put_number(out, battle)?;
+    put_number(out, number)?;
     put_end(out)
 }
 
@@ -66,6 +66,21 @@ pub(super) fn put_only_text(
 {
     put_command(out, id, command)?;
     put_text(out, text)?;
+    put_end(out)
+}
+
+#[inline(always)]
+pub(super) fn put_only_words(
+    out: &mut Vec<u8>,
+    id: Option<u32>,
+    command: CommandWord,
+    words: &[WordBuf],
+) -> Result<(), AllocError>
+    ensures ok { IfOk result (λ _. out.new.items ≡ out.old.items ++ line_with id command (kind.Words ∷ []) (words.now, tt)) }
+    ensures kept { take (length out.old.items) out.new.items ≡ out.old.items }
+{
+    put_command(out, id, command)?;
+    put_words(out, words)?;
     put_end(out)
 }
 

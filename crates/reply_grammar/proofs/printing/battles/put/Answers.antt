@@ -5,10 +5,10 @@ use Rattle.std.proofs.lemmas.Int.{to_z-of_z}
 use Rattle.reply_grammar.proofs.printing.battles.put.Goals as goal
 
 pub returns-in-OpenBattle-clause-ok : goal.returns-in-OpenBattle-clause-ok
-returns-in-OpenBattle-clause-ok c = rw (c.in-OpenBattle.is) c.put_only_battle.ensures.ok
+returns-in-OpenBattle-clause-ok c = rw (c.in-OpenBattle.is) c.put_only_number.ensures.ok
 
 pub returns-in-BattleClosed-clause-ok : goal.returns-in-BattleClosed-clause-ok
-returns-in-BattleClosed-clause-ok c = rw (c.in-BattleClosed.is) c.put_only_battle-in-BattleClosed.ensures.ok
+returns-in-BattleClosed-clause-ok c = rw (c.in-BattleClosed.is) c.put_only_number-in-BattleClosed.ensures.ok
 
 pub returns-in-JoinBattle-clause-ok : goal.returns-in-JoinBattle-clause-ok
 returns-in-JoinBattle-clause-ok c =
