@@ -51,9 +51,9 @@ name_delivered limit pieces m n is c =
       | Some client ↦ phase_kept limit (bytes_for pieces c) client
     ]
 
-module _ (m : ByNumber Client) (seats : ByName Seat) (k : List ℕ) (f : Seat → Seat) (same : (x : Seat) → (f x).client ≡ x.client) where
-  kept_client : (q : List ℕ) (x : Seat) → (if same_name k q then f x else x).client ≡ x.client
-  kept_client q x = elim (same_name k q) as (λ b. (if b then f x else x).client ≡ x.client) [ true ↦ same x | false ↦ refl ]
+module _ (m : ByNumber Client) (seats : ByName Seat) (k : List ℕ) (f : Seat → Seat) (same : (x : Seat) → (f x).client.number ≡ x.client.number) where
+  kept_client : (q : List ℕ) (x : Seat) → (if same_name k q then f x else x).client.number ≡ x.client.number
+  kept_client q x = elim (same_name k q) as (λ b. (if b then f x else x).client.number ≡ x.client.number) [ true ↦ same x | false ↦ refl ]
 
   pub agree_changed : Agree m seats → Agree m (change_name seats k f)
   agree_changed agree = λ q d.
@@ -74,7 +74,7 @@ users_changed (e ∷ seats) k status =
 only_one : (o : Option Seat) (c d : ℕ) → has_number (client_in o) c ≡ true → same_number c d ≡ false → has_number (client_in o) d ≡ false
 only_one None c d there apart = refl
 only_one (Some seat) c d there apart =
-    let at : c ≡ seat.client = same_number_is c seat.client (elim (same_number c seat.client) as (λ b. b
+    let at : c ≡ seat.client.number = same_number_is c seat.client.number (elim (same_number c seat.client.number) as (λ b. b
     ≡ (b || false)) [ true ↦ refl | false ↦ refl ] ∙ there) in
     ap (λ k. same_number d k || false) (sym at) ∙ ap (λ b. b || false) (same_either_way d c ∙ apart)
 
@@ -174,7 +174,7 @@ module _ (m : ByNumber Client) (c : ℕ) (name : List ℕ) where
       ∙ ap is_some (sym (logged_in_at live d))
 
   pub agree_log_in : (seats : ByName Seat) (seat : Seat) → is_live_client (at_number m c) ≡ true → name_at m c ≡ None → at_name seats name ≡ None
-      → seat.client ≡ c → Agree m seats → Agree (set_phase m c (In name)) (put_name seats name seat)
+      → seat.client.number ≡ c → Agree m seats → Agree (set_phase m c (In name)) (put_name seats name seat)
   agree_log_in seats seat live nobody free own agree = λ q d.
       ap (λ o. has_number (client_in o) d) (at-put name_cmp name_cmp_total seats name seat q)
       ∙ elim (same_name q name) as (λ b. same_name q name ≡ b

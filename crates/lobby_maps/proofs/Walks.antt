@@ -80,16 +80,16 @@ module _ (clients : ByNumber Client) (seats : ByName Seat) (agree : Agree client
   named_so name None h = absurd (cc)
   named_so name (Some n) h = ap (λ x. Some x) (sym (same_name_is name n h))
 
-  seated : (name : List ℕ) (seat : Seat) → at_name seats name ≡ Some seat → name_at clients seat.client ≡ Some name
-  seated name seat e = named_so name _ (sym (agree name seat.client)
-      ∙ ap (λ o. has_number (client_in o) seat.client) e ∙ ap (λ b. b || false) (same_itself seat.client))
+  seated : (name : List ℕ) (seat : Seat) → at_name seats name ≡ Some seat → name_at clients seat.client.number ≡ Some name
+  seated name seat e = named_so name _ (sym (agree name seat.client.number)
+      ∙ ap (λ o. has_number (client_in o) seat.client.number) e ∙ ap (λ b. b || false) (same_itself seat.client.number))
 
   -- the client that is logged in under a name is the one of its seat
   pub sole_client : (name : List ℕ) (c : ℕ) → name_at clients c ≡ Some name → client_in (at_name seats name) ≡ c ∷ []
   sole_client name c named =
       elim (at_name seats name) as (λ o. has_number (client_in o) c ≡ true → client_in o ≡ c ∷ []) [
         | None ↦ λ none. absurd (cc)
-        | Some seat ↦ λ has. ap (λ d. d ∷ []) (sym (same_number_is c seat.client (elim (same_number c seat.client) as (λ b. (b || false) ≡ true → b ≡ true) [
+        | Some seat ↦ λ has. ap (λ d. d ∷ []) (sym (same_number_is c seat.client.number (elim (same_number c seat.client.number) as (λ b. (b || false) ≡ true → b ≡ true) [
           | true ↦ λ t. refl
           | false ↦ λ t. t
         ] has)))
@@ -113,7 +113,7 @@ module _ (clients : ByNumber Client) (seats : ByName Seat) (agree : Agree client
       elim (at_name seats name) as (λ o. at_name seats name ≡ o → AreApart (client_in o ++ clients_of seats names)) [
         | None ↦ λ e. named_apart names h.1
         | Some seat ↦ λ e. (
-          named_exact names seat.client ∙ ap (is_named (λ n. is_among n names)) (seated name seat e)
+          named_exact names seat.client.number ∙ ap (is_named (λ n. is_among n names)) (seated name seat e)
               ∙ out_of name names h.0,
           named_apart names h.1,
         )

@@ -89,7 +89,7 @@ pub record IsFresh (clients : ByNumber Client) (users : ByName User) (c : ℕ) (
   pub hears : is_live_client (at_number clients c) ≡ true
   pub nobody : name_at clients c ≡ None
   pub free : at_name users name ≡ None
-  pub here : seat.client ≡ c
+  pub here : seat.client.number ≡ c
   pub outside : seat.battle ≡ None
 
 abbrev pub first_of : {A B : Type 0} → Option (A × B) → Option A

@@ -34,7 +34,7 @@ without_one name m = without_name m name
 -- the client at which a user is, where there is one of this name
 abbrev pub client_in : Option Seat → List ℕ
 client_in None = []
-client_in (Some seat) = seat.client ∷ []
+client_in (Some seat) = seat.client.number ∷ []
 
 -- the clients at which the users of these names are
 abbrev pub clients_of : ByName Seat → List (List ℕ) → List ℕ

@@ -7,6 +7,7 @@ ghost use Rattle.lobby_maps.specs.Info.{info_changed};
 
 use battle_room::Room;
 use line_words::{NameBuf, SentenceBuf, WordBuf};
+use lobby_post::ClientKey;
 use reply_grammar::OpenedBattle;
 use std::marker::Model;
 
@@ -27,7 +28,8 @@ pub struct Battle {
     pub password: WordBuf,
     /// The hash of the game, -2147483648 to 4294967295.
     pub game_hash: i64,
-    pub room: Room,
+    /// Its members' marks are the keys of their clients.
+    pub room: Room<ClientKey>,
 }
 
 impl Model for Battle {

@@ -12,6 +12,7 @@ use crate::battle::Battle;
 use crate::seats::Seats;
 use battle_room::{Bot, Rect};
 use line_words::{NameBuf, PairList, SentenceBuf, WordBuf, WordList};
+use lobby_post::ClientKey;
 use status_bits::BattleStatus;
 use std::alloc::{AllocError, Global};
 use std::collections::BTreeMap;
@@ -190,7 +191,7 @@ impl Battles {
                 seats.enter_battle(&name, number);
             }
             BattleChange::Join { number, name } => {
-                self.add_member(number, &name, seats.place_of(&name))?;
+                self.add_member(number, &name, seats.key_of(&name))?;
                 seats.enter_battle(&name, number);
             }
             BattleChange::Ask {
@@ -202,7 +203,7 @@ impl Battles {
                 seats.enter_battle(&name, number);
             }
             BattleChange::LetIn { number, name } => {
-                self.let_in(number, &name, seats.place_of(&name))?;
+                self.let_in(number, &name, seats.key_of(&name))?;
             }
             BattleChange::StopAsking { number, name } => self.stop_asking(number, &name),
             BattleChange::Leave { number, name } => self.leave(number, &name),
@@ -235,16 +236,16 @@ impl Battles {
         Ok(())
     }
 
-    /// One who is no member of the battle of this number enters it, under a mark. Where memory is
-    /// refused, nothing changes.
-    fn add_member(&mut self, number: u32, name: &NameBuf, mark: usize) -> Result<(), AllocError>
+    /// One who is no member of the battle of this number enters it, with the key of its client as a mark.
+    /// Where memory is refused, nothing changes.
+    fn add_member(&mut self, number: u32, name: &NameBuf, key: ClientKey) -> Result<(), AllocError>
         requires { IsNowhere (has_member name.now) self.old.by_number.entries }
         ensures battles { OnOk result (self.new.by_number.entries ≡ change_number self.old.by_number.entries number (room_changed (with_member name.now))) }
         ensures last { self.new.last ≡ self.old.last }
         ensures err { OnErr result (self.new.by_number.entries ≡ self.old.by_number.entries) }
     {
         if let Some(battle) = self.by_number.get_mut(&number) {
-            battle.add_member(name.copy(), mark)?;
+            battle.add_member(name.copy(), key)?;
         }
         Ok(())
     }
@@ -269,16 +270,16 @@ impl Battles {
         Ok(())
     }
 
-    /// One who asks to join the battle of this number, and is no member, enters it, under a mark. Where
-    /// memory is refused, nothing changes.
-    fn let_in(&mut self, number: u32, name: &NameBuf, mark: usize) -> Result<(), AllocError>
+    /// One who asks to join the battle of this number, and is no member, enters it, with the key of its
+    /// client as a mark. Where memory is refused, nothing changes.
+    fn let_in(&mut self, number: u32, name: &NameBuf, key: ClientKey) -> Result<(), AllocError>
         requires { (battle : Battle) → at_number self.old.by_number.entries number ≡ Some battle → has_member name.now battle.room ≡ false }
         ensures battles { OnOk result (self.new.by_number.entries ≡ change_number self.old.by_number.entries number (room_changed (let_in name.now))) }
         ensures last { self.new.last ≡ self.old.last }
         ensures err { OnErr result (self.new.by_number.entries ≡ self.old.by_number.entries) }
     {
         if let Some(battle) = self.by_number.get_mut(&number) {
-            battle.let_in(name, mark)?;
+            battle.let_in(name, key)?;
         }
         Ok(())
     }
@@ -340,14 +341,14 @@ impl Battles {
 }
 
 impl Battle {
-    /// One who is no member enters, behind the others, under a mark. Where memory is refused, nothing
-    /// changes.
-    fn add_member(&mut self, name: NameBuf, mark: usize) -> Result<(), AllocError>
+    /// One who is no member enters, behind the others, with the key of its client as a mark. Where memory
+    /// is refused, nothing changes.
+    fn add_member(&mut self, name: NameBuf, key: ClientKey) -> Result<(), AllocError>
         requires { has_member name self.old.room ≡ false }
         ensures ok { OnOk result (self.new ≡ room_changed (with_member name) self.old) }
         ensures err { OnErr result (self.new ≡ self.old) }
     {
-        self.room.add_member(name, mark)
+        self.room.add_marked(name, key)
     }
 
     /// One who neither is a member nor asks to be asks to join, with the script password that it gave.
@@ -365,14 +366,14 @@ impl Battle {
         self.room.ask(name, script_password)
     }
 
-    /// One who asks, and is no member, enters, behind the others, under a mark. Where memory is refused,
-    /// nothing changes.
-    fn let_in(&mut self, name: &NameBuf, mark: usize) -> Result<(), AllocError>
+    /// One who asks, and is no member, enters, behind the others, with the key of its client as a mark.
+    /// Where memory is refused, nothing changes.
+    fn let_in(&mut self, name: &NameBuf, key: ClientKey) -> Result<(), AllocError>
         requires { has_member name.now self.old.room ≡ false }
         ensures ok { OnOk result (self.new ≡ room_changed (let_in name.now) self.old) }
         ensures err { OnErr result (self.new ≡ self.old) }
     {
-        self.room.let_in(name, mark)
+        self.room.let_in_marked(name, key)
     }
 
     /// What its members share changes. Where memory is refused, nothing does.

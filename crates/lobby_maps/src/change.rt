@@ -14,7 +14,7 @@ use crate::battles::{BattleChange, Battles};
 use crate::seats::{Seat, Seats};
 use channel_book::ChannelBook;
 use line_words::NameBuf;
-use lobby_post::Clients;
+use lobby_post::{ClientKey, Clients};
 use status_bits::UserStatus;
 use std::alloc::AllocError;
 
@@ -60,7 +60,7 @@ pub enum Change {
 pub fn apply(
     clients: &mut Clients,
     seats: &mut Seats,
-    channels: &mut ChannelBook<usize>,
+    channels: &mut ChannelBook<ClientKey>,
     battles: &mut Battles,
     client: u64,
     change: Change,
@@ -92,8 +92,8 @@ pub fn apply(
             clients.log_in(client, name);
         }
         Change::Join { channel, name } => {
-            let place = seats.place_of(&name);
-            channels.add_member(channel, name, place)?;
+            let key = seats.key_of(&name);
+            channels.add_member(channel, name, key)?;
         }
         Change::Leave { channel, name } => channels.remove_member(&channel, &name),
         Change::InBattles(change) => battles.apply(seats, client, change)?,
@@ -114,7 +114,7 @@ pub fn apply(
 /// A user, where there is one, leaves all channels, asks no more to join the battle of the one number, and
 /// leaves that of the other.
 fn leave_all(
-    channels: &mut ChannelBook<usize>,
+    channels: &mut ChannelBook<ClientKey>,
     battles: &mut Battles,
     name: Option<&NameBuf>,
     asks: Option<u32>,

@@ -11,7 +11,6 @@ mod battle;
 mod battles;
 mod burst;
 mod change;
-mod entered;
 mod greeting;
 mod lookups;
 mod maps;

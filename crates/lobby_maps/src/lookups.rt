@@ -15,7 +15,7 @@ use crate::maps::Maps;
 use account_book::AccountBook;
 use channel_book::ChannelBook;
 use line_words::NameBuf;
-use lobby_post::Post;
+use lobby_post::{ClientKey, Post};
 use status_bits::UserStatus;
 use std::alloc::{AllocError, Global};
 
@@ -33,7 +33,7 @@ impl Maps {
     }
 
     /// The channels, and who is in each.
-    pub fn channels(&self) -> &ChannelBook<usize>
+    pub fn channels(&self) -> &ChannelBook<ClientKey>
         ensures { result.now ≡ self.now.plain.channels }
     {
         &self.channels
@@ -53,14 +53,16 @@ impl Maps {
         self.clients.ip_of(client)
     }
 
-    /// The place at which a client is looked for first. A hint, of which no contract speaks.
-    pub fn client_place(&self, client: u64) -> usize {
-        self.clients.place_of(client)
+    /// The key of a client.
+    pub fn client_key(&self, client: u64) -> ClientKey
+        ensures { result.number ≡ client }
+    {
+        self.clients.key_of(client)
     }
 
-    /// The place at which a user's client is looked for first. A hint, of which no contract speaks.
-    pub fn user_place(&self, name: &NameBuf) -> usize {
-        self.seats.place_of(name)
+    /// The key of a user's client, for a mark.
+    pub fn user_key(&self, name: &NameBuf) -> ClientKey {
+        self.seats.key_of(name)
     }
 
     /// Whether somebody of this name is logged in.

@@ -31,7 +31,7 @@ use battle_room::Room;
 use channel_book::ChannelBook;
 use line_words::NameBuf;
 use lobby_model::Settings;
-use lobby_post::{Clients, Drained, Post, Wakes};
+use lobby_post::{ClientKey, Clients, Drained, Post, Wakes};
 use reply_grammar::LentReply;
 use std::alloc::{AllocError, Global};
 use std::marker::Model;
@@ -61,7 +61,7 @@ pub struct Maps {
     greeting_line: Vec<u8>,
     pub(crate) clients: Clients,
     pub(crate) seats: Seats,
-    pub(crate) channels: ChannelBook<usize>,
+    pub(crate) channels: ChannelBook<ClientKey>,
     pub(crate) battles: Battles,
     last_client: u64,
 }
@@ -200,11 +200,11 @@ impl Maps {
         Ok(())
     }
 
-    /// Tells the users of these names, whose places these may be.
+    /// Tells the users of these names, the keys of whose clients these likely are.
     pub fn tell_users(
         &self,
         names: &[NameBuf],
-        places: &[usize],
+        keys: &[ClientKey],
         line: LentReply,
         post: &mut Post,
     ) -> Result<(), AllocError>
@@ -212,16 +212,15 @@ impl Maps {
         ensures { OnOk result (Told self.now.plain post.old post.new (tell (users names.now) (reply_of line.entry ∷ []) ∷ [])) }
     {
         post.write(line)?;
-        self.seats
-            .address_names(&self.clients, names, places, post)?;
+        self.seats.address_names(&self.clients, names, keys, post)?;
         Ok(())
     }
 
-    /// Tells the users of these names, whose places these may be, but the issuer.
+    /// Tells the users of these names, the keys of whose clients these likely are, but the issuer.
     pub fn tell_other_users(
         &self,
         names: &[NameBuf],
-        places: &[usize],
+        keys: &[ClientKey],
         line: LentReply,
         post: &mut Post,
     ) -> Result<(), AllocError>
@@ -229,8 +228,7 @@ impl Maps {
         ensures { OnOk result (Told self.now.plain post.old post.new (tell (but_issuer (users names.now)) (reply_of line.entry ∷ []) ∷ [])) }
     {
         post.write_for_others(line)?;
-        self.seats
-            .address_names(&self.clients, names, places, post)?;
+        self.seats.address_names(&self.clients, names, keys, post)?;
         Ok(())
     }
 
@@ -251,7 +249,12 @@ impl Maps {
     }
 
     /// Tells the members of a battle.
-    pub fn tell_room(&self, room: &Room, line: LentReply, post: &mut Post) -> Result<(), AllocError>
+    pub fn tell_room(
+        &self,
+        room: &Room<ClientKey>,
+        line: LentReply,
+        post: &mut Post,
+    ) -> Result<(), AllocError>
         ensures { OnOk result (Told self.now.plain post.old post.new (tell (users (member_names room.now)) (reply_of line.entry ∷ []) ∷ [])) }
     {
         post.write(line)?;
@@ -263,7 +266,7 @@ impl Maps {
     /// Tells the members of a battle but the issuer.
     pub fn tell_others_in_room(
         &self,
-        room: &Room,
+        room: &Room<ClientKey>,
         line: LentReply,
         post: &mut Post,
     ) -> Result<(), AllocError>
@@ -278,7 +281,7 @@ impl Maps {
     /// Tells those who ask to join a battle.
     pub fn tell_askers(
         &self,
-        room: &Room,
+        room: &Room<ClientKey>,
         line: LentReply,
         post: &mut Post,
     ) -> Result<(), AllocError>
@@ -292,7 +295,7 @@ impl Maps {
     /// Tells those who ask to join a battle but the issuer.
     pub fn tell_other_askers(
         &self,
-        room: &Room,
+        room: &Room<ClientKey>,
         line: LentReply,
         post: &mut Post,
     ) -> Result<(), AllocError>
@@ -305,23 +308,6 @@ impl Maps {
 
     /// The battle that a user is in, with its number.
     pub fn battle_of(&self, name: &NameBuf) -> Option<(u32, &Battle)>
-        ensures some { IfSome result (λ own. battle_of self.now.plain name.now ≡ Some (own.0, own.1.now)) }
-        ensures only { IfSome result (λ own. IsOnly (has_member name.now) self.now.plain.battles (Some own.0)) }
-        ensures there { IfSome result (λ own. at_number self.now.plain.battles own.0 ≡ Some own.1.now) }
-        ensures outside { IfSome result (λ own. AskOutside own.1.now.room) }
-        ensures none { result ≡ None → battle_of self.now.plain name.now ≡ None }
-    {
-        // Its contract says that the numbers rise, which the proof wants.
-        let _ = self.battles.by_number.len();
-        let likely = self.seats.entered.likely(name);
-        match self.battles.with_member(likely, name) {
-            Some(battle) => Some((likely, battle)),
-            None => self.battle_by_seat(name),
-        }
-    }
-
-    /// The same, by the number that the user's seat has.
-    fn battle_by_seat(&self, name: &NameBuf) -> Option<(u32, &Battle)>
         ensures some { IfSome result (λ own. battle_of self.now.plain name.now ≡ Some (own.0, own.1.now)) }
         ensures only { IfSome result (λ own. IsOnly (has_member name.now) self.now.plain.battles (Some own.0)) }
         ensures there { IfSome result (λ own. at_number self.now.plain.battles own.0 ≡ Some own.1.now) }

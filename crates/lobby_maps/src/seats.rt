@@ -9,10 +9,9 @@ ghost use Rattle.lobby_post.specs.Mail.{plain};
 ghost use Rattle.lobby_post.specs.Posted.{addressed, has_number};
 ghost use Rattle.lobby_maps.specs.Seats.{Agree, IsSet, client_in, clients_of, is_some_number, numbers_but, seat_in, seat_with, users_of, where_some, without_one};
 
-use crate::entered::Entered;
 use battle_room::{Asker, Member};
 use line_words::{NameBuf, WordBuf};
-use lobby_post::{Clients, Post};
+use lobby_post::{ClientKey, Clients, Post};
 use status_bits::UserStatus;
 use std::alloc::{AllocError, Global};
 use std::collections::{BTreeMap, BTreeSet};
@@ -20,10 +19,7 @@ use std::collections::{BTreeMap, BTreeSet};
 /// What is known of a user who is logged in, and at which client that is.
 #[derive(Drop)]
 pub struct Seat {
-    /// The number of the client.
-    pub client: u64,
-    /// The place at which the client is looked for first.
-    pub place: usize,
+    pub client: ClientKey,
     /// Its account's country.
     pub country: WordBuf,
     /// What its login said of its processor, -2147483648 to 4294967295.
@@ -45,8 +41,6 @@ pub struct Seats {
     /// The numbers of the clients. What all users get is told in their order, in which the clients
     /// themselves lie.
     pub clients: BTreeSet<u64>,
-    /// The numbers of the battles that they entered.
-    pub entered: Entered,
 }
 
 impl Seats {
@@ -58,7 +52,6 @@ impl Seats {
         Seats {
             users: BTreeMap::new(alloc),
             clients: BTreeSet::new(alloc),
-            entered: Entered::new(alloc),
         }
     }
 
@@ -70,36 +63,35 @@ impl Seats {
         // Its contract says that the numbers rise, which callers want however this ends.
         let numbers = self.clients.iter();
         for client in numbers {
-            post.address_at(*client, clients.place_of(*client))?;
+            post.address_key(clients.key_of(*client))?;
         }
         Ok(())
     }
 
-    /// The users of these names get the line that is told, each looked for first at the place that
-    /// stands for its name.
+    /// The users of these names get the line that is told. The keys are likely those of their clients.
     pub fn address_names(
         &self,
         clients: &Clients,
         names: &[NameBuf],
-        places: &[usize],
+        keys: &[ClientKey],
         post: &mut Post,
     ) -> Result<(), AllocError>
         requires { Agree (plain clients.now.slots) self.now.users.entries }
         ensures { OnOk result (post.new ≡ addressed post.old (clients_of self.now.users.entries names.now)) }
     {
         for i in 0..names.len() {
-            let place = places.get(i).copied().unwrap_or(0);
-            self.address_near(clients, &names[i], place, post)?;
+            let key = keys.get(i).copied().unwrap_or(ClientKey::nobody());
+            self.address_near(clients, &names[i], key, post)?;
         }
         Ok(())
     }
 
-    /// The members of a battle get the line that is told, each looked for first at the place that is
-    /// its mark.
+    /// The members of a battle get the line that is told. Their marks are likely the keys of their
+    /// clients.
     pub fn address_members(
         &self,
         clients: &Clients,
-        members: &[Member],
+        members: &[Member<ClientKey>],
         post: &mut Post,
     ) -> Result<(), AllocError>
         requires { Agree (plain clients.now.slots) self.now.users.entries }
@@ -121,30 +113,31 @@ impl Seats {
         Ok(())
     }
 
-    /// The user of this name, where there is one, gets the line that is told. It is looked for first
-    /// at a place: a wrong one costs searches, and no more.
+    /// The user of this name, where there is one, gets the line that is told. The key is likely that of
+    /// its client: another one costs searches, and no more.
     fn address_near(
         &self,
         clients: &Clients,
         name: &NameBuf,
-        place: usize,
+        key: ClientKey,
         post: &mut Post,
     ) -> Result<(), AllocError>
         requires { Agree (plain clients.now.slots) self.now.users.entries }
         ensures { OnOk result (post.new ≡ addressed post.old (client_in (at_name self.now.users.entries name.now))) }
     {
-        match clients.named_at(place, name) {
-            Some(client) => post.address_at(client, place)?,
-            None => self.address_user(name, post)?,
+        if clients.is_named_at(key, name) {
+            post.address_key(key)?;
+        } else {
+            self.address_user(name, post)?;
         }
         Ok(())
     }
 
-    /// The place at which a user's client is looked for first; of one who is not there it says nothing.
-    pub fn place_of(&self, name: &NameBuf) -> usize {
+    /// The key of a user's client; of one who is not there, that of nobody.
+    pub fn key_of(&self, name: &NameBuf) -> ClientKey {
         match self.users.get(name) {
-            Some(seat) => seat.place,
-            None => 0,
+            Some(seat) => seat.client,
+            None => ClientKey::nobody(),
         }
     }
 
@@ -164,7 +157,7 @@ impl Seats {
         let numbers = self.clients.iter();
         for client in numbers {
             if !is_number(first, *client) && !is_number(second, *client) {
-                post.address_at(*client, clients.place_of(*client))?;
+                post.address_key(clients.key_of(*client))?;
             }
         }
         Ok(())
@@ -175,7 +168,7 @@ impl Seats {
         ensures { (c : ℕ) → is_some_number result c ≡ has_number (client_in (at_name self.now.users.entries name.now)) c }
     {
         match self.users.get(name) {
-            Some(seat) => Some(seat.client),
+            Some(seat) => Some(seat.client.number),
             None => None,
         }
     }
@@ -185,7 +178,7 @@ impl Seats {
         ensures { OnOk result (post.new ≡ addressed post.old (client_in (at_name self.now.users.entries name.now))) }
     {
         if let Some(seat) = self.users.get(name) {
-            post.address_at(seat.client, seat.place)?;
+            post.address_key(seat.client)?;
         }
         Ok(())
     }
@@ -193,11 +186,11 @@ impl Seats {
     /// Adds a user, whose client is not among these. Where memory is refused, nobody is added.
     pub fn add(&mut self, name: NameBuf, seat: Seat) -> Result<(), AllocError>
         ensures users { OnOk result (self.new.users.entries ≡ put_name self.old.users.entries name seat) }
-        ensures clients { OnOk result (IsSet seat.client true self.old.clients.keys self.new.clients.keys) }
+        ensures clients { OnOk result (IsSet seat.client.number true self.old.clients.keys self.new.clients.keys) }
         ensures err_users { OnErr result (self.new.users.entries ≡ self.old.users.entries) }
-        ensures err_clients { OnErr result (IsSet seat.client false self.old.clients.keys self.new.clients.keys) }
+        ensures err_clients { OnErr result (IsSet seat.client.number false self.old.clients.keys self.new.clients.keys) }
     {
-        let client = seat.client;
+        let client = seat.client.number;
         self.clients.insert(client)?;
         match self.users.insert(name, seat) {
             Ok(_) => Ok(()),
@@ -236,7 +229,6 @@ impl Seats {
         ensures users { self.new.users.entries ≡ change_name self.old.users.entries name.now (seat_in number) }
         ensures clients { self.new.clients.keys ≡ self.old.clients.keys }
     {
-        self.entered.remember(name, number);
         if let Some(seat) = self.users.get_mut(name) {
             seat.battle = Some(number);
         }

@@ -7,7 +7,7 @@ pub mod Counts
 pub mod Crowds
 pub mod Marks
 pub mod Waiting
-pub mod Places
+pub mod Cells
 pub mod Parcels
 pub mod Dues
 pub mod Rounds

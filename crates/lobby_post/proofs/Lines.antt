@@ -22,7 +22,7 @@ bytes_same text more p h =
 
 pub pieces_same : (text more : List ℕ) (ps : List Piece) → AllByRecursion (LiesIn text) ps → pieces_of (text ++ more) ps ≡ pieces_of text ps
 pieces_same text more [] h = refl
-pieces_same text more (p ∷ ps) h = λ i. (p.client, bytes_same text more p h.0 i) ∷ pieces_same text more ps h.1 i
+pieces_same text more (p ∷ ps) h = λ i. (p.key.number, bytes_same text more p h.0 i) ∷ pieces_same text more ps h.1 i
 
 inside_more : (text more : List ℕ) (ps : List Piece) → AllByRecursion (LiesIn text) ps → AllByRecursion (LiesIn (text ++ more)) ps
 inside_more text more [] h = tt
@@ -62,7 +62,7 @@ shares-append (p ∷ sent) c bytes =
 pub shares_more : (text : List ℕ) (ps : List Piece) (p : Piece) (old new : List (List ℕ)) → old ≡ shares_of (pieces_of text ps)
     → new ≡ old ++ with_share (bytes_of text p) [] → new ≡ shares_of (pieces_of text (ps ++ p ∷ []))
 shares_more text ps p old new all added =
-    added ∙ ap (λ rest. rest ++ with_share (bytes_of text p) []) all ∙ sym (shares-append (pieces_of text ps) p.client (bytes_of text p))
+    added ∙ ap (λ rest. rest ++ with_share (bytes_of text p) []) all ∙ sym (shares-append (pieces_of text ps) p.key.number (bytes_of text p))
     ∙ ap shares_of (sym (map-append _ ps (p ∷ [])))
 
 whole_line : (id : Option ℕ) (r : Reply) → id_text id ++ printed_line None r ≡ printed_line id r

@@ -23,7 +23,7 @@ use Rattle.lobby_post.proofs.Dues.{copied_within, due_covers, due_grown, due_lef
 use Rattle.lobby_post.proofs.Parcels.{deliver_step, deliver_past, deliver_nil, wakes_step, wakes_past, wakes_nil}
 
 abbrev pub blank : Piece
-blank = record { client = 0; place = 0; from = 0; to = 0 }
+blank = record { key = record { number = 0; slot = 0 }; from = 0; to = 0 }
 
 or_first : (a p b w : Bool) → (p || b) ≡ w → ((a || p) || b) ≡ (a || w)
 or_first true p b w e = refl
@@ -102,18 +102,18 @@ module _ (text : List ℕ) (pieces : List Piece) (i : ℕ) (within : i < length 
   drop_is : drop i pieces ≡ piece ∷ drop (i + 1) pieces
   drop_is = rw add-one (drop-cons pieces i blank within)
 
-  pub pieces_is : pieces_of text (drop i pieces) ≡ (piece.client, bytes) ∷ rest
+  pub pieces_is : pieces_of text (drop i pieces) ≡ (piece.key.number, bytes) ∷ rest
   pieces_is = ap (pieces_of text) drop_is
 
-  pub pieces_done : pieces_of text (take (i + 1) pieces) ≡ pieces_of text (take i pieces) ++ (piece.client, bytes) ∷ []
+  pub pieces_done : pieces_of text (take (i + 1) pieces) ≡ pieces_of text (take i pieces) ++ (piece.key.number, bytes) ∷ []
   pieces_done =
       let taken : take (i + 1) pieces ≡ take i pieces ++ (piece ∷ []) = rw add-one (take-suc pieces i blank within) in
       ap (pieces_of text) taken ∙ map-append _ (take i pieces) _
 
-  pub due_more : (x w : Held) (es fs : ByNumber Held) → IsWritten piece.client w es fs → Some x ≡ lookup (is_at (nat_cmp piece.client)) es → w.due
+  pub due_more : (x w : Held) (es fs : ByNumber Held) → IsWritten piece.key.number w es fs → Some x ≡ lookup (is_at (nat_cmp piece.key.number)) es → w.due
       ≡ due_and x.due (length bytes) → AreDue (pieces_of text (take i pieces)) es → AreDue (pieces_of text (take (i + 1) pieces)) fs
   due_more x w es fs written found more due = subst (λ ps. AreDue ps fs) (sym pieces_done)
-      (grown_due piece.client bytes (pieces_of text (take i pieces)) x w es fs written found more due)
+      (grown_due piece.key.number bytes (pieces_of text (take i pieces)) x w es fs written found more due)
 
   pub inside_next : AllByRecursion (LiesIn text) (drop i pieces) → AllByRecursion (LiesIn text) (drop (i + 1) pieces)
   inside_next h = (subst (AllByRecursion (LiesIn text)) drop_is h).1
@@ -128,27 +128,27 @@ module _ (text : List ℕ) (pieces : List Piece) (i : ℕ) (within : i < length 
       let b = h.1 in
       length-take-le (piece.to - piece.from) (drop piece.from text) (omega (arith, d, a, b))
 
-  module _ (x w : Held) (es fs : ByNumber Held) (is : fs ≡ set_value (is_at (nat_cmp piece.client)) es w)
-      (found : Some x ≡ lookup (is_at (nat_cmp piece.client)) es) (made : w.client ≡ put_first x.limit x.due.bytes bytes x.client)
+  module _ (x w : Held) (es fs : ByNumber Held) (is : fs ≡ set_value (is_at (nat_cmp piece.key.number)) es w)
+      (found : Some x ≡ lookup (is_at (nat_cmp piece.key.number)) es) (made : w.client ≡ put_first x.limit x.due.bytes bytes x.client)
       (ordered : IsStrictlySortedBy nat_cmp (map (λ e. e.0) es)) (due : AreDue (pieces_of text (drop i pieces)) es) where
-    due_now : x.due.bytes ≡ length (bytes_for ((piece.client, bytes) ∷ rest) piece.client)
-    due_now = ap (λ (d : Due). d.bytes) (subst (λ ps. AreDue ps es) pieces_is due piece.client x (sym found))
+    due_now : x.due.bytes ≡ length (bytes_for ((piece.key.number, bytes) ∷ rest) piece.key.number)
+    due_now = ap (λ (d : Due). d.bytes) (subst (λ ps. AreDue ps es) pieces_is due piece.key.number x (sym found))
 
     ordered_plain : IsStrictlySortedBy nat_cmp (map (λ e. e.0) (plain es))
     ordered_plain = subst (IsStrictlySortedBy nat_cmp) (sym (keys-values (λ held. held.client) es)) ordered
 
-    found_plain : lookup (is_at (nat_cmp piece.client)) (plain es) ≡ Some x.client
-    found_plain = lookup-values (λ held. held.client) (is_at (nat_cmp piece.client)) x es (sym found)
+    found_plain : lookup (is_at (nat_cmp piece.key.number)) (plain es) ≡ Some x.client
+    found_plain = lookup-values (λ held. held.client) (is_at (nat_cmp piece.key.number)) x es (sym found)
 
-    plain_is : plain fs ≡ set_value (is_at (nat_cmp piece.client)) (plain es) (put_first x.limit x.due.bytes bytes x.client)
-    plain_is = ap plain is ∙ set_value-values (λ held. held.client) (is_at (nat_cmp piece.client)) w es
-        ∙ ap (set_value (is_at (nat_cmp piece.client)) (plain es)) made
+    plain_is : plain fs ≡ set_value (is_at (nat_cmp piece.key.number)) (plain es) (put_first x.limit x.due.bytes bytes x.client)
+    plain_is = ap plain is ∙ set_value-values (λ held. held.client) (is_at (nat_cmp piece.key.number)) w es
+        ∙ ap (set_value (is_at (nat_cmp piece.key.number)) (plain es)) made
 
     pub clients_next : (limit : ℕ) → HaveLimit limit es → deliver limit rest (plain fs) ≡ deliver limit (pieces_of text (drop i pieces)) (plain es)
     clients_next limit all =
-        ap (deliver limit rest) (plain_is ∙ ap (λ n. set_value (is_at (nat_cmp piece.client)) (plain es) (put_first n x.due.bytes bytes x.client))
-        (all piece.client x (sym found)))
-        ∙ deliver_step piece.client bytes rest limit x.due.bytes x.client (plain es) ordered_plain found_plain due_now
+        ap (deliver limit rest) (plain_is ∙ ap (λ n. set_value (is_at (nat_cmp piece.key.number)) (plain es) (put_first n x.due.bytes bytes x.client))
+        (all piece.key.number x (sym found)))
+        ∙ deliver_step piece.key.number bytes rest limit x.due.bytes x.client (plain es) ordered_plain found_plain due_now
         ∙ ap (λ ps. deliver limit ps (plain es)) (sym pieces_is)
 
     pub wakes_next : (wakes mark both home : ℕ) → has_home both home ≡ (has_home wakes home || has_home mark home) → has_home mark home
@@ -156,21 +156,21 @@ module _ (text : List ℕ) (pieces : List Piece) (i : ℕ) (within : i < length 
         → (has_home both home || wakes_home rest (plain fs) home) ≡ (has_home wakes home || wakes_home (pieces_of text (drop i pieces)) (plain es) home)
     wakes_next wakes mark both home joined marked =
         (λ j. (joined ∙ ap (λ b. has_home wakes home || b) marked) j || wakes_home rest (plain_is j) home)
-        ∙ or_first (has_home wakes home) _ _ _ (wakes_step piece.client bytes rest x.limit x.due.bytes x.client
+        ∙ or_first (has_home wakes home) _ _ _ (wakes_step piece.key.number bytes rest x.limit x.due.bytes x.client
         (plain es) ordered_plain found_plain due_now home)
         ∙ ap (λ ps. has_home wakes home || wakes_home ps (plain es) home) (sym pieces_is)
 
-  module _ (es : ByNumber Held) (none : lookup (is_at (nat_cmp piece.client)) es ≡ None) where
-    none_plain : lookup (is_at (nat_cmp piece.client)) (plain es) ≡ None
-    none_plain = lookup-values-none (λ held. held.client) (is_at (nat_cmp piece.client)) es none
+  module _ (es : ByNumber Held) (none : lookup (is_at (nat_cmp piece.key.number)) es ≡ None) where
+    none_plain : lookup (is_at (nat_cmp piece.key.number)) (plain es) ≡ None
+    none_plain = lookup-values-none (λ held. held.client) (is_at (nat_cmp piece.key.number)) es none
 
     pub clients_past : (limit : ℕ) → deliver limit rest (plain es) ≡ deliver limit (pieces_of text (drop i pieces)) (plain es)
-    clients_past limit = deliver_past piece.client bytes rest (plain es) none_plain limit ∙ ap (λ ps. deliver limit ps (plain es)) (sym pieces_is)
+    clients_past limit = deliver_past piece.key.number bytes rest (plain es) none_plain limit ∙ ap (λ ps. deliver limit ps (plain es)) (sym pieces_is)
 
     pub woken_past : (wakes home : ℕ) → (has_home wakes home || wakes_home rest (plain es) home)
         ≡ (has_home wakes home || wakes_home (pieces_of text (drop i pieces)) (plain es) home)
     woken_past wakes home = ap (λ b. has_home wakes home || b)
-        (wakes_past piece.client bytes rest (plain es) none_plain home ∙ ap (λ ps. wakes_home ps (plain es) home) (sym pieces_is))
+        (wakes_past piece.key.number bytes rest (plain es) none_plain home ∙ ap (λ ps. wakes_home ps (plain es) home) (sym pieces_is))
 
 -- at the end
 module _ (text : List ℕ) (pieces : List Piece) (i : ℕ) (past : length pieces ≤ i) where

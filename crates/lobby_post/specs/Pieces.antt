@@ -12,4 +12,4 @@ abbrev pub bytes_of : List ℕ → Piece → List ℕ
 bytes_of text p = take (p.to - p.from) (drop p.from text)
 
 abbrev pub pieces_of : List ℕ → List Piece → ByNumber (List ℕ)
-pieces_of text pieces = map (λ p. (p.client, bytes_of text p)) pieces
+pieces_of text pieces = map (λ p. (p.key.number, bytes_of text p)) pieces

@@ -14,6 +14,7 @@ ghost use Rattle.lobby_post.specs.Mail.{AreDue, AreReady, bytes_for, parted, pla
 ghost use Rattle.lobby_post.specs.Unread.{is_over, unread_in};
 
 use crate::dirty::DirtyLists;
+use crate::key::ClientKey;
 use crate::slot::Slot;
 use crate::slots::Slots;
 use crate::spares::Spares;
@@ -105,20 +106,23 @@ impl Clients {
         }
     }
 
-    /// The place at which a client is looked for first, where it is told of with `Post::address_at`.
-    /// A hint, of which no contract speaks: who is found there is asked for its number.
-    pub fn place_of(&self, client: u64) -> usize {
-        self.slots.place_of(client)
+    /// The key of a client, by which `Post::address_key` finds it without a search.
+    pub fn key_of(&self, client: u64) -> ClientKey
+        ensures { result.number ≡ client }
+    {
+        self.slots.key_of(client)
     }
 
-    /// The client at a place, if it is logged in under this name.
-    pub fn named_at(&self, place: usize, name: &NameBuf) -> Option<u64>
-        ensures { IfSome result (λ client. name_at (plain self.now.slots) client ≡ Some name.now) }
+    /// Whether a key's client is logged in under this name, and in the slot in which the key saw it.
+    pub fn is_named_at(&self, key: ClientKey, name: &NameBuf) -> bool
+        ensures { result ≡ true → name_at (plain self.now.slots) key.number ≡ Some name.now }
     {
-        let (client, slot) = self.slots.at(place)?;
-        match slot.name() {
-            Some(held) if held == name => Some(client),
-            _ => None,
+        match self.slots.at(key) {
+            Some(slot) => match slot.name() {
+                Some(held) => held == name,
+                None => false,
+            },
+            None => false,
         }
     }
 

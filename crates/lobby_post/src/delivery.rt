@@ -10,6 +10,7 @@ ghost use Rattle.lobby_post.specs.Dues.{due_but, share_of, shares_of, Covers};
 ghost use Rattle.lobby_post.specs.Pieces.{LiesIn, pieces_of};
 
 use crate::dirty::DirtyLists;
+use crate::key::ClientKey;
 use crate::shares::next_share;
 use crate::slot::Slot;
 use crate::slots::Slots;
@@ -22,9 +23,8 @@ use std::collections::VecDeque;
 /// A client gets a part of the text.
 #[derive(Clone, Copy)]
 pub struct Piece {
-    pub client: u64,
-    /// The place at which its client is looked for first.
-    pub place: usize,
+    /// The client.
+    pub key: ClientKey,
     /// The place of its first byte in the text.
     pub from: usize,
     /// The place behind its last byte.
@@ -50,7 +50,7 @@ pub fn make_room(
 {
     for i in 0..pieces.len() {
         let piece = pieces[i];
-        if let Some(slot) = clients.get_mut_at(piece.client, piece.place) {
+        if let Some(slot) = clients.get_mut_at(piece.key) {
             match slot.make_room(piece.to - piece.from, spares) {
                 Ok(()) => {}
                 Err(refused) => {
@@ -73,7 +73,7 @@ pub fn forget(clients: &mut Slots, text: &[u8], pieces: &[Piece])
     ensures same_marks { marks_of clients.new ≡ marks_of clients.old }
 {
     for piece in pieces {
-        if let Some(slot) = clients.get_mut_at(piece.client, piece.place) {
+        if let Some(slot) = clients.get_mut_at(piece.key) {
             slot.forget(piece.to - piece.from);
         }
     }
@@ -137,9 +137,9 @@ pub fn deliver(
     for piece in pieces {
         let bytes = &text[piece.from..piece.to];
         let share = next_share(bytes, shares);
-        match clients.get_mut_at(piece.client, piece.place) {
+        match clients.get_mut_at(piece.key) {
             Some(slot) => {
-                wakes = wakes.union(put(slot, dirty, piece.client, bytes, share));
+                wakes = wakes.union(put(slot, dirty, piece.key.number, bytes, share));
             }
             None => drop(share),
         }

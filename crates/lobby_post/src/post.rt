@@ -13,7 +13,7 @@ ghost use Rattle.lobby_model.specs.Outcome.{tell, issuer};
 use crate::clients::Clients;
 use crate::delivery;
 use crate::delivery::Piece;
-use crate::near::NOWHERE;
+use crate::key::ClientKey;
 use crate::shares::{add_share, add_share_of_line};
 use crate::wakes::Wakes;
 use bytes::Bytes;
@@ -169,15 +169,14 @@ impl Post {
     pub fn address(&mut self, client: u64) -> Result<(), AllocError>
         ensures { OnOk result (self.new ≡ record self.old { sent = self.old.sent ++ copy_to self.old client ∷ [] }) }
     {
-        self.address_at(client, NOWHERE)
+        self.address_key(ClientKey::of(client))
     }
 
-    /// A client gets the lines that are told, or a share of them where they are long. It is looked for
-    /// first at a place that `Clients::place_of` gave: a wrong one costs a search, and no more.
-    pub fn address_at(&mut self, client: u64, place: usize) -> Result<(), AllocError>
-        ensures { OnOk result (self.new ≡ record self.old { sent = self.old.sent ++ copy_to self.old client ∷ [] }) }
+    /// A key's client gets the lines that are told, or a share of them where they are long.
+    pub fn address_key(&mut self, key: ClientKey) -> Result<(), AllocError>
+        ensures { OnOk result (self.new ≡ record self.old { sent = self.old.sent ++ copy_to self.old key.number ∷ [] }) }
     {
-        let from = if client == self.issuer {
+        let from = if key.number == self.issuer {
             self.own
         } else {
             self.shared
@@ -190,12 +189,7 @@ impl Post {
         } else {
             add_share(self.alloc, bytes, &mut self.shares)?;
         }
-        self.pieces.push_reserved(Piece {
-            client,
-            place,
-            from,
-            to,
-        });
+        self.pieces.push_reserved(Piece { key, from, to });
         Ok(())
     }
 

@@ -10,7 +10,8 @@ ghost use Rattle.std.specs.Map.{lookup, remove_entry};
 ghost use Rattle.line_words.specs.Table.{ByNumber};
 ghost use Rattle.lobby_post.specs.Mail.{Held};
 
-use crate::near::{NOWHERE, Near};
+use crate::key::ClientKey;
+use crate::near::Near;
 use crate::slot::Slot;
 use slab::Slab;
 use std::alloc::{AllocError, Global};
@@ -26,12 +27,12 @@ struct Cell {
 
 /// The slots of the clients that are there, by their clients' numbers.
 ///
-/// A slot stays at its place as long as its client is there, so that one who remembers the place
-/// reaches it without a search. A wrong place costs a search, and no more.
+/// A client stays in its slot as long as it is there, so that one who has its key reaches it without a
+/// search. A stale slot of a key costs a search, and no more.
 #[derive(Drop)]
 pub struct Slots {
     cells: Slab<Cell>,
-    places: BTreeMap<u64, usize>,
+    index: BTreeMap<u64, usize>,
     near: Near,
 }
 
@@ -41,31 +42,31 @@ impl Model for Slots {
 
     ghost Value = { ByNumber Held };
 
-    ghost use Rattle.lobby_post.specs.Places.{held_by, AreTied};
+    ghost use Rattle.lobby_post.specs.Cells.{held_by, AreTied};
 
-    ghost view = { λ s. held_by s.cells s.places.entries };
+    ghost view = { λ s. held_by s.cells s.index.entries };
 
-    ghost invariant = { λ s. AreTied s.cells s.places.entries };
+    ghost invariant = { λ s. AreTied s.cells s.index.entries };
 }
 
 impl Slots {
     ghost use Rattle.lobby_post.specs.Dirty.{marks_of, stands};
     ghost use Rattle.lobby_post.specs.Lending.{lends_slot};
-    ghost use Rattle.lobby_post.specs.Places.{AreTied};
+    ghost use Rattle.lobby_post.specs.Cells.{AreTied};
 
-    /// The place of a client's cell, looked for at a likely place before the index is searched.
-    fn place_near(
+    /// The slot of a client, looked for in a likely one before the index is searched.
+    fn slot_near(
         cells: &Slab<Cell>,
-        places: &BTreeMap<u64, usize>,
+        index: &BTreeMap<u64, usize>,
         client: u64,
         likely: usize,
     ) -> Option<usize>
-        requires { AreTied cells.now places.now.entries }
-        ensures { result ≡ lookup (is_at (nat_cmp client)) places.now.entries }
+        requires { AreTied cells.now index.now.entries }
+        ensures { result ≡ lookup (is_at (nat_cmp client)) index.now.entries }
     {
         match cells.get(likely) {
             Some(cell) if cell.client == client => Some(likely),
-            _ => places.get(&client).copied(),
+            _ => index.get(&client).copied(),
         }
     }
 
@@ -75,7 +76,7 @@ impl Slots {
     {
         Slots {
             cells: Slab::new(alloc),
-            places: BTreeMap::new(alloc),
+            index: BTreeMap::new(alloc),
             near: Near::new(alloc),
         }
     }
@@ -84,14 +85,14 @@ impl Slots {
     pub fn len(&self) -> usize
         ensures { result ≡ length self.now }
     {
-        self.places.len()
+        self.index.len()
     }
 
     /// Whether a client is there.
     pub fn contains(&self, client: u64) -> bool
         ensures { result ≡ is_some (lookup (is_at (nat_cmp client)) self.now) }
     {
-        self.places.contains_key(&client)
+        self.index.contains_key(&client)
     }
 
     /// The worker of a client that is there, and whether it stands in that worker's list.
@@ -118,20 +119,20 @@ impl Slots {
     pub fn get(&self, client: u64) -> Option<&Slot>
         ensures value { option_copied result ≡ lookup (is_at (nat_cmp client)) self.now }
     {
-        let likely = self.near.likely(client, NOWHERE);
-        let place = Slots::place_near(&self.cells, &self.places, client, likely)?;
-        Some(&self.cells[place].slot)
+        let likely = self.near.likely(ClientKey::of(client));
+        let slot = Slots::slot_near(&self.cells, &self.index, client, likely)?;
+        Some(&self.cells[slot].slot)
     }
 
-    /// A client's slot for writing, looked for at a likely place first.
-    pub fn get_mut_at(&mut self, client: u64, likely: usize) -> Option<&mut Slot>
-        ensures* writes_back { sem 𝓛 (lends_slot self.entry client result) }
-        ensures value { option_copied_mut result ≡ lookup (is_at (nat_cmp client)) self.old }
+    /// The slot of a key's client for writing.
+    pub fn get_mut_at(&mut self, key: ClientKey) -> Option<&mut Slot>
+        ensures* writes_back { sem 𝓛 (lends_slot self.entry key.number result) }
+        ensures value { option_copied_mut result ≡ lookup (is_at (nat_cmp key.number)) self.old }
         ensures ordered { IsStrictlySortedBy nat_cmp (map (λ e. e.0) self.old) }
     {
-        let likely = self.near.likely(client, likely);
-        let place = Slots::place_near(&self.cells, &self.places, client, likely)?;
-        Some(&mut self.cells[place].slot)
+        let likely = self.near.likely(key);
+        let slot = Slots::slot_near(&self.cells, &self.index, key.number, likely)?;
+        Some(&mut self.cells[slot].slot)
     }
 
     /// A client's slot for writing.
@@ -140,7 +141,7 @@ impl Slots {
         ensures value { option_copied_mut result ≡ lookup (is_at (nat_cmp client)) self.old }
         ensures ordered { IsStrictlySortedBy nat_cmp (map (λ e. e.0) self.old) }
     {
-        self.get_mut_at(client, NOWHERE)
+        self.get_mut_at(ClientKey::of(client))
     }
 
     /// A slot for a client, in place of one that it has. Fails only where memory is refused, and then
@@ -165,9 +166,9 @@ impl Slots {
     {
         self.near.make_ready()?;
         self.cells.reserve(1)?;
-        self.places.insert(client, self.cells.vacant_key())?;
-        let place = self.cells.insert_reserved(Cell { client, slot });
-        self.near.remember(client, place);
+        self.index.insert(client, self.cells.vacant_key())?;
+        let at = self.cells.insert_reserved(Cell { client, slot });
+        self.near.remember(client, at);
         Ok(())
     }
 
@@ -176,25 +177,32 @@ impl Slots {
         ensures entries { self.new ≡ remove_entry (is_at (nat_cmp client)) self.old }
         ensures was_ordered { IsStrictlySortedBy nat_cmp (map (λ e. e.0) self.old) }
     {
-        if let Some(place) = self.places.remove(&client) {
-            let _ = self.cells.remove(place);
+        if let Some(slot) = self.index.remove(&client) {
+            let _ = self.cells.remove(slot);
         }
     }
 
-    /// The place of a client that is there; else one that says nothing.
-    pub fn place_of(&self, client: u64) -> usize {
-        let likely = self.near.likely(client, NOWHERE);
-        match self.cells.get(likely) {
-            Some(cell) if cell.client == client => likely,
-            _ => self.places.get(&client).copied().unwrap_or(NOWHERE),
-        }
-    }
-
-    /// The client at a place, and its slot.
-    pub fn at(&self, place: usize) -> Option<(u64, &Slot)>
-        ensures { IfSome result (λ found. lookup (is_at (nat_cmp found.0)) self.now ≡ Some found.1.now) }
+    /// The key of a client, which knows its slot where the client is there.
+    pub fn key_of(&self, client: u64) -> ClientKey
+        ensures { result.number ≡ client }
     {
-        let cell = self.cells.get(place)?;
-        Some((cell.client, &cell.slot))
+        let likely = self.near.likely(ClientKey::of(client));
+        match Slots::slot_near(&self.cells, &self.index, client, likely) {
+            Some(slot) => ClientKey {
+                number: client,
+                slot,
+            },
+            None => ClientKey::of(client),
+        }
+    }
+
+    /// The slot of a key's client, if that is in the slot in which the key saw it.
+    pub fn at(&self, key: ClientKey) -> Option<&Slot>
+        ensures { IfSome result (λ slot. lookup (is_at (nat_cmp key.number)) self.now ≡ Some slot.now) }
+    {
+        match self.cells.get(key.slot) {
+            Some(cell) if cell.client == key.number => Some(&cell.slot),
+            _ => None,
+        }
     }
 }

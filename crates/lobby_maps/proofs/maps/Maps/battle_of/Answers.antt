@@ -1,25 +1,60 @@
+use Rattle.std.proofs.Common.{◌≡◌, ◌∙◌, ap, sym, refl}
+use Rattle.std.specs.Prelude.{Some, None}
+use Rattle.std.proofs.lemmas.Option.{same_Some}
+use Rattle.line_words.specs.Table.{at_name, at_number, name_cmp}
+use Rattle.line_words.proofs.Tables.{lookup_is_find}
 use Rattle.battle_room.specs.Room.{has_member}
-use Rattle.lobby_maps.proofs.Base.{own_found, own_only}
+use Rattle.lobby_maps.specs.Battles.{battle_at}
+use Rattle.lobby_maps.proofs.Base.{own_found, own_none, own_only}
 use Rattle.lobby_maps.proofs.Seated.{as_member}
 use Rattle.lobby_maps.proofs.Sorted.{ordered_is_sorted}
 use Rattle.lobby_maps.proofs.maps.Maps.battle_of.Goals as goal
 
-pub returns-in-Some-clause-some : goal.returns-in-Some-clause-some
-returns-in-Some-clause-some c =
+pub returns-in_err-get-clause-none : goal.returns-in_err-get-clause-none
+returns-in_err-get-clause-none c = λ is.
+    let seat : at_name c.self.inside.seats.users.entries c.args.name.now ≡ None = sym (c.in_err-get.ensures.value
+    ∙ lookup_is_find name_cmp c.args.name.now c.self.inside.seats.users.entries) in
+    rw (← c.self.view_is) (own_none c.self.inside.battles.by_number.entries c.self.inside.seats.users.entries
+    (ordered_is_sorted c.self.inside.battles.by_number.entries c.len.ensures.ordered) c.self.invariant.1.seated c.args.name.now
+    (has_member c.args.name.now) (as_member c.args.name.now)
+    (λ number battle at there. absurd (let no : None ≡ Some number = ap battle_at (sym seat) ∙ at in cc)))
+
+pub returns-in_err-number-clause-none : goal.returns-in_err-number-clause-none
+returns-in_err-number-clause-none c = λ is.
+    let seat : at_name c.self.inside.seats.users.entries c.args.name.now ≡ Some c.in_ok-get.field-0.now = sym (c.in_ok-get.ensures.value
+    ∙ lookup_is_find name_cmp c.args.name.now c.self.inside.seats.users.entries) in
+    rw (← c.self.view_is) (own_none c.self.inside.battles.by_number.entries c.self.inside.seats.users.entries
+    (ordered_is_sorted c.self.inside.battles.by_number.entries c.len.ensures.ordered) c.self.invariant.1.seated c.args.name.now
+    (has_member c.args.name.now) (as_member c.args.name.now)
+    (λ number battle at there. absurd (let no : None ≡ Some number = sym c.in_err-number.was ∙ ap battle_at (sym seat) ∙ at in cc)))
+
+pub returns-in_err-battle-clause-none : goal.returns-in_err-battle-clause-none
+returns-in_err-battle-clause-none c = λ is.
+    let seat : at_name c.self.inside.seats.users.entries c.args.name.now ≡ Some c.in_ok-get.field-0.now = sym (c.in_ok-get.ensures.value
+    ∙ lookup_is_find name_cmp c.args.name.now c.self.inside.seats.users.entries) in
+    rw (← c.self.view_is) (own_none c.self.inside.battles.by_number.entries c.self.inside.seats.users.entries
+    (ordered_is_sorted c.self.inside.battles.by_number.entries c.len.ensures.ordered) c.self.invariant.1.seated c.args.name.now
+    (has_member c.args.name.now) (as_member c.args.name.now)
+    (λ number battle at there.
+    let same : c.in_ok-number.number ≡ number = same_Some c.in_ok-number.number number (sym c.in_ok-number.was ∙ ap battle_at (sym seat) ∙ at) in
+    c.in_err-battle.ensures.none refl battle (ap (at_number c.self.inside.battles.by_number.entries) same ∙ there)))
+
+pub returns-clause-some : goal.returns-clause-some
+returns-clause-some c =
     rw (← c.self.view_is) (own_found c.self.inside.battles.by_number.entries c.self.inside.seats.users.entries
     (ordered_is_sorted c.self.inside.battles.by_number.entries c.len.ensures.ordered) c.self.invariant.1.seated c.args.name.now
     (has_member c.args.name.now) (as_member c.args.name.now)
-    c.likely-likely.result c.in-Some.battle.now c.in-Some.ensures.some.0 c.in-Some.ensures.some.1)
+    c.in_ok-number.number c.in_ok-battle.battle.now c.in_ok-battle.ensures.some.0 c.in_ok-battle.ensures.some.1)
 
-pub returns-in-Some-clause-only : goal.returns-in-Some-clause-only
-returns-in-Some-clause-only c =
+pub returns-clause-only : goal.returns-clause-only
+returns-clause-only c =
     rw (← c.self.view_is) (own_only c.self.inside.battles.by_number.entries c.self.inside.seats.users.entries
     (ordered_is_sorted c.self.inside.battles.by_number.entries c.len.ensures.ordered) c.self.invariant.1.seated c.args.name.now
     (has_member c.args.name.now) (as_member c.args.name.now)
-    c.likely-likely.result c.in-Some.battle.now c.in-Some.ensures.some.0 c.in-Some.ensures.some.1)
+    c.in_ok-number.number c.in_ok-battle.battle.now c.in_ok-battle.ensures.some.0 c.in_ok-battle.ensures.some.1)
 
-pub returns-in-Some-clause-outside : goal.returns-in-Some-clause-outside
-returns-in-Some-clause-outside c = c.self.invariant.1.seated.outside c.likely-likely.result c.in-Some.battle.now c.in-Some.ensures.some.0
+pub returns-clause-outside : goal.returns-clause-outside
+returns-clause-outside c = c.self.invariant.1.seated.outside c.in_ok-number.number c.in_ok-battle.battle.now c.in_ok-battle.ensures.some.0
 
-pub returns-in-Some-clause-there : goal.returns-in-Some-clause-there
-returns-in-Some-clause-there c = rw (← c.self.view_is) c.in-Some.ensures.some.0
+pub returns-clause-there : goal.returns-clause-there
+returns-clause-there c = rw (← c.self.view_is) c.in_ok-battle.ensures.some.0

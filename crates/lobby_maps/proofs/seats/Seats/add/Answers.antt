@@ -14,7 +14,7 @@ returns-in-Ok-clause-clients c = c.in_ok-insert.ensures.updates.0
 pub returns-clause-err_clients : goal.returns-clause-err_clients
 returns-clause-err_clients c = λ d.
     c.remove.ensures.updates.0 d
-    ∙ elim (same_number c.args.seat.client d) as (λ b. same_number c.args.seat.client d ≡ b
+    ∙ elim (same_number c.args.seat.client.number d) as (λ b. same_number c.args.seat.client.number d ≡ b
     → (if b then false else has_number c.insert.new.self.keys d) ≡ (if b then false else has_number c.args.self.now.clients.keys d)) [
       | true ↦ λ t. refl
       | false ↦ λ t. c.in_ok-insert.ensures.updates.0 d ∙ ap (λ b. if b then true else has_number c.args.self.now.clients.keys d) t

@@ -10,6 +10,7 @@ loop-client-init c = addressed_none _
 
 pub loop-client-preserved : goal.loop-client-preserved
 loop-client-preserved c =
-    addressed_next c.args.post.now c.loop-client.post c.address_at.new.self
-    (map deref c.loop-client.yielded) c.in-Some.client.now c.loop-client.invariant c.in_ok-address_at.ensures
+    addressed_next c.args.post.now c.loop-client.post c.address_key.new.self
+    (map deref c.loop-client.yielded) c.in-Some.client.now c.loop-client.invariant
+    (c.in_ok-address_key.ensures ∙ ap (λ client. addressed c.loop-client.post (client ∷ [])) c.key_of.ensures)
     ∙ ap (addressed c.args.post.now) (sym (map-append deref c.loop-client.yielded (c.in-Some.client ∷ [])))

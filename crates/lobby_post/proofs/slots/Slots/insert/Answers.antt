@@ -1,5 +1,5 @@
 use Rattle.std.proofs.Common.{sym}
-use Rattle.lobby_post.proofs.Places.{insert_is_set}
+use Rattle.lobby_post.proofs.Cells.{insert_is_set}
 use Rattle.lobby_post.proofs.slots.Slots.insert.Goals as goal
 
 pub returns-in-Some-clause-entries : goal.returns-in-Some-clause-entries

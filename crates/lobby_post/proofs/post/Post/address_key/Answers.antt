@@ -3,18 +3,18 @@ use Rattle.std.specs.Prelude.{IfSome}
 use Rattle.lobby_post.specs.declared.delivery.Piece.{Piece}
 use Rattle.lobby_post.specs.Dues.{with_share}
 use Rattle.lobby_post.proofs.Lines.{inside_and, shares_more, whole_part}
-use Rattle.lobby_post.proofs.post.Post.address_at.Goals as goal
-use Rattle.lobby_post.proofs.post.Post.address_at.Goals.{then-client-self, else-client-self, then-from-self+in_ok-add_share_of_line, else-from-self+in_ok-add_share}
+use Rattle.lobby_post.proofs.post.Post.address_key.Goals as goal
+use Rattle.lobby_post.proofs.post.Post.address_key.Goals.{then-key-self, else-key-self, then-from-self+in_ok-add_share_of_line, else-from-self+in_ok-add_share}
 
 pub invariant_of-self-2 : goal.invariant_of-self-2
 invariant_of-self-2 c =
     let i = c.self.inside in
     let text = i.text.items in
-    let p : Piece = record { client = c.args.client; place = c.args.place; from = c.if-client-self.from; to = c.len-to.result } in
+    let p : Piece = record { key = c.args.key; from = c.if-key-self.from; to = c.len-to.result } in
     let ends : c.len-to.result ≡ length text = search rules in
-    let starts : p.from ≤ length text = elim c.if-client-self.branch [
-      | then-client-self w ↦ rw w.from-is c.self.invariant.1
-      | else-client-self w ↦ rw w.from-is c.self.invariant.2
+    let starts : p.from ≤ length text = elim c.if-key-self.branch [
+      | then-key-self w ↦ rw w.from-is c.self.invariant.1
+      | else-key-self w ↦ rw w.from-is c.self.invariant.2
     ] in
     let inside = inside_and text i.pieces.items p c.self.invariant.0 (omega (arith, starts, ends), omega (arith, ends)) in
     elim c.if-from-self.branch [

@@ -20,7 +20,7 @@ use Rattle.lobby_model.proofs.Delivered.{same_number_is, same_itself, find-value
 use Rattle.lobby_model.proofs.Splits.{Apart, apart_above, apart_of_none, values_apart, same_either_way}
 use Rattle.lobby_post.specs.Mail.{Held}
 use Rattle.lobby_post.specs.declared.slots.Cell.{Cell}
-use Rattle.lobby_post.specs.Places.{owner, nobody, held_in, held_by, AreTied}
+use Rattle.lobby_post.specs.Cells.{owner, nobody, held_in, held_by, AreTied}
 
 differs : (a b : ℕ) → same_number a b ≡ false → a ≢ b
 differs a b e = λ is. true≢false (sym (same_itself a) ∙ ap (same_number a) is ∙ e)
@@ -92,59 +92,59 @@ held-other c d (Some cell) is apart =
     let same : cell.client ≡ c = same_Some cell.client c is in
     ap (λ b. if b then cell.slot else nobody) (ap (same_number d) same ∙ apart)
 
-module _ (cells : Slab Cell) (places : ByNumber ℕ) (tied : AreTied cells places) (c : ℕ) where
-  pub ordered_held : IsStrictlySortedBy nat_cmp (map (λ e. e.0) (held_by cells places))
-  ordered_held = subst (IsStrictlySortedBy nat_cmp) (sym (keys-read (λ d place. held_in d (get cells place)) places)) tied.ordered
+module _ (cells : Slab Cell) (index : ByNumber ℕ) (tied : AreTied cells index) (c : ℕ) where
+  pub ordered_held : IsStrictlySortedBy nat_cmp (map (λ e. e.0) (held_by cells index))
+  ordered_held = subst (IsStrictlySortedBy nat_cmp) (sym (keys-read (λ d slot. held_in d (get cells slot)) index)) tied.ordered
 
   -- a look-up, cell by cell
-  pub held-none : lookup (is_at (nat_cmp c)) places ≡ None → lookup (is_at (nat_cmp c)) (held_by cells places) ≡ None
-  held-none none = lookup-read (λ d place. held_in d (get cells place)) c places ∙ ap (option_map (λ place. held_in c (get cells place))) none
+  pub held-none : lookup (is_at (nat_cmp c)) index ≡ None → lookup (is_at (nat_cmp c)) (held_by cells index) ≡ None
+  held-none none = lookup-read (λ d slot. held_in d (get cells slot)) c index ∙ ap (option_map (λ slot. held_in c (get cells slot))) none
 
-  -- a client that has no slot has no place
-  pub absent : lookup (is_at (nat_cmp c)) (held_by cells places) ≡ None → lookup (is_at (nat_cmp c)) places ≡ None
+  -- a client that has no slot is not in the index
+  pub absent : lookup (is_at (nat_cmp c)) (held_by cells index) ≡ None → lookup (is_at (nat_cmp c)) index ≡ None
   absent none =
-      elim (lookup (is_at (nat_cmp c)) places) as (λ o. option_map (λ place. held_in c (get cells place)) o ≡ None → o ≡ None) [
+      elim (lookup (is_at (nat_cmp c)) index) as (λ o. option_map (λ slot. held_in c (get cells slot)) o ≡ None → o ≡ None) [
         | None ↦ λ e. refl
         | Some x ↦ λ e. absurd (cc)
-      ] (sym (lookup-read (λ d place. held_in d (get cells place)) c places) ∙ none)
+      ] (sym (lookup-read (λ d slot. held_in d (get cells slot)) c index) ∙ none)
 
-  pub held-is_some : is_some (lookup (is_at (nat_cmp c)) places) ≡ is_some (lookup (is_at (nat_cmp c)) (held_by cells places))
+  pub held-is_some : is_some (lookup (is_at (nat_cmp c)) index) ≡ is_some (lookup (is_at (nat_cmp c)) (held_by cells index))
   held-is_some =
-      elim (lookup (is_at (nat_cmp c)) places) as (λ o. is_some o ≡ is_some (option_map (λ place. held_in c (get cells place)) o)) [ None ↦ refl | Some x ↦ refl ]
-      ∙ ap is_some (sym (lookup-read (λ d place. held_in d (get cells place)) c places))
+      elim (lookup (is_at (nat_cmp c)) index) as (λ o. is_some o ≡ is_some (option_map (λ slot. held_in c (get cells slot)) o)) [ None ↦ refl | Some x ↦ refl ]
+      ∙ ap is_some (sym (lookup-read (λ d slot. held_in d (get cells slot)) c index))
 
-  module _ (place : ℕ) (found : lookup (is_at (nat_cmp c)) places ≡ Some place) where
-    pub contained : ContainsKey cells place
+  module _ (slot : ℕ) (found : lookup (is_at (nat_cmp c)) index ≡ Some slot) where
+    pub contained : ContainsKey cells slot
     contained =
-        elim (get cells place) as (λ cell. owner cell ≡ Some c → IsSome cell) [
+        elim (get cells slot) as (λ cell. owner cell ≡ Some c → IsSome cell) [
           | None ↦ λ is. absurd (cc)
           | Some cell ↦ λ is. refl
-        ] (tied.placed c place found)
+        ] (tied.placed c slot found)
 
-    owned : (cell : Cell) → get cells place ≡ Some cell → cell.client ≡ c
-    owned cell at = same_Some cell.client c (sym (ap owner at) ∙ tied.placed c place found)
+    owned : (cell : Cell) → get cells slot ≡ Some cell → cell.client ≡ c
+    owned cell at = same_Some cell.client c (sym (ap owner at) ∙ tied.placed c slot found)
 
-    pub held-at : (cell : Cell) → get cells place ≡ Some cell → Some cell.slot ≡ lookup (is_at (nat_cmp c)) (held_by cells places)
+    pub held-at : (cell : Cell) → get cells slot ≡ Some cell → Some cell.slot ≡ lookup (is_at (nat_cmp c)) (held_by cells index)
     held-at cell at =
-        sym (lookup-read (λ d p. held_in d (get cells p)) c places ∙ ap (option_map (λ p. held_in c (get cells p))) found
+        sym (lookup-read (λ d p. held_in d (get cells p)) c index ∙ ap (option_map (λ p. held_in c (get cells p))) found
         ∙ ap (λ o. Some (held_in c o)) at ∙ ap Some (held-cell c cell (owned cell at)))
 
     -- a slot written in its cell
-    module _ (w : Held) (cell : Cell) (at : get cells place ≡ Some cell) where
+    module _ (w : Held) (cell : Cell) (at : get cells slot ≡ Some cell) where
       abbrev after : Slab Cell
-      after = with_value cells place (record { client = cell.client; slot = w })
+      after = with_value cells slot (record { client = cell.client; slot = w })
 
-      updates : Updates cells after place (Some (record { client = cell.client; slot = w }))
-      updates = Updates-with_value cells place (record { client = cell.client; slot = w }) contained
+      updates : Updates cells after slot (Some (record { client = cell.client; slot = w }))
+      updates = Updates-with_value cells slot (record { client = cell.client; slot = w }) contained
 
       same_owner : (r : ℕ) → owner (get after r) ≡ owner (get cells r)
       same_owner r =
-          elim (cases_eq r place) [
+          elim (cases_eq r slot) [
             | inl same ↦ ap (λ p. owner (get after p)) same ∙ ap owner updates.changed ∙ sym (ap owner at) ∙ ap (λ p. owner (get cells p)) (sym same)
             | inr apart ↦ ap owner (updates.others r apart)
           ]
 
-      pub tied_written : AreTied after places
+      pub tied_written : AreTied after index
       tied_written = record {
         ordered = tied.ordered;
         placed = λ d p is. same_owner p ∙ tied.placed d p is;
@@ -153,85 +153,85 @@ module _ (cells : Slab Cell) (places : ByNumber ℕ) (tied : AreTied cells place
 
       others_same : (d p : ℕ) → same_number d c ≡ false → held_in d (get after p) ≡ held_in d (get cells p)
       others_same d p apart =
-          elim (cases_eq p place) [
+          elim (cases_eq p slot) [
             | inl same ↦
-                let mine : owner (get cells p) ≡ Some c = ap (λ r. owner (get cells r)) same ∙ tied.placed c place found in
+                let mine : owner (get cells p) ≡ Some c = ap (λ r. owner (get cells r)) same ∙ tied.placed c slot found in
                 held-other c d (get after p) (same_owner p ∙ mine) apart ∙ sym (held-other c d (get cells p) mine apart)
             | inr other ↦ ap (held_in d) (updates.others p other)
           ]
 
-      pub held_written : held_by after places ≡ set_value (is_at (nat_cmp c)) (held_by cells places) w
+      pub held_written : held_by after index ≡ set_value (is_at (nat_cmp c)) (held_by cells index) w
       held_written =
-          set-read (λ d p. held_in d (get cells p)) (λ d p. held_in d (get after p)) c others_same place places tied.ordered found
-          ∙ ap (set_value (is_at (nat_cmp c)) (held_by cells places))
+          set-read (λ d p. held_in d (get cells p)) (λ d p. held_in d (get after p)) c others_same slot index tied.ordered found
+          ∙ ap (set_value (is_at (nat_cmp c)) (held_by cells index))
           (ap (held_in c) updates.changed ∙ held-cell c (record { client = cell.client; slot = w }) (owned cell at))
 
     -- a client removed, with its cell
-    module _ (after : Slab Cell) (rest : ByNumber ℕ) (updates : Updates cells after place None) (rising : IsStrictlySortedBy nat_cmp (map (λ e. e.0) rest))
-        (removed : (q : ℕ) → lookup (is_at (nat_cmp q)) rest ≡ cond (is_at (nat_cmp c) q) None (lookup (is_at (nat_cmp q)) places)) where
+    module _ (after : Slab Cell) (rest : ByNumber ℕ) (updates : Updates cells after slot None) (rising : IsStrictlySortedBy nat_cmp (map (λ e. e.0) rest))
+        (removed : (q : ℕ) → lookup (is_at (nat_cmp q)) rest ≡ cond (is_at (nat_cmp c) q) None (lookup (is_at (nat_cmp q)) index)) where
       pub tied_removed : AreTied after rest
       tied_removed = record {
         ordered = rising;
         placed = λ d p is.
-            elim (same_number c d) as (λ b. same_number c d ≡ b → cond b None (lookup (is_at (nat_cmp d)) places) ≡ Some p → owner (get after p) ≡ Some d) [
+            elim (same_number c d) as (λ b. same_number c d ≡ b → cond b None (lookup (is_at (nat_cmp d)) index) ≡ Some p → owner (get after p) ≡ Some d) [
               | true ↦ λ t e. absurd (cc)
               | false ↦ λ t e.
                   let there : owner (get cells p) ≡ Some d = tied.placed d p e in
                   ap owner (updates.others p (λ same. differs c d t
-                  (same_Some c d (sym (tied.placed c place found) ∙ ap (λ r. owner (get cells r)) (sym same) ∙ there)))) ∙ there
+                  (same_Some c d (sym (tied.placed c slot found) ∙ ap (λ r. owner (get cells r)) (sym same) ∙ there)))) ∙ there
             ] refl (sym (removed d) ∙ is);
         indexed = λ d p is. removed d
-            ∙ elim (cases_eq p place) [
+            ∙ elim (cases_eq p slot) [
               | inl same ↦ let none : None ≡ Some d = sym (ap owner updates.changed) ∙ ap (λ r. owner (get after r)) (sym same) ∙ is in absurd (cc)
               | inr other ↦
-                  let there : lookup (is_at (nat_cmp d)) places ≡ Some p = tied.indexed d p (sym (ap owner (updates.others p other)) ∙ is) in
-                  elim (same_number c d) as (λ b. same_number c d ≡ b → cond b None (lookup (is_at (nat_cmp d)) places) ≡ Some p) [
-                    | true ↦ λ t. absurd (other (same_Some p place (sym there
-                        ∙ ap (λ k. lookup (is_at (nat_cmp k)) places) (sym (same_number_is c d t)) ∙ found)))
+                  let there : lookup (is_at (nat_cmp d)) index ≡ Some p = tied.indexed d p (sym (ap owner (updates.others p other)) ∙ is) in
+                  elim (same_number c d) as (λ b. same_number c d ≡ b → cond b None (lookup (is_at (nat_cmp d)) index) ≡ Some p) [
+                    | true ↦ λ t. absurd (other (same_Some p slot (sym there
+                        ∙ ap (λ k. lookup (is_at (nat_cmp k)) index) (sym (same_number_is c d t)) ∙ found)))
                     | false ↦ λ t. there
                   ] refl
             ];
       }
 
-      pub held_removed : rest ≡ remove_entry (is_at (nat_cmp c)) places → held_by after rest ≡ remove_entry (is_at (nat_cmp c)) (held_by cells places)
+      pub held_removed : rest ≡ remove_entry (is_at (nat_cmp c)) index → held_by after rest ≡ remove_entry (is_at (nat_cmp c)) (held_by cells index)
       held_removed is =
-          let gone : lookup (is_at (nat_cmp c)) rest ≡ None = removed c ∙ ap (λ b. cond b None (lookup (is_at (nat_cmp c)) places)) (same_itself c) in
+          let gone : lookup (is_at (nat_cmp c)) rest ≡ None = removed c ∙ ap (λ b. cond b None (lookup (is_at (nat_cmp c)) index)) (same_itself c) in
           values_apart (λ d p. held_in d (get after p)) (λ d p. held_in d (get cells p)) c others_kept rest (apart_of_none c rest gone)
-          ∙ ap (held_by cells) is ∙ remove-read (λ d p. held_in d (get cells p)) (is_at (nat_cmp c)) places
+          ∙ ap (held_by cells) is ∙ remove-read (λ d p. held_in d (get cells p)) (is_at (nat_cmp c)) index
         where
           others_kept : (d p : ℕ) → same_number d c ≡ false → held_in d (get after p) ≡ held_in d (get cells p)
           others_kept d p apart =
-              elim (cases_eq p place) [
+              elim (cases_eq p slot) [
                 | inl same ↦ ap (λ r. held_in d (get after r)) same ∙ ap (held_in d) updates.changed
-                    ∙ sym (held-other c d (get cells p) (ap (λ r. owner (get cells r)) same ∙ tied.placed c place found) apart)
+                    ∙ sym (held-other c d (get cells p) (ap (λ r. owner (get cells r)) same ∙ tied.placed c slot found) apart)
                 | inr other ↦ ap (held_in d) (updates.others p other)
               ]
 
   -- a client added, in a cell that was vacant
-  module _ (none : lookup (is_at (nat_cmp c)) places ≡ None) (place : ℕ) (w : Held) (vacant : get cells place ≡ None) (after : Slab Cell) (more : ByNumber ℕ)
-      (updates : Updates cells after place (Some (record { client = c; slot = w })))
+  module _ (none : lookup (is_at (nat_cmp c)) index ≡ None) (slot : ℕ) (w : Held) (vacant : get cells slot ≡ None) (after : Slab Cell) (more : ByNumber ℕ)
+      (updates : Updates cells after slot (Some (record { client = c; slot = w })))
       (rising : IsStrictlySortedBy nat_cmp (map (λ e. e.0) more))
-      (added : (q : ℕ) → lookup (is_at (nat_cmp q)) more ≡ cond (is_at (nat_cmp c) q) (Some place) (lookup (is_at (nat_cmp q)) places)) where
-    other_place : (d p : ℕ) → owner (get cells p) ≡ Some d → p ≢ place
-    other_place d p is = λ same. let gone : None ≡ Some d = sym (ap owner vacant) ∙ ap (λ r. owner (get cells r)) (sym same) ∙ is in absurd (cc)
+      (added : (q : ℕ) → lookup (is_at (nat_cmp q)) more ≡ cond (is_at (nat_cmp c) q) (Some slot) (lookup (is_at (nat_cmp q)) index)) where
+    other_slot : (d p : ℕ) → owner (get cells p) ≡ Some d → p ≢ slot
+    other_slot d p is = λ same. let gone : None ≡ Some d = sym (ap owner vacant) ∙ ap (λ r. owner (get cells r)) (sym same) ∙ is in absurd (cc)
 
     pub tied_added : AreTied after more
     tied_added = record {
       ordered = rising;
       placed = λ d p is.
-          elim (same_number c d) as (λ b. same_number c d ≡ b → cond b (Some place) (lookup (is_at (nat_cmp d)) places) ≡ Some p → owner (get after p) ≡ Some d) [
-            | true ↦ λ t e. ap (λ r. owner (get after r)) (sym (same_Some place p e)) ∙ ap owner updates.changed ∙ ap Some (same_number_is c d t)
-            | false ↦ λ t e. ap owner (updates.others p (other_place d p (tied.placed d p e))) ∙ tied.placed d p e
+          elim (same_number c d) as (λ b. same_number c d ≡ b → cond b (Some slot) (lookup (is_at (nat_cmp d)) index) ≡ Some p → owner (get after p) ≡ Some d) [
+            | true ↦ λ t e. ap (λ r. owner (get after r)) (sym (same_Some slot p e)) ∙ ap owner updates.changed ∙ ap Some (same_number_is c d t)
+            | false ↦ λ t e. ap owner (updates.others p (other_slot d p (tied.placed d p e))) ∙ tied.placed d p e
           ] refl (sym (added d) ∙ is);
       indexed = λ d p is. added d
-          ∙ elim (cases_eq p place) [
+          ∙ elim (cases_eq p slot) [
             | inl same ↦
                 let key : c ≡ d = same_Some c d (sym (ap owner updates.changed) ∙ ap (λ r. owner (get after r)) (sym same) ∙ is) in
-                ap (λ b. cond b (Some place) (lookup (is_at (nat_cmp d)) places)) (ap (same_number c) (sym key) ∙ same_itself c) ∙ ap Some (sym same)
+                ap (λ b. cond b (Some slot) (lookup (is_at (nat_cmp d)) index)) (ap (same_number c) (sym key) ∙ same_itself c) ∙ ap Some (sym same)
             | inr other ↦
-                let there : lookup (is_at (nat_cmp d)) places ≡ Some p = tied.indexed d p (sym (ap owner (updates.others p other)) ∙ is) in
-                elim (same_number c d) as (λ b. same_number c d ≡ b → cond b (Some place) (lookup (is_at (nat_cmp d)) places) ≡ Some p) [
-                  | true ↦ λ t. let gone : None ≡ Some p = sym none ∙ ap (λ k. lookup (is_at (nat_cmp k)) places) (same_number_is c d t) ∙ there in absurd (cc)
+                let there : lookup (is_at (nat_cmp d)) index ≡ Some p = tied.indexed d p (sym (ap owner (updates.others p other)) ∙ is) in
+                elim (same_number c d) as (λ b. same_number c d ≡ b → cond b (Some slot) (lookup (is_at (nat_cmp d)) index) ≡ Some p) [
+                  | true ↦ λ t. let gone : None ≡ Some p = sym none ∙ ap (λ k. lookup (is_at (nat_cmp k)) index) (same_number_is c d t) ∙ there in absurd (cc)
                   | false ↦ λ t. there
                 ] refl
           ];
@@ -239,19 +239,19 @@ module _ (cells : Slab Cell) (places : ByNumber ℕ) (tied : AreTied cells place
 
     others_there : (d p : ℕ) → same_number d c ≡ false → held_in d (get after p) ≡ held_in d (get cells p)
     others_there d p apart =
-        elim (cases_eq p place) [
+        elim (cases_eq p slot) [
           | inl same ↦ ap (λ r. held_in d (get after r)) same ∙ ap (held_in d) updates.changed
               ∙ held-other c d (Some (record { client = c; slot = w })) refl apart ∙ sym (ap (held_in d) vacant) ∙ ap (λ r. held_in d (get cells r)) (sym same)
           | inr other ↦ ap (held_in d) (updates.others p other)
         ]
 
-    pub held_added : more ≡ insert_entry nat_cmp places c place → held_by after more ≡ insert_entry nat_cmp (held_by cells places) c w
+    pub held_added : more ≡ insert_entry nat_cmp index c slot → held_by after more ≡ insert_entry nat_cmp (held_by cells index) c w
     held_added is =
-        ap (held_by after) is ∙ insert-read (λ d p. held_in d (get after p)) c place places
-        ∙ (λ i. insert_entry nat_cmp (values_apart (λ d p. held_in d (get after p)) (λ d p. held_in d (get cells p)) c others_there places
-        (apart_of_none c places none) i) c ((ap (held_in c) updates.changed ∙ held-own c w) i))
+        ap (held_by after) is ∙ insert-read (λ d p. held_in d (get after p)) c slot index
+        ∙ (λ i. insert_entry nat_cmp (values_apart (λ d p. held_in d (get after p)) (λ d p. held_in d (get cells p)) c others_there index
+        (apart_of_none c index none) i) c ((ap (held_in c) updates.changed ∙ held-own c w) i))
 
 -- cells with more room
-pub tied_grown : (cells grown : Slab Cell) (room : ℕ) (places : ByNumber ℕ) → grown ≡ record cells { capacity = room } → AreTied cells places → AreTied grown places
-tied_grown cells grown room places is tied =
-    subst (λ (s : Slab Cell). AreTied s places) (sym is) (record { ordered = tied.ordered; placed = tied.placed; indexed = tied.indexed })
+pub tied_grown : (cells grown : Slab Cell) (room : ℕ) (index : ByNumber ℕ) → grown ≡ record cells { capacity = room } → AreTied cells index → AreTied grown index
+tied_grown cells grown room index is tied =
+    subst (λ (s : Slab Cell). AreTied s index) (sym is) (record { ordered = tied.ordered; placed = tied.placed; indexed = tied.indexed })
