@@ -1,5 +1,5 @@
 -- The line that is being told, at the end of the text.
-use Rattle.std.proofs.Common.{◌≡◌, ℕ, ◌-◌, ◌≤◌, List, [], ◌∷◌, ◌++◌, length, take, drop, refl, sym, ap, subst, ◌∙◌, true, false, append_assoc, arith, length-append}
+use Rattle.std.proofs.Common.{◌≡◌, ℕ, ◌+◌, ◌-◌, ◌≤◌, List, [], ◌∷◌, ◌++◌, length, take, drop, refl, sym, ap, subst, ◌∙◌, true, false, append_assoc, arith, length-append}
 use Rattle.std.specs.Prelude.{Option, None, if◌then◌else◌}
 use Rattle.std.specs.List.{AllByRecursion}
 use Rattle.std.proofs.Math.Seq.{drop-append_seam, drop-length}
@@ -70,24 +70,25 @@ whole_line id r = sym (append_assoc (id_text id) (body r) (10 ∷ []))
 
 pub written : (issuer : ℕ) (id : Option ℕ) (text mid out : List ℕ) (ps : List Piece) (r : Reply) (own shared : ℕ) → mid ≡ text ++ id_text id → out
     ≡ mid ++ printed_line None r → own ≡ length text → shared ≡ length mid → AllByRecursion (LiesIn text) ps
-    → ◌≡◌ {A = Posted} (record { issuer = issuer; id = id; own = drop own out; shared = drop shared out; sent = pieces_of out ps })
-    (record { issuer = issuer; id = id; own = printed_line id r; shared = printed_line None r; sent = pieces_of text ps })
+    → ◌≡◌ {A = Posted} (record { issuer = issuer; id = id; text = length out; own = drop own out; shared = drop shared out; sent = pieces_of out ps })
+    (record { issuer = issuer; id = id; text = length text + length (printed_line id r); own = printed_line id r; shared = printed_line None r; sent = pieces_of text ps })
 written issuer id text mid out ps r own shared m o begins line h =
     let all : out ≡ text ++ (id_text id ++ printed_line None r) = o ∙ ap (λ t. t ++ printed_line None r) m ∙ append_assoc text _ _ in
     let first : drop own out ≡ printed_line id r = (λ i. drop (begins i) (all i)) ∙ drop-append_seam text _ ∙ whole_line id r in
     let second : drop shared out ≡ printed_line None r = (λ i. drop (line i) (o i)) ∙ drop-append_seam mid _ in
     let rest : pieces_of out ps ≡ pieces_of text ps = ap (λ t. pieces_of t ps) all ∙ pieces_same text _ ps h in
-    λ i. record { issuer = issuer; id = id; own = first i; shared = second i; sent = rest i }
+    let long : length out ≡ length text + length (printed_line id r) = ap length (all ∙ ap (λ line. text ++ line) (whole_line id r)) ∙ length-append text _ in
+    λ i. record { issuer = issuer; id = id; text = long i; own = first i; shared = second i; sent = rest i }
 
 pub written_for_others : (issuer : ℕ) (id : Option ℕ) (text out : List ℕ) (ps : List Piece) (r : Reply) (own shared : ℕ) → out ≡ text
     ++ printed_line None r → shared ≡ length text → own ≡ length out → AllByRecursion (LiesIn text) ps
-    → ◌≡◌ {A = Posted} (record { issuer = issuer; id = id; own = drop own out; shared = drop shared out; sent = pieces_of out ps })
-    (record { issuer = issuer; id = id; own = []; shared = printed_line None r; sent = pieces_of text ps })
+    → ◌≡◌ {A = Posted} (record { issuer = issuer; id = id; text = length out; own = drop own out; shared = drop shared out; sent = pieces_of out ps })
+    (record { issuer = issuer; id = id; text = length text + length (printed_line None r); own = []; shared = printed_line None r; sent = pieces_of text ps })
 written_for_others issuer id text out ps r own shared o line ends h =
     let first : drop own out ≡ [] = ap (λ n. drop n out) ends ∙ drop-length out in
     let second : drop shared out ≡ printed_line None r = (λ i. drop (line i) (o i)) ∙ drop-append_seam text _ in
     let rest : pieces_of out ps ≡ pieces_of text ps = ap (λ t. pieces_of t ps) o ∙ pieces_same text _ ps h in
-    λ i. record { issuer = issuer; id = id; own = first i; shared = second i; sent = rest i }
+    λ i. record { issuer = issuer; id = id; text = (ap length o ∙ length-append text _) i; own = first i; shared = second i; sent = rest i }
 
 -- more at the end of the text
 behind : (n : ℕ) (text line out : List ℕ) → out ≡ text ++ line → n ≤ length text → drop n out ≡ drop n text ++ line
@@ -95,17 +96,20 @@ behind n text line out is within = ap (drop n) is ∙ drop-append-le n text line
 
 module _ (issuer : ℕ) (id : Option ℕ) (text line out : List ℕ) (ps : List Piece) (own shared : ℕ) (is : out ≡ text ++ line)
     (h : AllByRecursion (LiesIn text) ps) (within : shared ≤ length text) where
+  longer : length out ≡ length text + length line
+  longer = ap length is ∙ length-append text line
+
   pub written_own : own ≤ length text
-      → ◌≡◌ {A = Posted} (record { issuer = issuer; id = id; own = drop own out; shared = drop shared out; sent = pieces_of out ps })
-      (record { issuer = issuer; id = id; own = drop own text ++ line; shared = drop shared text ++ line; sent = pieces_of text ps })
+      → ◌≡◌ {A = Posted} (record { issuer = issuer; id = id; text = length out; own = drop own out; shared = drop shared out; sent = pieces_of out ps })
+      (record { issuer = issuer; id = id; text = length text + length line; own = drop own text ++ line; shared = drop shared text ++ line; sent = pieces_of text ps })
   written_own starts =
       let rest : pieces_of out ps ≡ pieces_of text ps = ap (λ t. pieces_of t ps) is ∙ pieces_same text line ps h in
-      λ i. record { issuer = issuer; id = id; own = behind own text line out is starts i; shared = behind shared text line out is within i; sent = rest i }
+      λ i. record { issuer = issuer; id = id; text = longer i; own = behind own text line out is starts i; shared = behind shared text line out is within i; sent = rest i }
 
   pub written_more_for_others : own ≡ length out
-      → ◌≡◌ {A = Posted} (record { issuer = issuer; id = id; own = drop own out; shared = drop shared out; sent = pieces_of out ps })
-      (record { issuer = issuer; id = id; own = []; shared = drop shared text ++ line; sent = pieces_of text ps })
+      → ◌≡◌ {A = Posted} (record { issuer = issuer; id = id; text = length out; own = drop own out; shared = drop shared out; sent = pieces_of out ps })
+      (record { issuer = issuer; id = id; text = length text + length line; own = []; shared = drop shared text ++ line; sent = pieces_of text ps })
   written_more_for_others ends =
       let rest : pieces_of out ps ≡ pieces_of text ps = ap (λ t. pieces_of t ps) is ∙ pieces_same text line ps h in
       let none : drop own out ≡ [] = ap (λ n. drop n out) ends ∙ drop-length out in
-      λ i. record { issuer = issuer; id = id; own = none i; shared = behind shared text line out is within i; sent = rest i }
+      λ i. record { issuer = issuer; id = id; text = longer i; own = none i; shared = behind shared text line out is within i; sent = rest i }

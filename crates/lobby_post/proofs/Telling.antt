@@ -1,5 +1,5 @@
 -- Letters told, from the pieces sent.
-use Rattle.std.proofs.Common.{◌≡◌, ℕ, List, [], ◌∷◌, ◌++◌, refl, sym, ap, ◌∙◌, Bool, true, false, not, map, append_assoc, append-nil}
+use Rattle.std.proofs.Common.{◌≡◌, ℕ, ◌+◌, List, [], ◌∷◌, ◌++◌, length, refl, sym, ap, ◌∙◌, Bool, true, false, not, map, append_assoc, append-nil, arith, length-append}
 use Rattle.std.specs.Prelude.{Option, None, ◌&&◌, ◌||◌, if◌then◌else◌}
 use Rattle.reply_grammar.specs.declared.Reply.{Reply}
 use Rattle.reply_grammar.specs.Replies.{print_all, printed_line}
@@ -9,7 +9,7 @@ use Rattle.lobby_model.specs.Outcome.{Audience, Letter, Reader, lines_for, tell,
 use Rattle.lobby_model.specs.Events.{reader_of, under}
 use Rattle.lobby_model.proofs.Delivered.{same_number_is}
 use Rattle.lobby_post.specs.Mail.{bytes_for}
-use Rattle.lobby_post.specs.Posted.{Posted, face, copy_to, addressed, blank, with_own, has_number, AreApart, Reaches, Sends, Told, but_issuer}
+use Rattle.lobby_post.specs.Posted.{Posted, face, copy_to, addressed, blank, telling, with_own, has_number, AreApart, Reaches, Sends, Told, but_issuer}
 
 pub bytes-append : (ps qs : ByNumber (List ℕ)) (d : ℕ) → bytes_for (ps ++ qs) d ≡ bytes_for ps d ++ bytes_for qs d
 bytes-append [] qs d = refl
@@ -69,20 +69,20 @@ lines_own true goes id lines own shared is o = o ∙ ap (λ ls. print_all (under
 lines_own false goes id lines own shared is o = ap (λ b. print_all (under None ((if b then lines else []) ++ []))) is
 
 -- the lines that are told: as the issuer gets them and as others get them
-module _ (s : State) (old mid new : Posted) (own shared : List ℕ) (written : mid ≡ record old { own = own; shared = shared }) where
+module _ (s : State) (old mid new : Posted) (text : ℕ) (own shared : List ℕ) (written : mid ≡ record old { text = text; own = own; shared = shared }) where
   -- all that is told to these clients
   told_at : (clients : List ℕ) (letters : List Letter) → AreApart clients → new ≡ addressed mid clients
       → ((d : ℕ) → (if has_number clients d then (if same_number d old.issuer then own else shared) else [])
       ≡ print_all (under (if same_number d old.issuer then old.id else None) (lines_for (reader_of s old.issuer d) letters)))
       → Told s old new letters
   told_at clients letters once is seen =
-      let all : new ≡ addressed (record old { own = own; shared = shared }) clients = is ∙ ap (λ (p : Posted). addressed p clients) written in
+      let all : new ≡ addressed (record old { text = text; own = own; shared = shared }) clients = is ∙ ap (λ (p : Posted). addressed p clients) written in
       record {
         issuer = ap (λ (p : Posted). p.issuer) all;
         id = ap (λ (p : Posted). p.id) all;
         bytes = λ d.
             ap (λ (p : Posted). bytes_for p.sent d) all ∙ bytes-append old.sent _ d
-            ∙ ap (λ bs. bytes_for old.sent d ++ bs) (copies_for (record old { own = own; shared = shared }) clients d once ∙ seen d);
+            ∙ ap (λ bs. bytes_for old.sent d ++ bs) (copies_for (record old { text = text; own = own; shared = shared }) clients d once ∙ seen d);
       }
 
   module _ (lines : List Reply) (to : Audience) where
@@ -112,11 +112,11 @@ module _ (s : State) (old mid new : Posted) (own shared : List ℕ) (written : m
 
 -- one line
 module _ (s : State) (old mid new : Posted) (r : Reply) (to : Audience) (sends : Sends s mid new to) where
-  pub told_all : mid ≡ record old { own = printed_line old.id r; shared = printed_line None r } → Told s old new (tell to (r ∷ []) ∷ [])
-  told_all written = told_lines s old mid new _ _ written (r ∷ []) to sends (sym (append-nil _)) (sym (append-nil _))
+  pub told_all : mid ≡ telling old (printed_line old.id r) (printed_line None r) (length (printed_line old.id r)) → Told s old new (tell to (r ∷ []) ∷ [])
+  told_all written = told_lines s old mid new _ _ _ written (r ∷ []) to sends (sym (append-nil _)) (sym (append-nil _))
 
-  pub told_others : mid ≡ record old { own = []; shared = printed_line None r } → Told s old new (tell (but_issuer to) (r ∷ []) ∷ [])
-  told_others written = told_lines_to_others s old mid new _ _ written (r ∷ []) to sends refl (sym (append-nil _))
+  pub told_others : mid ≡ telling old [] (printed_line None r) (length (printed_line None r)) → Told s old new (tell (but_issuer to) (r ∷ []) ∷ [])
+  told_others written = told_lines_to_others s old mid new _ _ _ written (r ∷ []) to sends refl (sym (append-nil _))
 
 pub told_nothing : (s : State) (post : Posted) → Told s post post []
 told_nothing s post = record { issuer = refl; id = refl; bytes = λ d. sym (append-nil _) }
@@ -154,21 +154,26 @@ told_as_one s a b to xs ys told = record {
 pub reaches_issuer : (s : State) (c : ℕ) → Reaches s c (c ∷ []) issuer
 reaches_issuer s c = record { once = (refl, tt); exact = λ d. elim (same_number d c) as (λ b. (b || false) ≡ b) [ true ↦ refl | false ↦ refl ] }
 
-pub told_issuer : (s : State) (old mid new : Posted) (r : Reply) → mid ≡ record old { own = printed_line old.id r; shared = printed_line None r }
+pub told_issuer : (s : State) (old mid new : Posted) (r : Reply) → mid ≡ telling old (printed_line old.id r) (printed_line None r) (length (printed_line old.id r))
     → new ≡ addressed mid (mid.issuer ∷ [])
     → Told s old new (tell issuer (r ∷ []) ∷ [])
-told_issuer s old mid new r written is = told_own s old mid new _ _ written (r ∷ []) issuer (reaches_issuer s old.issuer) is (sym (append-nil _))
+told_issuer s old mid new r written is = told_own s old mid new _ _ _ written (r ∷ []) issuer (reaches_issuer s old.issuer) is (sym (append-nil _))
 
 -- lines for the issuer alone, one behind another
 pub with_own_none : (post : Posted) → with_own post [] ≡ post
-with_own_none post = λ i. record post { own = append-nil post.own i; shared = append-nil post.shared i }
+with_own_none post = λ i. record post { text = same post.text i; own = append-nil post.own i; shared = append-nil post.shared i }
+  where
+    same : (n : ℕ) → n + 0 ≡ n
+    same n = omega arith
 
 pub with_own_more : (post : Posted) (xs ys : List Reply) → with_own (with_own post xs) ys ≡ with_own post (xs ++ ys)
 with_own_more post xs ys =
     let more : (bytes : List ℕ) → (bytes ++ print_all (under post.id xs)) ++ print_all (under post.id ys) ≡ bytes ++ print_all (under post.id (xs ++ ys)) =
     λ bytes. append_assoc bytes _ _ ∙ ap (λ bs. bytes ++ bs) (sym (print-append post.id xs ys)) in
-    λ i. record post { own = more post.own i; shared = more post.shared i }
+    let long : (post.text + length (print_all (under post.id xs))) + length (print_all (under post.id ys)) ≡ post.text + length (print_all (under post.id (xs ++ ys))) =
+    omega (arith, ap length (print-append post.id xs ys), length-append (print_all (under post.id xs)) (print_all (under post.id ys))) in
+    λ i. record post { text = long i; own = more post.own i; shared = more post.shared i }
 
 pub told_own_lines : (s : State) (old mid new : Posted) (lines : List Reply) → mid ≡ with_own (blank old) lines → new
     ≡ addressed mid (mid.issuer ∷ []) → Told s old new (tell issuer lines ∷ [])
-told_own_lines s old mid new lines written is = told_own s old mid new _ _ written lines issuer (reaches_issuer s old.issuer) is refl
+told_own_lines s old mid new lines written is = told_own s old mid new _ _ _ written lines issuer (reaches_issuer s old.issuer) is refl

@@ -1,5 +1,5 @@
 -- What an event has told so far, as pieces and as letters.
-use Rattle.std.specs.Prelude.{◌≡◌, ℕ, Bool, false, not, ◌&&◌, if◌then◌else◌, List, [], ◌∷◌, ◌++◌, map, Option, None}
+use Rattle.std.specs.Prelude.{◌≡◌, ℕ, ◌+◌, Bool, false, not, ◌&&◌, if◌then◌else◌, List, [], ◌∷◌, ◌++◌, length, map, Option, None}
 use Rattle.std.specs.List.{list_any}
 use Rattle.reply_grammar.specs.declared.Reply.{Reply}
 use Rattle.reply_grammar.specs.Replies.{print_all}
@@ -9,18 +9,19 @@ use Rattle.lobby_model.specs.Outcome.{Audience, Letter, lines_for}
 use Rattle.lobby_model.specs.Events.{reader_of, under}
 use Rattle.lobby_post.specs.Mail.{bytes_for}
 
--- issuer, id: whose event it is, and under which id; own, shared: the lines that are being told, as the issuer gets them, and as
--- others get them; sent: the pieces told
+-- issuer, id: whose event it is, and under which id; text: how many bytes were printed since it began; own, shared: the lines that
+-- are being told, as the issuer gets them, and as others get them; sent: the pieces told
 pub record Posted : Type 0 where
   pub issuer : ℕ
   pub id : Option ℕ
+  pub text : ℕ
   pub own : List ℕ
   pub shared : List ℕ
   pub sent : ByNumber (List ℕ)
 
 -- an event of this issuer begins, and nothing is told
 abbrev pub begun : ℕ → Option ℕ → Posted
-begun issuer id = record { issuer = issuer; id = id; own = []; shared = []; sent = [] }
+begun issuer id = record { issuer = issuer; id = id; text = 0; own = []; shared = []; sent = [] }
 
 -- the lines that are being told, as client c gets them
 abbrev pub face : Posted → ℕ → List ℕ
@@ -38,13 +39,21 @@ addressed post clients = record post { sent = post.sent ++ map (copy_to post) cl
 abbrev pub blank : Posted → Posted
 blank post = record post { own = []; shared = [] }
 
+-- these lines are being told, in place of those before, and so many bytes were printed for them
+abbrev pub telling : Posted → List ℕ → List ℕ → ℕ → Posted
+telling post own shared printed = record post { text = post.text + printed; own = own; shared = shared }
+
 -- with more lines for the issuer alone, each under the id
 abbrev pub with_own : Posted → List Reply → Posted
-with_own post lines = record post { own = post.own ++ print_all (under post.id lines); shared = post.shared ++ print_all (under post.id lines) }
+with_own post lines =
+    let printed : List ℕ = print_all (under post.id lines) in
+    telling post (post.own ++ printed) (post.shared ++ printed) (length printed)
 
 -- with more lines for others
 abbrev pub with_others : Posted → List Reply → Posted
-with_others post lines = record post { own = []; shared = post.shared ++ print_all (under None lines) }
+with_others post lines =
+    let printed : List ℕ = print_all (under None lines) in
+    telling post [] (post.shared ++ printed) (length printed)
 
 -- a number is one of these
 abbrev pub has_number : List ℕ → ℕ → Bool

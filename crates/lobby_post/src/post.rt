@@ -1,12 +1,12 @@
 //! What an event sends: lines, each printed once, and who gets them, in the order of telling.
 
-ghost use Rattle.std.specs.Prelude.{◌≡◌, ℕ, ◌<◌, ◌≤◌, [], ◌∷◌, ◌++◌, OnOk, OnErr};
+ghost use Rattle.std.specs.Prelude.{◌≡◌, ℕ, ◌<◌, ◌≤◌, [], ◌∷◌, ◌++◌, length, OnOk, OnErr};
 ghost use Rattle.reply_grammar.specs.Replies.{printed_line};
 ghost use Rattle.reply_grammar.specs.Lent.{reply_of};
 ghost use Rattle.lobby_post.specs.Mask.{has_home};
 ghost use Rattle.lobby_post.specs.Mail.{AreDue, AreReady, plain, deliver, wakes_home};
 ghost use Rattle.lobby_post.specs.Dirty.{marks_of, waits, IsNewly, Known};
-ghost use Rattle.lobby_post.specs.Posted.{begun, blank, with_own, with_others, copy_to, addressed, Told};
+ghost use Rattle.lobby_post.specs.Posted.{begun, blank, telling, with_own, with_others, copy_to, addressed, Told};
 ghost use Rattle.lobby_model.specs.State.{State};
 ghost use Rattle.lobby_model.specs.Outcome.{tell, issuer};
 
@@ -60,7 +60,7 @@ impl Model for Post {
 
     ghost Value = { Posted };
 
-    ghost view = { λ p. record { issuer = p.issuer; id = p.id; own = drop p.own p.text.items; shared = drop p.shared p.text.items; sent = pieces_of p.text.items p.pieces.items } };
+    ghost view = { λ p. record { issuer = p.issuer; id = p.id; text = length p.text.items; own = drop p.own p.text.items; shared = drop p.shared p.text.items; sent = pieces_of p.text.items p.pieces.items } };
 
     ghost invariant = { λ p. AllByRecursion (LiesIn p.text.items) p.pieces.items × (p.own ≤ length p.text.items) × (p.shared ≤ length p.text.items)
         × (p.shares.items ≡ shares_of (pieces_of p.text.items p.pieces.items)) × IfSome p.line (λ line. line ≡ drop p.shared p.text.items) };
@@ -103,7 +103,7 @@ impl Post {
     /// Prints the line that is told next, in place of those before it. Its issuer gets it behind the id
     /// of its request.
     pub fn write(&mut self, line: LentReply) -> Result<(), AllocError>
-        ensures { OnOk result (self.new ≡ record self.old { own = printed_line self.old.id (reply_of line.entry); shared = printed_line None (reply_of line.entry) }) }
+        ensures { OnOk result (self.new ≡ telling self.old (printed_line self.old.id (reply_of line.entry)) (printed_line None (reply_of line.entry)) (length (printed_line self.old.id (reply_of line.entry)))) }
     {
         self.line = None;
         let own = self.text.len();
@@ -118,7 +118,7 @@ impl Post {
     /// Prints the line that is told next to others, in place of those before it: its issuer gets
     /// nothing of it.
     pub fn write_for_others(&mut self, line: LentReply) -> Result<(), AllocError>
-        ensures { OnOk result (self.new ≡ record self.old { own = []; shared = printed_line None (reply_of line.entry) }) }
+        ensures { OnOk result (self.new ≡ telling self.old [] (printed_line None (reply_of line.entry)) (length (printed_line None (reply_of line.entry)))) }
     {
         self.line = None;
         let shared = self.text.len();

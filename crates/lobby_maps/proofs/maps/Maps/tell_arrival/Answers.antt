@@ -1,11 +1,11 @@
-use Rattle.std.proofs.Common.{◌≡◌, ◌∙◌, ◌==◌, ap, sym, subst, [], ◌∷◌, rules}
+use Rattle.std.proofs.Common.{◌≡◌, ◌∙◌, ◌==◌, ap, sym, subst, [], ◌∷◌, length, rules}
 use Rattle.std.specs.Prelude.{None, if◌then◌else◌}
 use Rattle.lobby_model.specs.State.{State}
 use Rattle.lobby_model.specs.Outcome.{tell, others}
 use Rattle.lobby_model.specs.Sessions.{added, arrival}
 use Rattle.reply_grammar.specs.declared.Reply.TheVariants as reply
 use Rattle.reply_grammar.specs.Replies.{printed_line}
-use Rattle.lobby_post.specs.Posted.{Told, with_others}
+use Rattle.lobby_post.specs.Posted.{Told, telling, with_others}
 use Rattle.lobby_maps.specs.Seats.{user_in}
 use Rattle.lobby_maps.proofs.Arrivals.{arrival_told, not_zero}
 use Rattle.lobby_maps.proofs.Walks.{reaches_everyone}
@@ -24,8 +24,8 @@ returns c =
       | else-status-ne0 w ↦ w.post-is ∙ ap (λ n. if n == 0 then c.write_for_others.new.self else with_others c.write_for_others.new.self
           (reply.ClientStatus c.args.name.now c.word-status.result ∷ [])) (sym w.if-status-ne0.false)
     ] in
-    let first : c.write_for_others.new.self ≡ record c.args.post.now
-    { own = []; shared = printed_line None (added c.args.name.now (user_in c.args.seat.now)) } = search rules in
+    let first : c.write_for_others.new.self ≡ telling c.args.post.now [] (printed_line None (added c.args.name.now (user_in c.args.seat.now)))
+    (length (printed_line None (added c.args.name.now (user_in c.args.seat.now)))) = search rules in
     subst (λ (s : State). Told s c.args.post.now c.address_all.new.post (tell others (arrival c.args.name.now (user_in c.args.seat.now)) ∷ []))
     (plainly c.self.view_is)
     (arrival_told _ c.args.post.now c.write_for_others.new.self c.if-status-ne0.post c.address_all.new.post c.args.name.now

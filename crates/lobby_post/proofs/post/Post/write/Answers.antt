@@ -2,7 +2,7 @@ use Rattle.std.proofs.Common.{◌≡◌, ◌∙◌, ◌++◌, ap, length, rules,
 use Rattle.std.specs.Prelude.{None}
 use Rattle.reply_grammar.specs.Replies.{id_text, printed_line}
 use Rattle.reply_grammar.specs.Lent.{reply_of}
-use Rattle.lobby_post.specs.Posted.{Posted}
+use Rattle.lobby_post.specs.Posted.{Posted, telling}
 use Rattle.lobby_post.proofs.Lines.{parts_more, written}
 use Rattle.lobby_post.proofs.post.Post.write.Goals as goal
 
@@ -12,7 +12,7 @@ returns c =
     let line : c.len-shared.result ≡ length c.print_id.new.out.items = search rules in
     written _ _ c.self.inside.text.items c.print_id.new.out.items c.print_lent.new.out.items _
     (reply_of c.args.line) _ _ c.in_ok-print_id.ensures c.in_ok-print_lent.ensures begins line c.self.invariant.0
-    ∙ ap (λ (p : Posted). record p { own = printed_line p.id (reply_of c.args.line); shared = printed_line None (reply_of c.args.line) }) c.self.view_is
+    ∙ ap (λ (p : Posted). telling p (printed_line p.id (reply_of c.args.line)) (printed_line None (reply_of c.args.line)) (length (printed_line p.id (reply_of c.args.line)))) c.self.view_is
 
 pub invariant_of-self-in_err-print_lent : goal.invariant_of-self-in_err-print_lent
 invariant_of-self-in_err-print_lent c =

@@ -2,7 +2,7 @@ use Rattle.std.proofs.Common.{◌≡◌, ◌∙◌, ap, length, rules, [], arith
 use Rattle.std.specs.Prelude.{None}
 use Rattle.reply_grammar.specs.Replies.{printed_line}
 use Rattle.reply_grammar.specs.Lent.{reply_of}
-use Rattle.lobby_post.specs.Posted.{Posted}
+use Rattle.lobby_post.specs.Posted.{Posted, telling}
 use Rattle.lobby_post.proofs.Lines.{parts_more, written_for_others}
 use Rattle.lobby_post.proofs.post.Post.write_for_others.Goals as goal
 
@@ -12,7 +12,7 @@ returns c =
     let ends : c.len-self-inside.result ≡ length c.print_lent.new.out.items = search rules in
     written_for_others _ _ c.self.inside.text.items c.print_lent.new.out.items _
     (reply_of c.args.line) _ _ c.in_ok-print_lent.ensures line ends c.self.invariant.0
-    ∙ ap (λ (p : Posted). record p { own = []; shared = printed_line None (reply_of c.args.line) }) c.self.view_is
+    ∙ ap (λ (p : Posted). telling p [] (printed_line None (reply_of c.args.line)) (length (printed_line None (reply_of c.args.line)))) c.self.view_is
 
 pub invariant_of-self-2 : goal.invariant_of-self-2
 invariant_of-self-2 c =
