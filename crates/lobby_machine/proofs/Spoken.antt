@@ -68,7 +68,7 @@ module _ (s : State) (c : ℕ) (cpu : ℤ) (authorises : Bool) (r : Result Accou
       (done (logs_in c account.name (user_of account cpu authorises) s))) there
 
   pub logged_in_so : (old a new : Posted) (name : List ℕ) (seat : Seat) → hears s c ≡ true → name_of s c ≡ None
-      → is_some (at_name s.users account.name) ≡ false → name ≡ account.name → seat.client ≡ c → seat.battle ≡ None → user_in seat ≡ user_of account cpu authorises
+      → is_some (at_name s.users account.name) ≡ false → name ≡ account.name → seat.client.number ≡ c → seat.battle ≡ None → user_in seat ≡ user_of account cpu authorises
       → Told s old a (tell issuer (burst s.settings.motd name (put_name s.users name (user_in seat)) s.battles) ∷ [])
       → Told s a new (tell others (arrival name (user_in seat)) ∷ [])
       → Obeyed s c old new (LogIn name seat) (log_in s c cpu authorises r)

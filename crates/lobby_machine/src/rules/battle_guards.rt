@@ -16,6 +16,7 @@ use crate::refusal::{Refusal, Stop};
 use battle_room::{Asker, Bot, Member};
 use line_words::{NameBuf, Pair, WordBuf};
 use lobby_maps::{Battle, LAST_NUMBER, Maps};
+use lobby_post::ClientKey;
 
 /// A user who opens a battle is in none.
 pub fn may_open(maps: &Maps, me: &NameBuf) -> Result<(), Stop>
@@ -136,7 +137,7 @@ pub fn founded_by(battle: &Battle, me: &NameBuf) -> Result<(), Stop>
 }
 
 /// The member of a battle who bears a name.
-pub fn member_named<'a>(battle: &'a Battle, name: &NameBuf) -> Result<&'a Member, Stop>
+pub fn member_named<'a>(battle: &'a Battle, name: &NameBuf) -> Result<&'a Member<ClientKey>, Stop>
     ensures ok { IfOk result (λ member. member_of name.now battle.now.room ≡ Some member.now) }
     ensures has { IfOk result (λ _. has_member name.now battle.now.room ≡ true) }
     ensures err { IfErr result (Refuses NoSuchMember (has_member name.now battle.now.room ≡ false)) }

@@ -24,7 +24,7 @@ use battle_room::Room;
 use command_grammar::Command;
 use line_words::{NameBuf, SentenceBuf, Text, WordBuf, write_number};
 use lobby_maps::{Battle, BattleChange, Change, Maps, NO_PASSWORD, RoomChange};
-use lobby_post::Post;
+use lobby_post::{ClientKey, Post};
 use reply_grammar::{LentReply, OpenedBattle};
 use status_bits::{BattleStatus, merge_battle};
 use std::alloc::{AllocError, Global};
@@ -66,7 +66,7 @@ struct Labels {
 struct Inside {
     password: WordBuf,
     game_hash: i64,
-    room: Room,
+    room: Room<ClientKey>,
 }
 
 /// `OPENBATTLE`: the user is in no battle and asks to join none, and a number is left.
@@ -225,7 +225,7 @@ fn inside_of(maps: &Maps, me: &NameBuf, command: &Command) -> Result<Inside, All
         unreachable!()
     };
     let password = WordBuf::copy_of(maps.alloc(), password.as_slice())?;
-    let room = Room::new(maps.alloc(), me.copy(), maps.user_place(me))?;
+    let room = Room::with_mark(maps.alloc(), me.copy(), maps.user_key(me))?;
     Ok(Inside {
         password,
         game_hash: *game_hash,
@@ -328,7 +328,7 @@ pub fn tell_leaving(
 fn tell_closing(
     maps: &Maps,
     number: u32,
-    room: &Room,
+    room: &Room<ClientKey>,
     leaving: Leaving,
     post: &mut Post,
 ) -> Result<(), AllocError>
@@ -349,7 +349,7 @@ fn tell_bots_gone(
     maps: &Maps,
     owner: &NameBuf,
     number: u32,
-    room: &Room,
+    room: &Room<ClientKey>,
     leaving: Leaving,
     post: &mut Post,
 ) -> Result<(), AllocError>

@@ -27,10 +27,10 @@ pub fn join(
     ensures { Answers maps.now.plain client post.old post.new (join maps.now.plain me.now channel.now) result }
 {
     let names = names_without(maps, me, channel)?;
-    let places = maps.channels().marks_in(channel);
+    let keys = maps.channels().marks_in(channel);
     maps.tell_user(me, LentReply::Join { channel }, post)?;
     tell_members(maps, channel, names, me, post)?;
-    maps.tell_users(names, places, LentReply::Joined { channel, user: me }, post)?;
+    maps.tell_users(names, keys, LentReply::Joined { channel, user: me }, post)?;
     Ok(Change::Join {
         channel: channel.copy(),
         name: me.copy(),
@@ -48,8 +48,8 @@ pub fn leave(
     ensures { Answers maps.now.plain client post.old post.new (leave maps.now.plain me.now channel.now) result }
 {
     let members = members_with(maps, me, channel)?;
-    let (names, places) = (members.as_slice(), members.marks());
-    maps.tell_users(names, places, LentReply::Left { channel, user: me }, post)?;
+    let (names, keys) = (members.as_slice(), members.marks());
+    maps.tell_users(names, keys, LentReply::Left { channel, user: me }, post)?;
     Ok(Change::Leave {
         channel: channel.copy(),
         name: me.copy(),
@@ -68,8 +68,8 @@ pub fn say_in_channel(
     ensures { Answers maps.now.plain client post.old post.new (say_in_channel maps.now.plain me.now channel.now (reply_of line.entry)) result }
 {
     let members = members_with(maps, me, channel)?;
-    let (names, places) = (members.as_slice(), members.marks());
-    maps.tell_users(names, places, line, post)?;
+    let (names, keys) = (members.as_slice(), members.marks());
+    maps.tell_users(names, keys, line, post)?;
     Ok(Change::Nothing)
 }
 
@@ -120,8 +120,8 @@ pub fn tell_left(maps: &Maps, me: &NameBuf, post: &mut Post) -> Result<(), Alloc
 {
     for (channel, members) in maps.channels() {
         if members.has_member(me) {
-            let (names, places) = (members.as_slice(), members.marks());
-            maps.tell_other_users(names, places, LentReply::Left { channel, user: me }, post)?;
+            let (names, keys) = (members.as_slice(), members.marks());
+            maps.tell_other_users(names, keys, LentReply::Left { channel, user: me }, post)?;
         }
     }
     Ok(())

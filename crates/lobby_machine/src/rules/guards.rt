@@ -13,6 +13,7 @@ use account_book::Account;
 use channel_book::Members;
 use line_words::{NameBuf, WordBuf};
 use lobby_maps::Maps;
+use lobby_post::ClientKey;
 
 /// The name of one who is logged in.
 pub fn logged_in(me: Option<&NameBuf>) -> Result<&NameBuf, Stop>
@@ -71,7 +72,7 @@ pub fn members_with<'a>(
     maps: &'a Maps,
     me: &NameBuf,
     channel: &NameBuf,
-) -> Result<&'a Members<usize>, Stop>
+) -> Result<&'a Members<ClientKey>, Stop>
     ensures names { IfOk result (λ members. members.now ≡ names_in maps.now.plain.channels channel.now) }
     ensures among { IfOk result (λ _. is_among me.now (names_in maps.now.plain.channels channel.now) ≡ true) }
     ensures err { IfErr result (Refuses NotInChannel (is_among me.now (names_in maps.now.plain.channels channel.now) ≡ false)) }

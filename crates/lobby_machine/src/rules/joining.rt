@@ -22,7 +22,7 @@ use crate::refusal::Stop;
 use battle_room::{ALLY_COUNT, Room};
 use line_words::{NameBuf, Text, TextBuf, WordBuf};
 use lobby_maps::{Battle, BattleChange, Change, Maps};
-use lobby_post::Post;
+use lobby_post::{ClientKey, Post};
 use reply_grammar::LentReply;
 use std::alloc::{AllocError, Global};
 use std::slice;
@@ -244,7 +244,7 @@ fn write(recipient: Recipient, line: LentReply, post: &mut Post) -> Result<(), A
 fn write_room(
     recipient: Recipient,
     number: u32,
-    room: &Room,
+    room: &Room<ClientKey>,
     post: &mut Post,
 ) -> Result<(), AllocError>
     requires { written recipient post.old [] ≡ post.old }
@@ -258,7 +258,11 @@ fn write_room(
 }
 
 /// Writes the status of each member of a battle, behind a line.
-fn write_statuses(recipient: Recipient, room: &Room, post: &mut Post) -> Result<(), AllocError>
+fn write_statuses(
+    recipient: Recipient,
+    room: &Room<ClientKey>,
+    post: &mut Post,
+) -> Result<(), AllocError>
     requires { written recipient post.old [] ≡ post.old }
     ensures { OnOk result (post.new ≡ written recipient post.old (map status_line room.now.members)) }
 {
@@ -278,7 +282,7 @@ fn write_statuses(recipient: Recipient, room: &Room, post: &mut Post) -> Result<
 fn write_bots(
     recipient: Recipient,
     number: u32,
-    room: &Room,
+    room: &Room<ClientKey>,
     post: &mut Post,
 ) -> Result<(), AllocError>
     requires { written recipient post.old [] ≡ post.old }
@@ -300,7 +304,11 @@ fn write_bots(
 }
 
 /// Writes the start rectangles of a battle, behind a line.
-fn write_rects(recipient: Recipient, room: &Room, post: &mut Post) -> Result<(), AllocError>
+fn write_rects(
+    recipient: Recipient,
+    room: &Room<ClientKey>,
+    post: &mut Post,
+) -> Result<(), AllocError>
     requires { written recipient post.old [] ≡ post.old }
     ensures { OnOk result (post.new ≡ written recipient post.old (map (λ e. rect_line e.0 e.1) room.now.rects)) }
 {
@@ -321,7 +329,11 @@ fn write_rects(recipient: Recipient, room: &Room, post: &mut Post) -> Result<(),
 }
 
 /// Writes the script tags of a battle, each in a line, behind a line.
-fn write_tags(recipient: Recipient, room: &Room, post: &mut Post) -> Result<(), AllocError>
+fn write_tags(
+    recipient: Recipient,
+    room: &Room<ClientKey>,
+    post: &mut Post,
+) -> Result<(), AllocError>
     requires { written recipient post.old [] ≡ post.old }
     ensures { OnOk result (post.new ≡ written recipient post.old (map (λ t. reply.SetScriptTags (t ∷ [])) room.now.tags)) }
 {
@@ -335,7 +347,11 @@ fn write_tags(recipient: Recipient, room: &Room, post: &mut Post) -> Result<(), 
 }
 
 /// Writes the disabled units of a battle, each in a line, behind a line.
-fn write_units(recipient: Recipient, room: &Room, post: &mut Post) -> Result<(), AllocError>
+fn write_units(
+    recipient: Recipient,
+    room: &Room<ClientKey>,
+    post: &mut Post,
+) -> Result<(), AllocError>
     requires { written recipient post.old [] ≡ post.old }
     ensures { OnOk result (post.new ≡ written recipient post.old (map (λ unit. reply.DisableUnits (unit ∷ [])) room.now.units)) }
 {

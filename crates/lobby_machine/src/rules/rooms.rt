@@ -19,7 +19,7 @@ use crate::refusal::Stop;
 use battle_room::{Bot, Member, Rect, Room};
 use line_words::{KeyBuf, NameBuf, Pair, PairList, SentenceBuf, WordBuf, WordList};
 use lobby_maps::{BattleChange, Change, Maps, RoomChange};
-use lobby_post::Post;
+use lobby_post::{ClientKey, Post};
 use reply_grammar::LentReply;
 use status_bits::{BattleStatus, merge_battle};
 use std::alloc::{AllocError, Global};
@@ -41,7 +41,7 @@ pub enum Force {
 
 impl Force {
     /// The status of a member on whom it is forced.
-    fn status(self, member: &Member) -> BattleStatus
+    fn status(self, member: &Member<ClientKey>) -> BattleStatus
         requires { FitsForce self }
         ensures { result ≡ forced_status self member.now.status }
     {
@@ -56,7 +56,7 @@ impl Force {
     }
 
     /// Its colour.
-    fn colour(self, member: &Member) -> i64
+    fn colour(self, member: &Member<ClientKey>) -> i64
         ensures { result ≡ forced_colour self member.now.colour }
     {
         match self {
@@ -318,7 +318,7 @@ pub fn enable_all_units(
 /// Tells the members of a battle of words, or nothing where there are none.
 fn tell_words(
     maps: &Maps,
-    room: &Room,
+    room: &Room<ClientKey>,
     wording: Wording,
     words: WordList,
     post: &mut Post,

@@ -23,7 +23,7 @@ use crate::refusal::Stop;
 use account_book::Account;
 use line_words::{NameBuf, WordBuf};
 use lobby_maps::{Change, Maps, Seat};
-use lobby_post::Post;
+use lobby_post::{ClientKey, Post};
 use reply_grammar::LentReply;
 use status_bits::{UserStatus, merge_user};
 use std::alloc::{AllocError, Global};
@@ -54,8 +54,8 @@ pub fn log_in(
     not_logged_in(me)?;
     let account = account_for(maps, user_name, password)?;
     let name = free_name(maps, account)?;
-    let place = maps.client_place(client);
-    let seat = seat_of(maps.alloc(), client, place, account, cpu, authorises)?;
+    let key = maps.client_key(client);
+    let seat = seat_of(maps.alloc(), key, account, cpu, authorises)?;
     maps.tell_burst(&name, &seat, post)?;
     maps.tell_arrival(&name, &seat, post)?;
     Ok(Change::LogIn { name, seat })
@@ -143,22 +143,20 @@ pub fn close(maps: &Maps, client: u64, post: &mut Post) -> Result<Change, AllocE
     log_out(maps, client, me, false, post)
 }
 
-/// Where a user of an account sits, whose client stands at a place.
+/// Where a user of an account sits, by the key of its client.
 fn seat_of(
     alloc: Global,
-    client: u64,
-    place: usize,
+    client: ClientKey,
     account: &Account,
     cpu: i64,
     authorises: bool,
 ) -> Result<Seat, AllocError>
-    ensures here { IfOk result (λ seat. seat.client ≡ client) }
+    ensures here { IfOk result (λ seat. seat.client.number ≡ client.number) }
     ensures outside { IfOk result (λ seat. seat.battle ≡ None) }
     ensures user { IfOk result (λ seat. user_in seat ≡ user_of account.now cpu authorises) }
 {
     Ok(Seat {
         client,
-        place,
         country: WordBuf::copy_of(alloc, account.country())?,
         cpu,
         account: account.id(),
