@@ -30,7 +30,7 @@ pub record IsEmptied (at : Seat) (talk : List Moment) : Type 0 where
   pub dry : EndsDry at.conn.session.client talk
 
 -- A client is shut where its stream is spoilt at this place, or its link failed, or the lobby said that nothing will ever come of it
--- and what it had for it was written as far as the link takes it and a turn may write, or it has ended and has been told everything
+-- and what was drained for it is written out, or it has ended and has been told everything
 pub data MayShut (old at : Seat) (talk : List Moment) : Type 0 where
   spoilt : IsNextOf (Some at.conn.session) Spoilt → MayShut old at talk
   unread : at.wire.last_got ≡ Some got.Fault → MayShut old at talk
@@ -47,7 +47,7 @@ pub record IsIdle (old new : Seat) (talk : List Moment) : Type 0 where
   pub heard : (new.wire.last_got ≡ Some got.End) ⊎ ((new.wire.last_got ≡ Some got.Later) × (old.wire.reads < new.wire.reads))
   pub told : ((new.wire.last_sent ≡ Some sent.Later) × (old.wire.writes < new.wire.writes)) ⊎ (IsEmptied new talk × (new.wire.last_got ≢ Some got.End))
 
--- Memory may be refused where the client is to be heard, where a piece is to be drained for it, and where it is to be shut
+-- There was something to do that takes memory: the client is to be heard, a piece is to be drained for it, or it is to be shut
 pub data TakesMemory (old new : Seat) (talk : List Moment) : Type 0 where
   for_hearing : HasToHear old new → TakesMemory old new talk
   for_drain : new.conn.unwritten ≡ [] → TakesMemory old new talk

@@ -15,7 +15,7 @@ use line_framer::FeedError;
 use std::alloc::{AllocError, Global};
 use std::marker::Model;
 
-/// The most bytes that one read, one drain or one write moves.
+/// The most bytes that one read or one drain moves.
 pub const PIECE: usize = 4_096;
 
 /// The connection of one client: its session, and the bytes that are on their way. Contracts see

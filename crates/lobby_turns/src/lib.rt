@@ -2,7 +2,7 @@
 //! the lobby has for the client is written.
 //!
 //! A worker serves a connection in turns ([`serve`]). A turn hears the client (`hearing`) and then
-//! tells it (`telling`). A hold says up to 32 lines, or drains a piece (`holds`). It works over any
+//! tells it (`telling`). A hold says up to 32 lines, or drains up to four pieces (`holds`). It works over any
 //! [`Link`], and its contract (`specs/Turned.antt`) speaks of all bytes that the link tells: none is
 //! lost, doubled or out of its order, whatever the link does.
 #![tactic(auto)]

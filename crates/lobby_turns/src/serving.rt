@@ -71,9 +71,9 @@ fn close<R: Wait, G: Gate>(
 }
 
 /// Serves a connection for one turn: its lines are told the lobby, up to 32 in a hold, and its link is
-/// read where no whole line is left; then what the lobby has for its client is drained, a piece of at
-/// most 4,096 bytes in a hold, and written. A hold whose piece is the last also sees that nothing is
-/// left. A turn makes at most 16 reads of as many bytes, 64 lines and 16 writes, and nothing in it
+/// read where no whole line is left; then what the lobby has for its client is drained, up to four
+/// pieces of at most 4,096 bytes in a hold, and written. A hold whose piece is the last also sees that
+/// nothing is left. A turn makes at most 16 reads of as many bytes, 64 lines and 16 writes, and nothing in it
 /// waits but the desk.
 ///
 /// The client is shut, as the last event of the turn, where its stream is spoilt at the place that is

@@ -1,5 +1,5 @@
-//! The half of a turn that tells the client: what the lobby has for it is drained, a piece at a time,
-//! and written.
+//! The half of a turn that tells the client: what the lobby has for it is drained, as much as one
+//! write carries, and written.
 
 ghost use Rattle.std.specs.Prelude.{◌≡◌, ◌≤◌, [], false};
 ghost use Rattle.lobby_turns.specs.Wire.{MayGoOn};
@@ -75,7 +75,7 @@ fn tell_link<L: Link, G: Gate>(
     }
 }
 
-/// Drains a piece where all that was drained before was written, and writes.
+/// Drains where all that was drained before was written, and writes.
 fn tell_next<R: Wait, L: Link, G: Gate>(
     rt: &R,
     conn: &mut Conn,
