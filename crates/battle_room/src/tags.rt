@@ -20,7 +20,7 @@ pub const TAG_LIMIT: usize = 512;
 ///
 /// A look-up by key takes the same time however many there are. The index has a copy of each key.
 #[derive(Drop)]
-pub(crate) struct Tags {
+pub struct Tags {
     by_key: IndexMap<Vec<u8>, Pair>,
 }
 
@@ -61,7 +61,7 @@ fn keyed(alloc: Global, pairs: PairList) -> Result<Vec<(Vec<u8>, Pair)>, AllocEr
 
 impl Tags {
     /// No tags. It takes no memory yet.
-    pub(crate) fn new(alloc: Global) -> Tags
+    pub fn new(alloc: Global) -> Tags
         ensures { result ≡ [] }
     {
         Tags {
@@ -70,7 +70,7 @@ impl Tags {
     }
 
     /// The tags.
-    pub(crate) fn as_slice(&self) -> &[Pair]
+    pub fn as_slice(&self) -> &[Pair]
         ensures { result.now ≡ self.now }
     {
         self.by_key.values().as_slice()
@@ -133,7 +133,7 @@ impl Tags {
     }
 
     /// Sets tags. Where memory is refused, nothing changes.
-    pub(crate) fn put(&mut self, alloc: Global, pairs: PairList) -> Result<(), AllocError>
+    pub fn put(&mut self, alloc: Global, pairs: PairList) -> Result<(), AllocError>
         ensures ok { OnOk result (self.new ≡ tags.with_tags self.old pairs) }
         ensures err { OnErr result (self.new ≡ self.old) }
     {
@@ -146,7 +146,7 @@ impl Tags {
     }
 
     /// Removes tags.
-    pub(crate) fn remove(&mut self, keys: &[WordBuf])
+    pub fn remove(&mut self, keys: &[WordBuf])
         ensures { self.new ≡ tags.without_tags self.old keys.now }
     {
         for key in keys {

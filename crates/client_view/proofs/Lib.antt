@@ -2,4 +2,3 @@ pub mod Ended
 pub mod Follows
 pub mod Feeding
 pub mod Read
-pub mod Tagged

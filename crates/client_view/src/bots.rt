@@ -4,7 +4,6 @@ ghost use Rattle.std.specs.Prelude.{◌≡◌, ◌∷◌, [], ◌++◌, map, fil
 ghost use Rattle.line_words.specs.Table.{same_name};
 ghost use Rattle.battle_room.specs.Room as room;
 
-use crate::tags::is_same;
 use line_words::{NameBuf, SentenceBuf, WordBuf};
 use std::alloc::{AllocError, Global};
 use std::marker::Model;
@@ -36,14 +35,14 @@ impl Bot {
     fn has_name(&self, name: &WordBuf) -> bool
         ensures { result ≡ same_name name.now self.now.name }
     {
-        is_same(name.as_slice(), self.name.as_slice())
+        name.as_slice().cmp(self.name.as_slice()).is_eq()
     }
 
     /// A status and a colour for the bot, if it has this name.
     fn put_status(&mut self, name: &WordBuf, status: u32, colour: i64)
         ensures { self.new ≡ (if same_name name.now self.old.name then room.bot_with status colour self.old else self.old) }
     {
-        if is_same(name.as_slice(), self.name.as_slice()) {
+        if self.has_name(name) {
             self.status = status;
             self.colour = colour;
         }

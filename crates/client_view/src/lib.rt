@@ -40,7 +40,6 @@ mod members;
 mod names;
 mod own_room;
 mod reading;
-mod tags;
 mod users;
 mod view;
 

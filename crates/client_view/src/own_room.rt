@@ -9,8 +9,7 @@ ghost use Rattle.client_view.specs.Rooms.{changed_room};
 use crate::battles::Battle;
 use crate::bots::{Bot, Bots};
 use crate::members::{Member, Members};
-use crate::tags::Tags;
-use battle_room::{Rect, Units};
+use battle_room::{Rect, Tags, Units};
 use line_words::{NameBuf, Pair, PairList, WordBuf, WordList};
 use std::alloc::{AllocError, Global};
 use std::collections::BTreeMap;
@@ -186,11 +185,11 @@ impl OwnRoom {
     }
 
     /// Tags are set. Where memory is refused, nothing changes.
-    pub(crate) fn put_tags(&mut self, pairs: PairList) -> Result<(), AllocError>
+    pub(crate) fn put_tags(&mut self, alloc: Global, pairs: PairList) -> Result<(), AllocError>
         ensures ok { OnOk result (self.new ≡ changed_room (room.set_tags pairs) self.old) }
         ensures err { OnErr result (self.new ≡ self.old) }
     {
-        self.tags.put(pairs)
+        self.tags.put(alloc, pairs)
     }
 
     /// Tags go.

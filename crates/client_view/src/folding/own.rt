@@ -124,12 +124,16 @@ pub(super) fn remove_rect(own: &mut Option<OwnRoom>, ally: u8)
     }
 }
 
-pub(super) fn put_tags(own: &mut Option<OwnRoom>, pairs: PairList) -> Result<(), AllocError>
+pub(super) fn put_tags(
+    own: &mut Option<OwnRoom>,
+    alloc: Global,
+    pairs: PairList,
+) -> Result<(), AllocError>
     ensures ok { OnOk result (own.new ≡ in_own_room (room.set_tags pairs) own.old) }
     ensures err { OnErr result (own.new ≡ own.old) }
 {
     if let Some(room) = own {
-        room.put_tags(pairs)?;
+        room.put_tags(alloc, pairs)?;
     }
     Ok(())
 }

@@ -166,7 +166,7 @@ impl Known {
         ensures ok { OnOk result (self.new ≡ shown self.old (reply.SetScriptTags pairs)) }
         ensures err { OnErr result (self.new ≡ self.old) }
     {
-        own::put_tags(&mut self.own, pairs)
+        own::put_tags(&mut self.own, self.alloc, pairs)
     }
 
     fn remove_script_tags(&mut self, keys: &WordList)
