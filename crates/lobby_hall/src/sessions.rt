@@ -40,7 +40,7 @@ fn feed_one(session: &mut Option<Session>, piece: &[u8]) -> Result<(), AllocErro
     match session {
         Some(session) => match session.feed(piece) {
             Err(FeedError::Memory) => Err(AllocError),
-            _ => Ok(()),
+            Ok(()) | Err(FeedError::Spoilt) => Ok(()),
         },
         None => Ok(()),
     }

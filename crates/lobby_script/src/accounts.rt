@@ -46,7 +46,9 @@ pub fn read_account(alloc: Global, text: &[u8]) -> Result<Option<Account>, Alloc
         Err(error) => match error {
             AccountsError::BadField(_) => Ok(None),
             // It is refused for no other cause but memory.
-            _ => Err(AllocError),
+            AccountsError::NotToml | AccountsError::DuplicateName | AccountsError::Memory => {
+                Err(AllocError)
+            }
         },
     }
 }

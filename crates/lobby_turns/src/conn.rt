@@ -195,6 +195,6 @@ fn feed_session(session: &mut Session, piece: &[u8]) -> Result<(), AllocError>
 {
     match session.feed(piece) {
         Err(FeedError::Memory) => Err(AllocError),
-        _ => Ok(()),
+        Ok(()) | Err(FeedError::Spoilt) => Ok(()),
     }
 }
