@@ -42,7 +42,7 @@ use Rattle.lobby_machine.specs.BattleTalk.{bots_gone, shown, shown_to, status_ch
 pub told_own_user : (s : State) (old mid new : Posted) (me : List ℕ) (lines : List Reply) → IsOwn s mid new me → mid ≡ with_own (blank old) lines
     → Told s old new (tell (user me) lines ∷ [])
 told_own_user s old mid new me lines sent written =
-    told_own s old mid new _ _ written lines (user me)
+    told_own s old mid new _ _ _ written lines (user me)
     (subst (λ c. Reaches s c (c ∷ []) (user me)) (ap (λ (p : Posted). p.issuer) written) sent.0) sent.1 refl
 
 -- letters that give each client the same lines, and each reader

@@ -1,20 +1,19 @@
 -- Lines written for one who joins a battle, whose event it may be or not.
-use Rattle.std.proofs.Common.{◌≡◌, ℕ, List, [], ◌∷◌, ◌++◌, map, refl, sym, ap, ◌∙◌, true, false, not, append-nil, append_assoc}
+use Rattle.std.proofs.Common.{◌≡◌, ℕ, List, [], ◌∷◌, ◌++◌, map, refl, sym, ap, ◌∙◌, true, false, not, append-nil}
 use Rattle.std.specs.Prelude.{Option, Some, None, if◌then◌else◌, ◌&&◌}
 use Rattle.reply_grammar.specs.declared.Reply.{Reply}
 use Rattle.reply_grammar.specs.declared.Reply.TheVariants as reply
-use Rattle.reply_grammar.specs.Replies.{print_all}
 use Rattle.line_words.specs.Table.{same_name, same_number}
 use Rattle.line_words.proofs.Tables.{same_name_is}
 use Rattle.line_words.proofs.Once.{same_name_equiv}
 use Rattle.battle_room.specs.Room.{Room}
 use Rattle.lobby_model.specs.State.{State, name_of}
 use Rattle.lobby_model.specs.Outcome.{is_named, lines_for, tell, user}
-use Rattle.lobby_model.specs.Events.{reader_of, under}
+use Rattle.lobby_model.specs.Events.{reader_of}
 use Rattle.lobby_model.specs.Battles.{bot_line, rect_line, room_lines, status_line}
 use Rattle.lobby_model.proofs.Delivered.{same_number_is}
-use Rattle.lobby_post.specs.Posted.{Posted, Sends, Told, blank, but_issuer}
-use Rattle.lobby_post.proofs.Telling.{print-append, told_lines_to_others, with_own_more}
+use Rattle.lobby_post.specs.Posted.{Posted, Sends, Told, blank, with_own, but_issuer}
+use Rattle.lobby_post.proofs.Telling.{told_lines_to_others, with_own_more}
 use Rattle.lobby_machine.specs.declared.rules.joining.Recipient.{Recipient}
 use Rattle.lobby_machine.specs.declared.rules.joining.Recipient.TheVariants.{Issuer, Other}
 use Rattle.lobby_maps.specs.Seats.{IsOwn}
@@ -25,7 +24,9 @@ use Rattle.lobby_maps.proofs.Rooms.{put_then}
 pub written_more : (r : Recipient) (p : Posted) (xs ys : List Reply) → written r (written r p xs) ys ≡ written r p (xs ++ ys)
 written_more Issuer p xs ys = with_own_more p xs ys
 written_more Other p xs ys =
-    λ i. record p { own = []; shared = (append_assoc p.shared (print_all (under None xs)) (print_all (under None ys)) ∙ ap (λ bs. p.shared ++ bs) (sym (print-append None xs ys))) i }
+    -- as one's own lines without an id grow
+    let more : with_own (with_own (record p { id = None }) xs) ys ≡ with_own (record p { id = None }) (xs ++ ys) = with_own_more (record p { id = None }) xs ys in
+    λ i. record p { text = (ap (λ (q : Posted). q.text) more) i; own = []; shared = (ap (λ (q : Posted). q.shared) more) i }
 
 pub written_then : (r : Recipient) (a b c : Posted) (xs ys : List Reply) → b ≡ written r a xs → c ≡ written r b ys → c ≡ written r a (xs ++ ys)
 written_then r = put_then (written r) (written_more r)
@@ -59,7 +60,7 @@ told_recipient s old mid new name lines Issuer mine is own sends =
     (own (ap (λ (p : Posted). name_of s p.issuer) is ∙ named_so name (name_of s old.issuer) mine)) is
 told_recipient s old mid new name lines Other other is own sends =
     told_same s old new (tell (but_issuer (user name)) lines ∷ []) (tell (user name) lines ∷ []) alike
-    (told_lines_to_others s old mid new _ _ is lines (user name) sends refl refl)
+    (told_lines_to_others s old mid new _ _ _ is lines (user name) sends refl refl)
   where
     alike : (d : ℕ) → lines_for (reader_of s old.issuer d) (tell (but_issuer (user name)) lines ∷ [])
         ≡ lines_for (reader_of s old.issuer d) (tell (user name) lines ∷ [])
