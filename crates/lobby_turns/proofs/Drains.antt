@@ -1,6 +1,7 @@
 -- What a drain takes.
 use Rattle.std.proofs.Common.{◌≡◌, ℕ, zero, suc, ◌+◌, ◌-◌, ◌*◌, ◌<◌, ◌≤◌, true, false, List, [], ◌∷◌, ◌++◌, length, take, drop, min, refl, sym, ap, ◌∙◌, arith, append_assoc, append-nil, length-append, subst, true≢false, inl, inr}
 use Rattle.std.specs.Prelude.{◌||◌, Option, Some, None, Result, Ok, Err, is_ok, if◌then◌else◌}
+use Rattle.std.proofs.Math.Bool.{or-false}
 use Rattle.std.proofs.Math.Seq.{take-append-add}
 use Rattle.std.proofs.lemmas.List.{length-drop, take_at, take-append-le, length-take-le, drop_all}
 use Rattle.std.specs.FinMap.{nat_cmp-IsAntisymmetric}
@@ -20,13 +21,13 @@ use Rattle.lobby_lock.specs.Passes.{ShownPass, ShownHold, pass_after}
 use Rattle.lobby_turns.specs.declared.holds.Piece.{Piece}
 use Rattle.lobby_turns.specs.Wire.{Wire}
 use Rattle.lobby_turns.specs.Moments.{Moment, moment, drained_for, tells_end, told_end}
-use Rattle.lobby_turns.specs.Seat.{Carried, seat}
+use Rattle.lobby_turns.specs.Snapshot.{Carried, snapshot}
 use Rattle.lobby_turns.specs.Talk.{AreDrains}
 use Rattle.lobby_turns.specs.Went.{Joined}
-use Rattle.lobby_turns.specs.Holds.{Stands, Drains, DrainedInto, DrainedBehind, LetsGo}
-use Rattle.lobby_turns.proofs.Joins.{IsTaken, held_none, joined_none, joined_then, joined_more, stands_more}
+use Rattle.lobby_turns.specs.Holds.{IsTaken, Stands, Drains, DrainedInto, DrainedBehind, LetsGo}
+use Rattle.lobby_turns.proofs.Joins.{held_none, joined_none, joined_then, joined_more, stands_more}
 use Rattle.lobby_turns.proofs.Parts.{drained-append, went_drains}
-use Rattle.lobby_turns.proofs.Talks.{are_drains-append, told_end-append, dry_behind, or_false}
+use Rattle.lobby_turns.proofs.Talks.{are_drains-append, told_end-append, dry_behind}
 
 from_one : (n : ℕ) (o : Option Client) → taken_from n o ≡ take n (unread_in o)
 from_one zero None = refl
@@ -91,7 +92,7 @@ drained_further p q r c before between after first rest goes_on h k = record {
 -- the whole hold, from the take to the give, for a connection that had nothing to write
 pub drains_held : (old new : Carried) (wire : Wire) (p q : ShownPass) (h k : ShownHold) (c : ℕ) (before after : List ℕ) (piece : Piece) → IsTaken p h → q ≡ pass_after k
     → c ≡ old.session.client → DrainedBehind (pass_after h) (pass_after k) c before after piece → new.session ≡ old.session → new.unfed ≡ old.unfed
-    → old.unwritten ≡ before → new.unwritten ≡ after → Drains (seat old wire p) (seat new wire q) piece.finished piece.dry
+    → old.unwritten ≡ before → new.unwritten ≡ after → Drains (snapshot old wire p) (snapshot new wire q) piece.finished piece.dry
 drains_held old new wire p q h k c before after piece taken is same d session unfed none unwritten =
     let e : DrainedBehind (pass_after h) q old.session.client before after piece =
     subst (λ (x : ShownPass). DrainedBehind (pass_after h) x old.session.client before after piece) (sym is) (subst (λ (x : ℕ). DrainedBehind (pass_after h) (pass_after k) x before after piece) same d) in
@@ -111,7 +112,7 @@ take_none n xs few =
 
 -- asked with an empty slice
 pub drained_none : (conn : Carried) (wire : Wire) (p q : ShownPass) (c : ℕ) (into : List ℕ) (piece : Piece) → c ≡ conn.session.client
-    → DrainedInto p q c 0 into piece → Drains (seat conn wire p) (seat conn wire q) piece.finished false
+    → DrainedInto p q c 0 into piece → Drains (snapshot conn wire p) (snapshot conn wire q) piece.finished false
 drained_none conn wire p q c into piece same d =
     let e : DrainedInto p q conn.session.client 0 into piece = subst (λ (x : ℕ). DrainedInto p q x 0 into piece) same d in
     let nothing : drained_for conn.session.client e.talk ≡ [] = sym e.bytes ∙ take_none piece.count into e.within in
@@ -148,7 +149,7 @@ drained_once h k c n into rest piece stands one goes count given finished dry = 
   within = omega (arith, count);
   few = few_came h.lobby.plain c n piece.count into rest count given;
   bytes = bytes ∙ sym (append-nil (taken_by h.lobby.plain (event.Drain c n) c));
-  finished_is = or_false (tells_end h.lobby.plain (event.Drain c n)) ∙ ap (λ s. is_finished s c) (sym goes) ∙ sym finished;
+  finished_is = or-false (tells_end h.lobby.plain (event.Drain c n)) ∙ ap (λ s. is_finished s c) (sym goes) ∙ sym finished;
   dry_is = λ e some. ([], h.lobby.plain, n, refl, some, sym bytes ∙ ap (λ x. take x into) (dry e));
   all = λ less. ap (λ s. unread_of s c) (sym (stands_more h k (event.Drain c n) stands one goes) ∙ goes) ∙ none_left h.lobby.plain c n piece.count count less;
 }

@@ -5,13 +5,12 @@ use Rattle.std.proofs.lemmas.List.{map-append}
 use Rattle.lobby_model.specs.declared.event.Event.{Event}
 use Rattle.lobby_model.specs.State.{State}
 use Rattle.lobby_lock.specs.History.{Entry, after_history, made_by, under, Begins}
-use Rattle.lobby_lock.specs.Rule.{seen_by}
 use Rattle.lobby_lock.specs.Passes.{ShownPass, ShownHold, pass_after, lobby_after}
 use Rattle.lobby_lock.proofs.Histories.{after_history-append, after_history-more, made_by-append}
 use Rattle.lobby_model.specs.Next.{next}
 use Rattle.lobby_turns.specs.Moments.{Moment, moment, moments}
 use Rattle.lobby_turns.specs.Went.{Joined}
-use Rattle.lobby_turns.specs.Holds.{Stands}
+use Rattle.lobby_turns.specs.Holds.{IsTaken, Stands}
 use Rattle.lobby_turns.proofs.Moments.{moments-append, moments-none, moments-own}
 
 pub joined_none : (p : ShownPass) → Joined p p []
@@ -75,21 +74,12 @@ held p q seen es t b own known made events is = record {
     none = nothing_more p.worker.mine (made_by n b.0) (
         ap (λ l. l ++ made_by n b.0) (sym known) ∙ sym (made_by-append n p.worker.seen b.0) ∙ ap (made_by n) (sym b.1) ∙ own)
 
--- what a take told
-pub record IsTaken (p : ShownPass) (h : ShownHold) : Type 0 where
-  pub pass : h.pass ≡ record p { worker = seen_by p.worker h.pass.worker.seen }
-  pub later : Begins p.worker.seen h.pass.worker.seen
-  pub own : made_by p.worker.number h.pass.worker.seen ≡ p.worker.mine
-  pub known : made_by p.worker.number p.worker.seen ≡ p.worker.mine
-  pub stands : h.lobby.plain ≡ after_history p.start h.pass.worker.seen
-  pub fresh : h.events ≡ []
-
 -- a hold of no event
 pub held_none : (p q : ShownPass) (h k : ShownHold) → IsTaken p h → k ≡ h → q ≡ pass_after k → Joined p q []
 held_none p q h k t same is =
     held p q h.pass.worker.seen [] [] t.later t.own t.known refl refl (is ∙ ap pass_after same
     ∙ ap (λ es. pass_after (record h { events = es })) t.fresh
-    ∙ ap (λ (x : ShownPass). pass_after (record { pass = x; lobby = h.lobby; events = [] })) t.pass)
+    ∙ ap (λ (x : ShownPass). pass_after (record { pass = x; lobby = h.lobby; events = [] })) t.pass_is)
 
 -- a hold of one event, which met the lobby of the hold
 pub held_one : (p q : ShownPass) (h k : ShownHold) (e : Event) → IsTaken p h → k ≡ record h { lobby = k.lobby; events = h.events ++ e ∷ [] } → q ≡ pass_after k
@@ -99,7 +89,7 @@ held_one p q h k e t one is =
     (moments-own p.worker.number (after_history p.start h.pass.worker.seen) e ∙ ap (λ s. moment s e ∷ []) (sym t.stands)) refl (
     is ∙ ap pass_after one
     ∙ ap (λ es. pass_after (record { pass = h.pass; lobby = k.lobby; events = es ++ e ∷ [] })) t.fresh
-    ∙ ap (λ (x : ShownPass). pass_after (record { pass = x; lobby = k.lobby; events = e ∷ [] })) t.pass)
+    ∙ ap (λ (x : ShownPass). pass_after (record { pass = x; lobby = k.lobby; events = e ∷ [] })) t.pass_is)
 
 -- ---- a hold that goes on, seen as the pass that it would leave if it were given back now
 
@@ -124,7 +114,7 @@ stands_taken p h t =
     t.stands
     ∙ ap (after_history p.start) (sym (append-nil h.pass.worker.seen))
     ∙ ap (λ es. after_history p.start (h.pass.worker.seen ++ under h.pass.worker.number es)) (sym t.fresh)
-    ∙ ap (λ (x : ShownPass). after_history x.start (h.pass.worker.seen ++ under h.pass.worker.number h.events)) (sym t.pass)
+    ∙ ap (λ (x : ShownPass). after_history x.start (h.pass.worker.seen ++ under h.pass.worker.number h.events)) (sym t.pass_is)
 
 -- and after one event more
 pub stands_more : (h k : ShownHold) (e : Event) → Stands h → k ≡ record h { lobby = k.lobby; events = h.events ++ e ∷ [] } → k.lobby.plain ≡ next h.lobby.plain e → Stands k

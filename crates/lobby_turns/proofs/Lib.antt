@@ -5,8 +5,7 @@ pub mod Parts
 pub mod Drains
 pub mod Talks
 pub mod Sayings
-pub mod Hearings
-pub mod Tellings
+pub mod Receivings
+pub mod Sendings
 pub mod Turns
-pub mod Moves
 pub mod Kept

@@ -1,15 +1,14 @@
 -- Laws of what a worker does for one client.
-use Rattle.std.proofs.Common.{◌≡◌, ℕ, Bool, true, false, List, [], ◌∷◌, ◌++◌, refl, sym, ap, ◌∙◌, subst, append_assoc}
+use Rattle.std.proofs.Common.{◌≡◌, ℕ, true, false, List, [], ◌∷◌, ◌++◌, refl, sym, ap, ◌∙◌, subst, append_assoc}
+use Rattle.std.proofs.Math.Bool.{or-false, or-true}
 use Rattle.std.specs.Prelude.{◌||◌, Result, Ok, Err, IfOk, OnErr}
 use Rattle.lobby_model.specs.declared.event.Event.{Event}
 use Rattle.lobby_model.specs.declared.event.Event.TheVariants as event
 use Rattle.lobby_model.specs.State.{State}
 use Rattle.lobby_model.specs.Touched.{touches}
 use Rattle.lobby_model.proofs.Quiet.{quiet_touches}
-use Rattle.lobby_lock.specs.Passes.{ShownPass}
 use Rattle.lobby_turns.specs.Moments.{Moment, moment, asked, requests, touched, tells_end, told_end}
 use Rattle.lobby_turns.specs.Talk.{IsDrain, IsTalk, AreDrains, AreTalk, EndsDry}
-use Rattle.lobby_turns.specs.Went.{Joined}
 use Rattle.lobby_turns.proofs.Moments.{any-append}
 
 pub are_talk-append : (c : ℕ) (t u : List Moment) → AreTalk c t → AreTalk c u → AreTalk c (t ++ u)
@@ -36,7 +35,7 @@ drain_asks c (event.Say d request) h = absurd h
 drain_asks c (event.Open ip home) h = absurd h
 drain_asks c (event.Shut d) h = absurd h
 
--- drains tell the lobby no request
+-- drains say no request to the lobby
 pub drains_ask : (c : ℕ) (t : List Moment) → AreDrains c t → requests t ≡ []
 drains_ask c [] h = refl
 drains_ask c (m ∷ t) h = ap (λ l. l ++ requests t) (drain_asks c m.event h.0) ∙ drains_ask c t h.1
@@ -62,30 +61,16 @@ told_end-append t u = any-append (λ (m : Moment). tells_end m.met m.event) t u
 pub calm-append : (t u : List Moment) → told_end t ≡ false → told_end u ≡ false → told_end (t ++ u) ≡ false
 calm-append t u h k = told_end-append t u ∙ ap (λ b. b || told_end u) h ∙ k
 
-or_true : (b : Bool) → (b || true) ≡ true
-or_true true = refl
-or_true false = refl
-
 pub finished-append : (t u : List Moment) → told_end u ≡ true → told_end (t ++ u) ≡ true
-finished-append t u k = told_end-append t u ∙ ap (λ b. told_end t || b) k ∙ or_true (told_end t)
-
-pub or_false : (b : Bool) → (b || false) ≡ b
-or_false true = refl
-or_false false = refl
+finished-append t u k = told_end-append t u ∙ ap (λ b. told_end t || b) k ∙ or-true (told_end t)
 
 -- behind drains the touched are those from before
 pub touched_drained : (c : ℕ) (t u : List Moment) (home : ℕ) → AreDrains c u → touched (t ++ u) home ≡ touched t home
-touched_drained c t u home h = touched-append t u home ∙ ap (λ b. touched t home || b) (drains_touch c u home h) ∙ or_false (touched t home)
+touched_drained c t u home h = touched-append t u home ∙ ap (λ b. touched t home || b) (drains_touch c u home h) ∙ or-false (touched t home)
 
 pub dry_behind : (c : ℕ) (t u : List Moment) → EndsDry c u → EndsDry c (t ++ u)
 dry_behind c t u h =
     (t ++ h.0, h.1, h.2, ap (λ l. t ++ l) h.3 ∙ sym (append_assoc t h.0 (moment h.1 (event.Drain c h.2) ∷ [])), h.4, h.5)
-
-pub desk_stays : (p q : ShownPass) (t : List Moment) → Joined p q t → q.desk ≡ p.desk
-desk_stays p q t h = ap (λ (x : ShownPass). x.desk) h.pass
-
-pub number_stays : (p q : ShownPass) (t : List Moment) → Joined p q t → q.worker.number ≡ p.worker.number
-number_stays p q t h = ap (λ (x : ShownPass). x.worker.number) h.pass
 
 -- what a clause says of a result that is known
 pub from_ok : {A E : Type 0} (r : Result A E) (x : A) (P : A → Type 0) → r ≡ Ok x → IfOk r P → P x

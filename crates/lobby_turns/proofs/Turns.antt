@@ -1,5 +1,6 @@
 -- How a turn is put together.
-use Rattle.std.proofs.Common.{◌≡◌, ◌⊎◌, ◌≢◌, ℕ, ◌+◌, ◌<◌, ◌≤◌, Bool, true, false, List, [], ◌∷◌, ◌++◌, length, refl, sym, ap, ◌∙◌, subst, inl, inr, arith, append-nil}
+use Rattle.std.proofs.Common.{◌≡◌, ◌⊎◌, ◌≢◌, ℕ, ◌+◌, ◌<◌, ◌≤◌, false, List, [], ◌∷◌, ◌++◌, length, refl, sym, ap, ◌∙◌, subst, inl, inr, arith, append-nil}
+use Rattle.std.proofs.Math.Bool.{or-false}
 use Rattle.std.specs.Prelude.{◌||◌, Option, Some}
 use Rattle.lobby_model.specs.declared.event.Event.TheVariants as event
 use Rattle.lobby_model.specs.Touched.{touches}
@@ -10,163 +11,163 @@ use Rattle.client_session.specs.OneSession.{IsNextOf, HasLineNext}
 use Rattle.lobby_turns.specs.declared.link.Got.{Got}
 use Rattle.lobby_turns.specs.declared.link.Got.TheVariants as got
 use Rattle.lobby_turns.specs.declared.link.Sent.TheVariants as sent
-use Rattle.lobby_turns.specs.declared.hearing.Heard.{Heard}
-use Rattle.lobby_turns.specs.declared.hearing.Heard.TheVariants as heard
-use Rattle.lobby_turns.specs.declared.telling.Told.{Told}
-use Rattle.lobby_turns.specs.declared.telling.Told.TheVariants as told
+use Rattle.lobby_turns.specs.declared.receiving.ReceiveState.{ReceiveState}
+use Rattle.lobby_turns.specs.declared.receiving.ReceiveState.TheVariants as receive
+use Rattle.lobby_turns.specs.declared.sending.SendState.{SendState}
+use Rattle.lobby_turns.specs.declared.sending.SendState.TheVariants as send
 use Rattle.lobby_turns.specs.declared.turn.TurnState.{TurnState}
 use Rattle.lobby_turns.specs.declared.turn.TurnState.TheVariants as state
 use Rattle.lobby_turns.specs.Moments.{Moment, moment, requests, touched, told_end}
 use Rattle.lobby_turns.specs.Wire.{Wire}
-use Rattle.lobby_turns.specs.Seat.{Seat}
+use Rattle.lobby_turns.specs.Snapshot.{Snapshot}
 use Rattle.lobby_turns.specs.Talk.{AreTalk, AreDrains, EndsDry}
-use Rattle.lobby_turns.specs.Hearing.{IsAllHeard, HasToHear, has_bytes, has_line, has_more, IsOver, HeardIs, Hears}
-use Rattle.lobby_turns.specs.Telling.{OnlyWrites, IsStop, IsWrittenOut, all_written, stopped, spent, IsAllTold, MustWait, ToldIs, Tells}
+use Rattle.lobby_turns.specs.Receiving.{IsAllReceived, HasToReceive, has_bytes, has_line, has_more, IsOver, ReceivedIs, Receives}
+use Rattle.lobby_turns.specs.Sending.{OnlyWrites, IsStop, IsWrittenOut, all_written, stopped, spent, IsAllSent, MustWait, SentIs, Sends}
 use Rattle.lobby_turns.specs.Went.{Went}
 use Rattle.lobby_turns.specs.Holds.{Made}
-use Rattle.lobby_turns.specs.Turned.{IsEmptied, MayShut, spoilt, unread, unsent, finished, ended, TakesMemory, for_hearing, for_drain, for_shut, IsIdle, IsAtLimit, Ends, Turned, ClosesTo}
+use Rattle.lobby_turns.specs.Turned.{IsEmptied, MayShut, spoilt, unread, unsent, finished, ended, TakesMemory, for_receiving, for_drain, for_shut, IsIdle, IsAtLimit, Ends, Turned, ClosesTo}
 use Rattle.lobby_turns.proofs.Parts.{requests-append, went_then}
 use Rattle.lobby_turns.proofs.Talks.{are_talk-append, drains_are_talk, drains_ask, touched-append, touched_drained, calm-append, finished-append, dry_behind}
 
--- a client was heard and then told
-pub record Spoken (a b c : Seat) (how : Heard) (far : Told) (wakes : ℕ) : Type 0 where
-  pub hears : Hears a b how wakes
-  pub tells : Tells b c far
+-- what came from a client was received, and then what is for it was sent
+pub record Served (a b c : Snapshot) (how : ReceiveState) (far : SendState) (wakes : ℕ) : Type 0 where
+  pub receives : Receives a b how wakes
+  pub sends : Sends b c far
 
-talk_of : (a b c : Seat) (how : Heard) (far : Told) (wakes : ℕ) → Spoken a b c how far wakes → List Moment
-talk_of a b c how far wakes s = s.hears.talk ++ s.tells.talk
+talk_of : (a b c : Snapshot) (how : ReceiveState) (far : SendState) (wakes : ℕ) → Served a b c how far wakes → List Moment
+talk_of a b c how far wakes s = s.receives.talk ++ s.sends.talk
 
-went_both : (a b c : Seat) (how : Heard) (far : Told) (wakes : ℕ) → (s : Spoken a b c how far wakes) → Went a c (s.hears.talk ++ s.tells.talk)
-went_both a b c how far wakes s = went_then a b c s.hears.talk s.tells.talk s.hears.went s.tells.went
+went_both : (a b c : Snapshot) (how : ReceiveState) (far : SendState) (wakes : ℕ) → (s : Served a b c how far wakes) → Went a c (s.receives.talk ++ s.sends.talk)
+went_both a b c how far wakes s = went_then a b c s.receives.talk s.sends.talk s.receives.went s.sends.went
 
-own_both : (a b c : Seat) (how : Heard) (far : Told) (wakes : ℕ) → (s : Spoken a b c how far wakes) → AreTalk c.conn.session.client (s.hears.talk ++ s.tells.talk)
+own_both : (a b c : Snapshot) (how : ReceiveState) (far : SendState) (wakes : ℕ) → (s : Served a b c how far wakes) → AreTalk c.conn.session.client (s.receives.talk ++ s.sends.talk)
 own_both a b c how far wakes s =
-    let u : List Moment = s.tells.talk in
-    let same : c.conn.session.client ≡ a.conn.session.client = s.tells.went.client ∙ s.hears.went.client in
-    are_talk-append c.conn.session.client s.hears.talk u
-    (subst (λ (x : ℕ). AreTalk x s.hears.talk) (sym same) s.hears.own)
-    (drains_are_talk c.conn.session.client u (subst (λ (x : ℕ). AreDrains x u) (sym s.tells.went.client) s.tells.own))
+    let u : List Moment = s.sends.talk in
+    let same : c.conn.session.client ≡ a.conn.session.client = s.sends.went.client ∙ s.receives.went.client in
+    are_talk-append c.conn.session.client s.receives.talk u
+    (subst (λ (x : ℕ). AreTalk x s.receives.talk) (sym same) s.receives.own)
+    (drains_are_talk c.conn.session.client u (subst (λ (x : ℕ). AreDrains x u) (sym s.sends.went.client) s.sends.own))
 
-lines_both : (a b c : Seat) (how : Heard) (far : Told) (wakes : ℕ) → (s : Spoken a b c how far wakes) → requests (s.hears.talk ++ s.tells.talk) ≡ requests s.hears.talk
+lines_both : (a b c : Snapshot) (how : ReceiveState) (far : SendState) (wakes : ℕ) → (s : Served a b c how far wakes) → requests (s.receives.talk ++ s.sends.talk) ≡ requests s.receives.talk
 lines_both a b c how far wakes s =
-    requests-append s.hears.talk s.tells.talk ∙ ap (λ l. requests s.hears.talk ++ l) (drains_ask b.conn.session.client s.tells.talk s.tells.own) ∙ append-nil (requests s.hears.talk)
+    requests-append s.receives.talk s.sends.talk ∙ ap (λ l. requests s.receives.talk ++ l) (drains_ask b.conn.session.client s.sends.talk s.sends.own) ∙ append-nil (requests s.receives.talk)
 
-reads_both : (a b c : Seat) (how : Heard) (far : Told) (wakes : ℕ) → Spoken a b c how far wakes → c.wire.reads ≤ a.wire.reads + 16
-reads_both a b c how far wakes s = omega (arith, s.hears.only.reads_are, s.hears.few, s.tells.only.reads)
+reads_both : (a b c : Snapshot) (how : ReceiveState) (far : SendState) (wakes : ℕ) → Served a b c how far wakes → c.wire.reads ≤ a.wire.reads + 16
+reads_both a b c how far wakes s = omega (arith, s.receives.only.reads_are, s.receives.few, s.sends.only.reads)
 
-writes_both : (a b c : Seat) (how : Heard) (far : Told) (wakes : ℕ) → Spoken a b c how far wakes → c.wire.writes ≤ a.wire.writes + 16
-writes_both a b c how far wakes s = omega (arith, s.hears.only.writes, s.tells.only.writes_are, s.tells.few)
+writes_both : (a b c : Snapshot) (how : ReceiveState) (far : SendState) (wakes : ℕ) → Served a b c how far wakes → c.wire.writes ≤ a.wire.writes + 16
+writes_both a b c how far wakes s = omega (arith, s.receives.only.writes, s.sends.only.writes_are, s.sends.few)
 
 -- ---- why a client is shut
 
-all_heard : (a b : Seat) (talk : List Moment) (how : Heard) → how ≡ heard.All → HeardIs a b talk how → IsAllHeard a b
-all_heard a b talk how e h = subst (λ (x : Heard). HeardIs a b talk x) e h
+all_received : (a b : Snapshot) (talk : List Moment) (how : ReceiveState) → how ≡ receive.All → ReceivedIs a b talk how → IsAllReceived a b
+all_received a b talk how e h = subst (λ (x : ReceiveState). ReceivedIs a b talk x) e h
 
-all_told : (b c : Seat) (talk : List Moment) (far : Told) → far ≡ told.All → ToldIs b c talk far → IsAllTold c talk
-all_told b c talk far e h = subst (λ (x : Told). ToldIs b c talk x) e h
+all_sent : (b c : Snapshot) (talk : List Moment) (far : SendState) → far ≡ send.All → SentIs b c talk far → IsAllSent c talk
+all_sent b c talk far e h = subst (λ (x : SendState). SentIs b c talk x) e h
 
-abbrev pub MustShut : Seat → Heard → Told → Type 0
-MustShut c how far = (far ≡ told.Finished) ⊎ ((far ≡ told.Fault) ⊎ ((how ≡ heard.Stop) ⊎ ((how ≡ heard.All) × (far ≡ told.All) × (c.wire.last_got ≡ Some got.End))))
+abbrev pub MustShut : Snapshot → ReceiveState → SendState → Type 0
+MustShut c how far = (far ≡ send.Finished) ⊎ ((far ≡ send.Fault) ⊎ ((how ≡ receive.Stop) ⊎ ((how ≡ receive.All) × (far ≡ send.All) × (c.wire.last_got ≡ Some got.End))))
 
--- hearing writes nothing
-out_before : (a b c : Seat) → b.wire.writes ≡ a.wire.writes → IsWrittenOut b c 16 → IsWrittenOut a c 16
+-- receiving writes nothing
+out_before : (a b c : Snapshot) → b.wire.writes ≡ a.wire.writes → IsWrittenOut b c 16 → IsWrittenOut a c 16
 out_before a b c same (all_written e) = all_written e
 out_before a b c same (stopped made stop) = stopped (omega (arith, made, same)) stop
 out_before a b c same (spent e) = spent (omega (arith, e, same))
 
-over : (a b c : Seat) (talk : List Moment) → c.conn.session ≡ b.conn.session → c.wire.last_got ≡ b.wire.last_got → IsOver b → MayShut a c talk
+over : (a b c : Snapshot) (talk : List Moment) → c.conn.session ≡ b.conn.session → c.wire.last_got ≡ b.wire.last_got → IsOver b → MayShut a c talk
 over a b c talk session last (inl next) = spoilt (subst (λ (x : Serving). IsNextOf (Some x) Spoilt) (sym session) next)
 over a b c talk session last (inr fault) = unread (last ∙ fault)
 
-may_shut : (a b c : Seat) (how : Heard) (far : Told) (wakes : ℕ) → (s : Spoken a b c how far wakes) → MustShut c how far → MayShut a c (s.hears.talk ++ s.tells.talk)
+may_shut : (a b c : Snapshot) (how : ReceiveState) (far : SendState) (wakes : ℕ) → (s : Served a b c how far wakes) → MustShut c how far → MayShut a c (s.receives.talk ++ s.sends.talk)
 may_shut a b c how far wakes s (inl e) =
-    let told_is : ToldIs b c s.tells.talk told.Finished = subst (λ (x : Told). ToldIs b c s.tells.talk x) e s.tells.told_is in
-    finished (finished-append s.hears.talk s.tells.talk told_is.0) (out_before a b c s.hears.only.writes told_is.1)
-may_shut a b c how far wakes s (inr (inl e)) = unsent (subst (λ (x : Told). ToldIs b c s.tells.talk x) e s.tells.told_is)
+    let sent_is : SentIs b c s.sends.talk send.Finished = subst (λ (x : SendState). SentIs b c s.sends.talk x) e s.sends.sent_is in
+    finished (finished-append s.receives.talk s.sends.talk sent_is.0) (out_before a b c s.receives.only.writes sent_is.1)
+may_shut a b c how far wakes s (inr (inl e)) = unsent (subst (λ (x : SendState). SentIs b c s.sends.talk x) e s.sends.sent_is)
 may_shut a b c how far wakes s (inr (inr (inl e))) =
-    over a b c (s.hears.talk ++ s.tells.talk) s.tells.only.session s.tells.only.last_got (subst (λ (x : Heard). HeardIs a b s.hears.talk x) e s.hears.heard_is)
+    over a b c (s.receives.talk ++ s.sends.talk) s.sends.only.session s.sends.only.last_got (subst (λ (x : ReceiveState). ReceivedIs a b s.receives.talk x) e s.receives.received_is)
 may_shut a b c how far wakes s (inr (inr (inr e))) =
-    let h : IsAllHeard a b = all_heard a b s.hears.talk how e.0 s.hears.heard_is in
-    let t : IsAllTold c s.tells.talk = all_told b c s.tells.talk far e.1 s.tells.told_is in
+    let h : IsAllReceived a b = all_received a b s.receives.talk how e.0 s.receives.received_is in
+    let t : IsAllSent c s.sends.talk = all_sent b c s.sends.talk far e.1 s.sends.sent_is in
     ended
-    (record { fed = s.tells.only.unfed ∙ h.fed; nothing = subst (λ (x : Serving). IsNextOf (Some x) Nothing) (sym s.tells.only.session) h.nothing; last = e.2 })
-    (record { written = t.written; dry = dry_behind c.conn.session.client s.hears.talk s.tells.talk t.dry })
+    (record { fed = s.sends.only.unfed ∙ h.fed; nothing = subst (λ (x : Serving). IsNextOf (Some x) Nothing) (sym s.sends.only.session) h.nothing; last = e.2 })
+    (record { written = t.written; dry = dry_behind c.conn.session.client s.receives.talk s.sends.talk t.dry })
 
 -- ---- a turn that shuts nobody
 
-abbrev pub MayRest : Seat → Heard → Told → TurnState → Type 0
-MayRest c how far state.Idle = (how ≡ heard.All) × ((far ≡ told.Later) ⊎ ((far ≡ told.All) × (c.wire.last_got ≢ Some got.End)))
-MayRest c how far state.Again = (how ≡ heard.Again) ⊎ (far ≡ told.Again)
+abbrev pub MayRest : Snapshot → ReceiveState → SendState → TurnState → Type 0
+MayRest c how far state.Idle = (how ≡ receive.All) × ((far ≡ send.WouldBlock) ⊎ ((far ≡ send.All) × (c.wire.last_got ≢ Some got.End)))
+MayRest c how far state.Again = (how ≡ receive.Again) ⊎ (far ≡ send.Again)
 MayRest c how far state.Closed = ⊥
-MayRest c how far state.Memory = (how ≡ heard.Memory) ⊎ (far ≡ told.Memory)
+MayRest c how far state.Memory = (how ≡ receive.Memory) ⊎ (far ≡ send.Memory)
 
-still_heard : (a b c : Seat) → b.wire.reads ≡ c.wire.reads → c.wire.last_got ≡ b.wire.last_got
+still_received : (a b c : Snapshot) → b.wire.reads ≡ c.wire.reads → c.wire.last_got ≡ b.wire.last_got
     → (b.wire.last_got ≡ Some got.End) ⊎ ((b.wire.last_got ≡ Some got.Later) × (a.wire.reads < b.wire.reads))
     → (c.wire.last_got ≡ Some got.End) ⊎ ((c.wire.last_got ≡ Some got.Later) × (a.wire.reads < c.wire.reads))
-still_heard a b c reads last (inl end) = inl (last ∙ end)
-still_heard a b c reads last (inr later) = inr (last ∙ later.0, subst (λ (n : ℕ). a.wire.reads < n) reads later.1)
+still_received a b c reads last (inl end) = inl (last ∙ end)
+still_received a b c reads last (inr later) = inr (last ∙ later.0, subst (λ (n : ℕ). a.wire.reads < n) reads later.1)
 
-idle : (a b c : Seat) (how : Heard) (far : Told) (wakes : ℕ) → (s : Spoken a b c how far wakes) → MayRest c how far state.Idle → IsIdle a c (s.hears.talk ++ s.tells.talk)
+idle : (a b c : Snapshot) (how : ReceiveState) (far : SendState) (wakes : ℕ) → (s : Served a b c how far wakes) → MayRest c how far state.Idle → IsIdle a c (s.receives.talk ++ s.sends.talk)
 idle a b c how far wakes s rest =
-    let h : IsAllHeard a b = all_heard a b s.hears.talk how rest.0 s.hears.heard_is in
+    let h : IsAllReceived a b = all_received a b s.receives.talk how rest.0 s.receives.received_is in
     record {
-      calm = calm-append s.hears.talk s.tells.talk s.hears.calm (calm rest.1);
-      fed = s.tells.only.unfed ∙ h.fed;
-      nothing = subst (λ (x : Serving). IsNextOf (Some x) Nothing) (sym s.tells.only.session) h.nothing;
-      heard = still_heard a b c (sym s.tells.only.reads) s.tells.only.last_got h.last;
-      told = quiet rest.1;
+      calm = calm-append s.receives.talk s.sends.talk s.receives.calm (calm rest.1);
+      fed = s.sends.only.unfed ∙ h.fed;
+      nothing = subst (λ (x : Serving). IsNextOf (Some x) Nothing) (sym s.sends.only.session) h.nothing;
+      received = still_received a b c (sym s.sends.only.reads) s.sends.only.last_got h.last;
+      sent = quiet rest.1;
     }
   where
     t : List Moment
-    t = s.tells.talk
+    t = s.sends.talk
 
-    waits : far ≡ told.Later → MustWait b c t
-    waits e = subst (λ (x : Told). ToldIs b c t x) e s.tells.told_is
+    waits : far ≡ send.WouldBlock → MustWait b c t
+    waits e = subst (λ (x : SendState). SentIs b c t x) e s.sends.sent_is
 
-    calm : (far ≡ told.Later) ⊎ ((far ≡ told.All) × (c.wire.last_got ≢ Some got.End)) → told_end t ≡ false
+    calm : (far ≡ send.WouldBlock) ⊎ ((far ≡ send.All) × (c.wire.last_got ≢ Some got.End)) → told_end t ≡ false
     calm (inl e) = (waits e).calm
-    calm (inr e) = (all_told b c t far e.0 s.tells.told_is).calm
+    calm (inr e) = (all_sent b c t far e.0 s.sends.sent_is).calm
 
-    quiet : (far ≡ told.Later) ⊎ ((far ≡ told.All) × (c.wire.last_got ≢ Some got.End))
-        → ((c.wire.last_sent ≡ Some sent.Later) × (a.wire.writes < c.wire.writes)) ⊎ (IsEmptied c (s.hears.talk ++ t) × (c.wire.last_got ≢ Some got.End))
-    quiet (inl e) = inl ((waits e).last, subst (λ (n : ℕ). n < c.wire.writes) s.hears.only.writes (waits e).made)
+    quiet : (far ≡ send.WouldBlock) ⊎ ((far ≡ send.All) × (c.wire.last_got ≢ Some got.End))
+        → ((c.wire.last_sent ≡ Some sent.Later) × (a.wire.writes < c.wire.writes)) ⊎ (IsEmptied c (s.receives.talk ++ t) × (c.wire.last_got ≢ Some got.End))
+    quiet (inl e) = inl ((waits e).last, subst (λ (n : ℕ). n < c.wire.writes) s.receives.only.writes (waits e).made)
     quiet (inr e) =
-        let told_all : IsAllTold c t = all_told b c t far e.0 s.tells.told_is in
-        inr (record { written = told_all.written; dry = dry_behind c.conn.session.client s.hears.talk t told_all.dry }, e.1)
+        let sent_all : IsAllSent c t = all_sent b c t far e.0 s.sends.sent_is in
+        inr (record { written = sent_all.written; dry = dry_behind c.conn.session.client s.receives.talk t sent_all.dry }, e.1)
 
-at_limit : (a b c : Seat) (how : Heard) (far : Told) (wakes : ℕ) → (s : Spoken a b c how far wakes) → MayRest c how far state.Again → IsAtLimit a c (s.hears.talk ++ s.tells.talk)
-at_limit a b c how far wakes s (inl e) = heard_limit (subst (λ (x : Heard). HeardIs a b s.hears.talk x) e s.hears.heard_is)
+at_limit : (a b c : Snapshot) (how : ReceiveState) (far : SendState) (wakes : ℕ) → (s : Served a b c how far wakes) → MayRest c how far state.Again → IsAtLimit a c (s.receives.talk ++ s.sends.talk)
+at_limit a b c how far wakes s (inl e) = receive_limit (subst (λ (x : ReceiveState). ReceivedIs a b s.receives.talk x) e s.receives.received_is)
   where
-    heard_limit : (length (requests s.hears.talk) ≡ 64) ⊎ (b.wire.reads ≡ a.wire.reads + 16) → IsAtLimit a c (s.hears.talk ++ s.tells.talk)
-    heard_limit (inl lines) = inl (ap length (lines_both a b c how far wakes s) ∙ lines)
-    heard_limit (inr reads) = inr (inl (s.tells.only.reads ∙ reads))
+    receive_limit : (length (requests s.receives.talk) ≡ 64) ⊎ (b.wire.reads ≡ a.wire.reads + 16) → IsAtLimit a c (s.receives.talk ++ s.sends.talk)
+    receive_limit (inl lines) = inl (ap length (lines_both a b c how far wakes s) ∙ lines)
+    receive_limit (inr reads) = inr (inl (s.sends.only.reads ∙ reads))
 at_limit a b c how far wakes s (inr e) =
-    let written : c.wire.writes ≡ b.wire.writes + 16 = subst (λ (x : Told). ToldIs b c s.tells.talk x) e s.tells.told_is in
-    inr (inr (written ∙ ap (λ n. n + 16) s.hears.only.writes))
+    let written : c.wire.writes ≡ b.wire.writes + 16 = subst (λ (x : SendState). SentIs b c s.sends.talk x) e s.sends.sent_is in
+    inr (inr (written ∙ ap (λ n. n + 16) s.receives.only.writes))
 
--- telling reads nothing
-to_hear : (a b c : Seat) → c.conn.session ≡ b.conn.session → c.conn.unfed ≡ b.conn.unfed → c.wire.last_got ≡ b.wire.last_got → c.wire.reads ≡ b.wire.reads → HasToHear a b → HasToHear a c
-to_hear a b c session unfed last reads (has_bytes h) = has_bytes (λ e. h (sym unfed ∙ e))
-to_hear a b c session unfed last reads (has_line h) = has_line (subst HasLineNext (sym session) h)
-to_hear a b c session unfed last reads (has_more h) =
+-- sending reads nothing
+to_receive : (a b c : Snapshot) → c.conn.session ≡ b.conn.session → c.conn.unfed ≡ b.conn.unfed → c.wire.last_got ≡ b.wire.last_got → c.wire.reads ≡ b.wire.reads → HasToReceive a b → HasToReceive a c
+to_receive a b c session unfed last reads (has_bytes h) = has_bytes (λ e. h (sym unfed ∙ e))
+to_receive a b c session unfed last reads (has_line h) = has_line (subst HasLineNext (sym session) h)
+to_receive a b c session unfed last reads (has_more h) =
     has_more (record { on = λ e. h.on (sym last ∙ e); sound = λ e. h.sound (sym last ∙ e); late = λ e. reads ∙ h.late (sym last ∙ e) })
 
-takes_memory : (a b c : Seat) (how : Heard) (far : Told) (wakes : ℕ) → (s : Spoken a b c how far wakes) → MayRest c how far state.Memory → TakesMemory a c (s.hears.talk ++ s.tells.talk)
+takes_memory : (a b c : Snapshot) (how : ReceiveState) (far : SendState) (wakes : ℕ) → (s : Served a b c how far wakes) → MayRest c how far state.Memory → TakesMemory a c (s.receives.talk ++ s.sends.talk)
 takes_memory a b c how far wakes s (inl e) =
-    let only : OnlyWrites b c s.tells.writes = s.tells.only in
-    for_hearing (to_hear a b c only.session only.unfed only.last_got only.reads (subst (λ (x : Heard). HeardIs a b s.hears.talk x) e s.hears.heard_is))
-takes_memory a b c how far wakes s (inr e) = for_drain (subst (λ (x : Told). ToldIs b c s.tells.talk x) e s.tells.told_is)
+    let only : OnlyWrites b c s.sends.writes = s.sends.only in
+    for_receiving (to_receive a b c only.session only.unfed only.last_got only.reads (subst (λ (x : ReceiveState). ReceivedIs a b s.receives.talk x) e s.receives.received_is))
+takes_memory a b c how far wakes s (inr e) = for_drain (subst (λ (x : SendState). SentIs b c s.sends.talk x) e s.sends.sent_is)
 
-rests : (a b c : Seat) (how : Heard) (far : Told) (wakes : ℕ) (x : TurnState) → (s : Spoken a b c how far wakes) → MayRest c how far x → Ends a c (s.hears.talk ++ s.tells.talk) [] x
+rests : (a b c : Snapshot) (how : ReceiveState) (far : SendState) (wakes : ℕ) (x : TurnState) → (s : Served a b c how far wakes) → MayRest c how far x → Ends a c (s.receives.talk ++ s.sends.talk) [] x
 rests a b c how far wakes state.Idle s rest = (refl, idle a b c how far wakes s rest)
 rests a b c how far wakes state.Again s rest = (refl, at_limit a b c how far wakes s rest)
 rests a b c how far wakes state.Closed s rest = absurd rest
 rests a b c how far wakes state.Memory s rest = (refl, takes_memory a b c how far wakes s rest)
 
-pub turned_open : (a b c : Seat) (how : Heard) (far : Told) (wakes : ℕ) (x : TurnState) → Hears a b how wakes → Tells b c far → MayRest c how far x
+pub turned_open : (a b c : Snapshot) (how : ReceiveState) (far : SendState) (wakes : ℕ) (x : TurnState) → Receives a b how wakes → Sends b c far → MayRest c how far x
     → Turned a c (record { state = x; wakes = wakes })
 turned_open a b c how far wakes x h t rest =
-    let s : Spoken a b c how far wakes = record { hears = h; tells = t } in
+    let s : Served a b c how far wakes = record { receives = h; sends = t } in
     record {
       talk = h.talk ++ t.talk;
       end = [];
@@ -183,12 +184,12 @@ turned_open a b c how far wakes x h t rest =
 
 -- ---- a turn that shuts its client
 
-out_still : (a c d : Seat) → d.conn ≡ c.conn → d.wire ≡ c.wire → IsWrittenOut a c 16 → IsWrittenOut a d 16
+out_still : (a c d : Snapshot) → d.conn ≡ c.conn → d.wire ≡ c.wire → IsWrittenOut a c 16 → IsWrittenOut a d 16
 out_still a c d conn wire (all_written e) = all_written (ap (λ x. x.unwritten) conn ∙ e)
 out_still a c d conn wire (stopped made stop) = stopped (subst (λ (w : Wire). a.wire.writes < w.writes) (sym wire) made) (subst (λ (w : Wire). IsStop w.last_sent) (sym wire) stop)
 out_still a c d conn wire (spent e) = spent (ap (λ w. w.writes) wire ∙ e)
 
-moved_on : (a c d : Seat) (talk : List Moment) → d.conn ≡ c.conn → d.wire ≡ c.wire → MayShut a c talk → MayShut a d talk
+moved_on : (a c d : Snapshot) (talk : List Moment) → d.conn ≡ c.conn → d.wire ≡ c.wire → MayShut a c talk → MayShut a d talk
 moved_on a c d talk conn wire (spoilt next) = spoilt (subst (λ (x : Serving). IsNextOf (Some x) Spoilt) (ap (λ x. x.session) (sym conn)) next)
 moved_on a c d talk conn wire (unread e) = unread (ap (λ w. w.last_got) wire ∙ e)
 moved_on a c d talk conn wire (unsent e) = unsent (ap (λ w. w.last_sent) wire ∙ e)
@@ -199,16 +200,12 @@ moved_on a c d talk conn wire (ended h t) =
     (record { written = ap (λ x. x.unwritten) conn ∙ t.written; dry = subst (λ (n : ℕ). EndsDry n talk) (ap (λ x. x.session.client) (sym conn)) t.dry })
 
 one_more : (t : List Moment) (m : Moment) (home : ℕ) → touched (t ++ m ∷ []) home ≡ (touched t home || touches m.met m.event home)
-one_more t m home = touched-append t (m ∷ []) home ∙ ap (λ b. touched t home || b) (alone (touches m.met m.event home))
-  where
-    alone : (b : Bool) → (b || false) ≡ b
-    alone true = refl
-    alone false = refl
+one_more t m home = touched-append t (m ∷ []) home ∙ ap (λ b. touched t home || b) (or-false (touches m.met m.event home))
 
-pub turned_closed : (a b c d : Seat) (how : Heard) (far : Told) (wakes more : ℕ) (x : TurnState) → Hears a b how wakes → Tells b c far → MustShut c how far
+pub turned_closed : (a b c d : Snapshot) (how : ReceiveState) (far : SendState) (wakes more : ℕ) (x : TurnState) → Receives a b how wakes → Sends b c far → MustShut c how far
     → d.conn ≡ c.conn → d.wire ≡ c.wire → ClosesTo c d wakes more x → Turned a d (record { state = x; wakes = more })
 turned_closed a b c d how far wakes more state.Closed h t must conn wire closes =
-    let s : Spoken a b c how far wakes = record { hears = h; tells = t } in
+    let s : Served a b c how far wakes = record { receives = h; sends = t } in
     let talk : List Moment = h.talk ++ t.talk in
     let last : Moment = moment closes.0 (event.Shut c.conn.session.client) in
     record {
@@ -226,7 +223,7 @@ turned_closed a b c d how far wakes more state.Closed h t must conn wire closes 
           ∙ sym (one_more talk last home);
     }
 turned_closed a b c d how far wakes more state.Memory h t must conn wire closes =
-    let s : Spoken a b c how far wakes = record { hears = h; tells = t } in
+    let s : Served a b c how far wakes = record { receives = h; sends = t } in
     let talk : List Moment = h.talk ++ t.talk in
     record {
       talk = talk;
@@ -245,25 +242,25 @@ turned_closed a b c d how far wakes more state.Memory h t must conn wire closes 
 turned_closed a b c d how far wakes more state.Idle h t must conn wire closes = absurd closes
 turned_closed a b c d how far wakes more state.Again h t must conn wire closes = absurd closes
 
-pub closes_shut : (a b : Seat) (wakes more all : ℕ) → Made a b (event.Shut a.conn.session.client) more
+pub closes_shut : (a b : Snapshot) (wakes more all : ℕ) → Made a b (event.Shut a.conn.session.client) more
     → ((home : ℕ) → has_home all home ≡ (has_home wakes home || has_home more home)) → ClosesTo a b wakes all state.Closed
 closes_shut a b wakes more all m both = (m.met, m.went, λ home. both home ∙ ap (λ x. has_home wakes home || x) (m.wakes_are home))
 
 -- ---- what was decided
 
-pub must_shut : (c : Seat) (how : Heard) (far : Told) (last : Option Got) → last ≡ c.wire.last_got
-    → (far ≡ told.Finished) ⊎ ((far ≡ told.Fault) ⊎ ((how ≡ heard.Stop) ⊎ ((how ≡ heard.All) × (far ≡ told.All) × (last ≡ Some got.End)))) → MustShut c how far
+pub must_shut : (c : Snapshot) (how : ReceiveState) (far : SendState) (last : Option Got) → last ≡ c.wire.last_got
+    → (far ≡ send.Finished) ⊎ ((far ≡ send.Fault) ⊎ ((how ≡ receive.Stop) ⊎ ((how ≡ receive.All) × (far ≡ send.All) × (last ≡ Some got.End)))) → MustShut c how far
 must_shut c how far last same must =
-    subst (λ (o : Option Got). (far ≡ told.Finished) ⊎ ((far ≡ told.Fault) ⊎ ((how ≡ heard.Stop) ⊎ ((how ≡ heard.All) × (far ≡ told.All) × (o ≡ Some got.End))))) same must
+    subst (λ (o : Option Got). (far ≡ send.Finished) ⊎ ((far ≡ send.Fault) ⊎ ((how ≡ receive.Stop) ⊎ ((how ≡ receive.All) × (far ≡ send.All) × (o ≡ Some got.End))))) same must
 
-pub may_rest : (c : Seat) (how : Heard) (far : Told) (x : TurnState) (last : Option Got) → last ≡ c.wire.last_got
-    → (Some x ≡ Some state.Idle → (how ≡ heard.All) × ((far ≡ told.Later) ⊎ ((far ≡ told.All) × (last ≢ Some got.End))))
-    → (Some x ≡ Some state.Again → (how ≡ heard.Again) ⊎ (far ≡ told.Again))
-    → (Some x ≡ Some state.Memory → (how ≡ heard.Memory) ⊎ (far ≡ told.Memory))
+pub may_rest : (c : Snapshot) (how : ReceiveState) (far : SendState) (x : TurnState) (last : Option Got) → last ≡ c.wire.last_got
+    → (Some x ≡ Some state.Idle → (how ≡ receive.All) × ((far ≡ send.WouldBlock) ⊎ ((far ≡ send.All) × (last ≢ Some got.End))))
+    → (Some x ≡ Some state.Again → (how ≡ receive.Again) ⊎ (far ≡ send.Again))
+    → (Some x ≡ Some state.Memory → (how ≡ receive.Memory) ⊎ (far ≡ send.Memory))
     → (Some x ≢ Some state.Closed)
     → MayRest c how far x
 may_rest c how far state.Idle last same idle again memory closed =
-    subst (λ (o : Option Got). (how ≡ heard.All) × ((far ≡ told.Later) ⊎ ((far ≡ told.All) × (o ≢ Some got.End)))) same (idle refl)
+    subst (λ (o : Option Got). (how ≡ receive.All) × ((far ≡ send.WouldBlock) ⊎ ((far ≡ send.All) × (o ≢ Some got.End)))) same (idle refl)
 may_rest c how far state.Again last same idle again memory closed = again refl
 may_rest c how far state.Closed last same idle again memory closed = closed refl
 may_rest c how far state.Memory last same idle again memory closed = memory refl

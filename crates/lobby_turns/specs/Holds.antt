@@ -5,36 +5,47 @@ use Rattle.lobby_model.specs.State.{State}
 use Rattle.lobby_post.specs.Mask.{has_home}
 use Rattle.lobby_post.specs.Mail.{IsWakes}
 use Rattle.lobby_machine.specs.Shown.{unread_of}
-use Rattle.lobby_lock.specs.History.{after_history}
+use Rattle.lobby_lock.specs.History.{after_history, made_by, Begins}
+use Rattle.lobby_lock.specs.Rule.{seen_by}
 use Rattle.lobby_lock.specs.Passes.{ShownPass, ShownHold, lobby_after}
 use Rattle.client_session.specs.Serving.{Serving}
 use Rattle.client_session.specs.OneSession.{HasLineNext}
 use Rattle.lobby_turns.specs.declared.holds.Said.{Said}
 use Rattle.lobby_turns.specs.declared.holds.Piece.{Piece}
 use Rattle.lobby_turns.specs.Moments.{Moment, moment, requests, drained_for, touched, told_end}
-use Rattle.lobby_turns.specs.Seat.{Seat}
+use Rattle.lobby_turns.specs.Snapshot.{Snapshot}
 use Rattle.lobby_turns.specs.Talk.{AreDrains, AreTalk, EndsDry}
 use Rattle.lobby_turns.specs.Went.{Joined, Went}
+
+-- What it is where it begins: its worker has seen a longer history, in which the events under the worker's number are those that it made,
+-- and no others; its lobby is the plain lobby after that history, and it has no event
+pub record IsTaken (pass : ShownPass) (held : ShownHold) : Type 0 where
+  pub pass_is : held.pass ≡ record pass { worker = seen_by pass.worker held.pass.worker.seen }
+  pub later : Begins pass.worker.seen held.pass.worker.seen
+  pub own : made_by pass.worker.number held.pass.worker.seen ≡ pass.worker.mine
+  pub known : made_by pass.worker.number pass.worker.seen ≡ pass.worker.mine
+  pub stands : held.lobby.plain ≡ after_history pass.start held.pass.worker.seen
+  pub fresh : held.events ≡ []
 
 -- its lobby is the plain lobby after what its worker has seen and its events so far
 abbrev pub Stands : ShownHold → Type 0
 Stands held = held.lobby.plain ≡ lobby_after held.pass held.events
 
 -- it made this event, which touched the clients of these workers
-pub record Made (old new : Seat) (e : Event) (wakes : ℕ) : Type 0 where
+pub record Made (old new : Snapshot) (e : Event) (wakes : ℕ) : Type 0 where
   pub met : State
   pub went : Went old new (moment met e ∷ [])
   pub wakes_are : IsWakes met e wakes
 
--- so many lines of client c were told the lobby, and they touched the clients of these workers
+-- so many lines of client c were said to the lobby, and they touched the clients of these workers
 pub record AreSaid (c : ℕ) (talk : List Moment) (lines wakes : ℕ) : Type 0 where
   pub own : AreTalk c talk
   pub calm : told_end talk ≡ false
   pub lines_are : length (requests talk) ≡ lines
   pub wakes_are : (home : ℕ) → has_home wakes home ≡ touched talk home
 
--- it told the lobby so many of the next lines
-pub record SaysLines (old new : Seat) (lines wakes : ℕ) : Type 0 where
+-- it said so many of the next lines to the lobby
+pub record SaysLines (old new : Snapshot) (lines wakes : ℕ) : Type 0 where
   pub talk : List Moment
   pub went : Went old new talk
   pub said : AreSaid old.conn.session.client talk lines wakes
@@ -48,7 +59,7 @@ abbrev pub StaysNext : Serving → Said → Type 0
 StaysNext session said = said.refused ≡ true → HasLineNext session
 
 -- it drained for its client: whether nothing will ever come of it; where it is dry, the last drain asked for some bytes and gave none
-pub record Drains (old new : Seat) (finished dry : Bool) : Type 0 where
+pub record Drains (old new : Snapshot) (finished dry : Bool) : Type 0 where
   pub talk : List Moment
   pub went : Went old new talk
   pub own : AreDrains old.conn.session.client talk

@@ -23,7 +23,7 @@ moments number s [] = []
 moments number s (e ∷ history) =
     if e.0 == number then moment s e.1 ∷ moments number (next s e.1) history else moments number (next s e.1) history
 
--- the requests that were told the lobby
+-- the requests that were said to the lobby
 abbrev pub asked : Event → List Request
 asked (event.Say c request) = request ∷ []
 asked (event.Open ip home) = []

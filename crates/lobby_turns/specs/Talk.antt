@@ -13,7 +13,7 @@ IsDrain c (event.Say d request) = ⊥
 IsDrain c (event.Open ip home) = ⊥
 IsDrain c (event.Shut d) = ⊥
 
--- it tells the lobby a request of client c, or drains bytes for it
+-- it says a request of client c to the lobby, or drains bytes for it
 abbrev pub IsTalk : ℕ → Event → Type 0
 IsTalk c (event.Say d request) = d ≡ c
 IsTalk c (event.Drain d n) = d ≡ c

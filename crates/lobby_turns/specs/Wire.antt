@@ -12,14 +12,14 @@ pub record Wire : Type 0 where
   pub reads : ℕ
   pub writes : ℕ
   pub failures : ℕ
-  pub heard : Option (List ℕ)
-  pub told : Option (List ℕ)
+  pub read : Option (List ℕ)
+  pub written : Option (List ℕ)
   pub last_got : Option Got
   pub last_sent : Option Sent
 
 -- no call was made
 abbrev pub untouched : Wire
-untouched = record { reads = 0; writes = 0; failures = 0; heard = Some []; told = Some []; last_got = None; last_sent = None }
+untouched = record { reads = 0; writes = 0; failures = 0; read = Some []; written = Some []; last_got = None; last_sent = None }
 
 -- how many bytes a read gave
 abbrev pub got_count : Got → ℕ
@@ -34,9 +34,9 @@ sent_count (sent.Took n) = n
 sent_count sent.Later = 0
 sent_count sent.Fault = 0
 
--- bytes and some more behind them, where they are told
+-- bytes and some more behind them, where they are written
 abbrev pub and_more : Option (List ℕ) → List ℕ → Option (List ℕ)
-and_more told more = option_map (λ bytes. bytes ++ more) told
+and_more written more = option_map (λ bytes. bytes ++ more) written
 
 -- each count may rise by one
 pub record MayGoOn (wire : Wire) : Type 0 where

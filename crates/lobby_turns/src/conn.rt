@@ -5,7 +5,7 @@ ghost use Rattle.lobby_lock.specs.Passes.{ShownPass};
 ghost use Rattle.client_session.specs.OneSession.{Accepted, HasLineNext, IsNextOf};
 ghost use Rattle.client_session.specs.Sessions.{Heard, KeepsKinds};
 ghost use Rattle.lobby_turns.specs.Wire.{Wire, MayGoOn, got_count};
-ghost use Rattle.lobby_turns.specs.Seat.{seat, Carries};
+ghost use Rattle.lobby_turns.specs.Snapshot.{snapshot, Carries};
 ghost use Rattle.lobby_turns.specs.Went.{Went};
 
 use crate::gate::Gate;
@@ -15,7 +15,8 @@ use line_framer::FeedError;
 use std::alloc::{AllocError, Global};
 use std::marker::Model;
 
-/// The most bytes that one read or one drain moves.
+/// The most bytes that one read or one drain moves: a page. A buffer of so many is made for each, so it is small enough to be had
+/// where memory is short, and nearly all that a client sends at once fits.
 pub const PIECE: usize = 4_096;
 
 /// The connection of one client: its session, and the bytes that are on their way. Contracts see
@@ -33,7 +34,7 @@ pub struct Conn {
 
 impl Model for Conn {
     ghost use Rattle.std.specs.Prelude.{◌≡◌, ◌≤◌, drop, vec_len, vec_capacity};
-    ghost use Rattle.lobby_turns.specs.Seat.{Carried};
+    ghost use Rattle.lobby_turns.specs.Snapshot.{Carried};
 
     ghost Value = { Carried };
 
@@ -46,7 +47,7 @@ impl Conn {
     /// The connection of a client from which nothing came yet. It takes no memory.
     pub fn new(alloc: Global, client: u64) -> Conn
         ensures client { result.session.client ≡ client }
-        ensures nothing { (wire : Wire) (pass : ShownPass) → wire.heard ≡ Some [] → wire.told ≡ Some [] → Carries (seat result wire pass) [] 0 [] }
+        ensures nothing { (wire : Wire) (pass : ShownPass) → wire.read ≡ Some [] → wire.written ≡ Some [] → Carries (snapshot result wire pass) [] 0 [] }
         ensures unfed { result.unfed ≡ [] }
         ensures unwritten { result.unwritten ≡ [] }
     {
@@ -117,7 +118,7 @@ impl Conn {
 
     /// Feeds what was read and not yet fed. Where memory is refused, nothing changes.
     pub(crate) fn feed(&mut self) -> Result<(), AllocError>
-        ensures went { OnOk result ((wire : Wire) (pass : ShownPass) → Went (seat self.old wire pass) (seat self.new wire pass) []) }
+        ensures went { OnOk result ((wire : Wire) (pass : ShownPass) → Went (snapshot self.old wire pass) (snapshot self.new wire pass) []) }
         ensures fed { OnOk result (self.new.unfed ≡ []) }
         ensures unwritten { self.new.unwritten ≡ self.old.unwritten }
         ensures err { OnErr result ((self.new ≡ self.old) × (self.old.unfed ≢ [])) }
@@ -134,7 +135,7 @@ impl Conn {
     pub(crate) fn read<L: Link>(&mut self, link: &mut L) -> Result<Got, AllocError>
         requires fed { self.old.unfed ≡ [] }
         requires wire { MayGoOn (L.wire link.old) }
-        ensures went { (pass : ShownPass) → Went (seat self.old (L.wire link.old) pass) (seat self.new (L.wire link.new) pass) [] }
+        ensures went { (pass : ShownPass) → Went (snapshot self.old (L.wire link.old) pass) (snapshot self.new (L.wire link.new) pass) [] }
         ensures session { self.new.session ≡ self.old.session }
         ensures unwritten { self.new.unwritten ≡ self.old.unwritten }
         ensures none { IfOk result (λ got. got_count got ≡ 0 → self.new ≡ self.old) }
@@ -158,7 +159,7 @@ impl Conn {
     /// Writes what was drained and not yet written, as much of it as the link takes now.
     pub(crate) fn write<L: Link, G: Gate>(&mut self, link: &mut L, gate: &G, worker: u64) -> Sent
         requires { MayGoOn (L.wire link.old) }
-        ensures went { (pass : ShownPass) → Went (seat self.old (L.wire link.old) pass) (seat self.new (L.wire link.new) pass) [] }
+        ensures went { (pass : ShownPass) → Went (snapshot self.old (L.wire link.old) pass) (snapshot self.new (L.wire link.new) pass) [] }
         ensures session { self.new.session ≡ self.old.session }
         ensures unfed { self.new.unfed ≡ self.old.unfed }
         ensures reads { (L.wire link.new).reads ≡ (L.wire link.old).reads }

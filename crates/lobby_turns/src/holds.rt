@@ -1,5 +1,6 @@
 //! The holds of a turn. Each says the next lines, or drains, or shuts the client, and no link is read
-//! or written in it.
+//! or written in it. A hold has place for 32 events (`MOST_EVENTS`): so many lines of a burst cost one take and one give, and who
+//! waits for the lobby waits for no more of them.
 
 ghost use Rattle.std.specs.Prelude.{◌≡◌, ◌+◌, ◌<◌, ◌≤◌, [], length, vec_len, vec_capacity, OnErr, IfOk, IfSome, IsTrue, Some, None, false};
 ghost use Rattle.command_grammar.specs.Kinds.{keeps_kinds};
@@ -8,12 +9,13 @@ ghost use Rattle.lobby_lock.specs.Passes.{pass_after};
 ghost use Rattle.client_session.specs.declared.session.Next.TheVariants.{Line};
 ghost use Rattle.client_session.specs.OneSession.{IsNextOf, HasLineNext};
 ghost use Rattle.lobby_turns.specs.Wire.{Wire};
-ghost use Rattle.lobby_turns.specs.Seat.{seat};
+ghost use Rattle.lobby_turns.specs.Snapshot.{snapshot};
 ghost use Rattle.lobby_turns.specs.Went.{Went};
 ghost use Rattle.lobby_turns.specs.Holds.{Stands, Made, SaysLines, IsWithin, StaysNext, Drains, DrainedInto, DrainedBehind, LetsGo};
 
 use crate::conn::{Conn, PIECE};
 use crate::gate::Gate;
+use crate::gated_desk::GatedDesk;
 use client_session::Next;
 use command_grammar::Request;
 use lobby_lock::{Desk, Held, MOST_EVENTS, Pass};
@@ -21,13 +23,14 @@ use lobby_machine::Wakes;
 use std::alloc::AllocError;
 use std::sync::Wait;
 
-/// The most pieces that one hold drains for a client: 16 KiB, which one write carries.
+/// The most pieces that one hold drains for a client: 16 KiB, which one write carries. With one piece a hold half of the server's
+/// time went into its calls of the system where much was to be sent, and with four a third of that is saved.
 const PIECES: usize = 4;
 
 /// What was said in a hold.
 #[derive(Clone, Copy)]
 pub(crate) struct Said {
-    /// How many lines were told the lobby.
+    /// How many lines were said to the lobby.
     pub(crate) lines: usize,
     /// The workers whose clients they touched.
     pub(crate) wakes: Wakes,
@@ -46,14 +49,14 @@ pub(crate) struct Piece {
     pub(crate) dry: bool,
 }
 
-/// Tells the lobby what the next line asks for, in a hold that goes on, and accepts the line. Contracts
+/// Says to the lobby what the next line asks for, in a hold that goes on, and accepts the line. Contracts
 /// see the hold as the pass that it would leave if it were given back now.
 fn say_line(conn: &mut Conn, held: &mut Held, request: Request) -> Result<Wakes, AllocError>
     requires few { length held.old.events < MOST_EVENTS }
     requires stands { Stands held.old }
     requires kinds { IsTrue (keeps_kinds request.command) }
     requires next { IsNextOf (Some conn.old.session) (Line request) }
-    ensures ok { IfOk result (λ wakes. (wire : Wire) → Made (seat conn.old wire (pass_after held.old)) (seat conn.new wire (pass_after held.new)) (event.Say conn.old.session.client request) wakes) }
+    ensures ok { IfOk result (λ wakes. (wire : Wire) → Made (snapshot conn.old wire (pass_after held.old)) (snapshot conn.new wire (pass_after held.new)) (event.Say conn.old.session.client request) wakes) }
     ensures err { OnErr result ((conn.new ≡ conn.old) × (held.new ≡ held.old)) }
     ensures pass { held.new.pass ≡ held.old.pass }
 {
@@ -66,9 +69,9 @@ fn say_line(conn: &mut Conn, held: &mut Held, request: Request) -> Result<Wakes,
     }
 }
 
-/// Reads the next line and tells it the lobby, where one is there and the hold has place for it.
+/// Reads the next line and says it to the lobby, where one is there and the hold has place for it.
 fn say_next(conn: &mut Conn, held: &mut Held) -> Result<Option<Wakes>, AllocError>
-    ensures says { IfOk result (λ said. IfSome said (λ wakes. (wire : Wire) → SaysLines (seat conn.old wire (pass_after held.old)) (seat conn.new wire (pass_after held.new)) 1 wakes)) }
+    ensures says { IfOk result (λ said. IfSome said (λ wakes. (wire : Wire) → SaysLines (snapshot conn.old wire (pass_after held.old)) (snapshot conn.new wire (pass_after held.new)) 1 wakes)) }
     ensures none { IfOk result (λ said. said ≡ None → (conn.new ≡ conn.old) × (held.new ≡ held.old)) }
     ensures err { OnErr result ((conn.new ≡ conn.old) × (held.new ≡ held.old)) }
     ensures line { OnErr result (HasLineNext conn.new.session) }
@@ -87,14 +90,14 @@ fn say_next(conn: &mut Conn, held: &mut Held) -> Result<Option<Wakes>, AllocErro
     }
 }
 
-/// Tells the lobby the next lines in a hold that goes on, of which the first was read as this request.
+/// Says the next lines to the lobby in a hold that goes on, of which the first was read as this request.
 fn say_lines(conn: &mut Conn, held: &mut Held, request: Request, most: usize) -> Said
     requires few { length held.old.events < MOST_EVENTS }
     requires stands { Stands held.old }
     requires kinds { IsTrue (keeps_kinds request.command) }
     requires next { IsNextOf (Some conn.old.session) (Line request) }
     requires some { 1 ≤ most }
-    ensures says { (wire : Wire) → SaysLines (seat conn.old wire (pass_after held.old)) (seat conn.new wire (pass_after held.new)) result.lines result.wakes }
+    ensures says { (wire : Wire) → SaysLines (snapshot conn.old wire (pass_after held.old)) (snapshot conn.new wire (pass_after held.new)) result.lines result.wakes }
     ensures within { IsWithin most result }
     ensures stays { StaysNext conn.new.session result }
     ensures pass { held.new.pass ≡ held.old.pass }
@@ -135,29 +138,27 @@ fn say_lines(conn: &mut Conn, held: &mut Held, request: Request, most: usize) ->
     }
 }
 
-/// Tells the lobby the next lines in one hold, so many at most, of which the first was read as this
+/// Says the next lines to the lobby in one hold, so many at most, of which the first was read as this
 /// request. The others are read in the hold.
 pub(crate) fn say<R: Wait, G: Gate>(
     rt: &R,
     conn: &mut Conn,
-    desk: &Desk,
+    desk: &GatedDesk<'_, G>,
     pass: Pass,
-    gate: &G,
     request: Request,
     most: usize,
 ) -> (Pass, Said)
-    requires desk { pass.desk ≡ desk.now }
+    requires desk { pass.desk ≡ desk.now.desk.now }
     requires kinds { IsTrue (keeps_kinds request.command) }
     requires next { IsNextOf (Some conn.old.session) (Line request) }
     requires some { 1 ≤ most }
-    ensures says { (wire : Wire) → SaysLines (seat conn.old wire pass) (seat conn.new wire result.0) result.1.lines result.1.wakes }
+    ensures says { (wire : Wire) → SaysLines (snapshot conn.old wire pass) (snapshot conn.new wire result.0) result.1.lines result.1.wakes }
     ensures within { IsWithin most result.1 }
     ensures stays { StaysNext conn.new.session result.1 }
 {
-    gate.before_take(pass.number());
     let mut held = desk.take(rt, pass);
     let said = say_lines(conn, &mut held, request, most);
-    (held.give(rt, desk), said)
+    (held.give(rt, desk.desk), said)
 }
 
 /// Drains into a slice, in a hold that goes on.
@@ -178,7 +179,7 @@ fn drain_once(held: &mut Held, client: u64, into: &mut [u8]) -> Piece
 }
 
 /// Drains into a slice, in a hold that goes on, and where less came than it has room for, once more
-/// into the rest of it: a client that has been told everything is known by a drain that gives nothing.
+/// into the rest of it: that a client has been told everything is known by a drain that gives nothing.
 fn drain_all(held: &mut Held, client: u64, into: &mut [u8]) -> Piece
     requires few { length held.old.events + 2 ≤ MOST_EVENTS }
     requires stands { Stands held.old }
@@ -240,31 +241,28 @@ fn drain_pieces(held: &mut Held, client: u64, unwritten: &mut Vec<u8>) -> Piece
 fn drain_into<R: Wait, G: Gate>(
     rt: &R,
     client: u64,
-    desk: &Desk,
+    desk: &GatedDesk<'_, G>,
     pass: Pass,
-    gate: &G,
     into: &mut [u8],
 ) -> (Pass, Piece)
-    requires { pass.desk ≡ desk.now }
+    requires { pass.desk ≡ desk.now.desk.now }
     ensures { DrainedInto pass result.0 client (length into.old) into.new result.1 }
 {
-    gate.before_take(pass.number());
     let mut held = desk.take(rt, pass);
     let piece = drain_all(&mut held, client, into);
-    (held.give(rt, desk), piece)
+    (held.give(rt, desk.desk), piece)
 }
 
 /// Drains what one write carries for the client, in a hold. All that was drained before was written.
 pub(crate) fn drain<R: Wait, G: Gate>(
     rt: &R,
     conn: &mut Conn,
-    desk: &Desk,
+    desk: &GatedDesk<'_, G>,
     pass: Pass,
-    gate: &G,
 ) -> (Pass, Result<Piece, AllocError>)
-    requires desk { pass.desk ≡ desk.now }
+    requires desk { pass.desk ≡ desk.now.desk.now }
     requires written { conn.old.unwritten ≡ [] }
-    ensures ok { IfOk result.1 (λ piece. (wire : Wire) → Drains (seat conn.old wire pass) (seat conn.new wire result.0) piece.finished piece.dry) }
+    ensures ok { IfOk result.1 (λ piece. (wire : Wire) → Drains (snapshot conn.old wire pass) (snapshot conn.new wire result.0) piece.finished piece.dry) }
     ensures session { conn.new.session ≡ conn.old.session }
     ensures unfed { conn.new.unfed ≡ conn.old.unfed }
     ensures err { OnErr result.1 ((conn.new ≡ conn.old) × (result.0 ≡ pass)) }
@@ -272,10 +270,9 @@ pub(crate) fn drain<R: Wait, G: Gate>(
     let Ok(mut unwritten) = Vec::with_capacity(conn.alloc, PIECE) else {
         return (pass, Err(AllocError));
     };
-    gate.before_take(pass.number());
     let mut held = desk.take(rt, pass);
     let piece = drain_pieces(&mut held, conn.client(), &mut unwritten);
-    let pass = held.give(rt, desk);
+    let pass = held.give(rt, desk.desk);
     conn.set_drained(unwritten);
     (pass, Ok(piece))
 }
@@ -284,18 +281,17 @@ pub(crate) fn drain<R: Wait, G: Gate>(
 pub(crate) fn is_finished<R: Wait, G: Gate>(
     rt: &R,
     conn: &Conn,
-    desk: &Desk,
+    desk: &GatedDesk<'_, G>,
     pass: Pass,
-    gate: &G,
 ) -> (Pass, bool)
-    requires { pass.desk ≡ desk.now }
-    ensures { (wire : Wire) → Drains (seat conn.now wire pass) (seat conn.now wire result.0) result.1 false }
+    requires { pass.desk ≡ desk.now.desk.now }
+    ensures { (wire : Wire) → Drains (snapshot conn.now wire pass) (snapshot conn.now wire result.0) result.1 false }
 {
-    let (pass, piece) = drain_into(rt, conn.client(), desk, pass, gate, &mut []);
+    let (pass, piece) = drain_into(rt, conn.client(), desk, pass, &mut []);
     (pass, piece.finished)
 }
 
-/// The most pieces that are let go at once, 4 MiB in all.
+/// The most pieces that are let go at once, 4 MiB in all: as much as waits for a client at most where no other limit is set.
 const PIECES_LET_GO: usize = 1_024;
 
 /// Lets go what waits unread for a client: all of it, or 4 MiB where there is more. It takes no memory. It is for a client whose link
@@ -306,10 +302,11 @@ pub fn let_go<R: Wait, G: Gate>(rt: &R, conn: &Conn, desk: &Desk, pass: Pass, ga
     ensures desk { result.desk ≡ pass.desk }
     ensures number { result.worker.number ≡ pass.worker.number }
 {
+    let gated = GatedDesk { desk, gate };
     let mut pass = pass;
     for _ in 0..PIECES_LET_GO {
         let mut piece = [0u8; PIECE];
-        let (next, drained) = drain_into(rt, conn.client(), desk, pass, gate, &mut piece);
+        let (next, drained) = drain_into(rt, conn.client(), &gated, pass, &mut piece);
         pass = next;
         if drained.count < PIECE {
             return pass;
@@ -319,21 +316,19 @@ pub fn let_go<R: Wait, G: Gate>(rt: &R, conn: &Conn, desk: &Desk, pass: Pass, ga
 }
 
 /// Shuts the client.
-pub fn shut<R: Wait, G: Gate>(
+pub(crate) fn shut<R: Wait, G: Gate>(
     rt: &R,
     conn: &Conn,
-    desk: &Desk,
+    desk: &GatedDesk<'_, G>,
     pass: Pass,
-    gate: &G,
 ) -> (Pass, Result<Wakes, AllocError>)
-    requires { pass.desk ≡ desk.now }
-    ensures ok { IfOk result.1 (λ wakes. (wire : Wire) → Made (seat conn.now wire pass) (seat conn.now wire result.0) (event.Shut conn.now.session.client) wakes) }
-    ensures err { OnErr result.1 ((wire : Wire) → Went (seat conn.now wire pass) (seat conn.now wire result.0) []) }
+    requires { pass.desk ≡ desk.now.desk.now }
+    ensures ok { IfOk result.1 (λ wakes. (wire : Wire) → Made (snapshot conn.now wire pass) (snapshot conn.now wire result.0) (event.Shut conn.now.session.client) wakes) }
+    ensures err { OnErr result.1 ((wire : Wire) → Went (snapshot conn.now wire pass) (snapshot conn.now wire result.0) []) }
 {
-    gate.before_take(pass.number());
     let mut held = desk.take(rt, pass);
     let shut = held.shut(conn.client());
-    let pass = held.give(rt, desk);
+    let pass = held.give(rt, desk.desk);
     match shut {
         Ok(wakes) => (pass, Ok(wakes)),
         Err(error) => (pass, Err(error)),

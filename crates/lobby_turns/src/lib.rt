@@ -1,26 +1,25 @@
 //! A connection's turn: what comes over a client's link is fed to its session, whole lines become events of the lobby, and what
 //! the lobby has for the client is written.
 //!
-//! A worker serves a connection in turns ([`serve`]). A turn hears the client (`hearing`) and then
-//! tells it (`telling`). A hold says up to 32 lines, or drains up to four pieces (`holds`). It works over any
+//! A worker serves a connection in turns ([`serve`]). A turn receives from the client (`receiving`) and then
+//! sends to it (`sending`). A hold says up to 32 lines, or drains up to four pieces (`holds`). It works over any
 //! [`Link`], and its contract (`specs/Turned.antt`) speaks of all bytes that the link tells: none is
 //! lost, doubled or out of its order, whatever the link does.
 #![tactic(auto)]
 
 mod conn;
 mod gate;
-mod hearing;
+mod gated_desk;
 mod holds;
 mod link;
-mod memory;
+mod receiving;
+mod sending;
 mod serving;
-mod telling;
 mod turn;
 
 pub use conn::{Conn, PIECE};
 pub use gate::Gate;
-pub use holds::{let_go, shut};
+pub use holds::let_go;
 pub use link::{Got, Link, Sent};
-pub use memory::MemoryLink;
-pub use serving::serve;
+pub use serving::{close, serve};
 pub use turn::{Turn, TurnState};

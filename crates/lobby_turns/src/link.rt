@@ -38,8 +38,8 @@ pub trait Link {
     fn read(&mut self, into: &mut [u8]) -> Got
         requires { MayGoOn (wire self.old) }
         ensures within { got_count result ≤ length into.old }
-        ensures heard { (wire self.new).heard ≡ and_more (wire self.old).heard (take (got_count result) into.new) }
-        ensures told { (wire self.new).told ≡ (wire self.old).told }
+        ensures read { (wire self.new).read ≡ and_more (wire self.old).read (take (got_count result) into.new) }
+        ensures written { (wire self.new).written ≡ (wire self.old).written }
         ensures reads { (wire self.new).reads ≡ (wire self.old).reads + 1 }
         ensures writes { (wire self.new).writes ≡ (wire self.old).writes }
         ensures failures { ((wire self.old).failures ≤ (wire self.new).failures) × ((wire self.new).failures ≤ (wire self.old).failures + 1) }
@@ -51,8 +51,8 @@ pub trait Link {
     fn write(&mut self, from: &[u8]) -> Sent
         requires { MayGoOn (wire self.old) }
         ensures within { sent_count result ≤ length from.now }
-        ensures told { (wire self.new).told ≡ and_more (wire self.old).told (take (sent_count result) from.now) }
-        ensures heard { (wire self.new).heard ≡ (wire self.old).heard }
+        ensures written { (wire self.new).written ≡ and_more (wire self.old).written (take (sent_count result) from.now) }
+        ensures read { (wire self.new).read ≡ (wire self.old).read }
         ensures writes { (wire self.new).writes ≡ (wire self.old).writes + 1 }
         ensures reads { (wire self.new).reads ≡ (wire self.old).reads }
         ensures failures { ((wire self.old).failures ≤ (wire self.new).failures) × ((wire self.new).failures ≤ (wire self.old).failures + 1) }

@@ -2,35 +2,35 @@
 
 ghost use Rattle.std.specs.Prelude.{◌≡◌, ◌≢◌, ◌⊎◌, Some, None};
 ghost use Rattle.lobby_turns.specs.Wire.{Wire, IsFresh};
-ghost use Rattle.lobby_turns.specs.Seat.{seat};
+ghost use Rattle.lobby_turns.specs.Snapshot.{snapshot};
 ghost use Rattle.lobby_turns.specs.Turned.{Turned, Closes};
 
 use crate::conn::Conn;
 use crate::gate::Gate;
-use crate::hearing::{Heard, hear};
+use crate::gated_desk::GatedDesk;
 use crate::holds;
 use crate::link::{Got, Link};
-use crate::telling::{Told, tell};
+use crate::receiving::{ReceiveState, receive};
+use crate::sending::{SendState, send};
 use crate::turn::{Turn, TurnState};
 use lobby_lock::{Desk, Pass};
 use lobby_machine::Wakes;
 use std::sync::Wait;
 
-/// The state that a turn ends in, by how far its client was heard and told. None where the client is
-/// to be shut.
-fn state_of(last_got: Option<Got>, heard: Heard, told: Told) -> Option<TurnState>
-    ensures shut { result ≡ None → (told ≡ Told.Finished) ⊎ ((told ≡ Told.Fault) ⊎ ((heard ≡ Heard.Stop) ⊎ ((heard ≡ Heard.All) × (told ≡ Told.All) × (last_got ≡ Some Got.End)))) }
-    ensures idle { result ≡ Some TurnState.Idle → (heard ≡ Heard.All) × ((told ≡ Told.Later) ⊎ ((told ≡ Told.All) × (last_got ≢ Some Got.End))) }
-    ensures again { result ≡ Some TurnState.Again → (heard ≡ Heard.Again) ⊎ (told ≡ Told.Again) }
-    ensures memory { result ≡ Some TurnState.Memory → (heard ≡ Heard.Memory) ⊎ (told ≡ Told.Memory) }
+/// The state that a turn ends in, by how far it received and sent. None where the client is to be shut.
+fn state_of(last_got: Option<Got>, received: ReceiveState, sent: SendState) -> Option<TurnState>
+    ensures shut { result ≡ None → (sent ≡ SendState.Finished) ⊎ ((sent ≡ SendState.Fault) ⊎ ((received ≡ ReceiveState.Stop) ⊎ ((received ≡ ReceiveState.All) × (sent ≡ SendState.All) × (last_got ≡ Some Got.End)))) }
+    ensures idle { result ≡ Some TurnState.Idle → (received ≡ ReceiveState.All) × ((sent ≡ SendState.WouldBlock) ⊎ ((sent ≡ SendState.All) × (last_got ≢ Some Got.End))) }
+    ensures again { result ≡ Some TurnState.Again → (received ≡ ReceiveState.Again) ⊎ (sent ≡ SendState.Again) }
+    ensures memory { result ≡ Some TurnState.Memory → (received ≡ ReceiveState.Memory) ⊎ (sent ≡ SendState.Memory) }
     ensures closed { result ≢ Some TurnState.Closed }
 {
-    match (heard, told) {
-        (Heard::Stop, _) | (_, Told::Finished) | (_, Told::Fault) => None,
-        (Heard::Memory, _) | (_, Told::Memory) => Some(TurnState::Memory),
-        (Heard::Again, _) | (_, Told::Again) => Some(TurnState::Again),
-        (Heard::All, Told::Later) => Some(TurnState::Idle),
-        (Heard::All, Told::All) => match last_got {
+    match (received, sent) {
+        (ReceiveState::Stop, _) | (_, SendState::Finished) | (_, SendState::Fault) => None,
+        (ReceiveState::Memory, _) | (_, SendState::Memory) => Some(TurnState::Memory),
+        (ReceiveState::Again, _) | (_, SendState::Again) => Some(TurnState::Again),
+        (ReceiveState::All, SendState::WouldBlock) => Some(TurnState::Idle),
+        (ReceiveState::All, SendState::All) => match last_got {
             Some(Got::End) => None,
             Some(Got::Bytes(_)) | Some(Got::Later) | Some(Got::Fault) | None => {
                 Some(TurnState::Idle)
@@ -39,8 +39,9 @@ fn state_of(last_got: Option<Got>, heard: Heard, told: Told) -> Option<TurnState
     }
 }
 
-/// Shuts the client. Where memory is refused, it is not shut.
-fn close<R: Wait, G: Gate>(
+/// Shuts the client of a connection, in a hold of its own. The state is `Closed`, and the workers whose clients that touched are to
+/// be woken besides these. Where memory is refused, the client is not shut, and the state is `Memory`.
+pub fn close<R: Wait, G: Gate>(
     rt: &R,
     conn: &Conn,
     desk: &Desk,
@@ -49,9 +50,12 @@ fn close<R: Wait, G: Gate>(
     wakes: Wakes,
 ) -> (Pass, Turn)
     requires { pass.desk ≡ desk.now }
-    ensures { (wire : Wire) → Closes (seat conn.now wire pass) (seat conn.now wire result.0) wakes result.1 }
+    ensures closes { (wire : Wire) → Closes (snapshot conn.now wire pass) (snapshot conn.now wire result.0) wakes result.1 }
+    ensures desk { result.0.desk ≡ pass.desk }
+    ensures number { result.0.worker.number ≡ pass.worker.number }
 {
-    let (pass, shut) = holds::shut(rt, conn, desk, pass, gate);
+    let gated = GatedDesk { desk, gate };
+    let (pass, shut) = holds::shut(rt, conn, &gated, pass);
     match shut {
         Ok(more) => {
             let turn = Turn {
@@ -70,7 +74,7 @@ fn close<R: Wait, G: Gate>(
     }
 }
 
-/// Serves a connection for one turn: its lines are told the lobby, up to 32 in a hold, and its link is
+/// Serves a connection for one turn: its lines are said to the lobby, up to 32 in a hold, and its link is
 /// read where no whole line is left; then what the lobby has for its client is drained, up to four
 /// pieces of at most 4,096 bytes in a hold, and written. A hold whose piece is the last also sees that
 /// nothing is left. A turn makes at most 16 reads of as many bytes, 64 lines and 16 writes, and nothing in it
@@ -78,7 +82,7 @@ fn close<R: Wait, G: Gate>(
 ///
 /// The client is shut, as the last event of the turn, where its stream is spoilt at the place that is
 /// next, its link failed, the lobby said that nothing will ever come of it, or its link has ended and
-/// nothing is left to tell on either side.
+/// nothing is left to do on either side.
 pub fn serve<R: Wait, L: Link, G: Gate>(
     rt: &R,
     conn: &mut Conn,
@@ -89,13 +93,14 @@ pub fn serve<R: Wait, L: Link, G: Gate>(
 ) -> (Pass, Turn)
     requires desk { pass.desk ≡ desk.now }
     requires fresh { IsFresh (L.wire link.old) }
-    ensures turned { Turned (seat conn.old (L.wire link.old) pass) (seat conn.new (L.wire link.new) result.0) result.1 }
+    ensures turned { Turned (snapshot conn.old (L.wire link.old) pass) (snapshot conn.new (L.wire link.new) result.0) result.1 }
     ensures desk { result.0.desk ≡ pass.desk }
     ensures number { result.0.worker.number ≡ pass.worker.number }
 {
-    let (pass, heard, wakes) = hear(rt, conn, link, desk, pass, gate);
-    let (pass, told) = tell(rt, conn, link, desk, pass, gate);
-    match state_of(link.last_got(), heard, told) {
+    let gated = GatedDesk { desk, gate };
+    let (pass, received, wakes) = receive(rt, conn, link, &gated, pass);
+    let (pass, sent) = send(rt, conn, link, &gated, pass);
+    match state_of(link.last_got(), received, sent) {
         Some(state) => (pass, Turn { state, wakes }),
         None => close(rt, conn, desk, pass, gate, wakes),
     }

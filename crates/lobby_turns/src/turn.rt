@@ -20,6 +20,6 @@ pub enum TurnState {
 pub struct Turn {
     /// How the connection stands.
     pub state: TurnState,
-    /// The workers whose clients gained bytes or were cut by what this turn told the lobby.
+    /// The workers whose clients gained bytes or were cut by what this turn said to the lobby.
     pub wakes: Wakes,
 }

@@ -34,8 +34,8 @@ pub struct WireLink {
     failures: u64,
     last_got: Option<Got>,
     last_sent: Option<Sent>,
-    heard: Log<u8, ()>,
-    told: Log<u8, ()>,
+    read: Log<u8, ()>,
+    written: Log<u8, ()>,
 }
 
 impl WireLink {
@@ -50,8 +50,8 @@ impl WireLink {
             failures: 0,
             last_got: None,
             last_sent: None,
-            heard: Log::new(),
-            told: Log::new(),
+            read: Log::new(),
+            written: Log::new(),
         }
     }
 
@@ -142,13 +142,13 @@ impl Link for WireLink {
     ghost use Rattle.std.specs.Prelude.{Some};
     ghost use Rattle.wire_link.specs.Gathered.{gathered};
 
-    ghost wire = { λ l. record { reads = l.reads; writes = l.writes; failures = l.failures; heard = Some (gathered l.heard.items); told = Some (gathered l.told.items); last_got = l.last_got; last_sent = l.last_sent } };
+    ghost wire = { λ l. record { reads = l.reads; writes = l.writes; failures = l.failures; read = Some (gathered l.read.items); written = Some (gathered l.written.items); last_got = l.last_got; last_sent = l.last_sent } };
 
     fn read(&mut self, into: &mut [u8]) -> Got {
         self.reads += 1;
         let got = try_read(&mut self.stream, into);
         match got {
-            Got::Bytes(count) => note(&mut self.heard, &into[..count]),
+            Got::Bytes(count) => note(&mut self.read, &into[..count]),
             Got::Fault => self.failures += 1,
             Got::Later | Got::End => {}
         }
@@ -160,7 +160,7 @@ impl Link for WireLink {
         self.writes += 1;
         let sent = try_write(&mut self.stream, from);
         match sent {
-            Sent::Took(count) => note(&mut self.told, &from[..count]),
+            Sent::Took(count) => note(&mut self.written, &from[..count]),
             Sent::Fault => self.failures += 1,
             Sent::Later => {}
         }

@@ -12,13 +12,16 @@ use mio::{Interest, Registry, Token};
 use std::alloc::Global;
 use std::mem;
 
-/// The most connections that linger at once.
+/// The most connections that linger at once. Each keeps a file of the system, and one whose other side says nothing keeps it for
+/// good: so these are the most files that a worker loses to such.
 const MOST: usize = 64;
 
-/// The most bytes that are let go of one connection.
+/// The most bytes that are let go of one connection: more than what a client had on its way when it was shut, so that who goes on
+/// sends without end.
 const MOST_BYTES: usize = 1_048_576;
 
-/// The most reads of a turn.
+/// The most reads of a turn, as many as of a client that is served: 64 KiB, so that who sends without end does not keep its worker
+/// from the others.
 const READS: u32 = 16;
 
 /// The token of the first place, far above the keys of any table.

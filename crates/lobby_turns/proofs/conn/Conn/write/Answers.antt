@@ -1,7 +1,7 @@
 use Rattle.std.proofs.Common.{[], ◌++◌, take, drop, refl, sym, ap, ◌∙◌}
 use Rattle.std.proofs.lemmas.List.{take-append-drop}
 use Rattle.lobby_turns.specs.Wire.{and_more}
-use Rattle.lobby_turns.specs.Seat.{Carried}
+use Rattle.lobby_turns.specs.Snapshot.{Carried}
 use Rattle.lobby_turns.proofs.Parts.{went_written, nothing_sent}
 use Rattle.lobby_turns.proofs.conn.Conn.write.Goals as goal
 
@@ -16,11 +16,11 @@ returns-in-Took-clause-went g c = λ pass.
     (sym c.rest-rest.ensures
     ∙ sym (take-append-drop n rest)
     ∙ ap (λ l. take n rest ++ l) (ap (drop n) c.rest-rest.ensures ∙ sym (ap (λ (x : Carried). x.unwritten) new)))
-    c.in-Took.ensures.told
-    c.in-Took.ensures.heard
+    c.in-Took.ensures.written
+    c.in-Took.ensures.read
 
 pub returns-in_default-clause-went : goal.returns-in_default-clause-went
 returns-in_default-clause-went g c = λ pass.
     went_written c.args.self.now c.args.self.now _ _ pass [] refl refl refl
-    (c.write-sent.ensures.told ∙ ap (λ n. and_more (g.L.Link.wire c.args.link.now).told (take n c.rest-rest.result.now)) (nothing_sent c.write-sent.result c.in_default.not-Took))
-    c.write-sent.ensures.heard
+    (c.write-sent.ensures.written ∙ ap (λ n. and_more (g.L.Link.wire c.args.link.now).written (take n c.rest-rest.result.now)) (nothing_sent c.write-sent.result c.in_default.not-Took))
+    c.write-sent.ensures.read

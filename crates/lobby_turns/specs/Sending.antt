@@ -1,25 +1,25 @@
--- What telling a client did.
+-- What sending to a client did.
 use Rattle.std.specs.Prelude.{◌≡◌, ℕ, ◌+◌, ◌-◌, ◌^◌, ◌<◌, ◌≤◌, true, false, List, [], Option, Some, None}
 use Rattle.lobby_turns.specs.declared.link.Sent.{Sent}
 use Rattle.lobby_turns.specs.declared.link.Sent.TheVariants as sent
-use Rattle.lobby_turns.specs.declared.telling.Told.{Told}
-use Rattle.lobby_turns.specs.declared.telling.Told.TheVariants as told
-use Rattle.lobby_turns.specs.declared.telling.Step.{Step}
-use Rattle.lobby_turns.specs.declared.telling.Step.TheVariants as step
+use Rattle.lobby_turns.specs.declared.sending.SendState.{SendState}
+use Rattle.lobby_turns.specs.declared.sending.SendState.TheVariants as send
+use Rattle.lobby_turns.specs.declared.sending.Step.{Step}
+use Rattle.lobby_turns.specs.declared.sending.Step.TheVariants as step
 use Rattle.lobby_turns.specs.Wire.{Wire}
 use Rattle.lobby_turns.specs.Moments.{Moment, told_end}
-use Rattle.lobby_turns.specs.Seat.{Seat}
+use Rattle.lobby_turns.specs.Snapshot.{Snapshot}
 use Rattle.lobby_turns.specs.Talk.{AreDrains, EndsDry}
 use Rattle.lobby_turns.specs.Went.{Went}
 
 -- so many more writes may be made, each of which may fail
-pub record MayTell (wire : Wire) (writes : ℕ) : Type 0 where
+pub record MaySend (wire : Wire) (writes : ℕ) : Type 0 where
   pub reads_place : wire.reads < 2 ^ 64 - 1
   pub writes_place : wire.writes + writes ≤ 2 ^ 64 - 1
   pub failures_place : wire.failures + writes ≤ 2 ^ 64 - 1
 
--- So many writes were made and no read, and each failed at most once. What was heard is as it was
-pub record OnlyWrites (old new : Seat) (writes : ℕ) : Type 0 where
+-- So many writes were made and no read, and each failed at most once. What was received is as it was
+pub record OnlyWrites (old new : Snapshot) (writes : ℕ) : Type 0 where
   pub writes_are : new.wire.writes ≡ old.wire.writes + writes
   pub reads : new.wire.reads ≡ old.wire.reads
   pub failures : new.wire.failures ≤ old.wire.failures + writes
@@ -28,27 +28,27 @@ pub record OnlyWrites (old new : Seat) (writes : ℕ) : Type 0 where
   pub unfed : new.conn.unfed ≡ old.conn.unfed
 
 -- all that was drained was written, and the last piece gave nothing
-pub record IsAllTold (new : Seat) (talk : List Moment) : Type 0 where
+pub record IsAllSent (new : Snapshot) (talk : List Moment) : Type 0 where
   pub calm : told_end talk ≡ false
   pub written : new.conn.unwritten ≡ []
   pub dry : EndsDry new.conn.session.client talk
 
 -- the last write was made just now, and the link took nothing
-pub record MustWait (old new : Seat) (talk : List Moment) : Type 0 where
+pub record MustWait (old new : Snapshot) (talk : List Moment) : Type 0 where
   pub calm : told_end talk ≡ false
   pub last : new.wire.last_sent ≡ Some sent.Later
   pub made : old.wire.writes < new.wire.writes
 
 -- what a step did, in so many writes
-abbrev pub StepIs : Seat → Seat → List Moment → ℕ → Step → Type 0
+abbrev pub StepIs : Snapshot → Snapshot → List Moment → ℕ → Step → Type 0
 StepIs old new talk writes step.Wrote = (told_end talk ≡ false) × (writes ≡ 1)
-StepIs old new talk writes step.All = IsAllTold new talk
-StepIs old new talk writes step.Later = MustWait old new talk
+StepIs old new talk writes step.All = IsAllSent new talk
+StepIs old new talk writes step.WouldBlock = MustWait old new talk
 StepIs old new talk writes step.Finished = (told_end talk ≡ true) × (writes ≡ 0)
 StepIs old new talk writes step.Fault = new.wire.last_sent ≡ Some sent.Fault
-StepIs old new talk writes step.Memory = new.conn.unwritten ≡ []
+StepIs old new talk writes step.Memory = (talk ≡ []) × (writes ≡ 0) × (new.conn.unwritten ≡ [])
 
-pub record TellsNext (old new : Seat) (step : Step) : Type 0 where
+pub record SendsNext (old new : Snapshot) (step : Step) : Type 0 where
   pub talk : List Moment
   pub went : Went old new talk
   pub own : AreDrains old.conn.session.client talk
@@ -65,33 +65,33 @@ IsStop (Some sent.Later) = Unit {0}
 IsStop (Some sent.Fault) = Unit {0}
 
 -- all that was drained was written, or the last write was put off or failed, or so many were made
-pub data IsWrittenOut (old new : Seat) (most : ℕ) : Type 0 where
+pub data IsWrittenOut (old new : Snapshot) (most : ℕ) : Type 0 where
   all_written : new.conn.unwritten ≡ [] → IsWrittenOut old new most
   stopped : old.wire.writes < new.wire.writes → IsStop new.wire.last_sent → IsWrittenOut old new most
   spent : new.wire.writes ≡ old.wire.writes + most → IsWrittenOut old new most
 
 -- what was drained was written, without an event
-pub record Writes (old new : Seat) (most : ℕ) : Type 0 where
+pub record Writes (old new : Snapshot) (most : ℕ) : Type 0 where
   pub went : Went old new []
   pub writes : ℕ
   pub few : writes ≤ most
   pub only : OnlyWrites old new writes
   pub out : IsWrittenOut old new most
 
--- how far the client was told
-abbrev pub ToldIs : Seat → Seat → List Moment → Told → Type 0
-ToldIs old new talk told.All = IsAllTold new talk
-ToldIs old new talk told.Later = MustWait old new talk
-ToldIs old new talk told.Again = new.wire.writes ≡ old.wire.writes + 16
-ToldIs old new talk told.Finished = (told_end talk ≡ true) × IsWrittenOut old new 16
-ToldIs old new talk told.Fault = new.wire.last_sent ≡ Some sent.Fault
-ToldIs old new talk told.Memory = new.conn.unwritten ≡ []
+-- how far a turn sent to the client
+abbrev pub SentIs : Snapshot → Snapshot → List Moment → SendState → Type 0
+SentIs old new talk send.All = IsAllSent new talk
+SentIs old new talk send.WouldBlock = MustWait old new talk
+SentIs old new talk send.Again = new.wire.writes ≡ old.wire.writes + 16
+SentIs old new talk send.Finished = (told_end talk ≡ true) × IsWrittenOut old new 16
+SentIs old new talk send.Fault = new.wire.last_sent ≡ Some sent.Fault
+SentIs old new talk send.Memory = new.conn.unwritten ≡ []
 
-pub record Tells (old new : Seat) (told : Told) : Type 0 where
+pub record Sends (old new : Snapshot) (state : SendState) : Type 0 where
   pub talk : List Moment
   pub went : Went old new talk
   pub own : AreDrains old.conn.session.client talk
   pub writes : ℕ
   pub few : writes ≤ 16
   pub only : OnlyWrites old new writes
-  pub told_is : ToldIs old new talk told
+  pub sent_is : SentIs old new talk state

@@ -1,9 +1,10 @@
-//! A link in memory.
+//! A link in memory, for tests: turns over it need no socket, and what it moves can be compared.
+#![tactic(auto)]
 
 ghost use Rattle.std.specs.Prelude.{◌≡◌, ◌≤◌, length, Some};
 ghost use Rattle.lobby_turns.specs.Wire.{untouched};
 
-use crate::link::{Got, Link, Sent};
+use lobby_turns::{Got, Link, Sent};
 use std::alloc::Global;
 
 /// The largest count with which a turn may still begin.
@@ -92,7 +93,7 @@ impl MemoryLink {
 
     /// All that was written.
     pub fn output(&self) -> &[u8]
-        ensures { (⟦<MemoryLink as Link>⟧.wire self.now).told ≡ Some result.now }
+        ensures { (⟦<MemoryLink as Link>⟧.wire self.now).written ≡ Some result.now }
     {
         &self.output
     }
@@ -115,8 +116,8 @@ impl Link for MemoryLink {
       reads = l.reads;
       writes = l.writes;
       failures = l.failures;
-      heard = Some (take l.at l.input.items);
-      told = Some l.output.items;
+      read = Some (take l.at l.input.items);
+      written = Some l.output.items;
       last_got = l.last_got;
       last_sent = l.last_sent;
     } };

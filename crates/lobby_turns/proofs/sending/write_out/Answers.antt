@@ -1,6 +1,6 @@
 use Rattle.std.proofs.Common.{arith}
-use Rattle.lobby_turns.proofs.Tellings.{writing_none, writing_more, stops, writes_all, writes_stopped, writes_most, one_write}
-use Rattle.lobby_turns.proofs.telling.write_out.Goals as goal
+use Rattle.lobby_turns.proofs.Sendings.{writing_none, writing_more, stops, writes_all, writes_stopped, writes_most, one_write}
+use Rattle.lobby_turns.proofs.sending.write_out.Goals as goal
 
 pub loop-init : goal.loop-init
 loop-init g c = writing_none _

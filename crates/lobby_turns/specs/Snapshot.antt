@@ -13,18 +13,18 @@ pub record Carried : Type 0 where
   pub unwritten : List ℕ
 
 -- a connection, its link, and the pass of the worker that serves it
-pub record Seat : Type 0 where
+pub record Snapshot : Type 0 where
   pub conn : Carried
   pub wire : Wire
   pub pass : ShownPass
 
-abbrev pub seat : Carried → Wire → ShownPass → Seat
-seat conn wire pass = record { conn = conn; wire = wire; pass = pass }
+abbrev pub snapshot : Carried → Wire → ShownPass → Snapshot
+snapshot conn wire pass = record { conn = conn; wire = wire; pass = pass }
 
 -- These bytes were fed to the session, so many of its lines were accepted, and these bytes were drained for its client: what the link
 -- told as read is what was fed and then what is to be fed, and what was drained is what the link told as written and then what is to
 -- be written
-pub record Carries (at : Seat) (fed : List ℕ) (accepted : ℕ) (drained : List ℕ) : Type 0 where
+pub record Carries (at : Snapshot) (fed : List ℕ) (accepted : ℕ) (drained : List ℕ) : Type 0 where
   pub session : Heard at.conn.session.framed fed accepted
-  pub heard : at.wire.heard ≡ Some (fed ++ at.conn.unfed)
-  pub told : and_more at.wire.told at.conn.unwritten ≡ Some drained
+  pub read : at.wire.read ≡ Some (fed ++ at.conn.unfed)
+  pub written : and_more at.wire.written at.conn.unwritten ≡ Some drained

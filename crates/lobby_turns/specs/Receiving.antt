@@ -1,49 +1,49 @@
--- What hearing a client did.
+-- What receiving from a client did.
 use Rattle.std.specs.Prelude.{◌≡◌, ◌≢◌, ◌⊎◌, ℕ, ◌+◌, ◌<◌, ◌≤◌, false, List, [], length, Some}
 use Rattle.lobby_post.specs.Mask.{has_home}
 use Rattle.client_session.specs.declared.session.Next.TheVariants.{Nothing, Spoilt}
 use Rattle.client_session.specs.OneSession.{IsNextOf, HasLineNext}
 use Rattle.lobby_turns.specs.declared.link.Got.TheVariants as got
-use Rattle.lobby_turns.specs.declared.hearing.Heard.{Heard}
-use Rattle.lobby_turns.specs.declared.hearing.Heard.TheVariants as heard
-use Rattle.lobby_turns.specs.declared.hearing.Step.{Step}
-use Rattle.lobby_turns.specs.declared.hearing.Step.TheVariants as step
+use Rattle.lobby_turns.specs.declared.receiving.ReceiveState.{ReceiveState}
+use Rattle.lobby_turns.specs.declared.receiving.ReceiveState.TheVariants as receive
+use Rattle.lobby_turns.specs.declared.receiving.Step.{Step}
+use Rattle.lobby_turns.specs.declared.receiving.Step.TheVariants as step
 use Rattle.lobby_turns.specs.Moments.{Moment, requests, touched, told_end}
-use Rattle.lobby_turns.specs.Seat.{Seat}
+use Rattle.lobby_turns.specs.Snapshot.{Snapshot}
 use Rattle.lobby_turns.specs.Talk.{AreTalk}
 use Rattle.lobby_turns.specs.Went.{Went}
 use Rattle.lobby_turns.specs.Holds.{AreSaid, IsWithin, StaysNext}
 
 -- So many reads were made and no write, and each failed at most once. Without a read its last answer is as it was
-pub record OnlyReads (old new : Seat) (reads : ℕ) : Type 0 where
+pub record OnlyReads (old new : Snapshot) (reads : ℕ) : Type 0 where
   pub reads_are : new.wire.reads ≡ old.wire.reads + reads
   pub writes : new.wire.writes ≡ old.wire.writes
   pub failures : new.wire.failures ≤ old.wire.failures + reads
   pub still : reads ≡ 0 → new.wire.last_got ≡ old.wire.last_got
 
 -- All that was read was fed, and no line of it is left; and the link has nothing more, ever, or said just now that it has nothing yet
-pub record IsAllHeard (old new : Seat) : Type 0 where
+pub record IsAllReceived (old new : Snapshot) : Type 0 where
   pub fed : new.conn.unfed ≡ []
   pub nothing : IsNextOf (Some new.conn.session) Nothing
   pub last : (new.wire.last_got ≡ Some got.End) ⊎ ((new.wire.last_got ≡ Some got.Later) × (old.wire.reads < new.wire.reads))
 
 -- the stream is spoilt at this place, or the link failed
-abbrev pub IsOver : Seat → Type 0
+abbrev pub IsOver : Snapshot → Type 0
 IsOver new = IsNextOf (Some new.conn.session) Spoilt ⊎ (new.wire.last_got ≡ Some got.Fault)
 
 -- the link neither has ended nor failed, and did not say just now that it has nothing yet
-pub record MayHaveMore (old new : Seat) : Type 0 where
+pub record MayHaveMore (old new : Snapshot) : Type 0 where
   pub on : new.wire.last_got ≢ Some got.End
   pub sound : new.wire.last_got ≢ Some got.Fault
   pub late : new.wire.last_got ≡ Some got.Later → new.wire.reads ≡ old.wire.reads
 
--- What hears a client takes memory where bytes are to be fed, where a line is next, and where the link may have more
-pub data HasToHear (old new : Seat) : Type 0 where
-  has_bytes : new.conn.unfed ≢ [] → HasToHear old new
-  has_line : HasLineNext new.conn.session → HasToHear old new
-  has_more : MayHaveMore old new → HasToHear old new
+-- Receiving from a client takes memory where bytes are to be fed, where a line is next, and where the link may have more
+pub data HasToReceive (old new : Snapshot) : Type 0 where
+  has_bytes : new.conn.unfed ≢ [] → HasToReceive old new
+  has_line : HasLineNext new.conn.session → HasToReceive old new
+  has_more : MayHaveMore old new → HasToReceive old new
 
--- a step that told lines told so many at most, and one at least unless memory was refused
+-- a step that said lines said so many at most, and one at least unless memory was refused
 abbrev pub SaysWithin : ℕ → Step → Type 0
 SaysWithin most (step.Said said) = IsWithin most said
 SaysWithin most step.Read = Unit {0}
@@ -52,14 +52,14 @@ SaysWithin most step.Stop = Unit {0}
 SaysWithin most step.Memory = Unit {0}
 
 -- what a step did, in so many reads
-abbrev pub StepIs : Seat → Seat → List Moment → ℕ → Step → Type 0
+abbrev pub StepIs : Snapshot → Snapshot → List Moment → ℕ → Step → Type 0
 StepIs old new talk reads (step.Said said) = (reads ≡ 0) × AreSaid old.conn.session.client talk said.lines said.wakes × StaysNext new.conn.session said
 StepIs old new talk reads step.Read = (talk ≡ []) × (reads ≡ 1) × (new.wire.last_got ≢ Some got.Later)
-StepIs old new talk reads step.All = (talk ≡ []) × IsAllHeard old new
+StepIs old new talk reads step.All = (talk ≡ []) × IsAllReceived old new
 StepIs old new talk reads step.Stop = (talk ≡ []) × IsOver new
-StepIs old new talk reads step.Memory = (talk ≡ []) × (reads ≡ 0) × HasToHear old new
+StepIs old new talk reads step.Memory = (talk ≡ []) × (reads ≡ 0) × HasToReceive old new
 
-pub record HearsNext (old new : Seat) (step : Step) : Type 0 where
+pub record ReceivesNext (old new : Snapshot) (step : Step) : Type 0 where
   pub talk : List Moment
   pub went : Went old new talk
   pub reads : ℕ
@@ -67,14 +67,14 @@ pub record HearsNext (old new : Seat) (step : Step) : Type 0 where
   pub only : OnlyReads old new reads
   pub step_is : StepIs old new talk reads step
 
--- how far the client was heard
-abbrev pub HeardIs : Seat → Seat → List Moment → Heard → Type 0
-HeardIs old new talk heard.All = IsAllHeard old new
-HeardIs old new talk heard.Again = (length (requests talk) ≡ 64) ⊎ (new.wire.reads ≡ old.wire.reads + 16)
-HeardIs old new talk heard.Stop = IsOver new
-HeardIs old new talk heard.Memory = HasToHear old new
+-- how far a turn received from the client
+abbrev pub ReceivedIs : Snapshot → Snapshot → List Moment → ReceiveState → Type 0
+ReceivedIs old new talk receive.All = IsAllReceived old new
+ReceivedIs old new talk receive.Again = (length (requests talk) ≡ 64) ⊎ (new.wire.reads ≡ old.wire.reads + 16)
+ReceivedIs old new talk receive.Stop = IsOver new
+ReceivedIs old new talk receive.Memory = HasToReceive old new
 
-pub record Hears (old new : Seat) (heard : Heard) (wakes : ℕ) : Type 0 where
+pub record Receives (old new : Snapshot) (state : ReceiveState) (wakes : ℕ) : Type 0 where
   pub talk : List Moment
   pub went : Went old new talk
   pub own : AreTalk old.conn.session.client talk
@@ -84,4 +84,4 @@ pub record Hears (old new : Seat) (heard : Heard) (wakes : ℕ) : Type 0 where
   pub few : reads ≤ 16
   pub only : OnlyReads old new reads
   pub wakes_are : (home : ℕ) → has_home wakes home ≡ touched talk home
-  pub heard_is : HeardIs old new talk heard
+  pub received_is : ReceivedIs old new talk state

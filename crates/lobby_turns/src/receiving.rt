@@ -1,33 +1,35 @@
-//! The half of a turn that hears the client: its lines are told the lobby, and where no whole line
-//! is left, its link is read.
+//! The half of a turn that receives from the client: what its link gives is fed to its session, whole lines are said to the lobby,
+//! and where none is left, the link is read.
 
 ghost use Rattle.std.specs.Prelude.{◌≡◌, ℕ, ◌≤◌, [], Some};
 ghost use Rattle.client_session.specs.declared.session.Next.TheVariants.{Nothing};
 ghost use Rattle.client_session.specs.OneSession.{IsNextOf};
 ghost use Rattle.lobby_turns.specs.Wire.{MayGoOn, IsFresh};
-ghost use Rattle.lobby_turns.specs.Seat.{seat};
-ghost use Rattle.lobby_turns.specs.Hearing.{SaysWithin, HearsNext, Hears};
+ghost use Rattle.lobby_turns.specs.Snapshot.{snapshot};
+ghost use Rattle.lobby_turns.specs.Receiving.{SaysWithin, ReceivesNext, Receives};
 
 use crate::conn::Conn;
 use crate::gate::Gate;
+use crate::gated_desk::GatedDesk;
 use crate::holds::{self, Said};
 use crate::link::{Got, Link};
 use client_session::Next;
-use lobby_lock::{Desk, Pass};
+use lobby_lock::Pass;
 use lobby_machine::Wakes;
 use std::sync::Wait;
 
-/// The most lines that a turn tells the lobby, so that a client that sends without end does not keep
-/// its worker from the others.
+/// The most lines that a turn says to the lobby, so that a client that sends without end does not keep its worker from the others.
+/// They are said in two holds of 32.
 const LINES: usize = 64;
 
-/// The most reads of a turn.
+/// The most reads of a turn: 64 KiB in pieces. So it meets both limits at once where the lines are of 1 KiB, and a client whose
+/// lines are longer keeps its worker no longer than one that sends many.
 const READS: usize = 16;
 
-/// How far a client was heard.
+/// How far a turn received from its client.
 #[derive(Clone, Copy)]
-pub(crate) enum Heard {
-    /// All that the link gave was told the lobby.
+pub(crate) enum ReceiveState {
+    /// All that the link gave was said to the lobby.
     All,
     /// A limit was met.
     Again,
@@ -37,10 +39,10 @@ pub(crate) enum Heard {
     Memory,
 }
 
-/// One step of hearing a client.
+/// One step of receiving.
 #[derive(Clone, Copy)]
 pub(crate) enum Step {
-    /// Lines were told the lobby, until a hold was over or memory was refused.
+    /// Lines were said to the lobby, until a hold was over or memory was refused.
     Said(Said),
     /// Bytes were read.
     Read,
@@ -53,11 +55,11 @@ pub(crate) enum Step {
 }
 
 /// Reads the link, where it may have more.
-fn hear_link<L: Link>(conn: &mut Conn, link: &mut L, pass: Pass) -> (Pass, Step)
+fn receive_link<L: Link>(conn: &mut Conn, link: &mut L, pass: Pass) -> (Pass, Step)
     requires fed { conn.old.unfed ≡ [] }
     requires wire { MayGoOn (L.wire link.old) }
     requires next { IsNextOf (Some conn.old.session) Nothing }
-    ensures heard { HearsNext (seat conn.old (L.wire link.old) pass) (seat conn.new (L.wire link.new) result.0) result.1 }
+    ensures received { ReceivesNext (snapshot conn.old (L.wire link.old) pass) (snapshot conn.new (L.wire link.new) result.0) result.1 }
     ensures within { (most : ℕ) → SaysWithin most result.1 }
 {
     match link.last_got() {
@@ -74,21 +76,20 @@ fn hear_link<L: Link>(conn: &mut Conn, link: &mut L, pass: Pass) -> (Pass, Step)
     }
 }
 
-/// Feeds what was read, and then tells the lobby the next lines, so many at most; where none is left,
+/// Feeds what was read, and then says the next lines to the lobby, so many at most; where none is left,
 /// reads the link.
-fn hear_next<R: Wait, L: Link, G: Gate>(
+fn receive_next<R: Wait, L: Link, G: Gate>(
     rt: &R,
     conn: &mut Conn,
     link: &mut L,
-    desk: &Desk,
+    desk: &GatedDesk<'_, G>,
     pass: Pass,
-    gate: &G,
     most: usize,
 ) -> (Pass, Step)
-    requires desk { pass.desk ≡ desk.now }
+    requires desk { pass.desk ≡ desk.now.desk.now }
     requires wire { MayGoOn (L.wire link.old) }
     requires some { 1 ≤ most }
-    ensures heard { HearsNext (seat conn.old (L.wire link.old) pass) (seat conn.new (L.wire link.new) result.0) result.1 }
+    ensures received { ReceivesNext (snapshot conn.old (L.wire link.old) pass) (snapshot conn.new (L.wire link.new) result.0) result.1 }
     ensures within { SaysWithin most result.1 }
 {
     match conn.feed() {
@@ -97,27 +98,26 @@ fn hear_next<R: Wait, L: Link, G: Gate>(
     }
     match conn.next_request() {
         Ok(Next::Line(request)) => {
-            let (pass, said) = holds::say(rt, conn, desk, pass, gate, request, most);
+            let (pass, said) = holds::say(rt, conn, desk, pass, request, most);
             (pass, Step::Said(said))
         }
-        Ok(Next::Nothing) => hear_link(conn, link, pass),
+        Ok(Next::Nothing) => receive_link(conn, link, pass),
         Ok(Next::Spoilt) => (pass, Step::Stop),
         Err(_) => (pass, Step::Memory),
     }
 }
 
-/// Hears the client, as far as a turn may.
-pub(crate) fn hear<R: Wait, L: Link, G: Gate>(
+/// Receives from the client, as far as a turn may.
+pub(crate) fn receive<R: Wait, L: Link, G: Gate>(
     rt: &R,
     conn: &mut Conn,
     link: &mut L,
-    desk: &Desk,
+    desk: &GatedDesk<'_, G>,
     pass: Pass,
-    gate: &G,
-) -> (Pass, Heard, Wakes)
-    requires desk { pass.desk ≡ desk.now }
+) -> (Pass, ReceiveState, Wakes)
+    requires desk { pass.desk ≡ desk.now.desk.now }
     requires fresh { IsFresh (L.wire link.old) }
-    ensures { Hears (seat conn.old (L.wire link.old) pass) (seat conn.new (L.wire link.new) result.0) result.1 result.2 }
+    ensures { Receives (snapshot conn.old (L.wire link.old) pass) (snapshot conn.new (L.wire link.new) result.0) result.1 result.2 }
 {
     let mut pass = pass;
     let mut wakes = Wakes::none();
@@ -125,23 +125,23 @@ pub(crate) fn hear<R: Wait, L: Link, G: Gate>(
     let mut reads = 0;
     for _ in 0..LINES + READS {
         if lines == LINES || reads == READS {
-            return (pass, Heard::Again, wakes);
+            return (pass, ReceiveState::Again, wakes);
         }
-        let (next, step) = hear_next(rt, conn, link, desk, pass, gate, LINES - lines);
+        let (next, step) = receive_next(rt, conn, link, desk, pass, LINES - lines);
         pass = next;
         match step {
             Step::Said(said) => {
                 wakes = wakes.union(said.wakes);
                 lines += said.lines;
                 if said.refused {
-                    return (pass, Heard::Memory, wakes);
+                    return (pass, ReceiveState::Memory, wakes);
                 }
             }
             Step::Read => reads += 1,
-            Step::All => return (pass, Heard::All, wakes),
-            Step::Stop => return (pass, Heard::Stop, wakes),
-            Step::Memory => return (pass, Heard::Memory, wakes),
+            Step::All => return (pass, ReceiveState::All, wakes),
+            Step::Stop => return (pass, ReceiveState::Stop, wakes),
+            Step::Memory => return (pass, ReceiveState::Memory, wakes),
         }
     }
-    (pass, Heard::Again, wakes)
+    (pass, ReceiveState::Again, wakes)
 }

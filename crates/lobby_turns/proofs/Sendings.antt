@@ -1,0 +1,296 @@
+-- How sending to a client goes on.
+use Rattle.std.proofs.Common.{◌≡◌, ℕ, ◌+◌, ◌<◌, ◌≤◌, Bool, true, false, List, [], ◌++◌, refl, sym, ap, ◌∙◌, subst, arith, append-nil, true≢false}
+use Rattle.std.specs.Prelude.{Option, Some}
+use Rattle.lobby_turns.specs.declared.link.Sent.{Sent}
+use Rattle.lobby_turns.specs.declared.link.Sent.TheVariants as sent
+use Rattle.lobby_turns.specs.declared.sending.SendState.{SendState}
+use Rattle.lobby_turns.specs.declared.sending.SendState.TheVariants as send
+use Rattle.lobby_turns.specs.declared.sending.Step.{Step}
+use Rattle.lobby_turns.specs.declared.sending.Step.TheVariants as step
+use Rattle.lobby_turns.specs.Wire.{MayGoOn}
+use Rattle.lobby_turns.specs.Moments.{Moment, told_end}
+use Rattle.lobby_turns.specs.Snapshot.{Snapshot}
+use Rattle.lobby_turns.specs.Talk.{AreDrains, EndsDry}
+use Rattle.lobby_turns.specs.Went.{Went}
+use Rattle.lobby_turns.specs.Holds.{Drains}
+use Rattle.lobby_turns.specs.Sending.{MaySend, OnlyWrites, IsAllSent, StepIs, SendsNext, IsStop, IsWrittenOut, all_written, stopped, spent, Writes, SentIs, Sends}
+use Rattle.lobby_turns.proofs.Parts.{went_none, went_then}
+use Rattle.lobby_turns.proofs.Talks.{are_drains-append, calm-append, finished-append, dry_behind}
+
+-- so many writes were made, and no drain said that nothing will come
+pub record Sending (old new : Snapshot) (writes : ℕ) : Type 0 where
+  pub talk : List Moment
+  pub went : Went old new talk
+  pub own : AreDrains old.conn.session.client talk
+  pub calm : told_end talk ≡ false
+  pub only : OnlyWrites old new writes
+
+add_none : (n : ℕ) → n ≡ n + 0
+add_none n = omega arith
+
+none_add : (n : ℕ) → 0 + n ≡ n
+none_add n = omega arith
+
+pub only_same : (a : Snapshot) → OnlyWrites a a 0
+only_same a = record {
+  writes_are = add_none a.wire.writes;
+  reads = refl;
+  failures = omega arith;
+  last_got = refl;
+  session = refl;
+  unfed = refl;
+}
+
+pub sending_none : (a : Snapshot) → Sending a a 0
+sending_none a = record { talk = []; went = went_none a; own = tt; calm = refl; only = only_same a }
+
+pub only_then : (a b c : Snapshot) (m n : ℕ) → OnlyWrites a b m → OnlyWrites b c n → OnlyWrites a c (m + n)
+only_then a b c m n h k = record {
+  writes_are = omega (arith, h.writes_are, k.writes_are);
+  reads = k.reads ∙ h.reads;
+  failures = omega (arith, h.failures, k.failures);
+  last_got = k.last_got ∙ h.last_got;
+  session = k.session ∙ h.session;
+  unfed = k.unfed ∙ h.unfed;
+}
+
+their_drains : (a b : Snapshot) (t u : List Moment) → Went a b t → AreDrains a.conn.session.client t → AreDrains b.conn.session.client u → AreDrains a.conn.session.client (t ++ u)
+their_drains a b t u went h k = are_drains-append a.conn.session.client t u h (subst (λ (c : ℕ). AreDrains c u) went.client k)
+
+wrote : (a b c : Snapshot) (k : ℕ) → Sending a b k → SendsNext b c step.Wrote → Sending a c (k + 1)
+wrote a b c k h s = record {
+  talk = h.talk ++ s.talk;
+  went = went_then a b c h.talk s.talk h.went s.went;
+  own = their_drains a b h.talk s.talk h.went h.own s.own;
+  calm = calm-append h.talk s.talk h.calm s.step_is.0;
+  only = subst (λ (n : ℕ). OnlyWrites a c (k + n)) s.step_is.1 (only_then a b c k s.writes h.only s.only);
+}
+
+pub sending_wrote : (a b c : Snapshot) (k : ℕ) (how : Step) → how ≡ step.Wrote → Sending a b k → SendsNext b c how → Sending a c (k + 1)
+sending_wrote a b c k how is h s = wrote a b c k h (subst (λ (x : Step). SendsNext b c x) is s)
+
+-- ---- where sending ends
+
+sent_step : (a b c : Snapshot) (k : ℕ) (s : Step) (how : SendState) → k < 16 → (h : Sending a b k) → (n : SendsNext b c s) → SentIs a c (h.talk ++ n.talk) how → Sends a c how
+sent_step a b c k s how few h n is = record {
+  talk = h.talk ++ n.talk;
+  went = went_then a b c h.talk n.talk h.went n.went;
+  own = their_drains a b h.talk n.talk h.went h.own n.own;
+  writes = k + n.writes;
+  few = omega (arith, few, n.few);
+  only = only_then a b c k n.writes h.only n.only;
+  sent_is = is;
+}
+
+pub sends_all : (a b c : Snapshot) (k : ℕ) (how : Step) → how ≡ step.All → k < 16 → Sending a b k → SendsNext b c how → Sends a c send.All
+sends_all a b c k how is few h found =
+    let s : SendsNext b c step.All = subst (λ (x : Step). SendsNext b c x) is found in
+    sent_step a b c k step.All send.All few h s (record {
+      calm = calm-append h.talk s.talk h.calm s.step_is.calm;
+      written = s.step_is.written;
+      dry = dry_behind c.conn.session.client h.talk s.talk s.step_is.dry;
+    })
+
+pub sends_would_block : (a b c : Snapshot) (k : ℕ) (how : Step) → how ≡ step.WouldBlock → k < 16 → Sending a b k → SendsNext b c how → Sends a c send.WouldBlock
+sends_would_block a b c k how is few h found =
+    let s : SendsNext b c step.WouldBlock = subst (λ (x : Step). SendsNext b c x) is found in
+    sent_step a b c k step.WouldBlock send.WouldBlock few h s (record {
+      calm = calm-append h.talk s.talk h.calm s.step_is.calm;
+      last = s.step_is.last;
+      made = omega (arith, h.only.writes_are, s.step_is.made);
+    })
+
+pub sends_fault : (a b c : Snapshot) (k : ℕ) (how : Step) → how ≡ step.Fault → k < 16 → Sending a b k → SendsNext b c how → Sends a c send.Fault
+sends_fault a b c k how is few h found =
+    let s : SendsNext b c step.Fault = subst (λ (x : Step). SendsNext b c x) is found in
+    sent_step a b c k step.Fault send.Fault few h s s.step_is
+
+pub sends_memory : (a b c : Snapshot) (k : ℕ) (how : Step) → how ≡ step.Memory → k < 16 → Sending a b k → SendsNext b c how → Sends a c send.Memory
+sends_memory a b c k how is few h found =
+    let s : SendsNext b c step.Memory = subst (λ (x : Step). SendsNext b c x) is found in
+    sent_step a b c k step.Memory send.Memory few h s s.step_is.2
+
+-- what was written out since a place between is since an earlier one too
+out_since : (a b c : Snapshot) (k most all : ℕ) → k + most ≡ all → OnlyWrites a b k → IsWrittenOut b c most → IsWrittenOut a c all
+out_since a b c k most all sum only (all_written e) = all_written e
+out_since a b c k most all sum only (stopped made stop) = stopped (omega (arith, made, only.writes_are)) stop
+out_since a b c k most all sum only (spent e) = spent (omega (arith, e, only.writes_are, sum))
+
+-- what was drained was written out behind it
+finished : (a b c d : Snapshot) (k most : ℕ) → k + most ≡ 16 → Sending a b k → SendsNext b c step.Finished → Writes c d most → Sends a d send.Finished
+finished a b c d k most few h s w = record {
+  talk = (h.talk ++ s.talk) ++ [];
+  went = went_then a c d (h.talk ++ s.talk) [] (went_then a b c h.talk s.talk h.went s.went) w.went;
+  own = their_drains a c (h.talk ++ s.talk) [] (went_then a b c h.talk s.talk h.went s.went) (their_drains a b h.talk s.talk h.went h.own s.own) tt;
+  writes = (k + s.writes) + w.writes;
+  few = omega (arith, few, w.few, s.step_is.1);
+  only = only_then a c d (k + s.writes) w.writes (only_then a b c k s.writes h.only s.only) w.only;
+  sent_is = (
+    ap told_end (append-nil (h.talk ++ s.talk)) ∙ finished-append h.talk s.talk s.step_is.0,
+    out_since a c d (k + s.writes) most 16 (omega (arith, few, s.step_is.1)) (only_then a b c k s.writes h.only s.only) w.out,
+  );
+}
+
+pub sends_finished : (a b c d : Snapshot) (k most : ℕ) (how : Step) → how ≡ step.Finished → k + most ≡ 16 → Sending a b k → SendsNext b c how → Writes c d most → Sends a d send.Finished
+sends_finished a b c d k most how is few h s w = finished a b c d k most few h (subst (λ (x : Step). SendsNext b c x) is s) w
+
+pub sends_again : (a b : Snapshot) → Sending a b 16 → Sends a b send.Again
+sends_again a b h = record {
+  talk = h.talk;
+  went = h.went;
+  own = h.own;
+  writes = 16;
+  few = omega arith;
+  only = h.only;
+  sent_is = h.only.writes_are;
+}
+
+-- ---- what may be done on the way
+
+pub may_go_on : (a b : Snapshot) (k : ℕ) → k < 16 → MaySend a.wire 16 → OnlyWrites a b k → MayGoOn b.wire
+may_go_on a b k few may only = record {
+  reads = omega (arith, may.reads_place, only.reads);
+  writes = omega (arith, may.writes_place, only.writes_are, few);
+  failures = omega (arith, may.failures_place, only.failures, few);
+}
+
+pub may_send : (a b c : Snapshot) (k n most : ℕ) → (k + n) + most ≤ 16 → MaySend a.wire 16 → OnlyWrites a b k → OnlyWrites b c n → MaySend c.wire most
+may_send a b c k n most few may only more = record {
+  reads_place = omega (arith, may.reads_place, only.reads, more.reads);
+  writes_place = omega (arith, may.writes_place, only.writes_are, more.writes_are, few);
+  failures_place = omega (arith, may.failures_place, only.failures, more.failures, few);
+}
+
+-- ---- single steps
+
+pub next_memory : (a : Snapshot) → a.conn.unwritten ≡ [] → SendsNext a a step.Memory
+next_memory a written = record { talk = []; went = went_none a; own = tt; writes = 0; few = omega arith; only = only_same a; step_is = (refl, refl, written) }
+
+-- ---- behind drains
+
+-- drains that did not say that nothing will come
+pub drains_on : (a b : Snapshot) (finished dry : Bool) → finished ≡ false → Drains a b finished dry → Drains a b false dry
+drains_on a b finished dry goes_on d = subst (λ (x : Bool). Drains a b x dry) goes_on d
+
+-- what was drained was then written, as much of it as the link took
+wrote_behind : (a b c : Snapshot) (dry : Bool) (how : Step) → (d : Drains a b false dry) → OnlyWrites a b 0 → Went b c [] → OnlyWrites b c 1 → StepIs a c d.talk 1 how → SendsNext a c how
+wrote_behind a b c dry how d before went only is = record {
+  talk = d.talk;
+  went = subst (λ (t : List Moment). Went a c t) (append-nil d.talk) (went_then a b c d.talk [] d.went went);
+  own = d.own;
+  writes = 1;
+  few = omega arith;
+  only = only_then a b c 0 1 before only;
+  step_is = is;
+}
+
+pub next_wrote : (a b c : Snapshot) (dry : Bool) → Drains a b false dry → OnlyWrites a b 0 → Went b c [] → OnlyWrites b c 1 → SendsNext a c step.Wrote
+next_wrote a b c dry d before went only = wrote_behind a b c dry step.Wrote d before went only (d.finished_is, refl)
+
+pub next_would_block : (a b c : Snapshot) (dry : Bool) → Drains a b false dry → OnlyWrites a b 0 → Went b c [] → OnlyWrites b c 1 → c.wire.last_sent ≡ Some sent.Later → SendsNext a c step.WouldBlock
+next_would_block a b c dry d before went only last =
+    wrote_behind a b c dry step.WouldBlock d before went only (record { calm = d.finished_is; last = last; made = omega (arith, before.writes_are, only.writes_are) })
+
+pub next_fault : (a b c : Snapshot) (dry : Bool) → Drains a b false dry → OnlyWrites a b 0 → Went b c [] → OnlyWrites b c 1 → c.wire.last_sent ≡ Some sent.Fault → SendsNext a c step.Fault
+next_fault a b c dry d before went only last = wrote_behind a b c dry step.Fault d before went only last
+
+-- all is sent
+sent_all : (a b c : Snapshot) (dry : Bool) → (d : Drains a b false dry) → dry ≡ true → c.conn.session.client ≡ a.conn.session.client → c.conn.unwritten ≡ [] → IsAllSent c d.talk
+sent_all a b c dry d is_dry client written =
+    record { calm = d.finished_is; written = written; dry = subst (λ (n : ℕ). EndsDry n d.talk) (sym client) (d.dry_is is_dry) }
+
+pub next_sent : (a b c : Snapshot) (dry : Bool) → Drains a b false dry → OnlyWrites a b 0 → Went b c [] → OnlyWrites b c 1 → dry ≡ true → c.conn.unwritten ≡ [] → SendsNext a c step.All
+next_sent a b c dry d before went only is_dry written =
+    wrote_behind a b c dry step.All d before went only (sent_all a b c dry d is_dry (went.client ∙ d.went.client) written)
+
+pub next_all : (a b : Snapshot) (finished dry : Bool) → finished ≡ false → dry ≡ true → OnlyWrites a b 0 → b.conn.unwritten ≡ [] → Drains a b finished dry → SendsNext a b step.All
+next_all a b finished dry goes_on is_dry only written found =
+    let d : Drains a b false dry = drains_on a b finished dry goes_on found in
+    record {
+      talk = d.talk;
+      went = d.went;
+      own = d.own;
+      writes = 0;
+      few = omega arith;
+      only = only;
+      step_is = sent_all a b b dry d is_dry d.went.client written;
+    }
+
+pub next_finished : (a b : Snapshot) (finished dry : Bool) → finished ≡ true → OnlyWrites a b 0 → Drains a b finished dry → SendsNext a b step.Finished
+next_finished a b finished dry is_so only d = record {
+  talk = d.talk;
+  went = d.went;
+  own = d.own;
+  writes = 0;
+  few = omega arith;
+  only = only;
+  step_is = (d.finished_is ∙ is_so, refl);
+}
+
+-- nothing was drained
+pub drains_none : (a : Snapshot) → Drains a a false false
+drains_none a = record { talk = []; went = went_none a; own = tt; finished_is = refl; dry_is = λ e. absurd (true≢false (sym e)) }
+
+-- the loop begins behind the question whether the client is finished
+pub sending_asked : (a b : Snapshot) (finished dry : Bool) → finished ≡ false → OnlyWrites a b 0 → Drains a b finished dry → Sending a b 0
+sending_asked a b finished dry goes_on only d = record {
+  talk = d.talk;
+  went = d.went;
+  own = d.own;
+  calm = d.finished_is ∙ goes_on;
+  only = only;
+}
+
+-- ---- writing out
+
+-- so many writes were made, without an event
+pub record Writing (old new : Snapshot) (writes : ℕ) : Type 0 where
+  pub went : Went old new []
+  pub only : OnlyWrites old new writes
+
+pub writing_none : (a : Snapshot) → Writing a a 0
+writing_none a = record { went = went_none a; only = only_same a }
+
+pub writing_more : (a b c : Snapshot) (k : ℕ) → Writing a b k → Went b c [] → OnlyWrites b c 1 → Writing a c (k + 1)
+writing_more a b c k h went only = record { went = went_then a b c [] [] h.went went; only = only_then a b c k 1 h.only only }
+
+writes_out : (a b : Snapshot) (k most : ℕ) → k ≤ most → Writing a b k → IsWrittenOut a b most → Writes a b most
+writes_out a b k most few h out = record { went = h.went; writes = k; few = few; only = h.only; out = out }
+
+-- a write that took nothing
+pub stops : (r : Sent) (last : Option Sent) → ((n : ℕ) → r ≡ sent.Took n → ⊥) → last ≡ Some r → IsStop last
+stops r last none is = subst IsStop (sym is) (stop r none)
+  where
+    stop : (r : Sent) → ((n : ℕ) → r ≡ sent.Took n → ⊥) → IsStop (Some r)
+    stop (sent.Took n) none = none n refl
+    stop sent.Later none = tt
+    stop sent.Fault none = tt
+
+pub writes_all : (a b : Snapshot) (k most : ℕ) → k < most → b.conn.unwritten ≡ [] → Writing a b k → Writes a b most
+writes_all a b k most few none h = writes_out a b k most (omega (arith, few)) h (all_written none)
+
+pub writes_stopped : (a b c : Snapshot) (k most : ℕ) → k < most → IsStop c.wire.last_sent → Writing a b k → Went b c [] → OnlyWrites b c 1 → Writes a c most
+writes_stopped a b c k most few stop h went only =
+    writes_out a c (k + 1) most (omega (arith, few)) (writing_more a b c k h went only) (stopped (omega (arith, h.only.writes_are, only.writes_are)) stop)
+
+pub writes_most : (a b : Snapshot) (k most : ℕ) → k ≡ most → Writing a b k → Writes a b most
+writes_most a b k most same h = writes_out a b k most (omega (arith, same)) h (spent (omega (arith, h.only.writes_are, same)))
+
+-- finished already when asked
+pub sends_asked : (a b c : Snapshot) → SendsNext a b step.Finished → Writes b c 16 → Sends a c send.Finished
+sends_asked a b c s w = finished a a b c 0 16 (omega arith) (sending_none a) s w
+
+pub one_write : (a b : Snapshot) → b.wire.writes ≡ a.wire.writes + 1 → b.wire.reads ≡ a.wire.reads → b.wire.failures ≤ a.wire.failures + 1 → b.wire.last_got ≡ a.wire.last_got
+    → b.conn.session ≡ a.conn.session → b.conn.unfed ≡ a.conn.unfed → OnlyWrites a b 1
+one_write a b writes reads failures last_got session unfed =
+    record { writes_are = writes; reads = reads; failures = failures; last_got = last_got; session = session; unfed = unfed }
+
+pub no_write : (a b : Snapshot) → b.wire ≡ a.wire → b.conn.session ≡ a.conn.session → b.conn.unfed ≡ a.conn.unfed → OnlyWrites a b 0
+no_write a b wire session unfed = record {
+  writes_are = ap (λ w. w.writes) wire ∙ add_none a.wire.writes;
+  reads = ap (λ w. w.reads) wire;
+  failures = omega (arith, ap (λ w. w.failures) wire);
+  last_got = ap (λ w. w.last_got) wire;
+  session = session;
+  unfed = unfed;
+}

@@ -1,0 +1,163 @@
+//! The half of a turn that sends to the client: what the lobby has for it is drained, as much as one
+//! write carries, and written.
+
+ghost use Rattle.std.specs.Prelude.{◌≡◌, ◌≤◌, [], false};
+ghost use Rattle.lobby_turns.specs.Wire.{MayGoOn};
+ghost use Rattle.lobby_turns.specs.Snapshot.{Snapshot, snapshot};
+ghost use Rattle.lobby_turns.specs.Holds.{Drains};
+ghost use Rattle.lobby_turns.specs.Sending.{OnlyWrites, SendsNext, Sends, Writes, MaySend};
+
+use crate::conn::Conn;
+use crate::gate::Gate;
+use crate::gated_desk::GatedDesk;
+use crate::holds;
+use crate::link::{Link, Sent};
+use lobby_lock::Pass;
+use std::sync::Wait;
+
+/// The most writes of a turn, so that a client that reads as fast as it is sent to does not keep its worker from the others. A write
+/// carries up to 16 KiB, so a turn sends up to 256 KiB: all that one who logs in among thousands is told.
+const WRITES: usize = 16;
+
+/// How far a turn sent to its client.
+#[derive(Clone, Copy)]
+pub(crate) enum SendState {
+    /// All that the lobby has for it was written.
+    All,
+    /// The link takes nothing now.
+    WouldBlock,
+    /// The limit was met.
+    Again,
+    /// Nothing will ever come of the client.
+    Finished,
+    /// The link failed.
+    Fault,
+    /// Memory was refused.
+    Memory,
+}
+
+/// One step of sending.
+#[derive(Clone, Copy)]
+pub(crate) enum Step {
+    /// Bytes were written.
+    Wrote,
+    /// All that the lobby has for it was written.
+    All,
+    /// The link takes nothing now.
+    WouldBlock,
+    /// Nothing will ever come of the client.
+    Finished,
+    /// The link failed.
+    Fault,
+    /// Memory was refused to the piece that was to be drained, and nothing was done.
+    Memory,
+}
+
+/// Writes what was drained, as much of it as the link takes now. Where the last drain was dry, which
+/// gave nothing, the client has been sent everything once all is written.
+fn send_link<L: Link, G: Gate>(
+    conn: &mut Conn,
+    link: &mut L,
+    pass: Pass,
+    gate: &G,
+    dry: bool,
+) -> (Pass, Step)
+    requires { MayGoOn (L.wire link.old) }
+    ensures { (before : Snapshot) → Drains before (snapshot conn.old (L.wire link.old) pass) false dry → OnlyWrites before (snapshot conn.old (L.wire link.old) pass) 0 → SendsNext before (snapshot conn.new (L.wire link.new) result.0) result.1 }
+{
+    match conn.write(link, gate, pass.number()) {
+        Sent::Took(_) => {
+            if dry && conn.is_written() {
+                return (pass, Step::All);
+            }
+            (pass, Step::Wrote)
+        }
+        Sent::Later => (pass, Step::WouldBlock),
+        Sent::Fault => (pass, Step::Fault),
+    }
+}
+
+/// Drains where all that was drained before was written, and writes.
+fn send_next<R: Wait, L: Link, G: Gate>(
+    rt: &R,
+    conn: &mut Conn,
+    link: &mut L,
+    desk: &GatedDesk<'_, G>,
+    pass: Pass,
+) -> (Pass, Step)
+    requires desk { pass.desk ≡ desk.now.desk.now }
+    requires wire { MayGoOn (L.wire link.old) }
+    ensures { SendsNext (snapshot conn.old (L.wire link.old) pass) (snapshot conn.new (L.wire link.new) result.0) result.1 }
+{
+    if !conn.is_written() {
+        return send_link(conn, link, pass, desk.gate, false);
+    }
+    let (pass, drained) = holds::drain(rt, conn, desk, pass);
+    match drained {
+        Err(_) => (pass, Step::Memory),
+        Ok(piece) => {
+            if piece.finished {
+                return (pass, Step::Finished);
+            }
+            if piece.dry && conn.is_written() {
+                return (pass, Step::All);
+            }
+            send_link(conn, link, pass, desk.gate, piece.dry)
+        }
+    }
+}
+
+/// Writes what was drained, until all is written or the link takes no more, in so many writes at most.
+fn write_out<L: Link, G: Gate>(conn: &mut Conn, link: &mut L, pass: &Pass, gate: &G, most: usize)
+    requires few { most ≤ 16 }
+    requires wire { MaySend (L.wire link.old) most }
+    ensures { Writes (snapshot conn.old (L.wire link.old) pass.now) (snapshot conn.new (L.wire link.new) pass.now) most }
+{
+    for _ in 0..most {
+        if conn.is_written() {
+            return;
+        }
+        let Sent::Took(_) = conn.write(link, gate, pass.number()) else {
+            return;
+        };
+    }
+}
+
+/// Sends to the client, as far as a turn may.
+pub(crate) fn send<R: Wait, L: Link, G: Gate>(
+    rt: &R,
+    conn: &mut Conn,
+    link: &mut L,
+    desk: &GatedDesk<'_, G>,
+    pass: Pass,
+) -> (Pass, SendState)
+    requires desk { pass.desk ≡ desk.now.desk.now }
+    requires wire { MaySend (L.wire link.old) 16 }
+    ensures { Sends (snapshot conn.old (L.wire link.old) pass) (snapshot conn.new (L.wire link.new) result.0) result.1 }
+{
+    let mut pass = pass;
+    if !conn.is_written() {
+        let (next, finished) = holds::is_finished(rt, conn, desk, pass);
+        pass = next;
+        if finished {
+            write_out(conn, link, &pass, desk.gate, WRITES);
+            return (pass, SendState::Finished);
+        }
+    }
+    for writes in 0..WRITES {
+        let (next, step) = send_next(rt, conn, link, desk, pass);
+        pass = next;
+        match step {
+            Step::Wrote => {}
+            Step::All => return (pass, SendState::All),
+            Step::WouldBlock => return (pass, SendState::WouldBlock),
+            Step::Finished => {
+                write_out(conn, link, &pass, desk.gate, WRITES - writes);
+                return (pass, SendState::Finished);
+            }
+            Step::Fault => return (pass, SendState::Fault),
+            Step::Memory => return (pass, SendState::Memory),
+        }
+    }
+    (pass, SendState::Again)
+}
