@@ -12,7 +12,7 @@ pub mod Cells
 pub mod Parcels
 pub mod Dues
 pub mod Rounds
-pub mod Rewritten
+pub mod Changed
 pub mod Newly
 pub mod Newcomers
 pub mod Underway
