@@ -17,7 +17,7 @@ use Rattle.lobby_post.specs.declared.delivery.Piece.{Piece}
 use Rattle.lobby_post.specs.declared.due.Due.{Due}
 use Rattle.lobby_post.specs.Dues.{due_and, due_but, shares_of, Covers}
 use Rattle.lobby_post.specs.Pieces.{LiesIn, bytes_of, pieces_of}
-use Rattle.lobby_post.specs.Mail.{Held, plain, bytes_for, due_for, deliver, wakes_one, wakes_home, with_piece, HaveLimit, AreDue, IsReady, AreReady}
+use Rattle.lobby_post.specs.Mail.{Held, plain, bytes_for, due_for, deliver, wakes_one, wakes_home, HaveLimit, PutsFirst, AreDue, IsReady, AreReady}
 use Rattle.lobby_post.proofs.Crowds.{IsWritten, all_written, all_past}
 use Rattle.lobby_post.proofs.Dues.{copied_within, due_covers, due_grown, due_left, due_other, due_same}
 use Rattle.lobby_post.proofs.Parcels.{deliver_step, deliver_past, deliver_nil, touched_alike, wakes_step, wakes_past, wakes_nil}
@@ -129,7 +129,7 @@ module _ (text : List ℕ) (pieces : List Piece) (i : ℕ) (within : i < length 
       length-take-le (piece.to - piece.from) (drop piece.from text) (omega (arith, d, a, b))
 
   module _ (x w : Held) (es fs : ByNumber Held) (is : fs ≡ set_value (is_at (nat_cmp piece.key.number)) es w)
-      (found : Some x ≡ lookup (is_at (nat_cmp piece.key.number)) es) (made : w.client ≡ with_piece x.limit x.due.bytes bytes x.client)
+      (found : Some x ≡ lookup (is_at (nat_cmp piece.key.number)) es) (made : PutsFirst x.limit x.due.bytes bytes x.client w.client)
       (ordered : IsStrictlySortedBy nat_cmp (map (λ e. e.0) es)) (due : AreDue (pieces_of text (drop i pieces)) es) where
     due_now : x.due.bytes ≡ length (bytes_for ((piece.key.number, bytes) ∷ rest) piece.key.number)
     due_now = ap (λ (d : Due). d.bytes) (subst (λ ps. AreDue ps es) pieces_is due piece.key.number x (sym found))
@@ -140,15 +140,15 @@ module _ (text : List ℕ) (pieces : List Piece) (i : ℕ) (within : i < length 
     found_plain : lookup (is_at (nat_cmp piece.key.number)) (plain es) ≡ Some x.client
     found_plain = lookup-values (λ held. held.client) (is_at (nat_cmp piece.key.number)) x es (sym found)
 
-    plain_is : plain fs ≡ set_value (is_at (nat_cmp piece.key.number)) (plain es) (with_piece x.limit x.due.bytes bytes x.client)
+    plain_is : plain fs ≡ set_value (is_at (nat_cmp piece.key.number)) (plain es) w.client
     plain_is = ap plain is ∙ set_value-values (λ held. held.client) (is_at (nat_cmp piece.key.number)) w es
-        ∙ ap (set_value (is_at (nat_cmp piece.key.number)) (plain es)) made
 
     pub clients_next : (limit : ℕ) → HaveLimit limit es → deliver limit rest (plain fs) ≡ deliver limit (pieces_of text (drop i pieces)) (plain es)
     clients_next limit all =
-        ap (deliver limit rest) (plain_is ∙ ap (λ n. set_value (is_at (nat_cmp piece.key.number)) (plain es) (with_piece n x.due.bytes bytes x.client))
-        (all piece.key.number x (sym found)))
-        ∙ deliver_step piece.key.number bytes rest limit x.due.bytes x.client (plain es) ordered_plain found_plain due_now
+        ap (deliver limit rest) plain_is
+        ∙ deliver_step piece.key.number bytes rest limit x.due.bytes x.client w.client
+        (subst (λ n. PutsFirst n x.due.bytes bytes x.client w.client) (all piece.key.number x (sym found)) made)
+        (plain es) ordered_plain found_plain due_now
         ∙ ap (λ ps. deliver limit ps (plain es)) (sym pieces_is)
 
     -- whom bytes touch does not depend on the limit
@@ -160,7 +160,7 @@ module _ (text : List ℕ) (pieces : List Piece) (i : ℕ) (within : i < length 
         → (has_home both home || wakes_home limit rest (plain fs) home) ≡ (has_home wakes home || wakes_home limit (pieces_of text (drop i pieces)) (plain es) home)
     wakes_next limit wakes mark both home joined marked =
         (λ j. (joined ∙ ap (λ b. has_home wakes home || b) marked) j || (sym (wakes_all limit home rest (plain fs)) ∙ ap (λ m. wakes_home x.limit rest m home) plain_is) j)
-        ∙ or_first (has_home wakes home) _ _ _ (wakes_step piece.key.number bytes rest x.limit x.due.bytes x.client
+        ∙ or_first (has_home wakes home) _ _ _ (wakes_step piece.key.number bytes rest x.limit x.due.bytes x.client w.client made
         (plain es) ordered_plain found_plain due_now home)
         ∙ ap (λ b. has_home wakes home || b) (ap (λ ps. wakes_home x.limit ps (plain es) home) (sym pieces_is) ∙ wakes_all limit home _ (plain es))
 

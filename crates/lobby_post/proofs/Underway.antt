@@ -1,17 +1,16 @@
 -- Delivery under way: those that it has touched stand apart, and the others are still to come.
-use Rattle.std.proofs.Common.{◌≡◌, ℕ, zero, suc, ◌+◌, ◌<◌, ◌≤◌, List, [], ◌∷◌, ◌++◌, length, refl, sym, ap, subst, ◌∙◌, Bool, true, false, not, cond, arith}
-use Rattle.std.specs.Prelude.{Some, None, ◌&&◌, ◌||◌, nat_le, if◌then◌else◌}
+use Rattle.std.proofs.Common.{◌≡◌, ℕ, zero, suc, ◌+◌, ◌<◌, ◌≤◌, List, [], ◌∷◌, ◌++◌, refl, sym, ap, subst, ◌∙◌, Bool, true, false, not, cond, arith}
+use Rattle.std.specs.Prelude.{Some, None, ◌&&◌, ◌||◌, if◌then◌else◌}
 use Rattle.std.specs.Ordering.{nat_cmp}
 use Rattle.std.specs.BTreeMap.{is_at}
 use Rattle.std.specs.Map.{lookup, set_value}
 use Rattle.line_words.specs.Table.{ByNumber, same_number}
-use Rattle.lobby_model.specs.State.{Client, is_live}
-use Rattle.lobby_model.specs.Next.{is_empty}
+use Rattle.lobby_model.specs.State.{is_live}
 use Rattle.lobby_model.proofs.Delivered.{same_number_is, same_itself}
 use Rattle.lobby_model.proofs.Splits.{same_either_way, lookup-values}
 use Rattle.lobby_model.specs.Touched.{is_touched}
 use Rattle.lobby_model.proofs.Quiet.{touched_is}
-use Rattle.lobby_post.specs.Mail.{Held, Line, bytes_for, with_piece}
+use Rattle.lobby_post.specs.Mail.{Held, Line, PutsFirst, bytes_for}
 use Rattle.lobby_post.specs.Dirty.{AllMarks, AreKnown, IsNewly, IsSettled, idle_of, mark_of, marks_of, news, news_of, pushed, stands, times}
 use Rattle.lobby_post.proofs.Counts.{times-append}
 use Rattle.lobby_post.proofs.Crowds.{IsWritten, written_through}
@@ -44,19 +43,9 @@ underway_first whole first before last known = record {
   numbered = known.numbered;
 }
 
-home_kept : (limit due : ℕ) (bytes : List ℕ) (client : Client) → (with_piece limit due bytes client).home ≡ client.home
-home_kept limit due bytes client =
-    elim (is_live client && not (is_empty bytes)) as (λ b. (if b then (if nat_le (length client.unread + due) limit then record client { unread = client.unread ++ bytes } else record client { cut = true; unread = [] }) else client).home ≡ client.home) [
-      | true ↦ elim (nat_le (length client.unread + due) limit) as (λ b. (if b then record client { unread = client.unread ++ bytes } else record client { cut = true; unread = [] }).home ≡ client.home) [
-        | true ↦ refl
-        | false ↦ refl
-      ]
-      | false ↦ refl
-    ]
-
 -- one piece put to its client
 module _ (c : ℕ) (bytes : List ℕ) (x w : Held) (es : ByNumber Held) (found : Some x ≡ lookup (is_at (nat_cmp c)) es)
-    (made : w.client ≡ with_piece x.limit x.due.bytes bytes x.client) (listed : w.listed ≡ (x.listed || is_touched x.limit bytes x.client)) where
+    (made : PutsFirst x.limit x.due.bytes bytes x.client w.client) (listed : w.listed ≡ (x.listed || is_touched x.limit bytes x.client)) where
   abbrev es_next : ByNumber Held
   es_next = set_value (is_at (nat_cmp c)) es w
 
@@ -64,7 +53,7 @@ module _ (c : ℕ) (bytes : List ℕ) (x w : Held) (es : ByNumber Held) (found :
   now_fresh home = same_number x.client.home home && (not x.listed && is_touched x.limit bytes x.client)
 
   same_home : w.client.home ≡ x.client.home
-  same_home = ap (λ (k : Client). k.home) made ∙ home_kept x.limit x.due.bytes bytes x.client
+  same_home = made.home
 
   mark_found : lookup (is_at (nat_cmp c)) (marks_of es) ≡ Some (mark_of x)
   mark_found = lookup-values mark_of (is_at (nat_cmp c)) x es (sym found)
@@ -83,8 +72,7 @@ module _ (c : ℕ) (bytes : List ℕ) (x w : Held) (es : ByNumber Held) (found :
     -- the news of the piece's own client
     news_own : (home : ℕ) → (if now_fresh home then 1 else 0) + news_of rest home c (Some w) ≡ news_of ((c, bytes) ∷ rest) home c (Some x)
     news_own home =
-        let both = ap (λ k. (same_number x.client.home home && is_touched x.limit bytes x.client) || (same_number k.home home && is_touched x.limit (bytes_for rest c) k)) made
-        ∙ wake_first x.limit home x.due.bytes x.client bytes (bytes_for rest c) in
+        let both = wake_first x.limit x.due.bytes home bytes (bytes_for rest c) x.client w.client made in
         (λ i. (if now_fresh home then 1 else 0)
         + (if same_number w.client.home home && (not (listed i) && touched_alike w.limit x.limit (bytes_for rest c) w.client i) then 1 else 0))
         ∙ once (same_number x.client.home home) x.listed (is_touched x.limit bytes x.client) (same_number w.client.home home)

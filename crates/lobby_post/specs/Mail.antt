@@ -1,5 +1,5 @@
 -- What an event sends, piece by piece, and what its delivery makes of the clients.
-use Rattle.std.specs.Prelude.{◌≡◌, ℕ, ◌+◌, ◌≤◌, Bool, true, false, not, ◌&&◌, nat_le, if◌then◌else◌, List, [], ◌∷◌, ◌++◌, length, Some}
+use Rattle.std.specs.Prelude.{◌≡◌, ℕ, ◌+◌, ◌≤◌, Bool, true, false, ◌&&◌, ◌||◌, if◌then◌else◌, List, [], ◌∷◌, ◌++◌, length, Some}
 use Rattle.std.specs.List.{list_any}
 use Rattle.std.specs.Map.{lookup}
 use Rattle.std.specs.Ordering.{nat_cmp}
@@ -11,7 +11,7 @@ use Rattle.lobby_post.specs.Mask.{has_home}
 use Rattle.lobby_model.specs.declared.event.Event.{Event}
 use Rattle.lobby_model.specs.declared.event.Phase.TheVariants.{Ended}
 use Rattle.lobby_model.specs.State.{State, Client, is_live, set_phase}
-use Rattle.lobby_model.specs.Next.{with_batch, is_empty}
+use Rattle.lobby_model.specs.Next.{with_batch}
 use Rattle.lobby_model.specs.Touched.{is_touched, touches}
 
 -- a client, the limit of its outbox, how many bytes may be copied and how many pieces shared to it without memory, what is still
@@ -71,13 +71,12 @@ wakes_home limit pieces clients home = list_any (λ e. wakes_one limit home (byt
 abbrev pub IsWakes : State → Event → ℕ → Type 0
 IsWakes s e wakes = (home : ℕ) → has_home wakes home ≡ touches s e home
 
--- A client with the next of its pieces at the end of its unread bytes; or cut, where not all the bytes fit that are still due to it,
--- those of the piece among them
-abbrev pub with_piece : ℕ → ℕ → List ℕ → Client → Client
-with_piece limit due bytes client =
-    if is_live client && not (is_empty bytes)
-    then (if nat_le (length client.unread + due) limit then record client { unread = client.unread ++ bytes } else record client { cut = true; unread = [] })
-    else client
+-- The first piece is put of what is due to a client: when the rest is put too, the client is as if all had been put at once, as one
+-- batch, and was touched where that would have touched it
+pub record PutsFirst (limit due : ℕ) (piece : List ℕ) (old new : Client) : Type 0 where
+  pub home : new.home ≡ old.home
+  pub whole : (rest : List ℕ) → length (piece ++ rest) ≡ due → with_batch limit rest new ≡ with_batch limit (piece ++ rest) old
+  pub touched : (rest : List ℕ) → (is_touched limit piece old || is_touched limit rest new) ≡ is_touched limit (piece ++ rest) old
 
 -- something holds of each slot
 abbrev pub AllSlots : (ℕ → Held → Type 0) → ByNumber Held → Type 0

@@ -13,11 +13,11 @@ ghost use Rattle.lobby_post.specs.Dirty.{all_but_client, marks_of, waits, Known}
 ghost use Rattle.lobby_post.specs.Mail.{AreDue, AreReady, bytes_for, parted, plain};
 ghost use Rattle.lobby_post.specs.Unread.{is_over, unread_in};
 
+use crate::buffer_pool::BufferPool;
 use crate::dirty::DirtyLists;
 use crate::key::ClientKey;
 use crate::slot::Slot;
 use crate::slots::Slots;
-use crate::buffer_pool::BufferPool;
 use line_words::NameBuf;
 use std::alloc::{AllocError, Global};
 use std::marker::Model;
@@ -169,14 +169,7 @@ impl Clients {
     {
         self.pool.reserve_total(self.slots.len().saturating_add(1))?;
         self.dirty.reserve(home)?;
-        let slot = Slot::with_greeting(
-            self.alloc,
-            self.limit,
-            ip,
-            home,
-            greeting,
-            &mut self.pool,
-        )?;
+        let slot = Slot::with_greeting(self.alloc, self.limit, ip, home, greeting, &mut self.pool)?;
         self.slots.insert(client, slot)?;
         self.dirty.add(home, client);
         Ok(())

@@ -5,17 +5,17 @@ ghost use Rattle.std.specs.List.{AllByRecursion};
 ghost use Rattle.lobby_post.specs.Mask.{has_home};
 ghost use Rattle.line_words.specs.Table.{same_number};
 ghost use Rattle.lobby_model.specs.Touched.{is_touched};
-ghost use Rattle.lobby_post.specs.Mail.{AreDue, AreReady, HaveLimit, IsReady, plain, deliver, with_piece, wakes_home, wakes_one};
+ghost use Rattle.lobby_post.specs.Mail.{AreDue, AreReady, HaveLimit, IsReady, PutsFirst, plain, deliver, wakes_home, wakes_one};
 ghost use Rattle.lobby_post.specs.Dirty.{line_of, marks_of, pushed, stands, AreKnown, IsNewly};
 ghost use Rattle.lobby_post.specs.Dues.{due_but, share_of, shares_of, Covers};
 ghost use Rattle.lobby_post.specs.Pieces.{LiesIn, pieces_of};
 
+use crate::buffer_pool::BufferPool;
 use crate::dirty::DirtyLists;
 use crate::key::ClientKey;
 use crate::shares::next_share;
 use crate::slot::Slot;
 use crate::slots::Slots;
-use crate::buffer_pool::BufferPool;
 use crate::wakes::Wakes;
 use bytes::Bytes;
 use std::alloc::AllocError;
@@ -93,7 +93,7 @@ fn put(
     requires share { share ≡ share_of bytes.now }
     requires due { Covers slot.old.due (length bytes.now) }
     requires ready { IsReady slot.old }
-    ensures client { slot.new.client ≡ with_piece slot.old.limit slot.old.due.bytes bytes.now slot.old.client }
+    ensures client { PutsFirst slot.old.limit slot.old.due.bytes bytes.now slot.old.client slot.new.client }
     ensures limit { slot.new.limit ≡ slot.old.limit }
     ensures due { slot.new.due ≡ due_but slot.old.due (length bytes.now) }
     ensures ready { IsReady slot.new }

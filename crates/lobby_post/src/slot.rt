@@ -7,12 +7,12 @@ ghost use Rattle.lobby_model.specs.Sessions.{greeted, drained};
 ghost use Rattle.lobby_model.specs.Next.{with_batch};
 ghost use Rattle.lobby_post.specs.Dues.{nothing_due, due_and, due_but, share_of, Covers};
 ghost use Rattle.lobby_model.specs.Touched.{is_touched};
-ghost use Rattle.lobby_post.specs.Mail.{IsReady, with_piece};
+ghost use Rattle.lobby_post.specs.Mail.{IsReady, PutsFirst};
 ghost use Rattle.lobby_post.specs.Unread.{is_over};
 
+use crate::buffer_pool::BufferPool;
 use crate::due::Due;
 use crate::shares::share;
-use crate::buffer_pool::BufferPool;
 use bytes::Bytes;
 use line_words::NameBuf;
 use lobby_model::Phase;
@@ -138,7 +138,7 @@ impl Slot {
         requires share { share ≡ share_of piece.now }
         requires due { Covers self.old.due (length piece.now) }
         requires ready { IsReady self.old }
-        ensures client { self.new.client ≡ with_piece self.old.limit self.old.due.bytes piece.now self.old.client }
+        ensures client { PutsFirst self.old.limit self.old.due.bytes piece.now self.old.client self.new.client }
         ensures limit { self.new.limit ≡ self.old.limit }
         ensures listed { self.new.listed ≡ self.old.listed }
         ensures due { self.new.due ≡ due_but self.old.due (length piece.now) }
