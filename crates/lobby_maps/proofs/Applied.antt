@@ -8,9 +8,8 @@ use Rattle.lobby_model.specs.State.{State, Client}
 use Rattle.lobby_model.specs.Events.{effect}
 use Rattle.lobby_model.specs.Next.{next, batch, delivered, with_batch}
 use Rattle.lobby_model.specs.Touched.{is_touched}
-use Rattle.lobby_model.proofs.Quiet.{touched_is}
 use Rattle.lobby_post.specs.Mask.{has_home}
-use Rattle.lobby_post.specs.Mail.{deliver, touched, wakes_home, IsWakes}
+use Rattle.lobby_post.specs.Mail.{deliver, wakes_home, IsWakes}
 use Rattle.lobby_post.specs.Posted.{Posted}
 use Rattle.lobby_maps.specs.Changes.{Matches}
 
@@ -23,10 +22,9 @@ module _ (s t : State) (e : Event) (post : Posted) (changed : effect s e ≡ t) 
       ∙ (λ i. map_values (λ d x. with_batch s.settings.outbox_limit (matches d i) x) t.clients))
       ∙ sym (ap (delivered s e) changed)
 
-  pub woken_so : (mask : ℕ) → ((home : ℕ) → has_home mask home ≡ wakes_home post.sent t.clients home) → IsWakes s e mask
+  pub woken_so : (mask : ℕ) → ((home : ℕ) → has_home mask home ≡ wakes_home s.settings.outbox_limit post.sent t.clients home) → IsWakes s e mask
   woken_so mask marks = λ home.
       marks home
-      ∙ (λ i. list_any (λ x. same_number x.1.home home && touched (matches x.0 i) x.1) t.clients)
-      ∙ (λ i. list_any (λ x. same_number x.1.home home && sym (touched_is s.settings.outbox_limit (batch s e x.0) x.1) i) t.clients)
+      ∙ (λ i. list_any (λ x. same_number x.1.home home && is_touched s.settings.outbox_limit (matches x.0 i) x.1) t.clients)
       ∙ ap (λ (u : State). list_any (λ x. same_number x.1.home home && is_touched s.settings.outbox_limit (batch s e x.0) x.1) u.clients)
       (sym changed)

@@ -1,6 +1,6 @@
 -- Battles in the maps: who is in which, and who is told.
 use Rattle.std.proofs.Common.{◌≡◌, ℕ, List, [], ◌∷◌, ◌++◌, refl, sym, ap, ◌∙◌, Bool, true, false, T, cond}
-use Rattle.std.specs.Prelude.{Option, Some, None, find, filter, not, ◌||◌, if◌then◌else◌, Result, Ok, Err, OnErr, ◌&&◌, is_some}
+use Rattle.std.specs.Prelude.{Option, Some, None, find, filter, not, ◌||◌, if◌then◌else◌, ◌&&◌, is_some}
 use Rattle.std.proofs.lemmas.List.Folds.{list_any-append}
 use Rattle.std.proofs.lemmas.Option.{same_Some}
 use Rattle.std.specs.Ordering.{nat_cmp}
@@ -128,11 +128,6 @@ shrinks_after (room.RemoveTags keys) rm = record { members = λ q h. h; askers =
 shrinks_after (room.DisableUnits words) rm = record { members = λ q h. h; askers = λ q h. h }
 shrinks_after (room.EnableUnits words) rm = record { members = λ q h. h; askers = λ q h. h }
 shrinks_after room.EnableAllUnits rm = record { members = λ q h. h; askers = λ q h. h }
-
--- what holds, holds on a refusal
-pub on_err : {A E : Type 0} {P : Type 0} (r : Result A E) → P → OnErr r P
-on_err (Ok a) p = tt
-on_err (Err e) p = p
 
 -- numbers that pass a test
 has_filter : (p : ℕ → Bool) (d : ℕ) (cs : List ℕ) → has_number (filter p cs) d ≡ (has_number cs d && p d)

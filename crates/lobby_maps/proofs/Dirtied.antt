@@ -14,9 +14,11 @@ use Rattle.lobby_model.specs.Events.{effect}
 use Rattle.lobby_model.specs.Next.{batch, next, with_batch}
 use Rattle.lobby_model.proofs.Delivered.{delivered_at, find-values}
 use Rattle.lobby_model.proofs.Quiet.{touched_is}
-use Rattle.lobby_post.specs.Mail.{Crowd, Held, plain, touched}
+use Rattle.lobby_model.specs.Touched.{is_touched}
+use Rattle.lobby_post.specs.Mail.{Crowd, Held, plain}
 use Rattle.lobby_post.specs.Posted.{Posted, has_number}
 use Rattle.lobby_post.specs.Dirty.{IsNewly, Known, news, news_of, waits}
+use Rattle.lobby_post.proofs.Parcels.{touched_alike}
 use Rattle.lobby_maps.specs.Changes.{Matches}
 use Rattle.lobby_maps.specs.Dirty.{DirtyAfter, changes, is_changed, those_there}
 use Rattle.lobby_maps.proofs.Lists.{filter_alike, has_kept, waits_marked}
@@ -90,8 +92,8 @@ module _ (s t : State) (e : Event) (post : Posted) (changed : effect s e ≡ t) 
         | None ↦ λ found. refl
         | Some held ↦ λ found.
             ap (λ b. if b then 1 else 0) (
-            (λ i. same_number held.client.home home && (not held.listed && touched (matches c i) held.client))
-            ∙ (λ i. same_number held.client.home home && (not held.listed && sym (touched_is s.settings.outbox_limit (batch s e c) held.client) i))
+            (λ i. same_number held.client.home home && (not held.listed && is_touched held.limit (matches c i) held.client))
+            ∙ (λ i. same_number held.client.home home && (not held.listed && touched_alike held.limit s.settings.outbox_limit (batch s e c) held.client i))
             ∙ and_again (same_number held.client.home home) (has_number old c) held.listed _ (listed_is c held found))
       ] refl
       ∙ ap (λ (o : Option Client). if is_changed s.settings.outbox_limit (batch s e c) home o && not (has_number old c) then 1 else 0)

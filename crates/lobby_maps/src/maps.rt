@@ -158,7 +158,7 @@ impl Maps {
         ensures dirty { OnOk result ((e : Event) → effect self.old.plain e ≡ changed self.old.plain client change → Matches self.old.plain e post.old → (home : ℕ) → home ≤ 63 → DirtyAfter self.old.plain e home (dirty_at self.old home) (dirty_at self.new home)) }
         ensures err { OnErr result (self.new ≡ self.old) }
     {
-        match post.make_room(&mut self.clients) {
+        match post.reserve(&mut self.clients) {
             Ok(()) => {}
             Err(refused) => {
                 drop(change);
@@ -176,7 +176,7 @@ impl Maps {
         match done {
             Ok(()) => Ok(post.deliver(&mut self.clients)),
             Err(refused) => {
-                post.forget(&mut self.clients);
+                post.cancel(&mut self.clients);
                 Err(refused)
             }
         }

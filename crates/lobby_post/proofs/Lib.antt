@@ -1,4 +1,5 @@
 pub mod Masks
+pub mod Refusals
 pub mod Filtered
 pub mod Listed
 pub mod Homes
@@ -11,6 +12,7 @@ pub mod Cells
 pub mod Parcels
 pub mod Dues
 pub mod Rounds
+pub mod Changed
 pub mod Newly
 pub mod Newcomers
 pub mod Underway

@@ -1,5 +1,5 @@
 -- Piece by piece is all at once: one piece put, and the rest delivered, is the whole delivered.
-use Rattle.std.proofs.Common.{◌≡◌, ℕ, ◌+◌, List, [], ◌∷◌, ◌++◌, length, refl, sym, ap, ◌∙◌, Bool, true, false, not, map, arith, append_assoc, append-nil, length-append}
+use Rattle.std.proofs.Common.{◌≡◌, ℕ, ◌+◌, List, [], ◌∷◌, ◌++◌, length, refl, sym, ap, subst, ◌∙◌, Bool, true, false, not, map, arith, append_assoc, append-nil, length-append}
 use Rattle.std.specs.Prelude.{Some, None, ◌&&◌, ◌||◌, nat_le, if◌then◌else◌}
 use Rattle.std.specs.Ordering.{nat_cmp}
 use Rattle.std.specs.List.{list_any}
@@ -9,9 +9,11 @@ use Rattle.std.specs.Map.{lookup, set_value}
 use Rattle.line_words.specs.Table.{ByNumber, same_number}
 use Rattle.lobby_model.specs.State.{Client, is_live}
 use Rattle.lobby_model.specs.Next.{with_batch, has_room_for, is_empty}
+use Rattle.lobby_model.specs.Touched.{is_touched}
+use Rattle.lobby_model.proofs.Quiet.{touched_is}
 use Rattle.lobby_model.proofs.Delivered.{with_batch_nil, map_values_none, same_itself}
 use Rattle.lobby_model.proofs.Splits.{apart_of_none, Split, split, any_apart, any-append, values_apart, values-append}
-use Rattle.lobby_post.specs.Mail.{bytes_for, deliver, wakes_one, wakes_home, put_first}
+use Rattle.lobby_post.specs.Mail.{PutsFirst, bytes_for, deliver, wakes_one, wakes_home}
 
 pub other_piece : (c : ℕ) (bytes : List ℕ) (rest : ByNumber (List ℕ)) (d : ℕ) → same_number d c ≡ false → bytes_for rest d
     ≡ bytes_for ((c, bytes) ∷ rest) d
@@ -24,13 +26,9 @@ and_false : (b : Bool) → (b && false) ≡ false
 and_false true = refl
 and_false false = refl
 
-and_or : (h w : Bool) → ((h && true) || (h && w)) ≡ (h && true)
-and_or true w = refl
-and_or false w = refl
-
-nothing_or : (h w : Bool) → ((h && false) || w) ≡ w
-nothing_or true w = refl
-nothing_or false w = refl
+and_both : (h a b : Bool) → ((h && a) || (h && b)) ≡ (h && (a || b))
+and_both true a b = refl
+and_both false a b = refl
 
 turned : (a p b : Bool) → (a || (p || b)) ≡ (p || (a || b))
 turned true true b = refl
@@ -47,6 +45,14 @@ cut_off client = record client { cut = true; unread = [] }
 
 abbrev longer : Client → List ℕ → Client
 longer client bytes = record client { unread = client.unread ++ bytes }
+
+-- A client with the next of its pieces at the end of its unread bytes; or cut, where not all the bytes fit that are still due to it,
+-- those of the piece among them
+abbrev pub with_piece : ℕ → ℕ → List ℕ → Client → Client
+with_piece limit due bytes client =
+    if is_live client && not (is_empty bytes)
+    then (if nat_le (length client.unread + due) limit then longer client bytes else cut_off client)
+    else client
 
 -- A client that is live: the first piece, and the rest
 module _ (limit : ℕ) (client : Client) (live : is_live client ≡ true) (b : ℕ) (bytes rest : List ℕ) where
@@ -80,8 +86,8 @@ module _ (limit : ℕ) (client : Client) (live : is_live client ≡ true) (b : �
         | false ↦ λ t. refl
       ] refl
 
-pub first_rest : (limit : ℕ) (client : Client) (due : ℕ) (bytes rest : List ℕ) → due ≡ length (bytes ++ rest)
-    → with_batch limit rest (put_first limit due bytes client) ≡ with_batch limit (bytes ++ rest) client
+first_rest : (limit : ℕ) (client : Client) (due : ℕ) (bytes rest : List ℕ) → due ≡ length (bytes ++ rest)
+    → with_batch limit rest (with_piece limit due bytes client) ≡ with_batch limit (bytes ++ rest) client
 first_rest limit client due [] rest is =
     ap (λ l. with_batch limit rest (if l then (if nat_le (length client.unread + due) limit then longer client [] else cut_off client) else client))
     (and_false (is_live client))
@@ -97,88 +103,115 @@ first_rest limit client due (b ∷ bytes) rest is =
       | false ↦ λ t. Rattle.lobby_model.proofs.Delivered.dead limit rest client t
     ] refl
 
--- the same of wakes
-pub wake_first : (home limit due : ℕ) (client : Client) (bytes rest : List ℕ)
-    → (wakes_one home bytes client || wakes_one home rest (put_first limit due bytes client)) ≡ wakes_one home (bytes ++ rest) client
-wake_first home limit due client [] rest =
-    ap (λ l. (same_number client.home home && (is_live client && false))
-    || wakes_one home rest (if l then (if nat_le (length client.unread + due) limit then longer client [] else cut_off client) else client))
+-- Whom bytes touch does not depend on the limit: a client that hears gains them, or is cut
+pub touched_alike : (limit other : ℕ) (bytes : List ℕ) (client : Client) → is_touched limit bytes client ≡ is_touched other bytes client
+touched_alike limit other bytes client = touched_is limit bytes client ∙ sym (touched_is other bytes client)
+
+touched_first_live : (limit due : ℕ) (client : Client) (bytes rest : List ℕ)
+    → ((is_live client && not (is_empty bytes)) || (is_live (with_piece limit due bytes client) && not (is_empty rest)))
+    ≡ (is_live client && not (is_empty (bytes ++ rest)))
+touched_first_live limit due client [] rest =
+    ap (λ l. l || (is_live (if l then (if nat_le (length client.unread + due) limit then longer client [] else cut_off client) else client) && not (is_empty rest)))
     (and_false (is_live client))
-    ∙ ap (λ l. (same_number client.home home && l) || wakes_one home rest client) (and_false (is_live client))
-    ∙ nothing_or (same_number client.home home) _
-wake_first home limit due client (b ∷ bytes) rest =
+touched_first_live limit due client (b ∷ bytes) rest =
     elim (is_live client) as (λ l. is_live client ≡ l
-    → ((same_number client.home home && (l && true))
-    || wakes_one home rest (if l && true then (if nat_le (length client.unread + due) limit then longer client
-    (b ∷ bytes) else cut_off client) else client))
-    ≡ (same_number client.home home && (l && true))) [
-      | true ↦ λ t. elim (nat_le (length client.unread + due) limit) as
-          (λ f. ((same_number client.home home && true) || wakes_one home rest (if f then longer client (b ∷ bytes) else cut_off client))
-          ≡ (same_number client.home home && true)) [
-            | true ↦ and_or (same_number client.home home) _
-            | false ↦ and_or (same_number client.home home) _
-          ]
-      | false ↦ λ t. nothing_or (same_number client.home home) _
-          ∙ ap (λ l. same_number client.home home && (l && not (is_empty rest))) t
+    → ((l && true) || (is_live (if l && true then (if nat_le (length client.unread + due) limit then longer client
+    (b ∷ bytes) else cut_off client) else client) && not (is_empty rest))) ≡ (l && true)) [
+      | true ↦ λ t. refl
+      | false ↦ λ t. ap (λ l. l && not (is_empty rest)) t
     ] refl
 
-nothing_touched : (home : ℕ) (client : Client) → wakes_one home [] client ≡ false
-nothing_touched home client = ap (λ l. same_number client.home home && l) (and_false (is_live client)) ∙ and_false _
+piece-home : (limit due : ℕ) (bytes : List ℕ) (client : Client) → (with_piece limit due bytes client).home ≡ client.home
+piece-home limit due bytes client =
+    elim (is_live client && not (is_empty bytes)) as (λ b.
+    (if b then (if nat_le (length client.unread + due) limit then longer client bytes else cut_off client) else client).home ≡ client.home) [
+      | true ↦ elim (nat_le (length client.unread + due) limit) as (λ b. (if b then longer client bytes else cut_off client).home ≡ client.home) [
+        | true ↦ refl
+        | false ↦ refl
+      ]
+      | false ↦ refl
+    ]
+
+pub puts_first : (limit due : ℕ) (bytes : List ℕ) (old new : Client) → new ≡ with_piece limit due bytes old → PutsFirst limit due bytes old new
+puts_first limit due bytes old new is = subst (PutsFirst limit due bytes old) (sym is) (record {
+  home = piece-home limit due bytes old;
+  whole = λ rest long. first_rest limit old due bytes rest (sym long);
+  touched = λ rest.
+      (λ i. touched_is limit bytes old i || touched_is limit rest (with_piece limit due bytes old) i)
+      ∙ touched_first_live limit due old bytes rest
+      ∙ sym (touched_is limit (bytes ++ rest) old);
+})
+
+-- what is due is this piece alone
+pub puts_all : (limit : ℕ) (bytes : List ℕ) (old new : Client) → PutsFirst limit (length bytes) bytes old new → new ≡ with_batch limit bytes old
+puts_all limit bytes old new put =
+    sym (with_batch_nil limit new) ∙ put.whole [] (ap length (append-nil bytes)) ∙ ap (λ b. with_batch limit b old) (append-nil bytes)
+
+-- what one piece and then the rest wake, all at once wakes
+pub wake_first : (limit due home : ℕ) (bytes rest : List ℕ) (old new : Client) → PutsFirst limit due bytes old new
+    → (wakes_one limit home bytes old || wakes_one limit home rest new) ≡ wakes_one limit home (bytes ++ rest) old
+wake_first limit due home bytes rest old new put =
+    ap (λ h. wakes_one limit home bytes old || (same_number h home && is_touched limit rest new)) put.home
+    ∙ and_both (same_number old.home home) (is_touched limit bytes old) (is_touched limit rest new)
+    ∙ ap (λ t. same_number old.home home && t) (put.touched rest)
+
+nothing_touched : (limit home : ℕ) (client : Client) → wakes_one limit home [] client ≡ false
+nothing_touched limit home client = ap (λ t. same_number client.home home && t) (touched_is limit [] client ∙ and_false (is_live client)) ∙ and_false _
 
 module _ (c : ℕ) (bytes : List ℕ) (rest : ByNumber (List ℕ)) where
   module _ (m : ByNumber Client) (none : lookup (is_at (nat_cmp c)) m ≡ None) where
     pub deliver_past : (limit : ℕ) → deliver limit rest m ≡ deliver limit ((c, bytes) ∷ rest) m
     deliver_past limit = values_apart _ _ c (λ d x e. ap (λ b. with_batch limit b x) (other_piece c bytes rest d e)) m (apart_of_none c m none)
 
-    pub wakes_past : (home : ℕ) → wakes_home rest m home ≡ wakes_home ((c, bytes) ∷ rest) m home
-    wakes_past home = any_apart _ _ c (λ e apart. ap (λ b. wakes_one home b e.1) (other_piece c bytes rest e.0 apart)) m (apart_of_none c m none)
+    pub wakes_past : (limit home : ℕ) → wakes_home limit rest m home ≡ wakes_home limit ((c, bytes) ∷ rest) m home
+    wakes_past limit home = any_apart _ _ c (λ e apart. ap (λ b. wakes_one limit home b e.1) (other_piece c bytes rest e.0 apart)) m (apart_of_none c m none)
 
-  module _ (limit due : ℕ) (x : Client) (m : ByNumber Client) (ordered : IsStrictlySortedBy nat_cmp (map (λ e. e.0) m))
+  module _ (limit due : ℕ) (x w : Client) (put : PutsFirst limit due bytes x w) (m : ByNumber Client) (ordered : IsStrictlySortedBy nat_cmp (map (λ e. e.0) m))
       (found : lookup (is_at (nat_cmp c)) m ≡ Some x) (is : due ≡ length (bytes_for ((c, bytes) ∷ rest) c)) where
     parts : Split c x m
     parts = split c x m ordered found
 
-    is_due : due ≡ length (bytes ++ bytes_for rest c)
-    is_due = is ∙ ap length (own_piece c bytes rest)
+    is_due : length (bytes ++ bytes_for rest c) ≡ due
+    is_due = sym (is ∙ ap length (own_piece c bytes rest))
 
-    pub deliver_step : deliver limit rest (set_value (is_at (nat_cmp c)) m (put_first limit due bytes x)) ≡ deliver limit ((c, bytes) ∷ rest) m
+    pub deliver_step : deliver limit rest (set_value (is_at (nat_cmp c)) m w) ≡ deliver limit ((c, bytes) ∷ rest) m
     deliver_step =
         let same : (d : ℕ) (y : Client) → same_number d c ≡ false → with_batch limit (bytes_for rest d) y
         ≡ with_batch limit (bytes_for ((c, bytes) ∷ rest) d) y = λ d y e. ap (λ b. with_batch limit b y) (other_piece c bytes rest d e) in
-        let own : with_batch limit (bytes_for rest c) (put_first limit due bytes x) ≡ with_batch limit (bytes_for ((c, bytes) ∷ rest) c) x =
-        first_rest limit x due bytes (bytes_for rest c) is_due ∙ ap (λ b. with_batch limit b x) (sym (own_piece c bytes rest)) in
-        ap (deliver limit rest) (parts.written (put_first limit due bytes x))
+        let own : with_batch limit (bytes_for rest c) w ≡ with_batch limit (bytes_for ((c, bytes) ∷ rest) c) x =
+        put.whole (bytes_for rest c) is_due ∙ ap (λ b. with_batch limit b x) (sym (own_piece c bytes rest)) in
+        ap (deliver limit rest) (parts.written w)
         ∙ values-append _ parts.before _
         ∙ (λ i. values_apart _ _ c same parts.before parts.apart_before i ++ ((c, own i) ∷ values_apart _ _ c same parts.after parts.apart_after i))
         ∙ sym (values-append _ parts.before _)
         ∙ ap (deliver limit ((c, bytes) ∷ rest)) (sym parts.whole)
 
-    pub wakes_step : (home : ℕ) → (wakes_one home bytes x || wakes_home rest (set_value (is_at (nat_cmp c)) m (put_first limit due bytes x)) home)
-        ≡ wakes_home ((c, bytes) ∷ rest) m home
+    pub wakes_step : (home : ℕ) → (wakes_one limit home bytes x || wakes_home limit rest (set_value (is_at (nat_cmp c)) m w) home)
+        ≡ wakes_home limit ((c, bytes) ∷ rest) m home
     wakes_step home =
-        let same : (e : ℕ × Client) → same_number e.0 c ≡ false → wakes_one home (bytes_for rest e.0) e.1
-        ≡ wakes_one home (bytes_for ((c, bytes) ∷ rest) e.0) e.1 =
-        λ e apart. ap (λ b. wakes_one home b e.1) (other_piece c bytes rest e.0 apart) in
-        let own : (wakes_one home bytes x || wakes_one home (bytes_for rest c) (put_first limit due bytes x))
-        ≡ wakes_one home (bytes_for ((c, bytes) ∷ rest) c) x = wake_first home limit due x bytes (bytes_for rest c)
-        ∙ ap (λ b. wakes_one home b x) (sym (own_piece c bytes rest)) in
-        ap (λ es. wakes_one home bytes x || wakes_home rest es home) (parts.written (put_first limit due bytes x))
-        ∙ ap (λ b. wakes_one home bytes x || b) (any-append _ parts.before _)
-        ∙ (λ i. wakes_one home bytes x || (any_apart _ _ c same parts.before parts.apart_before i
-        || (wakes_one home (bytes_for rest c) (put_first limit due bytes x) || any_apart _ _ c same parts.after parts.apart_after i)))
-        ∙ turned (wakes_one home bytes x) _ _
-        ∙ ap (λ b. list_any (λ e. wakes_one home (bytes_for ((c, bytes) ∷ rest) e.0) e.1) parts.before || b) (grouped (wakes_one home bytes x) _ _)
-        ∙ ap (λ b. list_any (λ e. wakes_one home (bytes_for ((c, bytes) ∷ rest) e.0) e.1) parts.before
-        || (b || list_any (λ e. wakes_one home (bytes_for ((c, bytes) ∷ rest) e.0) e.1) parts.after)) own
+        let same : (e : ℕ × Client) → same_number e.0 c ≡ false → wakes_one limit home (bytes_for rest e.0) e.1
+        ≡ wakes_one limit home (bytes_for ((c, bytes) ∷ rest) e.0) e.1 =
+        λ e apart. ap (λ b. wakes_one limit home b e.1) (other_piece c bytes rest e.0 apart) in
+        let own : (wakes_one limit home bytes x || wakes_one limit home (bytes_for rest c) w)
+        ≡ wakes_one limit home (bytes_for ((c, bytes) ∷ rest) c) x = wake_first limit due home bytes (bytes_for rest c) x w put
+        ∙ ap (λ b. wakes_one limit home b x) (sym (own_piece c bytes rest)) in
+        ap (λ es. wakes_one limit home bytes x || wakes_home limit rest es home) (parts.written w)
+        ∙ ap (λ b. wakes_one limit home bytes x || b) (any-append _ parts.before _)
+        ∙ (λ i. wakes_one limit home bytes x || (any_apart _ _ c same parts.before parts.apart_before i
+        || (wakes_one limit home (bytes_for rest c) w || any_apart _ _ c same parts.after parts.apart_after i)))
+        ∙ turned (wakes_one limit home bytes x) _ _
+        ∙ ap (λ b. list_any (λ e. wakes_one limit home (bytes_for ((c, bytes) ∷ rest) e.0) e.1) parts.before || b) (grouped (wakes_one limit home bytes x) _ _)
+        ∙ ap (λ b. list_any (λ e. wakes_one limit home (bytes_for ((c, bytes) ∷ rest) e.0) e.1) parts.before
+        || (b || list_any (λ e. wakes_one limit home (bytes_for ((c, bytes) ∷ rest) e.0) e.1) parts.after)) own
         ∙ sym (any-append _ parts.before _)
-        ∙ ap (λ es. wakes_home ((c, bytes) ∷ rest) es home) (sym parts.whole)
+        ∙ ap (λ es. wakes_home limit ((c, bytes) ∷ rest) es home) (sym parts.whole)
 
 pub deliver_nil : (limit : ℕ) (m : ByNumber Client) → deliver limit [] m ≡ m
 deliver_nil limit m = map_values_none _ m (λ d x. with_batch_nil limit x)
 
-pub wakes_nil : (home : ℕ) (m : ByNumber Client) → wakes_home [] m home ≡ false
-wakes_nil home [] = refl
-wakes_nil home (e ∷ m) = ap (λ b. b || wakes_home [] m home) (nothing_touched home e.1) ∙ wakes_nil home m
+pub wakes_nil : (limit home : ℕ) (m : ByNumber Client) → wakes_home limit [] m home ≡ false
+wakes_nil limit home [] = refl
+wakes_nil limit home (e ∷ m) = ap (λ b. b || wakes_home limit [] m home) (nothing_touched limit home e.1) ∙ wakes_nil limit home m
 
 -- what is due, where one more piece was told, and where the first is put
 pub more_due : (done : ByNumber (List ℕ)) (c : ℕ) (bytes : List ℕ) (q : ℕ) → bytes_for (done ++ (c, bytes) ∷ []) q

@@ -1,15 +1,15 @@
 -- One round of the loops over the pieces.
 use Rattle.std.proofs.Common.{◌≡◌, ℕ, ◌+◌, ◌-◌, ◌<◌, ◌≤◌, List, [], ◌∷◌, ◌++◌, length, take, drop, refl, sym, ap, subst, ◌∙◌, Bool, true, false, map, slice_index_or, drop-cons, add-one, arith}
-use Rattle.std.specs.Prelude.{Some, None, ◌||◌}
+use Rattle.std.specs.Prelude.{Some, None, ◌&&◌, ◌||◌}
 use Rattle.std.specs.Ordering.{nat_cmp}
-use Rattle.std.specs.List.{AllByRecursion}
+use Rattle.std.specs.List.{AllByRecursion, list_any}
 use Rattle.std.specs.List.Sorted.{IsStrictlySortedBy}
 use Rattle.std.specs.BTreeMap.{is_at}
 use Rattle.std.specs.Map.{lookup, set_value}
 use Rattle.std.proofs.Math.Seq.{take-suc}
 use Rattle.std.proofs.lemmas.List.{map-append, drop_all, take_all, length-take-le, length-drop}
 use Rattle.std.proofs.lemmas.Map.Steps.{set_value_same}
-use Rattle.line_words.specs.Table.{ByNumber}
+use Rattle.line_words.specs.Table.{ByNumber, same_number}
 use Rattle.lobby_model.specs.State.{Client}
 use Rattle.lobby_model.proofs.Splits.{keys-values, lookup-values, lookup-values-none, set_value-values}
 use Rattle.lobby_post.specs.Mask.{has_home}
@@ -17,10 +17,10 @@ use Rattle.lobby_post.specs.declared.delivery.Piece.{Piece}
 use Rattle.lobby_post.specs.declared.due.Due.{Due}
 use Rattle.lobby_post.specs.Dues.{due_and, due_but, shares_of, Covers}
 use Rattle.lobby_post.specs.Pieces.{LiesIn, bytes_of, pieces_of}
-use Rattle.lobby_post.specs.Mail.{Held, plain, bytes_for, due_for, deliver, wakes_one, wakes_home, put_first, HaveLimit, AreDue, IsReady, AreReady}
+use Rattle.lobby_post.specs.Mail.{Held, plain, bytes_for, due_for, deliver, wakes_one, wakes_home, HaveLimit, PutsFirst, AreDue, IsReady, AreReady}
 use Rattle.lobby_post.proofs.Crowds.{IsWritten, all_written, all_past}
 use Rattle.lobby_post.proofs.Dues.{copied_within, due_covers, due_grown, due_left, due_other, due_same}
-use Rattle.lobby_post.proofs.Parcels.{deliver_step, deliver_past, deliver_nil, wakes_step, wakes_past, wakes_nil}
+use Rattle.lobby_post.proofs.Parcels.{deliver_step, deliver_past, deliver_nil, touched_alike, wakes_step, wakes_past, wakes_nil}
 
 abbrev pub blank : Piece
 blank = record { key = record { number = 0; slot = 0 }; from = 0; to = 0 }
@@ -129,7 +129,7 @@ module _ (text : List ℕ) (pieces : List Piece) (i : ℕ) (within : i < length 
       length-take-le (piece.to - piece.from) (drop piece.from text) (omega (arith, d, a, b))
 
   module _ (x w : Held) (es fs : ByNumber Held) (is : fs ≡ set_value (is_at (nat_cmp piece.key.number)) es w)
-      (found : Some x ≡ lookup (is_at (nat_cmp piece.key.number)) es) (made : w.client ≡ put_first x.limit x.due.bytes bytes x.client)
+      (found : Some x ≡ lookup (is_at (nat_cmp piece.key.number)) es) (made : PutsFirst x.limit x.due.bytes bytes x.client w.client)
       (ordered : IsStrictlySortedBy nat_cmp (map (λ e. e.0) es)) (due : AreDue (pieces_of text (drop i pieces)) es) where
     due_now : x.due.bytes ≡ length (bytes_for ((piece.key.number, bytes) ∷ rest) piece.key.number)
     due_now = ap (λ (d : Due). d.bytes) (subst (λ ps. AreDue ps es) pieces_is due piece.key.number x (sym found))
@@ -140,25 +140,29 @@ module _ (text : List ℕ) (pieces : List Piece) (i : ℕ) (within : i < length 
     found_plain : lookup (is_at (nat_cmp piece.key.number)) (plain es) ≡ Some x.client
     found_plain = lookup-values (λ held. held.client) (is_at (nat_cmp piece.key.number)) x es (sym found)
 
-    plain_is : plain fs ≡ set_value (is_at (nat_cmp piece.key.number)) (plain es) (put_first x.limit x.due.bytes bytes x.client)
+    plain_is : plain fs ≡ set_value (is_at (nat_cmp piece.key.number)) (plain es) w.client
     plain_is = ap plain is ∙ set_value-values (λ held. held.client) (is_at (nat_cmp piece.key.number)) w es
-        ∙ ap (set_value (is_at (nat_cmp piece.key.number)) (plain es)) made
 
     pub clients_next : (limit : ℕ) → HaveLimit limit es → deliver limit rest (plain fs) ≡ deliver limit (pieces_of text (drop i pieces)) (plain es)
     clients_next limit all =
-        ap (deliver limit rest) (plain_is ∙ ap (λ n. set_value (is_at (nat_cmp piece.key.number)) (plain es) (put_first n x.due.bytes bytes x.client))
-        (all piece.key.number x (sym found)))
-        ∙ deliver_step piece.key.number bytes rest limit x.due.bytes x.client (plain es) ordered_plain found_plain due_now
+        ap (deliver limit rest) plain_is
+        ∙ deliver_step piece.key.number bytes rest limit x.due.bytes x.client w.client
+        (subst (λ n. PutsFirst n x.due.bytes bytes x.client w.client) (all piece.key.number x (sym found)) made)
+        (plain es) ordered_plain found_plain due_now
         ∙ ap (λ ps. deliver limit ps (plain es)) (sym pieces_is)
 
-    pub wakes_next : (wakes mark both home : ℕ) → has_home both home ≡ (has_home wakes home || has_home mark home) → has_home mark home
-        ≡ wakes_one home bytes x.client
-        → (has_home both home || wakes_home rest (plain fs) home) ≡ (has_home wakes home || wakes_home (pieces_of text (drop i pieces)) (plain es) home)
-    wakes_next wakes mark both home joined marked =
-        (λ j. (joined ∙ ap (λ b. has_home wakes home || b) marked) j || wakes_home rest (plain_is j) home)
-        ∙ or_first (has_home wakes home) _ _ _ (wakes_step piece.key.number bytes rest x.limit x.due.bytes x.client
+    -- whom bytes touch does not depend on the limit
+    wakes_all : (limit home : ℕ) (ps : ByNumber (List ℕ)) (m : ByNumber Client) → wakes_home x.limit ps m home ≡ wakes_home limit ps m home
+    wakes_all limit home ps m = λ j. list_any (λ e. same_number e.1.home home && touched_alike x.limit limit (bytes_for ps e.0) e.1 j) m
+
+    pub wakes_next : (limit wakes mark both home : ℕ) → has_home both home ≡ (has_home wakes home || has_home mark home) → has_home mark home
+        ≡ wakes_one x.limit home bytes x.client
+        → (has_home both home || wakes_home limit rest (plain fs) home) ≡ (has_home wakes home || wakes_home limit (pieces_of text (drop i pieces)) (plain es) home)
+    wakes_next limit wakes mark both home joined marked =
+        (λ j. (joined ∙ ap (λ b. has_home wakes home || b) marked) j || (sym (wakes_all limit home rest (plain fs)) ∙ ap (λ m. wakes_home x.limit rest m home) plain_is) j)
+        ∙ or_first (has_home wakes home) _ _ _ (wakes_step piece.key.number bytes rest x.limit x.due.bytes x.client w.client made
         (plain es) ordered_plain found_plain due_now home)
-        ∙ ap (λ ps. has_home wakes home || wakes_home ps (plain es) home) (sym pieces_is)
+        ∙ ap (λ b. has_home wakes home || b) (ap (λ ps. wakes_home x.limit ps (plain es) home) (sym pieces_is) ∙ wakes_all limit home _ (plain es))
 
   module _ (es : ByNumber Held) (none : lookup (is_at (nat_cmp piece.key.number)) es ≡ None) where
     none_plain : lookup (is_at (nat_cmp piece.key.number)) (plain es) ≡ None
@@ -167,10 +171,10 @@ module _ (text : List ℕ) (pieces : List Piece) (i : ℕ) (within : i < length 
     pub clients_past : (limit : ℕ) → deliver limit rest (plain es) ≡ deliver limit (pieces_of text (drop i pieces)) (plain es)
     clients_past limit = deliver_past piece.key.number bytes rest (plain es) none_plain limit ∙ ap (λ ps. deliver limit ps (plain es)) (sym pieces_is)
 
-    pub woken_past : (wakes home : ℕ) → (has_home wakes home || wakes_home rest (plain es) home)
-        ≡ (has_home wakes home || wakes_home (pieces_of text (drop i pieces)) (plain es) home)
-    woken_past wakes home = ap (λ b. has_home wakes home || b)
-        (wakes_past piece.key.number bytes rest (plain es) none_plain home ∙ ap (λ ps. wakes_home ps (plain es) home) (sym pieces_is))
+    pub woken_past : (limit wakes home : ℕ) → (has_home wakes home || wakes_home limit rest (plain es) home)
+        ≡ (has_home wakes home || wakes_home limit (pieces_of text (drop i pieces)) (plain es) home)
+    woken_past limit wakes home = ap (λ b. has_home wakes home || b)
+        (wakes_past piece.key.number bytes rest (plain es) none_plain limit home ∙ ap (λ ps. wakes_home limit ps (plain es) home) (sym pieces_is))
 
 -- at the end
 module _ (text : List ℕ) (pieces : List Piece) (i : ℕ) (past : length pieces ≤ i) where
@@ -186,6 +190,6 @@ module _ (text : List ℕ) (pieces : List Piece) (i : ℕ) (past : length pieces
   pub clients_end : (limit : ℕ) (m : ByNumber Client) → deliver limit (pieces_of text (drop i pieces)) m ≡ m
   clients_end limit m = ap (λ ps. deliver limit ps m) none_left ∙ deliver_nil limit m
 
-  pub wakes_end : (wakes home : ℕ) (m : ByNumber Client) → (has_home wakes home || wakes_home (pieces_of text (drop i pieces)) m home)
+  pub wakes_end : (limit wakes home : ℕ) (m : ByNumber Client) → (has_home wakes home || wakes_home limit (pieces_of text (drop i pieces)) m home)
       ≡ has_home wakes home
-  wakes_end wakes home m = or_none _ _ (ap (λ ps. wakes_home ps m home) none_left ∙ wakes_nil home m)
+  wakes_end limit wakes home m = or_none _ _ (ap (λ ps. wakes_home limit ps m home) none_left ∙ wakes_nil limit home m)

@@ -1,21 +1,22 @@
 -- Delivery under way: those that it has touched stand apart, and the others are still to come.
-use Rattle.std.proofs.Common.{◌≡◌, ℕ, zero, suc, ◌+◌, ◌<◌, ◌≤◌, List, [], ◌∷◌, ◌++◌, length, refl, sym, ap, subst, ◌∙◌, Bool, true, false, not, cond, arith}
-use Rattle.std.specs.Prelude.{Some, None, ◌&&◌, ◌||◌, nat_le, if◌then◌else◌}
+use Rattle.std.proofs.Common.{◌≡◌, ℕ, zero, suc, ◌+◌, ◌<◌, ◌≤◌, List, [], ◌∷◌, ◌++◌, refl, sym, ap, subst, ◌∙◌, Bool, true, false, not, cond, arith}
+use Rattle.std.specs.Prelude.{Some, None, ◌&&◌, ◌||◌, if◌then◌else◌}
 use Rattle.std.specs.Ordering.{nat_cmp}
 use Rattle.std.specs.BTreeMap.{is_at}
 use Rattle.std.specs.Map.{lookup, set_value}
 use Rattle.line_words.specs.Table.{ByNumber, same_number}
-use Rattle.lobby_model.specs.State.{Client, is_live}
-use Rattle.lobby_model.specs.Next.{is_empty}
+use Rattle.lobby_model.specs.State.{is_live}
 use Rattle.lobby_model.proofs.Delivered.{same_number_is, same_itself}
 use Rattle.lobby_model.proofs.Splits.{same_either_way, lookup-values}
-use Rattle.lobby_post.specs.Mail.{Held, Line, bytes_for, put_first, touched}
+use Rattle.lobby_model.specs.Touched.{is_touched}
+use Rattle.lobby_model.proofs.Quiet.{touched_is}
+use Rattle.lobby_post.specs.Mail.{Held, Line, PutsFirst, bytes_for}
 use Rattle.lobby_post.specs.Dirty.{AllMarks, AreKnown, IsNewly, IsSettled, idle_of, mark_of, marks_of, news, news_of, pushed, stands, times}
 use Rattle.lobby_post.proofs.Counts.{times-append}
 use Rattle.lobby_post.proofs.Crowds.{IsWritten, written_through}
 use Rattle.lobby_post.proofs.Idle.{idle_one, idle_written}
 use Rattle.lobby_post.proofs.Marks.{IsPut, marks_put, stands_same}
-use Rattle.lobby_post.proofs.Parcels.{own_piece, wake_first}
+use Rattle.lobby_post.proofs.Parcels.{own_piece, touched_alike, wake_first}
 use Rattle.lobby_post.proofs.Newly.{IsNext, first_of_and, less_idle, marks_next, more_listed, never_both, news_other, news_past, next_line, no_news, once, times_ordered}
 
 -- what holds between two pieces: all that are told, and those that are left
@@ -42,27 +43,17 @@ underway_first whole first before last known = record {
   numbered = known.numbered;
 }
 
-home_kept : (limit due : ℕ) (bytes : List ℕ) (client : Client) → (put_first limit due bytes client).home ≡ client.home
-home_kept limit due bytes client =
-    elim (is_live client && not (is_empty bytes)) as (λ b. (if b then (if nat_le (length client.unread + due) limit then record client { unread = client.unread ++ bytes } else record client { cut = true; unread = [] }) else client).home ≡ client.home) [
-      | true ↦ elim (nat_le (length client.unread + due) limit) as (λ b. (if b then record client { unread = client.unread ++ bytes } else record client { cut = true; unread = [] }).home ≡ client.home) [
-        | true ↦ refl
-        | false ↦ refl
-      ]
-      | false ↦ refl
-    ]
-
 -- one piece put to its client
 module _ (c : ℕ) (bytes : List ℕ) (x w : Held) (es : ByNumber Held) (found : Some x ≡ lookup (is_at (nat_cmp c)) es)
-    (made : w.client ≡ put_first x.limit x.due.bytes bytes x.client) (listed : w.listed ≡ (x.listed || touched bytes x.client)) where
+    (made : PutsFirst x.limit x.due.bytes bytes x.client w.client) (listed : w.listed ≡ (x.listed || is_touched x.limit bytes x.client)) where
   abbrev es_next : ByNumber Held
   es_next = set_value (is_at (nat_cmp c)) es w
 
   abbrev now_fresh : ℕ → Bool
-  now_fresh home = same_number x.client.home home && (not x.listed && touched bytes x.client)
+  now_fresh home = same_number x.client.home home && (not x.listed && is_touched x.limit bytes x.client)
 
   same_home : w.client.home ≡ x.client.home
-  same_home = ap (λ (k : Client). k.home) made ∙ home_kept x.limit x.due.bytes bytes x.client
+  same_home = made.home
 
   mark_found : lookup (is_at (nat_cmp c)) (marks_of es) ≡ Some (mark_of x)
   mark_found = lookup-values mark_of (is_at (nat_cmp c)) x es (sym found)
@@ -81,12 +72,12 @@ module _ (c : ℕ) (bytes : List ℕ) (x w : Held) (es : ByNumber Held) (found :
     -- the news of the piece's own client
     news_own : (home : ℕ) → (if now_fresh home then 1 else 0) + news_of rest home c (Some w) ≡ news_of ((c, bytes) ∷ rest) home c (Some x)
     news_own home =
-        let both = ap (λ k. (same_number x.client.home home && touched bytes x.client) || (same_number k.home home && touched (bytes_for rest c) k)) made
-        ∙ wake_first home x.limit x.due.bytes x.client bytes (bytes_for rest c) in
-        ap (λ l. (if now_fresh home then 1 else 0) + (if same_number w.client.home home && (not l && touched (bytes_for rest c) w.client) then 1 else 0)) listed
-        ∙ once (same_number x.client.home home) x.listed (touched bytes x.client) (same_number w.client.home home) (touched (bytes_for rest c) w.client)
-        (touched (bytes ++ bytes_for rest c) x.client) both
-        ∙ ap (λ b. if same_number x.client.home home && (not x.listed && touched b x.client) then 1 else 0) (sym (own_piece c bytes rest))
+        let both = wake_first x.limit x.due.bytes home bytes (bytes_for rest c) x.client w.client made in
+        (λ i. (if now_fresh home then 1 else 0)
+        + (if same_number w.client.home home && (not (listed i) && touched_alike w.limit x.limit (bytes_for rest c) w.client i) then 1 else 0))
+        ∙ once (same_number x.client.home home) x.listed (is_touched x.limit bytes x.client) (same_number w.client.home home)
+        (is_touched x.limit (bytes_for rest c) w.client) (is_touched x.limit (bytes ++ bytes_for rest c) x.client) both
+        ∙ ap (λ b. if same_number x.client.home home && (not x.listed && is_touched x.limit b x.client) then 1 else 0) (sym (own_piece c bytes rest))
 
     news_next : (home q : ℕ) → (if same_number q c && now_fresh home then 1 else 0) + news rest es_next home q ≡ news ((c, bytes) ∷ rest) es home q
     news_next home q =
@@ -111,9 +102,9 @@ module _ (c : ℕ) (bytes : List ℕ) (x w : Held) (es : ByNumber Held) (found :
       idle_next : (home : ℕ) → idle_of home (marks_of es_next) + (if now_fresh home then 1 else 0) ≡ idle_of home (marks_of es)
       idle_next home =
           let both = idle_written home c es es_next x w refl (sym found) in
-          let own : idle_one home w ≡ (if same_number x.client.home home && not (x.listed || touched bytes x.client) then 1 else 0) =
+          let own : idle_one home w ≡ (if same_number x.client.home home && not (x.listed || is_touched x.limit bytes x.client) then 1 else 0) =
           λ i. if same_number (same_home i) home && not (listed i) then 1 else 0 in
-          let less = less_idle (same_number x.client.home home) x.listed (touched bytes x.client) in
+          let less = less_idle (same_number x.client.home home) x.listed (is_touched x.limit bytes x.client) in
           omega (arith, both, own, less)
 
       small_home : x.client.home < 64
@@ -148,11 +139,11 @@ module _ (c : ℕ) (bytes : List ℕ) (x w : Held) (es : ByNumber Held) (found :
             let n = next x.client.home in
             let a = ap (times c) n.waiting in
             let b = n.fresh c in
-            let own : ◌≡◌ {A = ℕ} (if same_number c c && now_fresh x.client.home then 1 else 0) (if not x.listed && touched bytes x.client then 1 else 0) =
-            λ i. if same_itself c i && (same_itself x.client.home i && (not x.listed && touched bytes x.client)) then 1 else 0 in
-            let more = more_listed x.listed (touched bytes x.client) in
+            let own : ◌≡◌ {A = ℕ} (if same_number c c && now_fresh x.client.home then 1 else 0) (if not x.listed && is_touched x.limit bytes x.client then 1 else 0) =
+            λ i. if same_itself c i && (same_itself x.client.home i && (not x.listed && is_touched x.limit bytes x.client)) then 1 else 0 in
+            let more = more_listed x.listed (is_touched x.limit bytes x.client) in
             let all : times c (lines_next x.client.home).waiting + times c (lines_next x.client.home).fresh
-            ≡ (if x.listed || touched bytes x.client then 1 else 0) = omega (arith, h, a, b, own, more) in
+            ≡ (if x.listed || is_touched x.limit bytes x.client then 1 else 0) = omega (arith, h, a, b, own, more) in
             ap (λ k. times c (lines_next k).waiting + times c (lines_next k).fresh) same_home ∙ all ∙ ap (λ l. if l then 1 else 0) (sym listed))
             now.marked;
         counted = λ home small.
@@ -186,7 +177,8 @@ underway_past c bytes rest whole first es before lines last none now = record {
 nothing_new : (es : ByNumber Held) (home q : ℕ) → news [] es home q ≡ 0
 nothing_new es home q = elim (lookup (is_at (nat_cmp q)) es) as (λ o. news_of [] home q o ≡ 0) [
   | None ↦ refl
-  | Some held ↦ no_news (same_number held.client.home home) held.listed (is_live held.client)
+  | Some held ↦ ap (λ t. if same_number held.client.home home && (not held.listed && t) then 1 else 0) (touched_is held.limit [] held.client)
+      ∙ no_news (same_number held.client.home home) held.listed (is_live held.client)
 ]
 
 news_numbered : (pieces : ByNumber (List ℕ)) (es : ByNumber Held) (last home q : ℕ) → AllMarks (λ c mark. c ≤ last) (marks_of es) → 0 < news pieces es home q → q ≤ last

@@ -6,7 +6,8 @@ use Rattle.std.specs.Ordering.{nat_cmp}
 use Rattle.std.specs.BTreeMap.{is_at}
 use Rattle.std.specs.Map.{lookup}
 use Rattle.line_words.specs.Table.{ByNumber, map_values, same_number}
-use Rattle.lobby_post.specs.Mail.{Held, Line, Crowd, bytes_for, touched}
+use Rattle.lobby_model.specs.Touched.{is_touched}
+use Rattle.lobby_post.specs.Mail.{Held, Line, Crowd, bytes_for}
 
 -- a line, and for how many more clients there is room in it
 pub record Roomy : Type 0 where
@@ -123,7 +124,7 @@ line_at lines home = slice_index_or lines home none_waits
 -- 1 for a client of a worker that these pieces touch and that does not wait yet, else 0
 abbrev pub news_of : ByNumber (List ℕ) → ℕ → ℕ → Option Held → ℕ
 news_of pieces home c None = 0
-news_of pieces home c (Some held) = if same_number held.client.home home && (not held.listed && touched (bytes_for pieces c) held.client) then 1 else 0
+news_of pieces home c (Some held) = if same_number held.client.home home && (not held.listed && is_touched held.limit (bytes_for pieces c) held.client) then 1 else 0
 
 abbrev pub news : ByNumber (List ℕ) → ByNumber Held → ℕ → ℕ → ℕ
 news pieces slots home c = news_of pieces home c (lookup (is_at (nat_cmp c)) slots)

@@ -1,5 +1,5 @@
 -- What an event sends, piece by piece, and what its delivery makes of the clients.
-use Rattle.std.specs.Prelude.{◌≡◌, ℕ, ◌+◌, ◌≤◌, Bool, true, false, not, ◌&&◌, nat_le, if◌then◌else◌, List, [], ◌∷◌, ◌++◌, length, Some}
+use Rattle.std.specs.Prelude.{◌≡◌, ℕ, ◌+◌, ◌≤◌, Bool, true, false, ◌&&◌, ◌||◌, if◌then◌else◌, List, [], ◌∷◌, ◌++◌, length, Some}
 use Rattle.std.specs.List.{list_any}
 use Rattle.std.specs.Map.{lookup}
 use Rattle.std.specs.Ordering.{nat_cmp}
@@ -11,8 +11,8 @@ use Rattle.lobby_post.specs.Mask.{has_home}
 use Rattle.lobby_model.specs.declared.event.Event.{Event}
 use Rattle.lobby_model.specs.declared.event.Phase.TheVariants.{Ended}
 use Rattle.lobby_model.specs.State.{State, Client, is_live, set_phase}
-use Rattle.lobby_model.specs.Next.{with_batch, is_empty}
-use Rattle.lobby_model.specs.Touched.{touches}
+use Rattle.lobby_model.specs.Next.{with_batch}
+use Rattle.lobby_model.specs.Touched.{is_touched, touches}
 
 -- a client, the limit of its outbox, how many bytes may be copied and how many pieces shared to it without memory, what is still
 -- due to it, and whether it stands in its worker's list of those that were touched
@@ -59,28 +59,24 @@ due_for pieces d = record { bytes = length (bytes_for pieces d); copied = count_
 abbrev pub deliver : ℕ → ByNumber (List ℕ) → ByNumber Client → ByNumber Client
 deliver limit pieces clients = map_values (λ d client. with_batch limit (bytes_for pieces d) client) clients
 
--- a client gains bytes or is cut
-abbrev pub touched : List ℕ → Client → Bool
-touched bytes client = is_live client && not (is_empty bytes)
+-- a client of this home is touched by bytes for it
+abbrev pub wakes_one : ℕ → ℕ → List ℕ → Client → Bool
+wakes_one limit home bytes client = same_number client.home home && is_touched limit bytes client
 
--- a client of this home is touched
-abbrev pub wakes_one : ℕ → List ℕ → Client → Bool
-wakes_one home bytes client = same_number client.home home && touched bytes client
-
--- one of the clients is of this home and is touched
-abbrev pub wakes_home : ByNumber (List ℕ) → ByNumber Client → ℕ → Bool
-wakes_home pieces clients home = list_any (λ e. wakes_one home (bytes_for pieces e.0) e.1) clients
+-- one of the clients is of this home and is touched by its pieces
+abbrev pub wakes_home : ℕ → ByNumber (List ℕ) → ByNumber Client → ℕ → Bool
+wakes_home limit pieces clients home = list_any (λ e. wakes_one limit home (bytes_for pieces e.0) e.1) clients
 
 -- exactly the homes of clients that the event touched
 abbrev pub IsWakes : State → Event → ℕ → Type 0
 IsWakes s e wakes = (home : ℕ) → has_home wakes home ≡ touches s e home
 
--- One piece put to a client to which so many bytes are due, that piece among them: cut where not all of them fit
-abbrev pub put_first : ℕ → ℕ → List ℕ → Client → Client
-put_first limit due bytes client =
-    if is_live client && not (is_empty bytes)
-    then (if nat_le (length client.unread + due) limit then record client { unread = client.unread ++ bytes } else record client { cut = true; unread = [] })
-    else client
+-- The first piece is put of what is due to a client: when the rest is put too, the client is as if all had been put at once, as one
+-- batch, and was touched where that would have touched it
+pub record PutsFirst (limit due : ℕ) (piece : List ℕ) (old new : Client) : Type 0 where
+  pub home : new.home ≡ old.home
+  pub whole : (rest : List ℕ) → length (piece ++ rest) ≡ due → with_batch limit rest new ≡ with_batch limit (piece ++ rest) old
+  pub touched : (rest : List ℕ) → (is_touched limit piece old || is_touched limit rest new) ≡ is_touched limit (piece ++ rest) old
 
 -- something holds of each slot
 abbrev pub AllSlots : (ℕ → Held → Type 0) → ByNumber Held → Type 0

@@ -13,11 +13,11 @@ ghost use Rattle.lobby_post.specs.Dirty.{all_but_client, marks_of, waits, Known}
 ghost use Rattle.lobby_post.specs.Mail.{AreDue, AreReady, bytes_for, parted, plain};
 ghost use Rattle.lobby_post.specs.Unread.{is_over, unread_in};
 
+use crate::buffer_pool::BufferPool;
 use crate::dirty::DirtyLists;
 use crate::key::ClientKey;
 use crate::slot::Slot;
 use crate::slots::Slots;
-use crate::spares::Spares;
 use line_words::NameBuf;
 use std::alloc::{AllocError, Global};
 use std::marker::Model;
@@ -40,7 +40,7 @@ pub struct Clients {
     /// How many bytes may stand unread in an outbox.
     limit: usize,
     pub(crate) slots: Slots,
-    pub(crate) spares: Spares,
+    pub(crate) pool: BufferPool,
     pub(crate) dirty: DirtyLists,
 }
 
@@ -67,7 +67,7 @@ impl Clients {
             alloc,
             limit,
             slots: Slots::new(alloc),
-            spares: Spares::new(alloc),
+            pool: BufferPool::new(alloc),
             dirty: DirtyLists::new(alloc),
         }
     }
@@ -167,16 +167,9 @@ impl Clients {
         ensures waits { OnOk result ((last h : ℕ) → last < client → Known self.old last → h < 64 → waits self.new h ≡ waits self.old h ++ (if same_number home h then client ∷ [] else [])) }
         ensures err { OnErr result (self.new ≡ self.old) }
     {
-        self.spares.make_places(self.slots.len().saturating_add(1))?;
-        self.dirty.make_room(home)?;
-        let slot = Slot::with_greeting(
-            self.alloc,
-            self.limit,
-            ip,
-            home,
-            greeting,
-            &mut self.spares,
-        )?;
+        self.pool.reserve_total(self.slots.len().saturating_add(1))?;
+        self.dirty.reserve(home)?;
+        let slot = Slot::with_greeting(self.alloc, self.limit, ip, home, greeting, &mut self.pool)?;
         self.slots.insert(client, slot)?;
         self.dirty.add(home, client);
         Ok(())
@@ -279,7 +272,7 @@ impl Clients {
     {
         match self.slots.get_mut(client) {
             Some(slot) => {
-                let count = slot.drain(into, &mut self.spares);
+                let count = slot.drain(into, &mut self.pool);
                 Drained {
                     count,
                     finished: slot.is_over(),

@@ -4,17 +4,18 @@ ghost use Rattle.std.specs.Prelude.{◌≡◌, ℕ, ◌-◌, ◌<◌, ◌≤◌,
 ghost use Rattle.std.specs.List.{AllByRecursion};
 ghost use Rattle.lobby_post.specs.Mask.{has_home};
 ghost use Rattle.line_words.specs.Table.{same_number};
-ghost use Rattle.lobby_post.specs.Mail.{AreDue, AreReady, HaveLimit, IsReady, plain, deliver, put_first, touched, wakes_home, wakes_one};
+ghost use Rattle.lobby_model.specs.Touched.{is_touched};
+ghost use Rattle.lobby_post.specs.Mail.{AreDue, AreReady, HaveLimit, IsReady, PutsFirst, plain, deliver, wakes_home, wakes_one};
 ghost use Rattle.lobby_post.specs.Dirty.{line_of, marks_of, pushed, stands, AreKnown, IsNewly};
 ghost use Rattle.lobby_post.specs.Dues.{due_but, share_of, shares_of, Covers};
 ghost use Rattle.lobby_post.specs.Pieces.{LiesIn, pieces_of};
 
+use crate::buffer_pool::BufferPool;
 use crate::dirty::DirtyLists;
 use crate::key::ClientKey;
 use crate::shares::next_share;
 use crate::slot::Slot;
 use crate::slots::Slots;
-use crate::spares::Spares;
 use crate::wakes::Wakes;
 use bytes::Bytes;
 use std::alloc::AllocError;
@@ -25,17 +26,17 @@ use std::collections::VecDeque;
 pub struct Piece {
     /// The client.
     pub key: ClientKey,
-    /// The place of its first byte in the text.
+    /// How many bytes of the text stand before it.
     pub from: usize,
-    /// The place behind its last byte.
+    /// How many stand before its end.
     pub to: usize,
 }
 
-/// Makes room for all pieces, and changes nothing that anyone sees. Where memory is refused, nothing
-/// is due any more.
-pub fn make_room(
+/// Makes room for all pieces, and changes nothing that anyone sees: all of them are due then. Where
+/// memory is refused, nothing is due.
+pub fn reserve(
     clients: &mut Slots,
-    spares: &mut Spares,
+    pool: &mut BufferPool,
     text: &[u8],
     pieces: &[Piece],
 ) -> Result<(), AllocError>
@@ -51,10 +52,10 @@ pub fn make_room(
     for i in 0..pieces.len() {
         let piece = pieces[i];
         if let Some(slot) = clients.get_mut_at(piece.key) {
-            match slot.make_room(piece.to - piece.from, spares) {
+            match slot.reserve(piece.to - piece.from, pool) {
                 Ok(()) => {}
                 Err(refused) => {
-                    forget(clients, text, &pieces[..i]);
+                    cancel(clients, text, &pieces[..i]);
                     return Err(refused);
                 }
             }
@@ -64,7 +65,7 @@ pub fn make_room(
 }
 
 /// Nothing is due any more.
-pub fn forget(clients: &mut Slots, text: &[u8], pieces: &[Piece])
+pub fn cancel(clients: &mut Slots, text: &[u8], pieces: &[Piece])
     requires inside { AllByRecursion (LiesIn text.now) pieces.now }
     requires due { AreDue (pieces_of text.now pieces.now) clients.old }
     ensures clients { plain clients.new ≡ plain clients.old }
@@ -74,7 +75,7 @@ pub fn forget(clients: &mut Slots, text: &[u8], pieces: &[Piece])
 {
     for piece in pieces {
         if let Some(slot) = clients.get_mut_at(piece.key) {
-            slot.forget(piece.to - piece.from);
+            slot.cancel(piece.to - piece.from);
         }
     }
 }
@@ -92,13 +93,13 @@ fn put(
     requires share { share ≡ share_of bytes.now }
     requires due { Covers slot.old.due (length bytes.now) }
     requires ready { IsReady slot.old }
-    ensures client { slot.new.client ≡ put_first slot.old.limit slot.old.due.bytes bytes.now slot.old.client }
+    ensures client { PutsFirst slot.old.limit slot.old.due.bytes bytes.now slot.old.client slot.new.client }
     ensures limit { slot.new.limit ≡ slot.old.limit }
     ensures due { slot.new.due ≡ due_but slot.old.due (length bytes.now) }
     ensures ready { IsReady slot.new }
-    ensures home { (home : ℕ) → has_home result home ≡ wakes_one home bytes.now slot.old.client }
-    ensures listed { slot.new.listed ≡ (slot.old.listed || touched bytes.now slot.old.client) }
-    ensures lines { (h : ℕ) → line_of dirty.new h ≡ (if same_number slot.old.client.home h && (not slot.old.listed && touched bytes.now slot.old.client) then pushed client (line_of dirty.old h) else line_of dirty.old h) }
+    ensures home { (home : ℕ) → has_home result home ≡ wakes_one slot.old.limit home bytes.now slot.old.client }
+    ensures listed { slot.new.listed ≡ (slot.old.listed || is_touched slot.old.limit bytes.now slot.old.client) }
+    ensures lines { (h : ℕ) → line_of dirty.new h ≡ (if same_number slot.old.client.home h && (not slot.old.listed && is_touched slot.old.limit bytes.now slot.old.client) then pushed client (line_of dirty.old h) else line_of dirty.old h) }
 {
     if !slot.put(bytes, share) {
         return Wakes::none();
@@ -128,7 +129,7 @@ pub fn deliver(
     ensures limits { (limit : ℕ) → HaveLimit limit clients.old → HaveLimit limit clients.new }
     ensures due { AreDue [] clients.new }
     ensures shares { shares.new.items ≡ [] }
-    ensures wakes { (home : ℕ) → has_home result home ≡ wakes_home (pieces_of text.now pieces.now) (plain clients.old) home }
+    ensures wakes { (limit home : ℕ) → has_home result home ≡ wakes_home limit (pieces_of text.now pieces.now) (plain clients.old) home }
     ensures homes { (home c : ℕ) → stands (marks_of clients.new) home c ≡ stands (marks_of clients.old) home c }
     ensures known { (n : ℕ) → AreKnown (marks_of clients.old) (line_of dirty.old) n → AreKnown (marks_of clients.new) (line_of dirty.new) n }
     ensures newly { (n home : ℕ) → AreKnown (marks_of clients.old) (line_of dirty.old) n → home < 64 → IsNewly (pieces_of text.now pieces.now) clients.old home (line_of dirty.old home).waiting (line_of dirty.new home).waiting }

@@ -55,7 +55,7 @@ impl DirtyList {
     }
 
     /// Makes room for one client more.
-    pub fn make_room(&mut self) -> Result<(), AllocError>
+    pub fn reserve(&mut self) -> Result<(), AllocError>
         ensures line { self.new.line ≡ self.old.line }
         ensures room { OnOk result (0 < self.new.room) }
     {
@@ -164,14 +164,14 @@ impl DirtyLists {
     }
 
     /// Makes room for one client more of a worker.
-    pub fn make_room(&mut self, home: u8) -> Result<(), AllocError>
+    pub fn reserve(&mut self, home: u8) -> Result<(), AllocError>
         ensures kept { (h : ℕ) → line_of self.new h ≡ line_of self.old h }
         ensures room { OnOk result (0 < (list_of self.new home).room) }
     {
         while self.lists.len() <= usize::from(home) {
             self.lists.push(DirtyList::new(self.alloc))?;
         }
-        self.lists[usize::from(home)].make_room()
+        self.lists[usize::from(home)].reserve()
     }
 
     /// Adds a client of a worker that is new, behind the others.

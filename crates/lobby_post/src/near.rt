@@ -3,7 +3,9 @@
 use crate::key::{ClientKey, NOWHERE};
 use std::alloc::{AllocError, Global};
 
-/// How many slots are remembered: more than a lobby has clients.
+/// How many slots are remembered. A lobby has at most 10,000 clients, whose numbers are given one after
+/// another: so with more places than that hardly two of them share one. It is a power of two, so that no
+/// division is made, and the places take 128 KiB.
 const COUNT: usize = 16_384;
 
 /// The slots to which clients were put, by what is left of their numbers divided by `COUNT`; of those

@@ -22,11 +22,13 @@ use std::alloc::{AllocError, Global};
 use std::collections::VecDeque;
 use std::marker::Model;
 
-/// The room, in bytes, that the text keeps from event to event: for all but the burst of a login among
-/// thousands of users.
+/// The room, in bytes, that the text keeps from event to event. They hold thirty lines as long as a
+/// client may send, or thousands of short ones: so only the burst of a login among thousands of users
+/// asks for memory anew. A lobby has one such text.
 const KEPT_TEXT: usize = 262_144;
 
-/// How many places for shares are kept from event to event.
+/// For how many shares there is room from event to event. One stands there for each client that gets a
+/// long line: so only one for a thousand clients and more asks for memory anew.
 const KEPT_SHARES: usize = 1_024;
 
 /// The lines of the event at hand, and which client gets which of them. Its buffers are kept from
@@ -166,7 +168,7 @@ impl Post {
     }
 
     /// A client gets the lines that are told.
-    pub fn address(&mut self, client: u64) -> Result<(), AllocError>
+    fn address(&mut self, client: u64) -> Result<(), AllocError>
         ensures { OnOk result (self.new ≡ record self.old { sent = self.old.sent ++ copy_to self.old client ∷ [] }) }
     {
         self.address_key(ClientKey::of(client))
@@ -202,9 +204,9 @@ impl Post {
         Ok(())
     }
 
-    /// Makes room for all that is told, in each outbox that takes it: all of that is due then. No client
-    /// sees a difference. Where memory is refused, nothing is due any more.
-    pub fn make_room(&self, clients: &mut Clients) -> Result<(), AllocError>
+    /// Makes room for all that is told, in each outbox that takes it: all of that is due then, and
+    /// `deliver` cannot fail. No client sees a difference. Where memory is refused, nothing is due.
+    pub fn reserve(&self, clients: &mut Clients) -> Result<(), AllocError>
         requires due { AreDue [] clients.old.slots }
         ensures limit { clients.new.limit ≡ clients.old.limit }
         ensures clients { plain clients.new.slots ≡ plain clients.old.slots }
@@ -214,16 +216,16 @@ impl Post {
         ensures same_marks { marks_of clients.new.slots ≡ marks_of clients.old.slots }
         ensures same_lines { clients.new.lines ≡ clients.old.lines }
     {
-        delivery::make_room(
+        delivery::reserve(
             &mut clients.slots,
-            &mut clients.spares,
+            &mut clients.pool,
             &self.text,
             &self.pieces,
         )
     }
 
-    /// Nothing is due any more: gives up what `make_room` promised.
-    pub fn forget(&self, clients: &mut Clients)
+    /// Gives up what `reserve` promised: nothing is due any more. What was told stays told.
+    pub fn cancel(&self, clients: &mut Clients)
         requires due { AreDue self.now.sent clients.old.slots }
         ensures limit { clients.new.limit ≡ clients.old.limit }
         ensures clients { plain clients.new.slots ≡ plain clients.old.slots }
@@ -231,7 +233,7 @@ impl Post {
         ensures same_marks { marks_of clients.new.slots ≡ marks_of clients.old.slots }
         ensures same_lines { clients.new.lines ≡ clients.old.lines }
     {
-        delivery::forget(&mut clients.slots, &self.text, &self.pieces);
+        delivery::cancel(&mut clients.slots, &self.text, &self.pieces);
     }
 
     /// Puts all that is told, to each client whole or not at all. Gives the workers of those that it
@@ -242,7 +244,7 @@ impl Post {
         ensures limit { clients.new.limit ≡ clients.old.limit }
         ensures clients { plain clients.new.slots ≡ deliver clients.old.limit self.old.sent (plain clients.old.slots) }
         ensures due { AreDue [] clients.new.slots }
-        ensures wakes { (home : ℕ) → has_home result home ≡ wakes_home self.old.sent (plain clients.old.slots) home }
+        ensures wakes { (home : ℕ) → has_home result home ≡ wakes_home clients.old.limit self.old.sent (plain clients.old.slots) home }
         ensures known { (n : ℕ) → Known clients.old n → Known clients.new n }
         ensures newly { (n home : ℕ) → Known clients.old n → home < 64 → IsNewly self.old.sent clients.old.slots home (waits clients.old home) (waits clients.new home) }
     {

@@ -7,7 +7,9 @@ use bytes::Bytes;
 use std::alloc::{AllocError, Global};
 use std::collections::VecDeque;
 
-/// From so many bytes on a piece is shared. A shorter one is copied sooner than it is shared.
+/// From so many bytes on a piece is shared. A shorter one is copied sooner than it is shared: the two
+/// cost the same somewhere between 1,000 and 2,800 bytes, by how many clients get it
+/// (docs/DECISIONS.md).
 pub const SHARED_FROM: usize = 2_048;
 
 /// The share that a piece has: a long one is copied for it, a short one has none.

@@ -6,12 +6,13 @@ ghost use Rattle.lobby_model.specs.State.{is_live, in_phase, name_in};
 ghost use Rattle.lobby_model.specs.Sessions.{greeted, drained};
 ghost use Rattle.lobby_model.specs.Next.{with_batch};
 ghost use Rattle.lobby_post.specs.Dues.{nothing_due, due_and, due_but, share_of, Covers};
-ghost use Rattle.lobby_post.specs.Mail.{IsReady, put_first, touched};
+ghost use Rattle.lobby_model.specs.Touched.{is_touched};
+ghost use Rattle.lobby_post.specs.Mail.{IsReady, PutsFirst};
 ghost use Rattle.lobby_post.specs.Unread.{is_over};
 
+use crate::buffer_pool::BufferPool;
 use crate::due::Due;
 use crate::shares::share;
-use crate::spares::Spares;
 use bytes::Bytes;
 use line_words::NameBuf;
 use lobby_model::Phase;
@@ -69,7 +70,7 @@ impl Slot {
         ip: [u8; 4],
         home: u8,
         greeting: &[u8],
-        spares: &mut Spares,
+        pool: &mut BufferPool,
     ) -> Result<Slot, AllocError>
         requires { home < 64 }
         ensures client { IfOk result (λ slot. slot.client ≡ with_batch limit greeting.now (greeted ip home)) }
@@ -78,7 +79,7 @@ impl Slot {
         ensures listed { IfOk result (λ slot. slot.listed ≡ true) }
     {
         let mut slot = Slot::new(alloc, limit, ip, home);
-        slot.make_room(greeting.len(), spares)?;
+        slot.reserve(greeting.len(), pool)?;
         let share = share(alloc, greeting)?;
         let _ = slot.put(greeting, share);
         Ok(slot)
@@ -95,8 +96,8 @@ impl Slot {
     }
 
     /// A piece of so many bytes more is due, and there is room for all that is due, where it will be
-    /// put. What is copied gets a spare buffer, where the outbox has none of its own.
-    pub fn make_room(&mut self, more: usize, spares: &mut Spares) -> Result<(), AllocError>
+    /// put. What is copied gets a buffer of the pool, where the outbox has none of its own.
+    pub fn reserve(&mut self, more: usize, pool: &mut BufferPool) -> Result<(), AllocError>
         requires { self.old.due.copied ≤ self.old.due.bytes }
         ensures client { self.new.client ≡ self.old.client }
         ensures limit { self.new.limit ≡ self.old.limit }
@@ -110,7 +111,7 @@ impl Slot {
         };
         if self.is_live() && self.outbox.room_for(due.bytes) {
             if due.copied > 0 {
-                spares.lend(&mut self.outbox);
+                pool.lend(&mut self.outbox);
             }
             self.outbox.reserve_shared(due.copied, due.shared)?;
         }
@@ -119,7 +120,7 @@ impl Slot {
     }
 
     /// A piece of so many bytes is no longer due.
-    pub fn forget(&mut self, less: usize)
+    pub fn cancel(&mut self, less: usize)
         requires { Covers self.old.due less }
         ensures client { self.new.client ≡ self.old.client }
         ensures limit { self.new.limit ≡ self.old.limit }
@@ -137,12 +138,12 @@ impl Slot {
         requires share { share ≡ share_of piece.now }
         requires due { Covers self.old.due (length piece.now) }
         requires ready { IsReady self.old }
-        ensures client { self.new.client ≡ put_first self.old.limit self.old.due.bytes piece.now self.old.client }
+        ensures client { PutsFirst self.old.limit self.old.due.bytes piece.now self.old.client self.new.client }
         ensures limit { self.new.limit ≡ self.old.limit }
         ensures listed { self.new.listed ≡ self.old.listed }
         ensures due { self.new.due ≡ due_but self.old.due (length piece.now) }
         ensures ready { IsReady self.new }
-        ensures touched { result ≡ touched piece.now self.old.client }
+        ensures touched { result ≡ is_touched self.old.limit piece.now self.old.client }
     {
         let due = self.due;
         self.due = due.but(piece.len());
@@ -245,8 +246,8 @@ impl Slot {
         self.phase = Phase::In { name };
     }
 
-    /// Takes unread bytes into a slice, as many as fit. Once all are taken, the buffer is spare.
-    pub fn drain(&mut self, into: &mut [u8], spares: &mut Spares) -> usize
+    /// Takes unread bytes into a slice, as many as fit. Once all are taken, the pool gets the buffer.
+    pub fn drain(&mut self, into: &mut [u8], pool: &mut BufferPool) -> usize
         ensures count { result ≡ min (length self.old.client.unread) (length into.old) }
         ensures given { into.new ≡ take result self.old.client.unread ++ drop result into.old }
         ensures client { self.new.client ≡ drained (length into.old) self.old.client }
@@ -255,7 +256,7 @@ impl Slot {
         ensures due { self.new.due ≡ self.old.due }
     {
         let count = self.outbox.take(into);
-        spares.take_back(&mut self.outbox);
+        pool.take_back(&mut self.outbox);
         count
     }
 

@@ -44,8 +44,8 @@ loop-piece-preserved c =
             shares = shares.1;
             limits = λ limit all. limits_next limit _ w.in-Some.slot.now w.put.new.slot c.loop-piece.clients _ written w.in-Some.ensures.value w.put.ensures.limit (inv.limits limit all);
             clients = λ limit all. clients_next c.args.text.now c.args.pieces.now c.loop-piece.piece-index c.loop-piece-test.true w.in-Some.slot.now w.put.new.slot c.loop-piece.clients _ refl w.in-Some.ensures.value w.put.ensures.client c.get_mut_at.ensures.ordered inv.due limit (inv.limits limit all) ∙ inv.clients limit all;
-            wakes = λ home. wakes_next c.args.text.now c.args.pieces.now c.loop-piece.piece-index c.loop-piece-test.true w.in-Some.slot.now w.put.new.slot c.loop-piece.clients _ refl w.in-Some.ensures.value w.put.ensures.client c.get_mut_at.ensures.ordered inv.due
-                c.loop-piece.wakes w.put.result _ home (w.union-wakes.ensures home) (w.put.ensures.home home) ∙ inv.wakes home;
+            wakes = λ limit home. wakes_next c.args.text.now c.args.pieces.now c.loop-piece.piece-index c.loop-piece-test.true w.in-Some.slot.now w.put.new.slot c.loop-piece.clients _ refl w.in-Some.ensures.value w.put.ensures.client c.get_mut_at.ensures.ordered inv.due
+                limit c.loop-piece.wakes w.put.result _ home (w.union-wakes.ensures home) (w.put.ensures.home home) ∙ inv.wakes limit home;
             homes = λ home q. stands_next _ _ w.in-Some.slot.now w.put.new.slot c.loop-piece.clients w.in-Some.ensures.value w.put.ensures.client w.put.ensures.listed home q ∙ inv.homes home q;
             underway = λ n known. underway_next _ _ w.in-Some.slot.now w.put.new.slot c.loop-piece.clients w.in-Some.ensures.value w.put.ensures.client w.put.ensures.listed
                 _ _ _ _ _ _ n w.put.ensures.lines (begun n known);
@@ -59,7 +59,7 @@ loop-piece-preserved c =
             shares = shares.1;
             limits = inv.limits;
             clients = λ limit all. clients_past c.args.text.now c.args.pieces.now c.loop-piece.piece-index c.loop-piece-test.true c.loop-piece.clients none limit ∙ inv.clients limit all;
-            wakes = λ home. woken_past c.args.text.now c.args.pieces.now c.loop-piece.piece-index c.loop-piece-test.true c.loop-piece.clients none c.loop-piece.wakes home ∙ inv.wakes home;
+            wakes = λ limit home. woken_past c.args.text.now c.args.pieces.now c.loop-piece.piece-index c.loop-piece-test.true c.loop-piece.clients none limit c.loop-piece.wakes home ∙ inv.wakes limit home;
             homes = inv.homes;
             underway = λ n known. underway_past _ _ _ _ _ _ _ _ n none (begun n known);
           })
@@ -78,7 +78,7 @@ returns-clause-shares c = c.loop-piece.invariant.shares
     ∙ no_shares c.args.text.now c.args.pieces.now c.loop-piece.piece-index c.loop-piece-test.false
 
 pub returns-clause-wakes : goal.returns-clause-wakes
-returns-clause-wakes c = λ home. sym (wakes_end c.args.text.now c.args.pieces.now c.loop-piece.piece-index c.loop-piece-test.false c.loop-piece.wakes home _) ∙ c.loop-piece.invariant.wakes home
+returns-clause-wakes c = λ limit home. sym (wakes_end c.args.text.now c.args.pieces.now c.loop-piece.piece-index c.loop-piece-test.false limit c.loop-piece.wakes home _) ∙ c.loop-piece.invariant.wakes limit home
 
 pub returns-clause-known : goal.returns-clause-known
 returns-clause-known c = λ n known.
@@ -104,7 +104,7 @@ loop-piece-init c = record {
   shares = c.requires.shares;
   limits = λ limit all. all;
   clients = λ limit all. refl;
-  wakes = λ home. ap (λ b. b || wakes_home (pieces_of c.args.text.now c.args.pieces.now) (plain c.args.clients.now) home) (c.none-wakes.ensures home);
+  wakes = λ limit home. ap (λ b. b || wakes_home limit (pieces_of c.args.text.now c.args.pieces.now) (plain c.args.clients.now) home) (c.none-wakes.ensures home);
   homes = λ home q. refl;
   underway = λ n known. underway_first _ _ _ n known;
 }

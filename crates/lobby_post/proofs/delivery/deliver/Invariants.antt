@@ -19,8 +19,8 @@ invariant-loop-piece l = record {
   clients : (limit : ℕ) → HaveLimit limit l.initial.clients
       → deliver limit (pieces_of l.text (drop l.piece-index l.pieces)) (plain l.clients)
       ≡ deliver limit (pieces_of l.text l.pieces) (plain l.initial.clients);
-  wakes : (home : ℕ) → (has_home l.wakes home || wakes_home (pieces_of l.text (drop l.piece-index l.pieces)) (plain l.clients) home)
-      ≡ wakes_home (pieces_of l.text l.pieces) (plain l.initial.clients) home;
+  wakes : (limit home : ℕ) → (has_home l.wakes home || wakes_home limit (pieces_of l.text (drop l.piece-index l.pieces)) (plain l.clients) home)
+      ≡ wakes_home limit (pieces_of l.text l.pieces) (plain l.initial.clients) home;
   homes : (home c : ℕ) → stands (marks_of l.clients) home c ≡ stands (marks_of l.initial.clients) home c;
   underway : (n : ℕ) → AreKnown (marks_of l.initial.clients) (line_of l.initial.dirty) n
       → IsUnderway (pieces_of l.text l.pieces) (pieces_of l.text (drop l.piece-index l.pieces)) l.initial.clients l.clients

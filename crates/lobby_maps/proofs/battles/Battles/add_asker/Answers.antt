@@ -8,7 +8,8 @@ use Rattle.line_words.proofs.Ties.{none_of}
 use Rattle.line_words.proofs.Written.{set_is_change, none_is_change}
 use Rattle.battle_room.specs.Room.{has_asker, has_member, with_asker}
 use Rattle.lobby_maps.specs.Battles.{room_changed}
-use Rattle.lobby_maps.proofs.Base.{on_err, set_same}
+use Rattle.lobby_post.proofs.Refusals.{on_err}
+use Rattle.lobby_maps.proofs.Base.{set_same}
 use Rattle.lobby_maps.proofs.battles.Battles.add_asker.Goals as goal
 
 pub add_asker-requires-clause-member : goal.add_asker-requires-clause-member

@@ -6,7 +6,8 @@ use Rattle.std.specs.Map.{set_value}
 use Rattle.line_words.proofs.Ties.{none_of}
 use Rattle.line_words.proofs.Written.{set_is_change, none_is_change}
 use Rattle.lobby_maps.specs.Battles.{room_after, room_changed}
-use Rattle.lobby_maps.proofs.Base.{on_err, set_same}
+use Rattle.lobby_post.proofs.Refusals.{on_err}
+use Rattle.lobby_maps.proofs.Base.{set_same}
 use Rattle.lobby_maps.proofs.battles.Battles.change_room.Goals as goal
 
 pub returns-in_err-change_room-clause-err : goal.returns-in_err-change_room-clause-err

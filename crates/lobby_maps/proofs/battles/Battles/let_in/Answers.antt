@@ -7,7 +7,8 @@ use Rattle.line_words.proofs.Tables.{lookup_is_find}
 use Rattle.line_words.proofs.Ties.{none_of}
 use Rattle.line_words.proofs.Written.{set_is_change, none_is_change}
 use Rattle.lobby_maps.specs.Battles.{let_in, room_changed}
-use Rattle.lobby_maps.proofs.Base.{on_err, set_same}
+use Rattle.lobby_post.proofs.Refusals.{on_err}
+use Rattle.lobby_maps.proofs.Base.{set_same}
 use Rattle.lobby_maps.proofs.battles.Battles.let_in.Goals as goal
 
 pub let_in-requires : goal.let_in-requires

@@ -1,5 +1,5 @@
 use Rattle.std.proofs.Common.{◌≡◌, ℕ, [], ◌∷◌, ◌++◌, ◌∙◌, true, false, ap, sym, subst, map, filter, refl, arith}
-use Rattle.std.specs.Prelude.{None, not, ◌&&◌, if◌then◌else◌, Result, Ok, Err, OnErr}
+use Rattle.std.specs.Prelude.{None, not, ◌&&◌, if◌then◌else◌}
 use Rattle.std.specs.List.Sorted.{IsStrictlySortedBy}
 use Rattle.std.specs.Ordering.{nat_cmp}
 use Rattle.std.specs.BTreeMap.{is_at, insert_entry}
@@ -15,12 +15,8 @@ use Rattle.lobby_post.proofs.Idle.{idle_inserted}
 use Rattle.lobby_post.proofs.Marks.{IsPut, marks_put, unmarked, with_batch-home}
 use Rattle.lobby_post.proofs.Waiting.{absent, known_come, waits_come}
 use Rattle.lobby_post.proofs.Dues.{none_due}
+use Rattle.lobby_post.proofs.Refusals.{on_err}
 use Rattle.lobby_post.proofs.clients.Clients.insert.Goals as goal
-
--- what holds in any case holds where a call fails
-on_err : {A E P : Type 0} (r : Result A E) → P → OnErr r P
-on_err (Ok a) p = tt
-on_err (Err e) p = p
 
 -- a slot inserted that is listed
 module _ (client home : ℕ) (w : Held) (es fs : ByNumber Held) (is : fs ≡ insert_entry nat_cmp es client w)
@@ -65,7 +61,7 @@ returns-clause-known c =
     let known = known_of_lists (marks_of es) c.self.inside.dirty last all in
     known_of_lines _ _ _ (known_come c.args.client c.args.home (marks_of es) _ (line_of c.self.inside.dirty) _ last above known
     (put c.args.client c.args.home c.in_ok-slot.slot es _ c.in_ok-insert.ensures.entries here c.in_ok-slot.ensures.listed)
-    (λ h. c.add.ensures h ∙ ap (λ (l : Line). if same_number c.args.home h then added c.args.client l else l) (c.make_room.ensures.kept h))
+    (λ h. c.add.ensures h ∙ ap (λ (l : Line). if same_number c.args.home h then added c.args.client l else l) (c.reserve.ensures.kept h))
     c.requires
     (idle c.args.client c.args.home c.in_ok-slot.slot es _ c.in_ok-insert.ensures.entries here c.in_ok-slot.ensures.listed
     c.insert.ensures.was_ordered (absent c.args.client (marks_of es) (line_of c.self.inside.dirty) last above known))))
@@ -80,21 +76,21 @@ returns-clause-waits c =
     ∙ waits_come c.args.client c.args.home (marks_of es) _ (line_of c.self.inside.dirty) (line_of c.add.new.self) last above
     (known_of_lists (marks_of es) c.self.inside.dirty last all)
     (put c.args.client c.args.home c.in_ok-slot.slot es _ c.in_ok-insert.ensures.entries here c.in_ok-slot.ensures.listed)
-    (λ k. c.add.ensures k ∙ ap (λ (l : Line). if same_number c.args.home k then added c.args.client l else l) (c.make_room.ensures.kept k))
+    (λ k. c.add.ensures k ∙ ap (λ (l : Line). if same_number c.args.home k then added c.args.client l else l) (c.reserve.ensures.kept k))
     h within
     ∙ ap (λ (l : Line). filter (stands (marks_of es) h) l.waiting ++ (if same_number c.args.home h then c.args.client ∷ [] else [])) (sym (line-at c.self.inside.dirty h within)))
 
-pub returns-in_err-make_room-clause-err : goal.returns-in_err-make_room-clause-err
-returns-in_err-make_room-clause-err c =
-    on_err c.from_residual-in_err-make_room.result (rw (← c.self.view_is)
-    (λ i. record { limit = c.self.inside.limit; slots = c.self.inside.slots; lines = same_lines c.self.inside.dirty c.make_room.new.self c.make_room.ensures.kept i }))
+pub returns-in_err-reserve-clause-err : goal.returns-in_err-reserve-clause-err
+returns-in_err-reserve-clause-err c =
+    on_err c.from_residual-in_err-reserve.result (rw (← c.self.view_is)
+    (λ i. record { limit = c.self.inside.limit; slots = c.self.inside.slots; lines = same_lines c.self.inside.dirty c.reserve.new.self c.reserve.ensures.kept i }))
 
 pub returns-in_err-slot-clause-err : goal.returns-in_err-slot-clause-err
 returns-in_err-slot-clause-err c =
     on_err c.from_residual-in_err-slot.result (rw (← c.self.view_is)
-    (λ i. record { limit = c.self.inside.limit; slots = c.self.inside.slots; lines = same_lines c.self.inside.dirty c.make_room.new.self c.make_room.ensures.kept i }))
+    (λ i. record { limit = c.self.inside.limit; slots = c.self.inside.slots; lines = same_lines c.self.inside.dirty c.reserve.new.self c.reserve.ensures.kept i }))
 
 pub returns-in_err-insert-clause-err : goal.returns-in_err-insert-clause-err
 returns-in_err-insert-clause-err c =
     on_err c.from_residual-in_err-insert.result (rw (← c.self.view_is)
-    (λ i. record { limit = c.self.inside.limit; slots = c.in_err-insert.ensures.err i; lines = same_lines c.self.inside.dirty c.make_room.new.self c.make_room.ensures.kept i }))
+    (λ i. record { limit = c.self.inside.limit; slots = c.in_err-insert.ensures.err i; lines = same_lines c.self.inside.dirty c.reserve.new.self c.reserve.ensures.kept i }))

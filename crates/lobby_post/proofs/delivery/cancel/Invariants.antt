@@ -3,7 +3,7 @@ use Rattle.std.specs.List.{AllByRecursion}
 use Rattle.lobby_post.specs.Pieces.{LiesIn, pieces_of}
 use Rattle.lobby_post.specs.Mail.{AreDue, HaveLimit, plain}
 use Rattle.lobby_post.specs.Dirty.{marks_of}
-use Rattle.lobby_post.proofs.delivery.forget.Given as goal
+use Rattle.lobby_post.proofs.delivery.cancel.Given as goal
 
 abbrev pub invariant-loop-piece : goal.invariant-loop-piece
 invariant-loop-piece l = record {

@@ -3,7 +3,7 @@ use Rattle.std.specs.List.{AllByRecursion}
 use Rattle.lobby_post.specs.Pieces.{LiesIn, pieces_of}
 use Rattle.lobby_post.specs.Mail.{AreDue, AreReady, HaveLimit, plain}
 use Rattle.lobby_post.specs.Dirty.{marks_of}
-use Rattle.lobby_post.proofs.delivery.make_room.Given as goal
+use Rattle.lobby_post.proofs.delivery.reserve.Given as goal
 
 abbrev pub invariant-loop-i : goal.invariant-loop-i
 invariant-loop-i l = record {

@@ -5,11 +5,11 @@ use Rattle.line_words.proofs.Ties.{none_of}
 use Rattle.lobby_post.proofs.Crowds.{written_through}
 use Rattle.lobby_post.proofs.Rounds.{inside_next, inside_here, bytes_long, pieces_is, less_due, less_past, due_here, limits_next, plain_same, none_left}
 use Rattle.lobby_post.proofs.Listed.{marks_same}
-use Rattle.lobby_post.proofs.delivery.forget.Goals as goal
-use Rattle.lobby_post.proofs.delivery.forget.Goals.{in-Some, in_default}
+use Rattle.lobby_post.proofs.delivery.cancel.Goals as goal
+use Rattle.lobby_post.proofs.delivery.cancel.Goals.{in-Some, in_default}
 
-pub forget-requires : goal.forget-requires
-forget-requires c =
+pub cancel-requires : goal.cancel-requires
+cancel-requires c =
     let first = subst (λ ps. AreDue ps c.loop-piece.clients)
     (pieces_is c.args.text.now c.args.pieces.now c.loop-piece.piece-index c.loop-piece-test.true) c.loop-piece.invariant.due in
     subst (λ n. Covers c.in-Some.slot.now.due n) (bytes_long c.args.text.now c.args.pieces.now c.loop-piece.piece-index c.loop-piece-test.true
@@ -25,14 +25,14 @@ loop-piece-preserved c =
     (inside_here c.args.text.now c.args.pieces.now c.loop-piece.piece-index c.loop-piece-test.true inv.inside) in
     elim c.match-get_mut_at.branch [
       | in-Some w ↦
-          let written = written_through _ w.in-Some.slot.now w.forget.new.self c.loop-piece.clients w.in-Some.ensures.value in
+          let written = written_through _ w.in-Some.slot.now w.cancel.new.self c.loop-piece.clients w.in-Some.ensures.value in
           rw w.clients-is (record {
             inside = inside_next c.args.text.now c.args.pieces.now c.loop-piece.piece-index c.loop-piece-test.true inv.inside;
-            due = less_due _ _ _ w.in-Some.slot.now w.forget.new.self c.loop-piece.clients _ written w.in-Some.ensures.value
-                (w.forget.ensures.due ∙ ap (λ n. due_but w.in-Some.slot.now.due n) (sym long)) first;
-            limits = λ limit all. limits_next limit _ w.in-Some.slot.now w.forget.new.self c.loop-piece.clients _ written w.in-Some.ensures.value w.forget.ensures.limit (inv.limits limit all);
-            clients = plain_same _ w.in-Some.slot.now w.forget.new.self c.loop-piece.clients _ refl w.in-Some.ensures.value w.forget.ensures.client ∙ inv.clients;
-            marks = marks_same _ w.in-Some.slot.now w.forget.new.self c.loop-piece.clients _ refl w.in-Some.ensures.value w.forget.ensures.client w.forget.ensures.listed ∙ inv.marks;
+            due = less_due _ _ _ w.in-Some.slot.now w.cancel.new.self c.loop-piece.clients _ written w.in-Some.ensures.value
+                (w.cancel.ensures.due ∙ ap (λ n. due_but w.in-Some.slot.now.due n) (sym long)) first;
+            limits = λ limit all. limits_next limit _ w.in-Some.slot.now w.cancel.new.self c.loop-piece.clients _ written w.in-Some.ensures.value w.cancel.ensures.limit (inv.limits limit all);
+            clients = plain_same _ w.in-Some.slot.now w.cancel.new.self c.loop-piece.clients _ refl w.in-Some.ensures.value w.cancel.ensures.client ∙ inv.clients;
+            marks = marks_same _ w.in-Some.slot.now w.cancel.new.self c.loop-piece.clients _ refl w.in-Some.ensures.value w.cancel.ensures.client w.cancel.ensures.listed ∙ inv.marks;
           })
       | in_default w ↦
           let none = sym (none_of c.get_mut_at.result w.in_default.not-Some ∙ c.get_mut_at.ensures.value) in

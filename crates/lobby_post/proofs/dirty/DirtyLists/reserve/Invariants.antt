@@ -1,6 +1,6 @@
 use Rattle.std.proofs.Common.{◌≡◌, ℕ, ◌+◌, ◌-◌}
 use Rattle.lobby_post.specs.Dirty.{line_of}
-use Rattle.lobby_post.proofs.dirty.DirtyLists.make_room.Given as goal
+use Rattle.lobby_post.proofs.dirty.DirtyLists.reserve.Given as goal
 
 abbrev pub invariant-loop-self : goal.invariant-loop-self
 invariant-loop-self l = record {
