@@ -68,11 +68,6 @@ HasDistinctNames-push accounts account distinct none =
 abbrev pub IsIndex : List Entry → Type 0
 IsIndex entries = AreEntries entries × HasDistinctNames (accounts_in entries)
 
--- what is not there is nothing
-pub none_from_is_some : {X : Type 0} (found : Option X) → is_some found ≡ false → found ≡ None
-none_from_is_some None nowhere = refl
-none_from_is_some (Some x) nowhere = cc
-
 -- a new name goes last
 pub insert_entry-push : (eq : Vec ℕ Global → Vec ℕ Global
     → Bool) (key : Vec ℕ Global) (name : List ℕ) → TestsFor (eq key) name

@@ -6,6 +6,7 @@ use Rattle.std.specs.List.{IsDistinct, AllByRecursion}
 use Rattle.std.specs.Map.{lookup, set_value, remove_entry, keys_of, values_of}
 use Rattle.std.proofs.lemmas.Option.{same_Some}
 use Rattle.line_words.specs.Table.{same_name, is_among}
+use Rattle.line_words.proofs.Options.{none_from_is_some}
 
 module _ {K : Type 0} (bytes : K → List ℕ) where
   abbrev pub same_key : K → K → Bool
@@ -43,12 +44,8 @@ module _ {K : Type 0} (bytes : K → List ℕ) where
           | false ↦ rest
         ]
 
-    absent : (found : Option X) → is_some found ≡ false → found ≡ None
-    absent None none = refl
-    absent (Some x) none = absurd (cc)
-
     pub not_there : (m : List (K × X)) → is_among name (names_of (keys_of m)) ≡ false → lookup (stands_for name) m ≡ None
-    not_there m none = absent (lookup (stands_for name) m) (is_there m ∙ none)
+    not_there m none = none_from_is_some (lookup (stands_for name) m) (is_there m ∙ none)
 
     all_stay : (key : K) (m : List (K × X)) → stands_for name key ≡ true → AllByRecursion (λ k. same_key key k ≡ false) (keys_of m)
         → filter (λ e. not (same_name name (bytes e.0))) m ≡ m

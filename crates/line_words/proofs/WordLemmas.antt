@@ -1,9 +1,10 @@
 -- The first word behind spaces.
 use Rattle.std.proofs.Common.{◌≡◌, ◌≢◌, ℕ, zero, suc, ◌<◌, true, List, [], ◌∷◌, ◌++◌, length, get_or, take, drop, refl, sym, ap, subst, ◌∙◌, arith}
-use Rattle.std.specs.Prelude.{not, ◌==◌, ◌-◌}
+use Rattle.std.specs.Prelude.{not, ◌==◌, ◌-◌, ◌||◌, ◌&&◌}
+use Rattle.std.specs.Char.{is_ascii_uppercase}
 use Rattle.std.proofs.lemmas.Bool.{and_parts, and_from, eq-eqb, ne_eqb}
 use Rattle.std.proofs.lemmas.List.{length-drop, take_all}
-use Rattle.line_words.specs.Bytes.{is_spaces}
+use Rattle.line_words.specs.Bytes.{is_spaces, is_word_byte}
 use Rattle.line_words.specs.Parts.{before, from, Ends}
 use Rattle.line_words.specs.Words.{BeginsApart, EndsWord, FirstWord, NextWord, SkipsSpaces}
 use Rattle.line_words.proofs.Splitting.{before-from, has_byte-before, from_ends}
@@ -93,3 +94,7 @@ next_word rest text skips some ends = let first = first_word rest text skips som
 -- the rest of a list, as a slice of it
 pub slice_from : (bs : List ℕ) (i : ℕ) → take (length bs - i) (drop i bs) ≡ drop i bs
 slice_from bs i = take_all (length bs - i) (drop i bs) (omega (arith, length-drop i bs))
+
+-- Bytes of words.
+pub upper_case_in_word : (b : ℕ) → is_ascii_uppercase b ≡ true → is_word_byte b ≡ true
+upper_case_in_word b h = grind (arith)
