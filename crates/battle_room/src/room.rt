@@ -1,14 +1,13 @@
 //! A room: what the members of a battle share.
 
-ghost use Rattle.std.specs.Prelude.{◌≡◌, ◌<◌, ℕ, ℤ, List, map, not, OnOk, OnErr, IfOk, IfSome, IfNone, IfErr, Err, option_copied, false};
-ghost use Rattle.std.specs.Result.{result_err};
+ghost use Rattle.std.specs.Prelude.{◌≡◌, ◌<◌, List, not, OnOk, OnErr, IfOk, option_copied, false};
 ghost use Rattle.std.specs.List.{IsDistinct};
 ghost use Rattle.line_words.specs.Table.{same_name, at_number};
 ghost use Rattle.battle_room.specs.Room as room;
 ghost use Rattle.battle_room.specs.Tags as tags;
 ghost use Rattle.battle_room.specs.Units as units;
 ghost use Rattle.battle_room.specs.Places.{numbered};
-ghost use Rattle.battle_room.specs.Refusals.{is_founder, has_bot, status_refusal, founder_refusal, removal_refusal, new_bot_refusal, bot_refusal, tags_refusal};
+ghost use Rattle.battle_room.specs.Refusals.{is_first_member};
 
 use crate::askers::{Asker, Askers};
 use crate::bots::{Bot, Bots};
@@ -182,7 +181,7 @@ impl<M: Copy> Room<M> {
     /// Not run by the server, which keeps each battle's founder beside its room: whether the first member
     /// has this name.
     pub fn is_founder(&self, name: &NameBuf) -> bool
-        ensures { result ≡ is_founder name.now self.now }
+        ensures { result ≡ is_first_member name.now self.now }
     {
         self.members.is_first(name)
     }
