@@ -1,5 +1,5 @@
 -- The entries of the index of a book, whose keys are the names of its accounts.
-use Rattle.std.proofs.Common.{◌≡◌, ℕ, Bool, true, false, List, [], ◌∷◌, ◌++◌, map, Option, Some, None, Result, Ok, Err, OnOk, is_some, is_err, Vec, Global, refl, ap, sym, ◌∙◌, arith, cond, subst, ◌||◌}
+use Rattle.std.proofs.Common.{◌≡◌, ℕ, Bool, true, false, List, [], ◌∷◌, ◌++◌, map, Some, None, Result, Ok, Err, OnOk, is_err, Vec, Global, refl, ap, sym, ◌∙◌, arith, cond, subst, ◌||◌}
 use Rattle.std.proofs.lemmas.List.{map-append}
 use Rattle.std.specs.List.{AllByRecursion, IsDistinct, list_any}
 use Rattle.std.specs.Str.{bytes_eq}
