@@ -1,5 +1,5 @@
 -- The entries of the index of a book, whose keys are the names of its accounts.
-use Rattle.std.proofs.Common.{◌≡◌, ℕ, Bool, true, false, List, [], ◌∷◌, ◌++◌, map, Option, Some, None, Result, Ok, Err, OnOk, is_some, is_err, Vec, Global, refl, ap, sym, ◌∙◌, arith, cond, subst, ◌||◌}
+use Rattle.std.proofs.Common.{◌≡◌, ℕ, Bool, true, false, List, [], ◌∷◌, ◌++◌, map, Some, None, Result, Ok, Err, OnOk, is_err, Vec, Global, refl, ap, sym, ◌∙◌, arith, cond, subst, ◌||◌}
 use Rattle.std.proofs.lemmas.List.{map-append}
 use Rattle.std.specs.List.{AllByRecursion, IsDistinct, list_any}
 use Rattle.std.specs.Str.{bytes_eq}
@@ -67,11 +67,6 @@ HasDistinctNames-push accounts account distinct none =
 -- what the invariant of a book says
 abbrev pub IsIndex : List Entry → Type 0
 IsIndex entries = AreEntries entries × HasDistinctNames (accounts_in entries)
-
--- what is not there is nothing
-pub none_from_is_some : {X : Type 0} (found : Option X) → is_some found ≡ false → found ≡ None
-none_from_is_some None nowhere = refl
-none_from_is_some (Some x) nowhere = cc
 
 -- a new name goes last
 pub insert_entry-push : (eq : Vec ℕ Global → Vec ℕ Global

@@ -9,7 +9,8 @@ use Rattle.account_book.specs.File.{accounts_in, enabled, with_entries, listed_a
 use Rattle.account_book.specs.declared.listing.Listing.{Listing}
 use Rattle.account_book.specs.declared.error.AccountsError.{AccountsError}
 use Rattle.account_book.specs.declared.error.AccountsError.TheVariants.{BadField, DuplicateName}
-use Rattle.account_book.proofs.Entries.{HasDistinctNames-push, none_from_is_some}
+use Rattle.account_book.proofs.Entries.{HasDistinctNames-push}
+use Rattle.line_words.proofs.Options.{none_from_is_some}
 
 -- the accounts that are disabled
 abbrev pub disabled_in : List Listing → List Account

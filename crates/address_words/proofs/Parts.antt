@@ -1,7 +1,7 @@
 -- Where a list parts at its first such byte.
 use Rattle.std.proofs.Common.{◌≡◌, ℕ, ◌+◌, ◌<◌, ◌^◌, Bool, true, false, ◌||◌, List, [], ◌∷◌, ◌++◌, refl, sym, ap, ◌∙◌, arith, eq-eqb, nat_eq, decimal}
 use Rattle.std.proofs.Common.{suc, ◌-◌, ◌≤◌, length, get_or, take, drop, take-append-drop, drop-cons, add-one, length-take, length-drop}
-use Rattle.std.proofs.lemmas.Bool.{false≢true, eqb-true}
+use Rattle.std.proofs.lemmas.Bool.{false≢true, false_from_ne_true, eqb-true}
 use Rattle.std.proofs.lemmas.List.{take_all, get_or-take}
 use Rattle.std.proofs.lemmas.Str.Parse.{digit_at}
 use Rattle.std.proofs.lemmas.Fmt.{decimal_is_IsNumeral}
@@ -42,15 +42,11 @@ parts_round m at xs h e =
     let all : take (length xs - (at + 1)) (drop (at + 1) xs) ≡ drop (at + 1) xs = take_all _ _ (omega (arith, length-drop (at + 1) xs)) in
     rw (all, add-one) (sym (take-append-drop at xs) ∙ ap (λ l. take at xs ++ l) (drop-cons xs at 0 h ∙ ap (λ y. y ∷ drop (suc at) xs) is))
 
-not_true : (b : Bool) → (b ≡ true → ⊥) → b ≡ false
-not_true true h = absurd (h refl)
-not_true false h = refl
-
 lacks : (m : ℕ) (xs : List ℕ) → ((k : ℕ) → k < length xs → nat_eq (get_or xs k 0) m ≡ true → ⊥) → has_byte m xs ≡ false
 lacks m [] none = refl
 lacks m (x ∷ xs) none =
     let rest = lacks m xs (λ k small is. none (suc k) (omega arith) is) in
-    let here : nat_eq x m ≡ false = not_true _ (none 0 (omega arith)) in
+    let here : nat_eq x m ≡ false = false_from_ne_true _ (none 0 (omega arith)) in
     ap (λ b. b || has_byte m xs) here ∙ rest
 
 pub lacks_below : (m n : ℕ) (xs : List ℕ) → n ≤ length xs → ((k : ℕ) → 0 ≤ k → k < n → nat_eq (get_or xs k 0) m ≡ true → ⊥) → has_byte m (take n xs) ≡ false

@@ -4,7 +4,7 @@ use Rattle.std.specs.Prelude.{◌||◌, nat_lt}
 use Rattle.std.proofs.lemmas.Bool.Decides.{nat_tests}
 use Rattle.std.proofs.lemmas.List.{take_more, take-append-drop}
 use Rattle.line_words.specs.Table.{same_name}
-use Rattle.battle_room.proofs.Tests.{or_none, or_assoc}
+use Rattle.std.proofs.Math.Bool.{or-false, or_assoc}
 
 -- how one value is put, how several are, and which names are there then
 pub record Putting (V : Type 0) : Type 0 where
@@ -32,7 +32,7 @@ module _ {V : Type 0} (t : Putting V) where
   with_more vs ps p = with_both vs ps (p ∷ []) ∙ t.next_more (t.with_all vs ps) [] p ∙ t.none_more (t.with_one (t.with_all vs ps) p)
 
   has_all : (key : List ℕ) (vs ps : List V) → t.has key (t.with_all vs ps) ≡ (t.has key vs || t.has key ps)
-  has_all key vs [] = ap (t.has key) (t.none_more vs) ∙ sym (or_none (t.has key vs)) ∙ ap (λ b. t.has key vs || b) (sym (t.has_none key))
+  has_all key vs [] = ap (t.has key) (t.none_more vs) ∙ sym (or-false (t.has key vs)) ∙ ap (λ b. t.has key vs || b) (sym (t.has_none key))
   has_all key vs (p ∷ ps) =
       ap (t.has key) (t.next_more vs ps p) ∙ has_all key (t.with_one vs p) ps ∙ ap (λ b. b || t.has key ps) (t.has_one key vs p)
       ∙ or_assoc (t.has key vs) (same_name key (t.name p)) (t.has key ps)

@@ -12,10 +12,11 @@ use Rattle.battle_room.specs.Units.{with_unit, with_units, words_new, words_ther
 use Rattle.battle_room.proofs.Counted.{Putting}
 use Rattle.battle_room.proofs.Picked.{Picking, there_without}
 use Rattle.battle_room.proofs.Tagged.{key_bytes}
-use Rattle.battle_room.proofs.Tests.{or_none, or_assoc, neither}
+use Rattle.battle_room.proofs.Tests.{neither}
+use Rattle.std.proofs.Math.Bool.{or-false, or_assoc}
 
 pub among_more : (key : List ℕ) (units : List (List ℕ)) (unit : List ℕ) → is_among key (units ++ unit ∷ []) ≡ (is_among key units || same_name key unit)
-among_more key [] unit = or_none (same_name key unit)
+among_more key [] unit = or-false (same_name key unit)
 among_more key (u ∷ units) unit = ap (λ b. same_name key u || b) (among_more key units unit) ∙ sym (or_assoc (same_name key u) (is_among key units) (same_name key unit))
 
 -- units behind copies of their names
@@ -47,7 +48,7 @@ has_with key units unit =
       | true ↦ λ there. elim (same_name key unit) as (λ b. same_name key unit ≡ b → is_among key units ≡ (is_among key units || b)) [
         | true ↦ λ same. let yes : is_among key units ≡ true = ap (λ k. is_among k units) (same_name_is key unit same) ∙ there in
             yes ∙ sym (ap (λ b. b || true) yes)
-        | false ↦ λ other. sym (or_none (is_among key units))
+        | false ↦ λ other. sym (or-false (is_among key units))
       ] refl
       | false ↦ λ none. among_more key units unit
     ] refl

@@ -6,7 +6,8 @@ use Rattle.std.proofs.lemmas.List.{append_assoc, at_drop_more}
 use Rattle.line_words.specs.Table.{same_name, is_among}
 use Rattle.line_words.proofs.Tables.{same_name_is}
 use Rattle.line_words.proofs.Once.{apart_either_way}
-use Rattle.battle_room.proofs.Tests.{and_all, and_none, and_neither}
+use Rattle.battle_room.proofs.Tests.{and_neither}
+use Rattle.std.proofs.Math.Bool.{and-true, and-false}
 
 -- Which words are picked, and from what. A picked word is not picked again: past it, the rest is picked from something else
 pub record Picking (S : Type 0) : Type 0 where
@@ -26,7 +27,7 @@ module _ {S : Type 0} (p : Picking S) where
   past_more s (w ∷ words) word = past_more (p.past s w) words word
 
   picks_past : (s : S) (word : List ℕ) (others : List (List ℕ)) → p.picks (past_all s others) word ≡ (p.picks s word && not (is_among word others))
-  picks_past s word [] = and_all (p.picks s word)
+  picks_past s word [] = sym (and-true (p.picks s word))
   picks_past s word (w ∷ others) =
       picks_past (p.past s w) word others ∙ ap (λ b. b && not (is_among word others)) (p.once s word w)
       ∙ and_neither (p.picks s word) (same_name word w) (is_among word others)
@@ -57,7 +58,7 @@ module _ {S : Type 0} (p : Picking S) where
     passed_absent none = passed (picks_past s word found ∙ ap (λ b. b && not (is_among word found)) none)
 
     pub passed_again : is_among word found ≡ true → found ++ p.all (past_all s found) (drop (i + 1) words) ≡ found ++ p.all (past_all s found) (drop i words)
-    passed_again again = passed (picks_past s word found ∙ ap (λ b. p.picks s word && not b) again ∙ and_none (p.picks s word))
+    passed_again again = passed (picks_past s word found ∙ ap (λ b. p.picks s word && not b) again ∙ and-false (p.picks s word))
 
 -- who is there without those of one name
 pub there_without : {V : Type 0} (name : V → List ℕ) (vs : List V) (key other : List ℕ)
@@ -73,7 +74,7 @@ there_without {V} name (t ∷ vs) key other =
           rest ∙ elim (same_name key (name t)) as (λ a. same_name key (name t) ≡ a
           → (list_any (λ v. same_name key (name v)) vs && not (same_name key other)) ≡ ((a || list_any (λ v. same_name key (name v)) vs) && not (same_name key other))) [
             | true ↦ λ f. let same : same_name key other ≡ true = ap (same_name key) is ∙ f in
-                ap (λ s. list_any (λ v. same_name key (name v)) vs && not s) same ∙ and_none (list_any (λ v. same_name key (name v)) vs) ∙ sym (ap not same)
+                ap (λ s. list_any (λ v. same_name key (name v)) vs && not s) same ∙ and-false (list_any (λ v. same_name key (name v)) vs) ∙ sym (ap not same)
             | false ↦ λ f. refl
           ] refl
       | false ↦ λ e. elim (same_name key (name t)) as (λ a. same_name key (name t) ≡ a

@@ -12,7 +12,8 @@ use Rattle.battle_room.specs.Index.{IsIndex}
 use Rattle.battle_room.specs.Tags.{has_tag, with_tag, with_tags, without_tag, keys_there}
 use Rattle.battle_room.proofs.Counted.{Putting}
 use Rattle.battle_room.proofs.Picked.{Picking, there_without}
-use Rattle.battle_room.proofs.Tests.{or_none, or_assoc, or_again}
+use Rattle.battle_room.proofs.Tests.{or_again}
+use Rattle.std.proofs.Math.Bool.{or-false, or_assoc}
 
 -- tags behind copies of their keys
 abbrev pub key_bytes : Vec ℕ Global → List ℕ
@@ -42,7 +43,7 @@ has_tag_is key [] = refl
 has_tag_is key (t ∷ tags) = ap (λ b. same_name key t.key || b) (has_tag_is key tags)
 
 pub has_with : (key : List ℕ) (tags : List Pair) (p : Pair) → has_tag key (with_tag tags p) ≡ (has_tag key tags || same_name key p.key)
-has_with key [] p = or_none (same_name key p.key)
+has_with key [] p = or-false (same_name key p.key)
 has_with key (t ∷ tags) p =
     let rest = has_with key tags p in
     elim (same_name p.key t.key) as (λ b. same_name p.key t.key ≡ b

@@ -2,22 +2,6 @@
 use Rattle.std.proofs.Common.{◌≡◌, refl, Bool, true, false, not}
 use Rattle.std.specs.Prelude.{◌||◌, ◌&&◌}
 
-pub or_none : (a : Bool) → (a || false) ≡ a
-or_none true = refl
-or_none false = refl
-
-pub and_all : (a : Bool) → a ≡ (a && true)
-and_all true = refl
-and_all false = refl
-
-pub and_none : (a : Bool) → (a && false) ≡ false
-and_none true = refl
-and_none false = refl
-
-pub or_assoc : (a b c : Bool) → ((a || b) || c) ≡ (a || (b || c))
-or_assoc true b c = refl
-or_assoc false b c = refl
-
 pub and_neither : (a b c : Bool) → ((a && not b) && not c) ≡ (a && not (b || c))
 and_neither true true c = refl
 and_neither true false c = refl

@@ -1,4 +1,7 @@
 //! What members ask of a room, refused where they may not have it.
+//!
+//! The server runs none of this: its rules decide, and what they decide it does by the calls of `Room` that
+//! check nothing. These calls are for a caller that has no rules of its own.
 
 ghost use Rattle.std.specs.Prelude.{◌≡◌, ◌<◌, OnOk, OnErr, IfOk, IfSome, IfNone, IfErr, Err};
 ghost use Rattle.std.specs.Result.{result_err};
@@ -116,7 +119,7 @@ impl<M: Copy> Room<M> {
         }
     }
 
-    /// A member goes, with all its bots.
+    /// Not run by the server, which uses `drop_member`: a member goes, with all its bots.
     ///
     /// `NotMember` where it is none, `NotAllowed` where it is the founder.
     pub fn remove_member(&mut self, name: &NameBuf) -> Result<(), RoomError>
@@ -129,7 +132,8 @@ impl<M: Copy> Room<M> {
         Ok(())
     }
 
-    /// A member shows a status and a colour. `NotMember` where it is none.
+    /// Not run by the server, which uses `put_status`: a member shows a status and a colour.
+    /// `NotMember` where it is none.
     pub fn set_status(
         &mut self,
         name: &NameBuf,
@@ -145,7 +149,7 @@ impl<M: Copy> Room<M> {
         Ok(())
     }
 
-    /// A member adds a bot.
+    /// Not run by the server, which uses `put_bot`: a member adds a bot.
     ///
     /// `NotMember` where the owner is none, `DuplicateBot` where the name is taken, `TooManyBots`
     /// where there are 64, and then `Memory`.
@@ -167,7 +171,7 @@ impl<M: Copy> Room<M> {
         Ok(())
     }
 
-    /// A bot shows a status and a colour.
+    /// Not run by the server, which uses `put_bot_status`: a bot shows a status and a colour.
     ///
     /// `NotMember` where who asks is none, `NoBot` where there is no bot of the name, `NotAllowed`
     /// where who asks is neither its owner nor the founder.
@@ -187,7 +191,7 @@ impl<M: Copy> Room<M> {
         Ok(())
     }
 
-    /// A bot goes. It is refused as `update_bot` is.
+    /// Not run by the server, which uses `drop_bot`: a bot goes. It is refused as `update_bot` is.
     pub fn remove_bot(&mut self, by: &NameBuf, name: &WordBuf) -> Result<(), RoomError>
         ensures refused { result_err result ≡ bot_refusal by.now name.now self.old }
         ensures ok { OnOk result (self.new ≡ room.without_bot name.now self.old) }
@@ -198,7 +202,8 @@ impl<M: Copy> Room<M> {
         Ok(())
     }
 
-    /// The founder sets the start rectangle of an ally number, 0 to 15.
+    /// Not run by the server, which uses `put_rect`: the founder sets the start rectangle of an ally
+    /// number, 0 to 15.
     ///
     /// `NotMember` where who asks is none, `NotAllowed` where it is not the founder.
     pub fn set_rect(&mut self, by: &NameBuf, ally: u8, rect: Rect) -> Result<(), RoomError>
@@ -212,8 +217,8 @@ impl<M: Copy> Room<M> {
         Ok(())
     }
 
-    /// The founder removes the start rectangle of an ally number, 0 to 15, if it has one. It is
-    /// refused as `set_rect` is.
+    /// Not run by the server, which uses `drop_rect`: the founder removes the start rectangle of an ally
+    /// number, 0 to 15, if it has one. It is refused as `set_rect` is.
     pub fn remove_rect(&mut self, by: &NameBuf, ally: u8) -> Result<(), RoomError>
         requires { ally < 16 }
         ensures refused { result_err result ≡ founder_refusal by.now self.old }
@@ -225,7 +230,8 @@ impl<M: Copy> Room<M> {
         Ok(())
     }
 
-    /// The founder sets tags: a key that is set keeps its place.
+    /// Not run by the server, which uses `put_tags`: the founder sets tags, and a key that is set keeps its
+    /// place.
     ///
     /// `NotMember` where who asks is none, `NotAllowed` where it is not the founder, `TooManyTags`
     /// where there would be more than 512, and then `Memory`.
@@ -240,7 +246,8 @@ impl<M: Copy> Room<M> {
         Ok(())
     }
 
-    /// The founder removes tags. Gives the keys that were set, each once, in the order of the list.
+    /// Not run by the server, which uses `keys_there` and `drop_tags`: the founder removes tags. Gives the
+    /// keys that were set, each once, in the order of the list.
     ///
     /// `NotMember` where who asks is none, `NotAllowed` where it is not the founder, and then
     /// `Memory`.
@@ -257,8 +264,8 @@ impl<M: Copy> Room<M> {
         Ok(there)
     }
 
-    /// The founder disables units: one that is disabled keeps its place. Gives those that were not, each
-    /// once, in the order of the list.
+    /// Not run by the server, which uses `units_new` and `put_units`: the founder disables units, and one
+    /// that is disabled keeps its place. Gives those that were not, each once, in the order of the list.
     ///
     /// `NotMember` where who asks is none, `NotAllowed` where it is not the founder, `TooManyUnits`
     /// where there would be more than 1,024, and then `Memory`.
@@ -275,8 +282,8 @@ impl<M: Copy> Room<M> {
         Ok(new)
     }
 
-    /// The founder enables units again. Gives those that were disabled, each once, in the order of the
-    /// list.
+    /// Not run by the server, which uses `units_there` and `drop_units`: the founder enables units again.
+    /// Gives those that were disabled, each once, in the order of the list.
     ///
     /// `NotMember` where who asks is none, `NotAllowed` where it is not the founder, and then
     /// `Memory`.
@@ -293,7 +300,8 @@ impl<M: Copy> Room<M> {
         Ok(there)
     }
 
-    /// The founder enables all units. It takes no memory, and is refused as `set_rect` is.
+    /// Not run by the server, which uses `clear_units`: the founder enables all units. It takes no memory,
+    /// and is refused as `set_rect` is.
     pub fn enable_all(&mut self, by: &NameBuf) -> Result<(), RoomError>
         ensures refused { result_err result ≡ founder_refusal by.now self.old }
         ensures ok { OnOk result (self.new ≡ room.enable_all self.old) }
@@ -304,8 +312,9 @@ impl<M: Copy> Room<M> {
         Ok(())
     }
 
-    /// One who asks to join asks no more. Gives the script password with which it asked, if it gave
-    /// one. It takes no memory. `NoRequest` where nobody of the name asks.
+    /// Not run by the server, which uses `asker` and `drop_asker`: one who asks to join asks no more. Gives
+    /// the script password with which it asked, if it gave one. It takes no memory. `NoRequest` where nobody
+    /// of the name asks.
     pub fn take_ask(&mut self, name: &NameBuf) -> Result<Option<WordBuf>, RoomError>
         ensures refused { result_err result ≡ request_refusal name.now self.old }
         ensures given { IfSome (room.asker_of name.now self.old) (λ asker. IfOk result (λ password. password ≡ asker.script_password)) }

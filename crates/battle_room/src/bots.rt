@@ -10,7 +10,8 @@ use status_bits::BattleStatus;
 use std::alloc::{AllocError, Global};
 use std::marker::Model;
 
-/// The most bots of a room.
+/// The most bots of a room: four for each of the 16 teams that a status can name. They are walked to find
+/// one by its name, so they are kept few.
 pub const BOT_LIMIT: usize = 64;
 
 /// A bot, which the client of its owner runs.

@@ -4,7 +4,7 @@ ghost use Rattle.std.specs.Prelude.{◌≡◌, ◌∷◌, [], ◌++◌, map, fil
 ghost use Rattle.std.specs.List.{IsDistinct};
 ghost use Rattle.line_words.specs.Table.{same_name, is_among};
 ghost use Rattle.battle_room.specs.Room as room;
-ghost use Rattle.battle_room.specs.Refusals.{first_name, is_first};
+ghost use Rattle.battle_room.specs.Refusals.{is_first};
 
 use indexmap::IndexMap;
 use line_words::NameBuf;
@@ -134,16 +134,6 @@ impl<M: Copy> Members<M> {
         ensures { result ≡ is_among name.now (map (λ m. m.name) self.now) }
     {
         self.by_name.contains_key(name)
-    }
-
-    /// The name of the first.
-    pub(crate) fn first(&self) -> Option<&NameBuf>
-        ensures { option_copied result ≡ first_name self.now }
-    {
-        match self.as_slice().first() {
-            Some(founder) => Some(founder.name()),
-            None => None,
-        }
     }
 
     /// Whether the first has this name.

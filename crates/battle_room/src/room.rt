@@ -1,14 +1,13 @@
 //! A room: what the members of a battle share.
 
-ghost use Rattle.std.specs.Prelude.{◌≡◌, ◌<◌, ℕ, ℤ, List, map, not, OnOk, OnErr, IfOk, IfSome, IfNone, IfErr, Err, option_copied, false};
-ghost use Rattle.std.specs.Result.{result_err};
+ghost use Rattle.std.specs.Prelude.{◌≡◌, ◌<◌, List, not, OnOk, OnErr, IfOk, option_copied, false};
 ghost use Rattle.std.specs.List.{IsDistinct};
 ghost use Rattle.line_words.specs.Table.{same_name, at_number};
 ghost use Rattle.battle_room.specs.Room as room;
 ghost use Rattle.battle_room.specs.Tags as tags;
 ghost use Rattle.battle_room.specs.Units as units;
 ghost use Rattle.battle_room.specs.Places.{numbered};
-ghost use Rattle.battle_room.specs.Refusals.{first_name, is_founder, has_bot, status_refusal, founder_refusal, removal_refusal, new_bot_refusal, bot_refusal, tags_refusal};
+ghost use Rattle.battle_room.specs.Refusals.{is_first_member};
 
 use crate::askers::{Asker, Askers};
 use crate::bots::{Bot, Bots};
@@ -46,14 +45,16 @@ impl<M: Copy> Model for Room<M> {
 }
 
 impl Room {
-    /// A room with its founder alone, without bots, rectangles and tags.
+    /// Not run by the server, which uses `with_mark`: a room with its founder alone, without bots,
+    /// rectangles and tags.
     pub fn new(alloc: Global, founder: NameBuf) -> Result<Room, AllocError>
         ensures { IfOk result (λ r. r ≡ room.new_room founder) }
     {
         Room::with_mark(alloc, founder, ())
     }
 
-    /// One who is no member joins, behind the others. Where memory is refused, nothing changes.
+    /// Not run by the server, which uses `add_marked`: one who is no member joins, behind the others.
+    /// Where memory is refused, nothing changes.
     pub fn add_member(&mut self, name: NameBuf) -> Result<(), AllocError>
         requires { room.has_member name self.old ≡ false }
         ensures ok { OnOk result (self.new ≡ room.with_member name self.old) }
@@ -62,8 +63,8 @@ impl Room {
         self.add_marked(name, ())
     }
 
-    /// One who is no member, and may ask to join, asks no more and joins, behind the others. Where memory
-    /// is refused, nothing changes.
+    /// Not run by the server, which uses `let_in_marked`: one who is no member, and may ask to join, asks
+    /// no more and joins, behind the others. Where memory is refused, nothing changes.
     pub fn let_in(&mut self, name: &NameBuf) -> Result<(), AllocError>
         requires { room.has_member name.now self.old ≡ false }
         ensures ok { OnOk result (self.new ≡ room.with_member name.now (room.without_asker name.now self.old)) }
@@ -104,7 +105,8 @@ impl<M: Copy> Room<M> {
         self.bots.as_slice()
     }
 
-    /// The start rectangle of an ally number, 0 to 15, if it has one.
+    /// Not run by the server, which uses `rects`: the start rectangle of an ally number, 0 to 15, if it
+    /// has one.
     pub fn rect_at(&self, ally: u8) -> Option<Rect>
         requires { ally < 16 }
         ensures { result ≡ at_number self.now.rects ally }
@@ -176,16 +178,10 @@ impl<M: Copy> Room<M> {
         self.bots.bot(name)
     }
 
-    /// The name of the first member.
-    pub fn founder(&self) -> Option<&NameBuf>
-        ensures { option_copied result ≡ first_name self.now.members }
-    {
-        self.members.first()
-    }
-
-    /// Whether the first member has this name.
+    /// Not run by the server, which keeps each battle's founder beside its room: whether the first member
+    /// has this name.
     pub fn is_founder(&self, name: &NameBuf) -> bool
-        ensures { result ≡ is_founder name.now self.now }
+        ensures { result ≡ is_first_member name.now self.now }
     {
         self.members.is_first(name)
     }
@@ -202,13 +198,6 @@ impl<M: Copy> Room<M> {
         ensures { result ≡ not (room.has_too_many_tags (tags.with_tags self.now.tags pairs.now)) }
     {
         self.tags.has_room_for(pairs)
-    }
-
-    /// Whether a tag of this key is set.
-    pub fn has_tag(&self, key: &WordBuf) -> bool
-        ensures { result ≡ tags.has_tag key.now self.now.tags }
-    {
-        self.tags.has(key)
     }
 
     /// Those of the keys that are set, each once, in the order of the list of keys.

@@ -13,7 +13,8 @@ use line_words::{Pair, PairList, WordBuf, WordList};
 use std::alloc::{AllocError, Global};
 use std::marker::Model;
 
-/// The most script tags of a room.
+/// The most script tags of a room. The options of a game and of a map and a few tags for each player come to
+/// less. There is a limit because a room keeps its tags in memory and who joins is sent them all.
 pub const TAG_LIMIT: usize = 512;
 
 /// Script tags in order of first setting.
@@ -74,13 +75,6 @@ impl Tags {
         ensures { result.now ≡ self.now }
     {
         self.by_key.values().as_slice()
-    }
-
-    /// Whether a key is set.
-    pub(crate) fn has(&self, key: &WordBuf) -> bool
-        ensures { result ≡ tags.has_tag key.now self.now }
-    {
-        self.has_bytes(key.as_slice())
     }
 
     /// Whether a key of these bytes is set.

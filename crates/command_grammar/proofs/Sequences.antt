@@ -2,6 +2,7 @@
 use Rattle.std.proofs.Common.{◌≡◌, ℕ, zero, suc, ◌<◌, List, [], ◌∷◌, ◌++◌, length, length-append, refl, sym, ap, subst, ◌∙◌, Bool, true, false, cond, inl, inr, arith}
 use Rattle.std.specs.Prelude.{◌==◌, ◌||◌, ◌⊎◌, not, nat_le, IsTrue, MatchBool, Option, Some, None, Result, Ok, Err}
 use Rattle.std.specs.List.{list_any, list_all}
+use Rattle.std.proofs.Math.Bool.{or-false, or_assoc}
 use Rattle.std.proofs.lemmas.Bool.{and_parts, eq-eqb, eqb-true}
 use Rattle.line_words.specs.Bytes.{is_spaces, has_byte, is_key, is_key_byte}
 use Rattle.line_words.specs.Parts.{before, from, Ends, between, with_front, tails}
@@ -180,16 +181,8 @@ are_words : (rest : List ℕ) → EndsWord rest → AreWords rest (words_in rest
 are_words rest e = words_up_to (suc (length rest)) rest (omega arith) e
 
 -- a tab stands in the rest exactly where it stands in a word
-or_assoc : (x y z : Bool) → ((x || y) || z) ≡ (x || (y || z))
-or_assoc true y z = refl
-or_assoc false y z = refl
-
-or_false : (x : Bool) → (x || false) ≡ x
-or_false true = refl
-or_false false = refl
-
 any_front : (b : ℕ) (parts : List (List ℕ)) → list_any (has_byte 9) (with_front b parts) ≡ ((b == 9) || list_any (has_byte 9) parts)
-any_front b [] = or_false ((b == 9) || false)
+any_front b [] = or-false ((b == 9) || false)
 any_front b (x ∷ xs) = or_assoc (b == 9) (has_byte 9 x) (list_any (has_byte 9) xs)
 
 any_cut : (t : Bool) (b : ℕ) (bs : List ℕ) → (b == 32) ≡ t → list_any (has_byte 9) (between 32 bs) ≡ has_byte 9 bs

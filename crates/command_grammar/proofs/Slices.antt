@@ -2,7 +2,7 @@
 use Rattle.std.proofs.Common.{◌≡◌, ℕ, ◌<◌, List, [], ◌∷◌, ◌++◌, length, refl, ap, subst, ◌∙◌, Bool, true, false, cond, arith}
 use Rattle.std.specs.Prelude.{◌==◌, not, nat_le, IsTrue, Ok, Err}
 use Rattle.std.specs.List.{list_all}
-use Rattle.std.proofs.lemmas.Bool.{and_parts, and_from}
+use Rattle.std.proofs.lemmas.Bool.{and_parts, and_from, not-true}
 use Rattle.line_words.specs.Bytes.{is_spaces, has_byte, is_text, is_text_byte, is_word, is_word_byte, is_sentence, is_sentence_byte}
 use Rattle.line_words.specs.Sentences.{between_tabs}
 use Rattle.line_words.specs.Parts.{before, from, between, with_front}
@@ -66,11 +66,7 @@ word_bytes (x ∷ w) h s t =
     let both = and_parts (is_text_byte x) (is_text w) h in
     let tabs : IsTrue (not (has_byte 9 (x ∷ w))) = ap not t in
     rw (nor_first (x == 32) (has_byte 32 w) s, nor_first (x == 9) (has_byte 9 w) tabs, both.0)
-    (word_bytes w both.1 (nor_second (x == 32) (has_byte 32 w) s) (not_true (has_byte 9 w) (nor_second (x == 9) (has_byte 9 w) tabs)))
-  where
-    not_true : (t : Bool) → IsTrue (not t) → t ≡ false
-    not_true true h = absurd (let n : ⊥ = cc in n)
-    not_true false h = refl
+    (word_bytes w both.1 (nor_second (x == 32) (has_byte 32 w) s) (not-true (has_byte 9 w) (nor_second (x == 9) (has_byte 9 w) tabs)))
 
 pub word_kind : (rest w r : List ℕ) → IsTrue (is_text rest) → FirstWord rest w r → has_byte 9 w ≡ false → IsTrue (is_word w)
 word_kind rest w r h f t =

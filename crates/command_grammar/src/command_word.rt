@@ -1,7 +1,7 @@
 //! The command words.
 
 ghost use Rattle.std.specs.Prelude.{◌≡◌};
-ghost use Rattle.command_grammar.specs.Forms.{command_named, is_same};
+ghost use Rattle.command_grammar.specs.Forms.{command_named};
 ghost use Rattle.command_grammar.specs.Table.{entry_of};
 
 /// The commands by their first word.
@@ -134,14 +134,6 @@ impl CommandWord {
     pub(crate) fn named(word: &[u8]) -> Option<CommandWord>
         ensures { result ≡ command_named word.now }
     {
-        ALL.iter()
-            .copied()
-            .find(|command| is_same(word, command.text()))
+        ALL.iter().copied().find(|command| word == command.text())
     }
-}
-
-fn is_same(word: &[u8], other: &[u8]) -> bool
-    ensures { result ≡ is_same word.now other.now }
-{
-    word == other
 }

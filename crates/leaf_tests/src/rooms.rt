@@ -140,8 +140,8 @@ fn removes(room: &mut Room, keys: &[WordBuf], gone: &[&[u8]]) -> bool {
     }
 }
 
-fn has_tag(room: &Room, alloc: Global, key: &[u8]) -> Option<bool> {
-    Some(room.has_tag(&word(alloc, key)?))
+fn has_tag(room: &Room, key: &[u8]) -> bool {
+    room.tags().iter().any(|tag| tag.key.as_slice() == key)
 }
 
 /// One tag more is refused, and none of the others is set then.
@@ -163,8 +163,8 @@ fn remove_some(rt: &impl Abort, room: &mut Room, alloc: Global) {
     };
     assert!(rt; removes(room, &keys, &[b"k2", b"k1"]));
     assert!(rt; begins(room, 510, b"k3", b"1"));
-    same(rt, has_tag(room, alloc, b"k1"), Some(false));
-    same(rt, has_tag(room, alloc, b"k3"), Some(true));
+    assert!(rt; !has_tag(room, b"k1"));
+    assert!(rt; has_tag(room, b"k3"));
 }
 
 #[test]

@@ -5,4 +5,5 @@ pub mod Tables
 pub mod Written
 pub mod Once
 pub mod Ties
+pub mod Options
 pub mod Keyed

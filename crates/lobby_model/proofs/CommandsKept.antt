@@ -2,7 +2,6 @@
 use Rattle.std.proofs.Common.{◌≡◌, ℕ, List, [], ◌∷◌, refl, true, false}
 use Rattle.std.specs.Prelude.{Option, Some, None, IsSome, ◌==◌, is_some}
 use Rattle.account_book.specs.Book.{login}
-use Rattle.reply_grammar.specs.declared.Reply.{Reply}
 use Rattle.reply_grammar.specs.declared.Reply.TheVariants as reply
 use Rattle.command_grammar.specs.declared.command.Command.{Command}
 use Rattle.command_grammar.specs.declared.command.Command.TheVariants as command
@@ -13,18 +12,19 @@ use Rattle.line_words.specs.Table.{at_name, at_number, same_name, is_among}
 use Rattle.channel_book.specs.Channels.{names_in}
 use Rattle.battle_room.specs.Tags.{with_tags}
 use Rattle.battle_room.specs.Units.{with_units}
-use Rattle.battle_room.specs.Room.{Bot, Asker, has_member, has_asker, bot_of, status_of, is_full_of_bots, has_too_many_tags, has_too_many_units}
-use Rattle.lobby_model.specs.State.{State, Client, Battle, battle_of, asked_by, name_of, updated}
+use Rattle.battle_room.specs.Room.{has_member, bot_of, status_of, is_full_of_bots, has_too_many_tags, has_too_many_units}
+use Rattle.lobby_model.specs.State.{State, Client, battle_of, asked_by, name_of, updated}
 use Rattle.lobby_model.specs.Texts.{already_in_channel, already_in_battle, already_asking, no_number_left, battle_is_locked, wrong_password, no_such_user, no_such_member, cannot_kick_yourself, bot_name_taken, too_many_bots, too_many_tags, too_many_units}
-use Rattle.lobby_model.specs.Outcome.{Happening, Outcome, Refused, Done, tell, users, only_told, message, state_after}
+use Rattle.lobby_model.specs.Outcome.{Happening, Outcome, tell, users, only_told, message, state_after}
 use Rattle.lobby_model.specs.Channels.{leaves}
-use Rattle.lobby_model.specs.Battles.{in_battle, as_founder, lets_in, is_authorising, joins_or_asks, with_asker_of, address}
-use Rattle.lobby_model.specs.Rooms.{new_bot, with_own_bot, with_member_of}
+use Rattle.lobby_model.specs.Battles.{lets_in, is_authorising, joins_or_asks, address}
+use Rattle.lobby_model.specs.Rooms.{new_bot}
 use Rattle.lobby_model.specs.Sessions.{status_in}
 use Rattle.lobby_model.specs.Commands.{answer}
 use Rattle.lobby_model.specs.Sound.{Sound}
 use Rattle.lobby_model.proofs.Checked as checked
-use Rattle.lobby_model.proofs.AskersKept.{found_asks}
+use Rattle.lobby_model.proofs.Checked.{Refusals, any_refusal}
+use Rattle.lobby_model.proofs.Within as within
 use Rattle.lobby_model.proofs.ChannelsKept as channels
 use Rattle.lobby_model.proofs.BattlesKept as battles
 use Rattle.lobby_model.proofs.SessionsKept as sessions
@@ -33,49 +33,15 @@ module _ (s : State) (sound : Sound s) where
   abbrev Keeps : Outcome → Type 0
   Keeps o = Sound (state_after s o)
 
-  refused : (refusal : Reply) → Keeps (Refused refusal)
-  refused refusal = sound
+  owed : Refusals Keeps
+  owed = any_refusal Keeps (λ refusal. sound)
 
   -- of a user
   module _ (me : List ℕ) (known : IsSome (at_name s.users me)) where
     in_its_channel : (channel : List ℕ) (happening : List (List ℕ) → Happening) → ((names : List (List ℕ)) → Sound ((happening names).after s))
         → Keeps (Rattle.lobby_model.specs.Channels.in_channel s me channel happening)
     in_its_channel channel happening keeps =
-        checked.in_its_channel Keeps refused s me channel happening (λ in_it. keeps (names_in s.channels channel))
-
-    in_its_battle : (rest : ℕ → Battle → Outcome)
-        → ((id : ℕ) (battle : Battle) → at_number s.battles id ≡ Some battle → has_member me battle.room ≡ true → Keeps (rest id battle))
-        → Keeps (in_battle s me rest)
-    in_its_battle rest keeps =
-        checked.in_a_battle Keeps refused s me rest
-        (λ id battle own. let at = battles.own_battle s sound me id battle own in keeps id battle at.0 at.1)
-
-    as_its_founder : (rest : ℕ → Battle → Outcome) → ((id : ℕ) (battle : Battle) → at_number s.battles id ≡ Some battle → Keeps (rest id battle))
-        → Keeps (as_founder s me rest)
-    as_its_founder rest keeps =
-        checked.as_its_founder Keeps refused s me rest (λ id battle own founds. keeps id battle (battles.own_battle s sound me id battle own).0)
-
-    with_a_member : (name : List ℕ) (happenings : ℕ → Battle → List Happening)
-        → ((id : ℕ) (battle : Battle) → at_number s.battles id ≡ Some battle → Keeps (Done (happenings id battle)))
-        → Keeps (with_member_of s me name happenings)
-    with_a_member name happenings keeps =
-        checked.with_a_member Keeps refused s me name happenings
-        (λ id battle own founds in_it. keeps id battle (battles.own_battle s sound me id battle own).0)
-
-    with_a_bot : (name : List ℕ) (happening : ℕ → Battle → Bot → Happening)
-        → ((id : ℕ) (battle : Battle) (bot : Bot) → at_number s.battles id ≡ Some battle → Sound ((happening id battle bot).after s))
-        → Keeps (with_own_bot s me name happening)
-    with_a_bot name happening keeps =
-        checked.with_a_bot Keeps refused s me name happening
-        (λ id battle bot own found mine. keeps id battle bot (battles.own_battle s sound me id battle own).0)
-
-    with_an_asker : (name : List ℕ) (happening : Asker → ℕ → Battle → Happening)
-        → ((id : ℕ) (battle : Battle) (asker : Asker) → at_number s.battles id ≡ Some battle → has_asker asker.name battle.room ≡ true
-        → Sound ((happening asker id battle).after s))
-        → Keeps (with_asker_of s me name happening)
-    with_an_asker name happening keeps =
-        checked.with_an_asker Keeps refused s me name happening
-        (λ id battle asker own founds found. keeps id battle asker (battles.own_battle s sound me id battle own).0 (found_asks name battle asker found))
+        checked.in_its_channel Keeps owed s me channel happening (λ in_it. keeps (names_in s.channels channel))
 
     -- all commands but EXIT and LOGIN
     abbrev IsOfUser : Command → Type 0
@@ -91,7 +57,7 @@ module _ (s : State) (sound : Sound s) where
     user_keeps c command.Ping own = sound
     user_keeps c (command.MyStatus asked) own = sessions.user_has_keeps s sound me (merge user_table (status_in (at_name s.users me)) asked)
     user_keeps c (command.Join channel key) own =
-        checked.refuse Keeps refused (is_among me (names_in s.channels channel)) (reply.JoinFailed channel already_in_channel) _
+        checked.refuse Keeps (is_among me (names_in s.channels channel)) (reply.JoinFailed channel already_in_channel) _ sound
         (λ out. channels.joins_keeps s sound me channel (names_in s.channels channel) out known)
     user_keeps c (command.Leave channel) own = in_its_channel channel (leaves me channel) (channels.leaves_keeps s sound me channel)
     user_keeps c (command.Say channel text) own =
@@ -99,75 +65,75 @@ module _ (s : State) (sound : Sound s) where
     user_keeps c (command.SayEx channel text) own =
         in_its_channel channel (λ names. only_told (tell (users names) (reply.SaidEx channel me text ∷ []) ∷ [])) (λ names. sound)
     user_keeps c (command.SayPrivate target text) own =
-        checked.demand Keeps refused (is_some (at_name s.users target)) (message no_such_user) _ (λ there. sound)
+        checked.demand Keeps (is_some (at_name s.users target)) (message no_such_user) _ sound (λ there. sound)
     user_keeps c command.Channels own = sound
     user_keeps c (command.OpenBattle battle_type nat_type password port max_players game_hash rank map_hash engine_name engine_version map title game_name) own =
-        checked.demand_none Keeps refused (battle_of s me) (reply.OpenBattleFailed already_in_battle) _
-        (λ free. checked.demand_none Keeps refused (asked_by s me) (reply.OpenBattleFailed already_asking) _
-        (λ silent. checked.refuse Keeps refused (s.last_battle == 2147483647) (reply.OpenBattleFailed no_number_left) _
+        checked.demand_none Keeps (battle_of s me) (reply.OpenBattleFailed already_in_battle) _ sound
+        (λ free. checked.demand_none Keeps (asked_by s me) (reply.OpenBattleFailed already_asking) _ sound
+        (λ silent. checked.refuse Keeps (s.last_battle == 2147483647) (reply.OpenBattleFailed no_number_left) _ sound
         (λ left. battles.opens_keeps s sound me _ refl refl free silent known)))
     user_keeps c (command.JoinBattle id password script_password) own =
-        checked.demand_none Keeps refused (battle_of s me) (reply.JoinBattleFailed already_in_battle) _
-        (λ free. checked.demand_none Keeps refused (asked_by s me) (reply.JoinBattleFailed already_asking) _
-        (λ silent. checked.there Keeps refused (at_number s.battles id) _
-        (λ battle there. checked.refuse Keeps refused battle.info.locked (reply.JoinBattleFailed battle_is_locked) _
-        (λ unlocked. checked.demand Keeps refused (lets_in battle.password password) (reply.JoinBattleFailed wrong_password) _
+        checked.demand_none Keeps (battle_of s me) (reply.JoinBattleFailed already_in_battle) _ sound
+        (λ free. checked.demand_none Keeps (asked_by s me) (reply.JoinBattleFailed already_asking) _ sound
+        (λ silent. checked.there Keeps owed (at_number s.battles id) _
+        (λ battle there. checked.refuse Keeps battle.info.locked (reply.JoinBattleFailed battle_is_locked) _ sound
+        (λ unlocked. checked.demand Keeps (lets_in battle.password password) (reply.JoinBattleFailed wrong_password) _ sound
         (λ let_in. elim (is_authorising (at_name s.users battle.info.founder)) as
         (λ asks. Sound ((joins_or_asks asks me id battle script_password (address (at_number s.clients c))).after s)) [
           | true ↦ battles.asks_to_join_keeps s sound id battle there me script_password (address (at_number s.clients c)) free silent known
           | false ↦ battles.joins_battle_keeps s sound id battle there me script_password free silent known
         ])))))
     user_keeps c command.LeaveBattle own =
-        checked.on_leaving Keeps refused s me
+        checked.on_leaving Keeps owed s me
         (λ e asks. let there = battles.own_request s sound me e asks in battles.asks_no_more_keeps s sound e.0 e.1 there.0 me)
         (λ silent id battle own. battles.leaves_battle_keeps s sound id battle (battles.own_battle s sound me id battle own).0 me)
     user_keeps c (command.JoinBattleAccept name) own =
-        with_an_asker name _ (λ id battle asker there asks. battles.let_into_keeps s sound id battle there asker asks)
+        within.an_asker Keeps owed s sound me name _ (λ id battle asker there asks. battles.let_into_keeps s sound id battle there asker asks)
     user_keeps c (command.JoinBattleDeny name reason) own =
-        with_an_asker name _ (λ id battle asker there asks. battles.asks_no_more_keeps s sound id battle there name)
+        within.an_asker Keeps owed s sound me name _ (λ id battle asker there asks. battles.asks_no_more_keeps s sound id battle there name)
     user_keeps c (command.UpdateBattleInfo spectators locked map_hash map) own =
-        as_its_founder _ (λ id battle there. battles.info_keeps s sound id battle there (updated spectators locked map_hash map) refl)
+        within.its_founder Keeps owed s sound me _ (λ id battle there. battles.info_keeps s sound id battle there (updated spectators locked map_hash map) refl)
     user_keeps c (command.MyBattleStatus asked colour) own =
-        in_its_battle _ (λ id battle there in_it. battles.member_has_keeps s sound id battle there me
+        within.its_battle Keeps owed s sound me _ (λ id battle there in_it. battles.member_has_keeps s sound id battle there me
         (merge battle_table (status_of me battle.room) asked) colour)
-    user_keeps c (command.SayBattle text) own = in_its_battle _ (λ id battle there in_it. battles.said_keeps s sound id battle there)
-    user_keeps c (command.SayBattleEx text) own = in_its_battle _ (λ id battle there in_it. battles.said_keeps s sound id battle there)
+    user_keeps c (command.SayBattle text) own = within.its_battle Keeps owed s sound me _ (λ id battle there in_it. battles.said_keeps s sound id battle there)
+    user_keeps c (command.SayBattleEx text) own = within.its_battle Keeps owed s sound me _ (λ id battle there in_it. battles.said_keeps s sound id battle there)
     user_keeps c (command.AddBot bot asked colour ai) own =
-        in_its_battle _ (λ id battle there in_it. checked.refuse Keeps refused (is_some (bot_of bot battle.room)) (message bot_name_taken) _
-        (λ new. checked.refuse Keeps refused (is_full_of_bots battle.room) (message too_many_bots) _
+        within.its_battle Keeps owed s sound me _ (λ id battle there in_it. checked.refuse Keeps (is_some (bot_of bot battle.room)) (message bot_name_taken) _ sound
+        (λ new. checked.refuse Keeps (is_full_of_bots battle.room) (message too_many_bots) _ sound
         (λ room. battles.bot_added_keeps s sound id battle there (new_bot bot me asked colour ai) in_it new)))
     user_keeps c (command.UpdateBot name asked colour) own =
-        with_a_bot name _ (λ id battle bot there. battles.bot_has_keeps s sound id battle there name (merge battle_table bot.status asked) colour)
-    user_keeps c (command.RemoveBot name) own = with_a_bot name _ (λ id battle bot there. battles.bot_removed_keeps s sound id battle there name)
+        within.a_bot Keeps owed s sound me name _ (λ id battle bot there. battles.bot_has_keeps s sound id battle there name (merge battle_table bot.status asked) colour)
+    user_keeps c (command.RemoveBot name) own = within.a_bot Keeps owed s sound me name _ (λ id battle bot there. battles.bot_removed_keeps s sound id battle there name)
     user_keeps c (command.AddStartRect number left top right bottom) own =
-        as_its_founder _ (λ id battle there. battles.rect_added_keeps s sound id battle there number
+        within.its_founder Keeps owed s sound me _ (λ id battle there. battles.rect_added_keeps s sound id battle there number
         (record { left = left; top = top; right = right; bottom = bottom }))
     user_keeps c (command.RemoveStartRect number) own =
-        as_its_founder _ (λ id battle there. battles.rect_removed_keeps s sound id battle there number)
+        within.its_founder Keeps owed s sound me _ (λ id battle there. battles.rect_removed_keeps s sound id battle there number)
     user_keeps c (command.SetScriptTags pairs) own =
-        as_its_founder _ (λ id battle there. checked.refuse Keeps refused (has_too_many_tags (with_tags battle.room.tags pairs))
-        (message too_many_tags) _ (λ few. battles.tags_set_keeps s sound id battle there pairs))
-    user_keeps c (command.RemoveScriptTags keys) own = as_its_founder _ (λ id battle there. battles.tags_removed_keeps s sound id battle there keys)
+        within.its_founder Keeps owed s sound me _ (λ id battle there. checked.refuse Keeps (has_too_many_tags (with_tags battle.room.tags pairs))
+        (message too_many_tags) _ sound (λ few. battles.tags_set_keeps s sound id battle there pairs))
+    user_keeps c (command.RemoveScriptTags keys) own = within.its_founder Keeps owed s sound me _ (λ id battle there. battles.tags_removed_keeps s sound id battle there keys)
     user_keeps c (command.DisableUnits words) own =
-        as_its_founder _ (λ id battle there. checked.refuse Keeps refused (has_too_many_units (with_units battle.room.units words))
-        (message too_many_units) _ (λ few. battles.units_disabled_keeps s sound id battle there words few))
-    user_keeps c (command.EnableUnits words) own = as_its_founder _ (λ id battle there. battles.units_enabled_keeps s sound id battle there words)
-    user_keeps c command.EnableAllUnits own = as_its_founder _ (λ id battle there. battles.all_enabled_keeps s sound id battle there)
+        within.its_founder Keeps owed s sound me _ (λ id battle there. checked.refuse Keeps (has_too_many_units (with_units battle.room.units words))
+        (message too_many_units) _ sound (λ few. battles.units_disabled_keeps s sound id battle there words few))
+    user_keeps c (command.EnableUnits words) own = within.its_founder Keeps owed s sound me _ (λ id battle there. battles.units_enabled_keeps s sound id battle there words)
+    user_keeps c command.EnableAllUnits own = within.its_founder Keeps owed s sound me _ (λ id battle there. battles.all_enabled_keeps s sound id battle there)
     user_keeps c (command.Handicap name value) own =
-        with_a_member name _ (λ id battle there. battles.member_has_keeps s sound id battle there name _ _)
+        within.a_member Keeps owed s sound me name _ (λ id battle there. battles.member_has_keeps s sound id battle there name _ _)
     user_keeps c (command.ForceTeamNo name number) own =
-        with_a_member name _ (λ id battle there. battles.member_has_keeps s sound id battle there name _ _)
+        within.a_member Keeps owed s sound me name _ (λ id battle there. battles.member_has_keeps s sound id battle there name _ _)
     user_keeps c (command.ForceAllyNo name number) own =
-        with_a_member name _ (λ id battle there. battles.member_has_keeps s sound id battle there name _ _)
+        within.a_member Keeps owed s sound me name _ (λ id battle there. battles.member_has_keeps s sound id battle there name _ _)
     user_keeps c (command.ForceTeamColor name colour) own =
-        with_a_member name _ (λ id battle there. battles.member_has_keeps s sound id battle there name _ _)
+        within.a_member Keeps owed s sound me name _ (λ id battle there. battles.member_has_keeps s sound id battle there name _ _)
     user_keeps c (command.ForceSpectatorMode name) own =
-        with_a_member name _ (λ id battle there. battles.member_has_keeps s sound id battle there name _ _)
+        within.a_member Keeps owed s sound me name _ (λ id battle there. battles.member_has_keeps s sound id battle there name _ _)
     user_keeps c (command.KickFromBattle name) own =
-        as_its_founder _ (λ id battle there. checked.refuse Keeps refused (same_name me name) (message cannot_kick_yourself) _
-        (λ other. checked.demand Keeps refused (has_member name battle.room) (message no_such_member) _
+        within.its_founder Keeps owed s sound me _ (λ id battle there. checked.refuse Keeps (same_name me name) (message cannot_kick_yourself) _ sound
+        (λ other. checked.demand Keeps (has_member name battle.room) (message no_such_member) _ sound
         (λ in_it. battles.leaves_battle_keeps s sound id battle there name)))
-    user_keeps c (command.Ring name) own = with_a_member name _ (λ id battle there. sound)
+    user_keeps c (command.Ring name) own = within.a_member Keeps owed s sound me name _ (λ id battle there. sound)
 
   -- of a client that is there
   module _ (c : ℕ) (client : Client) (there : at_number s.clients c ≡ Some client) where

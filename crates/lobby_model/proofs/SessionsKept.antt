@@ -120,8 +120,8 @@ module _ (s : State) (sound : Sound s) where
       → name_of s c ≡ None → Sound (state_after s (log_in s c cpu authorises result))
   log_in_keeps c cpu authorises (Err fault) client found unnamed = sound
   log_in_keeps c cpu authorises (Ok account) client found unnamed =
-      checked.refuse (λ o. Sound (state_after s o)) (λ refusal. sound) (is_some (at_name s.users account.name)) (reply.Denied user_is_in)
-      (done (logs_in c account.name (user_of account cpu authorises) s))
+      checked.refuse (λ o. Sound (state_after s o)) (is_some (at_name s.users account.name)) (reply.Denied user_is_in)
+      (done (logs_in c account.name (user_of account cpu authorises) s)) sound
       (λ free. logs_in_keeps c account.name (user_of account cpu authorises) s client found unnamed free)
 
   pub user_has_keeps : (me : List ℕ) (status : ℕ) → Sound ((user_has me status).after s)

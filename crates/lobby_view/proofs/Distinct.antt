@@ -1,4 +1,5 @@
 -- Names that differ, and names that are added to a list or taken out of it.
+use Rattle.std.proofs.Math.Bool.{or-false}
 use Rattle.std.proofs.Common.{◌≡◌, ℕ, List, [], ◌∷◌, ◌++◌, refl, sym, ap, ◌∙◌, Bool, true, false, not}
 use Rattle.std.specs.Prelude.{◌||◌, if◌then◌else◌, map, filter}
 use Rattle.std.specs.List.{IsDistinct, list_any}
@@ -31,11 +32,7 @@ stays me u apart names =
 -- I at the end make no difference to it
 pub at_end_apart : (u me : List ℕ) → same_name u me ≡ false → (names : List (List ℕ)) → is_among u (names ++ me ∷ []) ≡ is_among u names
 at_end_apart u me apart names =
-    list_any-append (same_name u) names (me ∷ []) ∙ ap (λ b. is_among u names || (b || false)) apart ∙ or_nothing (is_among u names)
-  where
-    or_nothing : (b : Bool) → (b || false) ≡ b
-    or_nothing true = refl
-    or_nothing false = refl
+    list_any-append (same_name u) names (me ∷ []) ∙ ap (λ b. is_among u names || (b || false)) apart ∙ or-false (is_among u names)
 
 pub is_at_end : (me : List ℕ) (names : List (List ℕ)) → is_among me (names ++ me ∷ []) ≡ true
 is_at_end me names =

@@ -38,6 +38,7 @@ use Rattle.lobby_view.proofs.StatusWords.{user_merge_fits, battle_merge_fits}
 use Rattle.lobby_view.proofs.KindsOfUsers.{IsName, ChannelKinds}
 use Rattle.lobby_view.proofs.KindsOfBattles.{BotKinds, RectKinds, AskerKinds, units_kinds, units_gone_kinds, all_units_gone_kinds, bot_kinds, bot_status_kinds, bot_gone_kinds, rect_kinds, rect_gone_kinds, tags_kinds, tags_gone_kinds, clean_bot, clean_rect}
 use Rattle.lobby_view.proofs.KindsOfHappenings.{Kinds, CleanAll, asks_kinds, let_into_kinds, turned_away_kinds, no_more_kinds, message_clean, room_clean, status_kinds, joins_kinds, leaves_kinds, leaves_battle_kinds, info_clean, enters_kinds, opens_kinds}
+use Rattle.lobby_model.proofs.Checked.{refuse}
 use Rattle.lobby_view.proofs.KindsChecked as checked
 use Rattle.lobby_view.proofs.KindsChecked.{CleanOutcome, optional_room, pairs_room, pairs_kinds, some_keys, some_there, some_new, removed_clean, disabled_clean, enabled_clean, words_kinds, status_of_kinds}
 
@@ -96,7 +97,7 @@ module _ (s : State) (k : Kinds s) (me : List ℕ) (n : IsName me) (c : ℕ) (co
   join : (channel : List ℕ) (key : Option (List ℕ)) → Answers (command.Join channel key)
   join channel key kinds short =
       let name = (and_parts (is_name channel) (is_some_word key) kinds).0 in
-      checked.refuse s k me n (is_among me (names_in s.channels channel)) (reply.JoinFailed channel already_in_channel)
+      refuse (CleanOutcome s) (is_among me (names_in s.channels channel)) (reply.JoinFailed channel already_in_channel)
       (done (joins me channel (names_in s.channels channel))) (record { fits = λ i. name i && true; short = omega arith })
       (λ e. joins_kinds s k me channel n name)
 
@@ -110,15 +111,15 @@ module _ (s : State) (k : Kinds s) (me : List ℕ) (n : IsName me) (c : ℕ) (co
       let its : AskerKinds (record { name = me; script_password = script_password }) = record { name = n; script_password = p.1; short = omega arith } in
       let comes : Battle → Bool → Happening = λ b asks. joins_or_asks asks me id b script_password (address (at_number s.clients c)) in
       let authorised : Battle → Bool = λ b. is_authorising (at_name s.users b.info.founder) in
-      checked.refuse s k me n (is_some (battle_of s me)) (reply.JoinBattleFailed already_in_battle) _ (battle_refused already_in_battle refl (omega arith))
-      (λ free. checked.refuse s k me n (is_some (asked_by s me)) (reply.JoinBattleFailed already_asking) _ (battle_refused already_asking refl (omega arith))
+      refuse (CleanOutcome s) (is_some (battle_of s me)) (reply.JoinBattleFailed already_in_battle) _ (battle_refused already_in_battle refl (omega arith))
+      (λ free. refuse (CleanOutcome s) (is_some (asked_by s me)) (reply.JoinBattleFailed already_asking) _ (battle_refused already_asking refl (omega arith))
       (λ silent. elim (at_number s.battles id) as (λ o. at_number s.battles id ≡ o
       → CleanOutcome s (if_there o (λ b. refuse_if b.info.locked (reply.JoinBattleFailed battle_is_locked)
       (refuse_if (not (lets_in b.password password)) (reply.JoinBattleFailed wrong_password) (done (comes b (authorised b))))))) [
         | None ↦ λ e. record { fits = refl; short = omega arith }
         | Some b ↦ λ there.
-            checked.refuse s k me n b.info.locked (reply.JoinBattleFailed battle_is_locked) _ (battle_refused battle_is_locked refl (omega arith))
-            (λ open_to. checked.refuse s k me n (not (lets_in b.password password)) (reply.JoinBattleFailed wrong_password) _
+            refuse (CleanOutcome s) b.info.locked (reply.JoinBattleFailed battle_is_locked) _ (battle_refused battle_is_locked refl (omega arith))
+            (λ open_to. refuse (CleanOutcome s) (not (lets_in b.password password)) (reply.JoinBattleFailed wrong_password) _
             (battle_refused wrong_password refl (omega arith)) (λ let_in. elim (authorised b) as (λ asks. CleanAll s (comes b asks ∷ [])) [
               | true ↦ asks_kinds s k me id b script_password (address (at_number s.clients c)) its ip ip_short
               | false ↦ enters_kinds s k me id b script_password n there p.1 (omega arith)
@@ -318,8 +319,8 @@ module _ (s : State) (k : Kinds s) (me : List ℕ) (n : IsName me) (c : ℕ) (co
       let l = and_parts _ (is_up_to 65535 port) j.0 in
       let m = and_parts _ (is_word password) l.0 in
       let o = and_parts (is_up_to 1 battle_type) (is_up_to 2 nat_type) m.0 in
-      checked.refuse s k me n (is_some (battle_of s me)) (reply.OpenBattleFailed already_in_battle) _ (record { fits = refl; short = omega arith })
-      (λ free. checked.refuse s k me n (is_some (asked_by s me)) (reply.OpenBattleFailed already_asking) _ (record { fits = refl; short = omega arith })
+      refuse (CleanOutcome s) (is_some (battle_of s me)) (reply.OpenBattleFailed already_in_battle) _ (record { fits = refl; short = omega arith })
+      (λ free. refuse (CleanOutcome s) (is_some (asked_by s me)) (reply.OpenBattleFailed already_asking) _ (record { fits = refl; short = omega arith })
       (λ silent. numbered (s.last_battle == 2147483647) refl _
       (λ small. opens_kinds s k me (s.last_battle + 1) _ (record {
         id = and_from (nat_le 1 (s.last_battle + 1)) (nat_le (s.last_battle + 1) 2147483647) (le-leb 1 (s.last_battle + 1) (omega arith))

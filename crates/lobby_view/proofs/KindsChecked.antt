@@ -1,7 +1,7 @@
 -- What a command comes to tells clean lines, where its refusals do and what happens once all checks are passed does: one lemma for each
 -- way of checking.
-use Rattle.std.proofs.Common.{◌≡◌, ℕ, ◌≤◌, ℤ, List, [], ◌∷◌, ◌++◌, refl, Bool, true, false, not, length, arith}
-use Rattle.std.specs.Prelude.{Option, Some, None, find, if◌then◌else◌, ◌&&◌, ◌||◌, sum_by}
+use Rattle.std.proofs.Common.{◌≡◌, ℕ, ◌≤◌, ℤ, List, [], ◌∷◌, ◌++◌, refl, Bool, true, false, length, arith}
+use Rattle.std.specs.Prelude.{Option, Some, None, find, if◌then◌else◌, ◌&&◌, sum_by}
 use Rattle.std.proofs.lemmas.Bool.{and_parts, le-leb}
 use Rattle.std.proofs.lemmas.List.{length-append}
 use Rattle.std.proofs.lemmas.List.Sums.{sum_by-cons}
@@ -21,13 +21,15 @@ use Rattle.channel_book.specs.Channels.{names_in}
 use Rattle.battle_room.specs.Tags.{keys_there, has_tag, without_tag}
 use Rattle.battle_room.specs.Units.{words_new, words_there}
 use Rattle.battle_room.specs.Room as battle_room
-use Rattle.battle_room.specs.Room.{Member, Bot, Asker, has_member, bot_of, asker_of, with_status, status_of, colour_of, colour_in}
+use Rattle.battle_room.specs.Room.{Member, Bot, Asker, has_member, with_status, status_of, colour_of, colour_in}
 use Rattle.lobby_model.specs.State.{State, Battle, battle_of}
-use Rattle.lobby_model.specs.Outcome.{Happening, Outcome, Refused, Done, done, refuse_if, message}
+use Rattle.lobby_model.specs.Outcome.{Happening, Outcome, Refused, Done, refuse_if, message}
 use Rattle.lobby_model.specs.Channels.{in_channel}
-use Rattle.lobby_model.specs.Battles.{in_own, in_battle, as_founder, is_founder, member_has, if_asks, with_asker_of, say_in_battle}
-use Rattle.lobby_model.specs.Rooms.{removed_line, disabled_line, enabled_line, if_mine, with_own_bot, with_member_of, force_number}
+use Rattle.lobby_model.specs.Battles.{in_battle, as_founder, member_has, with_asker_of, say_in_battle}
+use Rattle.lobby_model.specs.Rooms.{removed_line, disabled_line, enabled_line, with_own_bot, with_member_of, force_number}
 use Rattle.lobby_model.specs.Texts.{not_in_channel, not_in_battle, not_the_founder, no_such_member, no_such_bot, not_your_bot, no_such_request}
+use Rattle.lobby_model.proofs.Checked as checked
+use Rattle.lobby_model.proofs.Checked.{Refusals}
 use Rattle.lobby_view.proofs.Everywhere.{Each, each_found}
 use Rattle.lobby_view.proofs.Lengths.{all_room}
 use Rattle.lobby_view.proofs.Clean.{Clean}
@@ -154,56 +156,51 @@ module _ (s : State) (k : Kinds s) (me : List ℕ) (n : IsName me) where
   abbrev IsClean : Outcome → Type 0
   IsClean o = CleanOutcome s o
 
-  pub refuse : (failing : Bool) (refusal : Reply) (rest : Outcome) → Clean refusal → (failing ≡ false → IsClean rest) → IsClean (refuse_if failing refusal rest)
-  refuse true refusal rest clean holds = clean
-  refuse false refusal rest clean holds = holds refl
-
   pub demand : (failing : Bool) (text : List ℕ) (rest : Outcome) → is_text text ≡ true → length text ≤ 8192 → IsClean rest
       → IsClean (refuse_if failing (message text) rest)
-  demand failing text rest t short clean = refuse failing (message text) rest (message_clean text t short) (λ e. clean)
+  demand failing text rest t short clean = checked.refuse IsClean failing (message text) rest (message_clean text t short) (λ e. clean)
+
+  owed : Refusals IsClean
+  owed = record {
+    no_such_battle = record { fits = refl; short = omega arith };
+    not_in_channel = message_clean not_in_channel refl (omega arith);
+    not_in_battle = message_clean not_in_battle refl (omega arith);
+    not_the_founder = message_clean not_the_founder refl (omega arith);
+    no_such_member = message_clean no_such_member refl (omega arith);
+    no_such_request = message_clean no_such_request refl (omega arith);
+    no_such_bot = message_clean no_such_bot refl (omega arith);
+    not_your_bot = message_clean not_your_bot refl (omega arith);
+  }
+
+  own_kinds : (id : ℕ) (b : Battle) → battle_of s me ≡ Some (id, b) → BattleKinds (id, b)
+  own_kinds id b own = each_found BattleKinds (λ e. has_member me e.1.room) s.battles (id, b) k.battles own
 
   pub in_its_channel : (channel : List ℕ) (happening : List (List ℕ) → Happening)
       → CleanAll s (happening (names_in s.channels channel) ∷ []) → IsClean (in_channel s me channel happening)
-  in_its_channel channel happening clean =
-      demand (not (is_among me (names_in s.channels channel))) not_in_channel (done (happening (names_in s.channels channel))) refl (omega arith) clean
+  in_its_channel channel happening clean = checked.in_its_channel IsClean owed s me channel happening (λ in_it. clean)
 
   pub in_a_battle : (rest : ℕ → Battle → Outcome) → ((id : ℕ) (b : Battle) → BattleKinds (id, b) → IsClean (rest id b)) → IsClean (in_battle s me rest)
-  in_a_battle rest each =
-      elim (battle_of s me) as (λ o. battle_of s me ≡ o → IsClean (in_own o rest)) [
-        | None ↦ λ e. message_clean not_in_battle refl (omega arith)
-        | Some own ↦ λ e. each own.0 own.1 (each_found BattleKinds (λ e. has_member me e.1.room) s.battles own k.battles e)
-      ] refl
+  in_a_battle rest each = checked.in_a_battle IsClean owed s me rest (λ id b own. each id b (own_kinds id b own))
 
   pub as_its_founder : (rest : ℕ → Battle → Outcome) → ((id : ℕ) (b : Battle) → BattleKinds (id, b) → IsClean (rest id b)) → IsClean (as_founder s me rest)
-  as_its_founder rest each =
-      in_a_battle (λ id b. refuse_if (not (is_founder me b)) (message not_the_founder) (rest id b))
-      (λ id b was. demand (not (is_founder me b)) not_the_founder (rest id b) refl (omega arith) (each id b was))
+  as_its_founder rest each = checked.as_its_founder IsClean owed s me rest (λ id b own founds. each id b (own_kinds id b own))
 
   pub with_a_member : (name : List ℕ) (happenings : ℕ → Battle → List Happening) → ((id : ℕ) (b : Battle) → BattleKinds (id, b) → CleanAll s (happenings id b))
       → IsClean (with_member_of s me name happenings)
   with_a_member name happenings each =
-      as_its_founder (λ id b. refuse_if (not (has_member name b.room)) (message no_such_member) (Done (happenings id b)))
-      (λ id b was. demand (not (has_member name b.room)) no_such_member (Done (happenings id b)) refl (omega arith) (each id b was))
+      checked.with_a_member IsClean owed s me name happenings (λ id b own founds in_it. each id b (own_kinds id b own))
 
   pub with_a_bot : (name : List ℕ) (happening : ℕ → Battle → Bot → Happening)
       → ((id : ℕ) (b : Battle) (bot : Bot) → BattleKinds (id, b) → CleanAll s (happening id b bot ∷ [])) → IsClean (with_own_bot s me name happening)
   with_a_bot name happening each =
-      in_a_battle (λ id b. if_mine me b (bot_of name b.room) (λ bot. done (happening id b bot)))
-      (λ id b was. elim (bot_of name b.room) as (λ o. IsClean (if_mine me b o (λ bot. done (happening id b bot)))) [
-        | None ↦ message_clean no_such_bot refl (omega arith)
-        | Some bot ↦
-            demand (not (same_name me bot.owner || is_founder me b)) not_your_bot (done (happening id b bot)) refl (omega arith) (each id b bot was)
-      ])
+      checked.with_a_bot IsClean owed s me name happening (λ id b bot own found mine. each id b bot (own_kinds id b own))
 
   pub with_an_asker : (name : List ℕ) (happening : Asker → ℕ → Battle → Happening)
       → ((id : ℕ) (b : Battle) (asker : Asker) → BattleKinds (id, b) → AskerKinds asker → CleanAll s (happening asker id b ∷ []))
       → IsClean (with_asker_of s me name happening)
   with_an_asker name happening each =
-      as_its_founder (λ id b. if_asks (asker_of name b.room) (λ asker. done (happening asker id b)))
-      (λ id b was. elim (asker_of name b.room) as (λ o. asker_of name b.room ≡ o → IsClean (if_asks o (λ asker. done (happening asker id b)))) [
-        | None ↦ λ e. message_clean no_such_request refl (omega arith)
-        | Some asker ↦ λ e. each id b asker was (each_found AskerKinds (λ a. same_name name a.name) b.room.askers asker was.room.askers e)
-      ] refl)
+      checked.with_an_asker IsClean owed s me name happening (λ id b asker own founds found. let was = own_kinds id b own in
+      each id b asker was (each_found AskerKinds (λ a. same_name name a.name) b.room.askers asker was.room.askers found))
 
   pub said : (line : Reply) → Clean line → IsClean (say_in_battle s me line)
   said line clean = in_a_battle _ (λ id b was. room_clean s k id b (λ room. room) (line ∷ []) (λ room h. h) (clean, tt))

@@ -6,6 +6,7 @@ use Rattle.std.specs.Str.{bytes_eq}
 use Rattle.std.specs.List.{AllByRecursion, list_all}
 use Rattle.std.proofs.lemmas.Bool.{and_parts, and_from, leb-true, le-leb, eqb-true}
 use Rattle.line_words.specs.Bytes.{is_name, is_word, is_word_byte, is_text}
+use Rattle.line_words.proofs.WordLemmas.{upper_case_in_word}
 use Rattle.account_book.specs.Account.{Account, IsHeld, is_country, is_password_word}
 use Rattle.reply_grammar.specs.declared.Reply.TheVariants as reply
 use Rattle.reply_grammar.proofs.Bytes.{all_more}
@@ -65,9 +66,6 @@ same_text [] (b ∷ y) e = absurd (cc)
 same_text (a ∷ x) [] e = absurd (cc)
 same_text (a ∷ x) (b ∷ y) e = let p = and_parts (a == b) (bytes_eq x y) e in λ i. eqb-true a b p.0 i ∷ same_text x y p.1 i
 
-upper_byte : (b : ℕ) → is_ascii_uppercase b ≡ true → is_word_byte b ≡ true
-upper_byte b h = grind (arith)
-
 country_word : (w : List ℕ) → is_country w ≡ true → (is_word w ≡ true) × (length w ≤ 100)
 country_word w e =
     elim (bytes_eq w (codes "??")) as (λ t. bytes_eq w (codes "??") ≡ t → (t || (length w == 2 && list_all is_ascii_uppercase w)) ≡ true
@@ -77,7 +75,7 @@ country_word w e =
           let p = and_parts (length w == 2) (list_all is_ascii_uppercase w) g in
           let two = eqb-true (length w) 2 p.0 in (
             and_from (nat_le 1 (length w)) (list_all is_word_byte w) (le-leb 1 (length w) (omega arith))
-                (all_more is_ascii_uppercase is_word_byte upper_byte w p.1),
+                (all_more is_ascii_uppercase is_word_byte upper_case_in_word w p.1),
             (omega arith),
           )
     ] refl e

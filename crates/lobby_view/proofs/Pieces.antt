@@ -7,7 +7,7 @@ use Rattle.lobby_view.specs.View.{new_view, shown_all}
 use Rattle.lobby_view.specs.Bytes.{frame_limit, one_read, all_read, view}
 use Rattle.lobby_view.proofs.Basics.{shown_all-append}
 
-all_read-append : (xs ys : List (List ℕ)) → all_read (xs ++ ys) ≡ all_read xs ++ all_read ys
+pub all_read-append : (xs ys : List (List ℕ)) → all_read (xs ++ ys) ≡ all_read xs ++ all_read ys
 all_read-append [] ys = refl
 all_read-append (x ∷ xs) ys =
     ap (λ rs. one_read (read_line x) ++ rs) (all_read-append xs ys) ∙ sym (append_assoc (one_read (read_line x)) (all_read xs) (all_read ys))

@@ -1,5 +1,5 @@
 -- A schedule whose addresses are addresses gives a legal history.
-use Rattle.std.proofs.Common.{◌≡◌, ℕ, zero, suc, ◌≤◌, List, [], ◌∷◌, ◌++◌, refl, sym, ap, subst, ◌∙◌, Bool, true, false, length, arith}
+use Rattle.std.proofs.Common.{◌≡◌, ℕ, zero, suc, ◌≤◌, List, [], ◌∷◌, refl, sym, ap, subst, ◌∙◌, Bool, true, false, length, arith}
 use Rattle.std.specs.Prelude.{Option, Some, None, map, slice_get, MatchBool, if◌then◌else◌, ◌==◌}
 use Rattle.std.proofs.lemmas.Bool.{leb-true}
 use Rattle.std.proofs.lemmas.Option.{same_Some}
@@ -13,6 +13,7 @@ use Rattle.lobby_model.specs.Sessions.{has_place}
 use Rattle.lobby_model.specs.Next.{next}
 use Rattle.lobby_model.specs.History.{after}
 use Rattle.lobby_model.specs.Schedule.{World, is_open, input, with_bytes, moved, line_limit, TakeGives, StepGives, Gives}
+use Rattle.lobby_model.proofs.Histories.{after-append}
 use Rattle.lobby_view.specs.Legal.{IsLegal, IsLegalHistory, IsLegalStep, IsLegalSchedule}
 use Rattle.lobby_view.proofs.Everywhere.{Each, each_append}
 
@@ -76,10 +77,6 @@ one_step w new (step.Take c) events legal gives =
     ] gives
 one_step w new (step.Read c n) events legal gives = of_one w new events _ (if_open (is_open w c) (event.Drain c n) tt) gives.0 gives.1
 one_step w new (step.Shut c) events legal gives = of_one w new events _ (if_open (is_open w c) (event.Shut c) tt) gives.0 gives.1
-
-after-append : (s : State) (xs ys : List Event) → after s (xs ++ ys) ≡ after (after s xs) ys
-after-append s [] ys = refl
-after-append s (x ∷ xs) ys = after-append (next s x) xs ys
 
 -- what a schedule gives
 pub given : (w new : World) (steps : List Step) (events : List Event) → IsLegalSchedule steps → Gives w steps events new → Given w.lobby events new.lobby

@@ -54,7 +54,8 @@ impl<'a> Name<'a> {
     }
 }
 
-/// The most bytes that a name has.
+/// The most bytes that a name has. Each name lies in the value itself, in every record and index that has it,
+/// so the limit is what is paid for each; 20 are enough for the names that players choose.
 const LIMIT: usize = 20;
 
 /// Owned bytes that are a name: 1 to 20 ASCII letters, digits, `_`, `[` and `]`. Names are ordered

@@ -2,7 +2,8 @@ use Rattle.std.proofs.Common.{◌≡◌, ◌∙◌, [], ◌∷◌, ◌++◌, ap,
 use Rattle.std.specs.Str.{bytes_eq}
 use Rattle.std.proofs.lemmas.List.{map-append}
 use Rattle.account_book.specs.Book.{account_of}
-use Rattle.account_book.proofs.Entries.{Entry, accounts_in, none_from_is_some, insert_entry-push, IsIndex-push, from_ok}
+use Rattle.line_words.proofs.Options.{none_from_is_some}
+use Rattle.account_book.proofs.Entries.{Entry, accounts_in, insert_entry-push, IsIndex-push, from_ok}
 use Rattle.account_book.proofs.book.AccountBook.add.Goals as goal
 
 -- no account has the new one's name
