@@ -1,2 +1,4 @@
 pub mod Lively
 pub mod Found
+pub mod Placed
+pub mod Sets

@@ -1,2 +1,3 @@
 pub mod Channels
 pub mod Book
+pub mod Places

@@ -6,14 +6,17 @@ ghost use Rattle.std.specs.List.Sorted.{IsStrictlySortedBy};
 ghost use Rattle.std.specs.Map.{keys_of};
 ghost use Rattle.std.specs.Map.Iter.{ShowsInOrder, deref_pair};
 ghost use Rattle.line_words.specs.Table.{name_cmp, same_name, is_among};
-ghost use Rattle.channel_book.specs.Channels.{names_in, names_of, joined, left, all_left};
+ghost use Rattle.channel_book.specs.Channels.{names_in, names_of, channels_of, joined, left, all_left};
 ghost use Rattle.channel_book.specs.Book.{AreLively};
+ghost use Rattle.channel_book.specs.Places.{listed};
 
 use crate::error::ChannelError;
+use crate::lists::Lists;
 use crate::members::Members;
+use crate::places::Places;
 use line_words::NameBuf;
 use std::alloc::{AllocError, Global};
-use std::collections::BTreeMap;
+use std::collections::BTreeSet;
 use std::collections::btree_map::Iter;
 use std::marker::Model;
 
@@ -22,21 +25,26 @@ use std::marker::Model;
 ///
 /// Beside each name the book keeps a mark, a value of the caller's own. The book does not read it, and
 /// its contracts say nothing of it. A book whose callers have no use for marks keeps none: `M` is `()`.
+///
+/// It keeps an index of the channels of each user, so that one who leaves all costs no more than its
+/// own channels.
 #[derive(Drop)]
 pub struct ChannelBook<M: Copy = ()> {
-    alloc: Global,
-    channels: BTreeMap<NameBuf, Members<M>>,
+    lists: Lists<M>,
+    places: Places,
 }
 
 impl<M: Copy> Model for ChannelBook<M> {
+    ghost use Rattle.std.specs.Prelude.{◌≡◌};
     ghost use Rattle.channel_book.specs.Channels.{Channels};
-    ghost use Rattle.channel_book.specs.Book.{AreLively};
+    ghost use Rattle.channel_book.specs.Places.{places_in, places_of};
 
     ghost Value = { Channels };
 
-    ghost view = { λ b. b.channels.entries };
+    ghost view = { λ b. b.lists };
 
-    ghost invariant = { λ b. AreLively b.channels.entries };
+    // A user's channels in the index are just those whose members it is among.
+    ghost invariant = { λ b. places_of b.places.by_user.entries ≡ places_in b.lists };
 }
 
 impl ChannelBook {
@@ -73,8 +81,8 @@ impl<M: Copy> ChannelBook<M> {
         ensures { result ≡ [] }
     {
         ChannelBook {
-            alloc,
-            channels: BTreeMap::new(alloc),
+            lists: Lists::new(alloc),
+            places: Places::new(alloc),
         }
     }
 
@@ -84,12 +92,14 @@ impl<M: Copy> ChannelBook<M> {
         ensures ok { OnOk result (self.new ≡ joined channel user self.old) }
         ensures err { OnErr result (self.new ≡ self.old) }
     {
-        if let Some(members) = self.channels.get_mut(&channel) {
-            members.add(user, mark)?;
-            return Ok(());
+        // Its contract says that the names of channels rise, which the proof wants of the channels as they were.
+        let _ = self.lists.len();
+        let (place, member) = (channel.copy(), user.copy());
+        self.places.add(&place, &member)?;
+        if let Err(refused) = self.lists.add(channel, user, mark) {
+            self.places.remove(&place, &member);
+            return Err(refused);
         }
-        let members = Members::one(self.alloc, user, mark)?;
-        self.channels.insert(channel, members)?;
         Ok(())
     }
 
@@ -113,18 +123,22 @@ impl<M: Copy> ChannelBook<M> {
     pub fn remove_member(&mut self, channel: &NameBuf, user: &NameBuf)
         ensures { self.new ≡ left channel.now user.now self.old }
     {
-        if let Some(members) = self.channels.get_mut(channel) {
-            if !members.remove(user) {
-                let _ = self.channels.remove(channel);
-            }
-        }
+        // Its contract says that the names of channels rise, which the proof wants of the channels as they were.
+        let _ = self.lists.len();
+        self.lists.remove(channel, user);
+        self.places.remove(channel, user);
     }
 
-    /// A user leaves every channel. Channels go with the last of their members.
+    /// A user leaves every channel. Channels go with the last of their members, and the others are not
+    /// looked at.
     pub fn leave_all(&mut self, user: &NameBuf)
         ensures { self.new ≡ all_left user.now self.old }
     {
-        self.channels.retain(|_, members| members.remove(user));
+        // Its contract says that the names of channels rise, which the proof wants of the channels as they were.
+        let _ = self.lists.len();
+        if let Some(channels) = self.places.take(user) {
+            self.lists.remove_each(&channels, user);
+        }
     }
 
     /// The members of a channel in order of joining; nobody, where there is none of that name.
@@ -132,7 +146,7 @@ impl<M: Copy> ChannelBook<M> {
         ensures names { result.now ≡ names_in self.now channel.now }
         ensures distinct { IsDistinct same_name result.now }
     {
-        match self.channels.get(channel) {
+        match self.lists.get(channel) {
             Some(members) => members.as_slice(),
             None => &[],
         }
@@ -140,7 +154,7 @@ impl<M: Copy> ChannelBook<M> {
 
     /// The marks of the members of a channel, in the order of their names.
     pub fn marks_in(&self, channel: &NameBuf) -> &[M] {
-        match self.channels.get(channel) {
+        match self.lists.get(channel) {
             Some(members) => members.marks(),
             None => &[],
         }
@@ -150,7 +164,14 @@ impl<M: Copy> ChannelBook<M> {
     pub fn members_in(&self, channel: &NameBuf) -> Option<&Members<M>>
         ensures { names_of (option_copied result) ≡ names_in self.now channel.now }
     {
-        self.channels.get(channel)
+        self.lists.get(channel)
+    }
+
+    /// The names of the channels that a user is in, in the order of their bytes; None where it is in none.
+    pub fn channels_of(&self, user: &NameBuf) -> Option<&BTreeSet<NameBuf>>
+        ensures { listed (option_copied result) ≡ keys_of (channels_of user.now self.now) }
+    {
+        self.places.get(user)
     }
 
     /// Whether a user is in a channel.
@@ -183,14 +204,14 @@ impl<M: Copy> ChannelBook<M> {
         ensures lively { AreLively self.now }
         ensures ordered { IsStrictlySortedBy name_cmp (keys_of self.now) }
     {
-        self.channels.len()
+        self.lists.len()
     }
 
     /// The name of the channel with `k` channels before it, in the order of the bytes of names.
     pub fn channel_at(&self, k: usize) -> Option<&NameBuf>
         ensures { option_copied result ≡ slice_get (keys_of self.now) k }
     {
-        self.channels.keys().nth(k)
+        self.lists.name_at(k)
     }
 
     /// The channels and their members, in the order of the bytes of the channels' names.
@@ -200,7 +221,7 @@ impl<M: Copy> ChannelBook<M> {
         ensures ordered { IsStrictlySortedBy name_cmp (keys_of self.now) }
         ensures fits { length self.now < 2 ^ 63 }
     {
-        self.channels.iter()
+        self.lists.iter()
     }
 }
 

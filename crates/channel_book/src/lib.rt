@@ -7,7 +7,9 @@
 
 mod book;
 mod error;
+mod lists;
 mod members;
+mod places;
 
 pub use book::ChannelBook;
 pub use error::ChannelError;

@@ -59,6 +59,29 @@ fn has_channels(book: &ChannelBook, wanted: &[&[u8]]) -> bool {
     same
 }
 
+/// Whether a user is in these channels in this order, and no more.
+fn is_in(book: &ChannelBook, user: &[u8], wanted: &[&[u8]]) -> bool {
+    let Some(user) = NameBuf::of(user) else {
+        return false;
+    };
+    let Some(channels) = book.channels_of(&user) else {
+        return wanted.is_empty();
+    };
+    let mut same = !channels.is_empty() && channels.len() == wanted.len();
+    let mut places = wanted.iter();
+    for channel in channels {
+        same = same && shows(Some(channel), places.next().copied());
+    }
+    same
+}
+
+/// What is answered to one who leaves; nothing where these are no names.
+fn leaves(book: &mut ChannelBook, channel: &[u8], user: &[u8]) -> Option<Result<(), ChannelError>> {
+    let channel = NameBuf::of(channel)?;
+    let user = NameBuf::of(user)?;
+    Some(book.leave(&channel, &user))
+}
+
 fn has_named(book: &ChannelBook, channel: &[u8], wanted: &[&[u8]]) -> bool {
     match NameBuf::of(channel) {
         Some(channel) => has_members(book, &channel, wanted),
@@ -87,4 +110,35 @@ fn channels_stand_in_the_order_of_their_bytes(rt: HostRuntime) {
         same(&rt, joins(&mut book, channel, b"Anna"), Some(Ok(())));
     }
     assert!(rt; has_channels(&book, &[b"9", b"Z", b"[x]", b"]", b"_", b"a", b"aa"]));
+}
+
+#[test]
+fn the_channels_of_a_user_stand_in_the_order_of_their_bytes(rt: HostRuntime) {
+    let mut book = ChannelBook::new(rt.alloc());
+    for channel in [b"main".as_slice(), b"big", b"Z"] {
+        same(&rt, joins(&mut book, channel, b"Anna"), Some(Ok(())));
+    }
+    same(&rt, joins(&mut book, b"main", b"Bert"), Some(Ok(())));
+    assert!(rt; is_in(&book, b"Anna", &[b"Z", b"big", b"main"]));
+    assert!(rt; is_in(&book, b"Bert", &[b"main"]));
+    assert!(rt; is_in(&book, b"Cleo", &[]));
+}
+
+#[test]
+fn who_left_the_last_channel_has_none(rt: HostRuntime) {
+    let mut book = ChannelBook::new(rt.alloc());
+    for user in [b"Anna".as_slice(), b"Bert"] {
+        for channel in [b"main".as_slice(), b"big"] {
+            same(&rt, joins(&mut book, channel, user), Some(Ok(())));
+        }
+    }
+    same(&rt, leaves(&mut book, b"main", b"Anna"), Some(Ok(())));
+    assert!(rt; is_in(&book, b"Anna", &[b"big"]));
+    same(&rt, leaves(&mut book, b"big", b"Anna"), Some(Ok(())));
+    assert!(rt; is_in(&book, b"Anna", &[]));
+    if let Some(bert) = NameBuf::of(b"Bert") {
+        book.leave_all(&bert);
+    }
+    assert!(rt; is_in(&book, b"Bert", &[]));
+    assert!(rt; has_channels(&book, &[]));
 }

@@ -1,17 +1,37 @@
-use Rattle.std.proofs.Common.{◌∙◌, ap, sym, subst, rules}
-use Rattle.line_words.specs.Table.{all_but}
-use Rattle.line_words.proofs.Written.{retained}
-use Rattle.channel_book.specs.Channels.{has_names, all_left}
-use Rattle.channel_book.specs.Book.{AreLively}
-use Rattle.channel_book.proofs.Lively.{AreLively-all_left}
+use Rattle.std.proofs.Common.{◌∙◌, ap, sym, []}
+use Rattle.channel_book.specs.Channels.{all_left}
+use Rattle.channel_book.specs.Places.{places_in, without_user}
+use Rattle.channel_book.proofs.Placed.{places-all_left, leaves_all}
+use Rattle.channel_book.proofs.Sets.{no_names}
 use Rattle.channel_book.proofs.book.ChannelBook.leave_all.Goals as goal
 
 pub invariant_of-self : goal.invariant_of-self
 invariant_of-self g c =
-    subst AreLively (sym (retained _ (all_but c.args.user.now) has_names _ (λ k v b w f' t. search rules) _ _ c.retain.ensures.filtered))
-    (AreLively-all_left c.args.user.now c.self.inside.channels.entries)
+    let own = c.in-Some.ensures.names ∙ (λ i. c.self.invariant i c.args.user.now) in
+    c.in-Some.ensures.rest
+    ∙ ap (without_user c.args.user.now) c.self.invariant
+    ∙ sym (places-all_left c.self.inside.lists c.args.user.now c.len.ensures.ordered)
+    ∙ ap places_in (sym (c.remove_each.ensures
+    ∙ leaves_all c.args.user.now c.self.inside.lists c.len.ensures.lively c.len.ensures.ordered c.in-Some.channels.keys own))
 
-pub returns : goal.returns
-returns g c =
-    retained _ (all_but c.args.user.now) has_names _ (λ k v b w f' t. search rules) _ _ c.retain.ensures.filtered
+pub returns-in-Some : goal.returns-in-Some
+returns-in-Some g c =
+    let own = c.in-Some.ensures.names ∙ (λ i. c.self.invariant i c.args.user.now) in
+    c.remove_each.ensures
+    ∙ leaves_all c.args.user.now c.self.inside.lists c.len.ensures.lively c.len.ensures.ordered c.in-Some.channels.keys own
+    ∙ ap (all_left c.args.user.now) c.self.view_is
+
+-- one who is in no channel
+pub invariant_of-self-in_default : goal.invariant_of-self-in_default
+invariant_of-self-in_default g c =
+    let own = no_names c.take.result c.in_default.not-Some ∙ c.take.ensures.names ∙ (λ i. c.self.invariant i c.args.user.now) in
+    c.take.ensures.rest
+    ∙ ap (without_user c.args.user.now) c.self.invariant
+    ∙ sym (places-all_left c.self.inside.lists c.args.user.now c.len.ensures.ordered)
+    ∙ ap places_in (sym (leaves_all c.args.user.now c.self.inside.lists c.len.ensures.lively c.len.ensures.ordered [] own))
+
+pub returns-in_default : goal.returns-in_default
+returns-in_default g c =
+    let own = no_names c.take.result c.in_default.not-Some ∙ c.take.ensures.names ∙ (λ i. c.self.invariant i c.args.user.now) in
+    leaves_all c.args.user.now c.self.inside.lists c.len.ensures.lively c.len.ensures.ordered [] own
     ∙ ap (all_left c.args.user.now) c.self.view_is

@@ -2,7 +2,7 @@ use Rattle.std.proofs.Common.{◌∙◌, ap}
 use Rattle.line_words.specs.Table.{name_cmp}
 use Rattle.line_words.proofs.Tables.{lookup_is_find}
 use Rattle.channel_book.specs.Channels.{Channels, names_in, names_of}
-use Rattle.channel_book.proofs.book.ChannelBook.members_in.Goals as goal
+use Rattle.channel_book.proofs.lists.Lists.get.Goals as goal
 
 pub returns : goal.returns
 returns g c =
