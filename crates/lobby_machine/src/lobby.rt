@@ -1,21 +1,19 @@
 //! The lobby and its events.
 
-ghost use Rattle.std.specs.Prelude.{◌≡◌, ℕ, ◌+◌, ◌-◌, ◌^◌, ◌<◌, ◌≤◌, ◌↔◌, [], ◌∷◌, ◌++◌, if◌then◌else◌, length, take, drop, min, OnOk, OnErr, IfNone, IfOk, IsTrue, true, false, is_some};
+ghost use Rattle.std.specs.Prelude.{◌≡◌, ℕ, ◌-◌, ◌^◌, ◌<◌, ◌≤◌, ◌↔◌, [], ◌++◌, length, take, drop, min, OnOk, OnErr, IfNone, IfOk, IsTrue, false, is_some};
 ghost use Rattle.command_grammar.specs.Kinds.{keeps_kinds};
+ghost use Rattle.line_words.specs.Table.{at_number};
 ghost use Rattle.lobby_model.specs.declared.event.Event.TheVariants as event;
-ghost use Rattle.std.specs.Option.{option_to_list};
-ghost use Rattle.line_words.specs.Table.{at_number, same_number};
 ghost use Rattle.lobby_model.specs.State.{empty_lobby};
 ghost use Rattle.lobby_model.specs.Sessions.{has_place};
-ghost use Rattle.lobby_model.specs.Next.{next};
 ghost use Rattle.lobby_post.specs.Mail.{IsWakes};
-ghost use Rattle.lobby_maps.specs.Dirty.{DirtyAfter};
+ghost use Rattle.lobby_maps.specs.Calls.{Applies, HasNoNumber, IsFull, IsNextNumber, KeepsOthers, ListsTouched, ListsOpened, Opens, TakesFirst, count_into, filled};
 ghost use Rattle.lobby_maps.specs.Shown.{dirty_at, unread_of, is_finished};
 
 use crate::rules;
 use account_book::AccountBook;
 use command_grammar::Request;
-use lobby_maps::{Maps, Place};
+use lobby_maps::{Admission, Maps};
 use lobby_model::Settings;
 use lobby_post::{Drained, Post, Wakes};
 use std::alloc::{AllocError, Global};
@@ -73,18 +71,18 @@ impl Lobby {
     /// next number and is greeted. A refusal changes nothing.
     pub fn open(&mut self, ip: [u8; 4], home: u8) -> Result<u64, OpenError>
         requires { home ≤ 63 }
-        ensures number { IfOk result (λ number. number ≡ self.old.plain.last_client + 1) }
-        ensures ok { OnOk result ((has_place self.old.plain ≡ true) × (self.new.plain ≡ next self.old.plain (event.Open ip home))) }
-        ensures dirty { IfOk result (λ number. (worker : ℕ) → worker ≤ 63 → dirty_at self.new worker ≡ dirty_at self.old worker ++ (if same_number home worker then number ∷ [] else [])) }
-        ensures full { (result ≡ Err OpenError.Full) ↔ (10000 ≤ length self.old.plain.clients) }
-        ensures no_number { result ≡ Err OpenError.NoNumber → self.old.plain.last_client ≡ 18446744073709551615 }
+        ensures number { IfOk result (λ number. IsNextNumber self.old number) }
+        ensures ok { OnOk result (Opens self.old self.new ip home) }
+        ensures dirty { IfOk result (λ number. ListsOpened self.old self.new home number) }
+        ensures full { (result ≡ Err OpenError.Full) ↔ IsFull self.old }
+        ensures no_number { result ≡ Err OpenError.NoNumber → HasNoNumber self.old }
         ensures no_place { has_place self.old.plain ≡ false → result ≡ Err OpenError.Memory → ⊥ }
         ensures err { OnErr result (self.new ≡ self.old) }
     {
-        match self.maps.place() {
-            Place::Full => Err(OpenError::Full),
-            Place::NoNumber => Err(OpenError::NoNumber),
-            Place::Free => self.maps.open(ip, home).map_err(|_| OpenError::Memory),
+        match self.maps.admission() {
+            Admission::Full => Err(OpenError::Full),
+            Admission::NoNumber => Err(OpenError::NoNumber),
+            Admission::Free => self.maps.open(ip, home).map_err(|_| OpenError::Memory),
         }
     }
 
@@ -94,9 +92,9 @@ impl Lobby {
     /// changes.
     pub fn say(&mut self, client: u64, request: &Request) -> Result<Wakes, AllocError>
         requires { IsTrue (keeps_kinds request.now.command) }
-        ensures ok { OnOk result (self.new.plain ≡ next self.old.plain (event.Say client request.now)) }
+        ensures ok { OnOk result (Applies self.old self.new (event.Say client request.now)) }
         ensures wakes { IfOk result (λ wakes. IsWakes self.old.plain (event.Say client request.now) wakes) }
-        ensures dirty { OnOk result ((home : ℕ) → home ≤ 63 → DirtyAfter self.old.plain (event.Say client request.now) home (dirty_at self.old home) (dirty_at self.new home)) }
+        ensures dirty { OnOk result (ListsTouched self.old self.new (event.Say client request.now)) }
         ensures err { OnErr result (self.new ≡ self.old) }
     {
         let Some(me) = self.maps.issuer(client) else {
@@ -110,29 +108,29 @@ impl Lobby {
             &request.command,
             &mut self.post,
         )?;
-        self.maps.carry_out(client, change, &mut self.post)
+        self.maps.commit(client, change, &mut self.post)
     }
 
     /// A client's connection is closed: it is removed, and its user, if it was logged in, is logged
     /// out. Gives the workers whose clients that touched. Nothing happens where it is not there. Fails
     /// only where memory is refused, and then nothing changes.
     pub fn shut(&mut self, client: u64) -> Result<Wakes, AllocError>
-        ensures ok { OnOk result (self.new.plain ≡ next self.old.plain (event.Shut client)) }
+        ensures ok { OnOk result (Applies self.old self.new (event.Shut client)) }
         ensures wakes { IfOk result (λ wakes. IsWakes self.old.plain (event.Shut client) wakes) }
-        ensures dirty { OnOk result ((home : ℕ) → home ≤ 63 → DirtyAfter self.old.plain (event.Shut client) home (dirty_at self.old home) (dirty_at self.new home)) }
+        ensures dirty { OnOk result (ListsTouched self.old self.new (event.Shut client)) }
         ensures err { OnErr result (self.new ≡ self.old) }
     {
         let change = rules::close(&self.maps, client, &mut self.post)?;
-        self.maps.carry_out(client, change, &mut self.post)
+        self.maps.commit(client, change, &mut self.post)
     }
 
     /// Takes bytes that a client has not read into a slice, as many as fit, and tells whether
     /// nothing will ever come of the client again. It takes no memory.
     pub fn drain(&mut self, client: u64, into: &mut [u8]) -> Drained
-        ensures count { result.count ≡ min (length (unread_of self.old.plain client)) (length into.old) }
-        ensures given { into.new ≡ take result.count (unread_of self.old.plain client) ++ drop result.count into.old }
+        ensures count { result.count ≡ count_into self.old.plain client into.old }
+        ensures given { into.new ≡ filled self.old.plain client result.count into.old }
         ensures finished { result.finished ≡ is_finished self.new.plain client }
-        ensures next { self.new.plain ≡ next self.old.plain (event.Drain client (length into.old)) }
+        ensures next { Applies self.old self.new (event.Drain client (length into.old)) }
         ensures dirty { self.new.dirty ≡ self.old.dirty }
     {
         self.maps.drain(client, into)
@@ -144,9 +142,9 @@ impl Lobby {
     pub fn next_dirty(&mut self, home: u8) -> Option<u64>
         requires { home ≤ 63 }
         ensures plain { self.new.plain ≡ self.old.plain }
-        ensures first { dirty_at self.old home ≡ option_to_list result ++ dirty_at self.new home }
+        ensures first { TakesFirst self.old self.new home result }
         ensures nobody { IfNone result (dirty_at self.old home ≡ []) }
-        ensures others { (worker : ℕ) → worker ≤ 63 → same_number home worker ≡ false → dirty_at self.new worker ≡ dirty_at self.old worker }
+        ensures others { KeepsOthers self.old self.new home }
     {
         self.maps.next_dirty(home)
     }
@@ -155,7 +153,7 @@ impl Lobby {
     pub fn has_place(&self) -> bool
         ensures { result ≡ has_place self.now.plain }
     {
-        self.maps.place() == Place::Free
+        self.maps.admission() == Admission::Free
     }
 
     /// The last client number given, 0 before the first.

@@ -8,6 +8,7 @@ use Rattle.lobby_model.specs.declared.event.Phase.TheVariants.{In}
 use Rattle.lobby_model.specs.State.{State, User, user_with, Client, Battle, is_live_client, name_at, set_phase}
 use Rattle.lobby_model.specs.Outcome.{Happening}
 use Rattle.lobby_model.specs.Sessions.{ends, disconnects}
+use Rattle.lobby_model.specs.Events.{effect}
 use Rattle.lobby_model.specs.Next.{batch}
 use Rattle.lobby_post.specs.Mail.{bytes_for, parted}
 use Rattle.lobby_post.specs.Posted.{Posted}
@@ -119,3 +120,7 @@ parts c false = disconnects c
 -- the pieces are those of an event
 abbrev pub Matches : State → Event → Posted → Type 0
 Matches s e post = (d : ℕ) → bytes_for post.sent d ≡ batch s e d
+
+-- a fact of each event that comes to this change and to what waits in the post
+abbrev pub OfEvent : State → ℕ → Change → Posted → (Event → Type 0) → Type 0
+OfEvent s c change post fact = (e : Event) → effect s e ≡ changed s c change → Matches s e post → fact e

@@ -4,4 +4,5 @@ pub mod Seats
 pub mod Parts
 pub mod Shown
 pub mod Dirty
+pub mod Calls
 pub mod Changes

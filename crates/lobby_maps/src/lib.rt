@@ -1,5 +1,5 @@
 //! What the server keeps: the clients, users, channels and battles as maps, the changes of them, and how
-//! a change is carried out.
+//! a change is committed.
 //!
 //! A rule of a command, in a crate above, looks things up here, tells its audiences, and names a change.
 //! What it tells waits in the post. Then there is made room for all that is told, the maps are changed,
@@ -7,6 +7,7 @@
 //! changes nothing.
 #![tactic(auto)]
 
+mod audiences;
 mod battle;
 mod battles;
 mod burst;
@@ -19,5 +20,5 @@ mod seats;
 pub use battle::{Battle, NO_PASSWORD};
 pub use battles::{BattleChange, LAST_NUMBER, RoomChange};
 pub use change::Change;
-pub use maps::{Maps, Place};
+pub use maps::{Admission, Maps};
 pub use seats::Seat;

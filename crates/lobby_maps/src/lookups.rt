@@ -1,27 +1,26 @@
-//! What rules look up in the maps, and how they tell a user what they wrote.
+//! What rules look up in the maps.
 
-ghost use Rattle.std.specs.Prelude.{◌≡◌, ℕ, ◌≤◌, [], ◌∷◌, OnOk, IfSome, Some, true, is_some, option_copied};
+ghost use Rattle.std.specs.Prelude.{◌≡◌, ℕ, ◌≤◌, IfSome, Some, true, is_some, option_copied};
 ghost use Rattle.std.specs.Option.{option_map};
 ghost use Rattle.line_words.specs.Table.{at_name, at_number};
 ghost use Rattle.lobby_model.specs.State.{name_of};
-ghost use Rattle.lobby_model.specs.Outcome.{user};
 ghost use Rattle.lobby_model.specs.Sessions.{status_in};
 ghost use Rattle.lobby_model.specs.Battles.{is_authorising};
-ghost use Rattle.lobby_post.specs.Posted.{Sends};
-ghost use Rattle.lobby_maps.specs.Seats.{IsOwn};
 
 use crate::battle::Battle;
 use crate::maps::Maps;
 use account_book::AccountBook;
 use channel_book::ChannelBook;
 use line_words::NameBuf;
-use lobby_post::{ClientKey, Post};
+use lobby_post::ClientKey;
 use status_bits::UserStatus;
-use std::alloc::{AllocError, Global};
+use std::alloc::Global;
 
 impl Maps {
-    /// Where memory is taken.
-    pub fn alloc(&self) -> Global {
+    /// Where memory is taken: there is one such place, so it is that with which the maps were made.
+    pub fn alloc(&self) -> Global
+        ensures { (alloc : Global) → result ≡ alloc }
+    {
         self.alloc
     }
 
@@ -103,15 +102,5 @@ impl Maps {
         ensures small { result ≤ 2147483647 }
     {
         self.battles.last
-    }
-
-    /// The user of this name, where there is one, gets the lines that were written. Where it is the one
-    /// whose event it is, its own client alone does.
-    pub fn address_user(&self, name: &NameBuf, post: &mut Post) -> Result<(), AllocError>
-        ensures sent { OnOk result (Sends self.now.plain post.old post.new (user name.now)) }
-        ensures own { OnOk result (name_of self.now.plain post.old.issuer ≡ Some name.now → IsOwn self.now.plain post.old post.new name.now) }
-    {
-        self.seats.address_user(name, post)?;
-        Ok(())
     }
 }

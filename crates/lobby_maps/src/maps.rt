@@ -1,24 +1,16 @@
-//! The lobby's maps: how each audience is told, and how an event is carried out.
+//! The lobby's maps, and how an event is committed to them.
 
-ghost use Rattle.std.specs.Prelude.{◌≡◌, ℕ, ◌+◌, ◌-◌, ◌^◌, ◌<◌, ◌≤◌, ◌↔◌, [], ◌∷◌, ◌++◌, if◌then◌else◌, length, take, drop, min, OnOk, OnErr, IfNone, IfOk, IfSome, true, false, is_some, Some, None, option_copied};
-ghost use Rattle.std.specs.List.{IsDistinct};
-ghost use Rattle.std.specs.Option.{option_to_list};
-ghost use Rattle.line_words.specs.Table.{at_number, same_name, same_number};
-ghost use Rattle.reply_grammar.specs.Lent.{reply_of};
-ghost use Rattle.battle_room.specs.Room.{asker_names, has_asker, has_member, member_names};
-ghost use Rattle.lobby_model.specs.declared.event.Event.{Event};
+ghost use Rattle.std.specs.Prelude.{◌≡◌, ℕ, ◌-◌, ◌^◌, ◌<◌, ◌≤◌, ◌↔◌, [], ◌++◌, length, take, drop, min, OnOk, OnErr, IfNone, IfOk, IfSome, true, is_some, Some, None, option_copied};
+ghost use Rattle.line_words.specs.Table.{at_number};
+ghost use Rattle.battle_room.specs.Room.{has_asker, has_member};
 ghost use Rattle.lobby_model.specs.declared.event.Event.TheVariants as event;
 ghost use Rattle.lobby_model.specs.State.{Battle, asked_by, battle_of, empty_lobby, hears, name_of};
-ghost use Rattle.lobby_model.specs.Outcome.{tell, everyone, everyone_but, others, user, users};
 ghost use Rattle.lobby_model.specs.Sessions.{has_place};
-ghost use Rattle.lobby_model.specs.Events.{effect};
-ghost use Rattle.lobby_model.specs.Next.{next};
 ghost use Rattle.lobby_post.specs.Mail.{IsWakes};
-ghost use Rattle.lobby_post.specs.Posted.{Told, but_issuer};
-ghost use Rattle.lobby_maps.specs.Changes.{Matches};
 ghost use Rattle.lobby_maps.specs.Battles.{AskOutside, IsOnly};
-ghost use Rattle.lobby_maps.specs.Changes.{CanBe, changed};
-ghost use Rattle.lobby_maps.specs.Dirty.{DirtyAfter, those_there};
+ghost use Rattle.lobby_maps.specs.Calls.{Applies, HasNoNumber, IsFull, IsNextNumber, KeepsOthers, ListsTouched, ListsOpened, TakesFirst, count_into, filled};
+ghost use Rattle.lobby_maps.specs.Changes.{CanBe, OfEvent};
+ghost use Rattle.lobby_maps.specs.Dirty.{those_there};
 ghost use Rattle.lobby_maps.specs.Shown.{dirty_at, unread_of, is_finished};
 
 use crate::battle::Battle;
@@ -27,12 +19,10 @@ use crate::change::{Change, apply};
 use crate::greeting::greeting_of;
 use crate::seats::Seats;
 use account_book::AccountBook;
-use battle_room::Room;
 use channel_book::ChannelBook;
 use line_words::NameBuf;
 use lobby_model::Settings;
 use lobby_post::{ClientKey, Clients, Drained, Post, Wakes};
-use reply_grammar::LentReply;
 use std::alloc::{AllocError, Global};
 use std::marker::Model;
 
@@ -42,7 +32,7 @@ pub const CLIENT_LIMIT: usize = 10_000;
 
 /// Whether an open gets a number.
 #[derive(Clone, Copy, PartialEq, Eq, Debug)]
-pub enum Place {
+pub enum Admission {
     /// It does.
     Free,
     /// There are as many clients as there may be.
@@ -106,17 +96,17 @@ impl Maps {
     }
 
     /// Whether an open would get a number.
-    pub fn place(&self) -> Place
-        ensures full { (result ≡ Place.Full) ↔ (CLIENT_LIMIT ≤ length self.now.plain.clients) }
-        ensures no_number { result ≡ Place.NoNumber → self.now.plain.last_client ≡ 18446744073709551615 }
-        ensures free { (result ≡ Place.Free) ↔ (has_place self.now.plain ≡ true) }
+    pub fn admission(&self) -> Admission
+        ensures full { (result ≡ Admission.Full) ↔ IsFull self.now }
+        ensures no_number { result ≡ Admission.NoNumber → HasNoNumber self.now }
+        ensures free { (result ≡ Admission.Free) ↔ (has_place self.now.plain ≡ true) }
     {
         if self.clients.len() >= CLIENT_LIMIT {
-            Place::Full
+            Admission::Full
         } else if self.last_client == u64::MAX {
-            Place::NoNumber
+            Admission::NoNumber
         } else {
-            Place::Free
+            Admission::Free
         }
     }
 
@@ -124,9 +114,9 @@ impl Maps {
     pub fn open(&mut self, ip: [u8; 4], home: u8) -> Result<u64, AllocError>
         requires home { home < 64 }
         requires place { has_place self.old.plain ≡ true }
-        ensures number { IfOk result (λ number. number ≡ self.old.plain.last_client + 1) }
-        ensures ok { OnOk result (self.new.plain ≡ next self.old.plain (event.Open ip home)) }
-        ensures dirty { IfOk result (λ number. (worker : ℕ) → worker ≤ 63 → dirty_at self.new worker ≡ dirty_at self.old worker ++ (if same_number home worker then number ∷ [] else [])) }
+        ensures number { IfOk result (λ number. IsNextNumber self.old number) }
+        ensures ok { OnOk result (Applies self.old self.new (event.Open ip home)) }
+        ensures dirty { IfOk result (λ number. ListsOpened self.old self.new home number) }
         ensures err { OnErr result (self.new ≡ self.old) }
     {
         let number = self.last_client + 1;
@@ -146,16 +136,16 @@ impl Maps {
 
     /// Makes room for all that is told, changes the maps, and delivers. Where memory is refused,
     /// nothing changes.
-    pub fn carry_out(
+    pub fn commit(
         &mut self,
         client: u64,
         change: Change,
         post: &mut Post,
     ) -> Result<Wakes, AllocError>
         requires { CanBe self.old.plain.clients self.old.plain.users self.old.plain.channels self.old.plain.battles client change }
-        ensures ok { OnOk result ((e : Event) → effect self.old.plain e ≡ changed self.old.plain client change → Matches self.old.plain e post.old → self.new.plain ≡ next self.old.plain e) }
-        ensures wakes { IfOk result (λ wakes. (e : Event) → effect self.old.plain e ≡ changed self.old.plain client change → Matches self.old.plain e post.old → IsWakes self.old.plain e wakes) }
-        ensures dirty { OnOk result ((e : Event) → effect self.old.plain e ≡ changed self.old.plain client change → Matches self.old.plain e post.old → (home : ℕ) → home ≤ 63 → DirtyAfter self.old.plain e home (dirty_at self.old home) (dirty_at self.new home)) }
+        ensures ok { OnOk result (OfEvent self.old.plain client change post.old (λ e. Applies self.old self.new e)) }
+        ensures wakes { IfOk result (λ wakes. OfEvent self.old.plain client change post.old (λ e. IsWakes self.old.plain e wakes)) }
+        ensures dirty { OnOk result (OfEvent self.old.plain client change post.old (λ e. ListsTouched self.old self.new e)) }
         ensures err { OnErr result (self.new ≡ self.old) }
     {
         match post.reserve(&mut self.clients) {
@@ -182,130 +172,6 @@ impl Maps {
         }
     }
 
-    /// Tells all users.
-    pub fn tell_all(&self, line: LentReply, post: &mut Post) -> Result<(), AllocError>
-        ensures { OnOk result (Told self.now.plain post.old post.new (tell everyone (reply_of line.entry ∷ []) ∷ [])) }
-    {
-        post.write(line)?;
-        self.seats.address_all(&self.clients, post)?;
-        Ok(())
-    }
-
-    /// Tells all users but the issuer.
-    pub fn tell_others(&self, line: LentReply, post: &mut Post) -> Result<(), AllocError>
-        ensures { OnOk result (Told self.now.plain post.old post.new (tell others (reply_of line.entry ∷ []) ∷ [])) }
-    {
-        post.write_for_others(line)?;
-        self.seats.address_all(&self.clients, post)?;
-        Ok(())
-    }
-
-    /// Tells the users of these names, the keys of whose clients these likely are.
-    pub fn tell_users(
-        &self,
-        names: &[NameBuf],
-        keys: &[ClientKey],
-        line: LentReply,
-        post: &mut Post,
-    ) -> Result<(), AllocError>
-        requires { IsDistinct same_name names.now }
-        ensures { OnOk result (Told self.now.plain post.old post.new (tell (users names.now) (reply_of line.entry ∷ []) ∷ [])) }
-    {
-        post.write(line)?;
-        self.seats.address_names(&self.clients, names, keys, post)?;
-        Ok(())
-    }
-
-    /// Tells the users of these names, the keys of whose clients these likely are, but the issuer.
-    pub fn tell_other_users(
-        &self,
-        names: &[NameBuf],
-        keys: &[ClientKey],
-        line: LentReply,
-        post: &mut Post,
-    ) -> Result<(), AllocError>
-        requires { IsDistinct same_name names.now }
-        ensures { OnOk result (Told self.now.plain post.old post.new (tell (but_issuer (users names.now)) (reply_of line.entry ∷ []) ∷ [])) }
-    {
-        post.write_for_others(line)?;
-        self.seats.address_names(&self.clients, names, keys, post)?;
-        Ok(())
-    }
-
-    /// Tells all users but those of two names.
-    pub fn tell_all_but(
-        &self,
-        first: &NameBuf,
-        second: &NameBuf,
-        line: LentReply,
-        post: &mut Post,
-    ) -> Result<(), AllocError>
-        ensures { OnOk result (Told self.now.plain post.old post.new (tell (everyone_but (first.now ∷ second.now ∷ [])) (reply_of line.entry ∷ []) ∷ [])) }
-    {
-        post.write(line)?;
-        self.seats
-            .address_all_but(&self.clients, first, second, post)?;
-        Ok(())
-    }
-
-    /// Tells the members of a battle.
-    pub fn tell_room(
-        &self,
-        room: &Room<ClientKey>,
-        line: LentReply,
-        post: &mut Post,
-    ) -> Result<(), AllocError>
-        ensures { OnOk result (Told self.now.plain post.old post.new (tell (users (member_names room.now)) (reply_of line.entry ∷ []) ∷ [])) }
-    {
-        post.write(line)?;
-        self.seats
-            .address_members(&self.clients, room.members(), post)?;
-        Ok(())
-    }
-
-    /// Tells the members of a battle but the issuer.
-    pub fn tell_others_in_room(
-        &self,
-        room: &Room<ClientKey>,
-        line: LentReply,
-        post: &mut Post,
-    ) -> Result<(), AllocError>
-        ensures { OnOk result (Told self.now.plain post.old post.new (tell (but_issuer (users (member_names room.now))) (reply_of line.entry ∷ []) ∷ [])) }
-    {
-        post.write_for_others(line)?;
-        self.seats
-            .address_members(&self.clients, room.members(), post)?;
-        Ok(())
-    }
-
-    /// Tells those who ask to join a battle.
-    pub fn tell_askers(
-        &self,
-        room: &Room<ClientKey>,
-        line: LentReply,
-        post: &mut Post,
-    ) -> Result<(), AllocError>
-        ensures { OnOk result (Told self.now.plain post.old post.new (tell (users (asker_names room.now)) (reply_of line.entry ∷ []) ∷ [])) }
-    {
-        post.write(line)?;
-        self.seats.address_askers(room.askers(), post)?;
-        Ok(())
-    }
-
-    /// Tells those who ask to join a battle but the issuer.
-    pub fn tell_other_askers(
-        &self,
-        room: &Room<ClientKey>,
-        line: LentReply,
-        post: &mut Post,
-    ) -> Result<(), AllocError>
-        ensures { OnOk result (Told self.now.plain post.old post.new (tell (but_issuer (users (asker_names room.now))) (reply_of line.entry ∷ []) ∷ [])) }
-    {
-        post.write_for_others(line)?;
-        self.seats.address_askers(room.askers(), post)?;
-        Ok(())
-    }
-
     /// The battle that a user is in, with its number.
     pub fn battle_of(&self, name: &NameBuf) -> Option<(u32, &Battle)>
         ensures some { IfSome result (λ own. battle_of self.now.plain name.now ≡ Some (own.0, own.1.now)) }
@@ -316,7 +182,7 @@ impl Maps {
     {
         // Its contract says that the numbers rise, which the proof wants however this ends.
         let _ = self.battles.by_number.len();
-        let number = self.seats.users.get(name)?.battle?;
+        let number = self.seats.battle_of(name)?;
         let battle = self.battles.with_member(number, name)?;
         Some((number, battle))
     }
@@ -329,7 +195,7 @@ impl Maps {
     {
         // Its contract says that the numbers rise, which the proof wants however this ends.
         let _ = self.battles.by_number.len();
-        let number = self.seats.users.get(name)?.battle?;
+        let number = self.seats.battle_of(name)?;
         if self.battles.asks_at(number, name) {
             Some(number)
         } else {
@@ -337,26 +203,12 @@ impl Maps {
         }
     }
 
-    /// Tells one user.
-    pub fn tell_user(
-        &self,
-        name: &NameBuf,
-        line: LentReply,
-        post: &mut Post,
-    ) -> Result<(), AllocError>
-        ensures { OnOk result (Told self.now.plain post.old post.new (tell (user name.now) (reply_of line.entry ∷ []) ∷ [])) }
-    {
-        post.write(line)?;
-        self.seats.address_user(name, post)?;
-        Ok(())
-    }
-
     /// Takes bytes that a client has not read.
     pub fn drain(&mut self, client: u64, into: &mut [u8]) -> Drained
-        ensures count { result.count ≡ min (length (unread_of self.old.plain client)) (length into.old) }
-        ensures given { into.new ≡ take result.count (unread_of self.old.plain client) ++ drop result.count into.old }
+        ensures count { result.count ≡ count_into self.old.plain client into.old }
+        ensures given { into.new ≡ filled self.old.plain client result.count into.old }
         ensures finished { result.finished ≡ is_finished self.new.plain client }
-        ensures next { self.new.plain ≡ next self.old.plain (event.Drain client (length into.old)) }
+        ensures next { Applies self.old self.new (event.Drain client (length into.old)) }
         ensures dirty { self.new.dirty ≡ self.old.dirty }
     {
         self.clients.drain(client, into)
@@ -366,9 +218,9 @@ impl Maps {
     pub fn next_dirty(&mut self, home: u8) -> Option<u64>
         requires { home < 64 }
         ensures plain { self.new.plain ≡ self.old.plain }
-        ensures first { dirty_at self.old home ≡ option_to_list result ++ dirty_at self.new home }
+        ensures first { TakesFirst self.old self.new home result }
         ensures nobody { IfNone result (dirty_at self.old home ≡ []) }
-        ensures others { (worker : ℕ) → worker ≤ 63 → same_number home worker ≡ false → dirty_at self.new worker ≡ dirty_at self.old worker }
+        ensures others { KeepsOthers self.old self.new home }
     {
         self.clients.next_dirty(home)
     }

@@ -28,20 +28,20 @@ returns-clause-ok c =
     let s : State = c.self.inside.maps.plain in
     let live : hears s c.args.client ≡ true = sym c.issuer.ensures.hears ∙ ap is_some c.in-Some.is in
     rw (← c.self.view_is)
-    (on_ok c.carry_out.result s (changed s c.args.client c.in_ok-change.change) c.carry_out.new.self.plain
+    (on_ok c.commit.result s (changed s c.args.client c.in_ok-change.change) c.commit.new.self.plain
     (event.Say c.args.client c.args.request.now) c.decide.new.post
     (said_effect s c.args.client c.args.request.now live _ _ c.in_ok-change.ensures)
-    (said_matches s c.args.client c.args.request.now live _ _ c.in_ok-change.ensures) c.carry_out.ensures.ok)
+    (said_matches s c.args.client c.args.request.now live _ _ c.in_ok-change.ensures) c.commit.ensures.ok)
 
 pub returns-clause-wakes : goal.returns-clause-wakes
 returns-clause-wakes c =
     let s : State = c.self.inside.maps.plain in
     let live : hears s c.args.client ≡ true = sym c.issuer.ensures.hears ∙ ap is_some c.in-Some.is in
     rw (← c.self.view_is)
-    (on_wakes c.carry_out.result s (changed s c.args.client c.in_ok-change.change) c.carry_out.new.self.plain
+    (on_wakes c.commit.result s (changed s c.args.client c.in_ok-change.change) c.commit.new.self.plain
     (event.Say c.args.client c.args.request.now) c.decide.new.post
     (said_effect s c.args.client c.args.request.now live _ _ c.in_ok-change.ensures)
-    (said_matches s c.args.client c.args.request.now live _ _ c.in_ok-change.ensures) c.carry_out.ensures.wakes)
+    (said_matches s c.args.client c.args.request.now live _ _ c.in_ok-change.ensures) c.commit.ensures.wakes)
 
 pub returns-in_default-clause-dirty : goal.returns-in_default-clause-dirty
 returns-in_default-clause-dirty c = λ home within.
@@ -56,8 +56,8 @@ returns-clause-dirty c =
     let s : State = c.self.inside.maps.plain in
     let live : hears s c.args.client ≡ true = sym c.issuer.ensures.hears ∙ ap is_some c.in-Some.is in
     rw (← c.self.view_is)
-    (on_dirty c.carry_out.result s (changed s c.args.client c.in_ok-change.change)
+    (on_dirty c.commit.result s (changed s c.args.client c.in_ok-change.change)
     (event.Say c.args.client c.args.request.now) c.decide.new.post
-    (λ e. (home : ℕ) → home ≤ 63 → DirtyAfter s e home (dirty_at c.self.inside.maps home) (dirty_at c.carry_out.new.self home))
+    (λ e. (home : ℕ) → home ≤ 63 → DirtyAfter s e home (dirty_at c.self.inside.maps home) (dirty_at c.commit.new.self home))
     (said_effect s c.args.client c.args.request.now live _ _ c.in_ok-change.ensures)
-    (said_matches s c.args.client c.args.request.now live _ _ c.in_ok-change.ensures) c.carry_out.ensures.dirty)
+    (said_matches s c.args.client c.args.request.now live _ _ c.in_ok-change.ensures) c.commit.ensures.dirty)

@@ -11,20 +11,20 @@ pub returns-clause-ok : goal.returns-clause-ok
 returns-clause-ok c =
     let s : State = c.self.inside.maps.plain in
     rw (← c.self.view_is)
-    (on_ok c.carry_out.result s (changed s c.args.client c.in_ok-change.change) c.carry_out.new.self.plain
-    (event.Shut c.args.client) c.close.new.post c.in_ok-change.ensures.effect c.in_ok-change.ensures.told.bytes c.carry_out.ensures.ok)
+    (on_ok c.commit.result s (changed s c.args.client c.in_ok-change.change) c.commit.new.self.plain
+    (event.Shut c.args.client) c.close.new.post c.in_ok-change.ensures.effect c.in_ok-change.ensures.told.bytes c.commit.ensures.ok)
 
 pub returns-clause-wakes : goal.returns-clause-wakes
 returns-clause-wakes c =
     let s : State = c.self.inside.maps.plain in
     rw (← c.self.view_is)
-    (on_wakes c.carry_out.result s (changed s c.args.client c.in_ok-change.change) c.carry_out.new.self.plain
-    (event.Shut c.args.client) c.close.new.post c.in_ok-change.ensures.effect c.in_ok-change.ensures.told.bytes c.carry_out.ensures.wakes)
+    (on_wakes c.commit.result s (changed s c.args.client c.in_ok-change.change) c.commit.new.self.plain
+    (event.Shut c.args.client) c.close.new.post c.in_ok-change.ensures.effect c.in_ok-change.ensures.told.bytes c.commit.ensures.wakes)
 
 pub returns-clause-dirty : goal.returns-clause-dirty
 returns-clause-dirty c =
     let s : State = c.self.inside.maps.plain in
     rw (← c.self.view_is)
-    (on_dirty c.carry_out.result s (changed s c.args.client c.in_ok-change.change) (event.Shut c.args.client) c.close.new.post
-    (λ e. (home : ℕ) → home ≤ 63 → DirtyAfter s e home (dirty_at c.self.inside.maps home) (dirty_at c.carry_out.new.self home))
-    c.in_ok-change.ensures.effect c.in_ok-change.ensures.told.bytes c.carry_out.ensures.dirty)
+    (on_dirty c.commit.result s (changed s c.args.client c.in_ok-change.change) (event.Shut c.args.client) c.close.new.post
+    (λ e. (home : ℕ) → home ≤ 63 → DirtyAfter s e home (dirty_at c.self.inside.maps home) (dirty_at c.commit.new.self home))
+    c.in_ok-change.ensures.effect c.in_ok-change.ensures.told.bytes c.commit.ensures.dirty)

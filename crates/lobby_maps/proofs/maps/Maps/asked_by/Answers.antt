@@ -1,71 +1,44 @@
 use Rattle.std.proofs.Common.{◌≡◌, ◌∙◌, ap, sym}
 use Rattle.std.specs.Prelude.{Some, None}
 use Rattle.std.proofs.lemmas.Option.{same_Some}
-use Rattle.line_words.specs.Table.{at_name, at_number, name_cmp}
-use Rattle.line_words.proofs.Tables.{lookup_is_find}
+use Rattle.line_words.specs.Table.{at_number}
 use Rattle.battle_room.specs.Room.{has_asker}
-use Rattle.lobby_maps.specs.Battles.{asks_at, battle_at}
+use Rattle.lobby_maps.specs.Battles.{asks_at}
 use Rattle.lobby_maps.proofs.Base.{asking_there, own_found, own_none, own_nowhere, own_only}
 use Rattle.lobby_maps.proofs.Seated.{as_asker}
 use Rattle.lobby_maps.proofs.Sorted.{ordered_is_sorted}
 use Rattle.lobby_maps.proofs.maps.Maps.asked_by.Goals as goal
 
-pub returns-in_err-get-clause-only : goal.returns-in_err-get-clause-only
-returns-in_err-get-clause-only c =
-    let seat : at_name c.self.inside.seats.users.entries c.args.name.now ≡ None = sym (c.in_err-get.ensures.value
-    ∙ lookup_is_find name_cmp c.args.name.now c.self.inside.seats.users.entries) in
-    rw (← c.self.view_is) (own_nowhere c.self.inside.battles.by_number.entries c.self.inside.seats.users.entries
-    (ordered_is_sorted c.self.inside.battles.by_number.entries c.len.ensures.ordered) c.self.invariant.1.seated c.args.name.now
-    (has_asker c.args.name.now) (as_asker c.args.name.now)
-    (λ number battle at there. absurd (let no : None ≡ Some number = ap battle_at (sym seat) ∙ at in cc)) _)
-
-pub returns-in_err-get-clause-none : goal.returns-in_err-get-clause-none
-returns-in_err-get-clause-none c = λ is.
-    let seat : at_name c.self.inside.seats.users.entries c.args.name.now ≡ None = sym (c.in_err-get.ensures.value
-    ∙ lookup_is_find name_cmp c.args.name.now c.self.inside.seats.users.entries) in
-    rw (← c.self.view_is) (own_none c.self.inside.battles.by_number.entries c.self.inside.seats.users.entries
-    (ordered_is_sorted c.self.inside.battles.by_number.entries c.len.ensures.ordered) c.self.invariant.1.seated c.args.name.now
-    (has_asker c.args.name.now) (as_asker c.args.name.now)
-    (λ number battle at there. absurd (let no : None ≡ Some number = ap battle_at (sym seat) ∙ at in cc)))
-
 pub returns-in_err-number-clause-only : goal.returns-in_err-number-clause-only
 returns-in_err-number-clause-only c =
-    let seat : at_name c.self.inside.seats.users.entries c.args.name.now ≡ Some c.in_ok-get.field-0.now = sym (c.in_ok-get.ensures.value
-    ∙ lookup_is_find name_cmp c.args.name.now c.self.inside.seats.users.entries) in
     rw (← c.self.view_is) (own_nowhere c.self.inside.battles.by_number.entries c.self.inside.seats.users.entries
     (ordered_is_sorted c.self.inside.battles.by_number.entries c.len.ensures.ordered) c.self.invariant.1.seated c.args.name.now
     (has_asker c.args.name.now) (as_asker c.args.name.now)
-    (λ number battle at there. absurd (let no : None ≡ Some number = sym c.in_err-number.was ∙ ap battle_at (sym seat) ∙ at in cc)) _)
+    (λ number battle at there. absurd (let no : None ≡ Some number = c.in_err-number.ensures ∙ at in cc)) _)
 
 pub returns-in_err-number-clause-none : goal.returns-in_err-number-clause-none
 returns-in_err-number-clause-none c = λ is.
-    let seat : at_name c.self.inside.seats.users.entries c.args.name.now ≡ Some c.in_ok-get.field-0.now = sym (c.in_ok-get.ensures.value
-    ∙ lookup_is_find name_cmp c.args.name.now c.self.inside.seats.users.entries) in
     rw (← c.self.view_is) (own_none c.self.inside.battles.by_number.entries c.self.inside.seats.users.entries
     (ordered_is_sorted c.self.inside.battles.by_number.entries c.len.ensures.ordered) c.self.invariant.1.seated c.args.name.now
     (has_asker c.args.name.now) (as_asker c.args.name.now)
-    (λ number battle at there. absurd (let no : None ≡ Some number = sym c.in_err-number.was ∙ ap battle_at (sym seat) ∙ at in cc)))
+    (λ number battle at there. absurd (let no : None ≡ Some number = c.in_err-number.ensures ∙ at in cc)))
 
 pub returns-else-asks_at-clause-only : goal.returns-else-asks_at-clause-only
 returns-else-asks_at-clause-only c =
-    let seat : at_name c.self.inside.seats.users.entries c.args.name.now ≡ Some c.in_ok-get.field-0.now = sym (c.in_ok-get.ensures.value
-    ∙ lookup_is_find name_cmp c.args.name.now c.self.inside.seats.users.entries) in
     rw (← c.self.view_is) (own_nowhere c.self.inside.battles.by_number.entries c.self.inside.seats.users.entries
     (ordered_is_sorted c.self.inside.battles.by_number.entries c.len.ensures.ordered) c.self.invariant.1.seated c.args.name.now
     (has_asker c.args.name.now) (as_asker c.args.name.now)
     (λ number battle at there.
-    let same : c.in_ok-number.number ≡ number = same_Some c.in_ok-number.number number (sym c.in_ok-number.was ∙ ap battle_at (sym seat) ∙ at) in
+    let same : c.in_ok-number.number ≡ number = same_Some c.in_ok-number.number number (c.in_ok-number.ensures ∙ at) in
     ap (λ o. asks_at o c.args.name.now) (sym (ap (at_number c.self.inside.battles.by_number.entries) same ∙ there)) ∙ sym c.asks_at.ensures ∙ c.if-asks_at.false) _)
 
 pub returns-else-asks_at-clause-none : goal.returns-else-asks_at-clause-none
 returns-else-asks_at-clause-none c = λ is.
-    let seat : at_name c.self.inside.seats.users.entries c.args.name.now ≡ Some c.in_ok-get.field-0.now = sym (c.in_ok-get.ensures.value
-    ∙ lookup_is_find name_cmp c.args.name.now c.self.inside.seats.users.entries) in
     rw (← c.self.view_is) (own_none c.self.inside.battles.by_number.entries c.self.inside.seats.users.entries
     (ordered_is_sorted c.self.inside.battles.by_number.entries c.len.ensures.ordered) c.self.invariant.1.seated c.args.name.now
     (has_asker c.args.name.now) (as_asker c.args.name.now)
     (λ number battle at there.
-    let same : c.in_ok-number.number ≡ number = same_Some c.in_ok-number.number number (sym c.in_ok-number.was ∙ ap battle_at (sym seat) ∙ at) in
+    let same : c.in_ok-number.number ≡ number = same_Some c.in_ok-number.number number (c.in_ok-number.ensures ∙ at) in
     ap (λ o. asks_at o c.args.name.now) (sym (ap (at_number c.self.inside.battles.by_number.entries) same ∙ there)) ∙ sym c.asks_at.ensures ∙ c.if-asks_at.false))
 
 pub returns-then-asks_at-clause-some : goal.returns-then-asks_at-clause-some

@@ -1,42 +1,27 @@
-use Rattle.std.proofs.Common.{◌≡◌, ◌∙◌, ap, sym, refl}
+use Rattle.std.proofs.Common.{◌≡◌, ◌∙◌, ap, refl}
 use Rattle.std.specs.Prelude.{Some, None}
 use Rattle.std.proofs.lemmas.Option.{same_Some}
-use Rattle.line_words.specs.Table.{at_name, at_number, name_cmp}
-use Rattle.line_words.proofs.Tables.{lookup_is_find}
+use Rattle.line_words.specs.Table.{at_number}
 use Rattle.battle_room.specs.Room.{has_member}
-use Rattle.lobby_maps.specs.Battles.{battle_at}
 use Rattle.lobby_maps.proofs.Base.{own_found, own_none, own_only}
 use Rattle.lobby_maps.proofs.Seated.{as_member}
 use Rattle.lobby_maps.proofs.Sorted.{ordered_is_sorted}
 use Rattle.lobby_maps.proofs.maps.Maps.battle_of.Goals as goal
 
-pub returns-in_err-get-clause-none : goal.returns-in_err-get-clause-none
-returns-in_err-get-clause-none c = λ is.
-    let seat : at_name c.self.inside.seats.users.entries c.args.name.now ≡ None = sym (c.in_err-get.ensures.value
-    ∙ lookup_is_find name_cmp c.args.name.now c.self.inside.seats.users.entries) in
-    rw (← c.self.view_is) (own_none c.self.inside.battles.by_number.entries c.self.inside.seats.users.entries
-    (ordered_is_sorted c.self.inside.battles.by_number.entries c.len.ensures.ordered) c.self.invariant.1.seated c.args.name.now
-    (has_member c.args.name.now) (as_member c.args.name.now)
-    (λ number battle at there. absurd (let no : None ≡ Some number = ap battle_at (sym seat) ∙ at in cc)))
-
 pub returns-in_err-number-clause-none : goal.returns-in_err-number-clause-none
 returns-in_err-number-clause-none c = λ is.
-    let seat : at_name c.self.inside.seats.users.entries c.args.name.now ≡ Some c.in_ok-get.field-0.now = sym (c.in_ok-get.ensures.value
-    ∙ lookup_is_find name_cmp c.args.name.now c.self.inside.seats.users.entries) in
     rw (← c.self.view_is) (own_none c.self.inside.battles.by_number.entries c.self.inside.seats.users.entries
     (ordered_is_sorted c.self.inside.battles.by_number.entries c.len.ensures.ordered) c.self.invariant.1.seated c.args.name.now
     (has_member c.args.name.now) (as_member c.args.name.now)
-    (λ number battle at there. absurd (let no : None ≡ Some number = sym c.in_err-number.was ∙ ap battle_at (sym seat) ∙ at in cc)))
+    (λ number battle at there. absurd (let no : None ≡ Some number = c.in_err-number.ensures ∙ at in cc)))
 
 pub returns-in_err-battle-clause-none : goal.returns-in_err-battle-clause-none
 returns-in_err-battle-clause-none c = λ is.
-    let seat : at_name c.self.inside.seats.users.entries c.args.name.now ≡ Some c.in_ok-get.field-0.now = sym (c.in_ok-get.ensures.value
-    ∙ lookup_is_find name_cmp c.args.name.now c.self.inside.seats.users.entries) in
     rw (← c.self.view_is) (own_none c.self.inside.battles.by_number.entries c.self.inside.seats.users.entries
     (ordered_is_sorted c.self.inside.battles.by_number.entries c.len.ensures.ordered) c.self.invariant.1.seated c.args.name.now
     (has_member c.args.name.now) (as_member c.args.name.now)
     (λ number battle at there.
-    let same : c.in_ok-number.number ≡ number = same_Some c.in_ok-number.number number (sym c.in_ok-number.was ∙ ap battle_at (sym seat) ∙ at) in
+    let same : c.in_ok-number.number ≡ number = same_Some c.in_ok-number.number number (c.in_ok-number.ensures ∙ at) in
     c.in_err-battle.ensures.none refl battle (ap (at_number c.self.inside.battles.by_number.entries) same ∙ there)))
 
 pub returns-clause-some : goal.returns-clause-some

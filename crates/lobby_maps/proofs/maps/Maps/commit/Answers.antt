@@ -15,7 +15,7 @@ use Rattle.lobby_maps.proofs.Fitting.{fit_same, fit_delivered, counted_after}
 use Rattle.lobby_maps.proofs.Plain.{plainly, shown_same}
 use Rattle.lobby_maps.proofs.Lists.{known_same, listed_as, lists_same, waits_same}
 use Rattle.lobby_maps.proofs.Dirtied.{dirty_so}
-use Rattle.lobby_maps.proofs.maps.Maps.carry_out.Goals as goal
+use Rattle.lobby_maps.proofs.maps.Maps.commit.Goals as goal
 
 pub invariant_of-self : goal.invariant_of-self
 invariant_of-self c = (
