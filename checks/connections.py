@@ -272,14 +272,11 @@ def hasty_logins(workers):
             client = Client(server)
             client.send(account.login() + "JOIN main\n")
             client.reset()
-        told, quiet = [], 0
-        for _ in range(600):
-            time.sleep(0.05)
-            more = lines_until_pong(anna)
-            told += [it.decode() for it in more]
-            quiet = 0 if more else quiet + 1
-            if quiet == 10:
-                break
+        # Who is greeted now was accepted behind all of them: they are gone once no sockets are left but its own, Anna's, and that at
+        # which the server listens.
+        client = greeted(server)
+        wait_for_sockets(server, 3)
+        told = [it.decode() for it in lines_until_pong(anna)]
         for account in crowd[:]:
             found = [it for it in told if it.split()[1] == account.name]
             if found and found != [*account.arrival().splitlines(True), f"REMOVEUSER {account.name}\n"]:
@@ -287,7 +284,6 @@ def hasty_logins(workers):
             if found:
                 crowd.remove(account)
         # All are gone now, so that each may log in.
-        client = greeted(server)
         for account in crowd[:20]:
             client.send(account.login() + "EXIT\n")
             anna.expect(account.arrival() + f"REMOVEUSER {account.name}\n")
@@ -590,17 +586,25 @@ def expect_in_any_order(client, lines):
 
 def short_memory(workers):
     """Anna speaks until there is no more memory. Then the twenty read, and she is told what she waits for without another byte of hers
-    and without any other event. Then they go. All are told of each."""
+    and without any other event. Who came meanwhile is greeted, or closed without a byte. Then the twenty go. All are told of each, and
+    one of them logs in once more."""
     with crowded(workers) as (server, anna, bert, slow):
         wanted = talk_until_refused(server, anna, "x" * 1_000)
+        late = Client(server)
         read_until_told(slow, anna)
         anna.expect(wanted)
+        late.receive()
+        if bytes(late.heard) not in (b"", GREETING):
+            raise Difference(f"one who comes while memory is short is told {bytes(late.heard)}")
+        late.close()
         for client in slow:
             client.reset()
         wait_for_sockets(server, 3)
         left = [f"LEFT busy {account.name}\n".encode() for account in CROWD]
         expect_in_any_order(anna, removed(CROWD) + left)
         expect_in_any_order(bert, removed(CROWD))
+        logged_in(server, CROWD[0], [ANNA, BERT])
+        both([anna, bert], CROWD[0].arrival())
 
 
 def say_what_fits(client, line):

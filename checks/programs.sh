@@ -1,6 +1,7 @@
 #!/usr/bin/env bash
 # Runs both programs, as the gate built them, with good and bad arguments and inputs, and compares what they print, what they
-# tell on standard error and their exit status. The files in examples/ are read by serve.sh.
+# tell on standard error and their exit status. The files in examples/ are read by serve.sh. Then has lobby_play play a script
+# with more and more memory.
 set -euo pipefail
 cd "$(dirname "$0")/.."
 play=crates/lobby_play/out/lobby_play
@@ -43,6 +44,39 @@ expect 0 "$greeting" '' 'open 1 10.0.0.1\nshow 1\n' "$play"
 expect 1 "$greeting" 'line 3: bad step\n' 'open 1 10.0.0.1\nshow 1\nshow 2\nshow 1\n' "$play"
 expect 2 '' 'device fault\n' . "$play"
 expect 2 '' 'script too long\n' "$(printf '\\n%.0s' {1..1048577})" "$play"
+
+# limited INPUT LIMIT : lobby_play on this input, where its memory may come to so many kB.
+limited() { (ulimit -c 0 -d "$2" && exec "$play") < "$1" > "$room/out" 2> "$room/err"; }
+
+# With more and more memory a script is played to its end, or memory runs out and what was shown is the front of that. It begins
+# with so little that the program can just start.
+word=X03MO1qnZdYdgyfeuILPmQ==
+{
+    printf 'account Anna %s 1 0 DE\nopen 1 10.0.0.1\nsend 1 LOGIN Anna %s 0 * Checks 1.0\\nJOIN main\\n\nall 1\nshow 1\n' "$word" "$word"
+    for number in {1..300}; do printf 'send 1 SAY main %01000d\\n\nall 1\nshow 1\n' "$number"; done
+} > "$room/long"
+"$play" < "$room/long" > "$room/whole"
+limit=256
+until [ "$limit" -gt 65536 ] || limited /dev/null "$limit" 2> /dev/null; do limit=$((limit + 64)); done
+refused=0
+got=4
+for ((; got == 4 && limit <= 65536; limit += 64)); do
+    got=0
+    limited "$room/long" "$limit" || got=$?
+    if [ "$got" -eq 4 ] && printf 'no memory\n' | cmp -s - "$room/err" && head -c "$(wc -c < "$room/out")" "$room/whole" | cmp -s - "$room/out"; then
+        refused=$((refused + 1))
+    elif [ "$got" -eq 0 ] && [ ! -s "$room/err" ] && cmp -s "$room/whole" "$room/out"; then
+        passed=$((passed + 1))
+    else
+        echo "lobby_play with $limit kB: status $got, or other output"
+        failed=$((failed + 1))
+        got=1
+    fi
+done
+if [ "$refused" -eq 0 ] || [ "$got" -eq 4 ]; then
+    echo "lobby_play with little memory: memory ran out $refused times, and at last with status $got"
+    failed=$((failed + 1))
+fi
 
 echo "programs: $passed passed, $failed failed"
 [ "$failed" -eq 0 ]

@@ -97,6 +97,15 @@ session() {
         exec {input}>&- && is_over "$bert"
 }
 
+# ends : whether the server ends within a minute.
+ends() {
+    for _ in {1..600}; do
+        kill -0 "$server" 2> /dev/null || return 0
+        sleep 0.1
+    done
+    return 1
+}
+
 mkfifo "$room/input"
 rm "$room/out"
 "$main" serve "$settings" examples/accounts.toml < "$room/input" > "$room/out" 2> "$room/err" &
@@ -109,6 +118,10 @@ done
 status=0
 session "$(port_of "$server")" || status=1
 if [ "$status" -ne 0 ]; then kill "$server" 2> /dev/null || true; fi
+if ! ends; then
+    echo "the server outlives its input"
+    kill -KILL "$server"
+fi
 wait "$server" || status=$?
 server=
 if [ "$status" -eq 0 ] && [ ! -s "$room/err" ]; then passed=$((passed + 1)); else echo "the session: status $status"; failed=$((failed + 1)); fi

@@ -6,17 +6,48 @@ use crate::accounts::{book, lobby_of};
 use crate::hog::{Hog, MOST_STEPS};
 use crate::notes::Notes;
 use lobby_lock::{Desk, Pass};
+use lobby_machine::OpenError;
 use lobby_turns::{Conn, Gate, Link, TurnState, serve};
 use memory_link::MemoryLink;
 use std::alloc::{AllocError, Global};
 use std::io;
-use std::io::Write;
 use std::sync::Wait;
 
-/// What Anna sends, and what she is told.
-const ANNA: (&[u8], &[u8]) = (
-    b"LOGIN Anna X03MO1qnZdYdgyfeuILPmQ== 0 * TestLobby 1.0\nJOIN main\nSAY main first\n",
-    b"TASSERVER 0.38 * 8201 0
+/// A text in parts, each of which stands there so many times over.
+type Text = &'static [(&'static [u8], usize)];
+
+/// What a client sends, of which a read gives at most `piece` bytes, and what it is told, of which a write takes at most `room`.
+struct Caller {
+    sends: Text,
+    piece: usize,
+    told: Text,
+    room: usize,
+}
+
+/// So often Bert says a long line: for each of the two more waits then than two pieces that a hold drains, 8,192 bytes.
+const TIMES: usize = 30;
+
+/// A long line of Bert's, and what comes of it.
+const SAYS: &[u8] =
+    b"SAY main 0123456789abcdef0123456789abcdef0123456789abcdef0123456789abcdef0123456789abcdef0123456789abcdef\
+    0123456789abcdef0123456789abcdef0123456789abcdef0123456789abcdef0123456789abcdef0123456789abcdef\
+    0123456789abcdef0123456789abcdef0123456789abcdef0123456789abcdef0123456789abcdef0123456789abcdef\n";
+
+const SAID: &[u8] =
+    b"SAID main Bert 0123456789abcdef0123456789abcdef0123456789abcdef0123456789abcdef0123456789abcdef0123456789abcdef\
+    0123456789abcdef0123456789abcdef0123456789abcdef0123456789abcdef0123456789abcdef0123456789abcdef\
+    0123456789abcdef0123456789abcdef0123456789abcdef0123456789abcdef0123456789abcdef0123456789abcdef\n";
+
+/// She sends her lines in pieces, and her link takes what she is told in several writes.
+const ANNA: Caller = Caller {
+    sends: &[(
+        b"LOGIN Anna X03MO1qnZdYdgyfeuILPmQ== 0 * TestLobby 1.0\nJOIN main\nSAY main first\n",
+        1,
+    )],
+    piece: 40,
+    told: &[
+        (
+            b"TASSERVER 0.38 * 8201 0
 ACCEPTED Anna
 MOTD Welcome
 ADDUSER Anna DE 0 1
@@ -29,12 +60,26 @@ CLIENTSTATUS Bert 12
 JOINED main Bert
 SAID main Bert hello
 ",
-);
+            1,
+        ),
+        (SAID, TIMES),
+    ],
+    room: 1_000,
+};
 
-/// What Bert sends, and what he is told.
-const BERT: (&[u8], &[u8]) = (
-    b"LOGIN Bert X03MO1qnZdYdgyfeuILPmQ== 0 * TestLobby 1.0\nJOIN main\nSAY main hello\n",
-    b"TASSERVER 0.38 * 8201 0
+/// His link takes all that one write carries.
+const BERT: Caller = Caller {
+    sends: &[
+        (
+            b"LOGIN Bert X03MO1qnZdYdgyfeuILPmQ== 0 * TestLobby 1.0\nJOIN main\nSAY main hello\n",
+            1,
+        ),
+        (SAYS, TIMES),
+    ],
+    piece: 4_096,
+    told: &[
+        (
+            b"TASSERVER 0.38 * 8201 0
 ACCEPTED Bert
 MOTD Welcome
 ADDUSER Anna DE 0 1
@@ -45,7 +90,12 @@ JOIN main
 CLIENTS main Anna Bert
 SAID main Bert hello
 ",
-);
+            1,
+        ),
+        (SAID, TIMES),
+    ],
+    room: 16_384,
+};
 
 /// How often each of them gets its turns.
 const ROUNDS: u32 = 4;
@@ -73,25 +123,39 @@ impl Gate for Open {
 struct Side {
     conn: Conn,
     link: MemoryLink,
-    told: &'static [u8],
+    told: Vec<u8>,
 }
 
-/// The connection of a client that sends bytes, a few at a time, and is told others.
-fn new_side(
-    alloc: Global,
-    client: u64,
-    (sent, told): (&[u8], &'static [u8]),
-) -> Result<Side, AllocError> {
-    let sent = Vec::from_slice(alloc, sent)?;
+fn written(alloc: Global, text: Text) -> Result<Vec<u8>, AllocError> {
+    let mut all = Vec::new(alloc);
+    for (part, times) in text {
+        for _ in 0..*times {
+            all.extend_from_slice(*part)?;
+        }
+    }
+    Ok(all)
+}
+
+/// The connection of a client.
+fn new_side(alloc: Global, client: u64, caller: &Caller) -> Result<Side, AllocError> {
+    let told = written(alloc, caller.told)?;
+    let sent = written(alloc, caller.sends)?;
     Ok(Side {
         conn: Conn::new(alloc, client),
-        link: MemoryLink::new(alloc, sent, 40, 100),
+        link: MemoryLink::new(alloc, sent, caller.piece, caller.room),
         told,
     })
 }
 
-/// A client connects, with more and more memory until that suffices.
-fn connect<R: Wait>(rt: &R, desk: &Desk, pass: Pass, hog: &mut Hog, notes: &mut Notes) -> Pass
+/// A client connects, with more and more memory until that suffices, and has this number then, as if memory had never been refused.
+fn connect<R: Wait>(
+    rt: &R,
+    desk: &Desk,
+    pass: Pass,
+    client: u64,
+    hog: &mut Hog,
+    notes: &mut Notes,
+) -> Pass
     requires { pass.desk ≡ desk.now }
     ensures { result.desk ≡ desk.now }
 {
@@ -99,13 +163,13 @@ fn connect<R: Wait>(rt: &R, desk: &Desk, pass: Pass, hog: &mut Hog, notes: &mut 
     for steps in 0..=MOST_STEPS {
         let mut held = desk.take(rt, pass);
         hog.leave(steps);
-        let is_open = held.open([10, 0, 0, 1], 0).is_ok();
+        let opened = held.open([10, 0, 0, 1], 0);
         hog.ease();
         pass = held.give(rt, desk);
-        if is_open {
+        if opened == Ok(client) {
             return pass;
         }
-        notes.refuse(true);
+        notes.refuse(opened == Err(OpenError::Memory));
     }
     notes.give_up();
     pass
@@ -135,7 +199,7 @@ fn turn<R: Wait>(
         if turn.state != TurnState::Memory {
             return pass;
         }
-        notes.refuse(side.told.starts_with(side.link.output()));
+        notes.refuse(side.told.as_slice().starts_with(side.link.output()));
     }
     notes.give_up();
     pass
@@ -180,8 +244,8 @@ fn serve_all<R: Wait + AllocGlobal>(
 ) -> bool {
     match new_desk(rt) {
         Some((desk, pass)) => {
-            let pass = connect(rt, &desk, pass, hog, notes);
-            let pass = connect(rt, &desk, pass, hog, notes);
+            let pass = connect(rt, &desk, pass, 1, hog, notes);
+            let pass = connect(rt, &desk, pass, 2, hog, notes);
             let pass = serve_both(rt, &desk, pass, sides, hog, notes);
             // what a link lacked the memory to keep
             let pass = serve_both(rt, &desk, pass, sides, full, notes);
@@ -195,16 +259,16 @@ fn serve_all<R: Wait + AllocGlobal>(
 
 fn show<R: Print>(rt: &R, side: &Side) -> io::Result<()> {
     println!(rt;
-        "the link of client {}: {} bytes",
+        "the link of client {}: {} bytes, all that it is to be told: {}",
         side.conn.client(),
-        side.link.output().len()
-    )?;
-    io::writer(rt).write_all(side.link.output())
+        side.link.output().len(),
+        side.link.output() == side.told.as_slice()
+    )
 }
 
 fn new_sides(alloc: Global) -> Result<(Side, Side), AllocError> {
-    let anna = new_side(alloc, 1, ANNA)?;
-    match new_side(alloc, 2, BERT) {
+    let anna = new_side(alloc, 1, &ANNA)?;
+    match new_side(alloc, 2, &BERT) {
         Ok(bert) => Ok((anna, bert)),
         Err(refused) => {
             drop(anna);

@@ -4,7 +4,9 @@ use crate::deeds::{Deed, Subject, try_deeds};
 use crate::hog::Hog;
 use crate::notes::Notes;
 use client_session::{Next, Session};
+use command_grammar::Command;
 use line_framer::{FeedError, Framer};
+use line_words::Pair;
 use std::alloc::{AllocError, Global};
 use std::io;
 use std::io::Write;
@@ -96,6 +98,74 @@ fn next_id(session: &Session) -> Result<Option<Option<u32>>, AllocError> {
     }
 }
 
+fn pairs_are_same(ours: &[Pair], theirs: &[Pair]) -> bool {
+    for (place, pair) in ours.iter().enumerate() {
+        match theirs.get(place) {
+            Some(other)
+                if pair.key.as_slice() == other.key.as_slice()
+                    && pair.value.as_slice() == other.value.as_slice() => {}
+            _ => return false,
+        }
+    }
+    ours.len() == theirs.len()
+}
+
+/// Whether two commands are the same one, with the same arguments. Those that are not sent here are not.
+fn commands_are_same(ours: &Command, theirs: &Command) -> bool {
+    match (ours, theirs) {
+        (Command::Blank, Command::Blank) | (Command::Ping, Command::Ping) => true,
+        (Command::Unread(ours), Command::Unread(theirs)) => ours == theirs,
+        (
+            Command::Join {
+                channel: ours,
+                key: None,
+            },
+            Command::Join {
+                channel: theirs,
+                key: None,
+            },
+        ) => ours.as_slice() == theirs.as_slice(),
+        (
+            Command::Say { channel, text },
+            Command::Say {
+                channel: other_channel,
+                text: other_text,
+            },
+        ) => {
+            channel.as_slice() == other_channel.as_slice()
+                && text.as_slice() == other_text.as_slice()
+        }
+        (Command::SetScriptTags { pairs: ours }, Command::SetScriptTags { pairs: theirs }) =>
+            pairs_are_same(ours.as_slice(), theirs.as_slice()),
+        _ => false,
+    }
+}
+
+fn nexts_are_same(ours: &Next, theirs: &Next) -> bool {
+    match (ours, theirs) {
+        (Next::Line(ours), Next::Line(theirs)) => {
+            ours.id == theirs.id && commands_are_same(&ours.command, &theirs.command)
+        }
+        (Next::Nothing, Next::Nothing) | (Next::Spoilt, Next::Spoilt) => true,
+        _ => false,
+    }
+}
+
+/// Whether two sessions have the same request next, and memory to show it.
+fn next_is_same(session: &Session, other: &Session) -> bool {
+    let Ok(ours) = session.next_request() else {
+        return false;
+    };
+    let Ok(theirs) = other.next_request() else {
+        ours.discard();
+        return false;
+    };
+    let are_same = nexts_are_same(&ours, &theirs);
+    ours.discard();
+    theirs.discard();
+    are_same
+}
+
 impl Subject for Session {
     fn new(alloc: Global) -> Option<Session> {
         Some(Session::new(alloc, 7))
@@ -120,7 +190,7 @@ impl Subject for Session {
         self.client() == other.client()
             && self.is_ready() == other.is_ready()
             && self.has_line() == other.has_line()
-            && next_id(self) == next_id(other)
+            && next_is_same(self, other)
     }
 
     fn show<R: Print>(&mut self, rt: &R) -> io::Result<()> {

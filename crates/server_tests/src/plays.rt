@@ -90,10 +90,24 @@ pub const BOTH_LOG_IN: Act = Act {
     ],
 };
 
+/// How a server ends.
+#[derive(Clone, Copy)]
+pub struct Ending {
+    /// For how many looks its input waits for its end, and fails then.
+    pub looks: u32,
+    pub status: u8,
+}
+
+const IN_GOOD_ORDER: Ending = Ending {
+    looks: PATIENCE,
+    status: 0,
+};
+
 /// What a server and those who play share.
 #[derive(Drop)]
 struct Stage {
     gate: Watch,
+    patience: u32,
     input_ends: AtomicBool,
     has_ended: AtomicBool,
 }
@@ -275,9 +289,10 @@ fn times_over(alloc: Global, text: &[u8], times: usize) -> Result<Vec<u8>, Alloc
 }
 
 impl Stage {
-    fn new(clock: HostRuntime, hold: Hold) -> Stage {
+    fn new(clock: HostRuntime, hold: Hold, patience: u32) -> Stage {
         Stage {
             gate: Watch::new(clock, hold),
+            patience,
             input_ends: AtomicBool::new(false),
             has_ended: AtomicBool::new(false),
         }
@@ -307,7 +322,7 @@ impl Stage {
         let input = Input {
             clock,
             flag: &self.input_ends,
-            looks: PATIENCE,
+            looks: self.patience,
         };
         self.gate.before_start();
         let told = run(rt, service, listener, input, &self.gate);
@@ -324,40 +339,37 @@ pub fn play<
 >(rt: &R, clock: HostRuntime, workers: u32, hold: Hold, acts: &[Act]) -> Vec<u8>
     requires { (1 ≤ workers) × (workers ≤ 64) }
 {
-    match listen(rt) {
-        Some((listener, address)) => play_at(rt, clock, workers, hold, acts, listener, address),
-        None => {
-            fail(rt, "nothing listens");
-            Vec::new(clock.alloc())
-        }
-    }
+    play_to(rt, clock, workers, hold, acts, IN_GOOD_ORDER)
 }
 
-/// As `play`, on this listener.
-fn play_at<
+/// As `play`, but the server ends so.
+pub fn play_to<
     R: Threads + Wait + Net<Listener = net::TcpListener, Stream = net::TcpStream> + Abort + Sync,
->(
-    rt: &R,
-    clock: HostRuntime,
-    workers: u32,
-    hold: Hold,
-    acts: &[Act],
-    listener: TcpListener,
-    address: SocketAddr,
-) -> Vec<u8>
+>(rt: &R, clock: HostRuntime, workers: u32, hold: Hold, acts: &[Act], ending: Ending) -> Vec<u8>
     requires { (1 ≤ workers) × (workers ≤ 64) }
 {
-    match service(clock.alloc(), workers) {
-        Some(service) => {
-            let stage = Stage::new(clock, hold);
-            let told = play_beside(rt, clock, service, listener, address, &stage, acts);
-            drop(stage);
-            same(rt, told.status, 0);
+    let stage = Stage::new(clock, hold, ending.looks);
+    let output = play_at(rt, clock, workers, &stage, acts, ending.status);
+    drop(stage);
+    output
+}
+
+/// As `play`, on this stage, and the server ends with this status.
+fn play_at<
+    R: Threads + Wait + Net<Listener = net::TcpListener, Stream = net::TcpStream> + Abort + Sync,
+>(rt: &R, clock: HostRuntime, workers: u32, stage: &Stage, acts: &[Act], status: u8) -> Vec<u8>
+    requires { (1 ≤ workers) × (workers ≤ 64) }
+{
+    match (listen(rt), service(clock.alloc(), workers)) {
+        (Some((listener, address)), Some(service)) => {
+            let told = play_beside(rt, clock, service, listener, address, stage, acts);
+            same(rt, told.status, status);
             told.output
         }
-        None => {
+        (listener, service) => {
             drop(listener);
-            fail(rt, "no service");
+            drop(service);
+            fail(rt, "no server");
             Vec::new(clock.alloc())
         }
     }

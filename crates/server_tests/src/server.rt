@@ -2,20 +2,17 @@
 
 ghost use Rattle.std.specs.Prelude.{◌≡◌, ◌≤◌};
 
-use crate::gates::{Hold, Watch};
+use crate::gates::Hold;
 use crate::plays::Step::*;
-use crate::plays::{Act, BOTH_LOG_IN, play};
-use crate::running::{ANNA, BERT, Input, PING, PONG, TEXT, THIRD, Told, listen, run, service};
-use crate::verdict::{fail, same};
-use lobby_workers::Service;
-use mio::net::TcpListener;
+use crate::plays::{Act, BOTH_LOG_IN, Ending, play, play_to};
+use crate::running::{ANNA, BERT, PING, PONG, TEXT, THIRD};
+use crate::verdict::same;
 use std::alloc::Global;
 use std::io::Write;
-use std::net::Net;
+use std::net::{self, Net};
 use std::process::Abort;
 use std::str;
 use std::sync::Wait;
-use std::sync::atomic::AtomicBool;
 use std::thread::Threads;
 
 /// What a server prints whose so many workers had no client.
@@ -29,54 +26,21 @@ fn idle_output(alloc: Global, workers: u32) -> Option<Vec<u8>> {
     Some(output)
 }
 
-/// Runs a server on an input that ends at once, or with no patience fails at once, and compares its status and what it prints.
-fn end_at_once<R: Threads + Wait + Net + Abort + Sync>(
-    rt: &R,
-    clock: HostRuntime,
-    service: Service,
-    listener: TcpListener,
-    looks: u32,
-    status: u8,
-)
-    requires { (1 ≤ service.workers) × (service.workers ≤ 64) }
-{
-    let workers = service.workers;
-    let flag = AtomicBool::new(true);
-    let input = Input {
-        clock,
-        flag: &flag,
-        looks,
-    };
-    let gate = Watch::new(clock, Hold::Open);
-    let Told {
-        status: told,
-        output,
-    } = run(rt, service, listener, input, &gate);
-    drop(gate);
-    same(rt, told, status);
-    same(rt, Some(output), idle_output(clock.alloc(), workers));
-}
+const AT_ONCE: [Act; 1] = [Act {
+    times: 1,
+    steps: &[InputEnds, IsKept, GoesOn, ServerEnds],
+}];
 
-/// As `end_at_once`, with so many workers.
-fn start_and_end<R: Threads + Wait + Net + Abort + Sync>(
-    rt: &R,
-    clock: HostRuntime,
-    workers: u32,
-    looks: u32,
-    status: u8,
-)
+/// The input of a server ends before the server starts, or with no patience fails at once. The server ends with this status, and
+/// what it prints is compared.
+fn start_and_end<
+    R: Threads + Wait + Net<Listener = net::TcpListener, Stream = net::TcpStream> + Abort + Sync,
+>(rt: &R, clock: HostRuntime, workers: u32, looks: u32, status: u8)
     requires { (1 ≤ workers) × (workers ≤ 64) }
 {
-    match (listen(rt), service(clock.alloc(), workers)) {
-        (Some((listener, _)), Some(service)) => {
-            end_at_once(rt, clock, service, listener, looks, status);
-        }
-        (listener, service) => {
-            drop(listener);
-            drop(service);
-            fail(rt, "no server");
-        }
-    }
+    let ending = Ending { looks, status };
+    let output = play_to(rt, clock, workers, Hold::Start, &AT_ONCE, ending);
+    same(rt, Some(output), idle_output(clock.alloc(), workers));
 }
 
 #[test]
@@ -220,49 +184,61 @@ const LATE: [Act; 30] = [
     ANNA_HEARS_ON,
 ];
 
-/// Longer lines than a turn reads, more answers than it writes, and more than most systems keep for a client that does not read: Anna
-/// reads once Bert was told all.
+/// Many more lines than a turn reads, and more answers than most systems keep for a client that does not read, so that her link takes no
+/// more for a while: Anna reads once Bert was told all.
 #[test]
 fn a_client_that_reads_late_gets_all(rt: HostRuntime) {
     drop(play(&rt, rt, 1, Hold::Open, &LATE));
 }
 
-const MUCH: [Act; 5] = [
+const MUCH: [Act; 2] = [
     BOTH_LOG_IN,
     Act {
         times: 1,
-        steps: &[Enters(THIRD), Sends(THIRD, PING), IsKept],
-    },
-    Act {
-        times: 12,
         steps: &[
-            Sends(ANNA, b"SAYPRIVATE Anna "),
-            SendsOften(ANNA, TEXT, 250),
-            Sends(ANNA, b"\n"),
+            Enters(THIRD),
+            Sends(THIRD, PING),
+            IsKept,
+            SendsOften(ANNA, PING, 200),
+            Sends(BERT, b"SAYPRIVATE Anna on\n"),
+            GoesOn,
+            ReadsAny(ANNA, MUCH_IN_ALL),
         ],
-    },
-    Act {
-        times: 12,
-        steps: &[
-            Sends(BERT, b"SAYPRIVATE Anna "),
-            SendsOften(BERT, TEXT, 250),
-            Sends(BERT, b"\n"),
-        ],
-    },
-    Act {
-        times: 1,
-        steps: &[GoesOn, ReadsAny(ANNA, MUCH_IN_ALL)],
     },
 ];
 
-/// What Anna is told: of each of her lines `SAYPRIVATE` and `SAIDPRIVATE` with 4,000 bytes of text, of each of Bert's `SAIDPRIVATE`.
-const MUCH_IN_ALL: usize = 12 * (4_017 + 4_018 + 4_018);
+/// What Anna is told: 200 times `PONG`, and somewhere among these `SAIDPRIVATE Bert on`.
+const MUCH_IN_ALL: usize = 200 * 5 + 20;
 
-/// Anna and Bert each say her 48 kB while their worker stands still. What she is then told takes three turns: the first for what was
-/// sent, the second since she is named as changed, and the third for nothing but that the second stopped at its limit.
+/// Anna sends 200 lines while their worker stands still, of which a turn hears 64, and Bert says something to her. So her first turn
+/// stops at its limit, and she gets the second both since that left her over and since Bert's turn had her named as changed. It stops
+/// at its limit too, and she gets the third for nothing but that: her lines are so short that all have come before the first, so the
+/// poll tells no more of her.
 #[test]
 fn who_is_named_and_left_over_gets_both_turns(rt: HostRuntime) {
     drop(play(&rt, rt, 1, Hold::Write, &MUCH));
+}
+
+const NAMED: [Act; 2] = [
+    BOTH_LOG_IN,
+    Act {
+        times: 1,
+        steps: &[
+            Sends(BERT, b"PING\nEXIT\n"),
+            IsKept,
+            SendsOften(ANNA, PING, 200),
+            GoesOn,
+            Reads(ANNA, b"REMOVEUSER Bert\n"),
+            ReadsOften(ANNA, PONG, 200),
+        ],
+    },
+];
+
+/// Bert is logged out in the turn in which he got his last answer, while more lines of Anna's lie there than a turn hears. So the turn
+/// that she gets as one who is named stops at its limit, and no byte comes any more to have the poll tell of her.
+#[test]
+fn who_is_named_and_stops_at_a_limit_gets_the_next_turn(rt: HostRuntime) {
+    drop(play(&rt, rt, 1, Hold::Write, &NAMED));
 }
 
 const NO_MORE: [Act; 1] = [Act {

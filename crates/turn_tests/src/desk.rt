@@ -13,6 +13,7 @@ use std::process::Abort;
 use std::sync::Wait;
 use std::sync::atomic::{AtomicBool, Ordering};
 use std::thread::{self, Threads};
+use std::time::{Clock, Duration};
 
 // What Bert, who logs in after Anna, reads.
 const READ_BY_BERT: &[u8] = b"TASSERVER 0.38 * 8201 0
@@ -66,32 +67,38 @@ struct Seen {
     bytes: [u8; 256],
 }
 
-// Waits for the flag.
-fn see<R: Wait>(rt: &R, flag: &AtomicBool) {
-    for _ in rt.forever() {
+// So often a thread looks for the flag, with a sleep of a millisecond after each look.
+const LOOKS: u32 = 10_000;
+
+// Whether the flag is set, within so many looks.
+fn see<C: Clock>(clock: &C, flag: &AtomicBool) -> bool {
+    for _ in 0..LOOKS {
         if flag.load(Ordering::SeqCst) {
-            return;
+            return true;
         }
-        thread::yield_now();
+        thread::sleep(clock, Duration::from_millis(1));
     }
+    false
 }
 
-// Sees the flag, and then opens a client, logs it in by this line, and reads, in one hold.
+// Sees the flag, and then opens a client, logs it in by this line, and reads, in one hold. None where the flag is not seen.
 fn log_in_and_read<R: Wait>(
     rt: &R,
     desk: &Desk,
     pass: Pass,
-    alloc: Global,
+    clock: HostRuntime,
     line: &[u8],
     flag: &AtomicBool,
 ) -> (Pass, Option<Seen>)
     requires { pass.desk ≡ desk.now }
     ensures { result.0.desk ≡ desk.now }
 {
-    let Ok(login) = read(alloc, line) else {
+    if !see(&clock, flag) {
+        return (pass, None);
+    }
+    let Ok(login) = read(clock.alloc(), line) else {
         return (pass, None);
     };
-    see(rt, flag);
     let mut held = desk.take(rt, pass);
     let client = held.open([10, 0, 0, 2], 1).unwrap_or(0);
     let wakes = held.say(client, login).ok();
@@ -110,7 +117,7 @@ fn log_in_and_read<R: Wait>(
 
 fn compare(rt: &impl Abort, seen: Option<Seen>) {
     let Some(seen) = seen else {
-        assert!(rt; false, "a line was read");
+        assert!(rt; false, "a line was read, and the flag was seen");
         return;
     };
     same(rt, seen.client, 2);
@@ -134,7 +141,7 @@ fn end<R: Wait + Abort>(rt: &R, desk: &Desk, pass: Pass, other: Pass)
 // Logs Anna in in a thread, and then Bert in this one, who reads.
 fn give_and_read<R: Threads + Wait + Abort + Sync>(
     rt: &R,
-    alloc: Global,
+    clock: HostRuntime,
     desk: &Desk,
     pass: Pass,
     other: Pass,
@@ -144,6 +151,7 @@ fn give_and_read<R: Threads + Wait + Abort + Sync>(
 {
     let flag = AtomicBool::new(false);
     let given = &flag;
+    let alloc = clock.alloc();
     let (pass, answer) = thread::join(
         rt,
         move || -> Pass
@@ -153,7 +161,7 @@ fn give_and_read<R: Threads + Wait + Abort + Sync>(
         move || -> (Pass, Option<Seen>)
             requires { other.desk ≡ desk.now }
             ensures { result.0.desk ≡ desk.entry.now }
-        { log_in_and_read(rt, desk, other, alloc, BERT, given) },
+        { log_in_and_read(rt, desk, other, clock, BERT, given) },
     );
     let (other, seen) = answer;
     compare(rt, seen);
@@ -164,7 +172,7 @@ fn give_and_read<R: Threads + Wait + Abort + Sync>(
 fn what_one_worker_gave_another_reads(rt: HostRuntime) {
     match open_for_two(&rt, rt.alloc()) {
         Some((desk, pass, other)) => {
-            give_and_read(&rt, rt.alloc(), &desk, pass, other);
+            give_and_read(&rt, rt, &desk, pass, other);
             drop(desk);
         }
         None => assert!(rt; false, "no desk"),
