@@ -4,6 +4,3 @@ pub mod Events
 pub mod Leaves
 pub mod Members
 pub mod Talked
-pub mod InBattles
-pub mod Founders
-pub mod Joins

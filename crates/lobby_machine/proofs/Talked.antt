@@ -12,15 +12,9 @@ use Rattle.lobby_post.proofs.Telling.{told_then, told_as_one, told_own_lines, wi
 use Rattle.lobby_maps.specs.declared.change.Change.{Change}
 use Rattle.lobby_maps.specs.declared.change.Change.TheVariants.{Nothing, Join}
 use Rattle.lobby_maps.specs.Changes.{CanBe, changed}
-use Rattle.lobby_machine.specs.Answers.{Obeyed}
+use Rattle.lobby_guards.specs.Answers.{Obeyed}
+use Rattle.lobby_guards.proofs.Obeying.{passes}
 use Rattle.lobby_machine.specs.Talk.{channel_lines}
-
--- one who passes a check: what then happens was told, and is the change
-pub passes : (s : State) (c : ℕ) (old new : Posted) (failing : Bool) (r : Reply) (h : Happening) (change : Change) → failing ≡ false
-    → Told s old new (h.told ++ []) → h.after s ≡ changed s c change → CanBe s.clients s.users s.channels s.battles c change
-    → Obeyed s c old new change (refuse_if failing r (done h))
-passes s c old new failing r h change fine told effect can_be =
-    subst (λ b. Obeyed s c old new change (refuse_if b r (done h))) (sym fine) (record { told = told; effect = effect; can_be = can_be })
 
 pub joins_so : (s : State) (c : ℕ) (old a b new : Posted) (me channel : List ℕ) (names : List (List ℕ)) (name_copy channel_copy : List ℕ)
     → names ≡ names_in s.channels channel → is_among me (names_in s.channels channel) ≡ false

@@ -1,7 +1,4 @@
 pub mod Shown
 pub mod Dirty
-pub mod Subjects
-pub mod Opening
+pub mod Parts
 pub mod Talk
-pub mod Answers
-pub mod BattleTalk

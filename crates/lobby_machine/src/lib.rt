@@ -7,7 +7,6 @@
 #![tactic(auto)]
 
 mod lobby;
-mod refusal;
 mod rules;
 
 pub use lobby::{Lobby, OpenError};

@@ -1,36 +1,30 @@
-//! What each command comes to: it is refused, or it is told and changes something.
+//! What each command comes to: it is refused, or it is told and changes something. The commands are those
+//! of docs/PROTOCOL.md, "The commands", and the order of checks that of "The texts".
 
-ghost use Rattle.std.specs.Prelude.{◌≡◌, [], ◌∷◌, OnOk, IfOk, IsTrue, Some, true, option_copied};
+ghost use Rattle.std.specs.Prelude.{◌≡◌, [], ◌∷◌, OnOk, IfOk, IsTrue, Some, true, false, option_copied};
 ghost use Rattle.command_grammar.specs.Kinds.{keeps_kinds};
 ghost use Rattle.lobby_model.specs.State.{State, hears, name_of};
 ghost use Rattle.lobby_model.specs.Outcome.{tell, issuer};
 ghost use Rattle.lobby_model.specs.Commands.{answer};
 ghost use Rattle.lobby_post.specs.Posted.{begun, Told};
-ghost use Rattle.lobby_machine.specs.Answers.{Answers, Obeyed, refusal_reply};
-ghost use Rattle.lobby_machine.specs.declared.rules.subjects.Subject.TheVariants.{Session, Channels, Battles, Rooms, Members};
-ghost use Rattle.lobby_machine.specs.Subjects.{subject_of};
+ghost use Rattle.lobby_guards.specs.Answers.{Answers, Obeyed, refusal_reply};
+ghost use Rattle.lobby_machine.specs.Parts.{is_in_battles, is_in_room, is_on_session, is_talk};
 
-mod battle_guards;
-mod battles;
 mod channels;
-mod guards;
-mod joining;
-mod rooms;
 mod session;
-mod subjects;
 
-use crate::refusal::{Refusal, Stop};
 use battle_room::Rect;
+use battle_rules::rooms::Force;
+use battle_rules::{battles, joining, rooms};
 use command_grammar::Command;
-use guards::logged_in;
 use line_words::NameBuf;
+use lobby_guards::guards::logged_in;
+use lobby_guards::{Refusal, Stop};
 use lobby_maps::{Change, Maps};
 use lobby_post::Post;
 use reply_grammar::LentReply;
-use rooms::Force;
 pub use session::close;
 use std::alloc::AllocError;
-use subjects::{Subject, subject_of};
 
 /// What a command of a client that hears comes to, told under the id of its request; a refusal is
 /// told too. `me` is the name under which the client is logged in, if it is.
@@ -58,7 +52,8 @@ pub fn decide(
     }
 }
 
-/// What a command comes to: by its subject, in the table of that.
+/// What a command comes to. Each stands in one of the five tables from here on: a line without a command,
+/// and what one does who need not be logged in, in this; a table hands on what does not stand in it.
 fn answer(
     maps: &Maps,
     client: u64,
@@ -70,28 +65,6 @@ fn answer(
     requires me { option_copied me ≡ name_of maps.now.plain client }
     requires kinds { IsTrue (keeps_kinds command.now) }
     requires issuer { post.old.issuer ≡ client }
-    ensures { Answers maps.now.plain client post.old post.new (answer maps.now.plain client (name_of maps.now.plain client) command.now) result }
-{
-    match subject_of(command) {
-        Subject::Session => answer_in_session(maps, client, me, command, post),
-        Subject::Channels => answer_in_channel(maps, client, logged_in(me)?, command, post),
-        Subject::Battles => answer_in_battle(maps, client, logged_in(me)?, command, post),
-        Subject::Rooms => answer_in_room(maps, client, logged_in(me)?, command, post),
-        Subject::Members => answer_on_member(maps, client, logged_in(me)?, command, post),
-    }
-}
-
-/// What a line without a command comes to, a command on the session, or one of the user on itself.
-fn answer_in_session(
-    maps: &Maps,
-    client: u64,
-    me: Option<&NameBuf>,
-    command: &Command,
-    post: &mut Post,
-) -> Result<Change, Stop>
-    requires hears { hears maps.now.plain client ≡ true }
-    requires me { option_copied me ≡ name_of maps.now.plain client }
-    requires subject { subject_of command.now ≡ Session }
     ensures { Answers maps.now.plain client post.old post.new (answer maps.now.plain client (name_of maps.now.plain client) command.now) result }
 {
     match command {
@@ -115,29 +88,26 @@ fn answer_in_session(
             *authorises,
             post,
         ),
-        Command::MyStatus { status } => session::my_status(
-            maps,
-            client,
-            logged_in(me)?,
-            *status,
-            post,
-        ),
-        _ => unreachable!(),
+        _ => answer_user(maps, client, logged_in(me)?, command, post),
     }
 }
 
-/// What a command on channels comes to, or one of private talk, of one who is logged in.
-fn answer_in_channel(
+/// What a command of one who is logged in comes to: its status, and all talk.
+fn answer_user(
     maps: &Maps,
     client: u64,
     me: &NameBuf,
     command: &Command,
     post: &mut Post,
 ) -> Result<Change, Stop>
-    requires subject { subject_of command.now ≡ Channels }
+    requires me { name_of maps.now.plain client ≡ Some me.now }
+    requires kinds { IsTrue (keeps_kinds command.now) }
+    requires issuer { post.old.issuer ≡ client }
+    requires session { is_on_session command.now ≡ false }
     ensures { Answers maps.now.plain client post.old post.new (answer maps.now.plain client (Some me.now) command.now) result }
 {
     match command {
+        Command::MyStatus { status } => session::my_status(maps, client, me, *status, post),
         Command::Join { channel, .. } => channels::join(maps, client, me, channel, post),
         Command::Leave { channel } => channels::leave(maps, client, me, channel, post),
         Command::Say { channel, text } => {
@@ -160,12 +130,20 @@ fn answer_in_channel(
             maps, client, me, user, text, post,
         ),
         Command::Channels => channels::list_channels(maps, client, post),
-        _ => unreachable!(),
+        Command::SayBattle { text } => {
+            let line = LentReply::SaidBattle { user: me, text };
+            battles::say_in_battle(maps, client, me, line, post)
+        }
+        Command::SayBattleEx { text } => {
+            let line = LentReply::SaidBattleEx { user: me, text };
+            battles::say_in_battle(maps, client, me, line, post)
+        }
+        _ => answer_in_battles(maps, client, me, command, post),
     }
 }
 
-/// What a command on battles comes to, of one who is logged in.
-fn answer_in_battle(
+/// What a command on the battles as all see them comes to.
+fn answer_in_battles(
     maps: &Maps,
     client: u64,
     me: &NameBuf,
@@ -173,8 +151,10 @@ fn answer_in_battle(
     post: &mut Post,
 ) -> Result<Change, Stop>
     requires me { name_of maps.now.plain client ≡ Some me.now }
+    requires kinds { IsTrue (keeps_kinds command.now) }
     requires issuer { post.old.issuer ≡ client }
-    requires subject { subject_of command.now ≡ Battles }
+    requires session { is_on_session command.now ≡ false }
+    requires talk { is_talk command.now ≡ false }
     ensures { Answers maps.now.plain client post.old post.new (answer maps.now.plain client (Some me.now) command.now) result }
 {
     match command {
@@ -212,19 +192,11 @@ fn answer_in_battle(
             battle_status,
             team_color,
         } => battles::my_battle_status(maps, client, me, *battle_status, *team_color, post),
-        Command::SayBattle { text } => {
-            let line = LentReply::SaidBattle { user: me, text };
-            battles::say_in_battle(maps, client, me, line, post)
-        }
-        Command::SayBattleEx { text } => {
-            let line = LentReply::SaidBattleEx { user: me, text };
-            battles::say_in_battle(maps, client, me, line, post)
-        }
-        _ => unreachable!(),
+        _ => answer_in_room(maps, client, me, command, post),
     }
 }
 
-/// What a command on what the members of a battle share comes to, of one who is logged in.
+/// What a command on what the members of a battle share comes to.
 fn answer_in_room(
     maps: &Maps,
     client: u64,
@@ -232,8 +204,12 @@ fn answer_in_room(
     command: &Command,
     post: &mut Post,
 ) -> Result<Change, Stop>
+    requires me { name_of maps.now.plain client ≡ Some me.now }
     requires kinds { IsTrue (keeps_kinds command.now) }
-    requires subject { subject_of command.now ≡ Rooms }
+    requires issuer { post.old.issuer ≡ client }
+    requires session { is_on_session command.now ≡ false }
+    requires talk { is_talk command.now ≡ false }
+    requires battles { is_in_battles command.now ≡ false }
     ensures { Answers maps.now.plain client post.old post.new (answer maps.now.plain client (Some me.now) command.now) result }
 {
     match command {
@@ -274,11 +250,11 @@ fn answer_in_room(
         Command::DisableUnits { units } => rooms::disable_units(maps, client, me, units, post),
         Command::EnableUnits { units } => rooms::enable_units(maps, client, me, units, post),
         Command::EnableAllUnits => rooms::enable_all_units(maps, client, me, post),
-        _ => unreachable!(),
+        _ => answer_on_member(maps, client, me, command, post),
     }
 }
 
-/// What a command on a member of a battle comes to, or on one who asks to be, of one who is logged in.
+/// What a command on a member of a battle comes to, or on one who asks to be.
 fn answer_on_member(
     maps: &Maps,
     client: u64,
@@ -287,9 +263,12 @@ fn answer_on_member(
     post: &mut Post,
 ) -> Result<Change, Stop>
     requires me { name_of maps.now.plain client ≡ Some me.now }
-    requires issuer { post.old.issuer ≡ client }
     requires kinds { IsTrue (keeps_kinds command.now) }
-    requires subject { subject_of command.now ≡ Members }
+    requires issuer { post.old.issuer ≡ client }
+    requires session { is_on_session command.now ≡ false }
+    requires talk { is_talk command.now ≡ false }
+    requires battles { is_in_battles command.now ≡ false }
+    requires room { is_in_room command.now ≡ false }
     ensures { Answers maps.now.plain client post.old post.new (answer maps.now.plain client (Some me.now) command.now) result }
 {
     match command {

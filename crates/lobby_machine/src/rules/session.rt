@@ -1,4 +1,5 @@
-//! Coming and going, and the status of users.
+//! Coming and going, and the status of users: docs/PROTOCOL.md, "What the server does", from "Connect" to
+//! "MYSTATUS", and "EXIT" and "Disconnect".
 
 ghost use Rattle.std.specs.Prelude.{◌≡◌, ℕ, List, [], ◌∷◌, OnOk, IfOk, true, false, Some, None, option_copied};
 ghost use Rattle.line_words.specs.Table.{at_number};
@@ -10,18 +11,18 @@ ghost use Rattle.lobby_model.specs.Outcome.{done, only_told, tell, issuer};
 ghost use Rattle.lobby_model.specs.Sessions.{departs, set_user_status, user_of};
 ghost use Rattle.lobby_model.specs.Commands.{answer};
 ghost use Rattle.lobby_post.specs.Posted.{Told, begun};
-ghost use Rattle.lobby_machine.specs.Answers.{Answers, Obeyed};
+ghost use Rattle.lobby_guards.specs.Answers.{Answers, Obeyed};
 ghost use Rattle.lobby_maps.specs.Battles.{IsOnly};
 ghost use Rattle.lobby_maps.specs.Changes.{first_of, parts};
-ghost use Rattle.lobby_machine.specs.BattleTalk.{left_battle_letters};
+ghost use Rattle.battle_rules.specs.BattleTalk.{left_battle_letters};
 ghost use Rattle.lobby_maps.specs.Seats.{user_in};
 
-use super::battles::{Leaving, tell_leaving};
 use super::channels::tell_left;
-use super::guards::{account_for, free_name, not_logged_in};
-use crate::refusal::Stop;
 use account_book::Account;
+use battle_rules::battles::{Leaving, tell_leaving};
 use line_words::{NameBuf, WordBuf};
+use lobby_guards::Stop;
+use lobby_guards::guards::{account_for, free_name, not_logged_in};
 use lobby_maps::{Change, Maps, Seat};
 use lobby_post::{ClientKey, Post};
 use reply_grammar::LentReply;

@@ -6,7 +6,7 @@ use Rattle.command_grammar.specs.Kinds.{is_up_to, keeps_kinds}
 use Rattle.lobby_model.specs.Commands.{answer}
 use Rattle.lobby_model.specs.Outcome.{Outcome}
 use Rattle.lobby_model.specs.Rooms.{update_bot}
-use Rattle.lobby_machine.specs.Answers.{Answers}
+use Rattle.lobby_guards.specs.Answers.{Answers}
 use Rattle.lobby_machine.proofs.rules.answer_in_room.Goals as goal
 
 pub returns-in-UpdateBot : goal.returns-in-UpdateBot

@@ -6,7 +6,7 @@ use Rattle.command_grammar.specs.Kinds.{is_up_to, keeps_kinds}
 use Rattle.lobby_model.specs.Commands.{answer}
 use Rattle.lobby_model.specs.Outcome.{Outcome}
 use Rattle.lobby_model.specs.Rooms.{force_colour}
-use Rattle.lobby_machine.specs.Answers.{Answers}
+use Rattle.lobby_guards.specs.Answers.{Answers}
 use Rattle.lobby_model.specs.Battles.{deny}
 use Rattle.lobby_machine.proofs.rules.answer_on_member.Goals as goal
 

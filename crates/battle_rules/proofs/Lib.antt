@@ -1,0 +1,3 @@
+pub mod InBattles
+pub mod Founders
+pub mod Joins

@@ -1,0 +1,15 @@
+use Rattle.std.proofs.Common.{subst, [], ◌∷◌}
+use Rattle.reply_grammar.specs.Lent.{reply_of}
+use Rattle.battle_room.specs.Room.{member_names}
+use Rattle.lobby_model.specs.State.{Battle}
+use Rattle.lobby_model.specs.Outcome.{tell, users}
+use Rattle.lobby_post.specs.Posted.{Told}
+use Rattle.battle_rules.proofs.InBattles.{said_so}
+use Rattle.battle_rules.proofs.battles.say_in_battle.Goals as goal
+
+pub returns : goal.returns
+returns c =
+    said_so c.args.maps.now.plain c.args.client c.args.post.now c.tell_room.new.post c.args.me.now _ c.in_ok-battle.battle.now (reply_of c.args.line)
+    c.in_ok-battle.ensures.ok
+    (subst (λ (b : Battle). Told c.args.maps.now.plain c.args.post.now c.tell_room.new.post (tell (users (member_names b.room)) (reply_of c.args.line ∷ [])
+    ∷ [])) c.battle.view_is c.in_ok-tell_room.ensures)

@@ -1,0 +1,100 @@
+-- What is told of battles, where one function tells what several commands owe.
+use Rattle.std.specs.Prelude.{ℕ, ℤ, ◌<◌, ◌≤◌, Bool, true, false, List, [], ◌∷◌, map, flat_map, Option}
+use Rattle.reply_grammar.specs.declared.Reply.{Reply}
+use Rattle.reply_grammar.specs.declared.Reply.TheVariants as reply
+use Rattle.status_bits.specs.Fields.{with_number}
+use Rattle.status_bits.specs.BattleWord.{battle_table, team, ally, player, handicap}
+use Rattle.battle_room.specs.Room.{Room, bots_of, member_names}
+use Rattle.lobby_model.specs.State.{State, Battle}
+use Rattle.lobby_model.specs.Outcome.{Happening, Letter, Outcome, tell, users}
+use Rattle.lobby_model.specs.Sessions.{to_others, unseen}
+use Rattle.lobby_model.specs.Battles.{leaves_own}
+use Rattle.lobby_model.specs.Rooms.{force_number, force_colour, removed_line, disabled_line, enabled_line}
+use Rattle.lobby_post.specs.Posted.{Posted, with_others, with_own}
+use Rattle.battle_rules.specs.declared.battles.Leaving.{Leaving}
+use Rattle.battle_rules.specs.declared.battles.Leaving.TheVariants.{Seen, Unseen}
+use Rattle.battle_rules.specs.declared.joining.Recipient.{Recipient}
+use Rattle.battle_rules.specs.declared.joining.Recipient.TheVariants.{Issuer, Other}
+use Rattle.battle_rules.specs.declared.rooms.Wording.{Wording}
+use Rattle.battle_rules.specs.declared.rooms.Wording.TheVariants.{TagsGone, UnitsDisabled, UnitsEnabled}
+use Rattle.battle_rules.specs.declared.rooms.Force.{Force}
+use Rattle.battle_rules.specs.declared.rooms.Force.TheVariants as force
+use Rattle.lobby_maps.specs.declared.battles.BattleChange.TheVariants.{InRoom, StopAsking}
+use Rattle.lobby_maps.specs.declared.battles.RoomChange.TheVariants as room
+use Rattle.lobby_maps.specs.declared.change.Change.{Change}
+use Rattle.lobby_maps.specs.declared.change.Change.TheVariants.{InBattles}
+
+-- what happens as one leaves, as its lines are sent
+abbrev pub shown : Leaving → Happening → Happening
+shown Seen h = h
+shown Unseen h = unseen h
+
+abbrev pub shown_to : Leaving → Letter → Letter
+shown_to Seen l = l
+shown_to Unseen l = to_others l
+
+-- that the bots of one who leaves go, bot by bot
+abbrev pub bots_gone : Leaving → ℕ → List ℕ → Room → List Letter
+bots_gone leaving number owner room = map (λ b. shown_to leaving (tell (users (member_names room)) (reply.RemoveBot number b.name ∷ []))) (bots_of owner room)
+
+-- that one who logs out leaves the battle that it is in
+abbrev pub left_battle_letters : List ℕ → Option (ℕ × Battle) → List Letter
+left_battle_letters me own = flat_map (λ h. (unseen h).told) (leaves_own me own)
+
+-- the change by which one stops asking to join a battle
+abbrev pub stops_asking : ℕ → List ℕ → Change
+stops_asking number name = InBattles (StopAsking number name)
+
+-- the change that gives a member a status and a colour
+abbrev pub status_change : ℕ → List ℕ → ℕ → ℤ → Change
+status_change number name status colour = InBattles (InRoom number (room.Status name status colour))
+
+-- lines for one reader, behind those that were written for it
+abbrev pub written : Recipient → Posted → List Reply → Posted
+written Issuer = with_own
+written Other = with_others
+
+-- the recipient of lines for the user of a name
+abbrev pub is_issuer : Recipient → Bool
+is_issuer Issuer = true
+is_issuer Other = false
+
+-- what the members are told of words, and what they are told where there may be none
+abbrev pub words_line : Wording → List (List ℕ) → Reply
+words_line TagsGone words = reply.RemoveScriptTags words
+words_line UnitsDisabled words = reply.DisableUnits words
+words_line UnitsEnabled words = reply.EnableUnits words
+
+abbrev pub words_told : Wording → List (List ℕ) → List Reply
+words_told TagsGone = removed_line
+words_told UnitsDisabled = disabled_line
+words_told UnitsEnabled = enabled_line
+
+-- what a founder forces on a member, in the ranges of its argument
+abbrev pub FitsForce : Force → Type 0
+FitsForce (force.Handicap percent) = percent ≤ 100
+FitsForce (force.Team number) = number < 16
+FitsForce (force.Ally number) = number < 16
+FitsForce (force.Colour colour) = Unit {0}
+FitsForce force.Spectator = Unit {0}
+
+abbrev pub forced : State → List ℕ → List ℕ → Force → Outcome
+forced s me name (force.Handicap percent) = force_number s me name handicap percent
+forced s me name (force.Team number) = force_number s me name team number
+forced s me name (force.Ally number) = force_number s me name ally number
+forced s me name (force.Colour colour) = force_colour s me name colour
+forced s me name force.Spectator = force_number s me name player 0
+
+abbrev pub forced_status : Force → ℕ → ℕ
+forced_status (force.Handicap percent) status = with_number battle_table handicap percent status
+forced_status (force.Team number) status = with_number battle_table team number status
+forced_status (force.Ally number) status = with_number battle_table ally number status
+forced_status (force.Colour colour) status = status
+forced_status force.Spectator status = with_number battle_table player 0 status
+
+abbrev pub forced_colour : Force → ℤ → ℤ
+forced_colour (force.Handicap percent) colour = colour
+forced_colour (force.Team number) colour = colour
+forced_colour (force.Ally number) colour = colour
+forced_colour (force.Colour asked) colour = asked
+forced_colour force.Spectator colour = colour

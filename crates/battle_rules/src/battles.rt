@@ -1,0 +1,569 @@
+//! Battles: opening and leaving one, and what is said and shown in it: docs/PROTOCOL.md, "What the server
+//! does", under "Battles".
+
+ghost use Rattle.std.specs.Prelude.{◌≡◌, [], ◌∷◌, ◌++◌, decimal, OnOk, IfOk, true, Some, is_some};
+ghost use Rattle.reply_grammar.specs.declared.Reply.TheVariants as reply;
+ghost use Rattle.line_words.specs.Table.{at_number};
+ghost use Rattle.reply_grammar.specs.Lent.{reply_of};
+ghost use Rattle.battle_room.specs.Room.{asker_names, member_names, new_room};
+ghost use Rattle.lobby_model.specs.State.{name_of, updated};
+ghost use Rattle.lobby_model.specs.Outcome.{everyone, tell, user, users};
+ghost use Rattle.lobby_model.specs.Battles.{address, ip_text, leave_battle, leaves_battle, member_has, open_battle, opened_line, say_in_battle, set_own_status, update_battle};
+ghost use Rattle.lobby_model.specs.Texts.{battle_was_closed};
+ghost use Rattle.lobby_model.specs.Commands.{answer};
+ghost use Rattle.lobby_post.specs.Posted.{Told};
+ghost use Rattle.lobby_guards.specs.Answers.{Answers};
+ghost use Rattle.lobby_maps.specs.declared.change.Change.TheVariants.{InBattles};
+ghost use Rattle.lobby_maps.specs.declared.battles.BattleChange.TheVariants.{InRoom};
+ghost use Rattle.lobby_maps.specs.Battles.{IsNew};
+ghost use Rattle.battle_rules.specs.BattleTalk.{bots_gone, shown, shown_to, status_change, stops_asking};
+ghost use Rattle.battle_rules.specs.Opening.{game_hash_in, opens_one, password_in, started, HasTexts};
+
+use battle_room::Room;
+use command_grammar::Command;
+use line_words::{NameBuf, SentenceBuf, Text, WordBuf, write_number};
+use lobby_guards::Stop;
+use lobby_guards::battle_guards::{founded_by, may_open, next_number, opens_unasked, own_battle};
+use lobby_maps::{Battle, BattleChange, Change, Maps, NO_PASSWORD, RoomChange};
+use lobby_post::{ClientKey, Post};
+use reply_grammar::{LentReply, OpenedBattle};
+use status_bits::{BattleStatus, merge_battle};
+use std::alloc::{AllocError, Global};
+
+/// Who gets the lines of one who leaves.
+#[derive(Clone, Copy)]
+pub enum Leaving {
+    /// The one whose event it is too.
+    Seen,
+    /// Others alone: it logs out.
+    Unseen,
+}
+
+/// The texts that all are told of a battle.
+#[derive(Drop)]
+struct Texts {
+    ip: WordBuf,
+    engine: Engine,
+    labels: Labels,
+}
+
+/// The engine that a battle is played with.
+#[derive(Drop)]
+struct Engine {
+    name: SentenceBuf,
+    version: SentenceBuf,
+}
+
+/// What is played in a battle, and what its founder calls it.
+#[derive(Drop)]
+struct Labels {
+    map: SentenceBuf,
+    title: SentenceBuf,
+    game_name: SentenceBuf,
+}
+
+/// What a battle keeps from those outside.
+#[derive(Drop)]
+struct Inside {
+    password: WordBuf,
+    game_hash: i64,
+    room: Room<ClientKey>,
+}
+
+/// `OPENBATTLE`: the user is in no battle and asks to join none, and a number is left.
+pub fn open_battle(
+    maps: &Maps,
+    client: u64,
+    me: &NameBuf,
+    command: &Command,
+    post: &mut Post,
+) -> Result<Change, Stop>
+    requires me { name_of maps.now.plain client ≡ Some me.now }
+    requires issuer { post.old.issuer ≡ client }
+    requires opens { opens_one command.now ≡ true }
+    ensures { Answers maps.now.plain client post.old post.new (answer maps.now.plain client (Some me.now) command.now) result }
+{
+    may_open(maps, me)?;
+    opens_unasked(maps, me)?;
+    let number = next_number(maps)?;
+    let battle = new_battle(maps, client, me, command)?;
+    match tell_opening(maps, me, number, &battle, post) {
+        Ok(()) => Ok(Change::InBattles(BattleChange::Open {
+            number,
+            name: me.copy(),
+            battle,
+        })),
+        Err(refused) => {
+            drop(battle);
+            Err(Stop::from(refused))
+        }
+    }
+}
+
+/// Tells all that a user opens a battle, and the user what it has to know.
+fn tell_opening(
+    maps: &Maps,
+    me: &NameBuf,
+    number: u32,
+    battle: &Battle,
+    post: &mut Post,
+) -> Result<(), AllocError>
+    requires { name_of maps.now.plain post.old.issuer ≡ Some me.now }
+    ensures { OnOk result (Told maps.now.plain post.old post.new (tell everyone (opened_line number battle.now.info ∷ []) ∷ tell (user me.now) (reply.OpenBattle number ∷ reply.RequestBattleStatus ∷ []) ∷ [])) }
+{
+    let line = LentReply::BattleOpened {
+        battle: number,
+        opened: &battle.opened,
+    };
+    maps.tell_all(line, post)?;
+    tell_opener(maps, me, number, post)?;
+    Ok(())
+}
+
+/// The battle that a user opens by a command.
+fn new_battle(
+    maps: &Maps,
+    client: u64,
+    me: &NameBuf,
+    command: &Command,
+) -> Result<Box<Battle>, AllocError>
+    requires me { name_of maps.now.plain client ≡ Some me.now }
+    requires opens { opens_one command.now ≡ true }
+    ensures asked { IfOk result (λ battle. answer maps.now.plain client (Some me.now) command.now ≡ open_battle maps.now.plain me.now battle.value) }
+    ensures alone { IfOk result (λ battle. IsNew battle.value me.now) }
+{
+    let opened = opened_by(maps, client, me, command)?;
+    match inside_of(maps, me, command) {
+        Ok(inside) => boxed_battle(maps.alloc(), opened, inside),
+        Err(refused) => {
+            drop(opened);
+            Err(refused)
+        }
+    }
+}
+
+/// A battle as it opens, which nobody watches and all may join, in memory of its own.
+fn boxed_battle(
+    alloc: Global,
+    opened: OpenedBattle,
+    inside: Inside,
+) -> Result<Box<Battle>, AllocError>
+    ensures { IfOk result (λ battle. battle.value ≡ started opened inside.password inside.game_hash inside.room) }
+{
+    let battle = Battle {
+        opened,
+        spectators: 0,
+        locked: false,
+        password: inside.password,
+        game_hash: inside.game_hash,
+        room: inside.room,
+    };
+    match Box::new(alloc, battle) {
+        Ok(boxed) => Ok(boxed),
+        Err(failed) => {
+            drop(failed);
+            Err(AllocError)
+        }
+    }
+}
+
+/// What all are told of the battle that a user opens by a command.
+fn opened_by(
+    maps: &Maps,
+    client: u64,
+    me: &NameBuf,
+    command: &Command,
+) -> Result<OpenedBattle, AllocError>
+    requires there { is_some (at_number maps.now.plain.clients client) ≡ true }
+    requires opens { opens_one command.now ≡ true }
+    ensures { IfOk result (λ opened. answer maps.now.plain client (Some me.now) command.now ≡ open_battle maps.now.plain me.now (started opened (password_in command.now) (game_hash_in command.now) (new_room me.now))) }
+{
+    let Command::OpenBattle {
+        battle_type,
+        nat_type,
+        password,
+        port,
+        max_players,
+        rank,
+        map_hash,
+        ..
+    } = command
+    else {
+        unreachable!()
+    };
+    let texts = texts_of(maps, client, command)?;
+    Ok(OpenedBattle {
+        battle_type: *battle_type,
+        nat_type: *nat_type,
+        founder: me.copy(),
+        ip: texts.ip,
+        port: *port,
+        max_players: *max_players,
+        passworded: password.as_slice() != NO_PASSWORD,
+        rank: *rank,
+        map_hash: *map_hash,
+        engine_name: texts.engine.name,
+        engine_version: texts.engine.version,
+        map: texts.labels.map,
+        title: texts.labels.title,
+        game_name: texts.labels.game_name,
+    })
+}
+
+/// What the battle that a user opens by a command keeps from those outside.
+fn inside_of(maps: &Maps, me: &NameBuf, command: &Command) -> Result<Inside, AllocError>
+    requires { opens_one command.now ≡ true }
+    ensures password { IfOk result (λ inside. inside.password ≡ password_in command.now) }
+    ensures game_hash { IfOk result (λ inside. inside.game_hash ≡ game_hash_in command.now) }
+    ensures room { IfOk result (λ inside. inside.room ≡ new_room me.now) }
+{
+    let Command::OpenBattle {
+        password,
+        game_hash,
+        ..
+    } = command
+    else {
+        unreachable!()
+    };
+    let password = WordBuf::copy_of(maps.alloc(), password.as_slice())?;
+    let room = Room::with_mark(maps.alloc(), me.copy(), maps.user_key(me))?;
+    Ok(Inside {
+        password,
+        game_hash: *game_hash,
+        room,
+    })
+}
+
+/// The texts that all are told of a battle which this client opens by a command.
+fn texts_of(maps: &Maps, client: u64, command: &Command) -> Result<Texts, AllocError>
+    requires there { is_some (at_number maps.now.plain.clients client) ≡ true }
+    requires opens { opens_one command.now ≡ true }
+    ensures ip { IfOk result (λ texts. texts.ip ≡ address (at_number maps.now.plain.clients client)) }
+    ensures given { IfOk result (λ texts. HasTexts command.now texts) }
+{
+    let Command::OpenBattle {
+        engine_name,
+        engine_version,
+        map,
+        title,
+        game_name,
+        ..
+    } = command
+    else {
+        unreachable!()
+    };
+    let ip = address_of(maps, client)?;
+    let engine = copy_engine(maps.alloc(), engine_name, engine_version)?;
+    match copy_labels(maps.alloc(), map, title, game_name) {
+        Ok(labels) => Ok(Texts { ip, engine, labels }),
+        Err(refused) => {
+            drop(ip);
+            drop(engine);
+            Err(refused)
+        }
+    }
+}
+
+/// The address of a client that is there, as it is printed.
+pub fn address_of(maps: &Maps, client: u64) -> Result<WordBuf, AllocError>
+    requires { is_some (at_number maps.now.plain.clients client) ≡ true }
+    ensures { IfOk result (λ word. word ≡ address (at_number maps.now.plain.clients client)) }
+{
+    match maps.ip_of(client) {
+        Some(ip) => ip_word(maps.alloc(), ip),
+        None => unreachable!(),
+    }
+}
+
+/// Tells one who opens a battle its number, and asks for its status.
+fn tell_opener(maps: &Maps, me: &NameBuf, number: u32, post: &mut Post) -> Result<(), AllocError>
+    requires { name_of maps.now.plain post.old.issuer ≡ Some me.now }
+    ensures { OnOk result (Told maps.now.plain post.old post.new (tell (user me.now) (reply.OpenBattle number ∷ reply.RequestBattleStatus ∷ []) ∷ [])) }
+{
+    post.begin_own();
+    post.write_own(LentReply::OpenBattle { battle: number })?;
+    post.write_own(LentReply::RequestBattleStatus)?;
+    maps.address_user(me, post)?;
+    Ok(())
+}
+
+/// `LEAVEBATTLE`: the user is in a battle, or asks to join one, and asks no more.
+pub fn leave_battle(maps: &Maps, client: u64, me: &NameBuf, post: &mut Post) -> Result<Change, Stop>
+    ensures { Answers maps.now.plain client post.old post.new (leave_battle maps.now.plain me.now) result }
+{
+    if let Some(number) = maps.asked_by(me) {
+        return Ok(stop_asking(number, me));
+    }
+    let (number, battle) = own_battle(maps, me)?;
+    tell_leaving(maps, me, number, battle, Leaving::Seen, post)?;
+    Ok(Change::InBattles(BattleChange::Leave {
+        number,
+        name: me.copy(),
+    }))
+}
+
+/// Tells that a member leaves a battle: that the battle closes, where it is the founder, and else
+/// that its bots go and that it leaves.
+pub fn tell_leaving(
+    maps: &Maps,
+    name: &NameBuf,
+    number: u32,
+    battle: &Battle,
+    leaving: Leaving,
+    post: &mut Post,
+) -> Result<(), AllocError>
+    ensures { OnOk result (Told maps.now.plain post.old post.new (shown leaving (leaves_battle name.now number battle.now)).told) }
+{
+    if battle.is_founder(name) {
+        return tell_closing(maps, number, &battle.room, leaving, post);
+    }
+    tell_bots_gone(maps, name, number, &battle.room, leaving, post)?;
+    let line = LentReply::LeftBattle {
+        battle: number,
+        user: name,
+    };
+    tell_leaving_all(maps, line, leaving, post)
+}
+
+/// Tells that a battle closes: those who ask to join it first, and then all.
+fn tell_closing(
+    maps: &Maps,
+    number: u32,
+    room: &Room<ClientKey>,
+    leaving: Leaving,
+    post: &mut Post,
+) -> Result<(), AllocError>
+    ensures { OnOk result (Told maps.now.plain post.old post.new (shown_to leaving (tell (users (asker_names room.now)) (reply.JoinBattleFailed battle_was_closed ∷ [])) ∷ shown_to leaving (tell everyone (reply.BattleClosed number ∷ [])) ∷ [])) }
+{
+    let text = Text::lend(b"The battle was closed");
+    let line = LentReply::JoinBattleFailed { text: &text };
+    match leaving {
+        Leaving::Seen => maps.tell_askers(room, line, post)?,
+        Leaving::Unseen => maps.tell_other_askers(room, line, post)?,
+    }
+    let line = LentReply::BattleClosed { battle: number };
+    tell_leaving_all(maps, line, leaving, post)
+}
+
+/// Tells the members of a battle that the bots of one of them go.
+fn tell_bots_gone(
+    maps: &Maps,
+    owner: &NameBuf,
+    number: u32,
+    room: &Room<ClientKey>,
+    leaving: Leaving,
+    post: &mut Post,
+) -> Result<(), AllocError>
+    ensures { OnOk result (Told maps.now.plain post.old post.new (bots_gone leaving number owner.now room.now)) }
+{
+    for bot in room.bots() {
+        if owner.cmp(bot.owner()).is_eq() {
+            let line = LentReply::RemoveBot {
+                battle: number,
+                bot: bot.name(),
+            };
+            match leaving {
+                Leaving::Seen => maps.tell_room(room, line, post)?,
+                Leaving::Unseen => maps.tell_others_in_room(room, line, post)?,
+            }
+        }
+    }
+    Ok(())
+}
+
+/// Tells all users that one leaves, itself among them or not.
+fn tell_leaving_all(
+    maps: &Maps,
+    line: LentReply,
+    leaving: Leaving,
+    post: &mut Post,
+) -> Result<(), AllocError>
+    ensures { OnOk result (Told maps.now.plain post.old post.new (shown_to leaving (tell everyone (reply_of line.entry ∷ [])) ∷ [])) }
+{
+    match leaving {
+        Leaving::Seen => maps.tell_all(line, post),
+        Leaving::Unseen => maps.tell_others(line, post),
+    }
+}
+
+/// `UPDATEBATTLEINFO`: the user is in a battle, which it founded.
+pub fn update_battle(
+    maps: &Maps,
+    client: u64,
+    me: &NameBuf,
+    spectators: u16,
+    locked: bool,
+    map_hash: i64,
+    map: &SentenceBuf,
+    post: &mut Post,
+) -> Result<Change, Stop>
+    ensures { Answers maps.now.plain client post.old post.new (update_battle maps.now.plain me.now (updated spectators locked map_hash map.now)) result }
+{
+    let (number, battle) = own_battle(maps, me)?;
+    founded_by(battle, me)?;
+    let line = LentReply::UpdateBattleInfo {
+        battle: number,
+        spectator_count: spectators,
+        locked,
+        map_hash,
+        map,
+    };
+    maps.tell_all(line, post)?;
+    Ok(Change::InBattles(BattleChange::Update {
+        number,
+        spectators,
+        locked,
+        map_hash,
+        map: SentenceBuf::copy_of(maps.alloc(), map.as_slice())?,
+    }))
+}
+
+/// `MYBATTLESTATUS`: the user is in a battle. Its handicap stays.
+pub fn my_battle_status(
+    maps: &Maps,
+    client: u64,
+    me: &NameBuf,
+    asked: u32,
+    colour: i64,
+    post: &mut Post,
+) -> Result<Change, Stop>
+    ensures { Answers maps.now.plain client post.old post.new (set_own_status maps.now.plain me.now asked colour) result }
+{
+    let (number, battle) = own_battle(maps, me)?;
+    let status = match battle.room.member(me) {
+        Some(member) => merge_battle(member.status(), asked),
+        None => unreachable!(),
+    };
+    Ok(give_status(maps, number, battle, me, status, colour, post)?)
+}
+
+/// A member of a battle has this status and colour from now on.
+pub fn give_status(
+    maps: &Maps,
+    number: u32,
+    battle: &Battle,
+    name: &NameBuf,
+    status: BattleStatus,
+    colour: i64,
+    post: &mut Post,
+) -> Result<Change, AllocError>
+    ensures told { IfOk result (λ _. Told maps.now.plain post.old post.new (member_has name.now status colour number battle.now).told) }
+    ensures change { IfOk result (λ change. change ≡ status_change number name.now status colour) }
+{
+    let line = LentReply::ClientBattleStatus {
+        user: name,
+        battle_status: status.word(),
+        team_color: colour,
+    };
+    maps.tell_room(&battle.room, line, post)?;
+    Ok(in_room(
+        number,
+        RoomChange::Status {
+            name: name.copy(),
+            status,
+            colour,
+        },
+    ))
+}
+
+/// `SAYBATTLE` and `SAYBATTLEEX`: the user is in a battle.
+pub fn say_in_battle(
+    maps: &Maps,
+    client: u64,
+    me: &NameBuf,
+    line: LentReply,
+    post: &mut Post,
+) -> Result<Change, Stop>
+    ensures { Answers maps.now.plain client post.old post.new (say_in_battle maps.now.plain me.now (reply_of line.entry)) result }
+{
+    let (_, battle) = own_battle(maps, me)?;
+    maps.tell_room(&battle.room, line, post)?;
+    Ok(Change::Nothing)
+}
+
+/// Copies the engine of a battle.
+fn copy_engine(
+    alloc: Global,
+    name: &SentenceBuf,
+    version: &SentenceBuf,
+) -> Result<Engine, AllocError>
+    ensures name { IfOk result (λ engine. engine.name ≡ name.now) }
+    ensures version { IfOk result (λ engine. engine.version ≡ version.now) }
+{
+    Ok(Engine {
+        name: SentenceBuf::copy_of(alloc, name.as_slice())?,
+        version: SentenceBuf::copy_of(alloc, version.as_slice())?,
+    })
+}
+
+/// Copies the map, the title and the game of a battle.
+fn copy_labels(
+    alloc: Global,
+    map: &SentenceBuf,
+    title: &SentenceBuf,
+    game_name: &SentenceBuf,
+) -> Result<Labels, AllocError>
+    ensures map { IfOk result (λ labels. labels.map ≡ map.now) }
+    ensures title { IfOk result (λ labels. labels.title ≡ title.now) }
+    ensures game_name { IfOk result (λ labels. labels.game_name ≡ game_name.now) }
+{
+    Ok(Labels {
+        map: SentenceBuf::copy_of(alloc, map.as_slice())?,
+        title: SentenceBuf::copy_of(alloc, title.as_slice())?,
+        game_name: SentenceBuf::copy_of(alloc, game_name.as_slice())?,
+    })
+}
+
+/// The change by which one who asks to join a battle asks no more.
+pub fn stop_asking(number: u32, name: &NameBuf) -> Change
+    ensures { result ≡ stops_asking number name.now }
+{
+    Change::InBattles(BattleChange::StopAsking {
+        number,
+        name: name.copy(),
+    })
+}
+
+/// A change of what the members of a battle share.
+pub fn in_room(number: u32, change: RoomChange) -> Change
+    ensures { result ≡ InBattles (InRoom number change) }
+{
+    Change::InBattles(BattleChange::InRoom { number, change })
+}
+
+/// An IPv4 address as it is printed: four numbers with dots.
+fn ip_word(alloc: Global, ip: [u8; 4]) -> Result<WordBuf, AllocError>
+    ensures { IfOk result (λ word. word ≡ ip_text ip) }
+{
+    dotted(alloc, ip[0], ip[1], ip[2], ip[3])
+}
+
+/// Four numbers with dots.
+fn dotted(alloc: Global, a: u8, b: u8, c: u8, d: u8) -> Result<WordBuf, AllocError>
+    ensures { IfOk result (λ word. word ≡ ip_text (a ∷ b ∷ c ∷ d ∷ [])) }
+{
+    let mut text = Vec::new(alloc);
+    put_number(&mut text, a)?;
+    put_dotted(&mut text, b)?;
+    put_dotted(&mut text, c)?;
+    put_dotted(&mut text, d)?;
+    Ok(WordBuf::copy_of(alloc, text.as_slice())?)
+}
+
+/// Puts a dot and a number behind a text.
+fn put_dotted(text: &mut Vec<u8>, n: u8) -> Result<(), AllocError>
+    ensures { OnOk result (text.new.items ≡ text.old.items ++ (46 ∷ decimal n)) }
+{
+    text.push(b'.')?;
+    put_number(text, n)
+}
+
+/// Puts a number behind a text.
+fn put_number(text: &mut Vec<u8>, n: u8) -> Result<(), AllocError>
+    ensures { OnOk result (text.new.items ≡ text.old.items ++ decimal n) }
+{
+    let mut digits = [0u8; 20];
+    let length = write_number(i64::from(n), &mut digits);
+    text.extend_from_slice(&digits[..length])?;
+    Ok(())
+}

@@ -1,0 +1,366 @@
+//! Joining a battle: at once, or by asking its founder, who lets one in or denies it: docs/PROTOCOL.md,
+//! "What the server does", from "JOINBATTLE" to "JOINBATTLEDENY".
+
+ghost use Rattle.std.specs.Prelude.{◌≡◌, [], ◌∷◌, ◌++◌, map, OnOk, IfOk, None, Some, option_copied};
+ghost use Rattle.reply_grammar.specs.declared.Reply.TheVariants as reply;
+ghost use Rattle.reply_grammar.specs.Lent.{reply_of};
+ghost use Rattle.line_words.specs.Table.{at_number, same_name};
+ghost use Rattle.lobby_model.specs.State.{name_of};
+ghost use Rattle.lobby_model.specs.Outcome.{is_named, tell, user};
+ghost use Rattle.lobby_model.specs.Battles.{accept, address, asks_to_join, bot_line, deny, join_battle, joining, rect_line, reason_or_default, room_lines, status_line};
+ghost use Rattle.lobby_post.specs.Posted.{Told};
+ghost use Rattle.lobby_guards.specs.Answers.{Answers};
+ghost use Rattle.lobby_maps.specs.declared.change.Change.TheVariants.{InBattles};
+ghost use Rattle.lobby_maps.specs.declared.battles.BattleChange.TheVariants.{Ask};
+ghost use Rattle.battle_rules.specs.BattleTalk.{is_issuer, written};
+
+use crate::battles::{address_of, stop_asking};
+use battle_room::{ALLY_COUNT, Room};
+use line_words::{NameBuf, Text, TextBuf, WordBuf};
+use lobby_guards::Stop;
+use lobby_guards::battle_guards::{
+    asker_named, battle_numbered, founded_by, joins_unasked, may_join, not_locked, own_battle,
+    right_password,
+};
+use lobby_maps::{Battle, BattleChange, Change, Maps};
+use lobby_post::{ClientKey, Post};
+use reply_grammar::LentReply;
+use std::alloc::{AllocError, Global};
+use std::slice;
+
+/// For whom lines are written.
+#[derive(Clone, Copy)]
+pub enum Recipient {
+    /// The one whose event it is: each line has the id of its request.
+    Issuer,
+    /// Another one.
+    Other,
+}
+
+/// `JOINBATTLE`: the user is in no battle and asks to join none; there is a battle of that number,
+/// which is not locked and lets it in. It joins, or, where the founder authorises who does, it asks.
+pub fn join_battle<'a>(
+    maps: &Maps,
+    client: u64,
+    me: &'a NameBuf,
+    number: u32,
+    password: Option<&WordBuf>,
+    script_password: Option<&'a WordBuf>,
+    post: &mut Post,
+) -> Result<Change, Stop>
+    requires me { name_of maps.now.plain client ≡ Some me.now }
+    requires issuer { post.old.issuer ≡ client }
+    ensures { Answers maps.now.plain client post.old post.new (join_battle maps.now.plain me.now (address (at_number maps.now.plain.clients client)) number (option_copied password.entry) (option_copied script_password.entry)) result }
+{
+    may_join(maps, me)?;
+    joins_unasked(maps, me)?;
+    let battle = battle_numbered(maps, number)?;
+    not_locked(battle)?;
+    right_password(battle, password)?;
+    if maps.is_authorising(&battle.opened.founder) {
+        return Ok(ask_to_join(maps, client, me, number, battle, script_password, post)?);
+    }
+    tell_joining(
+        maps,
+        me,
+        number,
+        battle,
+        script_password,
+        Recipient::Issuer,
+        post,
+    )?;
+    Ok(Change::InBattles(BattleChange::Join {
+        number,
+        name: me.copy(),
+    }))
+}
+
+/// A user asks to join a battle, with the script password that it gave, and the founder is told.
+fn ask_to_join(
+    maps: &Maps,
+    client: u64,
+    me: &NameBuf,
+    number: u32,
+    battle: &Battle,
+    script_password: Option<&WordBuf>,
+    post: &mut Post,
+) -> Result<Change, AllocError>
+    requires { name_of maps.now.plain client ≡ Some me.now }
+    ensures told { IfOk result (λ _. Told maps.now.plain post.old post.new (asks_to_join me.now number battle.now (option_copied script_password.entry) (address (at_number maps.now.plain.clients client))).told) }
+    ensures change { IfOk result (λ change. change ≡ InBattles (Ask number me.now (option_copied script_password.entry))) }
+{
+    let ip = address_of(maps, client)?;
+    let line = LentReply::JoinBattleRequest { user: me, ip: &ip };
+    let told = maps.tell_user(&battle.opened.founder, line, post);
+    drop(ip);
+    told?;
+    Ok(Change::InBattles(BattleChange::Ask {
+        number,
+        name: me.copy(),
+        script_password: copy_word(maps.alloc(), script_password)?,
+    }))
+}
+
+/// `JOINBATTLEACCEPT`: the user is in a battle, which it founded, and the one who joins asks to.
+pub fn accept(
+    maps: &Maps,
+    client: u64,
+    me: &NameBuf,
+    name: &NameBuf,
+    post: &mut Post,
+) -> Result<Change, Stop>
+    requires me { name_of maps.now.plain client ≡ Some me.now }
+    requires issuer { post.old.issuer ≡ client }
+    ensures { Answers maps.now.plain client post.old post.new (accept maps.now.plain me.now name.now) result }
+{
+    let (number, battle) = own_battle(maps, me)?;
+    founded_by(battle, me)?;
+    let asker = asker_named(battle, name)?;
+    let script_password = asker.script_password();
+    tell_joining(
+        maps,
+        name,
+        number,
+        battle,
+        script_password,
+        Recipient::Other,
+        post,
+    )?;
+    Ok(Change::InBattles(BattleChange::LetIn {
+        number,
+        name: name.copy(),
+    }))
+}
+
+/// `JOINBATTLEDENY`: the user is in a battle, which it founded, and the one who is denied it asks to
+/// join. It is told the reason, if one is given.
+pub fn deny(
+    maps: &Maps,
+    client: u64,
+    me: &NameBuf,
+    name: &NameBuf,
+    reason: Option<&TextBuf>,
+    post: &mut Post,
+) -> Result<Change, Stop>
+    ensures { Answers maps.now.plain client post.old post.new (deny maps.now.plain me.now name.now (option_copied reason.entry)) result }
+{
+    let (number, battle) = own_battle(maps, me)?;
+    founded_by(battle, me)?;
+    asker_named(battle, name)?;
+    let reason = reason_given(reason);
+    maps.tell_user(name, LentReply::JoinBattleFailed { text: &reason }, post)?;
+    Ok(stop_asking(number, name))
+}
+
+/// Tells that one joins a battle: itself, the founder, who gets the script password too, and all others.
+fn tell_joining(
+    maps: &Maps,
+    name: &NameBuf,
+    number: u32,
+    battle: &Battle,
+    script_password: Option<&WordBuf>,
+    recipient: Recipient,
+    post: &mut Post,
+) -> Result<(), AllocError>
+    requires { is_named (same_name name.now) (name_of maps.now.plain post.old.issuer) ≡ is_issuer recipient }
+    ensures { OnOk result (Told maps.now.plain post.old post.new (joining name.now number battle.now (option_copied script_password.entry))) }
+{
+    tell_joiner(maps, name, number, battle, recipient, post)?;
+    let founder = &battle.opened.founder;
+    let line = LentReply::JoinedBattle {
+        battle: number,
+        user: name,
+        script_password,
+    };
+    maps.tell_user(founder, line, post)?;
+    let line = LentReply::JoinedBattle {
+        battle: number,
+        user: name,
+        script_password: None,
+    };
+    maps.tell_all_but(name, founder, line, post)
+}
+
+/// Tells one who joins a battle what its members share, and asks for its status.
+fn tell_joiner(
+    maps: &Maps,
+    name: &NameBuf,
+    number: u32,
+    battle: &Battle,
+    recipient: Recipient,
+    post: &mut Post,
+) -> Result<(), AllocError>
+    requires { is_named (same_name name.now) (name_of maps.now.plain post.old.issuer) ≡ is_issuer recipient }
+    ensures { OnOk result (Told maps.now.plain post.old post.new (tell (user name.now) (reply.JoinBattle number battle.now.game_hash ∷ reply.JoinedBattle number name.now None ∷ (room_lines number battle.now.room ++ reply.RequestBattleStatus ∷ [])) ∷ [])) }
+{
+    post.begin_own();
+    let line = LentReply::JoinBattle {
+        battle: number,
+        game_hash: battle.game_hash,
+    };
+    write(recipient, line, post)?;
+    let line = LentReply::JoinedBattle {
+        battle: number,
+        user: name,
+        script_password: None,
+    };
+    write(recipient, line, post)?;
+    write_room(recipient, number, &battle.room, post)?;
+    write(recipient, LentReply::RequestBattleStatus, post)?;
+    maps.address_user(name, post)?;
+    Ok(())
+}
+
+/// Why one was denied a battle, in words.
+fn reason_given(reason: Option<&TextBuf>) -> Text<'_>
+    ensures { result ≡ reason_or_default (option_copied reason.entry) }
+{
+    match reason {
+        Some(reason) => reason.as_text(),
+        None => Text::lend(b"Denied by the founder"),
+    }
+}
+
+/// Copies a word, where there is one.
+fn copy_word(alloc: Global, word: Option<&WordBuf>) -> Result<Option<WordBuf>, AllocError>
+    ensures { IfOk result (λ copy. copy ≡ option_copied word.entry) }
+{
+    match word {
+        Some(word) => Ok(Some(WordBuf::copy_of(alloc, word.as_slice())?)),
+        None => Ok(None),
+    }
+}
+
+/// Writes one more line for its recipient.
+fn write(recipient: Recipient, line: LentReply, post: &mut Post) -> Result<(), AllocError>
+    ensures { OnOk result (post.new ≡ written recipient post.old (reply_of line.entry ∷ [])) }
+{
+    match recipient {
+        Recipient::Issuer => post.write_own(line),
+        Recipient::Other => post.write_more_for_others(line),
+    }
+}
+
+/// Writes what the members of a battle share, behind a line.
+fn write_room(
+    recipient: Recipient,
+    number: u32,
+    room: &Room<ClientKey>,
+    post: &mut Post,
+) -> Result<(), AllocError>
+    requires { written recipient post.old [] ≡ post.old }
+    ensures { OnOk result (post.new ≡ written recipient post.old (room_lines number room.now)) }
+{
+    write_statuses(recipient, room, post)?;
+    write_bots(recipient, number, room, post)?;
+    write_rects(recipient, room, post)?;
+    write_tags(recipient, room, post)?;
+    write_units(recipient, room, post)
+}
+
+/// Writes the status of each member of a battle, behind a line.
+fn write_statuses(
+    recipient: Recipient,
+    room: &Room<ClientKey>,
+    post: &mut Post,
+) -> Result<(), AllocError>
+    requires { written recipient post.old [] ≡ post.old }
+    ensures { OnOk result (post.new ≡ written recipient post.old (map status_line room.now.members)) }
+{
+    for member in room.members() {
+        let status = member.status().word();
+        let line = LentReply::ClientBattleStatus {
+            user: member.name(),
+            battle_status: status,
+            team_color: member.colour(),
+        };
+        write(recipient, line, post)?;
+    }
+    Ok(())
+}
+
+/// Writes the bots of a battle, behind a line.
+fn write_bots(
+    recipient: Recipient,
+    number: u32,
+    room: &Room<ClientKey>,
+    post: &mut Post,
+) -> Result<(), AllocError>
+    requires { written recipient post.old [] ≡ post.old }
+    ensures { OnOk result (post.new ≡ written recipient post.old (map (bot_line number) room.now.bots)) }
+{
+    for bot in room.bots() {
+        let status = bot.status().word();
+        let line = LentReply::AddBot {
+            battle: number,
+            bot: bot.name(),
+            owner: bot.owner(),
+            battle_status: status,
+            team_color: bot.colour(),
+            ai: bot.ai(),
+        };
+        write(recipient, line, post)?;
+    }
+    Ok(())
+}
+
+/// Writes the start rectangles of a battle, behind a line.
+fn write_rects(
+    recipient: Recipient,
+    room: &Room<ClientKey>,
+    post: &mut Post,
+) -> Result<(), AllocError>
+    requires { written recipient post.old [] ≡ post.old }
+    ensures { OnOk result (post.new ≡ written recipient post.old (map (λ e. rect_line e.0 e.1) room.now.rects)) }
+{
+    let places = room.rects();
+    for ally in 0..ALLY_COUNT as u8 {
+        if let Some(rect) = places[usize::from(ally)] {
+            let line = LentReply::AddStartRect {
+                ally_no: ally,
+                left: rect.left,
+                top: rect.top,
+                right: rect.right,
+                bottom: rect.bottom,
+            };
+            write(recipient, line, post)?;
+        }
+    }
+    Ok(())
+}
+
+/// Writes the script tags of a battle, each in a line, behind a line.
+fn write_tags(
+    recipient: Recipient,
+    room: &Room<ClientKey>,
+    post: &mut Post,
+) -> Result<(), AllocError>
+    requires { written recipient post.old [] ≡ post.old }
+    ensures { OnOk result (post.new ≡ written recipient post.old (map (λ t. reply.SetScriptTags (t ∷ [])) room.now.tags)) }
+{
+    for pair in room.tags() {
+        let line = LentReply::SetScriptTags {
+            pairs: slice::from_ref(pair),
+        };
+        write(recipient, line, post)?;
+    }
+    Ok(())
+}
+
+/// Writes the disabled units of a battle, each in a line, behind a line.
+fn write_units(
+    recipient: Recipient,
+    room: &Room<ClientKey>,
+    post: &mut Post,
+) -> Result<(), AllocError>
+    requires { written recipient post.old [] ≡ post.old }
+    ensures { OnOk result (post.new ≡ written recipient post.old (map (λ unit. reply.DisableUnits (unit ∷ [])) room.now.units)) }
+{
+    for unit in room.units() {
+        let line = LentReply::DisableUnits {
+            units: slice::from_ref(unit),
+        };
+        write(recipient, line, post)?;
+    }
+    Ok(())
+}

@@ -1,0 +1,418 @@
+//! What members do in a battle's room: bots, start rectangles, script tags, disabled units, and what the
+//! founder forces on members: docs/PROTOCOL.md, "What the server does", from "ADDBOT" to "RING".
+
+ghost use Rattle.std.specs.Prelude.{◌≡◌, ◌<◌, [], ◌∷◌, IfOk, OnOk};
+ghost use Rattle.reply_grammar.specs.Lent.{reply_of};
+ghost use Rattle.battle_room.specs.Room.{member_names};
+ghost use Rattle.lobby_model.specs.Outcome.{tell, users};
+ghost use Rattle.lobby_model.specs.Rooms.{add_bot, add_rect, disable, enable, enable_every, kick, new_bot, remove_bot, remove_rect, remove_script_tags, ring, set_script_tags, update_bot};
+ghost use Rattle.lobby_post.specs.Posted.{Told};
+ghost use Rattle.lobby_guards.specs.Answers.{Answers};
+ghost use Rattle.battle_rules.specs.BattleTalk.{FitsForce, forced, forced_colour, forced_status, words_line, words_told};
+
+use crate::battles::{Leaving, give_status, in_room, tell_leaving};
+use battle_room::{Bot, Member, Rect, Room};
+use line_words::{KeyBuf, NameBuf, Pair, PairList, SentenceBuf, WordBuf, WordList};
+use lobby_guards::Stop;
+use lobby_guards::battle_guards::{
+    bot_named, founded_by, free_bot_name, may_change, member_named, not_oneself, own_battle,
+    room_for_bot, room_for_tags, room_for_units,
+};
+use lobby_maps::{BattleChange, Change, Maps, RoomChange};
+use lobby_post::{ClientKey, Post};
+use reply_grammar::LentReply;
+use status_bits::{BattleStatus, merge_battle};
+use std::alloc::{AllocError, Global};
+
+/// What the founder of a battle forces on a member.
+#[derive(Clone, Copy)]
+pub enum Force {
+    /// A handicap, 0 to 100 percent.
+    Handicap(u8),
+    /// A team, 0 to 15.
+    Team(u8),
+    /// An ally team, 0 to 15.
+    Ally(u8),
+    /// A colour, -2147483648 to 4294967295.
+    Colour(i64),
+    /// To watch, and not to play.
+    Spectator,
+}
+
+impl Force {
+    /// The status of a member on whom it is forced.
+    fn status(self, member: &Member<ClientKey>) -> BattleStatus
+        requires { FitsForce self }
+        ensures { result ≡ forced_status self member.now.status }
+    {
+        let status = member.status();
+        match self {
+            Force::Handicap(percent) => status.with_handicap(percent),
+            Force::Team(number) => status.with_team(number),
+            Force::Ally(number) => status.with_ally(number),
+            Force::Colour(_) => status,
+            Force::Spectator => status.as_spectator(),
+        }
+    }
+
+    /// Its colour.
+    fn colour(self, member: &Member<ClientKey>) -> i64
+        ensures { result ≡ forced_colour self member.now.colour }
+    {
+        match self {
+            Force::Colour(colour) => colour,
+            Force::Handicap(_) | Force::Team(_) | Force::Ally(_) | Force::Spectator => {
+                member.colour()
+            }
+        }
+    }
+}
+
+/// What the members of a battle are told of words.
+#[derive(Clone, Copy)]
+pub enum Wording {
+    /// The script tags of these keys go.
+    TagsGone,
+    /// These units are disabled.
+    UnitsDisabled,
+    /// These units are disabled no more.
+    UnitsEnabled,
+}
+
+impl Wording {
+    /// The line that says so of words.
+    fn line(self, words: &[WordBuf]) -> LentReply<'_>
+        ensures { reply_of result ≡ words_line self words.now }
+    {
+        match self {
+            Wording::TagsGone => LentReply::RemoveScriptTags { keys: words },
+            Wording::UnitsDisabled => LentReply::DisableUnits { units: words },
+            Wording::UnitsEnabled => LentReply::EnableUnits { units: words },
+        }
+    }
+}
+
+/// `ADDBOT`: the user is in a battle; no bot has that name, and there is room for one more.
+pub fn add_bot(
+    maps: &Maps,
+    client: u64,
+    me: &NameBuf,
+    name: &WordBuf,
+    asked: u32,
+    colour: i64,
+    ai: &SentenceBuf,
+    post: &mut Post,
+) -> Result<Change, Stop>
+    ensures { Answers maps.now.plain client post.old post.new (add_bot maps.now.plain me.now (new_bot name.now me.now asked colour ai.now)) result }
+{
+    let (number, battle) = own_battle(maps, me)?;
+    free_bot_name(battle, name)?;
+    room_for_bot(battle)?;
+    let status = merge_battle(BattleStatus::zero(), asked);
+    let line = LentReply::AddBot {
+        battle: number,
+        bot: name,
+        owner: me,
+        battle_status: status.word(),
+        team_color: colour,
+        ai,
+    };
+    maps.tell_room(&battle.room, line, post)?;
+    let name = WordBuf::copy_of(maps.alloc(), name.as_slice())?;
+    let ai = SentenceBuf::copy_of(maps.alloc(), ai.as_slice())?;
+    let bot = Bot::new(me.copy(), name, status, colour, ai);
+    Ok(in_room(number, RoomChange::AddBot { bot }))
+}
+
+/// `UPDATEBOT`: the user is in a battle; a bot has that name, and the user owns it or founded the
+/// battle.
+pub fn update_bot(
+    maps: &Maps,
+    client: u64,
+    me: &NameBuf,
+    name: &WordBuf,
+    asked: u32,
+    colour: i64,
+    post: &mut Post,
+) -> Result<Change, Stop>
+    ensures { Answers maps.now.plain client post.old post.new (update_bot maps.now.plain me.now name.now asked colour) result }
+{
+    let (number, battle) = own_battle(maps, me)?;
+    let bot = bot_named(battle, name)?;
+    may_change(me, battle, bot)?;
+    let status = merge_battle(bot.status(), asked);
+    let line = LentReply::UpdateBot {
+        battle: number,
+        bot: name,
+        battle_status: status.word(),
+        team_color: colour,
+    };
+    maps.tell_room(&battle.room, line, post)?;
+    let name = WordBuf::copy_of(maps.alloc(), name.as_slice())?;
+    let change = RoomChange::BotStatus {
+        name,
+        status,
+        colour,
+    };
+    Ok(in_room(number, change))
+}
+
+/// `REMOVEBOT`: as `UPDATEBOT`.
+pub fn remove_bot(
+    maps: &Maps,
+    client: u64,
+    me: &NameBuf,
+    name: &WordBuf,
+    post: &mut Post,
+) -> Result<Change, Stop>
+    ensures { Answers maps.now.plain client post.old post.new (remove_bot maps.now.plain me.now name.now) result }
+{
+    let (number, battle) = own_battle(maps, me)?;
+    let bot = bot_named(battle, name)?;
+    may_change(me, battle, bot)?;
+    let line = LentReply::RemoveBot {
+        battle: number,
+        bot: name,
+    };
+    maps.tell_room(&battle.room, line, post)?;
+    let name = WordBuf::copy_of(maps.alloc(), name.as_slice())?;
+    Ok(in_room(number, RoomChange::RemoveBot { name }))
+}
+
+/// `ADDSTARTRECT`: the user is in a battle, which it founded.
+pub fn add_rect(
+    maps: &Maps,
+    client: u64,
+    me: &NameBuf,
+    ally: u8,
+    rect: Rect,
+    post: &mut Post,
+) -> Result<Change, Stop>
+    requires { ally < 16 }
+    ensures { Answers maps.now.plain client post.old post.new (add_rect maps.now.plain me.now ally rect) result }
+{
+    let (number, battle) = own_battle(maps, me)?;
+    founded_by(battle, me)?;
+    let line = LentReply::AddStartRect {
+        ally_no: ally,
+        left: rect.left,
+        top: rect.top,
+        right: rect.right,
+        bottom: rect.bottom,
+    };
+    maps.tell_room(&battle.room, line, post)?;
+    Ok(in_room(number, RoomChange::SetRect { ally, rect }))
+}
+
+/// `REMOVESTARTRECT`: the user is in a battle, which it founded.
+pub fn remove_rect(
+    maps: &Maps,
+    client: u64,
+    me: &NameBuf,
+    ally: u8,
+    post: &mut Post,
+) -> Result<Change, Stop>
+    requires { ally < 16 }
+    ensures { Answers maps.now.plain client post.old post.new (remove_rect maps.now.plain me.now ally) result }
+{
+    let (number, battle) = own_battle(maps, me)?;
+    founded_by(battle, me)?;
+    let line = LentReply::RemoveStartRect { ally_no: ally };
+    maps.tell_room(&battle.room, line, post)?;
+    Ok(in_room(number, RoomChange::RemoveRect { ally }))
+}
+
+/// `SETSCRIPTTAGS`: the user is in a battle, which it founded, and there is room for the tags.
+pub fn set_script_tags(
+    maps: &Maps,
+    client: u64,
+    me: &NameBuf,
+    pairs: &PairList,
+    post: &mut Post,
+) -> Result<Change, Stop>
+    ensures { Answers maps.now.plain client post.old post.new (set_script_tags maps.now.plain me.now pairs.now) result }
+{
+    let (number, battle) = own_battle(maps, me)?;
+    founded_by(battle, me)?;
+    room_for_tags(battle, pairs.as_slice())?;
+    let line = LentReply::SetScriptTags {
+        pairs: pairs.as_slice(),
+    };
+    maps.tell_room(&battle.room, line, post)?;
+    let pairs = copy_pairs(maps.alloc(), pairs.as_slice())?;
+    Ok(in_room(number, RoomChange::SetTags { pairs }))
+}
+
+/// `REMOVESCRIPTTAGS`: the user is in a battle, which it founded. Keys that are not there are left
+/// out.
+pub fn remove_script_tags(
+    maps: &Maps,
+    client: u64,
+    me: &NameBuf,
+    keys: &WordList,
+    post: &mut Post,
+) -> Result<Change, Stop>
+    ensures { Answers maps.now.plain client post.old post.new (remove_script_tags maps.now.plain me.now keys.now) result }
+{
+    let (number, battle) = own_battle(maps, me)?;
+    founded_by(battle, me)?;
+    let there = battle.room.keys_there(maps.alloc(), keys.as_slice())?;
+    tell_words(maps, &battle.room, Wording::TagsGone, there, post)?;
+    let keys = copy_words(maps.alloc(), keys.as_slice())?;
+    Ok(in_room(number, RoomChange::RemoveTags { keys }))
+}
+
+/// `DISABLEUNITS`: the user is in a battle, which it founded, and there is room for the units. Those
+/// that are disabled already are left out.
+pub fn disable_units(
+    maps: &Maps,
+    client: u64,
+    me: &NameBuf,
+    units: &WordList,
+    post: &mut Post,
+) -> Result<Change, Stop>
+    ensures { Answers maps.now.plain client post.old post.new (disable maps.now.plain me.now units.now) result }
+{
+    let (number, battle) = own_battle(maps, me)?;
+    founded_by(battle, me)?;
+    room_for_units(battle, units.as_slice())?;
+    let new = battle.room.units_new(maps.alloc(), units.as_slice())?;
+    tell_words(maps, &battle.room, Wording::UnitsDisabled, new, post)?;
+    let words = copy_words(maps.alloc(), units.as_slice())?;
+    Ok(in_room(number, RoomChange::DisableUnits { words }))
+}
+
+/// `ENABLEUNITS`: the user is in a battle, which it founded. Units that are not disabled are left out.
+pub fn enable_units(
+    maps: &Maps,
+    client: u64,
+    me: &NameBuf,
+    units: &WordList,
+    post: &mut Post,
+) -> Result<Change, Stop>
+    ensures { Answers maps.now.plain client post.old post.new (enable maps.now.plain me.now units.now) result }
+{
+    let (number, battle) = own_battle(maps, me)?;
+    founded_by(battle, me)?;
+    let there = battle.room.units_there(maps.alloc(), units.as_slice())?;
+    tell_words(maps, &battle.room, Wording::UnitsEnabled, there, post)?;
+    let words = copy_words(maps.alloc(), units.as_slice())?;
+    Ok(in_room(number, RoomChange::EnableUnits { words }))
+}
+
+/// `ENABLEALLUNITS`: the user is in a battle, which it founded.
+pub fn enable_all_units(
+    maps: &Maps,
+    client: u64,
+    me: &NameBuf,
+    post: &mut Post,
+) -> Result<Change, Stop>
+    ensures { Answers maps.now.plain client post.old post.new (enable_every maps.now.plain me.now) result }
+{
+    let (number, battle) = own_battle(maps, me)?;
+    founded_by(battle, me)?;
+    maps.tell_room(&battle.room, LentReply::EnableAllUnits, post)?;
+    Ok(in_room(number, RoomChange::EnableAllUnits))
+}
+
+/// Tells the members of a battle of words, or nothing where there are none.
+fn tell_words(
+    maps: &Maps,
+    room: &Room<ClientKey>,
+    wording: Wording,
+    words: WordList,
+    post: &mut Post,
+) -> Result<(), AllocError>
+    ensures { OnOk result (Told maps.now.plain post.old post.new (tell (users (member_names room.now)) (words_told wording words) ∷ [])) }
+{
+    if words.as_slice().is_empty() {
+        return Ok(());
+    }
+    let told = maps.tell_room(room, wording.line(words.as_slice()), post);
+    drop(words);
+    told
+}
+
+/// `HANDICAP` and the four `FORCE` commands: the user is in a battle, which it founded, and so is the
+/// one on whom it is forced.
+pub fn force_on_member(
+    maps: &Maps,
+    client: u64,
+    me: &NameBuf,
+    name: &NameBuf,
+    force: Force,
+    post: &mut Post,
+) -> Result<Change, Stop>
+    requires { FitsForce force }
+    ensures { Answers maps.now.plain client post.old post.new (forced maps.now.plain me.now name.now force) result }
+{
+    let (number, battle) = own_battle(maps, me)?;
+    founded_by(battle, me)?;
+    let member = member_named(battle, name)?;
+    let status = force.status(member);
+    let colour = force.colour(member);
+    Ok(give_status(maps, number, battle, name, status, colour, post)?)
+}
+
+/// `KICKFROMBATTLE`: the user is in a battle, which it founded, and so is the other one who leaves.
+pub fn kick(
+    maps: &Maps,
+    client: u64,
+    me: &NameBuf,
+    name: &NameBuf,
+    post: &mut Post,
+) -> Result<Change, Stop>
+    ensures { Answers maps.now.plain client post.old post.new (kick maps.now.plain me.now name.now) result }
+{
+    let (number, battle) = own_battle(maps, me)?;
+    founded_by(battle, me)?;
+    not_oneself(me, name)?;
+    member_named(battle, name)?;
+    maps.tell_user(name, LentReply::ForceQuitBattle, post)?;
+    tell_leaving(maps, name, number, battle, Leaving::Seen, post)?;
+    Ok(Change::InBattles(BattleChange::Leave {
+        number,
+        name: name.copy(),
+    }))
+}
+
+/// `RING`: the user is in a battle, which it founded, and so is the one who hears it.
+pub fn ring(
+    maps: &Maps,
+    client: u64,
+    me: &NameBuf,
+    name: &NameBuf,
+    post: &mut Post,
+) -> Result<Change, Stop>
+    ensures { Answers maps.now.plain client post.old post.new (ring maps.now.plain me.now name.now) result }
+{
+    let (_, battle) = own_battle(maps, me)?;
+    founded_by(battle, me)?;
+    member_named(battle, name)?;
+    maps.tell_user(name, LentReply::Ring { user: me }, post)?;
+    Ok(Change::Nothing)
+}
+
+/// Pairs as a list of their own.
+fn copy_pairs(alloc: Global, pairs: &[Pair]) -> Result<PairList, AllocError>
+    ensures { IfOk result (λ copies. copies ≡ pairs.now) }
+{
+    let mut copies = Vec::new(alloc);
+    for pair in pairs {
+        let key = KeyBuf::copy_of(alloc, pair.key.as_slice())?;
+        let value = SentenceBuf::copy_of(alloc, pair.value.as_slice())?;
+        copies.push(Pair { key, value })?;
+    }
+    Ok(PairList::new(copies))
+}
+
+/// Words as a list of their own.
+fn copy_words(alloc: Global, words: &[WordBuf]) -> Result<WordList, AllocError>
+    ensures { IfOk result (λ copies. copies ≡ words.now) }
+{
+    let mut copies = Vec::new(alloc);
+    for word in words {
+        copies.push(WordBuf::copy_of(alloc, word.as_slice())?)?;
+    }
+    Ok(WordList::new(copies))
+}

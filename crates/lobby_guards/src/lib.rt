@@ -1,0 +1,9 @@
+//! What the rules of commands share: why a command is refused, and guards, each of which finds a thing or
+//! refuses it.
+#![tactic(auto)]
+
+pub mod battle_guards;
+pub mod guards;
+mod refusal;
+
+pub use refusal::{Refusal, Stop, or_refuse, refuse_if};
