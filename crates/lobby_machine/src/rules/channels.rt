@@ -118,9 +118,12 @@ fn write_channels(maps: &Maps, post: &mut Post) -> Result<(), AllocError>
 pub fn tell_left(maps: &Maps, me: &NameBuf, post: &mut Post) -> Result<(), AllocError>
     ensures { OnOk result (Told maps.now.plain post.old post.new (left_letters me.now maps.now.plain.channels)) }
 {
-    for (channel, members) in maps.channels() {
-        if members.has_member(me) {
-            let (names, keys) = (members.as_slice(), members.marks());
+    let book = maps.channels();
+    // Its contract says that the names of channels rise, so that each stands for one.
+    let _ = book.channel_count();
+    if let Some(channels) = book.channels_of(me) {
+        for channel in channels {
+            let (names, keys) = (book.names_in(channel), book.marks_in(channel));
             maps.tell_other_users(names, keys, LentReply::Left { channel, user: me }, post)?;
         }
     }
