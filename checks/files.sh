@@ -11,8 +11,8 @@ room=$(mktemp -d)
 trap 'rm -rf "$room"' EXIT
 
 settings='settings: address 127.0.0.1:8200, workers 4
-memory: some 6100 bytes a client, and up to 4194304 more for one that does not read
-memory: at most 42004 MB for 10000 clients, of whom none reads'
+memory: some 2863 bytes a client, and up to 4194304 more for one that does not read
+memory: at most 41971 MB for 10000 clients, of whom none reads'
 accounts='accounts: 3 can log in'
 name='name = "Anna"'
 word='password = "X03MO1qnZdYdgyfeuILPmQ=="'

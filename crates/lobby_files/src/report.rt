@@ -8,16 +8,17 @@ use std::rt::{Env, Files};
 
 const USAGE: &str = "usage: lobby_check SETTINGS ACCOUNTS";
 
-/// The most clients that a lobby takes.
+/// The most clients that a lobby takes. The lobby has this limit itself; it is said once more here, since the program that looks at
+/// files is built without a lobby.
 const CLIENTS: usize = 10_000;
 
-/// What a client takes that is logged in and reads, in bytes, as it was measured (docs/OPERATING.md).
-const CLIENT_BYTES: usize = 6_100;
+/// What a client takes that is logged in, in a channel of 1,000, and reads, in bytes, as it was measured (docs/OPERATING.md).
+const CLIENT_BYTES: usize = 2_863;
 
 /// What as many clients as a lobby takes take in memory if none of them reads, in megabytes.
 fn most_megabytes(outbox_limit: usize) -> usize
     requires { outbox_limit ≤ 67108864 }
-    ensures { result ≡ 10000 * (6100 + outbox_limit) / 1000000 }
+    ensures { result ≡ 10000 * (2863 + outbox_limit) / 1000000 }
 {
     CLIENTS * (CLIENT_BYTES + outbox_limit) / 1_000_000
 }

@@ -13,14 +13,12 @@ use crate::error::Refusal;
 use crate::key::Key;
 use crate::motd::motd_fault;
 use address_words::socket_address;
+use lobby_model::WORKERS;
 use lobby_model::settings::{
     DEFAULT_OUTBOX_LIMIT, GREATEST_OUTBOX_LIMIT, LEAST_OUTBOX_LIMIT, is_version,
 };
 use toml::{Table, Value};
 use toml_fields::{FieldFault, flag_or, list_or_empty, number_or, text_at, text_or};
-
-/// The most workers: so many passes to the lobby can be handed out.
-const MOST_WORKERS: u32 = 64;
 
 /// What the keys of a file say, each within its bounds.
 #[derive(Drop)]
@@ -126,7 +124,7 @@ pub fn fields_of(
     Ok(Fields {
         ip,
         port,
-        workers: number_field(table, Key::Workers, 1, MOST_WORKERS, 4)?,
+        workers: number_field(table, Key::Workers, 1, WORKERS as u32, 4)?,
         outbox_limit: number_field(
             table,
             Key::OutboxLimit,
