@@ -8,7 +8,7 @@ use lobby_connections::{Connection, Connections, NAMES_IN_HOLD, PollTimeout};
 use lobby_lock::{Desk, Pass};
 use lobby_machine::{OpenError, Wakes};
 use lobby_model::WORKERS;
-use lobby_turns::{Conn, Gate, Link, Turn, TurnState, serve};
+use lobby_turns::{Conn, Gate, Link, Turn, TurnState, close, serve};
 use mio::Registry;
 use std::sync::Wait;
 
@@ -269,23 +269,8 @@ fn serve_or_shut<R: Wait, G: Gate>(
 /// Shuts the client of a connection.
 fn shut<R: Wait, G: Gate>(rt: &R, shared: &Shared<'_, G>, pass: Pass, conn: &Conn) -> (Pass, Turn)
     requires { pass.desk ≡ shared.now.desk.now }
-    ensures { (result.0.desk ≡ pass.desk) × (result.0.worker.number ≡ pass.worker.number) }
+    ensures desk { result.0.desk ≡ pass.desk }
+    ensures number { result.0.worker.number ≡ pass.worker.number }
 {
-    let (pass, shut) = lobby_turns::shut(rt, conn, shared.desk, pass, shared.gate);
-    match shut {
-        Ok(wakes) => {
-            let turn = Turn {
-                state: TurnState::Closed,
-                wakes,
-            };
-            (pass, turn)
-        }
-        Err(_) => {
-            let turn = Turn {
-                state: TurnState::Memory,
-                wakes: Wakes::none(),
-            };
-            (pass, turn)
-        }
-    }
+    close(rt, conn, shared.desk, pass, shared.gate, Wakes::none())
 }
