@@ -1,5 +1,5 @@
 -- What contracts see of a pass and of a hold.
-use Rattle.std.specs.Prelude.{◌≡◌, ℕ, ◌+◌, ◌≤◌, true, false, List, [], ◌++◌, Option}
+use Rattle.std.specs.Prelude.{◌≡◌, ℕ, ◌+◌, ◌≤◌, true, false, List, [], ◌∷◌, ◌++◌, Option}
 use Rattle.atomic_table.specs.Seated.{TableId}
 use Rattle.crossbeam_queue.specs.Passes.{Pass, view}
 use Rattle.lobby_model.specs.declared.event.Event.{Event}
@@ -34,6 +34,10 @@ shown_pass inner = shown_view inner.table_id (view inner)
 
 abbrev pub shown_hold : Pass Shown View → Shown → List Event → ShownHold
 shown_hold inner lobby events = record { pass = shown_pass inner; lobby = lobby; events = events }
+
+-- a hold with one event more, and with the lobby as it is then
+abbrev pub AddsEvent : ShownHold → ShownHold → Event → Type 0
+AddsEvent old new e = new ≡ record old { lobby = new.lobby; events = old.events ++ e ∷ [] }
 
 -- worker 0's pass of a desk that was opened with this plain lobby
 abbrev pub first_pass : TableId → State → ShownPass

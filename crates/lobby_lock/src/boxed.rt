@@ -1,14 +1,11 @@
 //! A lobby that is handed over by its address.
 
-ghost use Rattle.std.specs.Prelude.{◌≡◌, ℕ, ◌+◌, ◌≤◌, ◌↔◌, ◌++◌, [], length, take, drop, min, OnOk, OnErr, IfNone, IfOk, IsTrue, true, false};
-ghost use Rattle.std.specs.Option.{option_to_list};
-ghost use Rattle.line_words.specs.Table.{same_number};
+ghost use Rattle.std.specs.Prelude.{◌≡◌, ◌≤◌, ◌↔◌, [], length, OnOk, OnErr, IfNone, IfOk, IsTrue, false};
 ghost use Rattle.command_grammar.specs.Kinds.{keeps_kinds};
 ghost use Rattle.lobby_model.specs.declared.event.Event.TheVariants as event;
 ghost use Rattle.lobby_model.specs.Sessions.{has_place};
-ghost use Rattle.lobby_model.specs.Next.{next};
 ghost use Rattle.lobby_post.specs.Mail.{IsWakes};
-ghost use Rattle.lobby_machine.specs.Shown.{dirty_at, unread_of, is_finished};
+ghost use Rattle.lobby_machine.specs.Shown.{Applies, HasNoNumber, IsFull, IsNextNumber, KeepsOthers, Opens, TakesFirst, count_into, filled, dirty_at, is_finished};
 
 use command_grammar::Request;
 use lobby_machine::{Drained, Lobby, OpenError, Wakes};
@@ -59,10 +56,10 @@ impl BoxedLobby {
     /// As `Lobby::open`.
     pub fn open(&mut self, ip: [u8; 4], home: u8) -> Result<u64, OpenError>
         requires { home ≤ 63 }
-        ensures number { IfOk result (λ number. number ≡ self.old.plain.last_client + 1) }
-        ensures ok { OnOk result ((has_place self.old.plain ≡ true) × (self.new.plain ≡ next self.old.plain (event.Open ip home))) }
-        ensures full { (result ≡ Err OpenError.Full) ↔ (10000 ≤ length self.old.plain.clients) }
-        ensures no_number { result ≡ Err OpenError.NoNumber → self.old.plain.last_client ≡ 18446744073709551615 }
+        ensures number { IfOk result (λ number. IsNextNumber self.old number) }
+        ensures ok { OnOk result (Opens self.old self.new ip home) }
+        ensures full { (result ≡ Err OpenError.Full) ↔ IsFull self.old }
+        ensures no_number { result ≡ Err OpenError.NoNumber → HasNoNumber self.old }
         ensures no_place { has_place self.old.plain ≡ false → result ≡ Err OpenError.Memory → ⊥ }
         ensures err { OnErr result (self.new ≡ self.old) }
     {
@@ -72,7 +69,7 @@ impl BoxedLobby {
     /// As `Lobby::say`.
     pub fn say(&mut self, client: u64, request: &Request) -> Result<Wakes, AllocError>
         requires { IsTrue (keeps_kinds request.now.command) }
-        ensures ok { OnOk result (self.new.plain ≡ next self.old.plain (event.Say client request.now)) }
+        ensures ok { OnOk result (Applies self.old self.new (event.Say client request.now)) }
         ensures wakes { IfOk result (λ wakes. IsWakes self.old.plain (event.Say client request.now) wakes) }
         ensures err { OnErr result (self.new ≡ self.old) }
     {
@@ -81,7 +78,7 @@ impl BoxedLobby {
 
     /// As `Lobby::shut`.
     pub fn shut(&mut self, client: u64) -> Result<Wakes, AllocError>
-        ensures ok { OnOk result (self.new.plain ≡ next self.old.plain (event.Shut client)) }
+        ensures ok { OnOk result (Applies self.old self.new (event.Shut client)) }
         ensures wakes { IfOk result (λ wakes. IsWakes self.old.plain (event.Shut client) wakes) }
         ensures err { OnErr result (self.new ≡ self.old) }
     {
@@ -90,10 +87,10 @@ impl BoxedLobby {
 
     /// As `Lobby::drain`.
     pub fn drain(&mut self, client: u64, into: &mut [u8]) -> Drained
-        ensures count { result.count ≡ min (length (unread_of self.old.plain client)) (length into.old) }
-        ensures given { into.new ≡ take result.count (unread_of self.old.plain client) ++ drop result.count into.old }
+        ensures count { result.count ≡ count_into self.old.plain client into.old }
+        ensures given { into.new ≡ filled self.old.plain client result.count into.old }
         ensures finished { result.finished ≡ is_finished self.new.plain client }
-        ensures next { self.new.plain ≡ next self.old.plain (event.Drain client (length into.old)) }
+        ensures next { Applies self.old self.new (event.Drain client (length into.old)) }
     {
         self.inner.drain(client, into)
     }
@@ -102,9 +99,9 @@ impl BoxedLobby {
     pub fn next_dirty(&mut self, home: u8) -> Option<u64>
         requires { home ≤ 63 }
         ensures plain { self.new.plain ≡ self.old.plain }
-        ensures first { dirty_at self.old home ≡ option_to_list result ++ dirty_at self.new home }
+        ensures first { TakesFirst self.old self.new home result }
         ensures nobody { IfNone result (dirty_at self.old home ≡ []) }
-        ensures others { (worker : ℕ) → worker ≤ 63 → same_number home worker ≡ false → dirty_at self.new worker ≡ dirty_at self.old worker }
+        ensures others { KeepsOthers self.old self.new home }
     {
         self.inner.next_dirty(home)
     }

@@ -9,29 +9,29 @@ ghost use Rattle.lobby_lock.specs.Passes.{first_pass, new_pass};
 ghost use Rattle.lobby_lock.specs.Closing.{IsOut};
 ghost use Rattle.lobby_lock.specs.declared.closing.CloseError.TheVariants.{StillOut};
 
-use crate::bell::Bell;
 use crate::boxed::BoxedLobby;
 use crate::closing::{CloseError, Closing, first_out};
+use crate::event_count::EventCount;
 use crate::held::Held;
 use crate::pass::{Counts, Pass};
 use crate::place::{begin, fetch};
 use crate::rule::{HandingOut, LastBack, Place, Taking, TakingBack, TakingForGood};
 use lobby_machine::Lobby;
+use lobby_model::WORKERS;
 use std::alloc::{AllocError, Global};
 use std::marker::Model;
 use std::sync::Wait;
 use thiserror::Error;
 
-/// How many passes are handed out at most. With worker 0 there are then 64 workers, as many as a set
-/// of woken workers has places.
-pub const MOST_HANDED_OUT: u64 = 63;
+/// How many passes are handed out at most: one for each worker but worker 0.
+pub const MOST_HANDED_OUT: u64 = WORKERS as u64 - 1;
 
 /// How many events a hold has at most. Room for so many is made with each pass, so that no event
 /// needs memory for its entry in the history.
 pub const MOST_EVENTS: usize = 32;
 
 /// How many places for counts worker 0's pass has: one for each number, its own among them.
-const PLACES: usize = 64;
+const PLACES: usize = WORKERS as usize;
 
 /// Why a desk was not opened, or a pass not handed out.
 #[derive(Clone, Copy, PartialEq, Eq, Debug, Error)]
@@ -49,7 +49,7 @@ pub enum DeskError {
 #[derive(Drop)]
 pub struct Desk {
     pub(crate) place: Place,
-    pub(crate) bell: Bell,
+    pub(crate) event_count: EventCount,
 }
 
 impl Model for Desk {
@@ -83,7 +83,7 @@ impl Desk {
             return Err(DeskError::Memory);
         };
         begin(rt, &place, &mut inner, lobby);
-        let bell = Bell::new();
+        let event_count = EventCount::new();
         let pass = Pass {
             inner,
             number: 0,
@@ -91,7 +91,7 @@ impl Desk {
             room,
             counts: Counts { made: 0, places },
         };
-        Ok((Desk { place, bell }, pass))
+        Ok((Desk { place, event_count }, pass))
     }
 
     /// A pass for one worker more, which bears the next number and has seen what worker 0 has. Worker
@@ -193,7 +193,7 @@ impl Desk {
             room,
             counts,
         } = pass;
-        let lobby = fetch::<Taking, R>(rt, &self.place, &self.bell, &mut inner);
+        let lobby = fetch::<Taking, R>(rt, &self.place, &self.event_count, &mut inner);
         Held {
             inner,
             number,
@@ -223,7 +223,7 @@ impl Desk {
         if let Some(number) = first_out(pass.counts.places.as_slice(), pass.handed) {
             return Err((self, pass, CloseError::StillOut(number)));
         }
-        let Desk { place, bell } = self;
+        let Desk { place, event_count } = self;
         let Pass {
             mut inner,
             number: _,
@@ -231,10 +231,10 @@ impl Desk {
             room,
             counts,
         } = pass;
-        let lobby = fetch::<TakingForGood, R>(rt, &place, &bell, &mut inner);
+        let lobby = fetch::<TakingForGood, R>(rt, &place, &event_count, &mut inner);
         drop(room);
         drop(place);
-        drop(bell);
+        drop(event_count);
         Ok(Closing {
             inner,
             handed,

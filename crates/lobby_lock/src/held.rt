@@ -1,15 +1,12 @@
 //! A hold of the lobby.
 
-ghost use Rattle.std.specs.Prelude.{◌≡◌, ℕ, ◌+◌, ◌<◌, ◌≤◌, ◌↔◌, [], ◌∷◌, ◌++◌, length, take, drop, min, OnOk, OnErr, IfNone, IfOk, IsTrue, true, false};
-ghost use Rattle.std.specs.Option.{option_to_list};
-ghost use Rattle.line_words.specs.Table.{same_number};
+ghost use Rattle.std.specs.Prelude.{◌≡◌, ◌<◌, ◌≤◌, ◌↔◌, [], length, OnOk, OnErr, IfNone, IfOk, IsTrue, false};
 ghost use Rattle.command_grammar.specs.Kinds.{keeps_kinds};
 ghost use Rattle.lobby_model.specs.declared.event.Event.TheVariants as event;
 ghost use Rattle.lobby_model.specs.Sessions.{has_place};
-ghost use Rattle.lobby_model.specs.Next.{next};
 ghost use Rattle.lobby_post.specs.Mail.{IsWakes};
-ghost use Rattle.lobby_machine.specs.Shown.{dirty_at, unread_of, is_finished};
-ghost use Rattle.lobby_lock.specs.Passes.{lobby_after, pass_after};
+ghost use Rattle.lobby_machine.specs.Shown.{Applies, HasNoNumber, IsFull, IsNextNumber, KeepsOthers, Opens, TakesFirst, count_into, filled, dirty_at, unread_of, is_finished};
+ghost use Rattle.lobby_lock.specs.Passes.{AddsEvent, lobby_after, pass_after};
 
 use crate::boxed::BoxedLobby;
 use crate::desk::{Desk, MOST_EVENTS};
@@ -59,11 +56,11 @@ impl Held {
     pub fn open(&mut self, ip: [u8; 4], home: u8) -> Result<u64, OpenError>
         requires few { length self.old.events < MOST_EVENTS }
         requires home { home ≤ 63 }
-        ensures number { IfOk result (λ number. number ≡ self.old.lobby.plain.last_client + 1) }
-        ensures ok { OnOk result ((has_place self.old.lobby.plain ≡ true) × (self.new.lobby.plain ≡ next self.old.lobby.plain (event.Open ip home))) }
-        ensures event { OnOk result (self.new ≡ record self.old { lobby = self.new.lobby; events = self.old.events ++ event.Open ip home ∷ [] }) }
-        ensures full { (result ≡ Err OpenError.Full) ↔ (10000 ≤ length self.old.lobby.plain.clients) }
-        ensures no_number { result ≡ Err OpenError.NoNumber → self.old.lobby.plain.last_client ≡ 18446744073709551615 }
+        ensures number { IfOk result (λ number. IsNextNumber self.old.lobby number) }
+        ensures ok { OnOk result (Opens self.old.lobby self.new.lobby ip home) }
+        ensures event { OnOk result (AddsEvent self.old self.new (event.Open ip home)) }
+        ensures full { (result ≡ Err OpenError.Full) ↔ IsFull self.old.lobby }
+        ensures no_number { result ≡ Err OpenError.NoNumber → HasNoNumber self.old.lobby }
         ensures no_place { has_place self.old.lobby.plain ≡ false → result ≡ Err OpenError.Memory → ⊥ }
         ensures err { OnErr result (self.new ≡ self.old) }
     {
@@ -82,9 +79,9 @@ impl Held {
     pub fn say(&mut self, client: u64, request: Request) -> Result<Wakes, AllocError>
         requires few { length self.old.events < MOST_EVENTS }
         requires kinds { IsTrue (keeps_kinds request.command) }
-        ensures ok { OnOk result (self.new.lobby.plain ≡ next self.old.lobby.plain (event.Say client request)) }
+        ensures ok { OnOk result (Applies self.old.lobby self.new.lobby (event.Say client request)) }
         ensures wakes { IfOk result (λ wakes. IsWakes self.old.lobby.plain (event.Say client request) wakes) }
-        ensures event { OnOk result (self.new ≡ record self.old { lobby = self.new.lobby; events = self.old.events ++ event.Say client request ∷ [] }) }
+        ensures event { OnOk result (AddsEvent self.old self.new (event.Say client request)) }
         ensures err { OnErr result (self.new ≡ self.old) }
     {
         match self.lobby.say(client, &request) {
@@ -103,9 +100,9 @@ impl Held {
     /// nothing. Fails only where memory is refused, and then nothing changes.
     pub fn shut(&mut self, client: u64) -> Result<Wakes, AllocError>
         requires few { length self.old.events < MOST_EVENTS }
-        ensures ok { OnOk result (self.new.lobby.plain ≡ next self.old.lobby.plain (event.Shut client)) }
+        ensures ok { OnOk result (Applies self.old.lobby self.new.lobby (event.Shut client)) }
         ensures wakes { IfOk result (λ wakes. IsWakes self.old.lobby.plain (event.Shut client) wakes) }
-        ensures event { OnOk result (self.new ≡ record self.old { lobby = self.new.lobby; events = self.old.events ++ event.Shut client ∷ [] }) }
+        ensures event { OnOk result (AddsEvent self.old self.new (event.Shut client)) }
         ensures err { OnErr result (self.new ≡ self.old) }
     {
         match self.lobby.shut(client) {
@@ -121,11 +118,11 @@ impl Held {
     /// where there are none. It takes no memory.
     pub fn drain(&mut self, client: u64, into: &mut [u8]) -> Drained
         requires few { length self.old.events < MOST_EVENTS }
-        ensures count { result.count ≡ min (length (unread_of self.old.lobby.plain client)) (length into.old) }
-        ensures given { into.new ≡ take result.count (unread_of self.old.lobby.plain client) ++ drop result.count into.old }
+        ensures count { result.count ≡ count_into self.old.lobby.plain client into.old }
+        ensures given { into.new ≡ filled self.old.lobby.plain client result.count into.old }
         ensures finished { result.finished ≡ is_finished self.new.lobby.plain client }
-        ensures next { self.new.lobby.plain ≡ next self.old.lobby.plain (event.Drain client (length into.old)) }
-        ensures event { self.new ≡ record self.old { lobby = self.new.lobby; events = self.old.events ++ event.Drain client (length into.old) ∷ [] } }
+        ensures next { Applies self.old.lobby self.new.lobby (event.Drain client (length into.old)) }
+        ensures event { AddsEvent self.old self.new (event.Drain client (length into.old)) }
     {
         let count = into.len();
         let drained = self.lobby.drain(client, into);
@@ -139,9 +136,9 @@ impl Held {
     pub fn next_dirty(&mut self, home: u8) -> Option<u64>
         requires { home ≤ 63 }
         ensures plain { self.new.lobby.plain ≡ self.old.lobby.plain }
-        ensures first { dirty_at self.old.lobby home ≡ option_to_list result ++ dirty_at self.new.lobby home }
+        ensures first { TakesFirst self.old.lobby self.new.lobby home result }
         ensures nobody { IfNone result (dirty_at self.old.lobby home ≡ []) }
-        ensures others { (worker : ℕ) → worker ≤ 63 → same_number home worker ≡ false → dirty_at self.new.lobby worker ≡ dirty_at self.old.lobby worker }
+        ensures others { KeepsOthers self.old.lobby self.new.lobby home }
         ensures rest { self.new ≡ record self.old { lobby = self.new.lobby } }
     {
         self.lobby.next_dirty(home)
@@ -170,7 +167,7 @@ impl Held {
         } = self;
         let made = made.saturating_add(events.len() as u64);
         put_back::<Brand, R>(rt, &desk.place, &mut inner, lobby, events.as_slice());
-        desk.bell.ring();
+        desk.event_count.notify();
         events.clear();
         Pass {
             inner,

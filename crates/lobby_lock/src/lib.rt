@@ -14,10 +14,10 @@
 //! - worker 0 takes the lobby for good (`Desk::close`), once the passes of all others came back.
 #![tactic(auto)]
 
-mod bell;
 mod boxed;
 mod closing;
 mod desk;
+mod event_count;
 mod held;
 mod pass;
 mod place;

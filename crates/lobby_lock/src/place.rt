@@ -6,8 +6,8 @@ ghost use Rattle.crossbeam_queue.specs.Fifo.{Pops};
 ghost use Rattle.lobby_lock.specs.Rule.{OneHistory, new_worker, opened, gave};
 ghost use Rattle.lobby_lock.specs.Passes.{shown_pass, lobby_after};
 
-use crate::bell::Bell;
 use crate::boxed::BoxedLobby;
+use crate::event_count::EventCount;
 use crate::rule::{Giving, Happened, Opening, Place, PlacePass};
 use crate::view::View;
 use crossbeam_queue::protocol::Outcome;
@@ -52,7 +52,7 @@ pub fn put_back<E: Happened, R: Wait>(
 pub fn fetch<M: Outcome<BoxedLobby, View>, R: Wait>(
     rt: &R,
     place: &Place,
-    bell: &Bell,
+    event_count: &EventCount,
     pass: &mut PlacePass,
 ) -> BoxedLobby
     requires queue { IsPassOf place.now pass.old }
@@ -62,11 +62,11 @@ pub fn fetch<M: Outcome<BoxedLobby, View>, R: Wait>(
 {
     let mut looks = 0;
     for _ in rt.forever() {
-        bell.announce(looks);
+        event_count.announce(looks);
         if let Some(lobby) = place.try_pop_as::<M>(pass) {
             return lobby;
         }
-        looks = bell.wait(rt, looks);
+        looks = event_count.wait(rt, looks);
     }
     unreachable!()
 }

@@ -8,7 +8,7 @@ use std::thread;
 /// by then, and a sleep costs several times such a hold.
 const YIELDS: u64 = 16;
 
-/// What the bell shows where a give has nobody to wake.
+/// What the event count shows where a give has nobody to wake.
 const NOBODY: u64 = 0;
 
 /// What it shows where somebody may be asleep.
@@ -22,14 +22,14 @@ const SLEEPERS: u64 = 1;
 /// shown or one who was woken is on its way to show it; and a give that meets no sleeper makes no
 /// call of the system, also while one who was woken has not come to run.
 #[derive(Drop)]
-pub struct Bell {
+pub struct EventCount {
     shows: AtomicU64,
 }
 
-impl Bell {
+impl EventCount {
     /// Nobody sleeps.
-    pub fn new() -> Bell {
-        Bell {
+    pub fn new() -> EventCount {
+        EventCount {
             shows: AtomicU64::new(NOBODY),
         }
     }
@@ -54,8 +54,8 @@ impl Bell {
         0
     }
 
-    /// Rings at a give: one of those who sleep wakes.
-    pub fn ring(&self) {
+    /// Notifies of a give: one of those who sleep wakes.
+    pub fn notify(&self) {
         if self.shows.swap(NOBODY, Ordering::SeqCst) == SLEEPERS {
             self.shows.wake_one();
         }
