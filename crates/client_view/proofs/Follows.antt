@@ -1,22 +1,16 @@
 -- What a view followed, after a line ended, after more of an unfinished line came, and behind a line that is too long.
-use Rattle.std.proofs.Common.{◌≡◌, ℕ, ◌+◌, ◌<◌, ◌≤◌, List, [], ◌∷◌, ◌++◌, length, refl, sym, ap, subst, ◌∙◌, true, false, T, append_assoc, append-nil, length-append}
+use Rattle.std.proofs.Common.{◌≡◌, ℕ, ◌+◌, ◌<◌, ◌≤◌, List, [], ◌∷◌, ◌++◌, length, sym, ap, subst, ◌∙◌, true, false, T, append-nil, length-append}
 use Rattle.line_framer.specs.Frames.{frames, is_spoilt, rest_of, without_cr}
 use Rattle.line_framer.specs.Buffered.{HasNoEnd}
 use Rattle.line_framer.proofs.Stands.{spoilt_for_good}
 use Rattle.reply_grammar.specs.declared.Reply.{Reply}
 use Rattle.reply_reader.specs.Lines.{read_line}
-use Rattle.lobby_view.specs.View.{View, new_view, shown, shown_all}
+use Rattle.lobby_view.specs.View.{new_view, shown_all}
 use Rattle.lobby_view.specs.Bytes.{frame_limit, one_read, all_read}
+use Rattle.lobby_view.proofs.Basics.{shown_all-append}
+use Rattle.lobby_view.proofs.Pieces.{all_read-append}
 use Rattle.client_view.specs.Following.{Following, Followed, count_read}
 use Rattle.client_view.proofs.Ended.{ended_frames, ended_spoilt, ended_rest, open_frames, open_spoilt, open_rest, long_spoilt, long_frames}
-
-shown_all-append : (v : View) (xs ys : List Reply) → shown_all v (xs ++ ys) ≡ shown_all (shown_all v xs) ys
-shown_all-append v [] ys = refl
-shown_all-append v (x ∷ xs) ys = shown_all-append (shown v x) xs ys
-
-all_read-append : (xs ys : List (List ℕ)) → all_read (xs ++ ys) ≡ all_read xs ++ all_read ys
-all_read-append [] ys = refl
-all_read-append (x ∷ xs) ys = ap (λ rs. one_read (read_line x) ++ rs) (all_read-append xs ys) ∙ sym (append_assoc (one_read (read_line x)) (all_read xs) (all_read ys))
 
 -- the reply of one frame, if one printed it
 abbrev pub read_of : List ℕ → List Reply

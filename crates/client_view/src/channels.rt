@@ -1,8 +1,9 @@
 //! The channels that the client is in.
 
 ghost use Rattle.std.specs.Prelude.{◌≡◌, [], ◌∷◌, OnOk, OnErr, length, slice_get, option_copied};
+ghost use Rattle.std.specs.List.Sorted.{IsStrictlySortedBy};
 ghost use Rattle.std.specs.Map.{keys_of};
-ghost use Rattle.line_words.specs.Table.{at_name, put_name, without_name, change_name, all_but};
+ghost use Rattle.line_words.specs.Table.{name_cmp, at_name, put_name, without_name, change_name, all_but};
 ghost use Rattle.lobby_view.specs.View.{at_end};
 
 use crate::names::Names;
@@ -55,7 +56,8 @@ impl Channels {
 
     /// The name of the channel with `k` of them before it, in the order of the bytes of names.
     pub fn name_at(&self, k: usize) -> Option<&NameBuf>
-        ensures { option_copied result ≡ slice_get (keys_of self.now) k }
+        ensures name { option_copied result ≡ slice_get (keys_of self.now) k }
+        ensures ordered { IsStrictlySortedBy name_cmp (keys_of self.now) }
     {
         self.by_name.keys().nth(k)
     }
