@@ -41,7 +41,7 @@ failed=0
 for ((number = 1; number <= 1000; number++)); do
     said=$(start "$number")
     case $said in
-        '4 no memory' | '4 listening no memory' | '3 listening cannot listen') ;;
+        '4 no memory' | '3 cannot listen') ;;
         '0 listening worker 0: 0 events worker 1: 0 events') break ;;
         *) echo "allocation $number refused to a server that starts: $said"; failed=$((failed + 1)) ;;
     esac

@@ -1,7 +1,10 @@
 //! The arguments of the program, and how it ends.
 
+ghost use Rattle.std.specs.Prelude.{◌≡◌, ◌≤◌};
+
 use crate::hash::hash_line;
 use crate::serve::serve;
+use lobby_workers::ServerError;
 use std::fmt::Display;
 use std::net::Net;
 use std::rt::{Env, Files};
@@ -12,19 +15,30 @@ use std::{env, io};
 const USAGE: &str = "usage: lobby_main serve SETTINGS ACCOUNTS or lobby_main hash";
 
 /// Tells why the program ends, and gives its exit status. A line that cannot be printed is lost.
-fn fail<R: Eprint, D: Display + Drop>(rt: &R, reason: D, status: u8) -> u8 {
+fn fail<R: Eprint, D: Display + Drop>(rt: &R, reason: D, status: u8) -> u8
+    ensures { result ≡ status }
+{
     let _ = rt.eprintln(reason);
     status
 }
 
+/// Tells by which error the program ends, and gives its exit status.
+fn fail_by<R: Eprint>(rt: &R, error: ServerError) -> u8
+    ensures { result ≤ 4 }
+{
+    fail(rt, error, error.status())
+}
+
 /// Prints the password word of standard input's first line.
-fn print_word<R: Input + Print + Eprint>(rt: &R) -> u8 {
+fn print_word<R: Input + Print + Eprint>(rt: &R) -> u8
+    ensures { result ≤ 4 }
+{
     let mut reader = rt.reader();
     let mut writer = io::writer(rt);
     match hash_line(&mut reader, &mut writer) {
         0 => 0,
         1 => fail(rt, USAGE, 1),
-        status => fail(rt, "cannot read input", status),
+        _ => fail_by(rt, ServerError::Input),
     }
 }
 
@@ -32,13 +46,11 @@ fn print_word<R: Input + Print + Eprint>(rt: &R) -> u8 {
 fn run_server<R>(rt: &R, settings: &str, accounts: &str) -> u8
 where
     R: Files + Input + Print + Eprint + AllocGlobal + Threads + Wait + Net + Sync,
+    ensures { result ≤ 4 }
 {
     match serve(rt, settings, accounts) {
-        Ok(0) => 0,
-        Ok(2) => fail(rt, "cannot read input", 2),
-        Ok(3) => fail(rt, "cannot listen", 3),
-        Ok(status) => fail(rt, "no memory", status),
-        Err(error) => fail(rt, error, error.status()),
+        Ok(()) => 0,
+        Err(error) => fail_by(rt, error),
     }
 }
 
@@ -48,10 +60,11 @@ where
 pub fn run<R>(rt: &R) -> u8
 where
     R: Files + Env + Input + Print + Eprint + AllocGlobal + Threads + Wait + Net + Sync,
+    ensures { result ≤ 4 }
 {
     let mut words = match env::args(rt) {
         Ok(words) => words,
-        Err(e) if e.kind() == io::ErrorKind::OutOfMemory => return fail(rt, "no memory", 4),
+        Err(e) if e.kind() == io::ErrorKind::OutOfMemory => return fail_by(rt, ServerError::Memory),
         Err(_) => return fail(rt, USAGE, 1),
     };
     words.next();

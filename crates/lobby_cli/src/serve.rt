@@ -5,42 +5,13 @@ ghost use Rattle.std.specs.Prelude.{◌≤◌, IfOk};
 use account_book::AccountBook;
 use lobby_files::{FileError, accounts_at, settings_at};
 use lobby_setup::Setup;
-use lobby_workers::{Gate, Service, run_server};
+use lobby_workers::{Gate, ServerError, Service, run_server};
 use mio::net::TcpListener;
 use std::io;
 use std::net::{Net, SocketAddr};
 use std::rt::Files;
 use std::sync::Wait;
 use std::thread::Threads;
-use thiserror::Error;
-
-/// Why no server starts.
-#[derive(Clone, Copy, PartialEq, Eq, Debug, Error)]
-pub enum ServeError {
-    /// The file of settings cannot be read, or is refused.
-    #[error("cannot use settings")]
-    Settings,
-    /// The file of accounts cannot be read, or is refused.
-    #[error("cannot use accounts")]
-    Accounts,
-    /// The address is not one at which this program can listen.
-    #[error("cannot listen")]
-    Listener,
-    /// Memory was refused.
-    #[error("no memory")]
-    Memory,
-}
-
-impl ServeError {
-    /// The exit status of the program.
-    pub fn status(self) -> u8 {
-        match self {
-            ServeError::Settings | ServeError::Accounts => 2,
-            ServeError::Listener => 3,
-            ServeError::Memory => 4,
-        }
-    }
-}
 
 /// The gate of the program: nobody looks at its workers.
 struct OpenGate;
@@ -54,28 +25,28 @@ impl Gate for OpenGate {
 }
 
 /// What a server is set up to by its file of settings.
-fn setup_at<R: Files + AllocGlobal>(rt: &R, path: &str) -> Result<Setup, ServeError>
+fn setup_at<R: Files + AllocGlobal>(rt: &R, path: &str) -> Result<Setup, ServerError>
     ensures { IfOk result (λ setup. (1 ≤ setup.workers) × (setup.workers ≤ 64)) }
 {
     match settings_at(rt, path) {
         Ok(setup) => Ok(setup),
-        Err(FileError::Memory) => Err(ServeError::Memory),
-        Err(_) => Err(ServeError::Settings),
+        Err(FileError::Memory) => Err(ServerError::Memory),
+        Err(_) => Err(ServerError::Settings),
     }
 }
 
 /// The accounts of a server.
-fn book_at<R: Files + AllocGlobal>(rt: &R, path: &str) -> Result<AccountBook, ServeError> {
+fn book_at<R: Files + AllocGlobal>(rt: &R, path: &str) -> Result<AccountBook, ServerError> {
     match accounts_at(rt, path) {
         Ok(accounts) => Ok(accounts),
-        Err(FileError::Memory) => Err(ServeError::Memory),
-        Err(_) => Err(ServeError::Accounts),
+        Err(FileError::Memory) => Err(ServerError::Memory),
+        Err(_) => Err(ServerError::Accounts),
     }
 }
 
-/// Runs a server by its files, and gives the status that `run_server` says. The first fault in the order of
-/// settings, accounts and listener is the answer.
-pub fn serve<R>(rt: &R, settings: &str, accounts: &str) -> Result<u8, ServeError>
+/// Runs a server by its files, until its input ends or the program is killed. The first fault in the order of
+/// settings, accounts and listener is the answer, and then what `run_server` gives.
+pub fn serve<R>(rt: &R, settings: &str, accounts: &str) -> Result<(), ServerError>
 where
     R: Files + Input + Print + AllocGlobal + Threads + Wait + Net + Sync,
 {
@@ -92,11 +63,11 @@ where
         stop_at_input_end,
     };
     let Ok(listener) = TcpListener::bind(rt, SocketAddr::V4(address)) else {
-        return Err(ServeError::Listener);
+        return Err(ServerError::Listener);
     };
     let mut input = rt.reader();
     let mut output = io::writer(rt);
-    Ok(run_server(
+    let status = run_server(
         rt,
         rt.alloc(),
         service,
@@ -104,5 +75,9 @@ where
         &mut input,
         &mut output,
         &OpenGate,
-    ))
+    );
+    match ServerError::of_run(status) {
+        None => Ok(()),
+        Some(error) => Err(error),
+    }
 }

@@ -1,10 +1,12 @@
 //! The connections of a worker, and who gets the next turn.
 
-ghost use Rattle.std.specs.Prelude.{◌≡◌, ◌<◌, ◌≤◌, [], true, false, length, slice_index_or, OnOk, OnSome};
+ghost use Rattle.std.specs.Prelude.{◌≡◌, ◌+◌, ◌<◌, ◌≤◌, ◌||◌, [], true, false, length, slice_index_or, IfSome, OnOk, OnSome};
+ghost use Rattle.lobby_post.specs.Mask.{has_home};
 ghost use Rattle.lobby_connections.specs.Table.{Leaves, Stays};
+ghost use Rattle.lobby_connections.specs.Timeouts.{shorter};
 
 use crate::connection::Connection;
-use crate::pause::Pause;
+use crate::poll_timeout::PollTimeout;
 use lobby_lock::{Held, MOST_EVENTS};
 use lobby_machine::Wakes;
 use lobby_turns::{Conn, TurnState};
@@ -42,7 +44,7 @@ pub struct Connections {
     is_each_left: bool,
     // those whose clients were shut
     lingering: Lingering,
-    pause: Pause,
+    timeout: PollTimeout,
 }
 
 impl Model for Connections {
@@ -53,7 +55,7 @@ impl Model for Connections {
 
     ghost Value = { Table };
 
-    ghost view = { λ c. record { due = c.due.items; is_each_due = c.is_each_due; left = c.left.items; is_each_left = c.is_each_left; room = min (c.slab.capacity - slab_len c.slab) (spare c.keys) } };
+    ghost view = { λ c. record { due = c.due.items; is_each_due = c.is_each_due; left = c.left.items; is_each_left = c.is_each_left; named = c.named.items; is_marked = c.is_marked; timeout = c.timeout; count = slab_len c.slab; key_bound = c.slab.capacity; room = min (c.slab.capacity - slab_len c.slab) (spare c.keys) } };
 }
 
 impl Connections {
@@ -61,6 +63,9 @@ impl Connections {
     pub fn new(alloc: Global) -> Connections
         ensures due { (result.due ≡ []) × (result.is_each_due ≡ false) }
         ensures left { (result.left ≡ []) × (result.is_each_left ≡ false) }
+        ensures named { (result.named ≡ []) × (result.is_marked ≡ false) }
+        ensures none { result.count ≡ 0 }
+        ensures timeout { result.timeout ≡ PollTimeout.Endless }
     {
         Connections {
             alloc,
@@ -74,30 +79,30 @@ impl Connections {
             left: Vec::new(alloc),
             is_each_left: false,
             lingering: Lingering::new(alloc),
-            pause: Pause::Long,
+            timeout: PollTimeout::Endless,
         }
     }
 
     /// How long the worker may wait before the next round.
-    pub fn pause(&self) -> Pause {
-        self.pause
+    pub fn poll_timeout(&self) -> PollTimeout
+        ensures { result ≡ self.now.timeout }
+    {
+        self.timeout
     }
 
     /// Has the worker wait no longer than this before the next round.
-    pub fn hurry(&mut self, pause: Pause)
-        ensures { self.new ≡ self.old }
+    pub fn hurry(&mut self, timeout: PollTimeout)
+        ensures { self.new ≡ record self.old { timeout = shorter self.old.timeout timeout } }
     {
-        self.pause = self.pause.or(pause);
+        self.timeout = self.timeout.or(timeout);
     }
 
     /// A round begins: those are due who were left in the round before.
     pub fn begin_round(&mut self)
-        ensures due { (self.new.due ≡ self.old.left) × (self.new.is_each_due ≡ self.old.is_each_left) }
-        ensures left { (self.new.left ≡ []) × (self.new.is_each_left ≡ false) }
-        ensures room { self.new.room ≡ self.old.room }
+        ensures { self.new ≡ record self.old { due = self.old.left; is_each_due = self.old.is_each_left; left = []; is_each_left = false; timeout = PollTimeout.Endless } }
     {
         self.round = self.round.wrapping_add(1);
-        self.pause = Pause::Long;
+        self.timeout = PollTimeout::Endless;
         self.due.clear();
         mem::swap(&mut self.due, &mut self.left);
         self.is_each_due = self.is_each_left;
@@ -105,18 +110,23 @@ impl Connections {
     }
 
     /// How many connections there are.
-    pub fn len(&self) -> usize {
+    pub fn len(&self) -> usize
+        ensures { result ≡ self.now.count }
+    {
         self.slab.len()
     }
 
     /// More than any key of a connection.
-    pub fn places(&self) -> usize {
+    pub fn key_bound(&self) -> usize
+        ensures { result ≡ self.now.key_bound }
+    {
         self.slab.capacity()
     }
 
     /// How many are due in this round. Where someone found no place in the list of those, each is.
     pub fn due(&self) -> usize
-        ensures { self.now.is_each_due ≡ false → result ≡ length self.now.due }
+        ensures each { self.now.is_each_due ≡ true → result ≡ self.now.key_bound }
+        ensures listed { self.now.is_each_due ≡ false → result ≡ length self.now.due }
     {
         if self.is_each_due {
             self.slab.capacity()
@@ -125,22 +135,22 @@ impl Connections {
         }
     }
 
-    /// The key of one that is due in this round, by its place from 0. Of a place that is not below `due` it is 0.
-    pub fn due_at(&self, place: usize) -> usize
-        ensures each { self.now.is_each_due ≡ true → result ≡ place }
-        ensures listed { self.now.is_each_due ≡ false → result ≡ slice_index_or self.now.due place 0 }
+    /// The key of one that is due in this round, by its index. Of an index that is not below `due` it is 0.
+    pub fn due_key(&self, index: usize) -> usize
+        ensures each { self.now.is_each_due ≡ true → result ≡ index }
+        ensures listed { self.now.is_each_due ≡ false → result ≡ slice_index_or self.now.due index 0 }
     {
         if self.is_each_due {
-            return place;
+            return index;
         }
-        match self.due.get(place) {
+        match self.due.get(index) {
             Some(key) => *key,
             None => 0,
         }
     }
 
     /// Room for one connection more: for itself, its key and its name. Fails only where memory is refused.
-    fn make_room(&mut self) -> Result<(), AllocError>
+    fn reserve(&mut self) -> Result<(), AllocError>
         ensures room { OnOk result (0 < self.new.room) }
         ensures rest { Stays self.old self.new }
     {
@@ -156,7 +166,7 @@ impl Connections {
         ensures room { OnSome result (0 < self.new.room) }
         ensures rest { Stays self.old self.new }
     {
-        if self.make_room().is_err() {
+        if self.reserve().is_err() {
             return None;
         }
         // A line is to leave at once, also while an earlier one is on its way.
@@ -172,7 +182,8 @@ impl Connections {
     /// Takes in a connection that was prepared, behind which none was, and whose client was opened.
     pub fn put(&mut self, client: u64, link: WireLink)
         requires { 0 < self.old.room }
-        ensures { Stays self.old self.new }
+        ensures rest { Stays self.old self.new }
+        ensures count { self.new.count ≡ self.old.count + 1 }
     {
         let conn = Conn::new(self.alloc, client);
         let connection = Connection::new(conn, link, self.round.wrapping_sub(1));
@@ -220,24 +231,24 @@ impl Connections {
     /// Sees to it that a connection goes on as its turn ended: where it stopped at a limit or for want of memory, it is left for the
     /// next round. One whose client was shut lingers.
     pub fn end_turn(&mut self, registry: &Registry, key: usize, state: TurnState)
-        ensures again { state ≡ TurnState.Again → Leaves self.old self.new key }
-        ensures memory { state ≡ TurnState.Memory → Leaves self.old self.new key }
+        ensures again { state ≡ TurnState.Again → Leaves self.old self.new key PollTimeout.Zero }
+        ensures memory { state ≡ TurnState.Memory → Leaves self.old self.new key PollTimeout.Short }
         ensures idle { state ≡ TurnState.Idle → self.new ≡ self.old }
         ensures closed { state ≡ TurnState.Closed → Stays self.old self.new }
     {
         match state {
             TurnState::Idle => {}
-            TurnState::Again => self.leave(key, Pause::None),
-            TurnState::Memory => self.leave(key, Pause::Short),
+            TurnState::Again => self.leave(key, PollTimeout::Zero),
+            TurnState::Memory => self.leave(key, PollTimeout::Short),
             TurnState::Closed => self.close(registry, key),
         }
     }
 
-    /// A connection is left for the next round.
-    fn leave(&mut self, key: usize, pause: Pause)
-        ensures { Leaves self.old self.new key }
+    /// A connection is left for the next round, before which the worker waits no longer than this.
+    fn leave(&mut self, key: usize, timeout: PollTimeout)
+        ensures { Leaves self.old self.new key timeout }
     {
-        self.hurry(pause);
+        self.hurry(timeout);
         if self.left.push(key).is_err() {
             self.is_each_left = true;
         }
@@ -258,19 +269,21 @@ impl Connections {
     /// Marks the worker where a turn touched its clients, which are those of this home: the lobby may name more of them.
     pub fn mark(&mut self, home: u8, wakes: Wakes)
         requires { home ≤ 63 }
-        ensures { self.new ≡ self.old }
+        ensures { self.new ≡ record self.old { is_marked = self.old.is_marked || has_home wakes home } }
     {
         self.is_marked |= wakes.has(home);
     }
 
     /// Whether the lobby may name more clients, of which no other worker tells.
-    pub fn is_marked(&self) -> bool {
+    pub fn is_marked(&self) -> bool
+        ensures { result ≡ self.now.is_marked }
+    {
         self.is_marked
     }
 
     /// Says whether the lobby may name more clients.
     pub fn set_marked(&mut self, is_marked: bool)
-        ensures { self.new ≡ self.old }
+        ensures { self.new ≡ record self.old { is_marked = is_marked } }
     {
         self.is_marked = is_marked;
     }
@@ -280,24 +293,28 @@ impl Connections {
     pub fn take_names(&mut self, held: &mut Held, home: u8) -> bool
         requires { home ≤ 63 }
         ensures pass { held.new.pass ≡ held.old.pass }
-        ensures table { self.new ≡ self.old }
+        ensures table { self.new ≡ record self.old { named = self.new.named } }
     {
         names_in(held, home, &mut self.named)
     }
 
     /// How many clients are named.
-    pub fn named(&self) -> usize {
+    pub fn named(&self) -> usize
+        ensures { result ≡ length self.now.named }
+    {
         self.named.len()
     }
 
-    /// The key of the connection of one that is named, by its place from 0. None where there is none: it has gone meanwhile.
-    pub fn named_at(&self, place: usize) -> Option<usize> {
-        self.keys.get(self.named.get(place)?).copied()
+    /// The key of the connection of one that is named, by its index. None where there is none: it has gone meanwhile.
+    pub fn named_key(&self, index: usize) -> Option<usize>
+        ensures { IfSome result (λ _. index < length self.now.named) }
+    {
+        self.keys.get(self.named.get(index)?).copied()
     }
 
     /// Nobody is named any more.
     pub fn forget_named(&mut self)
-        ensures { self.new ≡ self.old }
+        ensures { self.new ≡ record self.old { named = [] } }
     {
         self.named.clear();
     }

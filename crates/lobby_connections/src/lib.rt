@@ -5,8 +5,8 @@
 
 mod connection;
 mod connections;
-mod pause;
+mod poll_timeout;
 
 pub use connection::Connection;
 pub use connections::{Connections, NAMES_IN_HOLD};
-pub use pause::Pause;
+pub use poll_timeout::PollTimeout;

@@ -1,1 +1,1 @@
-pub mod Seats
+pub mod Pushed

@@ -4,11 +4,11 @@
 //! tells and of who is woken when nothing is proved but that it is safe.
 #![tactic(auto)]
 
-mod crew;
 mod error;
 mod server;
 mod turns;
 mod worker;
+mod worker_handles;
 
 pub use error::ServerError;
 pub use lobby_turns::{Conn, Gate, Got, Link, Sent, Turn, TurnState, serve};

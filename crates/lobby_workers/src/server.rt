@@ -2,15 +2,16 @@
 
 ghost use Rattle.std.specs.Prelude.{◌≡◌, ◌≤◌, [], IfOk, IfErr, OnOk, vec_len, vec_capacity};
 ghost use Rattle.std.specs.List.{All};
+ghost use Rattle.lobby_workers.specs.Statuses.{IsEnd};
 
-use crate::crew::Crew;
 use crate::error::ServerError;
 use crate::turns::Shared;
-use crate::worker::{Station, run_worker};
+use crate::worker::{WorkerLoop, run_worker};
+use crate::worker_handles::WorkerHandles;
 use account_book::AccountBook;
 use lobby_lock::{Closing, Count, Desk, DeskError, Pass};
 use lobby_machine::Lobby;
-use lobby_model::Settings;
+use lobby_model::{Settings, WORKERS};
 use lobby_turns::Gate;
 use mio::net::TcpListener;
 use std::alloc::{AllocError, Global};
@@ -33,8 +34,8 @@ pub struct Service {
 
 /// A worker before it starts.
 #[derive(Drop)]
-struct Seat {
-    station: Station,
+struct NewWorker {
+    worker_loop: WorkerLoop,
     pass: Pass,
 }
 
@@ -48,7 +49,16 @@ impl Promise<Pass> for SamePass {
     ghost kept_by = { λ p r. (r.desk ≡ p.0.value.desk) × (r.worker.number ≡ p.0.value.worker.number) };
 }
 
-type Handle = PromisedHandle<Pass, SamePass>;
+type WorkerThread = PromisedHandle<Pass, SamePass>;
+
+/// What the first thread reads and writes while the workers run.
+#[derive(Drop)]
+struct Streams<'a, I, O> {
+    input: &'a mut I,
+    /// Whether the server stops where the input ends.
+    stop_at_input_end: bool,
+    output: &'a mut O,
+}
 
 /// How the workers ended.
 #[derive(Drop)]
@@ -59,18 +69,16 @@ struct Ended {
     reason: Result<(), ServerError>,
 }
 
-/// The most workers of a server.
-const MOST_WORKERS: u64 = 64;
-
 /// Runs a server on a listener, and gives the exit status of its program.
 ///
-/// It makes what its workers need, prints `listening`, and starts them, each in a thread of its own.
+/// It makes what its workers need, starts them, each in a thread of its own, and prints `listening` once all run.
 /// The status is 3 where a poll, a waker, a registration or a thread cannot be made, and 4 where
-/// memory is refused while starting; workers that had started are stopped, and nothing more is printed. With `stop_at_input_end`
-/// the first thread reads the input to its end and then stops the workers: the status is 0, or 2
+/// memory is refused while starting; workers that had started are stopped, and nothing is printed. With `stop_at_input_end`
+/// the first thread then reads the input to its end and stops the workers: the status is 0, or 2
 /// where a read failed. A worker that is stopped shuts its clients, and its pass is taken back. Then
 /// the desk is closed, and for each worker a line is printed: `worker W: N events`, or `worker W: full`
-/// for 18446744073709551615 and more. A print that fails is ignored.
+/// for 18446744073709551615 and more. Without `stop_at_input_end` the workers run until the program is killed. A print that fails
+/// is ignored.
 pub fn run_server<R: Threads + Wait + Net + Sync, I: Read, O: Write, G: Gate + Sync>(
     rt: &R,
     alloc: Global,
@@ -80,7 +88,8 @@ pub fn run_server<R: Threads + Wait + Net + Sync, I: Read, O: Write, G: Gate + S
     output: &mut O,
     gate: &G,
 ) -> u8
-    requires { (1 ≤ service.workers) × (service.workers ≤ 64) }
+    requires { (1 ≤ service.workers) × (service.workers ≤ WORKERS) }
+    ensures { IsEnd result }
 {
     match serve_until_end(rt, alloc, service, listener, input, output, gate) {
         Ok(()) => 0,
@@ -104,21 +113,24 @@ fn serve_until_end<R: Threads + Wait + Net + Sync, I: Read, O: Write, G: Gate + 
         stop_at_input_end,
     } = service;
     let (desk, pass) = open_desk(rt, alloc, settings, accounts)?;
-    let mut crew = Crew::new(alloc);
-    let ended = match seats(rt, alloc, &desk, pass, workers, listener, &mut crew) {
+    let mut handles = WorkerHandles::new(alloc);
+    let ended = match new_workers(rt, alloc, &desk, pass, workers, listener, &mut handles) {
         Ok((first, others)) => {
-            announce(output);
             let shared = Shared {
                 desk: &desk,
-                crew: &crew,
+                handles: &handles,
                 gate,
             };
-            let input = if stop_at_input_end { Some(input) } else { None };
-            run_workers(rt, alloc, &shared, first, others, input)
+            let streams = Streams {
+                input: &mut *input,
+                stop_at_input_end,
+                output: &mut *output,
+            };
+            run_workers(rt, alloc, &shared, first, others, streams)
         }
         Err(error) => Err(error),
     };
-    drop(crew);
+    drop(handles);
     match ended {
         Ok(Ended { pass, reason }) => {
             close(rt, desk, pass, reason, output);
@@ -143,7 +155,7 @@ fn close<R: Wait, O: Write>(
 {
     match desk.close(rt, pass) {
         Ok(closing) => {
-            if reason != Err(ServerError::System) {
+            if reason != Err(ServerError::Listener) {
                 tell_counts(&closing, output);
             }
             drop(closing);
@@ -157,7 +169,7 @@ fn close<R: Wait, O: Write>(
 
 /// Says how many events each worker made, in rising order. A print that fails is ignored.
 fn tell_counts<O: Write>(closing: &Closing, output: &mut O) {
-    for worker in 0..MOST_WORKERS {
+    for worker in 0..WORKERS as u64 {
         match closing.events(worker) {
             Count::Made(events) => {
                 let _ = writeln!(output, "worker {worker}: {events} events");
@@ -193,18 +205,18 @@ fn open_desk<R: Wait>(
     }
 }
 
-/// The station of the crew's next worker.
-fn new_station<R: Net>(
+/// The loop of the next worker, which joins those that are reached by their handles.
+fn new_worker_loop<R: Net>(
     rt: &R,
     alloc: Global,
-    crew: &mut Crew,
+    handles: &mut WorkerHandles,
     listener: Option<TcpListener>,
-) -> Result<Station, ServerError> {
-    match Station::new(rt, alloc, listener) {
-        Ok((station, waker)) => match crew.join(alloc, waker) {
-            Ok(()) => Ok(station),
+) -> Result<WorkerLoop, ServerError> {
+    match WorkerLoop::new(rt, alloc, listener) {
+        Ok((worker_loop, waker)) => match handles.join(alloc, waker) {
+            Ok(()) => Ok(worker_loop),
             Err(_) => {
-                drop(station);
+                drop(worker_loop);
                 Err(ServerError::Memory)
             }
         },
@@ -212,58 +224,58 @@ fn new_station<R: Net>(
     }
 }
 
-/// The seats of all workers. The first has the listener.
-fn seats<R: Net>(
+/// All workers. The first has the listener.
+fn new_workers<R: Net>(
     rt: &R,
     alloc: Global,
     desk: &Desk,
     pass: Pass,
-    workers: u32,
+    count: u32,
     listener: TcpListener,
-    crew: &mut Crew,
-) -> Result<(Seat, Vec<Seat>), ServerError>
+    handles: &mut WorkerHandles,
+) -> Result<(NewWorker, Vec<NewWorker>), ServerError>
     requires { (pass.desk ≡ desk.now) × (pass.worker.number ≡ 0) }
     ensures first { IfOk result (λ r. (r.0.pass.desk ≡ desk.now) × (r.0.pass.worker.number ≡ 0)) }
-    ensures others { IfOk result (λ r. All (λ seat. seat.pass.desk ≡ desk.now) r.1.items) }
+    ensures others { IfOk result (λ r. All (λ worker. worker.pass.desk ≡ desk.now) r.1.items) }
 {
-    let station = match new_station(rt, alloc, crew, Some(listener)) {
-        Ok(station) => station,
+    let worker_loop = match new_worker_loop(rt, alloc, handles, Some(listener)) {
+        Ok(worker_loop) => worker_loop,
         Err(error) => {
             drop(pass);
             return Err(error);
         }
     };
     let mut others = Vec::new(alloc);
-    match add_seats(rt, alloc, desk, pass, workers, crew, &mut others) {
-        Ok(pass) => Ok((Seat { station, pass }, others)),
+    match add_workers(rt, alloc, desk, pass, count, handles, &mut others) {
+        Ok(pass) => Ok((NewWorker { worker_loop, pass }, others)),
         Err(error) => {
-            drop(station);
+            drop(worker_loop);
             drop(others);
             Err(error)
         }
     }
 }
 
-/// Adds the seats of all workers but the first, whose pass comes back.
-fn add_seats<R: Net>(
+/// Adds all workers but the first, whose pass comes back.
+fn add_workers<R: Net>(
     rt: &R,
     alloc: Global,
     desk: &Desk,
     pass: Pass,
-    workers: u32,
-    crew: &mut Crew,
-    seats: &mut Vec<Seat>,
+    count: u32,
+    handles: &mut WorkerHandles,
+    workers: &mut Vec<NewWorker>,
 ) -> Result<Pass, ServerError>
     requires pass { (pass.desk ≡ desk.now) × (pass.worker.number ≡ 0) }
-    requires seats { All (λ seat. seat.pass.desk ≡ desk.now) seats.old.items }
+    requires workers { All (λ worker. worker.pass.desk ≡ desk.now) workers.old.items }
     ensures pass { IfOk result (λ mine. (mine.desk ≡ desk.now) × (mine.worker.number ≡ 0)) }
-    ensures seats { OnOk result (All (λ seat. seat.pass.desk ≡ desk.now) seats.new.items) }
+    ensures workers { OnOk result (All (λ worker. worker.pass.desk ≡ desk.now) workers.new.items) }
 {
     let mut pass = pass;
-    for _ in 1..workers {
-        let (mine, seat) = next_seat(rt, alloc, desk, pass, crew)?;
+    for _ in 1..count {
+        let (mine, worker) = next_worker(rt, alloc, desk, pass, handles)?;
         pass = mine;
-        match seats.push(seat) {
+        match workers.push(worker) {
             Ok(()) => {}
             Err(failed) => {
                 drop(failed);
@@ -275,20 +287,20 @@ fn add_seats<R: Net>(
     Ok(pass)
 }
 
-/// The seat of the crew's next worker, and the first worker's pass.
-fn next_seat<R: Net>(
+/// The next worker, and the first worker's pass.
+fn next_worker<R: Net>(
     rt: &R,
     alloc: Global,
     desk: &Desk,
     pass: Pass,
-    crew: &mut Crew,
-) -> Result<(Pass, Seat), ServerError>
+    handles: &mut WorkerHandles,
+) -> Result<(Pass, NewWorker), ServerError>
     requires { (pass.desk ≡ desk.now) × (pass.worker.number ≡ 0) }
     ensures mine { IfOk result (λ r. (r.0.desk ≡ desk.now) × (r.0.worker.number ≡ 0)) }
-    ensures seat { IfOk result (λ r. r.1.pass.desk ≡ desk.now) }
+    ensures worker { IfOk result (λ r. r.1.pass.desk ≡ desk.now) }
 {
-    let station = match new_station(rt, alloc, crew, None) {
-        Ok(station) => station,
+    let worker_loop = match new_worker_loop(rt, alloc, handles, None) {
+        Ok(worker_loop) => worker_loop,
         Err(error) => {
             drop(pass);
             return Err(error);
@@ -296,14 +308,14 @@ fn next_seat<R: Net>(
     };
     match hand_out(desk, alloc, pass) {
         Ok((mine, other)) => {
-            let seat = Seat {
-                station,
+            let worker = NewWorker {
+                worker_loop,
                 pass: other,
             };
-            Ok((mine, seat))
+            Ok((mine, worker))
         }
         Err(error) => {
-            drop(station);
+            drop(worker_loop);
             Err(error)
         }
     }
@@ -321,27 +333,27 @@ fn hand_out(desk: &Desk, alloc: Global, pass: Pass) -> Result<(Pass, Pass), Serv
             match error {
                 DeskError::Memory => Err(ServerError::Memory),
                 // There are 64 workers at most.
-                DeskError::TooManyWorkers => Err(ServerError::System),
+                DeskError::TooManyWorkers => Err(ServerError::Listener),
             }
         }
     }
 }
 
-/// Runs the workers until the input ends, where there is one. Fails only where memory is refused, and
+/// Runs the workers until the input ends, where that stops the server. Fails only where memory is refused, and
 /// then none was started.
-fn run_workers<R: Threads + Wait + Sync, I: Read, G: Gate + Sync>(
+fn run_workers<R: Threads + Wait + Sync, I: Read, O: Write, G: Gate + Sync>(
     rt: &R,
     alloc: Global,
     shared: &Shared<'_, G>,
-    first: Seat,
-    others: Vec<Seat>,
-    input: Option<&mut I>,
+    first: NewWorker,
+    others: Vec<NewWorker>,
+    streams: Streams<'_, I, O>,
 ) -> Result<Ended, ServerError>
     requires first { (first.pass.desk ≡ shared.now.desk.now) × (first.pass.worker.number ≡ 0) }
-    requires others { All (λ seat. seat.pass.desk ≡ shared.now.desk.now) others.items }
+    requires others { All (λ worker. worker.pass.desk ≡ shared.now.desk.now) others.items }
     ensures { IfOk result (λ ended. (ended.pass.desk ≡ shared.now.desk.now) × (ended.pass.worker.number ≡ 0)) }
 {
-    let Ok(handles) = Vec::with_capacity(alloc, others.len()) else {
+    let Ok(threads) = Vec::with_capacity(alloc, others.len()) else {
         drop(first);
         drop(others);
         return Err(ServerError::Memory);
@@ -350,55 +362,65 @@ fn run_workers<R: Threads + Wait + Sync, I: Read, G: Gate + Sync>(
         thread::scope_env(),
         rt,
         move |scope| -> Ended
-            requires { (first.pass.desk ≡ shared.now.desk.now) × (first.pass.worker.number ≡ 0) × All (λ seat. seat.pass.desk ≡ shared.now.desk.now) others.items × (handles.items ≡ []) × (vec_len others ≤ vec_capacity handles) }
+            requires { (first.pass.desk ≡ shared.now.desk.now) × (first.pass.worker.number ≡ 0) × All (λ worker. worker.pass.desk ≡ shared.now.desk.now) others.items × (threads.items ≡ []) × (vec_len others ≤ vec_capacity threads) }
             ensures { (result.pass.desk ≡ shared.entry.now.desk.now) × (result.pass.worker.number ≡ 0) }
-        { run_threads(scope, rt, shared, first, others, handles, input) },
+        { run_threads(scope, rt, shared, first, others, threads, streams) },
     );
     Ok(ended)
 }
 
-/// Runs the workers in threads of a scope. There is room for the handles of all.
-fn run_threads<'s, 'e, R: Threads + Wait + Sync, I: Read, G: Gate + Sync>(
+/// Runs the workers in threads of a scope. There is room for the threads of all.
+fn run_threads<'s, 'e, R: Threads + Wait + Sync, I: Read, O: Write, G: Gate + Sync>(
     scope: &Scope<'s, &'e ()>,
     rt: &'e R,
     shared: &'e Shared<'e, G>,
-    first: Seat,
-    others: Vec<Seat>,
-    handles: Vec<Handle>,
-    input: Option<&mut I>,
+    first: NewWorker,
+    others: Vec<NewWorker>,
+    threads: Vec<WorkerThread>,
+    streams: Streams<'_, I, O>,
 ) -> Ended
     requires first { (first.pass.desk ≡ shared.now.desk.now) × (first.pass.worker.number ≡ 0) }
-    requires others { All (λ seat. seat.pass.desk ≡ shared.now.desk.now) others.items }
-    requires none { handles.items ≡ [] }
-    requires room { vec_len others ≤ vec_capacity handles }
+    requires others { All (λ worker. worker.pass.desk ≡ shared.now.desk.now) others.items }
+    requires none { threads.items ≡ [] }
+    requires room { vec_len others ≤ vec_capacity threads }
     ensures { (result.pass.desk ≡ shared.now.desk.now) × (result.pass.worker.number ≡ 0) }
 {
-    let Seat { station, pass } = first;
-    let (pass, handles) = start_all(scope, rt, shared, pass, others, handles);
-    let first = start(scope, rt, shared, Seat { station, pass });
-    let reason = wait_for_end(shared.crew, input);
+    let Streams {
+        input,
+        stop_at_input_end,
+        output,
+    } = streams;
+    let NewWorker { worker_loop, pass } = first;
+    let (pass, threads) = start_all(scope, rt, shared, pass, others, threads);
+    let first = start(scope, rt, shared, NewWorker { worker_loop, pass });
+    let reason = announce_until_end(shared.handles, input, stop_at_input_end, output);
     let pass = match first {
-        Ok(handle) => handle.join(rt),
+        Ok(thread) => thread.join(rt),
         Err(pass) => pass,
     };
-    let pass = take_back(rt, shared.desk, pass, handles);
+    let pass = take_back(rt, shared.desk, pass, threads);
     Ended { pass, reason }
 }
 
-/// Waits until the input ends, where there is one, and stops the workers. Does not wait where a worker got no thread.
-fn wait_for_end<I: Read>(crew: &Crew, input: Option<&mut I>) -> Result<(), ServerError> {
-    if crew.is_stopped() {
-        return Err(ServerError::System);
+/// Says that the server listens, waits until the input ends, where that stops the server, and then stops the workers. Says nothing
+/// and does not wait where a worker got no thread.
+fn announce_until_end<I: Read, O: Write>(
+    handles: &WorkerHandles,
+    input: &mut I,
+    stop_at_input_end: bool,
+    output: &mut O,
+) -> Result<(), ServerError> {
+    if handles.is_stopped() {
+        return Err(ServerError::Listener);
     }
-    match input {
-        Some(input) => {
-            let reason = read_to_end(input);
-            crew.stop();
-            reason
-        }
+    announce(output);
+    if !stop_at_input_end {
         // The workers run until the program is killed.
-        None => Ok(()),
+        return Ok(());
     }
+    let reason = read_to_end(input);
+    handles.stop();
+    reason
 }
 
 /// Starts a worker's thread. Where none can be made all workers are stopped, and what the thread would
@@ -407,21 +429,21 @@ fn start<'s, 'e, R: Wait + Sync, G: Gate + Sync>(
     scope: &Scope<'s, &'e ()>,
     rt: &'e R,
     shared: &Shared<'e, G>,
-    seat: Seat,
-) -> Result<Handle, Pass>
-    requires { seat.pass.desk ≡ shared.now.desk.now }
-    ensures desk { IfOk result (λ handle. handle.promise.0.value.desk ≡ shared.now.desk.now) }
-    ensures number { IfOk result (λ handle. handle.promise.0.value.worker.number ≡ seat.pass.worker.number) }
-    ensures back { IfErr result (λ pass. (pass.desk ≡ shared.now.desk.now) × (pass.worker.number ≡ seat.pass.worker.number)) }
+    worker: NewWorker,
+) -> Result<WorkerThread, Pass>
+    requires { worker.pass.desk ≡ shared.now.desk.now }
+    ensures desk { IfOk result (λ thread. thread.promise.0.value.desk ≡ shared.now.desk.now) }
+    ensures number { IfOk result (λ thread. thread.promise.0.value.worker.number ≡ worker.pass.worker.number) }
+    ensures back { IfErr result (λ pass. (pass.desk ≡ shared.now.desk.now) × (pass.worker.number ≡ worker.pass.worker.number)) }
 {
-    let promise = SamePass(Snapshot::of(&seat.pass));
+    let promise = SamePass(Snapshot::of(&worker.pass));
     let desk = shared.desk;
-    let crew = shared.crew;
+    let handles = shared.handles;
     let gate = shared.gate;
-    match scope.spawn_with(promise, move || work(rt, desk, crew, gate, seat)) {
-        Ok(handle) => Ok(handle),
+    match scope.spawn_with(promise, move || work(rt, desk, handles, gate, worker)) {
+        Ok(thread) => Ok(thread),
         Err(refused) => {
-            crew.stop();
+            handles.stop();
             Err((refused.value)())
         }
     }
@@ -429,13 +451,28 @@ fn start<'s, 'e, R: Wait + Sync, G: Gate + Sync>(
 
 /// What a worker's thread does. It captures references and no `Shared`: of a captured struct that holds references nothing
 /// is known in a promise.
-fn work<R: Wait, G: Gate>(rt: &R, desk: &Desk, crew: &Crew, gate: &G, seat: Seat) -> Pass
-    requires { seat.pass.desk ≡ desk.now }
-    ensures desk { result.desk ≡ seat.pass.desk }
-    ensures number { result.worker.number ≡ seat.pass.worker.number }
+fn work<R: Wait, G: Gate>(
+    rt: &R,
+    desk: &Desk,
+    handles: &WorkerHandles,
+    gate: &G,
+    worker: NewWorker,
+) -> Pass
+    requires { worker.pass.desk ≡ desk.now }
+    ensures desk { result.desk ≡ worker.pass.desk }
+    ensures number { result.worker.number ≡ worker.pass.worker.number }
 {
-    let Seat { station, pass } = seat;
-    run_worker(rt, &Shared { desk, crew, gate }, station, pass)
+    let NewWorker { worker_loop, pass } = worker;
+    run_worker(
+        rt,
+        &Shared {
+            desk,
+            handles,
+            gate,
+        },
+        worker_loop,
+        pass,
+    )
 }
 
 /// Starts the workers' threads one after another. The passes of those that got none are taken back.
@@ -444,38 +481,38 @@ fn start_all<'s, 'e, R: Wait + Sync, G: Gate + Sync>(
     rt: &'e R,
     shared: &'e Shared<'e, G>,
     pass: Pass,
-    seats: Vec<Seat>,
-    handles: Vec<Handle>,
-) -> (Pass, Vec<Handle>)
+    workers: Vec<NewWorker>,
+    threads: Vec<WorkerThread>,
+) -> (Pass, Vec<WorkerThread>)
     requires pass { (pass.desk ≡ shared.now.desk.now) × (pass.worker.number ≡ 0) }
-    requires seats { All (λ seat. seat.pass.desk ≡ shared.now.desk.now) seats.items }
-    requires none { handles.items ≡ [] }
-    requires room { vec_len seats ≤ vec_capacity handles }
+    requires workers { All (λ worker. worker.pass.desk ≡ shared.now.desk.now) workers.items }
+    requires none { threads.items ≡ [] }
+    requires room { vec_len workers ≤ vec_capacity threads }
     ensures pass { (result.0.desk ≡ shared.now.desk.now) × (result.0.worker.number ≡ 0) }
-    ensures handles { All (λ handle. handle.promise.0.value.desk ≡ shared.now.desk.now) result.1.items }
+    ensures threads { All (λ thread. thread.promise.0.value.desk ≡ shared.now.desk.now) result.1.items }
 {
     let mut pass = pass;
-    let mut seats = seats;
-    let mut handles = handles;
-    while let Some(seat) = seats.pop() {
-        match start(scope, rt, shared, seat) {
-            Ok(handle) => handles.push_reserved(handle),
+    let mut workers = workers;
+    let mut threads = threads;
+    while let Some(worker) = workers.pop() {
+        match start(scope, rt, shared, worker) {
+            Ok(thread) => threads.push_reserved(thread),
             Err(ended) => pass = shared.desk.take_back(pass, ended),
         }
     }
-    (pass, handles)
+    (pass, threads)
 }
 
 /// Waits for all workers but the first, and takes their passes back.
-fn take_back<R: Threads>(rt: &R, desk: &Desk, pass: Pass, handles: Vec<Handle>) -> Pass
+fn take_back<R: Threads>(rt: &R, desk: &Desk, pass: Pass, threads: Vec<WorkerThread>) -> Pass
     requires pass { (pass.desk ≡ desk.now) × (pass.worker.number ≡ 0) }
-    requires handles { All (λ handle. handle.promise.0.value.desk ≡ desk.now) handles.items }
+    requires threads { All (λ thread. thread.promise.0.value.desk ≡ desk.now) threads.items }
     ensures { (result.desk ≡ desk.now) × (result.worker.number ≡ 0) }
 {
     let mut pass = pass;
-    let mut handles = handles;
-    while let Some(handle) = handles.pop() {
-        pass = desk.take_back(pass, handle.join(rt));
+    let mut threads = threads;
+    while let Some(thread) = threads.pop() {
+        pass = desk.take_back(pass, thread.join(rt));
     }
     pass
 }

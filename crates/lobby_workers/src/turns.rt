@@ -1,25 +1,23 @@
 //! The turns of a worker's connections. A worker takes the lobby for them, which may wait.
 
-ghost use Rattle.std.specs.Prelude.{◌≡◌, [], ◌∷◌, ◌++◌, min, OnOk, OnErr};
+ghost use Rattle.std.specs.Prelude.{◌≡◌, ◌<◌, [], ◌∷◌, ◌++◌, min, OnOk, OnErr};
 ghost use Rattle.lobby_model.specs.declared.event.Event.TheVariants as event;
 
-use crate::crew::{Arrival, Crew};
-use lobby_connections::{Connection, Connections, NAMES_IN_HOLD, Pause};
+use crate::worker_handles::{Arrival, WorkerHandles};
+use lobby_connections::{Connection, Connections, NAMES_IN_HOLD, PollTimeout};
 use lobby_lock::{Desk, Pass};
 use lobby_machine::{OpenError, Wakes};
+use lobby_model::WORKERS;
 use lobby_turns::{Conn, Gate, Link, Turn, TurnState, serve};
 use mio::Registry;
 use std::sync::Wait;
-
-/// The greatest number of a worker.
-const LAST_WORKER: u64 = 63;
 
 /// What all workers of a server use.
 #[derive(Drop)]
 pub struct Shared<'a, G> {
     /// Where the lobby lies.
     pub desk: &'a Desk,
-    pub crew: &'a Crew,
+    pub handles: &'a WorkerHandles,
     pub gate: &'a G,
 }
 
@@ -67,19 +65,16 @@ pub fn turn<R: Wait, G: Gate>(
     };
     let (pass, turn) = serve_or_shut(rt, shared, pass, connection);
     connections.end_turn(registry, key, turn.state);
-    pass_on(shared, connections, pass.number(), turn.wakes);
+    pass_on(shared, connections, home_of(&pass), turn.wakes);
     pass
 }
 
 /// Tells the workers whose clients a turn touched: the others by their wakers, this one by its mark.
-fn pass_on<G: Gate>(
-    shared: &Shared<'_, G>,
-    connections: &mut Connections,
-    worker: u64,
-    wakes: Wakes,
-) {
-    connections.mark(home_of(worker), wakes);
-    shared.crew.wake_others(worker, wakes);
+fn pass_on<G: Gate>(shared: &Shared<'_, G>, connections: &mut Connections, home: u8, wakes: Wakes)
+    requires { home < WORKERS }
+{
+    connections.mark(home, wakes);
+    shared.handles.wake_others(home, wakes);
 }
 
 /// Those get their turn that were left in the round before. It is called before any other turn of a round: who is
@@ -96,8 +91,8 @@ pub fn turn_left<R: Wait, G: Gate>(
     ensures number { result.worker.number ≡ pass.worker.number }
 {
     let mut pass = pass;
-    for place in 0..connections.due() {
-        let key = connections.due_at(place);
+    for index in 0..connections.due() {
+        let key = connections.due_key(index);
         pass = turn(rt, shared, pass, connections, registry, key);
     }
     pass
@@ -116,8 +111,8 @@ pub fn turn_named<R: Wait, G: Gate>(
     ensures number { result.worker.number ≡ pass.worker.number }
 {
     let mut pass = pass;
-    for place in 0..connections.named() {
-        if let Some(key) = connections.named_at(place) {
+    for index in 0..connections.named() {
+        if let Some(key) = connections.named_key(index) {
             pass = turn(rt, shared, pass, connections, registry, key);
         }
     }
@@ -142,7 +137,7 @@ pub fn look_for_own<R: Wait, G: Gate>(
     }
     let pass = take_names(rt, shared, pass, connections);
     if connections.is_marked() || connections.named() > 0 {
-        connections.hurry(Pause::None);
+        connections.hurry(PollTimeout::Zero);
     }
     pass
 }
@@ -190,21 +185,22 @@ pub fn shut_all<R: Wait, G: Gate>(
     ensures number { result.worker.number ≡ pass.worker.number }
 {
     let mut pass = pass;
-    for key in 0..connections.places() {
+    for key in 0..connections.key_bound() {
         if let Some(conn) = connections.conn_at(key) {
             let (after, turn) = shut(rt, shared, pass, conn);
             pass = after;
-            shared.crew.wake_others(pass.number(), turn.wakes);
+            shared.handles.wake_others(home_of(&pass), turn.wakes);
         }
     }
     pass
 }
 
-/// A worker as the home of its clients. No desk hands out a greater number than 63.
-fn home_of(worker: u64) -> u8
-    ensures { result ≡ min worker 63 }
+/// A worker as the home of its clients. No desk hands out a number of `WORKERS` and more.
+pub fn home_of(pass: &Pass) -> u8
+    ensures number { result ≡ min pass.now.worker.number 63 }
+    ensures below { result < WORKERS }
 {
-    worker.min(LAST_WORKER) as u8
+    pass.number().min(WORKERS as u64 - 1) as u8
 }
 
 /// Takes names of changed clients in one hold. Whether these are all.
@@ -218,10 +214,10 @@ fn take_some_names<R: Wait, G: Gate>(
     ensures desk { result.0.desk ≡ pass.desk }
     ensures number { result.0.worker.number ≡ pass.worker.number }
 {
-    let worker = pass.number();
-    shared.gate.before_take(worker);
+    shared.gate.before_take(pass.number());
+    let home = home_of(&pass);
     let mut held = shared.desk.take(rt, pass);
-    let are_all = connections.take_names(&mut held, home_of(worker));
+    let are_all = connections.take_names(&mut held, home);
     (held.give(rt, shared.desk), are_all)
 }
 
@@ -238,10 +234,10 @@ fn open<R: Wait, G: Gate>(
     ensures home { OnOk result.1 (result.0.worker.mine ≡ pass.worker.mine ++ event.Open ip (min pass.worker.number 63) ∷ []) }
     ensures refused { OnErr result.1 (result.0.worker.mine ≡ pass.worker.mine) }
 {
-    let worker = pass.number();
-    shared.gate.before_take(worker);
+    shared.gate.before_take(pass.number());
+    let home = home_of(&pass);
     let mut held = shared.desk.take(rt, pass);
-    let opened = held.open(ip, home_of(worker));
+    let opened = held.open(ip, home);
     (held.give(rt, shared.desk), opened)
 }
 

@@ -2,10 +2,10 @@
 
 ghost use Rattle.std.specs.Prelude.{◌≡◌};
 
-use crate::crew::{Arrival, Crew};
 use crate::error::ServerError;
 use crate::turns::{self, Shared};
-use lobby_connections::{Connections, Pause};
+use crate::worker_handles::{Arrival, WorkerHandles};
+use lobby_connections::{Connections, PollTimeout};
 use lobby_lock::Pass;
 use lobby_turns::Gate;
 use mio::net::TcpListener;
@@ -21,7 +21,8 @@ const WAKER: Token = Token(usize::MAX);
 /// The token of the listener.
 const LISTENER: Token = Token(usize::MAX - 1);
 
-/// The most events that one poll tells.
+/// The most events that one poll tells. With fewer a busy worker would ask the system more often; what a poll has no room for the next
+/// one tells, and more would make the buffer of a quiet worker larger, which has room for them all the while.
 const EVENTS: usize = 1_024;
 
 /// The most connections that are accepted in a round, so that who waits to be accepted does not keep
@@ -30,7 +31,7 @@ const ACCEPTS: u32 = 64;
 
 /// What a worker works with: its poll, its connections, and at one worker the listener.
 #[derive(Drop)]
-pub struct Station {
+pub struct WorkerLoop {
     poll: Poll,
     events: Events,
     listener: Option<TcpListener>,
@@ -43,19 +44,19 @@ pub struct Station {
 
 /// What a poll told of the waker and of the listener.
 #[derive(Clone, Copy)]
-struct News {
+struct Readiness {
     woken: bool,
-    called: bool,
+    listener: bool,
 }
 
-impl Station {
-    /// A station with its waker. Fails where memory is refused, or the system makes no poll or waker
+impl WorkerLoop {
+    /// A worker's loop with its waker. Fails where memory is refused, or the system makes no poll or waker
     /// or does not register the listener.
     pub fn new<R: Net>(
         rt: &R,
         alloc: Global,
         listener: Option<TcpListener>,
-    ) -> Result<(Station, Waker), ServerError> {
+    ) -> Result<(WorkerLoop, Waker), ServerError> {
         let Ok(events) = Events::with_capacity(alloc, EVENTS) else {
             drop(listener);
             return Err(ServerError::Memory);
@@ -63,7 +64,7 @@ impl Station {
         let mut listener = listener;
         match new_poll(rt, &mut listener) {
             Ok((poll, waker)) => {
-                let station = Station {
+                let worker_loop = WorkerLoop {
                     poll,
                     events,
                     listener,
@@ -71,7 +72,7 @@ impl Station {
                     goes_on: false,
                     connections: Connections::new(alloc),
                 };
-                Ok((station, waker))
+                Ok((worker_loop, waker))
             }
             Err(error) => {
                 drop(events);
@@ -82,20 +83,20 @@ impl Station {
     }
 
     /// What the last poll told of the waker and of the listener.
-    fn news(&self) -> News {
-        let mut news = News {
+    fn readiness(&self) -> Readiness {
+        let mut readiness = Readiness {
             woken: false,
-            called: false,
+            listener: false,
         };
         for event in &self.events {
-            news.woken |= event.token() == WAKER;
-            news.called |= event.token() == LISTENER;
+            readiness.woken |= event.token() == WAKER;
+            readiness.listener |= event.token() == LISTENER;
         }
-        news
+        readiness
     }
 
     /// Accepts connections and hands them over to their workers.
-    fn accept<R: Wait>(&mut self, rt: &R, crew: &Crew) {
+    fn accept<R: Wait>(&mut self, rt: &R, handles: &WorkerHandles) {
         let Some(listener) = &self.listener else {
             return;
         };
@@ -104,7 +105,7 @@ impl Station {
             match listener.accept() {
                 Ok((stream, address)) => {
                     let ip = ip_of(address);
-                    crew.hand_over(rt, self.accepted, Arrival { stream, ip });
+                    handles.hand_over(rt, self.accepted, Arrival { stream, ip });
                     self.accepted = self.accepted.wrapping_add(1);
                 }
                 Err(error) => match error.kind() {
@@ -114,13 +115,13 @@ impl Station {
                     }
                     ErrorKind::Interrupted => {}
                     _ => {
-                        self.connections.hurry(Pause::Short);
+                        self.connections.hurry(PollTimeout::Short);
                         return;
                     }
                 },
             }
         }
-        self.connections.hurry(Pause::None);
+        self.connections.hurry(PollTimeout::Zero);
     }
 
     /// Takes the connections out of the inbox.
@@ -134,10 +135,10 @@ impl Station {
         ensures desk { result.desk ≡ pass.desk }
         ensures number { result.worker.number ≡ pass.worker.number }
     {
-        let worker = pass.number();
+        let worker = turns::home_of(&pass);
         let mut pass = pass;
         for _ in 0..EVENTS {
-            let Some(arrival) = shared.crew.next_arrival(rt, worker) else {
+            let Some(arrival) = shared.handles.next_arrival(rt, worker) else {
                 return pass;
             };
             let registry = self.poll.registry();
@@ -175,20 +176,20 @@ impl Station {
         ensures number { result.worker.number ≡ pass.worker.number }
     {
         let pass = turns::look_for_own(rt, shared, pass, &mut self.connections);
-        let timeout = self.connections.pause().timeout();
+        let timeout = self.connections.poll_timeout().duration();
         let polled = self.poll.poll(&mut self.events, timeout);
-        let news = self.news();
-        if news.woken {
+        let readiness = self.readiness();
+        if readiness.woken {
             shared.gate.woken(pass.number());
         }
         self.connections.begin_round();
         if polled.is_err() {
-            self.connections.hurry(Pause::Short);
+            self.connections.hurry(PollTimeout::Short);
         }
-        if news.called || self.goes_on {
-            self.accept(rt, shared.crew);
+        if readiness.listener || self.goes_on {
+            self.accept(rt, shared.handles);
         }
-        let pass = if news.woken {
+        let pass = if readiness.woken {
             let pass = self.look_into_inbox(rt, shared, pass);
             turns::take_names(rt, shared, pass, &mut self.connections)
         } else {
@@ -209,7 +210,7 @@ fn new_poll<R: Net>(
     listener: &mut Option<TcpListener>,
 ) -> Result<(Poll, Waker), ServerError> {
     let Ok(poll) = Poll::new(rt) else {
-        return Err(ServerError::System);
+        return Err(ServerError::Listener);
     };
     match register(&poll, listener) {
         Ok(waker) => Ok((poll, waker)),
@@ -223,7 +224,7 @@ fn new_poll<R: Net>(
 /// Registers a new waker, and the listener where there is one.
 fn register(poll: &Poll, listener: &mut Option<TcpListener>) -> Result<Waker, ServerError> {
     let Ok(waker) = Waker::new(poll.registry(), WAKER) else {
-        return Err(ServerError::System);
+        return Err(ServerError::Listener);
     };
     if let Some(listener) = listener
         && poll
@@ -232,7 +233,7 @@ fn register(poll: &Poll, listener: &mut Option<TcpListener>) -> Result<Waker, Se
             .is_err()
     {
         drop(waker);
-        return Err(ServerError::System);
+        return Err(ServerError::Listener);
     }
     Ok(waker)
 }
@@ -245,27 +246,27 @@ fn ip_of(address: SocketAddr) -> [u8; 4] {
     }
 }
 
-/// Serves connections until the crew is told to stop, then shuts their clients, and gives the pass
+/// Serves connections until the workers are told to stop, then shuts their clients, and gives the pass
 /// back. It waits for news, at the desk, and else nowhere.
 pub fn run_worker<R: Wait, G: Gate>(
     rt: &R,
     shared: &Shared<'_, G>,
-    station: Station,
+    worker_loop: WorkerLoop,
     pass: Pass,
 ) -> Pass
     requires { pass.desk ≡ shared.now.desk.now }
     ensures desk { result.desk ≡ pass.desk }
     ensures number { result.worker.number ≡ pass.worker.number }
 {
-    let mut station = station;
+    let mut worker_loop = worker_loop;
     let mut pass = pass;
     for _ in rt.forever() {
-        if shared.crew.is_stopped() {
+        if shared.handles.is_stopped() {
             break;
         }
-        pass = station.go_round(rt, shared, pass);
+        pass = worker_loop.go_round(rt, shared, pass);
     }
-    let pass = turns::shut_all(rt, shared, pass, &station.connections);
-    drop(station);
+    let pass = turns::shut_all(rt, shared, pass, &worker_loop.connections);
+    drop(worker_loop);
     pass
 }

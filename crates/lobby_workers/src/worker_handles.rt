@@ -4,17 +4,16 @@ ghost use Rattle.std.specs.Prelude.{◌<◌};
 
 use crossbeam_queue::ArrayQueue;
 use lobby_machine::Wakes;
+use lobby_model::WORKERS;
 use mio::Waker;
 use mio::net::TcpStream;
 use std::alloc::{AllocError, Global};
 use std::sync::Wait;
 use std::sync::atomic::{AtomicBool, Ordering};
 
-/// The most connections that wait in an inbox.
+/// The most connections that wait in an inbox. Without a limit a burst of connections would fill the memory while their worker is
+/// busy. What the first worker accepts in four rounds fits in it.
 const INBOX: usize = 256;
-
-/// More workers than there are in a set of woken ones.
-const MOST_WORKERS: usize = 64;
 
 /// An accepted connection on its way to its worker.
 #[derive(Drop)]
@@ -24,19 +23,19 @@ pub struct Arrival {
     pub ip: [u8; 4],
 }
 
-/// The workers of a server, by their numbers from 0. Each has an inbox for its connections, and a
+/// How the workers of a server are reached, by their numbers from 0. Each has an inbox for its connections, and a
 /// waker by which the others end its wait.
 #[derive(Drop)]
-pub struct Crew {
+pub struct WorkerHandles {
     inboxes: Vec<ArrayQueue<Arrival>>,
     wakers: Vec<Waker>,
     stop: AtomicBool,
 }
 
-impl Crew {
+impl WorkerHandles {
     /// No worker yet.
-    pub fn new(alloc: Global) -> Crew {
-        Crew {
+    pub fn new(alloc: Global) -> WorkerHandles {
+        WorkerHandles {
             inboxes: Vec::new(alloc),
             wakers: Vec::new(alloc),
             stop: AtomicBool::new(false),
@@ -50,8 +49,8 @@ impl Crew {
         Ok(())
     }
 
-    /// The worker of the connection before which so many were accepted.
-    fn place(&self, accepted: u64) -> usize {
+    /// The index of the worker that gets the connection before which so many were accepted.
+    fn next_index(&self, accepted: u64) -> usize {
         match self.inboxes.len() as u64 {
             0 => 0,
             workers => (accepted % workers) as usize,
@@ -61,24 +60,24 @@ impl Crew {
     /// Puts the connection before which so many were accepted into its worker's inbox, and wakes the
     /// worker. One that meets a full inbox is closed.
     pub fn hand_over<R: Wait>(&self, rt: &R, accepted: u64, arrival: Arrival) {
-        let place = self.place(accepted);
-        if let Some(inbox) = self.inboxes.get(place)
+        let index = self.next_index(accepted);
+        if let Some(inbox) = self.inboxes.get(index)
             && inbox.push(rt, arrival).is_ok()
-            && let Some(waker) = self.wakers.get(place)
+            && let Some(waker) = self.wakers.get(index)
         {
             let _ = waker.wake();
         }
     }
 
     /// The connections that wait in a worker's inbox, one after another.
-    pub fn next_arrival<R: Wait>(&self, rt: &R, worker: u64) -> Option<Arrival> {
+    pub fn next_arrival<R: Wait>(&self, rt: &R, worker: u8) -> Option<Arrival> {
         self.inboxes.get(worker as usize)?.pop(rt)
     }
 
     /// Wakes these workers, but for the one that does so.
-    pub fn wake_others(&self, waking: u64, wakes: Wakes) {
-        for (worker, waker) in self.wakers.iter().enumerate() {
-            if worker < MOST_WORKERS && worker as u64 != waking && wakes.has(worker as u8) {
+    pub fn wake_others(&self, waking: u8, wakes: Wakes) {
+        for (index, waker) in self.wakers.iter().enumerate() {
+            if index < WORKERS as usize && index as u8 != waking && wakes.has(index as u8) {
                 let _ = waker.wake();
             }
         }

@@ -1,8 +1,0 @@
-use Rattle.std.proofs.Common.{◌≡◌}
-use Rattle.lobby_workers.proofs.Seats.{all_pushed}
-use Rattle.lobby_workers.proofs.server.add_seats.Goals as goal
-
-pub loop-preserved : goal.loop-preserved
-loop-preserved g c =
-    let mine = c.in_ok-mine.ensures.mine in
-    (mine.0, mine.1, all_pushed (λ seat. seat.pass.desk ≡ c.args.desk.now) _ _ _ c.in-Ok.ensures.items c.loop.invariant.2 c.in_ok-mine.ensures.seat)

@@ -1,6 +1,0 @@
-use Rattle.std.proofs.Common.{◌≡◌}
-use Rattle.std.specs.List.{All}
-use Rattle.lobby_workers.proofs.server.add_seats.Given as goal
-
-abbrev pub invariant-loop : goal.invariant-loop
-invariant-loop g l = (l.pass.desk ≡ l.desk) × (l.pass.worker.number ≡ 0) × All (λ seat. seat.pass.desk ≡ l.desk) l.seats.items
