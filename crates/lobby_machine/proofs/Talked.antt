@@ -1,17 +1,14 @@
 -- What talk comes to.
-use Rattle.std.proofs.Common.{◌≡◌, ℕ, List, [], ◌∷◌, ◌++◌, refl, sym, ap, subst, ◌∙◌, Bool, false}
-use Rattle.reply_grammar.specs.declared.Reply.{Reply}
+use Rattle.std.proofs.Common.{◌≡◌, ℕ, List, [], ◌∷◌, ◌++◌, refl, sym, ap, subst, ◌∙◌, false}
 use Rattle.reply_grammar.specs.declared.Reply.TheVariants as reply
 use Rattle.line_words.specs.Table.{is_among}
 use Rattle.channel_book.specs.Channels.{names_in, joined}
 use Rattle.lobby_model.specs.State.{State}
-use Rattle.lobby_model.specs.Outcome.{Happening, done, refuse_if, tell, user, users}
+use Rattle.lobby_model.specs.Outcome.{tell, user, users}
 use Rattle.lobby_model.specs.Channels.{name_lines, join, joins, list_channels}
 use Rattle.lobby_post.specs.Posted.{Posted, Told, addressed, blank, with_own}
 use Rattle.lobby_post.proofs.Telling.{told_then, told_as_one, told_own_lines, with_own_more}
-use Rattle.lobby_maps.specs.declared.change.Change.{Change}
 use Rattle.lobby_maps.specs.declared.change.Change.TheVariants.{Nothing, Join}
-use Rattle.lobby_maps.specs.Changes.{CanBe, changed}
 use Rattle.lobby_guards.specs.Answers.{Obeyed}
 use Rattle.lobby_guards.proofs.Obeying.{passes}
 use Rattle.lobby_machine.specs.Talk.{channel_lines}
