@@ -77,8 +77,8 @@ fn pass_on<G: Gate>(shared: &Shared<'_, G>, connections: &mut Connections, home:
     shared.handles.wake_others(home, wakes);
 }
 
-/// Those get their turn that were left in the round before. It is called before any other turn of a round: who is
-/// left over in this one would lose its place in the list, since it gets no second turn.
+/// Those get their turn that were left in the round before. Whom these and later turns leave over stands in another
+/// list, that of the next round.
 pub fn turn_left<R: Wait, G: Gate>(
     rt: &R,
     shared: &Shared<'_, G>,
