@@ -2,8 +2,8 @@
 
 use crate::crowd::Crowd;
 use crate::deeds::{Deed, try_deeds};
-use crate::hog::Hog;
 use crate::notes::Notes;
+use crate::refuser::Refuser;
 use std::io;
 
 /// The first user opens a battle, which nineteen ask to join. It lets eleven of them in and denies it two, and one asks no more. An
@@ -110,6 +110,10 @@ const LOOKS: [(u64, Deed); 7] = [
     (1, Deed::Send(b"LEAVEBATTLE")),
 ];
 
-pub fn try_out<R: Print + AllocGlobal>(rt: &R, hog: &mut Hog, notes: &mut Notes) -> io::Result<()> {
-    try_deeds::<Crowd<22>, R>(rt, &DEEDS, &LOOKS, hog, notes)
+pub fn try_out<R: Print + AllocGlobal>(
+    rt: &R,
+    refuser: &mut Refuser,
+    notes: &mut Notes,
+) -> io::Result<()> {
+    try_deeds::<Crowd<22>, R>(rt, &DEEDS, &LOOKS, refuser, notes)
 }

@@ -2,9 +2,9 @@
 
 use crate::accounts::lobby_of;
 use crate::deeds::{Deed, Subject, try_deeds};
-use crate::hog::Hog;
 use crate::lobbies::{HOME, act, are_alike, read_some, say, show_unread};
 use crate::notes::Notes;
+use crate::refuser::Refuser;
 use account_book::{Account, AccountBook};
 use lobby_machine::Lobby;
 use std::alloc::Global;
@@ -127,6 +127,10 @@ impl<const USERS: u32> Subject for Crowd<USERS> {
     }
 }
 
-pub fn try_out<R: Print + AllocGlobal>(rt: &R, hog: &mut Hog, notes: &mut Notes) -> io::Result<()> {
-    try_deeds::<Crowd<33>, R>(rt, &DEEDS, &LOOKS, hog, notes)
+pub fn try_out<R: Print + AllocGlobal>(
+    rt: &R,
+    refuser: &mut Refuser,
+    notes: &mut Notes,
+) -> io::Result<()> {
+    try_deeds::<Crowd<33>, R>(rt, &DEEDS, &LOOKS, refuser, notes)
 }

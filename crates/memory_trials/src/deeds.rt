@@ -1,7 +1,7 @@
 //! Deeds that are done in turn, each of which may be refused memory.
 
-use crate::hog::{Hog, MOST_STEPS};
 use crate::notes::Notes;
+use crate::refuser::Refuser;
 use std::alloc::Global;
 use std::io;
 
@@ -96,22 +96,22 @@ impl<S: Subject> Pair<S> {
         self.tried.is_as(&mut self.other)
     }
 
-    /// Does it with more and more memory, until that suffices. After each refusal the two are compared, of which the other one has
-    /// not done it. Says whether memory sufficed.
+    /// Does it, step by step, until memory suffices; a deed that is done without what was refused counts as done. After each refusal
+    /// the two are compared, of which the other one has not done it. Says whether memory sufficed.
     fn try_out(
         &mut self,
         alloc: Global,
         client: u64,
         deed: Deed,
-        hog: &mut Hog,
+        refuser: &mut Refuser,
         notes: &mut Notes,
     ) -> bool {
-        for steps in 0..=MOST_STEPS {
-            hog.leave(steps);
+        for step in 0..=refuser.last_step() {
+            refuser.begin(step);
             let is_done = self.tried.act(alloc, client, deed);
-            hog.ease();
+            refuser.end();
             if is_done {
-                hog.release();
+                refuser.release();
                 return self.other.act(alloc, client, deed);
             }
             notes.refuse(self.tried.is_as(&mut self.other));
@@ -120,9 +120,15 @@ impl<S: Subject> Pair<S> {
     }
 
     /// Tries one deed after the other, and compares the two once more.
-    fn try_all(&mut self, alloc: Global, deeds: &[(u64, Deed)], hog: &mut Hog, notes: &mut Notes) {
+    fn try_all(
+        &mut self,
+        alloc: Global,
+        deeds: &[(u64, Deed)],
+        refuser: &mut Refuser,
+        notes: &mut Notes,
+    ) {
         for (client, deed) in deeds {
-            if !self.try_out(alloc, *client, *deed, hog, notes) {
+            if !self.try_out(alloc, *client, *deed, refuser, notes) {
                 notes.give_up();
                 return;
             }
@@ -131,44 +137,46 @@ impl<S: Subject> Pair<S> {
     }
 }
 
-/// Whether the last of these deeds, done with memory for so many steps by one of a new pair that has done the others, is refused.
-/// Then the two are compared, and again after each look.
+/// Whether memory is refused to the last of these deeds, which one of a new pair does as at this step, and both did the others before.
+/// Then the two are compared, and again after each look; the other one has done the deed as well where that was done without.
 fn is_refused<S: Subject>(
     alloc: Global,
     (before, client, deed): (&[(u64, Deed)], u64, Deed),
     looks: &[(u64, Deed)],
-    steps: usize,
-    hog: &mut Hog,
+    step: usize,
+    refuser: &mut Refuser,
     notes: &mut Notes,
 ) -> bool {
     let Some(mut pair) = Pair::<S>::after(alloc, before) else {
         notes.give_up();
         return false;
     };
-    hog.leave(steps);
+    refuser.begin(step);
     let is_done = pair.tried.act(alloc, client, deed);
-    hog.release();
-    if !is_done {
-        notes.refuse(pair.is_alike_after(alloc, looks));
+    let was_refused = refuser.end() || !is_done;
+    refuser.release();
+    if was_refused {
+        let are_even = !is_done || pair.other.act(alloc, client, deed);
+        notes.refuse(are_even && pair.is_alike_after(alloc, looks));
     }
     drop(pair);
-    !is_done
+    was_refused
 }
 
-/// Tries each deed on new pairs, with more and more memory until that suffices. Each refusal has a pair of its own, so that looks,
-/// which are deeds that make more be told, find what the refused deed left and a later one would hide.
+/// Tries each deed on new pairs, step by step until no memory is refused. Each refusal has a pair of its own, so that looks, which are
+/// deeds that make more be told, find what the refused deed left and a later one would hide.
 fn try_anew<S: Subject>(
     alloc: Global,
     deeds: &[(u64, Deed)],
     looks: &[(u64, Deed)],
-    hog: &mut Hog,
+    refuser: &mut Refuser,
     notes: &mut Notes,
 ) {
     for number in 0..deeds.len() {
         let (client, deed) = deeds[number];
         let tried = (&deeds[..number], client, deed);
-        for steps in 0..=MOST_STEPS {
-            if !is_refused::<S>(alloc, tried, looks, steps, hog, notes) {
+        for step in 0..=refuser.last_step() {
+            if !is_refused::<S>(alloc, tried, looks, step, refuser, notes) {
                 break;
             }
         }
@@ -181,15 +189,15 @@ pub fn try_deeds<S: Subject, R: Print + AllocGlobal>(
     rt: &R,
     deeds: &[(u64, Deed)],
     looks: &[(u64, Deed)],
-    hog: &mut Hog,
+    refuser: &mut Refuser,
     notes: &mut Notes,
 ) -> io::Result<()> {
     match Pair::<S>::new(rt.alloc()) {
         Some(mut pair) => {
-            pair.try_all(rt.alloc(), deeds, hog, notes);
+            pair.try_all(rt.alloc(), deeds, refuser, notes);
             let shown = pair.tried.show(rt);
             drop(pair);
-            try_anew::<S>(rt.alloc(), deeds, looks, hog, notes);
+            try_anew::<S>(rt.alloc(), deeds, looks, refuser, notes);
             shown
         }
         None => {

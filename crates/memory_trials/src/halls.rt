@@ -5,8 +5,8 @@ ghost use Rattle.lobby_hall.specs.Standing.{HasHome};
 
 use crate::accounts::{book, settings};
 use crate::deeds::{Deed, Subject, try_deeds};
-use crate::hog::Hog;
 use crate::notes::Notes;
+use crate::refuser::Refuser;
 use lobby_hall::{Hall, HallError, Record};
 use lobby_model::Step;
 use lobby_model::schedule::Piece;
@@ -151,6 +151,10 @@ impl Subject for Hall {
     }
 }
 
-pub fn try_out<R: Print + AllocGlobal>(rt: &R, hog: &mut Hog, notes: &mut Notes) -> io::Result<()> {
-    try_deeds::<Hall, R>(rt, &DEEDS, &LOOKS, hog, notes)
+pub fn try_out<R: Print + AllocGlobal>(
+    rt: &R,
+    refuser: &mut Refuser,
+    notes: &mut Notes,
+) -> io::Result<()> {
+    try_deeds::<Hall, R>(rt, &DEEDS, &LOOKS, refuser, notes)
 }

@@ -17,11 +17,10 @@ const EVEN_STEPS: usize = 256;
 /// How often what is left may grow. The last time it is all there is.
 pub const MOST_STEPS: usize = 316;
 
-/// Takes all memory but a little, where it is to.
+/// Takes all memory but a little.
 #[derive(Drop)]
 pub struct Hog {
     alloc: Global,
-    // has no place where it is to take none
     pieces: Vec<Vec<u8>>,
     // what a large piece is but for what is left
     spare: Option<Vec<u8>>,
@@ -89,9 +88,6 @@ impl Hog {
 
     /// Takes all memory but for so many steps.
     pub fn leave(&mut self, steps: usize) {
-        if self.pieces.capacity() == 0 {
-            return;
-        }
         if steps >= MOST_STEPS {
             self.release();
             return;

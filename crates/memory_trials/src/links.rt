@@ -1,10 +1,10 @@
-//! Two clients that one worker serves over links in memory. A client whose turn was refused memory gets the next one.
+//! Two clients that one worker serves over links in memory. Who was refused memory makes the call again.
 
 ghost use Rattle.std.specs.Prelude.{◌≡◌, IfSome};
 
 use crate::accounts::{book, lobby_of};
-use crate::hog::{Hog, MOST_STEPS};
 use crate::notes::Notes;
+use crate::refuser::Refuser;
 use lobby_lock::{Desk, Pass};
 use lobby_machine::OpenError;
 use lobby_turns::{Conn, Gate, Link, TurnState, serve};
@@ -97,8 +97,21 @@ SAID main Bert hello
     room: 16_384,
 };
 
-/// How often each of them gets its turns.
-const ROUNDS: u32 = 4;
+/// They connect, one after the other, and then get four turns each.
+const CALLS: usize = 10;
+
+/// How many of the calls connect.
+const CONNECTS: usize = 2;
+
+/// What a call came to.
+#[derive(Clone, Copy, PartialEq, Eq)]
+enum Came {
+    Done,
+    /// Memory was refused.
+    Short,
+    /// Otherwise than it is to be.
+    Wrong,
+}
 
 /// A gate that does nothing.
 #[derive(Drop)]
@@ -126,6 +139,18 @@ struct Side {
     told: Vec<u8>,
 }
 
+/// Whether each link has been told a front of what it is to be told.
+fn are_fronts(sides: &(Side, Side)) -> bool {
+    let (anna, bert) = sides;
+    anna.told.starts_with(anna.link.output()) && bert.told.starts_with(bert.link.output())
+}
+
+/// Whether each link has been told all that it is to be told.
+fn are_told(sides: &(Side, Side)) -> bool {
+    let (anna, bert) = sides;
+    anna.told.as_slice() == anna.link.output() && bert.told.as_slice() == bert.link.output()
+}
+
 fn written(alloc: Global, text: Text) -> Result<Vec<u8>, AllocError> {
     let mut all = Vec::new(alloc);
     for (part, times) in text {
@@ -147,83 +172,157 @@ fn new_side(alloc: Global, client: u64, caller: &Caller) -> Result<Side, AllocEr
     })
 }
 
-/// A client connects, with more and more memory until that suffices, and has this number then, as if memory had never been refused.
-fn connect<R: Wait>(
-    rt: &R,
-    desk: &Desk,
-    pass: Pass,
-    client: u64,
-    hog: &mut Hog,
-    notes: &mut Notes,
-) -> Pass
+/// The client of this number connects.
+fn connect<R: Wait>(rt: &R, desk: &Desk, pass: Pass, client: u64) -> (Pass, Came)
     requires { pass.desk ≡ desk.now }
-    ensures { result.desk ≡ desk.now }
+    ensures { result.0.desk ≡ desk.now }
 {
-    let mut pass = pass;
-    for steps in 0..=MOST_STEPS {
-        let mut held = desk.take(rt, pass);
-        hog.leave(steps);
-        let opened = held.open([10, 0, 0, 1], 0);
-        hog.ease();
-        pass = held.give(rt, desk);
-        if opened == Ok(client) {
-            return pass;
-        }
-        notes.refuse(opened == Err(OpenError::Memory));
-    }
-    notes.give_up();
-    pass
+    let mut held = desk.take(rt, pass);
+    let opened = held.open([10, 0, 0, 1], 0);
+    let came = match opened {
+        Ok(number) if number == client => Came::Done,
+        Err(OpenError::Memory) => Came::Short,
+        _ => Came::Wrong,
+    };
+    (held.give(rt, desk), came)
 }
 
-/// A client gets turns, with more and more memory until that suffices.
-fn turn<R: Wait>(
-    rt: &R,
-    desk: &Desk,
-    pass: Pass,
-    side: &mut Side,
-    hog: &mut Hog,
-    notes: &mut Notes,
-) -> Pass
+/// A client gets a turn.
+fn turn<R: Wait>(rt: &R, desk: &Desk, pass: Pass, side: &mut Side) -> (Pass, Came)
     requires { pass.desk ≡ desk.now }
-    ensures { result.desk ≡ desk.now }
+    ensures { result.0.desk ≡ desk.now }
 {
-    let mut pass = pass;
-    for steps in 0..=MOST_STEPS {
-        if !side.link.fresh() {
-            return pass;
-        }
-        hog.leave(steps);
-        let (next, turn) = serve(rt, &mut side.conn, &mut side.link, desk, pass, &Open);
-        hog.ease();
-        pass = next;
-        if turn.state != TurnState::Memory {
-            return pass;
-        }
-        notes.refuse(side.told.as_slice().starts_with(side.link.output()));
+    if !side.link.fresh() {
+        return (pass, Came::Wrong);
     }
-    notes.give_up();
-    pass
+    let (pass, turn) = serve(rt, &mut side.conn, &mut side.link, desk, pass, &Open);
+    let came = match turn.state {
+        TurnState::Memory => Came::Short,
+        _ => Came::Done,
+    };
+    (pass, came)
 }
 
-/// Both get turns, one after the other, in the last round with all memory.
-fn serve_both<R: Wait>(
+/// Makes the call of this number.
+fn make<R: Wait>(
     rt: &R,
     desk: &Desk,
     pass: Pass,
     sides: &mut (Side, Side),
-    hog: &mut Hog,
+    number: usize,
+) -> (Pass, Came)
+    requires { pass.desk ≡ desk.now }
+    ensures { result.0.desk ≡ desk.now }
+{
+    let (anna, bert) = sides;
+    match number {
+        0 => connect(rt, desk, pass, 1),
+        1 => connect(rt, desk, pass, 2),
+        _ if number % 2 == 0 => turn(rt, desk, pass, anna),
+        _ => turn(rt, desk, pass, bert),
+    }
+}
+
+/// Makes the calls from one number up to another.
+fn make_all<R: Wait>(
+    rt: &R,
+    desk: &Desk,
+    pass: Pass,
+    sides: &mut (Side, Side),
+    from: usize,
+    to: usize,
+) -> Pass
+    requires { pass.desk ≡ desk.now }
+    ensures { result.desk ≡ desk.now }
+{
+    let mut pass = pass;
+    for number in from..to {
+        pass = make(rt, desk, pass, sides, number).0;
+    }
+    pass
+}
+
+/// Makes the call of this number, step by step until memory suffices.
+fn try_call<R: Wait>(
+    rt: &R,
+    desk: &Desk,
+    pass: Pass,
+    sides: &mut (Side, Side),
+    number: usize,
+    refuser: &mut Refuser,
     notes: &mut Notes,
 ) -> Pass
     requires { pass.desk ≡ desk.now }
     ensures { result.desk ≡ desk.now }
 {
-    let (anna, bert) = sides;
     let mut pass = pass;
-    for _ in 0..ROUNDS {
-        pass = turn(rt, desk, pass, anna, hog, notes);
-        pass = turn(rt, desk, pass, bert, hog, notes);
+    for step in 0..=refuser.last_step() {
+        refuser.begin(step);
+        let (next, came) = make(rt, desk, pass, sides, number);
+        refuser.end();
+        pass = next;
+        match came {
+            Came::Done => return pass,
+            Came::Short => notes.refuse(are_fronts(sides)),
+            Came::Wrong => notes.refuse(false),
+        }
     }
+    notes.give_up();
     pass
+}
+
+/// Makes all calls, each step by step, and then the turns with all memory, for what a link lacked the memory to keep.
+fn try_in_turn<R: Wait>(
+    rt: &R,
+    desk: &Desk,
+    pass: Pass,
+    sides: &mut (Side, Side),
+    refuser: &mut Refuser,
+    notes: &mut Notes,
+) -> Pass
+    requires { pass.desk ≡ desk.now }
+    ensures { result.desk ≡ desk.now }
+{
+    let mut pass = pass;
+    for number in 0..CALLS {
+        pass = try_call(rt, desk, pass, sides, number, refuser, notes);
+    }
+    refuser.release();
+    make_all(rt, desk, pass, sides, CONNECTS, CALLS)
+}
+
+/// Makes all calls, the one of this number as at this step, once more where memory did not suffice, and then the turns once more.
+/// Says whether memory was refused; then each link has been told a front of what it is to be told, and all of that in the end.
+fn try_one<R: Wait>(
+    rt: &R,
+    desk: &Desk,
+    pass: Pass,
+    sides: &mut (Side, Side),
+    at: (usize, usize),
+    refuser: &mut Refuser,
+    notes: &mut Notes,
+) -> (Pass, bool)
+    requires { pass.desk ≡ desk.now }
+    ensures { result.0.desk ≡ desk.now }
+{
+    let (number, step) = at;
+    let pass = make_all(rt, desk, pass, sides, 0, number);
+    refuser.begin(step);
+    let (pass, came) = make(rt, desk, pass, sides, number);
+    let was_refused = refuser.end() || came != Came::Done;
+    refuser.release();
+    let were_fronts = came != Came::Wrong && are_fronts(sides);
+    let next = if came == Came::Done {
+        number.saturating_add(1)
+    } else {
+        number
+    };
+    let pass = make_all(rt, desk, pass, sides, next, CALLS);
+    let pass = make_all(rt, desk, pass, sides, CONNECTS, CALLS);
+    if was_refused {
+        notes.refuse(were_fronts && are_told(sides));
+    }
+    (pass, was_refused)
 }
 
 /// A desk with a new lobby.
@@ -234,26 +333,43 @@ fn new_desk<R: Wait + AllocGlobal>(rt: &R) -> Option<(Desk, Pass)>
     Desk::open(rt, rt.alloc(), lobby).ok()
 }
 
-/// Serves the two at a new desk, in the end with all memory, and says whether there is a desk.
-fn serve_all<R: Wait + AllocGlobal>(
+/// Tries all calls in turn at a new desk, and says whether there is one.
+fn try_at_desk<R: Wait + AllocGlobal>(
     rt: &R,
     sides: &mut (Side, Side),
-    hog: &mut Hog,
-    full: &mut Hog,
+    refuser: &mut Refuser,
     notes: &mut Notes,
 ) -> bool {
     match new_desk(rt) {
         Some((desk, pass)) => {
-            let pass = connect(rt, &desk, pass, 1, hog, notes);
-            let pass = connect(rt, &desk, pass, 2, hog, notes);
-            let pass = serve_both(rt, &desk, pass, sides, hog, notes);
-            // what a link lacked the memory to keep
-            let pass = serve_both(rt, &desk, pass, sides, full, notes);
+            let pass = try_in_turn(rt, &desk, pass, sides, refuser, notes);
             drop(pass);
             drop(desk);
             true
         }
         None => false,
+    }
+}
+
+/// Tries a call at a step at a new desk, and says whether memory was refused.
+fn try_one_at_desk<R: Wait + AllocGlobal>(
+    rt: &R,
+    sides: &mut (Side, Side),
+    at: (usize, usize),
+    refuser: &mut Refuser,
+    notes: &mut Notes,
+) -> bool {
+    match new_desk(rt) {
+        Some((desk, pass)) => {
+            let (pass, was_refused) = try_one(rt, &desk, pass, sides, at, refuser, notes);
+            drop(pass);
+            drop(desk);
+            was_refused
+        }
+        None => {
+            notes.give_up();
+            false
+        }
     }
 }
 
@@ -264,6 +380,11 @@ fn show<R: Print>(rt: &R, side: &Side) -> io::Result<()> {
         side.link.output().len(),
         side.link.output() == side.told.as_slice()
     )
+}
+
+fn show_both<R: Print>(rt: &R, sides: &(Side, Side)) -> io::Result<()> {
+    show(rt, &sides.0)?;
+    show(rt, &sides.1)
 }
 
 fn new_sides(alloc: Global) -> Result<(Side, Side), AllocError> {
@@ -277,19 +398,47 @@ fn new_sides(alloc: Global) -> Result<(Side, Side), AllocError> {
     }
 }
 
+/// Tries a call at a step at a desk and on links of its own, and says whether memory was refused.
+fn is_refused<R: Wait + AllocGlobal>(
+    rt: &R,
+    at: (usize, usize),
+    refuser: &mut Refuser,
+    notes: &mut Notes,
+) -> bool {
+    let Ok(mut sides) = new_sides(rt.alloc()) else {
+        notes.give_up();
+        return false;
+    };
+    let was_refused = try_one_at_desk(rt, &mut sides, at, refuser, notes);
+    drop(sides);
+    was_refused
+}
+
+/// Tries each call anew, step by step until no memory is refused.
+fn try_anew<R: Wait + AllocGlobal>(rt: &R, refuser: &mut Refuser, notes: &mut Notes) {
+    for number in 0..CALLS {
+        for step in 0..=refuser.last_step() {
+            if !is_refused(rt, (number, step), refuser, notes) {
+                break;
+            }
+        }
+    }
+}
+
 pub fn try_out<R: Wait + Print + AllocGlobal>(
     rt: &R,
-    hog: &mut Hog,
+    refuser: &mut Refuser,
     notes: &mut Notes,
 ) -> io::Result<()> {
-    let (Ok(mut sides), Some(mut full)) = (new_sides(rt.alloc()), Hog::new(rt.alloc(), 0)) else {
+    let Ok(mut sides) = new_sides(rt.alloc()) else {
         notes.give_up();
         return Ok(());
     };
-    if !serve_all(rt, &mut sides, hog, &mut full, notes) {
+    if !try_at_desk(rt, &mut sides, refuser, notes) {
         notes.give_up();
     }
-    drop(full);
-    show(rt, &sides.0)?;
-    show(rt, &sides.1)
+    try_anew(rt, refuser, notes);
+    let shown = show_both(rt, &sides);
+    drop(sides);
+    shown
 }

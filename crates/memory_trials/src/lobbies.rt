@@ -5,8 +5,8 @@ ghost use Rattle.command_grammar.specs.Kinds.{keeps_kinds};
 
 use crate::accounts::{book, lobby_of};
 use crate::deeds::{Deed, Subject, try_deeds};
-use crate::hog::Hog;
 use crate::notes::Notes;
+use crate::refuser::Refuser;
 use command_grammar::{Request, read_request};
 use lobby_machine::{Lobby, OpenError};
 use std::alloc::{AllocError, Global};
@@ -231,6 +231,10 @@ impl Subject for Lobby {
     }
 }
 
-pub fn try_out<R: Print + AllocGlobal>(rt: &R, hog: &mut Hog, notes: &mut Notes) -> io::Result<()> {
-    try_deeds::<Lobby, R>(rt, &DEEDS, &LOOKS, hog, notes)
+pub fn try_out<R: Print + AllocGlobal>(
+    rt: &R,
+    refuser: &mut Refuser,
+    notes: &mut Notes,
+) -> io::Result<()> {
+    try_deeds::<Lobby, R>(rt, &DEEDS, &LOOKS, refuser, notes)
 }

@@ -2,8 +2,8 @@
 
 use crate::crowd::Crowd;
 use crate::deeds::{Deed, Subject};
-use crate::hog::Hog;
 use crate::notes::Notes;
+use crate::refuser::Refuser;
 use std::alloc::Global;
 use std::io;
 
@@ -35,8 +35,12 @@ fn repeat<S: Subject>(subject: &mut S, alloc: Global, times: u32) -> bool {
     true
 }
 
-pub fn try_out<R: Print + AllocGlobal>(rt: &R, hog: &mut Hog, notes: &mut Notes) -> io::Result<()> {
-    hog.release();
+pub fn try_out<R: Print + AllocGlobal>(
+    rt: &R,
+    refuser: &mut Refuser,
+    notes: &mut Notes,
+) -> io::Result<()> {
+    refuser.release();
     let Some(mut crowd) = Crowd::<2>::new(rt.alloc()) else {
         notes.give_up();
         return Ok(());

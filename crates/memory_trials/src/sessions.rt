@@ -1,8 +1,8 @@
 //! A framer and a session that are fed lines, some of them in pieces.
 
 use crate::deeds::{Deed, Subject, try_deeds};
-use crate::hog::Hog;
 use crate::notes::Notes;
+use crate::refuser::Refuser;
 use client_session::{Next, Session};
 use command_grammar::Command;
 use line_framer::{FeedError, Framer};
@@ -203,7 +203,11 @@ impl Subject for Session {
     }
 }
 
-pub fn try_out<R: Print + AllocGlobal>(rt: &R, hog: &mut Hog, notes: &mut Notes) -> io::Result<()> {
-    try_deeds::<Framer, R>(rt, &DEEDS, &LOOKS, hog, notes)?;
-    try_deeds::<Session, R>(rt, &DEEDS, &LOOKS, hog, notes)
+pub fn try_out<R: Print + AllocGlobal>(
+    rt: &R,
+    refuser: &mut Refuser,
+    notes: &mut Notes,
+) -> io::Result<()> {
+    try_deeds::<Framer, R>(rt, &DEEDS, &LOOKS, refuser, notes)?;
+    try_deeds::<Session, R>(rt, &DEEDS, &LOOKS, refuser, notes)
 }

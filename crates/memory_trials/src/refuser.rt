@@ -1,0 +1,71 @@
+//! The ways to refuse memory, step by step until it suffices.
+
+use crate::counted::{self, Counted};
+use crate::hog::{self, Hog};
+use std::alloc::Global;
+
+/// How many pieces of memory may be taken away where it is to be scarce.
+const MOST_PIECES: usize = 4_096;
+
+/// A way to refuse memory.
+#[derive(Drop)]
+pub enum Refuser {
+    /// None is refused.
+    Never,
+    /// There is less than a call wants: a little more at each step.
+    Scarce(Hog),
+    /// One growth of a call is refused: a later one at each step.
+    Counted(Counted),
+}
+
+impl Refuser {
+    /// The way that a word names; `None` where there is no such way, or no memory for it.
+    pub fn named(alloc: Global, word: &str) -> Option<Refuser> {
+        match word {
+            "scarce" => match Hog::new(alloc, MOST_PIECES) {
+                Some(hog) => Some(Refuser::Scarce(hog)),
+                None => None,
+            },
+            "counted" => Some(Refuser::Counted(Counted::new(alloc))),
+            _ => None,
+        }
+    }
+
+    /// The last step, at which memory is not refused.
+    pub fn last_step(&self) -> usize {
+        match self {
+            Refuser::Never => 0,
+            Refuser::Scarce(_) => hog::MOST_STEPS,
+            Refuser::Counted(_) => counted::MOST_STEPS,
+        }
+    }
+
+    /// From here on memory is refused as at this step.
+    pub fn begin(&mut self, step: usize) {
+        match self {
+            Refuser::Never => {}
+            Refuser::Scarce(hog) => hog.leave(step),
+            Refuser::Counted(counted) => counted.begin(step),
+        }
+    }
+
+    /// Memory is not refused any more, or, where it is scarce, much less. Says whether it is known that it was refused: one who
+    /// counts knows it, also of a call that succeeded without.
+    pub fn end(&mut self) -> bool {
+        match self {
+            Refuser::Never => false,
+            Refuser::Scarce(hog) => {
+                hog.ease();
+                false
+            }
+            Refuser::Counted(counted) => counted.end(),
+        }
+    }
+
+    /// All memory is there again.
+    pub fn release(&mut self) {
+        if let Refuser::Scarce(hog) = self {
+            hog.release();
+        }
+    }
+}
