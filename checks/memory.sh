@@ -13,8 +13,8 @@ checks/refuse_allocation.sh "$room/refuse_allocation.so"
 head -n -1 crates/memory_trials/stdout > "$room/wanted"
 # How much memory there is where it is scarce, in kB.
 limit=16384
-scarce() { ulimit -d "$limit" && exec timeout 120 "$program" scarce; }
-counted() { LD_PRELOAD="$room/refuse_allocation.so" exec timeout 120 "$program" counted; }
+scarce() { ulimit -d "$limit" && exec timeout 300 "$program" scarce; }
+counted() { LD_PRELOAD="$room/refuse_allocation.so" exec timeout 300 "$program" counted; }
 status=0
 # refuse WAY LEAST : fewer refusals than that say that memory was not refused.
 refuse() {
@@ -32,5 +32,5 @@ refuse() {
     fi
 }
 refuse scarce 10000
-refuse counted 1000
+refuse counted 1500
 exit "$status"

@@ -1,16 +1,12 @@
-//! Tests of the lobby machine by its public calls: whom it wakes, who changed, how a client ends and is cut, and what is left where
-//! memory was refused. They stand in a crate of their own, since a crate with tests is proved twice.
+//! Tests of the lobby machine by its public calls: whom it wakes, who changed, and how a client ends and is cut. They stand in a crate of
+//! their own, since a crate with tests is proved twice.
 #![tactic(auto)]
 
-#[cfg(test)]
-mod battles;
 #[cfg(test)]
 mod dirty;
 #[cfg(test)]
 mod machine;
 #[cfg(test)]
 mod plays;
-#[cfg(test)]
-mod talk;
 #[cfg(test)]
 mod verdict;

@@ -1,10 +1,10 @@
-//! A lobby: whom it wakes, how a client ends and is cut, and what is left where memory was refused.
+//! A lobby: whom it wakes, and how a client ends and is cut.
 
 ghost use Rattle.std.specs.Prelude.{◌<◌, IfOk, IsTrue};
 ghost use Rattle.command_grammar.specs.Kinds.{keeps_kinds};
 
 use crate::plays::{Part, play};
-use crate::verdict::{fail, holds, same};
+use crate::verdict::same;
 use account_book::{Account, AccountBook};
 use command_grammar::{Request, read_request};
 use line_words::TextBuf;
@@ -24,7 +24,7 @@ const ACCOUNTS: [(&[u8], u32, u8, &[u8]); 3] = [
     (b"Cleo", 3, 0, b"FR"),
 ];
 
-pub fn add_account(
+fn add_account(
     accounts: &mut AccountBook,
     alloc: Global,
     name: &[u8],
@@ -48,7 +48,7 @@ fn add_accounts(accounts: &mut AccountBook, alloc: Global) -> bool {
 }
 
 // The value, where it is as it should be.
-pub fn only_if<T: Drop>(is_so: bool, value: T) -> Option<T> {
+fn only_if<T: Drop>(is_so: bool, value: T) -> Option<T> {
     if is_so {
         Some(value)
     } else {
@@ -73,7 +73,7 @@ fn new_settings(alloc: Global) -> Option<Settings> {
 }
 
 // A lobby of these accounts.
-pub fn lobby_of(alloc: Global, accounts: AccountBook) -> Option<Lobby> {
+fn lobby_of(alloc: Global, accounts: AccountBook) -> Option<Lobby> {
     match new_settings(alloc) {
         Some(settings) => Lobby::new(alloc, settings, accounts).ok(),
         None => {
@@ -92,7 +92,7 @@ pub fn new_lobby(alloc: Global) -> Option<Lobby> {
 
 // What a line asks for, with arguments of their kinds.
 #[tactic(auto, using(command_grammar::proofs::Bounds::request_keeps))]
-pub fn read(alloc: Global, line: &[u8]) -> Result<Request, AllocError>
+fn read(alloc: Global, line: &[u8]) -> Result<Request, AllocError>
     ensures { IfOk result (λ request. IsTrue (keeps_kinds request.command)) }
 {
     read_request(alloc, line)
@@ -120,18 +120,6 @@ pub fn drains(
 ) -> bool {
     let count = want.len();
     lobby.drain(client, into) == Drained { count, finished } && into.starts_with(want)
-}
-
-// Whether a client reads this and no more.
-fn reads(lobby: &mut Lobby, client: u64, want: &[u8]) -> bool {
-    drains(lobby, client, &mut [0; 512], want, false)
-}
-
-// Each of these clients reads this and no more.
-pub fn see(rt: &impl Abort, lobby: &mut Lobby, seen: &[(u64, &[u8])]) {
-    for (client, want) in seen {
-        holds(rt, reads(lobby, *client, *want), *client);
-    }
 }
 
 // Whether a line of a client wakes this worker alone.
@@ -276,137 +264,13 @@ fn open_three(lobby: &mut Lobby) -> Result<(), OpenError> {
     Ok(())
 }
 
-pub fn lobby_of_three(alloc: Global) -> Option<Lobby> {
+fn lobby_of_three(alloc: Global) -> Option<Lobby> {
     let mut lobby = new_lobby(alloc)?;
     let are_open = open_three(&mut lobby).is_ok();
     only_if(are_open, lobby)
 }
 
-#[test]
-fn three_clients_are_numbered_in_order(rt: HostRuntime) {
-    play(
-        &rt,
-        rt.alloc(),
-        lobby_of_three(rt.alloc()),
-        Part::LastClient(3),
-    );
-}
-
-// Reads a line, once more where memory was refused.
-fn read_at_last(alloc: Global, line: &[u8]) -> Result<Request, AllocError>
-    ensures { IfOk result (λ request. IsTrue (keeps_kinds request.command)) }
-{
-    match read(alloc, line) {
-        Ok(request) => Ok(request),
-        Err(AllocError) => read(alloc, line),
-    }
-}
-
-// Says the request until memory suffices; after each refusal nobody has a byte to read.
-fn say_at_last(lobby: &mut Lobby, client: u64, request: &Request) -> bool
-    requires { IsTrue (keeps_kinds request.now.command) }
-{
-    for _ in 0..64 {
-        if lobby.say(client, request).is_ok() {
-            return true;
-        }
-        // a refused event leaves no trace
-        if lobby.unread(1) != 0 || lobby.unread(2) != 0 || lobby.unread(3) != 0 {
-            return false;
-        }
-    }
-    false
-}
-
-fn serve(lobby: &mut Lobby, alloc: Global, client: u64, line: &[u8]) -> bool {
-    for reader in 1..4 {
-        read_all(lobby, reader);
-    }
-    match read_at_last(alloc, line) {
-        Ok(request) => {
-            let is_said = say_at_last(lobby, client, &request);
-            request.discard();
-            is_said
-        }
-        Err(_) => false,
-    }
-}
-
-pub fn serve_all(lobby: &mut Lobby, alloc: Global, events: &[(u64, &[u8])]) -> bool {
-    for (client, line) in events {
-        if !serve(lobby, alloc, *client, *line) {
-            return false;
-        }
-    }
-    true
-}
-
 const ANNA_LOGS_IN: &[u8] = b"LOGIN Anna X03MO1qnZdYdgyfeuILPmQ== 0 * TestLobby 1.0";
-
-// Logs three users in, one after another, and sets the status of one; all read in between.
-pub const EVENTS: [(u64, &[u8]); 4] = [
-    (1, ANNA_LOGS_IN),
-    (2, b"LOGIN Bert X03MO1qnZdYdgyfeuILPmQ== 0 * TestLobby 1.0"),
-    (1, b"MYSTATUS 1"),
-    (3, b"LOGIN Cleo X03MO1qnZdYdgyfeuILPmQ== 0 * TestLobby 1.0"),
-];
-
-// What the last login sent.
-const SEEN: [(u64, &[u8]); 3] = [
-    (1, b"ADDUSER Cleo FR 0 3\n"),
-    (2, b"ADDUSER Cleo FR 0 3\n"),
-    (
-        3,
-        b"ACCEPTED Cleo\nMOTD Welcome\nADDUSER Anna DE 0 1\nADDUSER Bert ?? 0 2\nADDUSER Cleo FR 0 3\nCLIENTSTATUS Anna 1\nCLIENTSTATUS Bert 12\nLOGININFOEND\n",
-    ),
-];
-
-// Two channels, of which Cleo is in one, and what is said there.
-const TALK: [(u64, &[u8]); 6] = [
-    (1, b"JOIN main"),
-    (1, b"JOIN big"),
-    (2, b"JOIN main"),
-    (2, b"JOIN big"),
-    (3, b"JOIN main"),
-    (2, b"#7 SAY main hello"),
-];
-
-const HEARD: [(u64, &[u8]); 3] = [
-    (1, b"SAID main Bert hello\n"),
-    (2, b"#7 SAID main Bert hello\n"),
-    (3, b"SAID main Bert hello\n"),
-];
-
-// What Anna's log out sent.
-const LEFT: [(u64, &[u8]); 2] = [
-    (2, b"LEFT big Anna\nLEFT main Anna\nREMOVEUSER Anna\n"),
-    (3, b"LEFT main Anna\nREMOVEUSER Anna\n"),
-];
-
-// The events are served, and then these clients read this of the last one.
-pub fn serve_and_see(
-    rt: &impl Abort,
-    alloc: Global,
-    lobby: &mut Lobby,
-    events: &[(u64, &[u8])],
-    seen: &[(u64, &[u8])],
-) {
-    if !serve_all(lobby, alloc, events) {
-        fail(rt, "memory is refused for ever, or left a trace");
-    }
-    see(rt, lobby, seen);
-}
-
-pub fn serve_refused(rt: &impl Abort, alloc: Global, lobby: &mut Lobby) {
-    serve_and_see(rt, alloc, lobby, &EVENTS, &SEEN);
-    serve_and_see(rt, alloc, lobby, &TALK, &HEARD);
-    serve_and_see(rt, alloc, lobby, &[(1, b"EXIT")], &LEFT);
-}
-
-#[test]
-fn an_event_that_memory_refused_leaves_no_trace(rt: HostRuntime) {
-    play(&rt, rt.alloc(), lobby_of_three(rt.alloc()), Part::Refusing);
-}
 
 // Anna logs in and out again, and reads what she got.
 pub fn log_in_and_out(rt: &impl Abort, alloc: Global, lobby: &mut Lobby) {

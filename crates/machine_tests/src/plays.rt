@@ -1,7 +1,7 @@
 //! The tests' lobbies, each with one owner, which lends it to what is played there.
 
-use crate::verdict::{fail, same};
-use crate::{battles, dirty, machine, talk};
+use crate::verdict::fail;
+use crate::{dirty, machine};
 use lobby_machine::Lobby;
 use std::alloc::Global;
 use std::process::Abort;
@@ -9,16 +9,11 @@ use std::process::Abort;
 /// What is played in a lobby.
 #[derive(Clone, Copy)]
 pub enum Part {
-    /// The last client has this number.
-    LastClient(u64),
     Waking,
     ReadingOn,
     Cutting,
-    Refusing,
     Leaving,
     Filling,
-    Battling,
-    Joining,
     ComingOnce,
     ComingAndGoing,
     BeingCut,
@@ -27,15 +22,11 @@ pub enum Part {
 
 fn play_in(rt: &impl Abort, alloc: Global, lobby: &mut Lobby, part: Part) {
     match part {
-        Part::LastClient(client) => same(rt, lobby.last_client(), client),
         Part::Waking => machine::wake(rt, alloc, lobby),
         Part::ReadingOn => machine::exit_and_read_on(rt, alloc, lobby),
         Part::Cutting => machine::fill_and_cut(rt, alloc, lobby),
-        Part::Refusing => machine::serve_refused(rt, alloc, lobby),
         Part::Leaving => machine::log_in_and_out(rt, alloc, lobby),
         Part::Filling => machine::open_to_the_last(rt, lobby),
-        Part::Battling => battles::play(rt, alloc, lobby),
-        Part::Joining => talk::join_and_see(rt, alloc, lobby),
         Part::ComingOnce => dirty::open_one(rt, lobby),
         Part::ComingAndGoing => dirty::come_and_go(rt, alloc, lobby),
         Part::BeingCut => dirty::fill_and_cut(rt, alloc, lobby),

@@ -17,10 +17,11 @@ const DEEDS: [(u64, Deed); 2] = [
     (1, Deed::Send(b"SAY main hello")),
 ];
 
-/// The channel's members are told, and the list of channels has their number.
-const LOOKS: [(u64, Deed); 2] = [
+/// The channel's members are told, the list of channels has their number, and the last user logs out.
+const LOOKS: [(u64, Deed); 3] = [
     (2, Deed::Send(b"SAY main who is there")),
     (33, Deed::Send(b"CHANNELS")),
+    (33, Deed::Send(b"EXIT")),
 ];
 
 fn add_user(accounts: &mut AccountBook, alloc: Global, user: u32) -> bool {
@@ -116,6 +117,10 @@ impl<const USERS: u32> Subject for Crowd<USERS> {
 
     fn act(&mut self, alloc: Global, client: u64, deed: Deed) -> bool {
         act(&mut self.lobby, alloc, client, deed)
+    }
+
+    fn use_up(&mut self, alloc: Global) -> bool {
+        use_buffers_up(&mut self.lobby, alloc, USERS)
     }
 
     fn is_as(&mut self, other: &mut Crowd<USERS>) -> bool {

@@ -32,6 +32,9 @@ pub trait Subject: Drop {
     /// Does it for the client, and says whether memory sufficed. What it has no such deed for, it leaves.
     fn act(&mut self, alloc: Global, client: u64, deed: Deed) -> bool;
 
+    /// Its clients have read all then, and hold no buffer: what they are told next takes memory. Says whether memory sufficed.
+    fn use_up(&mut self, alloc: Global) -> bool;
+
     /// Whether public calls tell the same of both. What they take away to tell it, they take from both.
     fn is_as(&mut self, other: &mut Self) -> bool
     where
@@ -60,10 +63,10 @@ impl<S: Subject> Pair<S> {
         }
     }
 
-    /// A new pair, of which both have done these deeds.
+    /// A new pair, of which both have done these deeds, and have no buffers left.
     fn after(alloc: Global, deeds: &[(u64, Deed)]) -> Option<Pair<S>> {
         let mut pair = Pair::<S>::new(alloc)?;
-        if pair.do_all(alloc, deeds) {
+        if pair.do_all(alloc, deeds) && pair.tried.use_up(alloc) && pair.other.use_up(alloc) {
             Some(pair)
         } else {
             drop(pair);

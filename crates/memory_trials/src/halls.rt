@@ -125,6 +125,11 @@ impl Subject for Hall {
         }
     }
 
+    fn use_up(&mut self, alloc: Global) -> bool {
+        let _ = alloc;
+        true
+    }
+
     fn is_as(&mut self, other: &mut Hall) -> bool {
         let last = self.last_client();
         let are_ready = (0..=last).all(|client| self.ready(client) == other.ready(client));

@@ -16,6 +16,9 @@ use std::io::Write;
 /// The worker that serves all clients.
 pub const HOME: u8 = 0;
 
+/// So many answers of 17 bytes are more than a buffer has that is kept, 4,096 bytes.
+const ANSWERS: u32 = 250;
+
 /// How many bytes are compared at a time.
 const PIECE: usize = 512;
 
@@ -93,8 +96,9 @@ const DEEDS: [(u64, Deed); 51] = [
 ];
 
 /// Five more connect, so that a client 5 is there, however many there were. Dora logs in at it, and is told the users, the battles
-/// and their members; then who is in the channels, and what the members of the battle share.
-const LOOKS: [(u64, Deed); 9] = [
+/// and their members; then who is in the channels, and what the members of the battle share. Then the others log out, and she is told
+/// what each was in.
+const LOOKS: [(u64, Deed); 13] = [
     (1, Deed::Open),
     (2, Deed::Open),
     (3, Deed::Open),
@@ -107,6 +111,10 @@ const LOOKS: [(u64, Deed); 9] = [
     (5, Deed::Send(b"JOIN main")),
     (5, Deed::Send(b"JOIN big")),
     (5, Deed::Send(b"JOINBATTLE 1 secret")),
+    (1, Deed::Send(b"EXIT")),
+    (2, Deed::Send(b"EXIT")),
+    (3, Deed::Send(b"EXIT")),
+    (4, Deed::Send(b"EXIT")),
 ];
 
 /// What a line asks for, with arguments of their kinds.
@@ -133,6 +141,18 @@ pub fn say(lobby: &mut Lobby, alloc: Global, client: u64, line: &[u8]) -> bool {
 pub fn read_some(lobby: &mut Lobby, client: u64, count: usize) {
     let mut bytes = [0; 4096];
     let _ = lobby.drain(client, &mut bytes[..count.min(4096)]);
+}
+
+/// A client is told more than a buffer has that is kept, and reads it.
+fn use_buffer_up(lobby: &mut Lobby, alloc: Global, client: u64) -> bool {
+    for _ in 0..ANSWERS {
+        if !say(lobby, alloc, client, b"#4294967295 PING") {
+            return false;
+        }
+    }
+    read_some(lobby, client, 4096);
+    read_some(lobby, client, 4096);
+    true
 }
 
 /// Does it, and says whether memory sufficed.
@@ -220,6 +240,15 @@ impl Subject for Lobby {
 
     fn act(&mut self, alloc: Global, client: u64, deed: Deed) -> bool {
         act(self, alloc, client, deed)
+    }
+
+    fn use_up(&mut self, alloc: Global) -> bool {
+        for client in 1..=self.last_client() {
+            if !use_buffer_up(self, alloc, client) {
+                return false;
+            }
+        }
+        true
     }
 
     fn is_as(&mut self, other: &mut Lobby) -> bool {

@@ -61,6 +61,11 @@ impl Subject for Framer {
         }
     }
 
+    fn use_up(&mut self, alloc: Global) -> bool {
+        let _ = alloc;
+        true
+    }
+
     fn is_as(&mut self, other: &mut Framer) -> bool {
         self.is_spoilt() == other.is_spoilt()
             && self.next_len() == other.next_len()
@@ -184,6 +189,11 @@ impl Subject for Session {
             }
             Deed::Open | Deed::Read(_) | Deed::Shut | Deed::Record => true,
         }
+    }
+
+    fn use_up(&mut self, alloc: Global) -> bool {
+        let _ = alloc;
+        true
     }
 
     fn is_as(&mut self, other: &mut Session) -> bool {
