@@ -148,10 +148,10 @@ def shown(words, environment, told):
 
 def main():
     begun = time.monotonic()
+    lanes = subprocess.run([ROOT / "tools/lanes.sh"], stdout=subprocess.PIPE, text=True, check=True).stdout.strip()
     watch = Watch()
     looking = threading.Thread(target=watch.run)
     looking.start()
-    lanes = subprocess.run([ROOT / "tools/lanes.sh"], stdout=subprocess.PIPE, text=True, check=True).stdout.strip()
     told = []
     try:
         status = shown(["rt", "ci"], {**os.environ, "RT_JOBS": lanes}, told)
