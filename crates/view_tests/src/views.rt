@@ -84,8 +84,8 @@ fn see_battle(rt: &impl Abort, view: &mut View) -> Result<(), Fail> {
     same(rt, view.feed(SENT), Ok(24));
     same(rt, view.battles().len(), 1);
     let battle: &Battle = view.battles().get(1).ok_or("no battle")?;
-    assert!(rt; battle.map.as_slice() == b"Other Map".as_slice() && battle.locked);
-    same(rt, (battle.spectators, battle.map_hash), (2, 5));
+    assert!(rt; battle.opened.map.as_slice() == b"Other Map".as_slice() && battle.locked);
+    same(rt, (battle.spectators, battle.opened.map_hash), (2, 5));
     same(rt, battle.members().len(), 2);
     Ok(())
 }
