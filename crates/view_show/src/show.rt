@@ -134,11 +134,11 @@ fn show_room<W: Write>(room: &OwnRoom, out: &mut W) -> io::Result<()> {
 fn show_bots<W: Write>(room: &OwnRoom, out: &mut W) -> io::Result<()> {
     for bot in room.bots() {
         out.write_all(b"  bot")?;
-        put_word(bot.name.as_slice(), out)?;
-        put_word(bot.owner.as_slice(), out)?;
-        put_number(i64::from(bot.status), out)?;
-        put_number(bot.colour, out)?;
-        put_word(bot.ai.as_slice(), out)?;
+        put_word(bot.name().as_slice(), out)?;
+        put_word(bot.owner().as_slice(), out)?;
+        put_number(i64::from(bot.status()), out)?;
+        put_number(bot.colour(), out)?;
+        put_word(bot.ai().as_slice(), out)?;
         out.write_all(b"\n")?;
     }
     Ok(())

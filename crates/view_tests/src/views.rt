@@ -107,7 +107,7 @@ fn see_room(rt: &impl Abort, view: &mut View) -> Result<(), Fail> {
         (1, 2, 1),
     );
     let bot = room.bots().first().ok_or("no bot")?;
-    same(rt, (bot.status, bot.colour), (1024, -1));
+    same(rt, (bot.status(), bot.colour()), (1024, -1));
     assert!(rt;
         room.rect_at(1)
             .is_some_and(|rect| rect.right == 200 && rect.bottom == 60)

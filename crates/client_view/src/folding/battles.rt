@@ -4,7 +4,7 @@ ghost use Rattle.std.specs.Prelude.{◌≡◌, ℕ, List, Option, OnOk, OnErr};
 ghost use Rattle.line_words.specs.Table.{put_number};
 ghost use Rattle.reply_grammar.specs.declared.Reply.TheVariants as reply;
 ghost use Rattle.lobby_view.specs.View.{shown, in_room_of, entered};
-ghost use Rattle.battle_room.specs.Room as room;
+ghost use Rattle.room_lists.specs.Room as room;
 ghost use Rattle.client_view.specs.Kinds.{Battles, Opening, kind_of};
 
 use crate::battles::Battle;
