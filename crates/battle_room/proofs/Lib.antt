@@ -1,9 +1,2 @@
-pub mod Counted
-pub mod Indexed
-pub mod Listed
 pub mod Named
 pub mod Numbered
-pub mod Picked
-pub mod Seen
-pub mod Tagged
-pub mod Tests

@@ -8,8 +8,8 @@ use Rattle.std.proofs.lemmas.List.{map-append}
 use Rattle.indexmap.specs.IndexMap.{IndexMap, insert_entry}
 use Rattle.indexmap.proofs.CallerLemmas.{insert_entry-new}
 use Rattle.line_words.specs.Table.{same_name, is_among}
-use Rattle.battle_room.specs.Index.{IsIndex}
-use Rattle.battle_room.proofs.Indexed.{index_removed, index_with, no_value, values_removed}
+use Rattle.room_lists.specs.Index.{IsIndex}
+use Rattle.room_lists.proofs.Indexed.{index_removed, index_with, no_value, values_removed}
 
 -- values in an index by their names, without the one of a name
 module _ {V : Type 0} (key : V → List ℕ) (name : List ℕ) (old new : List (List ℕ × V)) (each : IsIndex (λ (n : List ℕ). n) key old)

@@ -5,16 +5,15 @@
 
 ghost use Rattle.std.specs.Prelude.{◌≡◌, ◌<◌, OnOk, OnErr, IfOk, IfSome, IfNone, IfErr, Err};
 ghost use Rattle.std.specs.Result.{result_err};
-ghost use Rattle.battle_room.specs.Room as room;
-ghost use Rattle.battle_room.specs.Tags as tags;
-ghost use Rattle.battle_room.specs.Units as units;
+ghost use Rattle.room_lists.specs.Room as room;
+ghost use Rattle.room_lists.specs.Tags as tags;
+ghost use Rattle.room_lists.specs.Units as units;
 ghost use Rattle.battle_room.specs.Refusals.{status_refusal, founder_refusal, removal_refusal, new_bot_refusal, bot_refusal, tags_refusal, request_refusal, units_refusal};
 
-use crate::bots::Bot;
 use crate::error::RoomError;
-use crate::rects::Rect;
-use crate::room::Room;
+use crate::room::{Bot, Room};
 use line_words::{NameBuf, PairList, SentenceBuf, WordBuf, WordList};
+use room_lists::Rect;
 use status_bits::BattleStatus;
 
 impl<M: Copy> Room<M> {

@@ -3,7 +3,7 @@
 ghost use Rattle.std.specs.Prelude.{◌≡◌, ◌∷◌, [], ◌++◌, map, filter, find, not, if◌then◌else◌, false, OnOk, OnErr, IfOk, option_copied};
 ghost use Rattle.std.specs.List.{IsDistinct};
 ghost use Rattle.line_words.specs.Table.{same_name, is_among};
-ghost use Rattle.battle_room.specs.Room as room;
+ghost use Rattle.room_lists.specs.Room as room;
 ghost use Rattle.battle_room.specs.Refusals.{is_first};
 
 use indexmap::IndexMap;
@@ -25,7 +25,7 @@ pub struct Member<M: Copy = ()> {
 }
 
 impl<M: Copy> Model for Member<M> {
-    ghost use Rattle.battle_room.specs.Room as room;
+    ghost use Rattle.room_lists.specs.Room as room;
 
     ghost Value = { room.Member };
 
@@ -92,8 +92,8 @@ pub(crate) struct Members<M: Copy> {
 impl<M: Copy> Model for Members<M> {
     ghost use Rattle.std.specs.Prelude.{List, ℕ};
     ghost use Rattle.indexmap.specs.IndexMap.{values};
-    ghost use Rattle.battle_room.specs.Room as room;
-    ghost use Rattle.battle_room.specs.Index.{IsIndex};
+    ghost use Rattle.room_lists.specs.Room as room;
+    ghost use Rattle.room_lists.specs.Index.{IsIndex};
 
     ghost Value = { List room.Member };
 

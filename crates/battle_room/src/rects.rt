@@ -4,29 +4,11 @@ ghost use Rattle.std.specs.Prelude.{◌≡◌, ◌<◌, []};
 ghost use Rattle.line_words.specs.Table.{at_number, put_number, without_number};
 ghost use Rattle.battle_room.specs.Places.{numbered};
 
+use room_lists::Rect;
 use std::marker::Model;
 
 /// How many ally numbers there are: 0 to 15.
 pub const ALLY_COUNT: usize = 16;
-
-/// Where the teams of an ally number may start, in two hundredths of the map's width and height.
-#[derive(Clone, Copy, PartialEq, Eq, Debug)]
-pub struct Rect {
-    pub left: u8,
-    pub top: u8,
-    pub right: u8,
-    pub bottom: u8,
-}
-
-impl Model for Rect {
-    ghost use Rattle.battle_room.specs.Room as room;
-
-    ghost Value = { room.Rect };
-
-    ghost view = { λ r. record { left = r.left; top = r.top; right = r.right; bottom = r.bottom } };
-
-    ghost inverse = { λ r. record { left = r.left; top = r.top; right = r.right; bottom = r.bottom } };
-}
 
 /// A place for a rectangle for each ally number.
 #[derive(Drop)]
@@ -36,7 +18,7 @@ pub(crate) struct Rects {
 
 impl Model for Rects {
     ghost use Rattle.line_words.specs.Table.{ByNumber};
-    ghost use Rattle.battle_room.specs.Room as room;
+    ghost use Rattle.room_lists.specs.Room as room;
     ghost use Rattle.battle_room.specs.Places.{numbered};
 
     ghost Value = { ByNumber room.Rect };

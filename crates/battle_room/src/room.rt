@@ -3,22 +3,23 @@
 ghost use Rattle.std.specs.Prelude.{◌≡◌, ◌<◌, List, not, OnOk, OnErr, IfOk, option_copied, false};
 ghost use Rattle.std.specs.List.{IsDistinct};
 ghost use Rattle.line_words.specs.Table.{same_name, at_number};
-ghost use Rattle.battle_room.specs.Room as room;
-ghost use Rattle.battle_room.specs.Tags as tags;
-ghost use Rattle.battle_room.specs.Units as units;
+ghost use Rattle.room_lists.specs.Room as room;
+ghost use Rattle.room_lists.specs.Tags as tags;
+ghost use Rattle.room_lists.specs.Units as units;
 ghost use Rattle.battle_room.specs.Places.{numbered};
 ghost use Rattle.battle_room.specs.Refusals.{is_first_member};
 
 use crate::askers::{Asker, Askers};
-use crate::bots::{Bot, Bots};
 use crate::members::{Member, Members};
-use crate::rects::{ALLY_COUNT, Rect, Rects};
-use crate::tags::Tags;
-use crate::units::Units;
+use crate::rects::{ALLY_COUNT, Rects};
 use line_words::{NameBuf, Pair, PairList, WordBuf, WordList};
+use room_lists::{Bots, Rect, Tags, Units};
 use status_bits::BattleStatus;
 use std::alloc::{AllocError, Global};
 use std::marker::Model;
+
+/// A bot of a room.
+pub type Bot = room_lists::Bot<BattleStatus>;
 
 /// What the members of a battle share: who they are in order of joining, the founder first, bots,
 /// start rectangles, script tags and disabled units; and who asks to join, in order of asking.
@@ -29,7 +30,7 @@ use std::marker::Model;
 pub struct Room<M: Copy = ()> {
     pub(crate) alloc: Global,
     members: Members<M>,
-    bots: Bots,
+    bots: Bots<BattleStatus>,
     rects: Rects,
     tags: Tags,
     units: Units,
@@ -37,7 +38,7 @@ pub struct Room<M: Copy = ()> {
 }
 
 impl<M: Copy> Model for Room<M> {
-    ghost use Rattle.battle_room.specs.Room as room;
+    ghost use Rattle.room_lists.specs.Room as room;
 
     ghost Value = { room.Room };
 

@@ -5,7 +5,7 @@ use Rattle.command_grammar.specs.declared.command.Command.{Command}
 use Rattle.command_grammar.specs.declared.command.Command.TheVariants as command
 use Rattle.battle_room.specs.Room.{Room}
 use Rattle.lobby_model.specs.State.{Battle}
-use Rattle.lobby_maps.specs.Info.{info_of}
+use Rattle.lobby_model.specs.Opened.{info_of}
 use Rattle.battle_rules.specs.declared.battles.Texts.{Texts}
 
 -- the command is OPENBATTLE

@@ -1,5 +1,5 @@
 -- The client's own room, changed.
-use Rattle.battle_room.specs.Room.{Room}
+use Rattle.room_lists.specs.Room.{Room}
 use Rattle.lobby_view.specs.View.{OwnRoom}
 
 abbrev pub changed_room : (Room → Room) → OwnRoom → OwnRoom

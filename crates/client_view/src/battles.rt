@@ -10,43 +10,18 @@ ghost use Rattle.lobby_model.specs.State.{updated};
 ghost use Rattle.lobby_view.specs.View.{Listed, change_members, change_listed_info, at_end};
 
 use crate::names::Names;
-use line_words::{NameBuf, SentenceBuf, WordBuf};
+use line_words::{NameBuf, SentenceBuf};
+use reply_grammar::OpenedBattle;
 use std::alloc::{AllocError, Global};
 use std::collections::BTreeMap;
 use std::collections::btree_map::Iter;
 use std::marker::Model;
 
-/// A battle as it is listed. The hashes and the rank are -2147483648 to 4294967295.
+/// A battle as it is listed.
 #[derive(Drop)]
 pub struct Battle {
-    /// 0 for a game, 1 for a replay.
-    pub battle_type: u8,
-    /// How clients pass address translation, 0 to 2.
-    pub nat_type: u8,
-    /// The user that opened the battle and hosts it.
-    pub founder: NameBuf,
-    /// The address that the battle is hosted at.
-    pub ip: WordBuf,
-    /// The UDP port that the battle is hosted at.
-    pub port: u16,
-    /// The most players that the battle takes.
-    pub max_players: u16,
-    /// Whether who joins must give a password.
-    pub passworded: bool,
-    /// The lowest rank that is wanted.
-    pub rank: i64,
-    /// The hash of the map.
-    pub map_hash: i64,
-    /// The engine that the battle is played with.
-    pub engine_name: SentenceBuf,
-    /// The version of the engine.
-    pub engine_version: SentenceBuf,
-    /// The name of the map.
-    pub map: SentenceBuf,
-    /// What the founder calls the battle.
-    pub title: SentenceBuf,
-    /// The name of the game.
-    pub game_name: SentenceBuf,
+    /// What all were told of it as it opened; its map and the hash of that are those of now.
+    pub opened: OpenedBattle,
     /// How many watch, as the founder says.
     pub spectators: u16,
     /// Whether nobody may join it now.
@@ -55,31 +30,12 @@ pub struct Battle {
 }
 
 impl Model for Battle {
+    ghost use Rattle.lobby_model.specs.Opened.{info_of};
     ghost use Rattle.lobby_view.specs.View.{Listed};
 
     ghost Value = { Listed };
 
-    ghost view = { λ b. record {
-      info = record {
-        battle_type = b.battle_type;
-        nat_type = b.nat_type;
-        founder = b.founder;
-        ip = b.ip;
-        port = b.port;
-        max_players = b.max_players;
-        passworded = b.passworded;
-        rank = b.rank;
-        map_hash = b.map_hash;
-        engine_name = b.engine_name;
-        engine_version = b.engine_version;
-        map = b.map;
-        title = b.title;
-        game_name = b.game_name;
-        spectators = b.spectators;
-        locked = b.locked;
-      };
-      members = b.members;
-    } };
+    ghost view = { λ b. record { info = info_of b.opened b.spectators b.locked; members = b.members } };
 }
 
 impl Battle {
@@ -96,8 +52,8 @@ impl Battle {
     {
         self.spectators = spectators;
         self.locked = locked;
-        self.map_hash = map_hash;
-        self.map = map;
+        self.opened.map_hash = map_hash;
+        self.opened.map = map;
     }
 
     /// One joins it. Where memory is refused, nothing changes.

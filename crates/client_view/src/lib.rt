@@ -31,7 +31,6 @@
 #![tactic(auto)]
 
 mod battles;
-mod bots;
 mod channels;
 mod error;
 mod folding;
@@ -44,11 +43,10 @@ mod users;
 mod view;
 
 pub use battles::{Battle, Battles};
-pub use bots::Bot;
 pub use channels::Channels;
 pub use error::ViewError;
 pub use lobby_view::{line_kinds_law, line_length_law, pieces_law, private_law, view_law};
 pub use members::Member;
-pub use own_room::OwnRoom;
+pub use own_room::{Bot, OwnRoom};
 pub use users::{User, Users};
 pub use view::View;

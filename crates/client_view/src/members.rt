@@ -2,7 +2,7 @@
 
 ghost use Rattle.std.specs.Prelude.{◌≡◌, ℕ, List, ◌∷◌, [], ◌++◌, map, filter, not, if◌then◌else◌, OnOk, OnErr, IfOk};
 ghost use Rattle.line_words.specs.Table.{same_name};
-ghost use Rattle.battle_room.specs.Room as room;
+ghost use Rattle.room_lists.specs.Room as room;
 
 use line_words::NameBuf;
 use std::alloc::{AllocError, Global};
@@ -19,7 +19,7 @@ pub struct Member {
 }
 
 impl Model for Member {
-    ghost use Rattle.battle_room.specs.Room as room;
+    ghost use Rattle.room_lists.specs.Room as room;
 
     ghost Value = { room.Member };
 
@@ -57,7 +57,7 @@ pub(crate) struct Members {
 
 impl Model for Members {
     ghost use Rattle.std.specs.Prelude.{List};
-    ghost use Rattle.battle_room.specs.Room as room;
+    ghost use Rattle.room_lists.specs.Room as room;
 
     ghost Value = { List room.Member };
 

@@ -2,28 +2,30 @@
 
 ghost use Rattle.std.specs.Prelude.{◌≡◌, ℕ, List, OnOk, OnErr, IfOk, length, option_copied};
 ghost use Rattle.line_words.specs.Table.{at_number, same_number};
-ghost use Rattle.battle_room.specs.Room as room;
+ghost use Rattle.room_lists.specs.Room as room;
 ghost use Rattle.lobby_view.specs.View.{OwnRoom, entered};
 ghost use Rattle.client_view.specs.Rooms.{changed_room};
 
 use crate::battles::Battle;
-use crate::bots::{Bot, Bots};
 use crate::members::{Member, Members};
-use battle_room::{Rect, Tags, Units};
-use line_words::{NameBuf, Pair, PairList, WordBuf, WordList};
+use line_words::{NameBuf, Pair, WordBuf};
+use room_lists::{Bots, Rect, Tags, Units};
 use std::alloc::{AllocError, Global};
 use std::collections::BTreeMap;
 use std::marker::Model;
+
+/// A bot of the client's room. Its status is a word, of which `status_bits` tells the fields.
+pub type Bot = room_lists::Bot<u32>;
 
 /// The room of the battle that the client is in: what its members share.
 #[derive(Drop)]
 pub struct OwnRoom {
     battle: u32,
-    members: Members,
-    bots: Bots,
+    pub(crate) members: Members,
+    pub(crate) bots: Bots<u32>,
     rects: BTreeMap<u8, Rect>,
-    tags: Tags,
-    units: Units,
+    pub(crate) tags: Tags,
+    pub(crate) units: Units,
 }
 
 impl Model for OwnRoom {
@@ -130,42 +132,6 @@ impl OwnRoom {
         self.members.drop_last();
     }
 
-    /// One leaves.
-    pub(crate) fn remove_member(&mut self, name: &NameBuf)
-        ensures { self.new ≡ changed_room (room.all_members_but name.now) self.old }
-    {
-        self.members.remove(name);
-    }
-
-    /// A status and a colour for a member.
-    pub(crate) fn put_status(&mut self, name: &NameBuf, status: u32, colour: i64)
-        ensures { self.new ≡ changed_room (room.with_status name.now status colour) self.old }
-    {
-        self.members.put_status(name, status, colour);
-    }
-
-    /// A bot is added. Where memory is refused, nothing changes.
-    pub(crate) fn add_bot(&mut self, bot: Bot) -> Result<(), AllocError>
-        ensures ok { OnOk result (self.new ≡ changed_room (room.with_bot bot) self.old) }
-        ensures err { OnErr result (self.new ≡ self.old) }
-    {
-        self.bots.add(bot)
-    }
-
-    /// A status and a colour for a bot.
-    pub(crate) fn put_bot_status(&mut self, name: &WordBuf, status: u32, colour: i64)
-        ensures { self.new ≡ changed_room (room.with_bot_status name.now status colour) self.old }
-    {
-        self.bots.put_status(name, status, colour);
-    }
-
-    /// A bot goes.
-    pub(crate) fn remove_bot(&mut self, name: &WordBuf)
-        ensures { self.new ≡ changed_room (room.without_bot name.now) self.old }
-    {
-        self.bots.remove(name);
-    }
-
     /// A start rectangle. Where memory is refused, nothing changes.
     pub(crate) fn put_rect(&mut self, ally: u8, rect: Rect) -> Result<(), AllocError>
         ensures ok { OnOk result (self.new ≡ changed_room (room.with_rect ally rect) self.old) }
@@ -182,42 +148,5 @@ impl OwnRoom {
         // Its contract says that the numbers rise, which the proof wants of the map as it was.
         let _ = self.rects.len();
         let _ = self.rects.remove(&ally);
-    }
-
-    /// Tags are set. Where memory is refused, nothing changes.
-    pub(crate) fn put_tags(&mut self, alloc: Global, pairs: PairList) -> Result<(), AllocError>
-        ensures ok { OnOk result (self.new ≡ changed_room (room.set_tags pairs) self.old) }
-        ensures err { OnErr result (self.new ≡ self.old) }
-    {
-        self.tags.put(alloc, pairs)
-    }
-
-    /// Tags go.
-    pub(crate) fn remove_tags(&mut self, keys: &WordList)
-        ensures { self.new ≡ changed_room (room.remove_tags keys.now) self.old }
-    {
-        self.tags.remove(keys.as_slice());
-    }
-
-    /// Units are disabled. Where memory is refused, nothing changes.
-    pub(crate) fn put_units(&mut self, alloc: Global, units: WordList) -> Result<(), AllocError>
-        ensures ok { OnOk result (self.new ≡ changed_room (room.disable_units units) self.old) }
-        ensures err { OnErr result (self.new ≡ self.old) }
-    {
-        self.units.put(alloc, units)
-    }
-
-    /// Units are enabled again.
-    pub(crate) fn remove_units(&mut self, units: &WordList)
-        ensures { self.new ≡ changed_room (room.enable_units units.now) self.old }
-    {
-        self.units.remove(units.as_slice());
-    }
-
-    /// All units are enabled again.
-    pub(crate) fn clear_units(&mut self)
-        ensures { self.new ≡ changed_room room.enable_all self.old }
-    {
-        self.units.clear();
     }
 }

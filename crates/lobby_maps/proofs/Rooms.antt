@@ -18,7 +18,7 @@ use Rattle.lobby_model.specs.State.{Battle, Info}
 use Rattle.lobby_model.specs.Battles.{rect_line, opened_line, updated_line, battle_lines}
 use Rattle.lobby_post.specs.Posted.{Posted, with_own}
 use Rattle.lobby_post.proofs.Telling.{with_own_more}
-use Rattle.lobby_maps.specs.Info.{info_of}
+use Rattle.lobby_model.specs.Opened.{info_of}
 use Rattle.lobby_maps.specs.Parts.{guest_lines}
 
 -- lines put behind others

@@ -1,28 +1,5 @@
--- What all know of a battle.
-use Rattle.std.specs.Prelude.{ℕ, Bool}
-use Rattle.reply_grammar.specs.declared.opened_battle.OpenedBattle.{OpenedBattle}
+-- What all know of a battle, changed.
 use Rattle.lobby_model.specs.State.{Info, Battle}
-
--- what all know of a battle: what was told of it as it opened, and the rest
-abbrev pub info_of : OpenedBattle → ℕ → Bool → Info
-info_of opened spectators locked = record {
-  battle_type = opened.battle_type;
-  nat_type = opened.nat_type;
-  founder = opened.founder;
-  ip = opened.ip;
-  port = opened.port;
-  max_players = opened.max_players;
-  passworded = opened.passworded;
-  rank = opened.rank;
-  map_hash = opened.map_hash;
-  engine_name = opened.engine_name;
-  engine_version = opened.engine_version;
-  map = opened.map;
-  title = opened.title;
-  game_name = opened.game_name;
-  spectators = spectators;
-  locked = locked;
-}
 
 abbrev pub info_changed : (Info → Info) → Battle → Battle
 info_changed f battle = record battle { info = f battle.info }

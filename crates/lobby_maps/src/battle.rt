@@ -34,7 +34,7 @@ pub struct Battle {
 
 impl Model for Battle {
     ghost use Rattle.lobby_model.specs.State.{Battle};
-    ghost use Rattle.lobby_maps.specs.Info.{info_of};
+    ghost use Rattle.lobby_model.specs.Opened.{info_of};
 
     ghost Value = { Battle };
 

@@ -1,5 +1,6 @@
 pub mod Configuration
 pub mod State
+pub mod Opened
 pub mod Texts
 pub mod Outcome
 pub mod Channels

@@ -68,21 +68,22 @@ fn show_battles<W: Write>(battles: &Battles, out: &mut W) -> io::Result<()> {
 }
 
 fn show_battle<W: Write>(number: u32, battle: &Battle, out: &mut W) -> io::Result<()> {
+    let opened = &battle.opened;
     out.write_all(b"battle")?;
     put_number(i64::from(number), out)?;
-    put_word(battle.founder.as_slice(), out)?;
-    put_word(battle.ip.as_slice(), out)?;
-    put_number(i64::from(battle.port), out)?;
-    put_number(i64::from(battle.max_players), out)?;
+    put_word(opened.founder.as_slice(), out)?;
+    put_word(opened.ip.as_slice(), out)?;
+    put_number(i64::from(opened.port), out)?;
+    put_number(i64::from(opened.max_players), out)?;
     put_number(i64::from(battle.spectators), out)?;
-    put_flag(battle.passworded, b"passworded", out)?;
+    put_flag(opened.passworded, b"passworded", out)?;
     put_flag(battle.locked, b"locked", out)?;
     out.write_all(b"\n")?;
-    put_below(b"title", battle.title.as_slice(), out)?;
-    put_below(b"map", battle.map.as_slice(), out)?;
-    put_below(b"game", battle.game_name.as_slice(), out)?;
-    put_below(b"engine", battle.engine_name.as_slice(), out)?;
-    put_below(b"version", battle.engine_version.as_slice(), out)
+    put_below(b"title", opened.title.as_slice(), out)?;
+    put_below(b"map", opened.map.as_slice(), out)?;
+    put_below(b"game", opened.game_name.as_slice(), out)?;
+    put_below(b"engine", opened.engine_name.as_slice(), out)?;
+    put_below(b"version", opened.engine_version.as_slice(), out)
 }
 
 fn show_names<W: Write>(names: &[NameBuf], out: &mut W) -> io::Result<()> {
@@ -133,11 +134,11 @@ fn show_room<W: Write>(room: &OwnRoom, out: &mut W) -> io::Result<()> {
 fn show_bots<W: Write>(room: &OwnRoom, out: &mut W) -> io::Result<()> {
     for bot in room.bots() {
         out.write_all(b"  bot")?;
-        put_word(bot.name.as_slice(), out)?;
-        put_word(bot.owner.as_slice(), out)?;
-        put_number(i64::from(bot.status), out)?;
-        put_number(bot.colour, out)?;
-        put_word(bot.ai.as_slice(), out)?;
+        put_word(bot.name().as_slice(), out)?;
+        put_word(bot.owner().as_slice(), out)?;
+        put_number(i64::from(bot.status()), out)?;
+        put_number(bot.colour(), out)?;
+        put_word(bot.ai().as_slice(), out)?;
         out.write_all(b"\n")?;
     }
     Ok(())

@@ -84,8 +84,8 @@ fn see_battle(rt: &impl Abort, view: &mut View) -> Result<(), Fail> {
     same(rt, view.feed(SENT), Ok(24));
     same(rt, view.battles().len(), 1);
     let battle: &Battle = view.battles().get(1).ok_or("no battle")?;
-    assert!(rt; battle.map.as_slice() == b"Other Map".as_slice() && battle.locked);
-    same(rt, (battle.spectators, battle.map_hash), (2, 5));
+    assert!(rt; battle.opened.map.as_slice() == b"Other Map".as_slice() && battle.locked);
+    same(rt, (battle.spectators, battle.opened.map_hash), (2, 5));
     same(rt, battle.members().len(), 2);
     Ok(())
 }
@@ -107,7 +107,7 @@ fn see_room(rt: &impl Abort, view: &mut View) -> Result<(), Fail> {
         (1, 2, 1),
     );
     let bot = room.bots().first().ok_or("no bot")?;
-    same(rt, (bot.status, bot.colour), (1024, -1));
+    same(rt, (bot.status(), bot.colour()), (1024, -1));
     assert!(rt;
         room.rect_at(1)
             .is_some_and(|rect| rect.right == 200 && rect.bottom == 60)

@@ -4,7 +4,7 @@ ghost use Rattle.std.specs.Prelude.{◌≡◌, ℕ, List, Option, OnOk, OnErr};
 ghost use Rattle.line_words.specs.Table.{put_number};
 ghost use Rattle.reply_grammar.specs.declared.Reply.TheVariants as reply;
 ghost use Rattle.lobby_view.specs.View.{shown, in_room_of, entered};
-ghost use Rattle.battle_room.specs.Room as room;
+ghost use Rattle.room_lists.specs.Room as room;
 ghost use Rattle.client_view.specs.Kinds.{Battles, Opening, kind_of};
 
 use crate::battles::Battle;
@@ -13,7 +13,7 @@ use crate::known::Known;
 use crate::names::Names;
 use crate::own_room::OwnRoom;
 use line_words::{NameBuf, SentenceBuf, WordBuf};
-use reply_grammar::Reply;
+use reply_grammar::{OpenedBattle, Reply};
 use std::alloc::AllocError;
 
 impl Known {
@@ -80,7 +80,7 @@ impl Known {
                 game_name,
             } => {
                 let members = Names::one(self.alloc, founder.copy())?;
-                let listed = Battle {
+                let opened = OpenedBattle {
                     battle_type,
                     nat_type,
                     founder,
@@ -95,6 +95,9 @@ impl Known {
                     map,
                     title,
                     game_name,
+                };
+                let listed = Battle {
+                    opened,
                     spectators: 0,
                     locked: false,
                     members,

@@ -2,13 +2,12 @@
 //! changes.
 
 ghost use Rattle.std.specs.Prelude.{◌≡◌, ℕ, List, Option, None, OnOk, OnErr};
-ghost use Rattle.battle_room.specs.Room as room;
+ghost use Rattle.room_lists.specs.Room as room;
 ghost use Rattle.lobby_view.specs.View.{OwnRoom, if_of, in_own_room, in_room_of};
 
-use crate::bots::Bot;
-use crate::own_room::OwnRoom;
-use battle_room::Rect;
+use crate::own_room::{Bot, OwnRoom};
 use line_words::{NameBuf, PairList, WordBuf, WordList};
+use room_lists::Rect;
 use std::alloc::{AllocError, Global};
 
 pub(super) fn add_member(
@@ -43,7 +42,7 @@ pub(super) fn remove_member(own: &mut Option<OwnRoom>, number: u32, name: &NameB
 {
     if let Some(room) = own {
         if room.is_of(number) {
-            room.remove_member(name);
+            room.members.remove(name);
         }
     }
 }
@@ -63,7 +62,7 @@ pub(super) fn put_status(own: &mut Option<OwnRoom>, name: &NameBuf, status: u32,
     ensures { own.new ≡ in_own_room (room.with_status name.now status colour) own.old }
 {
     if let Some(room) = own {
-        room.put_status(name, status, colour);
+        room.members.put_status(name, status, colour);
     }
 }
 
@@ -72,7 +71,7 @@ pub(super) fn add_bot(own: &mut Option<OwnRoom>, number: u32, bot: Bot) -> Resul
     ensures err { OnErr result (own.new ≡ own.old) }
 {
     match own {
-        Some(room) if room.is_of(number) => room.add_bot(bot),
+        Some(room) if room.is_of(number) => room.bots.add(bot),
         _ => {
             drop(bot);
             Ok(())
@@ -91,7 +90,7 @@ pub(super) fn put_bot_status(
 {
     if let Some(room) = own {
         if room.is_of(number) {
-            room.put_bot_status(name, status, colour);
+            room.bots.put_status(name, status, colour);
         }
     }
 }
@@ -101,7 +100,7 @@ pub(super) fn remove_bot(own: &mut Option<OwnRoom>, number: u32, name: &WordBuf)
 {
     if let Some(room) = own {
         if room.is_of(number) {
-            room.remove_bot(name);
+            room.bots.remove(name);
         }
     }
 }
@@ -133,7 +132,7 @@ pub(super) fn put_tags(
     ensures err { OnErr result (own.new ≡ own.old) }
 {
     if let Some(room) = own {
-        room.put_tags(alloc, pairs)?;
+        room.tags.put(alloc, pairs)?;
     }
     Ok(())
 }
@@ -142,7 +141,7 @@ pub(super) fn remove_tags(own: &mut Option<OwnRoom>, keys: &WordList)
     ensures { own.new ≡ in_own_room (room.remove_tags keys.now) own.old }
 {
     if let Some(room) = own {
-        room.remove_tags(keys);
+        room.tags.remove(keys.as_slice());
     }
 }
 
@@ -155,7 +154,7 @@ pub(super) fn put_units(
     ensures err { OnErr result (own.new ≡ own.old) }
 {
     if let Some(room) = own {
-        room.put_units(alloc, units)?;
+        room.units.put(alloc, units)?;
     }
     Ok(())
 }
@@ -164,7 +163,7 @@ pub(super) fn remove_units(own: &mut Option<OwnRoom>, units: &WordList)
     ensures { own.new ≡ in_own_room (room.enable_units units.now) own.old }
 {
     if let Some(room) = own {
-        room.remove_units(units);
+        room.units.remove(units.as_slice());
     }
 }
 
@@ -172,6 +171,6 @@ pub(super) fn clear_units(own: &mut Option<OwnRoom>)
     ensures { own.new ≡ in_own_room room.enable_all own.old }
 {
     if let Some(room) = own {
-        room.clear_units();
+        room.units.clear();
     }
 }

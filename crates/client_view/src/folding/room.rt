@@ -5,12 +5,12 @@ ghost use Rattle.reply_grammar.specs.declared.Reply.TheVariants as reply;
 ghost use Rattle.lobby_view.specs.View.{shown};
 ghost use Rattle.client_view.specs.Kinds.{Members, Bots, Rects, Tags, Units, kind_of};
 
-use crate::bots::Bot;
 use crate::folding::own;
 use crate::known::Known;
-use battle_room::Rect;
-use line_words::{NameBuf, PairList, WordBuf, WordList};
+use crate::own_room::Bot;
+use line_words::{NameBuf, WordBuf};
 use reply_grammar::Reply;
+use room_lists::Rect;
 use std::alloc::AllocError;
 
 impl Known {
@@ -56,13 +56,7 @@ impl Known {
                 team_color,
                 ai,
             } => {
-                let bot = Bot {
-                    name: bot,
-                    owner,
-                    status: battle_status,
-                    colour: team_color,
-                    ai,
-                };
+                let bot = Bot::new(owner, bot, battle_status, team_color, ai);
                 self.add_bot(battle, bot)
             }
             Reply::UpdateBot {
@@ -122,27 +116,14 @@ impl Known {
                     right,
                     bottom,
                 };
-                self.add_start_rect(ally_no, rect)
+                own::put_rect(&mut self.own, ally_no, rect)
             }
             Reply::RemoveStartRect { ally_no } => {
-                self.remove_start_rect(ally_no);
+                own::remove_rect(&mut self.own, ally_no);
                 Ok(())
             }
             _ => unreachable!(),
         }
-    }
-
-    fn add_start_rect(&mut self, ally: u8, rect: Rect) -> Result<(), AllocError>
-        ensures ok { OnOk result (self.new ≡ shown self.old (reply.AddStartRect ally rect.left rect.top rect.right rect.bottom)) }
-        ensures err { OnErr result (self.new ≡ self.old) }
-    {
-        own::put_rect(&mut self.own, ally, rect)
-    }
-
-    fn remove_start_rect(&mut self, ally: u8)
-        ensures { self.new ≡ shown self.old (reply.RemoveStartRect ally) }
-    {
-        own::remove_rect(&mut self.own, ally);
     }
 
     // Script tags are set or go.
@@ -153,26 +134,13 @@ impl Known {
         ensures err { OnErr result (self.new ≡ self.old) }
     {
         match reply {
-            Reply::SetScriptTags { pairs } => self.set_script_tags(pairs),
+            Reply::SetScriptTags { pairs } => own::put_tags(&mut self.own, self.alloc, pairs),
             Reply::RemoveScriptTags { keys } => {
-                self.remove_script_tags(&keys);
+                own::remove_tags(&mut self.own, &keys);
                 Ok(())
             }
             _ => unreachable!(),
         }
-    }
-
-    fn set_script_tags(&mut self, pairs: PairList) -> Result<(), AllocError>
-        ensures ok { OnOk result (self.new ≡ shown self.old (reply.SetScriptTags pairs)) }
-        ensures err { OnErr result (self.new ≡ self.old) }
-    {
-        own::put_tags(&mut self.own, self.alloc, pairs)
-    }
-
-    fn remove_script_tags(&mut self, keys: &WordList)
-        ensures { self.new ≡ shown self.old (reply.RemoveScriptTags keys.now) }
-    {
-        own::remove_tags(&mut self.own, keys);
     }
 
     // Units are disabled or enabled.
@@ -183,35 +151,16 @@ impl Known {
         ensures err { OnErr result (self.new ≡ self.old) }
     {
         match reply {
-            Reply::DisableUnits { units } => self.disable_units(units),
+            Reply::DisableUnits { units } => own::put_units(&mut self.own, self.alloc, units),
             Reply::EnableUnits { units } => {
-                self.enable_units(&units);
+                own::remove_units(&mut self.own, &units);
                 Ok(())
             }
             Reply::EnableAllUnits => {
-                self.enable_all_units();
+                own::clear_units(&mut self.own);
                 Ok(())
             }
             _ => unreachable!(),
         }
-    }
-
-    fn disable_units(&mut self, units: WordList) -> Result<(), AllocError>
-        ensures ok { OnOk result (self.new ≡ shown self.old (reply.DisableUnits units)) }
-        ensures err { OnErr result (self.new ≡ self.old) }
-    {
-        own::put_units(&mut self.own, self.alloc, units)
-    }
-
-    fn enable_units(&mut self, units: &WordList)
-        ensures { self.new ≡ shown self.old (reply.EnableUnits units.now) }
-    {
-        own::remove_units(&mut self.own, units);
-    }
-
-    fn enable_all_units(&mut self)
-        ensures { self.new ≡ shown self.old reply.EnableAllUnits }
-    {
-        own::clear_units(&mut self.own);
     }
 }

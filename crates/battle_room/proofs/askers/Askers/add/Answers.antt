@@ -1,7 +1,7 @@
 use Rattle.std.proofs.Common.{◌≡◌, ◌∙◌, [], ◌∷◌, ◌++◌, ap, sym, false}
 use Rattle.std.specs.Prelude.{ℕ, List, map}
 use Rattle.line_words.specs.Table.{is_among}
-use Rattle.battle_room.specs.Room as room
+use Rattle.room_lists.specs.Room as room
 use Rattle.battle_room.proofs.Named.{index_more, values_more}
 use Rattle.battle_room.proofs.askers.Askers.add.Goals as goal
 

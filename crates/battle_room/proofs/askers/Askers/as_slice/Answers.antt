@@ -3,8 +3,8 @@ use Rattle.std.specs.Prelude.{ℕ, List, map}
 use Rattle.std.specs.List.{IsDistinct}
 use Rattle.std.specs.Map.{values_of}
 use Rattle.line_words.specs.Table.{same_name}
-use Rattle.battle_room.specs.Room as room
-use Rattle.battle_room.proofs.Indexed.{distinct_values}
+use Rattle.room_lists.specs.Room as room
+use Rattle.room_lists.proofs.Indexed.{distinct_values}
 use Rattle.battle_room.proofs.askers.Askers.as_slice.Goals as goal
 
 pub returns-clause-distinct : goal.returns-clause-distinct

@@ -1,8 +1,8 @@
 use Rattle.std.proofs.Common.{◌∙◌, ap}
 use Rattle.std.specs.Prelude.{ℕ, List, map}
 use Rattle.line_words.specs.Table.{is_among}
-use Rattle.battle_room.specs.Room as room
-use Rattle.battle_room.proofs.Indexed.{has_value}
+use Rattle.room_lists.specs.Room as room
+use Rattle.room_lists.proofs.Indexed.{has_value}
 use Rattle.battle_room.proofs.askers.Askers.has.Goals as goal
 
 pub returns : goal.returns

@@ -1,8 +1,8 @@
 use Rattle.std.proofs.Common.{◌∙◌, ap, rules}
 use Rattle.std.specs.Prelude.{ℕ, List, find}
 use Rattle.line_words.specs.Table.{same_name}
-use Rattle.battle_room.specs.Room as room
-use Rattle.battle_room.proofs.Indexed.{value_found}
+use Rattle.room_lists.specs.Room as room
+use Rattle.room_lists.proofs.Indexed.{value_found}
 use Rattle.battle_room.proofs.Named.{index_left, values_left}
 use Rattle.battle_room.proofs.askers.Askers.remove.Goals as goal
 

@@ -5,9 +5,9 @@ use Rattle.std.proofs.lemmas.Int.{to_z-of_z}
 use Rattle.line_words.specs.Table.{same_name}
 use Rattle.line_words.proofs.Keyed.{stands_for}
 use Rattle.line_words.proofs.Ties.{none_of}
-use Rattle.battle_room.specs.Room as room
-use Rattle.battle_room.specs.Index.{IsIndex}
-use Rattle.battle_room.proofs.Indexed.{index_written, values_written, values_unwritten}
+use Rattle.room_lists.specs.Room as room
+use Rattle.room_lists.specs.Index.{IsIndex}
+use Rattle.room_lists.proofs.Indexed.{index_written, values_written, values_unwritten}
 use Rattle.battle_room.proofs.members.Members.put_status.Goals as goal
 use Rattle.battle_room.proofs.members.Members.put_status.Goals.{in-Some, in_default}
 

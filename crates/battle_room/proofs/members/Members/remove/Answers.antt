@@ -1,5 +1,5 @@
 use Rattle.std.proofs.Common.{rules}
-use Rattle.battle_room.specs.Room as room
+use Rattle.room_lists.specs.Room as room
 use Rattle.battle_room.proofs.Named.{index_left, values_left}
 use Rattle.battle_room.proofs.members.Members.remove.Goals as goal
 

@@ -1,6 +1,6 @@
 use Rattle.std.proofs.Common.{◌∙◌, ap, rules}
 use Rattle.line_words.specs.Table.{ByNumber, at_number}
-use Rattle.battle_room.specs.Room as room
+use Rattle.room_lists.specs.Room as room
 use Rattle.battle_room.proofs.Numbered.{place_is}
 use Rattle.battle_room.proofs.rects.Rects.at.Goals as goal
 

@@ -1,6 +1,6 @@
 use Rattle.std.proofs.Common.{◌∙◌, ap, rules}
 use Rattle.line_words.specs.Table.{ByNumber, put_number}
-use Rattle.battle_room.specs.Room as room
+use Rattle.room_lists.specs.Room as room
 use Rattle.battle_room.proofs.Numbered.{written}
 use Rattle.battle_room.proofs.rects.Rects.put.Goals as goal
 

@@ -1,6 +1,6 @@
 use Rattle.std.proofs.Common.{◌∙◌, ap, rules}
 use Rattle.line_words.specs.Table.{ByNumber, without_number}
-use Rattle.battle_room.specs.Room as room
+use Rattle.room_lists.specs.Room as room
 use Rattle.battle_room.proofs.Numbered.{cleared}
 use Rattle.battle_room.proofs.rects.Rects.remove.Goals as goal
 

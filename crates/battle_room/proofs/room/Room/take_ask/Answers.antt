@@ -2,7 +2,7 @@ use Rattle.std.proofs.Common.{◌≡◌, ◌∙◌, ap, true, false}
 use Rattle.std.specs.Prelude.{Bool, List, Option, Some, None, if◌then◌else◌, is_some}
 use Rattle.battle_room.specs.declared.error.RoomError.{RoomError}
 use Rattle.battle_room.specs.declared.error.RoomError.TheVariants.{NoRequest}
-use Rattle.battle_room.specs.Room as room
+use Rattle.room_lists.specs.Room as room
 use Rattle.battle_room.proofs.Named.{found_is_among, all_left}
 use Rattle.battle_room.proofs.room.Room.take_ask.Goals as goal
 

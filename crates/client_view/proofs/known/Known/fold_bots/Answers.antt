@@ -3,13 +3,15 @@ use Rattle.std.specs.Prelude.{OnOk}
 use Rattle.std.proofs.lemmas.Int.{to_z-of_z}
 use Rattle.reply_grammar.specs.declared.Reply.{Reply}
 use Rattle.reply_grammar.specs.declared.Reply.TheVariants as reply
+use Rattle.room_lists.specs.Room.{Bot}
 use Rattle.lobby_view.specs.View.{shown}
 use Rattle.client_view.proofs.known.Known.fold_bots.Goals as goal
 
 pub returns-in-AddBot-clause-ok : goal.returns-in-AddBot-clause-ok
 returns-in-AddBot-clause-ok c =
     subst (λ (r : Reply). OnOk c.add_bot.result (c.add_bot.new.self ≡ shown c.args.self.now r))
-    (ap (λ (z : ℤ). reply.AddBot c.in-AddBot.battle c.in-AddBot.bot c.in-AddBot.owner c.in-AddBot.battle_status z c.in-AddBot.ai)
+    (ap (λ (b : Bot). reply.AddBot c.in-AddBot.battle b.name b.owner b.status b.colour b.ai) c.new-bot.ensures
+    ∙ ap (λ (z : ℤ). reply.AddBot c.in-AddBot.battle c.in-AddBot.bot c.in-AddBot.owner c.in-AddBot.battle_status z c.in-AddBot.ai)
     (to_z-of_z w64 c.in-AddBot.team_color (search rules)) ∙ sym c.in-AddBot.is)
     c.add_bot.ensures.ok
 

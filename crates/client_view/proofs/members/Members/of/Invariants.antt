@@ -1,5 +1,5 @@
 use Rattle.std.proofs.Common.{◌≡◌, map, take}
-use Rattle.battle_room.specs.Room as room
+use Rattle.room_lists.specs.Room as room
 use Rattle.client_view.proofs.members.Members.of.Given as goal
 
 abbrev pub invariant-loop-name : goal.invariant-loop-name

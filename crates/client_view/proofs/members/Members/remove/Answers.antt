@@ -2,7 +2,7 @@ use Rattle.std.proofs.Common.{◌∙◌, ap, rules, not}
 use Rattle.std.specs.Prelude.{List, filter}
 use Rattle.std.proofs.lemmas.Fn.{filter_same}
 use Rattle.line_words.specs.Table.{same_name}
-use Rattle.battle_room.specs.Room as room
+use Rattle.room_lists.specs.Room as room
 use Rattle.client_view.proofs.members.Members.remove.Goals as goal
 
 pub returns : goal.returns

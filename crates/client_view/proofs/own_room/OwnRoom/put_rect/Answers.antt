@@ -1,7 +1,7 @@
 use Rattle.std.proofs.Common.{◌∙◌, ap}
 use Rattle.std.specs.Ordering.{nat_cmp}
 use Rattle.line_words.proofs.Tables.{insert_is_put}
-use Rattle.battle_room.specs.Room.{with_rect}
+use Rattle.room_lists.specs.Room.{with_rect}
 use Rattle.client_view.specs.Rooms.{changed_room}
 use Rattle.client_view.proofs.own_room.OwnRoom.put_rect.Goals as goal
 

@@ -2,7 +2,7 @@ use Rattle.std.proofs.Common.{◌∙◌, ap}
 use Rattle.std.specs.Ordering.{nat_cmp}
 use Rattle.std.specs.Cmp.{nat_cmp_total}
 use Rattle.line_words.proofs.Written.{remove_is_without}
-use Rattle.battle_room.specs.Room.{without_rect}
+use Rattle.room_lists.specs.Room.{without_rect}
 use Rattle.client_view.specs.Rooms.{changed_room}
 use Rattle.client_view.proofs.own_room.OwnRoom.remove_rect.Goals as goal
 

@@ -1,0 +1,47 @@
+use Rattle.std.proofs.Common.{◌≡◌, ◌∙◌, ◌+◌, ◌<◌, ◌++◌, ◌∷◌, [], ap, sym, rules, drop, length}
+use Rattle.std.specs.Prelude.{ℕ, List}
+use Rattle.line_words.specs.Table.{is_among}
+use Rattle.room_lists.specs.Units.{words_there}
+use Rattle.room_lists.proofs.Picked.{past_all, found_more, passed_absent, passed_again}
+use Rattle.room_lists.proofs.Seen.{words_of, not_seen, seen_before, seen_more, seen_again}
+use Rattle.room_lists.proofs.Listed.{there_picked}
+use Rattle.room_lists.proofs.units.Units.words_there.Goals as goal
+use Rattle.room_lists.proofs.units.Units.words_there.Goals.{then-has_bytes+in_ok-insert+then-branch+in_ok-copy_of+in_ok-push, else-has_bytes, else-has_bytes-via-then-has_bytes+in_ok-insert+else-branch, else-has_bytes-via-else-has_bytes}
+
+pub loop-word-preserved : goal.loop-word-preserved
+loop-word-preserved c =
+    let inside : c.loop-word.word-index < length c.args.words.now = search rules in
+    let left = λ (found : List (List ℕ)). found ++ words_there (past_all there_picked c.args.self.now found) (drop (c.loop-word.word-index + 1) c.args.words.now) in
+    let set : c.has_bytes.result ≡ is_among c.word-item.result c.args.self.now = search rules in
+    elim c.if-has_bytes.branch [
+      | then-has_bytes+in_ok-insert+then-branch+in_ok-copy_of+in_ok-push w ↦
+          let more = seen_more c.loop-word.seen.keys c.loop-word.there.items c.loop-word.invariant.seen c.as_slice-bytes.result c.word-item.result c.as_slice-bytes.ensures.value
+          (not_seen _ _ w.in_ok-insert.ensures.added w.if-branch.true) in
+          let made : w.push.new.self.items ≡ c.loop-word.there.items ++ c.word-item.result ∷ [] =
+          w.in_ok-push.ensures.items ∙ ap (λ (k : List ℕ). c.loop-word.there.items ++ k ∷ []) (search rules) in
+          record {
+            found = ap left ((λ i. (w.there-is i).items) ∙ made)
+                ∙ found_more there_picked c.args.self.now c.loop-word.there.items c.args.words.now c.loop-word.word-index c.word-item.result inside c.word-item.is (sym set ∙ w.if-has_bytes.true) more.0
+                ∙ c.loop-word.invariant.found;
+            seen = (λ i. words_of (w.seen-is i).keys) ∙ ap words_of w.in_ok-insert.ensures.keys ∙ more.1 ∙ sym ((λ i. (w.there-is i).items) ∙ made);
+          }
+      | else-has_bytes w ↦
+          elim w.else-has_bytes.branch [
+            | else-has_bytes-via-then-has_bytes+in_ok-insert+else-branch v ↦
+                let again = seen_again c.loop-word.seen.keys c.loop-word.there.items c.loop-word.invariant.seen c.as_slice-bytes.result c.word-item.result c.as_slice-bytes.ensures.value
+                (seen_before _ _ v.in_ok-insert.ensures.added v.if-branch.false) in
+                record {
+                  found = ap left (λ i. (w.there-is i).items)
+                      ∙ passed_again there_picked c.args.self.now c.loop-word.there.items c.args.words.now c.loop-word.word-index c.word-item.result inside c.word-item.is again.0
+                      ∙ c.loop-word.invariant.found;
+                  seen = (λ i. words_of (w.seen-is i).keys) ∙ (λ i. words_of (v.seen-is i).keys) ∙ ap words_of v.in_ok-insert.ensures.keys ∙ again.1
+                      ∙ sym (λ i. (w.there-is i).items);
+                }
+            | else-has_bytes-via-else-has_bytes v ↦ record {
+              found = ap left (λ i. (w.there-is i).items)
+                  ∙ passed_absent there_picked c.args.self.now c.loop-word.there.items c.args.words.now c.loop-word.word-index c.word-item.result inside c.word-item.is (sym set ∙ v.if-has_bytes.false)
+                  ∙ c.loop-word.invariant.found;
+              seen = (λ i. words_of (w.seen-is i).keys) ∙ (λ i. words_of (v.seen-is i).keys) ∙ c.loop-word.invariant.seen ∙ sym (λ i. (w.there-is i).items);
+            }
+          ]
+    ]

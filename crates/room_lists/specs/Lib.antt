@@ -1,0 +1,4 @@
+pub mod Room
+pub mod Tags
+pub mod Units
+pub mod Index

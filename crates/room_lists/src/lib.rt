@@ -1,0 +1,17 @@
+//! The lists of a battle's room: bots, script tags and disabled units, in their order, and what a start
+//! rectangle is. They know no rules: who may change a list is for those who keep a room, as `battle_room`
+//! for a server, and a client's view. What the members of a battle share stands in `specs/`.
+#![tactic(auto)]
+
+mod bots;
+mod names;
+mod rects;
+mod status_word;
+mod tags;
+mod units;
+
+pub use bots::{BOT_LIMIT, Bot, Bots};
+pub use rects::Rect;
+pub use status_word::StatusWord;
+pub use tags::{TAG_LIMIT, Tags};
+pub use units::{UNIT_LIMIT, Units};
