@@ -3,22 +3,19 @@
 
 ghost use Rattle.std.specs.Prelude.{◌≡◌, [], ◌∷◌, ◌++◌, IfOk, decimal, if◌then◌else◌, length, option_copied, take};
 ghost use Rattle.std.specs.Fmt.{signed_decimal};
-ghost use Rattle.reply_grammar.specs.declared.Reply.TheVariants as reply;
-ghost use Rattle.reply_grammar.specs.declared.command_word.CommandWord.TheVariants as command;
+ghost use Rattle.reply_kinds.specs.declared.Reply.TheVariants as reply;
+ghost use Rattle.reply_kinds.specs.declared.command_word.CommandWord.TheVariants as command;
 ghost use Rattle.reply_grammar.specs.Groups.{Battles, group_of};
-ghost use Rattle.reply_grammar.specs.Lent.{battle_opened, reply_of};
-ghost use Rattle.reply_grammar.specs.Replies.{command_of, printed_line};
+ghost use Rattle.reply_kinds.specs.Lent.{battle_opened, reply_of};
+ghost use Rattle.reply_kinds.specs.Replies.{command_of, printed_line};
 
-use super::lent::LentReply;
 use super::pieces::{
     put_command, put_end, put_flag, put_name, put_next_sentence, put_number, put_optional,
     put_sentence, put_wide, put_word,
 };
 use super::shapes::{put_bare, put_only_number, put_only_text};
-use crate::Reply;
-use crate::command_word::CommandWord;
-use crate::opened_battle::OpenedBattle;
 use line_words::{NameBuf, SentenceBuf, WordBuf};
+use reply_kinds::{CommandWord, LentReply, OpenedBattle, Reply};
 use std::alloc::AllocError;
 
 // The reply is one of the group.

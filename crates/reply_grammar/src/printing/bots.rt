@@ -2,16 +2,14 @@
 #![tactic(auto, using(crate::proofs::Kept::kept_then, crate::proofs::Kept::kept_more))]
 
 ghost use Rattle.std.specs.Prelude.{◌≡◌, ◌++◌, IfOk, length, take};
-ghost use Rattle.reply_grammar.specs.declared.Reply.TheVariants as reply;
+ghost use Rattle.reply_kinds.specs.declared.Reply.TheVariants as reply;
 ghost use Rattle.reply_grammar.specs.Groups.{Bots, group_of};
-ghost use Rattle.reply_grammar.specs.Lent.{reply_of};
-ghost use Rattle.reply_grammar.specs.Replies.{command_of, printed_line};
+ghost use Rattle.reply_kinds.specs.Lent.{reply_of};
+ghost use Rattle.reply_kinds.specs.Replies.{command_of, printed_line};
 
-use super::lent::LentReply;
 use super::pieces::{put_command, put_end, put_name, put_number, put_sentence, put_wide, put_word};
-use crate::Reply;
-use crate::command_word::CommandWord;
 use line_words::{NameBuf, SentenceBuf, WordBuf};
+use reply_kinds::{CommandWord, LentReply, Reply};
 use std::alloc::AllocError;
 
 // The reply is one of the group.

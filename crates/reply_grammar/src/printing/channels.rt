@@ -2,19 +2,17 @@
 #![tactic(auto, using(crate::proofs::Kept::kept_then, crate::proofs::Kept::kept_more))]
 
 ghost use Rattle.std.specs.Prelude.{◌≡◌, [], ◌∷◌, ◌++◌, IfOk, length, take};
-ghost use Rattle.reply_grammar.specs.declared.Reply.TheVariants as reply;
+ghost use Rattle.reply_kinds.specs.declared.Reply.TheVariants as reply;
 ghost use Rattle.reply_grammar.specs.Groups.{Channels, group_of};
-ghost use Rattle.reply_grammar.specs.Lent.{reply_of};
-ghost use Rattle.reply_grammar.specs.Replies.{command_of, printed_line};
+ghost use Rattle.reply_kinds.specs.Lent.{reply_of};
+ghost use Rattle.reply_kinds.specs.Replies.{command_of, printed_line};
 
-use super::lent::LentReply;
 use super::pieces::{put_command, put_count, put_end, put_name, put_names};
 use super::shapes::{
     put_bare, put_name_and_text, put_only_name, put_two_names, put_two_names_and_text,
 };
-use crate::Reply;
-use crate::command_word::CommandWord;
 use line_words::NameBuf;
+use reply_kinds::{CommandWord, LentReply, Reply};
 use std::alloc::AllocError;
 
 // The reply is one of the group.

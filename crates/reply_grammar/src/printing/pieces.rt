@@ -4,12 +4,12 @@
 
 ghost use Rattle.std.specs.Prelude.{◌≡◌, [], ◌∷◌, ◌++◌, IfOk, is_ok, take, length, if◌then◌else◌, decimal, option_copied};
 ghost use Rattle.std.specs.Fmt.{signed_decimal};
-ghost use Rattle.reply_grammar.specs.Kinds.{words_text, pair_text, pairs_text, optional_text};
-ghost use Rattle.reply_grammar.specs.Replies.{id_text, word_of};
+ghost use Rattle.reply_kinds.specs.Kinds.{words_text, pair_text, pairs_text, optional_text};
+ghost use Rattle.reply_kinds.specs.Replies.{id_text, word_of};
 
-use crate::command_word::CommandWord;
 use itoa::Buffer;
 use line_words::{NameBuf, Pair, SentenceBuf, Text, WordBuf, write_number};
+use reply_kinds::CommandWord;
 use std::alloc::AllocError;
 
 fn put_behind(out: &mut Vec<u8>, mark: u8, bytes: &[u8]) -> Result<(), AllocError>

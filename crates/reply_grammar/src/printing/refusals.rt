@@ -4,13 +4,11 @@
 
 ghost use Rattle.std.specs.Prelude.{◌≡◌, ◌++◌, IfOk, length, take};
 ghost use Rattle.reply_grammar.specs.Groups.{Refusals, group_of};
-ghost use Rattle.reply_grammar.specs.Lent.{reply_of};
-ghost use Rattle.reply_grammar.specs.Replies.{command_of, printed_line};
+ghost use Rattle.reply_kinds.specs.Lent.{reply_of};
+ghost use Rattle.reply_kinds.specs.Replies.{command_of, printed_line};
 
-use super::lent::LentReply;
 use super::shapes::{put_name_and_text, put_only_text};
-use crate::Reply;
-use crate::command_word::CommandWord;
+use reply_kinds::{CommandWord, LentReply, Reply};
 use std::alloc::AllocError;
 
 // The reply is one of the group.

@@ -3,12 +3,12 @@
 #![tactic(auto, using(crate::proofs::Kept::kept_then, crate::proofs::Kept::kept_more))]
 
 ghost use Rattle.std.specs.Prelude.{◌≡◌, [], ◌∷◌, ◌++◌, IfOk, length, take};
-ghost use Rattle.reply_grammar.specs.Kinds as kind;
-ghost use Rattle.reply_grammar.specs.Replies.{line_with, status_word};
+ghost use Rattle.reply_kinds.specs.Kinds as kind;
+ghost use Rattle.reply_kinds.specs.Replies.{line_with, status_word};
 
 use super::pieces::{put_command, put_end, put_name, put_number, put_text, put_words};
-use crate::command_word::CommandWord;
 use line_words::{NameBuf, Text, WordBuf};
+use reply_kinds::CommandWord;
 use std::alloc::AllocError;
 
 #[inline(always)]

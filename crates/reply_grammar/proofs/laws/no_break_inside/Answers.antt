@@ -1,4 +1,4 @@
-use Rattle.reply_grammar.proofs.Plain.{line_plain}
+use Rattle.reply_kinds.proofs.Plain.{line_plain}
 use Rattle.reply_grammar.proofs.laws.no_break_inside.Goals as goal
 
 pub returns : goal.returns

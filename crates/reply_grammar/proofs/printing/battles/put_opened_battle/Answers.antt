@@ -1,6 +1,6 @@
 use Rattle.std.proofs.Common.{[], ◌∷◌, if◌then◌else◌, codes, decimal}
 use Rattle.std.specs.Fmt.{signed_decimal}
-use Rattle.reply_grammar.specs.Replies.{id_text}
+use Rattle.reply_kinds.specs.Replies.{id_text}
 use Rattle.reply_grammar.proofs.Opened.{regroup}
 use Rattle.reply_grammar.proofs.printing.battles.put_opened_battle.Goals as goal
 

@@ -1,6 +1,6 @@
 use Rattle.std.proofs.Common.{◌≡◌, ◌∙◌, ◌++◌, [], ◌∷◌, ℕ, List, sym, ap, append_assoc, append-nil, codes}
-use Rattle.reply_grammar.specs.Kinds.{words_text}
-use Rattle.reply_grammar.specs.Replies.{id_text}
+use Rattle.reply_kinds.specs.Kinds.{words_text}
+use Rattle.reply_kinds.specs.Replies.{id_text}
 use Rattle.reply_grammar.proofs.printing.channels.put_last_clients.Goals as goal
 
 words_text-last : (names : List (List ℕ)) (last : List ℕ) → words_text (names ++ last ∷ []) ≡ words_text names ++ (32 ∷ last)

@@ -2,8 +2,8 @@
 use Rattle.std.proofs.Common.{◌≡◌, [], ◌∷◌, Some, None, refl, true, false}
 use Rattle.std.specs.Prelude.{pos, negsuc, codes}
 use Rattle.std.specs.Fmt.{digits}
-use Rattle.reply_grammar.specs.declared.Reply.TheVariants as reply
-use Rattle.reply_grammar.specs.Replies.{print_all, printed_line}
+use Rattle.reply_kinds.specs.declared.Reply.TheVariants as reply
+use Rattle.reply_kinds.specs.Replies.{print_all, printed_line}
 
 greeting : printed_line None (reply.TasServer (codes "0.38") (codes "*") 8201 0) ≡ codes "TASSERVER 0.38 * 8201 0\n"
 unfolding digits

@@ -7,13 +7,13 @@ use Rattle.std.proofs.lemmas.Bool.{and_parts, and_from, leb-true}
 use Rattle.std.proofs.lemmas.Fmt.{digits_decimal}
 use Rattle.line_words.specs.Bytes.{is_word, is_key, is_name, is_sentence, is_text, is_word_byte, is_key_byte, is_name_byte, is_sentence_byte, is_text_byte}
 use Rattle.line_words.specs.declared.lists.Pair.{Pair}
-use Rattle.reply_grammar.specs.declared.Reply.{Reply}
-use Rattle.reply_grammar.specs.Kinds.{Kind, Word, Name, Number, Wide, Flag, OptionalWord, Words, Names, Sentence, NextSentence, Text, Pairs, Value, Values, fits, printed, all_fit, all_printed, words_text, pairs_text, pair_text, optional_text}
+use Rattle.reply_kinds.specs.declared.Reply.{Reply}
+use Rattle.reply_kinds.specs.Kinds.{Kind, Word, Name, Number, Wide, Flag, OptionalWord, Words, Names, Sentence, NextSentence, Text, Pairs, Value, Values, fits, printed, all_fit, all_printed, words_text, pairs_text, pair_text, optional_text}
 use Rattle.line_words.specs.Kinds.{is_pair, is_some_word}
-use Rattle.reply_grammar.specs.Replies.{word_of, kinds_of, command_of, values_of, Fits, body, id_text, line_text, IsId}
-use Rattle.reply_grammar.proofs.Bytes.{all_append, all_more, word_name}
-use Rattle.reply_grammar.proofs.Decimals.{own, digits_words, signed_words}
-use Rattle.reply_grammar.proofs.Table.{is_kind, is_row, leads, plain_word, rows}
+use Rattle.reply_kinds.specs.Replies.{word_of, kinds_of, command_of, values_of, Fits, body, id_text, line_text, IsId}
+use Rattle.reply_kinds.proofs.Bytes.{all_append, all_more, word_name}
+use Rattle.reply_kinds.proofs.Decimals.{own, digits_words, signed_words}
+use Rattle.reply_kinds.proofs.Table.{is_kind, is_row, leads, plain_word, rows}
 
 sentence_text : (b : ℕ) → is_sentence_byte b ≡ true → is_text_byte b ≡ true
 sentence_text b h = (and_parts (not (b == 9)) (is_text_byte b) h).1
