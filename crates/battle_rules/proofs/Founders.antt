@@ -1,11 +1,11 @@
 -- What a founder does with the members of its battle.
 use Rattle.std.proofs.Common.{◌≡◌, ℕ, ℤ, List, [], ◌∷◌, refl, sym, ap, subst, ◌∙◌, true, false, not, append-nil}
 use Rattle.std.specs.Prelude.{Option, Some}
-use Rattle.reply_grammar.specs.declared.Reply.TheVariants as reply
+use Rattle.reply_kinds.specs.declared.Reply.TheVariants as reply
 use Rattle.line_words.specs.Table.{at_number, same_name}
 use Rattle.status_bits.specs.Fields.{with_number}
 use Rattle.status_bits.specs.BattleWord.{battle_table, team, ally, player, handicap}
-use Rattle.battle_room.specs.Room.{Asker, Member, Room, asker_of, has_asker, has_member, member_of, status_in, colour_in, status_of, colour_of}
+use Rattle.room_lists.specs.Room.{Asker, Member, Room, asker_of, has_asker, has_member, member_of, status_in, colour_in, status_of, colour_of}
 use Rattle.lobby_model.specs.State.{State, Battle, battle_of}
 use Rattle.lobby_model.specs.Texts.{not_the_founder, no_such_member, cannot_kick_yourself}
 use Rattle.lobby_model.specs.Outcome.{Happening, Outcome, Done, done, tell, user, only_told, refuse_if, message}

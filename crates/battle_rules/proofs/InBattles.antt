@@ -6,17 +6,17 @@ use Rattle.std.specs.Ordering.{nat_cmp, eq_by_cmp}
 use Rattle.std.proofs.lemmas.List.{map-append}
 use Rattle.std.proofs.lemmas.List.Elements.{filter-append}
 use Rattle.std.proofs.Math.Seq.{take-suc}
-use Rattle.reply_grammar.specs.declared.Reply.{Reply}
-use Rattle.reply_grammar.specs.declared.Reply.TheVariants as reply
-use Rattle.reply_grammar.specs.Replies.{print_all}
+use Rattle.reply_kinds.specs.declared.Reply.{Reply}
+use Rattle.reply_kinds.specs.declared.Reply.TheVariants as reply
+use Rattle.reply_kinds.specs.Replies.{print_all}
 use Rattle.std.specs.List.{list_all}
 use Rattle.std.proofs.lemmas.Bool.{and_from}
 use Rattle.std.proofs.lemmas.Fmt.{digits_decimal}
 use Rattle.line_words.specs.Bytes.{is_word, is_word_byte}
-use Rattle.reply_grammar.proofs.Bytes.{all_append}
-use Rattle.reply_grammar.proofs.Decimals.{own, digits_words}
+use Rattle.reply_kinds.proofs.Bytes.{all_append}
+use Rattle.reply_kinds.proofs.Decimals.{own, digits_words}
 use Rattle.line_words.specs.Table.{ByNumber, at_name, at_number, change_number, without_number, same_name, same_number}
-use Rattle.battle_room.specs.Room.{Bot, asker_names, bots_of, has_member, member_names, status_of, with_member, without_member}
+use Rattle.room_lists.specs.Room.{Bot, asker_names, bots_of, has_member, member_names, status_of, with_member, without_member}
 use Rattle.status_bits.specs.Fields.{merge}
 use Rattle.status_bits.specs.BattleWord.{battle_table}
 use Rattle.lobby_model.specs.State.{State, Battle, asked_by, battle_of, name_of}

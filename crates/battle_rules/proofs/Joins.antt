@@ -1,12 +1,12 @@
 -- Lines written for one who joins a battle, whose event it may be or not.
 use Rattle.std.proofs.Common.{◌≡◌, ℕ, List, [], ◌∷◌, ◌++◌, map, refl, sym, ap, ◌∙◌, true, false, not, append-nil}
 use Rattle.std.specs.Prelude.{Option, Some, None, if◌then◌else◌, ◌&&◌}
-use Rattle.reply_grammar.specs.declared.Reply.{Reply}
-use Rattle.reply_grammar.specs.declared.Reply.TheVariants as reply
+use Rattle.reply_kinds.specs.declared.Reply.{Reply}
+use Rattle.reply_kinds.specs.declared.Reply.TheVariants as reply
 use Rattle.line_words.specs.Table.{same_name, same_number}
 use Rattle.line_words.proofs.Tables.{same_name_is}
 use Rattle.line_words.proofs.Once.{same_name_equiv}
-use Rattle.battle_room.specs.Room.{Room}
+use Rattle.room_lists.specs.Room.{Room}
 use Rattle.lobby_model.specs.State.{State, name_of}
 use Rattle.lobby_model.specs.Outcome.{is_named, lines_for, tell, user}
 use Rattle.lobby_model.specs.Events.{reader_of}

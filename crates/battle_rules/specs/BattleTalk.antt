@@ -1,10 +1,10 @@
 -- What is told of battles, where one function tells what several commands owe.
 use Rattle.std.specs.Prelude.{ℕ, ℤ, ◌<◌, ◌≤◌, Bool, true, false, List, [], ◌∷◌, map, flat_map, Option}
-use Rattle.reply_grammar.specs.declared.Reply.{Reply}
-use Rattle.reply_grammar.specs.declared.Reply.TheVariants as reply
+use Rattle.reply_kinds.specs.declared.Reply.{Reply}
+use Rattle.reply_kinds.specs.declared.Reply.TheVariants as reply
 use Rattle.status_bits.specs.Fields.{with_number}
 use Rattle.status_bits.specs.BattleWord.{battle_table, team, ally, player, handicap}
-use Rattle.battle_room.specs.Room.{Room, bots_of, member_names}
+use Rattle.room_lists.specs.Room.{Room, bots_of, member_names}
 use Rattle.lobby_model.specs.State.{State, Battle}
 use Rattle.lobby_model.specs.Outcome.{Happening, Letter, Outcome, tell, users}
 use Rattle.lobby_model.specs.Sessions.{to_others, unseen}

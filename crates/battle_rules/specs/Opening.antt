@@ -1,9 +1,9 @@
 -- What a command that opens a battle says of it.
 use Rattle.std.specs.Prelude.{◌≡◌, ℕ, ℤ, pos, List, [], Bool, true, false}
-use Rattle.reply_grammar.specs.declared.opened_battle.OpenedBattle.{OpenedBattle}
+use Rattle.reply_kinds.specs.declared.opened_battle.OpenedBattle.{OpenedBattle}
 use Rattle.command_grammar.specs.declared.command.Command.{Command}
 use Rattle.command_grammar.specs.declared.command.Command.TheVariants as command
-use Rattle.battle_room.specs.Room.{Room}
+use Rattle.room_lists.specs.Room.{Room}
 use Rattle.lobby_model.specs.State.{Battle}
 use Rattle.lobby_model.specs.Opened.{info_of}
 use Rattle.battle_rules.specs.declared.battles.Texts.{Texts}

@@ -2,10 +2,10 @@
 //! does", under "Battles".
 
 ghost use Rattle.std.specs.Prelude.{◌≡◌, [], ◌∷◌, ◌++◌, decimal, OnOk, IfOk, true, Some, is_some};
-ghost use Rattle.reply_grammar.specs.declared.Reply.TheVariants as reply;
+ghost use Rattle.reply_kinds.specs.declared.Reply.TheVariants as reply;
 ghost use Rattle.line_words.specs.Table.{at_number};
-ghost use Rattle.reply_grammar.specs.Lent.{reply_of};
-ghost use Rattle.battle_room.specs.Room.{asker_names, member_names, new_room};
+ghost use Rattle.reply_kinds.specs.Lent.{reply_of};
+ghost use Rattle.room_lists.specs.Room.{asker_names, member_names, new_room};
 ghost use Rattle.lobby_model.specs.State.{name_of, updated};
 ghost use Rattle.lobby_model.specs.Outcome.{everyone, tell, user, users};
 ghost use Rattle.lobby_model.specs.Battles.{address, ip_text, leave_battle, leaves_battle, member_has, open_battle, opened_line, say_in_battle, set_own_status, update_battle};
@@ -26,7 +26,7 @@ use lobby_guards::Stop;
 use lobby_guards::battle_guards::{founded_by, may_open, next_number, opens_unasked, own_battle};
 use lobby_maps::{Battle, BattleChange, Change, Maps, NO_PASSWORD, RoomChange};
 use lobby_post::{ClientKey, Post};
-use reply_grammar::{LentReply, OpenedBattle};
+use reply_kinds::{LentReply, OpenedBattle};
 use status_bits::{BattleStatus, merge_battle};
 use std::alloc::{AllocError, Global};
 

@@ -2,8 +2,8 @@
 //! "What the server does", from "JOINBATTLE" to "JOINBATTLEDENY".
 
 ghost use Rattle.std.specs.Prelude.{◌≡◌, [], ◌∷◌, ◌++◌, map, OnOk, IfOk, None, Some, option_copied};
-ghost use Rattle.reply_grammar.specs.declared.Reply.TheVariants as reply;
-ghost use Rattle.reply_grammar.specs.Lent.{reply_of};
+ghost use Rattle.reply_kinds.specs.declared.Reply.TheVariants as reply;
+ghost use Rattle.reply_kinds.specs.Lent.{reply_of};
 ghost use Rattle.line_words.specs.Table.{at_number, same_name};
 ghost use Rattle.lobby_model.specs.State.{name_of};
 ghost use Rattle.lobby_model.specs.Outcome.{is_named, tell, user};
@@ -24,7 +24,7 @@ use lobby_guards::battle_guards::{
 };
 use lobby_maps::{Battle, BattleChange, Change, Maps};
 use lobby_post::{ClientKey, Post};
-use reply_grammar::LentReply;
+use reply_kinds::LentReply;
 use std::alloc::{AllocError, Global};
 use std::slice;
 

@@ -2,8 +2,8 @@
 //! founder forces on members: docs/PROTOCOL.md, "What the server does", from "ADDBOT" to "RING".
 
 ghost use Rattle.std.specs.Prelude.{◌≡◌, ◌<◌, [], ◌∷◌, IfOk, OnOk};
-ghost use Rattle.reply_grammar.specs.Lent.{reply_of};
-ghost use Rattle.battle_room.specs.Room.{member_names};
+ghost use Rattle.reply_kinds.specs.Lent.{reply_of};
+ghost use Rattle.room_lists.specs.Room.{member_names};
 ghost use Rattle.lobby_model.specs.Outcome.{tell, users};
 ghost use Rattle.lobby_model.specs.Rooms.{add_bot, add_rect, disable, enable, enable_every, kick, new_bot, remove_bot, remove_rect, remove_script_tags, ring, set_script_tags, update_bot};
 ghost use Rattle.lobby_post.specs.Posted.{Told};
@@ -20,7 +20,7 @@ use lobby_guards::battle_guards::{
 };
 use lobby_maps::{BattleChange, Change, Maps, RoomChange};
 use lobby_post::{ClientKey, Post};
-use reply_grammar::LentReply;
+use reply_kinds::LentReply;
 use status_bits::{BattleStatus, merge_battle};
 use std::alloc::{AllocError, Global};
 

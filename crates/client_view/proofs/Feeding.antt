@@ -2,7 +2,7 @@
 use Rattle.std.proofs.Common.{◌≡◌, ℕ, ◌+◌, ◌<◌, ◌≤◌, List, [], ◌∷◌, ◌++◌, length, take, drop, sym, ap, subst, ◌∙◌, true, false, arith, append_assoc, append-nil, length-take, add_assoc, add-zero, length-append}
 use Rattle.std.specs.Prelude.{nat_lt, Option, Some, None, Result, Ok, Err, Bool}
 use Rattle.std.proofs.lemmas.Bool.Decides.{nat_tests}
-use Rattle.reply_grammar.specs.Replies.{Line}
+use Rattle.reply_kinds.specs.Replies.{Line}
 use Rattle.reply_reader.specs.Lines.{read_line}
 use Rattle.client_view.specs.declared.error.ViewError.{ViewError}
 use Rattle.client_view.specs.declared.error.ViewError.TheVariants.{Memory}

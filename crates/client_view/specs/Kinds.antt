@@ -1,6 +1,6 @@
 -- Which replies are folded together.
-use Rattle.reply_grammar.specs.declared.Reply.{Reply}
-use Rattle.reply_grammar.specs.declared.Reply.TheVariants as reply
+use Rattle.reply_kinds.specs.declared.Reply.{Reply}
+use Rattle.reply_kinds.specs.declared.Reply.TheVariants as reply
 
 -- what a reply changes of what a client knows: the own name and the users, who is in which channel, the battles and who is in
 -- them, the list by a battle that opens; in the own room the members' statuses, the bots, the start rectangles, the script tags

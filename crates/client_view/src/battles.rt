@@ -11,7 +11,7 @@ ghost use Rattle.lobby_view.specs.View.{Listed, change_members, change_listed_in
 
 use crate::names::Names;
 use line_words::{NameBuf, SentenceBuf};
-use reply_grammar::OpenedBattle;
+use reply_kinds::OpenedBattle;
 use std::alloc::{AllocError, Global};
 use std::collections::BTreeMap;
 use std::collections::btree_map::Iter;

@@ -9,7 +9,7 @@ use crate::channels::Channels;
 use crate::own_room::OwnRoom;
 use crate::users::Users;
 use line_words::NameBuf;
-use reply_grammar::Reply;
+use reply_kinds::Reply;
 use std::alloc::{AllocError, Global};
 use std::marker::Model;
 

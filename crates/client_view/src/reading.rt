@@ -2,14 +2,14 @@
 
 ghost use Rattle.std.specs.Prelude.{◌≡◌, OnOk, OnErr, IfOk, length};
 ghost use Rattle.line_framer.specs.Frames as frames;
-ghost use Rattle.reply_grammar.specs.declared.command_word.CommandWord.TheVariants as command;
+ghost use Rattle.reply_kinds.specs.declared.command_word.CommandWord.TheVariants as command;
 ghost use Rattle.reply_reader.specs.Lines.{read_arguments, read_line};
 ghost use Rattle.lobby_view.specs.View.{shown_all};
 ghost use Rattle.lobby_view.specs.Bytes.{one_read};
 ghost use Rattle.client_view.specs.Told.{told};
 
 use crate::known::Known;
-use reply_grammar::CommandWord;
+use reply_kinds::CommandWord;
 use reply_reader::{Head, read_client_status, read_head, read_said};
 use std::alloc::AllocError;
 

@@ -1,7 +1,7 @@
 -- What a command comes to in the machine: a refusal, or letters told and a change.
 use Rattle.std.specs.Prelude.{◌≡◌, ℕ, List, Result, Ok, Err}
-use Rattle.reply_grammar.specs.declared.Reply.{Reply}
-use Rattle.reply_grammar.specs.declared.Reply.TheVariants as reply
+use Rattle.reply_kinds.specs.declared.Reply.{Reply}
+use Rattle.reply_kinds.specs.declared.Reply.TheVariants as reply
 use Rattle.lobby_model.specs.State.{State}
 use Rattle.lobby_model.specs.Texts.{fault_text, log_in_first, already_in, invalid_login, user_is_in, already_in_channel, not_in_channel, no_such_user, already_in_battle, already_asking, no_number_left, no_such_battle, battle_is_locked, wrong_password, not_in_battle, not_the_founder, no_such_request, no_such_member, cannot_kick_yourself, no_such_bot, not_your_bot, bot_name_taken, too_many_bots, too_many_tags, too_many_units}
 use Rattle.lobby_model.specs.Outcome.{Outcome, Refused, letters_of, state_after}

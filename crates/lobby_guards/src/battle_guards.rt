@@ -3,9 +3,9 @@
 
 ghost use Rattle.std.specs.Prelude.{◌≡◌, ◌≤◌, ◌+◌, ◌||◌, ◌==◌, true, false, None, Some, IfOk, IfErr, is_some, option_copied};
 ghost use Rattle.line_words.specs.Table.{at_number, same_name};
-ghost use Rattle.battle_room.specs.Room.{asker_of, bot_of, has_asker, has_member, has_too_many_tags, has_too_many_units, is_full_of_bots, member_of};
-ghost use Rattle.battle_room.specs.Tags.{with_tags};
-ghost use Rattle.battle_room.specs.Units.{with_units};
+ghost use Rattle.room_lists.specs.Room.{asker_of, bot_of, has_asker, has_member, has_too_many_tags, has_too_many_units, is_full_of_bots, member_of};
+ghost use Rattle.room_lists.specs.Tags.{with_tags};
+ghost use Rattle.room_lists.specs.Units.{with_units};
 ghost use Rattle.lobby_model.specs.State.{asked_by, battle_of};
 ghost use Rattle.lobby_model.specs.Battles.{is_founder, lets_in};
 ghost use Rattle.lobby_guards.specs.Answers.{Refuses};

@@ -2,13 +2,13 @@
 
 ghost use Rattle.std.specs.Prelude.{◌≡◌, IfErr, IfOk, None, OnOk, Some, false, true};
 ghost use Rattle.lobby_guards.specs.declared.refusal.Stop.TheVariants.{Refused};
-ghost use Rattle.reply_grammar.specs.Lent.{reply_of};
+ghost use Rattle.reply_kinds.specs.Lent.{reply_of};
 ghost use Rattle.lobby_model.specs.Texts.{fault_text};
 ghost use Rattle.lobby_guards.specs.Answers.{refusal_text, reply_saying};
 
 use command_grammar::ReadFault;
 use line_words::{NameBuf, Text};
-use reply_grammar::LentReply;
+use reply_kinds::LentReply;
 use std::alloc::AllocError;
 
 /// Why a command was refused.

@@ -1,7 +1,7 @@
 -- From what a command comes to, to the event.
 use Rattle.std.proofs.Common.{◌≡◌, ℕ, sym, ap, ◌∙◌, true}
 use Rattle.std.specs.Prelude.{Result, Ok, Err, OnOk, IfOk, None, if◌then◌else◌}
-use Rattle.reply_grammar.specs.Replies.{print_all}
+use Rattle.reply_kinds.specs.Replies.{print_all}
 use Rattle.command_grammar.specs.declared.command.Request.{Request}
 use Rattle.line_words.specs.Table.{same_number}
 use Rattle.lobby_model.specs.declared.event.Event.{Event}

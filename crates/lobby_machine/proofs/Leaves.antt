@@ -6,9 +6,9 @@ use Rattle.std.specs.Ordering.{nat_cmp}
 use Rattle.std.specs.FinMap.{nat_cmp-IsAntisymmetric}
 use Rattle.line_words.specs.Table.{ByNumber, at_number, same_number}
 use Rattle.line_words.proofs.Tables.{at-change}
-use Rattle.battle_room.specs.Room.{has_asker, has_member, without_asker}
+use Rattle.room_lists.specs.Room.{has_asker, has_member, without_asker}
 use Rattle.channel_book.specs.Channels.{Channels, channels_of, all_left}
-use Rattle.reply_grammar.specs.declared.Reply.TheVariants as reply
+use Rattle.reply_kinds.specs.declared.Reply.TheVariants as reply
 use Rattle.lobby_model.specs.State.{State, Battle, asked_by, battle_of, name_of}
 use Rattle.lobby_model.specs.Outcome.{Happening, Letter, Done, state_after, tell, others, users}
 use Rattle.lobby_model.specs.Sessions.{departs, is_gone, to_others, unseen}

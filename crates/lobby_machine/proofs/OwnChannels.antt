@@ -9,7 +9,7 @@ use Rattle.line_words.specs.Table.{name_cmp, same_name, is_among, at_name}
 use Rattle.line_words.proofs.Tables.{name_cmp_total, same_name_itself}
 use Rattle.channel_book.specs.Channels.{Channels, names_of, names_in, channels_of}
 use Rattle.channel_book.specs.Places.{listed}
-use Rattle.reply_grammar.specs.declared.Reply.TheVariants as reply
+use Rattle.reply_kinds.specs.declared.Reply.TheVariants as reply
 use Rattle.lobby_model.specs.Outcome.{Letter, tell, users}
 use Rattle.lobby_post.specs.Posted.{but_issuer}
 use Rattle.lobby_machine.specs.Talk.{left_letters}

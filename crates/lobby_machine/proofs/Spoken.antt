@@ -5,8 +5,8 @@ use Rattle.account_book.specs.Account.{Account}
 use Rattle.account_book.specs.declared.error.LoginFault.{LoginFault}
 use Rattle.status_bits.specs.Fields.{merge}
 use Rattle.status_bits.specs.UserWord.{user_table}
-use Rattle.reply_grammar.specs.declared.Reply.{Reply}
-use Rattle.reply_grammar.specs.declared.Reply.TheVariants as reply
+use Rattle.reply_kinds.specs.declared.Reply.{Reply}
+use Rattle.reply_kinds.specs.declared.Reply.TheVariants as reply
 use Rattle.line_words.specs.Table.{at_name, put_name, change_name}
 use Rattle.lobby_model.specs.State.{State, user_with, hears, name_of}
 use Rattle.lobby_model.specs.Texts.{user_is_in, invalid_login}

@@ -1,6 +1,6 @@
 -- What talk comes to.
 use Rattle.std.proofs.Common.{◌≡◌, ℕ, List, [], ◌∷◌, ◌++◌, refl, sym, ap, subst, ◌∙◌, false}
-use Rattle.reply_grammar.specs.declared.Reply.TheVariants as reply
+use Rattle.reply_kinds.specs.declared.Reply.TheVariants as reply
 use Rattle.line_words.specs.Table.{is_among}
 use Rattle.channel_book.specs.Channels.{names_in, joined}
 use Rattle.lobby_model.specs.State.{State}

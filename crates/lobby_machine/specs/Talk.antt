@@ -1,7 +1,7 @@
 -- What is told channel by channel.
 use Rattle.std.specs.Prelude.{ℕ, List, [], ◌∷◌, map, length}
-use Rattle.reply_grammar.specs.declared.Reply.{Reply}
-use Rattle.reply_grammar.specs.declared.Reply.TheVariants as reply
+use Rattle.reply_kinds.specs.declared.Reply.{Reply}
+use Rattle.reply_kinds.specs.declared.Reply.TheVariants as reply
 use Rattle.channel_book.specs.Channels.{Channels, channels_of}
 use Rattle.lobby_model.specs.Outcome.{Letter, tell, users}
 use Rattle.lobby_post.specs.Posted.{but_issuer}

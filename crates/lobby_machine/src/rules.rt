@@ -22,7 +22,7 @@ use lobby_guards::guards::logged_in;
 use lobby_guards::{Refusal, Stop};
 use lobby_maps::{Change, Maps};
 use lobby_post::Post;
-use reply_grammar::LentReply;
+use reply_kinds::LentReply;
 pub use session::close;
 use std::alloc::AllocError;
 

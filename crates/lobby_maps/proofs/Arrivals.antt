@@ -1,8 +1,8 @@
 -- What others are told of one who logs in.
 use Rattle.std.proofs.Common.{◌≡◌, ◌≢◌, ◌==◌, ℕ, ◌+◌, List, [], ◌∷◌, ◌++◌, length, refl, sym, ap, ◌∙◌, true, false, append-nil, arith}
 use Rattle.std.specs.Prelude.{None, Bool, if◌then◌else◌}
-use Rattle.reply_grammar.specs.Replies.{print_all, printed_line}
-use Rattle.reply_grammar.specs.declared.Reply.TheVariants as reply
+use Rattle.reply_kinds.specs.Replies.{print_all, printed_line}
+use Rattle.reply_kinds.specs.declared.Reply.TheVariants as reply
 use Rattle.lobby_model.specs.State.{State, User}
 use Rattle.lobby_model.specs.Outcome.{tell, everyone, others}
 use Rattle.lobby_model.specs.Sessions.{added, shown_status, arrival}

@@ -21,7 +21,7 @@ use Rattle.std.specs.declared.cmp.Ordering.{Ordering}
 use Rattle.std.specs.Ordering.{eq_by_cmp}
 use Rattle.std.specs.BTreeMap.{is_at}
 use Rattle.std.specs.Map.{lookup, set_value}
-use Rattle.battle_room.specs.Room.{Room, has_asker}
+use Rattle.room_lists.specs.Room.{Room, has_asker}
 use Rattle.lobby_maps.specs.declared.battles.RoomChange.{RoomChange}
 use Rattle.lobby_maps.specs.declared.battles.RoomChange.TheVariants as room
 use Rattle.lobby_model.specs.State.{Battle}

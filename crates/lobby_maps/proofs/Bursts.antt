@@ -1,8 +1,8 @@
 -- What one who logs in is told, part by part.
 use Rattle.std.proofs.Common.{◌≡◌, ◌∙◌, ◌++◌, ℕ, List, [], ◌∷◌, refl, ap, map}
 use Rattle.std.specs.Prelude.{flat_map}
-use Rattle.reply_grammar.specs.declared.Reply.{Reply}
-use Rattle.reply_grammar.specs.declared.Reply.TheVariants as reply
+use Rattle.reply_kinds.specs.declared.Reply.{Reply}
+use Rattle.reply_kinds.specs.declared.Reply.TheVariants as reply
 use Rattle.line_words.specs.Table.{ByName, ByNumber}
 use Rattle.lobby_model.specs.State.{State, User, Battle}
 use Rattle.lobby_model.specs.Battles.{battle_lines}

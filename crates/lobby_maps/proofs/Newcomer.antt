@@ -7,7 +7,7 @@ use Rattle.std.specs.declared.cmp.Ordering.TheVariants.{Less, Equal, Greater}
 use Rattle.std.specs.Ordering.{is_le, is_ne}
 use Rattle.std.specs.Map.Iter.{deref_pair}
 use Rattle.std.specs.FinMap.Entries.{by_order}
-use Rattle.reply_grammar.specs.declared.Reply.{Reply}
+use Rattle.reply_kinds.specs.declared.Reply.{Reply}
 use Rattle.line_words.specs.Table.{ByName, put_name, name_cmp}
 use Rattle.lobby_model.specs.State.{User}
 use Rattle.line_words.proofs.Tables.{name_cmp_same}

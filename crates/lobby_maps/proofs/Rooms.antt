@@ -6,14 +6,14 @@ use Rattle.std.proofs.lemmas.List.{map-append, take_more, length-take-le, get_or
 use Rattle.std.proofs.lemmas.Grind.{flat_map-append}
 use Rattle.std.proofs.lemmas.List.Elements.{filter-append}
 use Rattle.std.specs.Cmp.{eq_by_cmp_equiv}
-use Rattle.reply_grammar.specs.declared.Reply.{Reply}
-use Rattle.reply_grammar.specs.declared.opened_battle.OpenedBattle.{OpenedBattle}
-use Rattle.reply_grammar.specs.Lent.{battle_opened}
-use Rattle.reply_grammar.specs.declared.Reply.TheVariants as reply
+use Rattle.reply_kinds.specs.declared.Reply.{Reply}
+use Rattle.reply_kinds.specs.declared.opened_battle.OpenedBattle.{OpenedBattle}
+use Rattle.reply_kinds.specs.Lent.{battle_opened}
+use Rattle.reply_kinds.specs.declared.Reply.TheVariants as reply
 use Rattle.line_words.specs.Table.{ByNumber, all_but, same_name}
 use Rattle.line_words.proofs.Tables.{name_cmp_total}
 use Rattle.battle_room.specs.Places.{numbered}
-use Rattle.battle_room.specs.Room.{Member, Rect}
+use Rattle.room_lists.specs.Room.{Member, Rect}
 use Rattle.lobby_model.specs.State.{Battle, Info}
 use Rattle.lobby_model.specs.Battles.{rect_line, opened_line, updated_line, battle_lines}
 use Rattle.lobby_post.specs.Posted.{Posted, with_own}

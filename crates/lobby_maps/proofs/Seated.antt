@@ -9,7 +9,7 @@ use Rattle.std.specs.FinMap.{nat_cmp-IsAntisymmetric}
 use Rattle.line_words.specs.Table.{ByName, ByNumber, at_number, at_name, put_name, change_name, without_name, put_number, without_number, change_number, name_cmp, same_name, same_number, is_among, all_but}
 use Rattle.line_words.proofs.Tables.{Equal_of, at-put, at-without, at-change, name_cmp_total, name_cmp_same, same_name_is, same_name_itself}
 use Rattle.line_words.proofs.Once.{contradiction, among_with_is, among_of_but, out_of_but}
-use Rattle.battle_room.specs.Room.{Asker, Room, asker_names, has_asker, has_member, member_names, with_asker, with_member, without_asker, without_member}
+use Rattle.room_lists.specs.Room.{Asker, Room, asker_names, has_asker, has_member, member_names, with_asker, with_member, without_asker, without_member}
 use Rattle.lobby_model.specs.State.{Client, Battle}
 use Rattle.lobby_model.specs.Outcome.{is_named}
 use Rattle.lobby_model.specs.Battles.{is_founder}

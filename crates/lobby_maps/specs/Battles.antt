@@ -1,7 +1,7 @@
 -- What a change makes of the battles, and where their members and those who ask sit.
 use Rattle.std.specs.Prelude.{◌≡◌, ℕ, ◌<◌, ◌≤◌, Bool, true, false, ◌||◌, if◌then◌else◌, List, [], ◌∷◌, Option, Some, None, find}
 use Rattle.line_words.specs.Table.{ByName, ByNumber, at_number, at_name, put_number, without_number, change_number}
-use Rattle.battle_room.specs.Room.{Room, has_member, member_names, with_member, without_member, with_status, with_bot, with_bot_status, without_bot, with_rect, without_rect, set_tags, remove_tags, disable_units, enable_units, enable_all, has_asker, with_asker, without_asker}
+use Rattle.room_lists.specs.Room.{Room, has_member, member_names, with_member, without_member, with_status, with_bot, with_bot_status, without_bot, with_rect, without_rect, set_tags, remove_tags, disable_units, enable_units, enable_all, has_asker, with_asker, without_asker}
 use Rattle.lobby_model.specs.State.{Client, Battle, name_at, updated}
 use Rattle.lobby_model.specs.Battles.{is_founder}
 use Rattle.lobby_maps.specs.Info.{info_changed}

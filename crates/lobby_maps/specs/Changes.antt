@@ -1,7 +1,7 @@
 -- What a change makes of each map, and when what is told is what an event sends.
 use Rattle.std.specs.Prelude.{◌≡◌, ℕ, Bool, true, false, List, Option, Some, None}
 use Rattle.line_words.specs.Table.{ByName, ByNumber, at_number, at_name, put_name, change_name, is_among}
-use Rattle.battle_room.specs.Room.{has_member, has_asker}
+use Rattle.room_lists.specs.Room.{has_member, has_asker}
 use Rattle.channel_book.specs.Channels.{Channels, names_in, joined, left, all_left}
 use Rattle.lobby_model.specs.declared.event.Event.{Event}
 use Rattle.lobby_model.specs.declared.event.Phase.TheVariants.{In}

@@ -1,9 +1,9 @@
 -- What a login tells of users and battles, part by part.
 use Rattle.std.specs.Prelude.{ℕ, List, [], ◌∷◌, map, flat_map, None}
-use Rattle.reply_grammar.specs.declared.Reply.{Reply}
-use Rattle.reply_grammar.specs.declared.Reply.TheVariants as reply
+use Rattle.reply_kinds.specs.declared.Reply.{Reply}
+use Rattle.reply_kinds.specs.declared.Reply.TheVariants as reply
 use Rattle.line_words.specs.Table.{ByName, all_but}
-use Rattle.battle_room.specs.Room.{member_names}
+use Rattle.room_lists.specs.Room.{member_names}
 use Rattle.lobby_model.specs.State.{User, Battle}
 use Rattle.lobby_model.specs.Sessions.{added, shown_status}
 use Rattle.lobby_maps.specs.declared.burst.Part.{Part}

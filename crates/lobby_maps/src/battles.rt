@@ -3,7 +3,7 @@
 ghost use Rattle.std.specs.Prelude.{◌≡◌, [], OnOk, OnErr, IfSome, Some, None, true, false};
 ghost use Rattle.line_words.specs.Table.{ByNumber, at_number, change_number, put_number};
 ghost use Rattle.lobby_model.specs.State.{Battle, Client, updated};
-ghost use Rattle.battle_room.specs.Room.{has_asker, has_member, with_asker, with_member};
+ghost use Rattle.room_lists.specs.Room.{has_asker, has_member, with_asker, with_member};
 ghost use Rattle.lobby_maps.specs.Info.{info_changed};
 ghost use Rattle.lobby_maps.specs.Seats.{Agree, users_of};
 ghost use Rattle.lobby_maps.specs.Battles.{asks_at, battles_after, last_after, left_battle, let_in, unasked, room_after, room_changed, AreSeated, CanChange, FitsRoom, IsNowhere};

@@ -2,7 +2,7 @@
 
 ghost use Rattle.std.specs.Prelude.{◌≡◌, [], ◌∷◌, map, flat_map, OnOk};
 ghost use Rattle.line_words.specs.Table.{put_name};
-ghost use Rattle.reply_grammar.specs.declared.Reply.TheVariants as reply;
+ghost use Rattle.reply_kinds.specs.declared.Reply.TheVariants as reply;
 ghost use Rattle.lobby_model.specs.Outcome.{tell, issuer, others};
 ghost use Rattle.lobby_model.specs.Battles.{battle_lines};
 ghost use Rattle.lobby_model.specs.Sessions.{arrival, burst};

@@ -1,7 +1,7 @@
 //! The line that a client is greeted with.
 
 ghost use Rattle.std.specs.Prelude.{◌≡◌, IfOk, None};
-ghost use Rattle.reply_grammar.specs.Replies.{printed_line};
+ghost use Rattle.reply_kinds.specs.Replies.{printed_line};
 ghost use Rattle.lobby_model.specs.Sessions.{greeting};
 
 use line_words::WordBuf;

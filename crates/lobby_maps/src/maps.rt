@@ -2,7 +2,7 @@
 
 ghost use Rattle.std.specs.Prelude.{◌≡◌, ℕ, ◌-◌, ◌^◌, ◌<◌, ◌≤◌, ◌↔◌, [], ◌++◌, length, take, drop, min, OnOk, OnErr, IfNone, IfOk, IfSome, true, is_some, Some, None, option_copied};
 ghost use Rattle.line_words.specs.Table.{at_number};
-ghost use Rattle.battle_room.specs.Room.{has_asker, has_member};
+ghost use Rattle.room_lists.specs.Room.{has_asker, has_member};
 ghost use Rattle.lobby_model.specs.declared.event.Event.TheVariants as event;
 ghost use Rattle.lobby_model.specs.State.{Battle, asked_by, battle_of, empty_lobby, hears, name_of};
 ghost use Rattle.lobby_model.specs.Sessions.{has_place};
@@ -58,7 +58,7 @@ pub struct Maps {
 
 impl Model for Maps {
     ghost use Rattle.std.specs.Prelude.{◌≡◌, None};
-    ghost use Rattle.reply_grammar.specs.Replies.{printed_line};
+    ghost use Rattle.reply_kinds.specs.Replies.{printed_line};
     ghost use Rattle.lobby_model.specs.Sessions.{greeting};
     ghost use Rattle.lobby_post.specs.Mail.{plain};
     ghost use Rattle.lobby_maps.specs.Dirty.{lists_of};

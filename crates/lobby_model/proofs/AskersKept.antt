@@ -8,7 +8,7 @@ use Rattle.std.specs.FinMap.{nat_cmp-IsAntisymmetric}
 use Rattle.std.proofs.lemmas.List.{map-append}
 use Rattle.std.proofs.lemmas.Option.{same_Some}
 use Rattle.line_words.specs.Table.{ByName, ByNumber, at_name, at_number, put_number, without_number, change_number, same_name, same_number, is_among, all_but}
-use Rattle.battle_room.specs.Room.{Room, Asker, has_member, has_asker, asker_names, asker_of, with_asker, without_asker}
+use Rattle.room_lists.specs.Room.{Room, Asker, has_member, has_asker, asker_names, asker_of, with_asker, without_asker}
 use Rattle.lobby_model.specs.State.{User, Battle}
 use Rattle.lobby_model.specs.Sound.{SoundAskers}
 use Rattle.line_words.proofs.Tables.{same_name_itself}

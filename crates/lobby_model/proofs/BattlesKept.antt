@@ -8,8 +8,8 @@ use Rattle.std.specs.FinMap.{nat_cmp-IsAntisymmetric}
 use Rattle.std.specs.FinMap.Entries.{is_sorted-put}
 use Rattle.line_words.specs.declared.lists.Pair.{Pair}
 use Rattle.line_words.specs.Table.{ByName, ByNumber, at_name, at_number, put_number, without_number, change_number, same_name, same_number, is_among, all_but}
-use Rattle.battle_room.specs.Units.{with_units}
-use Rattle.battle_room.specs.Room.{Room, Member, Bot, Rect, member_names, has_member, has_asker, asker_names, with_asker, without_asker, Asker, bot_of, new_room, with_member, without_member, with_status, with_bot, with_bot_status, without_bot, with_rect, without_rect, set_tags, remove_tags, has_too_many_units, disable_units, enable_units, enable_all}
+use Rattle.room_lists.specs.Units.{with_units}
+use Rattle.room_lists.specs.Room.{Room, Member, Bot, Rect, member_names, has_member, has_asker, asker_names, with_asker, without_asker, Asker, bot_of, new_room, with_member, without_member, with_status, with_bot, with_bot_status, without_bot, with_rect, without_rect, set_tags, remove_tags, has_too_many_units, disable_units, enable_units, enable_all}
 use Rattle.lobby_model.specs.State.{State, User, Info, Battle, battle_of, asked_by}
 use Rattle.lobby_model.specs.Battles.{change_room, change_info, opens, joins_battle, asks_to_join, let_into, closes, member_leaves, leaves_battle, is_founder}
 use Rattle.lobby_model.specs.Sound.{SoundRoom, SoundBattle, SoundBattles, SoundAskers, Sound}

@@ -2,7 +2,7 @@
 use Rattle.std.proofs.Common.{◌≡◌, ℕ, List, [], ◌∷◌, refl, true, false}
 use Rattle.std.specs.Prelude.{Option, Some, None, IsSome, ◌==◌, is_some}
 use Rattle.account_book.specs.Book.{login}
-use Rattle.reply_grammar.specs.declared.Reply.TheVariants as reply
+use Rattle.reply_kinds.specs.declared.Reply.TheVariants as reply
 use Rattle.command_grammar.specs.declared.command.Command.{Command}
 use Rattle.command_grammar.specs.declared.command.Command.TheVariants as command
 use Rattle.status_bits.specs.Fields.{merge}
@@ -10,9 +10,9 @@ use Rattle.status_bits.specs.BattleWord.{battle_table}
 use Rattle.status_bits.specs.UserWord.{user_table}
 use Rattle.line_words.specs.Table.{at_name, at_number, same_name, is_among}
 use Rattle.channel_book.specs.Channels.{names_in}
-use Rattle.battle_room.specs.Tags.{with_tags}
-use Rattle.battle_room.specs.Units.{with_units}
-use Rattle.battle_room.specs.Room.{has_member, bot_of, status_of, is_full_of_bots, has_too_many_tags, has_too_many_units}
+use Rattle.room_lists.specs.Tags.{with_tags}
+use Rattle.room_lists.specs.Units.{with_units}
+use Rattle.room_lists.specs.Room.{has_member, bot_of, status_of, is_full_of_bots, has_too_many_tags, has_too_many_units}
 use Rattle.lobby_model.specs.State.{State, Client, battle_of, asked_by, name_of, updated}
 use Rattle.lobby_model.specs.Texts.{already_in_channel, already_in_battle, already_asking, no_number_left, battle_is_locked, wrong_password, no_such_user, no_such_member, cannot_kick_yourself, bot_name_taken, too_many_bots, too_many_tags, too_many_units}
 use Rattle.lobby_model.specs.Outcome.{Happening, Outcome, tell, users, only_told, message, state_after}

@@ -7,9 +7,9 @@ use Rattle.std.specs.FinMap.{nat_cmp-IsAntisymmetric}
 use Rattle.std.specs.FinMap.Entries.{is_sorted, is_sorted-put}
 use Rattle.account_book.specs.Account.{Account}
 use Rattle.account_book.specs.declared.error.LoginFault.{LoginFault}
-use Rattle.reply_grammar.specs.declared.Reply.TheVariants as reply
+use Rattle.reply_kinds.specs.declared.Reply.TheVariants as reply
 use Rattle.line_words.specs.Table.{ByName, ByNumber, at_name, at_number, put_name, put_number, change_name, change_number, without_name, without_number, name_cmp, same_name, same_number, is_among}
-use Rattle.battle_room.specs.Room.{has_member, has_asker}
+use Rattle.room_lists.specs.Room.{has_member, has_asker}
 use Rattle.lobby_model.specs.declared.event.Event.{Event}
 use Rattle.lobby_model.specs.declared.event.Phase.TheVariants.{In, Ended}
 use Rattle.lobby_model.specs.State.{State, User, Client, Battle, name_of_client, name_at, name_of, set_phase, in_phase, user_with, asked_by, battle_of}

@@ -2,7 +2,7 @@
 use Rattle.std.proofs.Common.{◌≡◌, ℕ, List, true}
 use Rattle.std.specs.Prelude.{Some}
 use Rattle.line_words.specs.Table.{at_number}
-use Rattle.battle_room.specs.Room.{Bot, Asker, has_member, has_asker}
+use Rattle.room_lists.specs.Room.{Bot, Asker, has_member, has_asker}
 use Rattle.lobby_model.specs.State.{State, Battle}
 use Rattle.lobby_model.specs.Outcome.{Happening, Outcome, Done, done}
 use Rattle.lobby_model.specs.Battles.{in_battle, as_founder, with_asker_of}

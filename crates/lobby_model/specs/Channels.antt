@@ -1,7 +1,7 @@
 -- Channels and private talk.
 use Rattle.std.specs.Prelude.{ℕ, not, List, [], ◌∷◌, ◌++◌, map, length, zero, suc, is_some}
-use Rattle.reply_grammar.specs.declared.Reply.{Reply}
-use Rattle.reply_grammar.specs.declared.Reply.TheVariants as reply
+use Rattle.reply_kinds.specs.declared.Reply.{Reply}
+use Rattle.reply_kinds.specs.declared.Reply.TheVariants as reply
 use Rattle.line_words.specs.Table.{at_name, is_among}
 use Rattle.channel_book.specs.Channels.{names_in, channels_of, joined, left, all_left}
 use Rattle.lobby_model.specs.State.{State}

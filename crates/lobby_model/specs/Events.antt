@@ -1,8 +1,8 @@
 -- What each event comes to, the state after it, and the lines that it sends to one client.
 use Rattle.std.specs.Prelude.{ℕ, ◌+◌, Bool, if◌then◌else◌, List, map, Option, None}
 use Rattle.command_grammar.specs.declared.command.Command.{Command}
-use Rattle.reply_grammar.specs.declared.Reply.{Reply}
-use Rattle.reply_grammar.specs.Replies.{Line}
+use Rattle.reply_kinds.specs.declared.Reply.{Reply}
+use Rattle.reply_kinds.specs.Replies.{Line}
 use Rattle.line_words.specs.Table.{same_number}
 use Rattle.lobby_model.specs.declared.event.Event.{Event}
 use Rattle.lobby_model.specs.declared.event.Event.TheVariants as event

@@ -1,6 +1,6 @@
 -- One event: its lines are put, whole or not at all.
 use Rattle.std.specs.Prelude.{ℕ, ◌+◌, Bool, true, false, ◌&&◌, ◌||◌, nat_le, if◌then◌else◌, List, [], ◌∷◌, ◌++◌, length, take, Option, Some, None}
-use Rattle.reply_grammar.specs.Replies.{print_all}
+use Rattle.reply_kinds.specs.Replies.{print_all}
 use Rattle.lobby_model.specs.declared.event.Event.{Event}
 use Rattle.lobby_model.specs.declared.event.Event.TheVariants as event
 use Rattle.line_words.specs.Table.{at_number, map_values, same_number}

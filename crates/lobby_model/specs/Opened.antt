@@ -1,6 +1,6 @@
 -- What all know of a battle that was told of as it opened.
 use Rattle.std.specs.Prelude.{ℕ, Bool}
-use Rattle.reply_grammar.specs.declared.opened_battle.OpenedBattle.{OpenedBattle}
+use Rattle.reply_kinds.specs.declared.opened_battle.OpenedBattle.{OpenedBattle}
 use Rattle.lobby_model.specs.State.{Info}
 
 -- what was told of it as it opened, and the rest

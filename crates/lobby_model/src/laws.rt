@@ -5,7 +5,7 @@ ghost use Rattle.std.specs.Option.{unwrap_or};
 ghost use Rattle.account_book.specs.Account.{Account};
 ghost use Rattle.command_grammar.specs.declared.command.Command.{Command};
 ghost use Rattle.command_grammar.specs.declared.command.Request.{Request};
-ghost use Rattle.reply_grammar.specs.declared.Reply.{Reply};
+ghost use Rattle.reply_kinds.specs.declared.Reply.{Reply};
 ghost use Rattle.lobby_model.specs.declared.event.Event.{Event};
 ghost use Rattle.lobby_model.specs.declared.event.Event.TheVariants.{Say};
 ghost use Rattle.lobby_model.specs.declared.schedule.Step.{Step};

@@ -4,8 +4,8 @@ use Rattle.std.specs.Prelude.{Option, None, if◌then◌else◌}
 use Rattle.std.specs.List.{AllByRecursion}
 use Rattle.std.proofs.Math.Seq.{drop-append_seam, drop-length}
 use Rattle.std.proofs.lemmas.List.{drop-append-le, take-append-le, length-drop, map-append, take_all}
-use Rattle.reply_grammar.specs.declared.Reply.{Reply}
-use Rattle.reply_grammar.specs.Replies.{id_text, body, printed_line}
+use Rattle.reply_kinds.specs.declared.Reply.{Reply}
+use Rattle.reply_kinds.specs.Replies.{id_text, body, printed_line}
 use Rattle.lobby_post.specs.declared.delivery.Piece.{Piece}
 use Rattle.line_words.specs.Table.{ByNumber}
 use Rattle.lobby_post.specs.Dues.{is_long, shares_of, with_share}

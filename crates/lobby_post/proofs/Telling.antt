@@ -1,8 +1,8 @@
 -- Letters told, from the pieces sent.
 use Rattle.std.proofs.Common.{◌≡◌, ℕ, ◌+◌, List, [], ◌∷◌, ◌++◌, length, refl, sym, ap, ◌∙◌, Bool, true, false, not, map, append_assoc, append-nil, arith, length-append}
 use Rattle.std.specs.Prelude.{Option, None, ◌&&◌, ◌||◌, if◌then◌else◌}
-use Rattle.reply_grammar.specs.declared.Reply.{Reply}
-use Rattle.reply_grammar.specs.Replies.{print_all, printed_line}
+use Rattle.reply_kinds.specs.declared.Reply.{Reply}
+use Rattle.reply_kinds.specs.Replies.{print_all, printed_line}
 use Rattle.line_words.specs.Table.{ByNumber, same_number}
 use Rattle.lobby_model.specs.State.{State}
 use Rattle.lobby_model.specs.Outcome.{Audience, Letter, Reader, lines_for, tell, issuer}

@@ -1,8 +1,8 @@
 -- What an event has told so far, as pieces and as letters.
 use Rattle.std.specs.Prelude.{◌≡◌, ℕ, ◌+◌, Bool, false, not, ◌&&◌, if◌then◌else◌, List, [], ◌∷◌, ◌++◌, length, map, Option, None}
 use Rattle.std.specs.List.{list_any}
-use Rattle.reply_grammar.specs.declared.Reply.{Reply}
-use Rattle.reply_grammar.specs.Replies.{print_all}
+use Rattle.reply_kinds.specs.declared.Reply.{Reply}
+use Rattle.reply_kinds.specs.Replies.{print_all}
 use Rattle.line_words.specs.Table.{ByNumber, same_number}
 use Rattle.lobby_model.specs.State.{State}
 use Rattle.lobby_model.specs.Outcome.{Audience, Letter, lines_for}

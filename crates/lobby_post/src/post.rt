@@ -1,8 +1,8 @@
 //! What an event sends: lines, each printed once, and who gets them, in the order of telling.
 
 ghost use Rattle.std.specs.Prelude.{◌≡◌, ℕ, ◌<◌, ◌≤◌, [], ◌∷◌, ◌++◌, length, OnOk, OnErr};
-ghost use Rattle.reply_grammar.specs.Replies.{printed_line};
-ghost use Rattle.reply_grammar.specs.Lent.{reply_of};
+ghost use Rattle.reply_kinds.specs.Replies.{printed_line};
+ghost use Rattle.reply_kinds.specs.Lent.{reply_of};
 ghost use Rattle.lobby_post.specs.Mask.{has_home};
 ghost use Rattle.lobby_post.specs.Mail.{AreDue, AreReady, plain, deliver, wakes_home};
 ghost use Rattle.lobby_post.specs.Dirty.{marks_of, waits, IsNewly, Known};

@@ -1,8 +1,8 @@
 -- Whatever a user's command comes to, each user sees it.
 use Rattle.std.proofs.Common.{◌≡◌, ℕ, ◌+◌, List, [], ◌∷◌, ◌++◌, refl, Bool, true, false, not, arith}
 use Rattle.std.specs.Prelude.{Some, None, map, ◌==◌, is_some, length}
-use Rattle.reply_grammar.specs.declared.Reply.{Reply}
-use Rattle.reply_grammar.specs.declared.Reply.TheVariants as reply
+use Rattle.reply_kinds.specs.declared.Reply.{Reply}
+use Rattle.reply_kinds.specs.declared.Reply.TheVariants as reply
 use Rattle.command_grammar.specs.declared.command.Command.{Command}
 use Rattle.command_grammar.specs.declared.command.Command.TheVariants as command
 use Rattle.status_bits.specs.Fields.{merge}
@@ -10,9 +10,9 @@ use Rattle.status_bits.specs.BattleWord.{battle_table}
 use Rattle.status_bits.specs.UserWord.{user_table}
 use Rattle.line_words.specs.Table.{at_number, at_name, same_name, is_among}
 use Rattle.channel_book.specs.Channels.{names_in}
-use Rattle.battle_room.specs.Tags.{with_tags}
-use Rattle.battle_room.specs.Units.{with_units}
-use Rattle.battle_room.specs.Room.{has_member, with_asker, without_asker, status_of, bot_of, is_full_of_bots, has_too_many_tags, has_too_many_units}
+use Rattle.room_lists.specs.Tags.{with_tags}
+use Rattle.room_lists.specs.Units.{with_units}
+use Rattle.room_lists.specs.Room.{has_member, with_asker, without_asker, status_of, bot_of, is_full_of_bots, has_too_many_tags, has_too_many_units}
 use Rattle.lobby_model.specs.State.{State, Battle, asked_by, battle_of}
 use Rattle.lobby_model.specs.Texts.{already_in_channel, not_in_channel, no_such_user, already_in_battle, already_asking, no_number_left, battle_is_locked, wrong_password, not_the_founder, no_such_member, cannot_kick_yourself, not_your_bot, bot_name_taken, too_many_bots, too_many_tags, too_many_units}
 use Rattle.lobby_model.specs.Outcome.{Outcome, Letter, done, message, only_told, tell, issuer, user, users}

@@ -2,10 +2,10 @@
 use Rattle.std.proofs.Common.{◌≡◌, ℕ, List, [], ◌∷◌, ◌++◌, refl, sym, ap, subst, ◌∙◌, Bool, true, false}
 use Rattle.std.specs.Prelude.{Some, map, flat_map, if◌then◌else◌}
 use Rattle.std.proofs.lemmas.Grind.{flat_map-append}
-use Rattle.reply_grammar.specs.declared.Reply.{Reply}
+use Rattle.reply_kinds.specs.declared.Reply.{Reply}
 use Rattle.line_words.specs.Table.{same_name}
 use Rattle.line_words.proofs.Tables.{same_name_is}
-use Rattle.battle_room.specs.Room.{Room}
+use Rattle.room_lists.specs.Room.{Room}
 use Rattle.lobby_model.specs.State.{State}
 use Rattle.lobby_model.specs.Outcome.{Reader, Letter, Happening, Outcome, Refused, Done, lines_for, all_after}
 use Rattle.lobby_model.specs.Sessions.{to_others}

@@ -3,7 +3,7 @@ use Rattle.std.proofs.Common.{◌≡◌, ℕ, List, [], ◌∷◌, refl, ap, ◌
 use Rattle.std.specs.Prelude.{Option, Some, None, find, if◌then◌else◌}
 use Rattle.std.specs.Ordering.{nat_cmp}
 use Rattle.line_words.specs.Table.{ByNumber, change_number, map_values, same_number, is_among}
-use Rattle.battle_room.specs.Room.{Room, has_member, member_names}
+use Rattle.room_lists.specs.Room.{Room, has_member, member_names}
 use Rattle.lobby_model.specs.State.{State, Battle, battle_of}
 use Rattle.lobby_model.specs.Battles.{change_room}
 use Rattle.lobby_view.specs.View.{Listed, OwnRoom, change_members, in_room_of}

@@ -4,8 +4,8 @@ use Rattle.std.specs.Prelude.{Option, Some, None, map, if◌then◌else◌}
 use Rattle.std.proofs.lemmas.Map.Entries.{option_filter}
 use Rattle.std.specs.Ordering.{is_eq}
 use Rattle.std.specs.FinMap.Entries.{is_sorted, below_all}
-use Rattle.reply_grammar.specs.declared.Reply.{Reply}
-use Rattle.reply_grammar.specs.declared.Reply.TheVariants as reply
+use Rattle.reply_kinds.specs.declared.Reply.{Reply}
+use Rattle.reply_kinds.specs.declared.Reply.TheVariants as reply
 use Rattle.line_words.specs.Table.{at_name, put_name, without_name, change_name, name_cmp, same_name, is_among, all_but, map_values}
 use Rattle.line_words.proofs.Tables.{name_cmp_total, name_cmp_same, same_name_itself, filter-put, filter-put_unseen, find-filter, is_sorted-filter, change_absent, both, both_first, both_second}
 use Rattle.line_words.proofs.Once.{apart_either_way, out_of_but}

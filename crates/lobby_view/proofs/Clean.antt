@@ -1,8 +1,8 @@
 -- Lines that can be read again: from those of each thing that happens to all that are put.
 use Rattle.std.proofs.Common.{ℕ, ◌≤◌, List, [], ◌∷◌, Bool, true, false, arith}
 use Rattle.std.specs.Prelude.{Option, Some, None, if◌then◌else◌, ◌&&◌, length}
-use Rattle.reply_grammar.specs.declared.Reply.{Reply}
-use Rattle.reply_grammar.specs.Replies.{Line, Fits, IsId, command_of, kinds_of, values_of, line_text}
+use Rattle.reply_kinds.specs.declared.Reply.{Reply}
+use Rattle.reply_kinds.specs.Replies.{Line, Fits, IsId, command_of, kinds_of, values_of, line_text}
 use Rattle.line_words.specs.Table.{at_number}
 use Rattle.lobby_model.specs.declared.event.Event.{Event}
 use Rattle.lobby_model.specs.State.{State, Client, is_live}

@@ -6,12 +6,12 @@ use Rattle.std.specs.Option.{option_map}
 use Rattle.std.specs.Ordering.{nat_cmp}
 use Rattle.std.specs.Cmp.{nat_cmp_total}
 use Rattle.std.specs.FinMap.{nat_cmp-IsAntisymmetric}
-use Rattle.reply_grammar.specs.declared.Reply.{Reply}
-use Rattle.reply_grammar.specs.declared.Reply.TheVariants as reply
+use Rattle.reply_kinds.specs.declared.Reply.{Reply}
+use Rattle.reply_kinds.specs.declared.Reply.TheVariants as reply
 use Rattle.line_words.specs.Table.{at_number, change_number, same_number, same_name, is_among}
 use Rattle.line_words.proofs.Tables.{same_name_itself, at-map_values, at-change, is_sorted-change}
 use Rattle.line_words.proofs.Once.{contradiction, once_with}
-use Rattle.battle_room.specs.Room.{Room, Member, Asker, has_member, has_asker, member_names, new_member, with_member, without_asker}
+use Rattle.room_lists.specs.Room.{Room, Member, Asker, has_member, has_asker, member_names, new_member, with_member, without_asker}
 use Rattle.lobby_model.specs.State.{State, Battle, battle_of}
 use Rattle.lobby_model.specs.Outcome.{Happening, happens}
 use Rattle.lobby_model.specs.Battles.{change_room, members, joining, joins_battle, let_into, room_lines}

@@ -2,8 +2,8 @@
 use Rattle.std.proofs.Common.{◌≡◌, ℕ, List, [], ◌∷◌, ◌++◌, refl, Bool, true, false}
 use Rattle.std.specs.Prelude.{ℤ, pos, negsuc, codes, None}
 use Prim.Native.String.{String}
-use Rattle.reply_grammar.specs.declared.Reply.{Reply}
-use Rattle.reply_grammar.specs.declared.Reply.TheVariants as reply
+use Rattle.reply_kinds.specs.declared.Reply.{Reply}
+use Rattle.reply_kinds.specs.declared.Reply.TheVariants as reply
 use Rattle.lobby_model.specs.State.{Info}
 use Rattle.lobby_model.proofs.Fixture.{anna, bert, cleo, main}
 use Rattle.lobby_view.specs.View.{View, Known, Listed, new_view, shown_all}

@@ -3,13 +3,13 @@ use Rattle.std.proofs.Common.{◌≡◌, ℕ, ◌+◌, ℤ, List, [], ◌∷◌,
 use Rattle.std.specs.Prelude.{Option, Some, None, ◌&&◌, nat_lt, if◌then◌else◌, is_some, Result, Ok, Err}
 use Rattle.command_grammar.specs.declared.command.Command.{Command}
 use Rattle.command_grammar.specs.declared.command.Command.TheVariants as command
-use Rattle.reply_grammar.specs.declared.Reply.TheVariants as reply
-use Rattle.reply_grammar.specs.Replies.{print_all}
+use Rattle.reply_kinds.specs.declared.Reply.TheVariants as reply
+use Rattle.reply_kinds.specs.Replies.{print_all}
 use Rattle.account_book.specs.Account.{Account}
 use Rattle.account_book.specs.Book.{login}
 use Rattle.account_book.specs.declared.error.LoginFault.{LoginFault}
 use Rattle.line_words.specs.Table.{ByNumber, at_number, at_name, same_name, without_number, same_number, map_values}
-use Rattle.battle_room.specs.Room.{new_room}
+use Rattle.room_lists.specs.Room.{new_room}
 use Rattle.lobby_model.specs.declared.event.Event.{Event}
 use Rattle.lobby_model.specs.declared.event.Event.TheVariants as event
 use Rattle.lobby_model.specs.declared.event.Phase.TheVariants.{In, Ended}

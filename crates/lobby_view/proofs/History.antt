@@ -6,7 +6,7 @@ use Rattle.std.proofs.lemmas.List.{map-append}
 use Rattle.account_book.specs.Account.{Account}
 use Rattle.line_words.specs.Table.{at_number}
 use Rattle.line_words.proofs.Once.{contradiction}
-use Rattle.reply_grammar.specs.declared.Reply.{Reply}
+use Rattle.reply_kinds.specs.declared.Reply.{Reply}
 use Rattle.lobby_model.specs.declared.event.Event.{Event}
 use Rattle.lobby_model.specs.Configuration.{Configuration}
 use Rattle.lobby_model.specs.State.{State, Client, is_live, is_live_client, hears, name_of, empty_lobby}

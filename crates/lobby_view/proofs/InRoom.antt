@@ -1,13 +1,13 @@
 -- What happens in a battle's room, where nobody enters or leaves: seen by its members and by others.
 use Rattle.std.proofs.Common.{◌≡◌, ℕ, ℤ, List, [], ◌∷◌, ◌++◌, refl, sym, ap, ◌∙◌, Bool, true, false, append-nil}
 use Rattle.std.specs.Prelude.{Some, if◌then◌else◌}
-use Rattle.reply_grammar.specs.declared.Reply.{Reply}
-use Rattle.reply_grammar.specs.declared.Reply.TheVariants as reply
+use Rattle.reply_kinds.specs.declared.Reply.{Reply}
+use Rattle.reply_kinds.specs.declared.Reply.TheVariants as reply
 use Rattle.line_words.specs.declared.lists.Pair.{Pair}
 use Rattle.line_words.specs.Table.{at_number, same_name, is_among, all_but}
-use Rattle.battle_room.specs.Tags.{has_tag, without_tag, without_tags, keys_there}
-use Rattle.battle_room.specs.Units.{with_units, without_units, words_new, words_there}
-use Rattle.battle_room.specs.Room.{Room, Bot, Rect, member_names, with_status, with_bot, with_bot_status, without_bot, with_rect, without_rect, set_tags, remove_tags, disable_units, enable_units, enable_all}
+use Rattle.room_lists.specs.Tags.{has_tag, without_tag, without_tags, keys_there}
+use Rattle.room_lists.specs.Units.{with_units, without_units, words_new, words_there}
+use Rattle.room_lists.specs.Room.{Room, Bot, Rect, member_names, with_status, with_bot, with_bot_status, without_bot, with_rect, without_rect, set_tags, remove_tags, disable_units, enable_units, enable_all}
 use Rattle.lobby_model.specs.State.{State, Battle, battle_of}
 use Rattle.lobby_model.specs.Outcome.{Happening, happens, tell, users}
 use Rattle.lobby_model.specs.Battles.{change_room, in_room, members, member_has, bot_line, rect_line}

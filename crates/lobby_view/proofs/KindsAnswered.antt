@@ -3,10 +3,10 @@ use Rattle.std.proofs.Common.{◌≡◌, ℕ, ◌≤◌, ◌+◌, ℤ, List, [],
 use Rattle.std.specs.Prelude.{Option, Some, None, map, ◌&&◌, ◌==◌, nat_le, is_some, codes}
 use Rattle.std.proofs.lemmas.Bool.{and_parts, and_from, leb-true, le-leb}
 use Rattle.std.specs.List.{list_all}
-use Rattle.reply_grammar.specs.declared.Reply.{Reply}
-use Rattle.reply_grammar.specs.declared.Reply.TheVariants as reply
-use Rattle.reply_grammar.specs.Kinds.{fits}
-use Rattle.reply_grammar.specs.Replies.{status_word}
+use Rattle.reply_kinds.specs.declared.Reply.{Reply}
+use Rattle.reply_kinds.specs.declared.Reply.TheVariants as reply
+use Rattle.reply_kinds.specs.Kinds.{fits}
+use Rattle.reply_kinds.specs.Replies.{status_word}
 use Rattle.command_grammar.specs.declared.command.Command.{Command}
 use Rattle.command_grammar.specs.declared.command.Command.TheVariants as command
 use Rattle.command_grammar.specs.declared.command.ReadFault.{ReadFault}
@@ -21,9 +21,9 @@ use Rattle.line_words.specs.Kinds.{is_wide, is_some_word, is_pair}
 use Rattle.line_words.specs.declared.lists.Pair.{Pair}
 use Rattle.line_words.specs.Table.{ByName, at_number, at_name, same_name, is_among}
 use Rattle.channel_book.specs.Channels.{names_in}
-use Rattle.battle_room.specs.Tags.{with_tags, keys_there}
-use Rattle.battle_room.specs.Units.{with_units, words_new, words_there}
-use Rattle.battle_room.specs.Room.{has_too_many_tags, has_member, with_bot, with_bot_status, without_bot, with_rect, without_rect, set_tags, remove_tags, status_of, bot_of, is_full_of_bots, has_too_many_units, disable_units, enable_units, enable_all}
+use Rattle.room_lists.specs.Tags.{with_tags, keys_there}
+use Rattle.room_lists.specs.Units.{with_units, words_new, words_there}
+use Rattle.room_lists.specs.Room.{has_too_many_tags, has_member, with_bot, with_bot_status, without_bot, with_rect, without_rect, set_tags, remove_tags, status_of, bot_of, is_full_of_bots, has_too_many_units, disable_units, enable_units, enable_all}
 use Rattle.lobby_model.specs.State.{State, Battle, asked_by, battle_of}
 use Rattle.lobby_model.specs.Texts.{fault_text, already_in_channel, no_such_user, already_in_battle, already_asking, denied_by_founder, battle_is_locked, wrong_password, no_such_member, cannot_kick_yourself, bot_name_taken, too_many_bots, no_number_left, too_many_tags, too_many_units}
 use Rattle.lobby_model.specs.Outcome.{Happening, Outcome, done, refuse_if, tell, users, only_told}

@@ -6,10 +6,10 @@ use Rattle.std.proofs.lemmas.Bool.{and_parts, le-leb}
 use Rattle.std.proofs.lemmas.List.{length-append}
 use Rattle.std.proofs.lemmas.List.Sums.{sum_by-cons}
 use Rattle.std.specs.List.{list_all}
-use Rattle.reply_grammar.specs.declared.Reply.{Reply}
-use Rattle.reply_grammar.specs.declared.Reply.TheVariants as reply
-use Rattle.reply_grammar.specs.Kinds.{Words, fits, all_fit, pairs_text, words_text, optional_text, pair_text}
-use Rattle.reply_grammar.specs.Replies.{status_word}
+use Rattle.reply_kinds.specs.declared.Reply.{Reply}
+use Rattle.reply_kinds.specs.declared.Reply.TheVariants as reply
+use Rattle.reply_kinds.specs.Kinds.{Words, fits, all_fit, pairs_text, words_text, optional_text, pair_text}
+use Rattle.reply_kinds.specs.Replies.{status_word}
 use Rattle.command_grammar.specs.Sizes.{size, pair_size, optional_size}
 use Rattle.status_bits.specs.Fields.{Field, with_number}
 use Rattle.status_bits.specs.BattleWord.{battle_table}
@@ -18,10 +18,10 @@ use Rattle.line_words.specs.Kinds.{is_wide, is_pair}
 use Rattle.line_words.specs.declared.lists.Pair.{Pair}
 use Rattle.line_words.specs.Table.{same_name, is_among, all_but}
 use Rattle.channel_book.specs.Channels.{names_in}
-use Rattle.battle_room.specs.Tags.{keys_there, has_tag, without_tag}
-use Rattle.battle_room.specs.Units.{words_new, words_there}
-use Rattle.battle_room.specs.Room as battle_room
-use Rattle.battle_room.specs.Room.{Member, Bot, Asker, has_member, with_status, status_of, colour_of, colour_in}
+use Rattle.room_lists.specs.Tags.{keys_there, has_tag, without_tag}
+use Rattle.room_lists.specs.Units.{words_new, words_there}
+use Rattle.room_lists.specs.Room as room_lists
+use Rattle.room_lists.specs.Room.{Member, Bot, Asker, has_member, with_status, status_of, colour_of, colour_in}
 use Rattle.lobby_model.specs.State.{State, Battle, battle_of}
 use Rattle.lobby_model.specs.Outcome.{Happening, Outcome, Refused, Done, refuse_if, message}
 use Rattle.lobby_model.specs.Channels.{in_channel}
@@ -137,7 +137,7 @@ words_kinds (word ∷ words) e short =
     (record { word = parts.0; short = omega (arith, whole) }, words_kinds words parts.1 (omega (arith, whole)))
 
 -- members
-status_in_kinds : (o : Option Member) → ((m : Member) → o ≡ Some m → MemberKinds m) → fits status_word (battle_room.status_in o) ≡ true
+status_in_kinds : (o : Option Member) → ((m : Member) → o ≡ Some m → MemberKinds m) → fits status_word (room_lists.status_in o) ≡ true
 status_in_kinds None each = refl
 status_in_kinds (Some m) each = (each m refl).status
 
@@ -146,7 +146,7 @@ colour_in_kinds None each = refl
 colour_in_kinds (Some m) each = (each m refl).colour
 
 pub status_of_kinds : (name : List ℕ) (ms : List Member) → Each MemberKinds ms
-    → fits status_word (battle_room.status_in (find (λ m. same_name name m.name) ms)) ≡ true
+    → fits status_word (room_lists.status_in (find (λ m. same_name name m.name) ms)) ≡ true
 status_of_kinds name ms h = status_in_kinds (find (λ m. same_name name m.name) ms) (λ m is. each_found MemberKinds (λ m. same_name name m.name) ms m h is)
 
 colour_of_kinds : (name : List ℕ) (ms : List Member) → Each MemberKinds ms → is_wide (colour_in (find (λ m. same_name name m.name) ms)) ≡ true

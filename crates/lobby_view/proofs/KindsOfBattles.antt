@@ -3,16 +3,16 @@ use Rattle.std.proofs.Common.{◌≡◌, ℕ, ◌≤◌, ◌+◌, ℤ, List, [],
 use Rattle.std.specs.Prelude.{Option, None, if◌then◌else◌, ◌&&◌}
 use Rattle.std.specs.Ordering.{nat_cmp}
 use Rattle.std.specs.FinMap.{nat_cmp-IsAntisymmetric}
-use Rattle.reply_grammar.specs.declared.Reply.TheVariants as reply
-use Rattle.reply_grammar.specs.Kinds.{Number, fits, pairs_text, optional_text}
-use Rattle.reply_grammar.specs.Replies.{status_word, port_number, battle_number, ally_number, side_number}
+use Rattle.reply_kinds.specs.declared.Reply.TheVariants as reply
+use Rattle.reply_kinds.specs.Kinds.{Number, fits, pairs_text, optional_text}
+use Rattle.reply_kinds.specs.Replies.{status_word, port_number, battle_number, ally_number, side_number}
 use Rattle.line_words.specs.Bytes.{is_word, is_sentence}
 use Rattle.line_words.specs.Kinds.{is_wide, is_pair, is_some_word}
 use Rattle.line_words.specs.declared.lists.Pair.{Pair}
 use Rattle.line_words.specs.Table.{ByNumber, same_name, is_among, all_but}
-use Rattle.battle_room.specs.Tags.{with_tag, with_tags, without_tag, without_tags}
-use Rattle.battle_room.specs.Units.{with_unit, with_units, without_units}
-use Rattle.battle_room.specs.Room.{Room, Member, Bot, Rect, Asker, member_names, member_with, bot_with, new_member, with_member, without_member, with_status, with_bot, with_bot_status, without_bot, with_rect, without_rect, set_tags, remove_tags, bots_of, disable_units, enable_units, enable_all, with_asker, without_asker}
+use Rattle.room_lists.specs.Tags.{with_tag, with_tags, without_tag, without_tags}
+use Rattle.room_lists.specs.Units.{with_unit, with_units, without_units}
+use Rattle.room_lists.specs.Room.{Room, Member, Bot, Rect, Asker, member_names, member_with, bot_with, new_member, with_member, without_member, with_status, with_bot, with_bot_status, without_bot, with_rect, without_rect, set_tags, remove_tags, bots_of, disable_units, enable_units, enable_all, with_asker, without_asker}
 use Rattle.lobby_model.specs.State.{Info, Battle}
 use Rattle.lobby_model.specs.Battles.{opened_line, updated_line, status_line, bot_line, rect_line, room_lines, battle_lines, joining, member_leaves}
 use Rattle.lobby_view.proofs.Everywhere.{Each, each_put, each_filter, each_append, each_changed, each_map}

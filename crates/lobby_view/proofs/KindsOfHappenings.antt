@@ -3,16 +3,16 @@ use Rattle.std.proofs.Common.{◌≡◌, ℕ, ◌≤◌, ℤ, List, [], ◌∷�
 use Rattle.std.specs.Prelude.{Option, Some, None, map, flat_map, if◌then◌else◌, ◌&&◌}
 use Rattle.std.specs.Ordering.{nat_cmp}
 use Rattle.std.specs.FinMap.{nat_cmp-IsAntisymmetric}
-use Rattle.reply_grammar.specs.declared.Reply.{Reply}
-use Rattle.reply_grammar.specs.declared.Reply.TheVariants as reply
-use Rattle.reply_grammar.specs.Kinds.{fits, optional_text}
-use Rattle.reply_grammar.specs.Replies.{status_word, port_number}
+use Rattle.reply_kinds.specs.declared.Reply.{Reply}
+use Rattle.reply_kinds.specs.declared.Reply.TheVariants as reply
+use Rattle.reply_kinds.specs.Kinds.{fits, optional_text}
+use Rattle.reply_kinds.specs.Replies.{status_word, port_number}
 use Rattle.line_words.specs.Bytes.{is_word, is_text, is_sentence}
 use Rattle.line_words.specs.Kinds.{is_wide, is_some_word}
 use Rattle.line_words.specs.Table.{ByNumber, ByName, at_number, put_name, name_cmp, is_among, all_but, map_values}
 use Rattle.line_words.proofs.Tables.{name_cmp_same}
 use Rattle.channel_book.specs.Channels.{Channels, names_in, channels_of, all_left}
-use Rattle.battle_room.specs.Room.{Room, Asker, has_member, with_member, without_member, with_asker, without_asker}
+use Rattle.room_lists.specs.Room.{Room, Asker, has_member, with_member, without_member, with_asker, without_asker}
 use Rattle.account_book.specs.Account.{Account}
 use Rattle.lobby_model.specs.State.{State, Client, User, user_with, Info, Battle, asked_by, battle_of, updated}
 use Rattle.lobby_model.specs.Outcome.{Happening, Letter, happens, tell, user, users, everyone}

@@ -4,9 +4,9 @@ use Rattle.std.specs.Prelude.{Option, Some, None, map, flat_map, if◌then◌els
 use Rattle.std.proofs.lemmas.Bool.{le-leb}
 use Rattle.std.proofs.lemmas.List.{length-append}
 use Rattle.std.specs.List.{list_all}
-use Rattle.reply_grammar.specs.declared.Reply.TheVariants as reply
-use Rattle.reply_grammar.specs.Kinds.{fits}
-use Rattle.reply_grammar.specs.Replies.{status_word}
+use Rattle.reply_kinds.specs.declared.Reply.TheVariants as reply
+use Rattle.reply_kinds.specs.Kinds.{fits}
+use Rattle.reply_kinds.specs.Replies.{status_word}
 use Rattle.line_words.specs.Bytes.{is_name, is_word}
 use Rattle.line_words.specs.Kinds.{is_wide}
 use Rattle.line_words.specs.Table.{ByName, at, name_cmp, all_but}

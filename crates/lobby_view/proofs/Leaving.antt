@@ -2,12 +2,12 @@
 use Rattle.std.proofs.Common.{◌≡◌, ℕ, List, [], ◌∷◌, ◌++◌, refl, sym, ap, ◌∙◌, Bool, true, false, not}
 use Rattle.std.specs.Prelude.{Option, Some, None, map, filter, if◌then◌else◌}
 use Rattle.std.specs.List.{IsDistinct, list_any}
-use Rattle.reply_grammar.specs.declared.Reply.{Reply}
-use Rattle.reply_grammar.specs.declared.Reply.TheVariants as reply
+use Rattle.reply_kinds.specs.declared.Reply.{Reply}
+use Rattle.reply_kinds.specs.declared.Reply.TheVariants as reply
 use Rattle.line_words.specs.Table.{at_number, change_number, same_number, same_name, is_among, all_but}
 use Rattle.line_words.proofs.Tables.{same_name_itself}
 use Rattle.line_words.proofs.Once.{apart_either_way}
-use Rattle.battle_room.specs.Room.{Room, Bot, without_member, all_members_but, without_bot, bots_of}
+use Rattle.room_lists.specs.Room.{Room, Bot, without_member, all_members_but, without_bot, bots_of}
 use Rattle.lobby_model.specs.State.{State, Battle, battle_of}
 use Rattle.lobby_model.specs.Battles.{change_room, members, member_leaves}
 use Rattle.lobby_model.specs.Sound.{Sound, bot_names}

@@ -3,10 +3,10 @@ use Rattle.std.proofs.Common.{◌≡◌, ℕ, List, [], ◌∷◌, ◌++◌, ref
 use Rattle.std.specs.Prelude.{Option, Some, None, map, filter, if◌then◌else◌}
 use Rattle.std.specs.Ordering.{nat_cmp}
 use Rattle.std.specs.Cmp.{nat_cmp_total}
-use Rattle.reply_grammar.specs.declared.Reply.TheVariants as reply
+use Rattle.reply_kinds.specs.declared.Reply.TheVariants as reply
 use Rattle.line_words.specs.Table.{ByNumber, at_number, without_number, change_number, same_number, same_name, is_among, all_but}
 use Rattle.line_words.proofs.Tables.{same_name_is, same_name_itself, is_sorted-change, is_sorted-without, map_values-without}
-use Rattle.battle_room.specs.Room.{Room, has_member, has_asker, without_member, all_members_but, bots_of}
+use Rattle.room_lists.specs.Room.{Room, has_member, has_asker, without_member, all_members_but, bots_of}
 use Rattle.lobby_model.specs.State.{State, Battle, battle_of}
 use Rattle.lobby_model.specs.Texts.{battle_was_closed}
 use Rattle.lobby_model.specs.Battles.{change_room, members, member_leaves, closes, is_founder, leaves_battle}

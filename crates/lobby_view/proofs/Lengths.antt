@@ -8,12 +8,12 @@ use Rattle.std.proofs.lemmas.List.{length-append}
 use Rattle.std.proofs.lemmas.Fmt.{length-decimal-le, length_signed_le}
 use Rattle.line_words.specs.Bytes.{is_name, is_name_byte}
 use Rattle.line_words.specs.Kinds.{is_wide}
-use Rattle.reply_grammar.specs.declared.Reply.{Reply}
-use Rattle.reply_grammar.specs.declared.command_word.CommandWord.{CommandWord}
-use Rattle.reply_grammar.specs.declared.command_word.CommandWord.TheVariants as command
-use Rattle.reply_grammar.specs.Kinds.{Kind, Word, Name, Number, Wide, Flag, OptionalWord, Words, Names, Sentence, NextSentence, Text, Pairs, Value, Values, fits, words_text, pairs_text, optional_text, printed, all_fit, all_printed}
-use Rattle.reply_grammar.specs.Replies.{word_of, kinds_of, command_of, values_of, Fits, IsId, id_text, line_text}
-use Rattle.reply_grammar.proofs.Table.{is_kind, leads, is_row, rows}
+use Rattle.reply_kinds.specs.declared.Reply.{Reply}
+use Rattle.reply_kinds.specs.declared.command_word.CommandWord.{CommandWord}
+use Rattle.reply_kinds.specs.declared.command_word.CommandWord.TheVariants as command
+use Rattle.reply_kinds.specs.Kinds.{Kind, Word, Name, Number, Wide, Flag, OptionalWord, Words, Names, Sentence, NextSentence, Text, Pairs, Value, Values, fits, words_text, pairs_text, optional_text, printed, all_fit, all_printed}
+use Rattle.reply_kinds.specs.Replies.{word_of, kinds_of, command_of, values_of, Fits, IsId, id_text, line_text}
+use Rattle.reply_kinds.proofs.Table.{is_kind, leads, is_row, rows}
 
 -- what an argument of a kind takes at most, with what stands before it
 abbrev pub room : (k : Kind) → Value k → ℕ

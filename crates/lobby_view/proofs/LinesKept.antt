@@ -4,7 +4,7 @@ use Rattle.std.specs.Prelude.{IsTrue}
 use Rattle.std.specs.List.{AllByRecursion}
 use Rattle.account_book.specs.Account.{Account, IsHeld}
 use Rattle.line_framer.specs.Frames.{is_spoilt}
-use Rattle.reply_grammar.specs.Replies.{Line, Fits, IsId, line_text, print}
+use Rattle.reply_kinds.specs.Replies.{Line, Fits, IsId, line_text, print}
 use Rattle.lobby_model.specs.declared.event.Event.{Event}
 use Rattle.lobby_model.specs.Configuration.{Configuration, is_configuration}
 use Rattle.lobby_model.specs.State.{State, empty_lobby}

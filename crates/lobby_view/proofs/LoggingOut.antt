@@ -2,7 +2,7 @@
 use Rattle.std.proofs.Common.{◌≡◌, ℕ, List, [], ◌∷◌, ◌++◌, refl, ap, ◌∙◌, false}
 use Rattle.std.specs.Prelude.{Option, Some, None, map}
 use Rattle.line_words.specs.Table.{same_name}
-use Rattle.battle_room.specs.Room.{without_asker}
+use Rattle.room_lists.specs.Room.{without_asker}
 use Rattle.lobby_model.specs.State.{State, Battle, asked_by, battle_of}
 use Rattle.lobby_model.specs.Outcome.{Happening}
 use Rattle.lobby_model.specs.Channels.{leaves_all}

@@ -6,12 +6,12 @@ use Rattle.std.specs.Ordering.{nat_cmp}
 use Rattle.std.specs.Cmp.{nat_cmp_total}
 use Rattle.std.specs.FinMap.Entries.{is_sorted, is_sorted-put, below_all}
 use Rattle.std.proofs.lemmas.List.{map-append}
-use Rattle.reply_grammar.specs.declared.Reply.{Reply}
-use Rattle.reply_grammar.specs.declared.Reply.TheVariants as reply
+use Rattle.reply_kinds.specs.declared.Reply.{Reply}
+use Rattle.reply_kinds.specs.declared.Reply.TheVariants as reply
 use Rattle.line_words.specs.Table.{ByName, ByNumber, at_name, at_number, put_name, change_number, name_cmp, same_name, is_among, all_but, map_values}
 use Rattle.line_words.proofs.Tables.{name_cmp_total, name_cmp_same, same_name_itself, is_sorted-map_values, map_values-put}
 use Rattle.channel_book.specs.Channels.{channels_of}
-use Rattle.battle_room.specs.Room.{has_member, member_names}
+use Rattle.room_lists.specs.Room.{has_member, member_names}
 use Rattle.lobby_model.specs.State.{State, User, Info, Battle, battle_of, updated}
 use Rattle.lobby_model.specs.Battles.{battle_lines}
 use Rattle.lobby_model.specs.Sessions.{added, shown_status, burst, logs_in}

@@ -5,7 +5,7 @@ use Rattle.std.specs.Prelude.{pos, codes, map, Some, false, ◌&&◌, ◌==◌}
 use Rattle.std.specs.Fmt.{digits}
 use Rattle.command_grammar.specs.declared.command.Command.TheVariants as command
 use Rattle.line_words.specs.Table.{ByNumber, same_name}
-use Rattle.reply_grammar.specs.Replies.{print}
+use Rattle.reply_kinds.specs.Replies.{print}
 use Rattle.lobby_model.specs.declared.event.Event.{Event}
 use Rattle.lobby_model.specs.Events.{sent}
 use Rattle.lobby_model.specs.History.{after, put_in}

@@ -6,11 +6,11 @@ use Rattle.std.specs.declared.cmp.Ordering.TheVariants.{Less, Equal, Greater}
 use Rattle.std.specs.Ordering.{nat_cmp, is_eq}
 use Rattle.std.specs.Cmp.{nat_cmp_total}
 use Rattle.std.specs.FinMap.Entries.{by_order}
-use Rattle.reply_grammar.specs.declared.Reply.{Reply}
-use Rattle.reply_grammar.specs.declared.Reply.TheVariants as reply
+use Rattle.reply_kinds.specs.declared.Reply.{Reply}
+use Rattle.reply_kinds.specs.declared.Reply.TheVariants as reply
 use Rattle.line_words.specs.Table.{ByNumber, at, at_number, put, put_number, change_number, same_number, same_name}
 use Rattle.line_words.proofs.Tables.{map_values-put, at-put, same_name_itself}
-use Rattle.battle_room.specs.Room.{has_member, new_room}
+use Rattle.room_lists.specs.Room.{has_member, new_room}
 use Rattle.lobby_model.specs.State.{State, Info, Battle, battle_of, updated}
 use Rattle.lobby_model.specs.Outcome.{happens, tell, everyone}
 use Rattle.lobby_model.specs.Battles.{opens, opened_line, updated_line, change_info}

@@ -6,7 +6,7 @@ use Rattle.std.specs.Ordering.{nat_cmp}
 use Rattle.std.specs.Cmp.{nat_cmp_total}
 use Rattle.line_words.specs.Table.{at_number, same_number, is_among}
 use Rattle.line_words.proofs.Once.{contradiction}
-use Rattle.battle_room.specs.Room.{has_member}
+use Rattle.room_lists.specs.Room.{has_member}
 use Rattle.lobby_model.specs.State.{State, Battle, battle_of}
 use Rattle.lobby_model.specs.Battles.{members}
 use Rattle.lobby_model.specs.Sound.{Sound}

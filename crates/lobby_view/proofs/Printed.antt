@@ -9,8 +9,8 @@ use Rattle.line_words.specs.Table.{at_number}
 use Rattle.line_framer.specs.Frames.{frames, with_ends, without_cr, is_spoilt}
 use Rattle.line_framer.specs.Laws.{IsPlainLine, ComesOut}
 use Rattle.line_framer.proofs.Limit.{plain_come_out}
-use Rattle.reply_grammar.specs.Replies.{Line, line_text, print, print_all}
-use Rattle.reply_grammar.proofs.Plain.{line_plain}
+use Rattle.reply_kinds.specs.Replies.{Line, line_text, print, print_all}
+use Rattle.reply_kinds.proofs.Plain.{line_plain}
 use Rattle.reply_reader.proofs.Whole.{line_again}
 use Rattle.lobby_model.specs.declared.event.Event.{Event}
 use Rattle.lobby_model.specs.State.{State, Client, is_live}

@@ -1,9 +1,9 @@
 -- What one client says to one user in private is told to nobody else, not even by what is put later.
 use Rattle.std.proofs.Common.{◌≡◌, ℕ, suc, ◌+◌, List, [], ◌∷◌, ◌++◌, refl, sym, ap, ◌∙◌, Bool, true, false, not, length, length-append}
 use Rattle.std.specs.Prelude.{Option, Some, None, ◌||◌, ◌&&◌, if◌then◌else◌, is_some, codes}
-use Rattle.reply_grammar.specs.declared.Reply.{Reply}
-use Rattle.reply_grammar.specs.declared.Reply.TheVariants as reply
-use Rattle.reply_grammar.specs.Replies.{print, print_all, id_text}
+use Rattle.reply_kinds.specs.declared.Reply.{Reply}
+use Rattle.reply_kinds.specs.declared.Reply.TheVariants as reply
+use Rattle.reply_kinds.specs.Replies.{print, print_all, id_text}
 use Rattle.command_grammar.specs.declared.command.Command.TheVariants as command
 use Rattle.line_words.specs.Table.{at_number, at_name, same_name, same_number, map_values}
 use Rattle.line_words.proofs.Tables.{same_name_is}

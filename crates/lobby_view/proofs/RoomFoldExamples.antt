@@ -2,10 +2,10 @@
 use Rattle.std.proofs.Common.{◌≡◌, ℕ, List, [], ◌∷◌, ◌++◌, refl, false}
 use Rattle.std.specs.Prelude.{ℤ, pos, negsuc, codes, Option, Some, None}
 use Prim.Native.String.{String}
-use Rattle.reply_grammar.specs.declared.Reply.{Reply}
-use Rattle.reply_grammar.specs.declared.Reply.TheVariants as reply
+use Rattle.reply_kinds.specs.declared.Reply.{Reply}
+use Rattle.reply_kinds.specs.declared.Reply.TheVariants as reply
 use Rattle.line_words.specs.declared.lists.Pair.{Pair}
-use Rattle.battle_room.specs.Room.{Member, Bot, Rect}
+use Rattle.room_lists.specs.Room.{Member, Bot, Rect}
 use Rattle.lobby_model.proofs.Fixture.{anna, bert, cleo, tag}
 use Rattle.lobby_view.specs.View.{OwnRoom, new_view, shown_all}
 

@@ -7,14 +7,14 @@ use Rattle.std.proofs.lemmas.List.Folds.{list_any-append}
 use Rattle.std.specs.Ordering.{nat_cmp}
 use Rattle.std.specs.Cmp.{nat_cmp_total}
 use Rattle.std.specs.FinMap.Entries.{is_sorted}
-use Rattle.reply_grammar.specs.declared.Reply.{Reply}
-use Rattle.reply_grammar.specs.declared.Reply.TheVariants as reply
+use Rattle.reply_kinds.specs.declared.Reply.{Reply}
+use Rattle.reply_kinds.specs.declared.Reply.TheVariants as reply
 use Rattle.line_words.specs.declared.lists.Pair.{Pair}
 use Rattle.line_words.specs.Table.{ByNumber, same_name, is_among}
 use Rattle.line_words.proofs.Tables.{same_name_itself}
 use Rattle.line_words.proofs.Once.{apart_either_way}
-use Rattle.battle_room.specs.Tags.{with_tag}
-use Rattle.battle_room.specs.Room.{Room, Member, Bot, Rect, member_with, new_member, with_status, with_bot, with_rect, set_tags, disable_units}
+use Rattle.room_lists.specs.Tags.{with_tag}
+use Rattle.room_lists.specs.Room.{Room, Member, Bot, Rect, member_with, new_member, with_status, with_bot, with_rect, set_tags, disable_units}
 use Rattle.lobby_model.specs.Battles.{status_line, bot_line, rect_line, room_lines}
 use Rattle.lobby_model.specs.Sound.{SoundRoom, tag_keys}
 use Rattle.lobby_view.specs.View.{View, shown_all}

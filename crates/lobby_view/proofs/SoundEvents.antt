@@ -5,9 +5,9 @@ use Rattle.std.specs.List.{AllByRecursion, list_all}
 use Rattle.std.proofs.lemmas.Bool.{and_from, le-leb}
 use Rattle.std.proofs.lemmas.Fmt.{length-decimal-le}
 use Rattle.line_words.specs.Bytes.{is_word, is_word_byte}
-use Rattle.reply_grammar.specs.Replies.{IsId}
-use Rattle.reply_grammar.proofs.Bytes.{all_append}
-use Rattle.reply_grammar.proofs.Decimals.{signed_words}
+use Rattle.reply_kinds.specs.Replies.{IsId}
+use Rattle.reply_kinds.proofs.Bytes.{all_append}
+use Rattle.reply_kinds.proofs.Decimals.{signed_words}
 use Rattle.command_grammar.specs.Kinds.{keeps_kinds}
 use Rattle.command_grammar.specs.Sizes.{argument_bytes}
 use Rattle.command_grammar.proofs.Bounds.{request_fits, request_id_keeps, request_keeps}

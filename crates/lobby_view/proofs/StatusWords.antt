@@ -3,8 +3,8 @@ use Rattle.std.proofs.Common.{◌≡◌, ℕ, ◌+◌, ◌*◌, ◌/◌, ◌%◌
 use Rattle.std.specs.Prelude.{◌==◌, nat_le, if◌then◌else◌}
 use Rattle.std.proofs.lemmas.Bool.{and_from, le-leb}
 use Rattle.std.proofs.lemmas.Nat.{mod_below}
-use Rattle.reply_grammar.specs.Kinds.{fits}
-use Rattle.reply_grammar.specs.Replies.{status_word}
+use Rattle.reply_kinds.specs.Kinds.{fits}
+use Rattle.reply_kinds.specs.Replies.{status_word}
 use Rattle.status_bits.specs.Fields.{Field, merge, with_number, number_in}
 use Rattle.status_bits.specs.UserWord.{user_table}
 use Rattle.status_bits.specs.BattleWord.{battle_table, ready, team, ally, player, handicap, sync, side}

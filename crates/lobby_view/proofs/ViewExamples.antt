@@ -4,7 +4,7 @@ use Rattle.std.specs.Prelude.{codes, pos, Option, Some, None, map}
 use Rattle.std.specs.Fmt.{digits}
 use Prim.Native.String.{String}
 use Rattle.line_words.specs.Table.{ByNumber}
-use Rattle.battle_room.specs.Room.{Room, Member, Bot}
+use Rattle.room_lists.specs.Room.{Room, Member, Bot}
 use Rattle.reply_fields.specs.Fields.{piece_at, natural, whole, number_in, number_at, wide_at, flag_at, word_at, words_at, name_at, names_at, optional_at, sentence_at, text_at, pair_in, pairs_at, many}
 use Rattle.reply_reader.specs.Reading.{shaped}
 use Rattle.reply_reader.specs.Lines.{named, read_body, read_numbered, read_line}

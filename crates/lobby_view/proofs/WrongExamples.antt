@@ -1,8 +1,8 @@
 -- Lobbies whose maps and lines do not agree, on one worked state: the view of a member is not what such a lobby would show it.
 use Rattle.std.proofs.Common.{◌≡◌, ℕ, List, [], ◌∷◌, refl, ap, false, length}
 use Rattle.std.specs.Prelude.{pos, codes, Option, Some, None}
-use Rattle.reply_grammar.specs.declared.Reply.TheVariants as reply
-use Rattle.battle_room.specs.Room.{Bot, new_room, with_member, with_bot, all_members_but, without_member, disable_units}
+use Rattle.reply_kinds.specs.declared.Reply.TheVariants as reply
+use Rattle.room_lists.specs.Room.{Bot, new_room, with_member, with_bot, all_members_but, without_member, disable_units}
 use Rattle.lobby_model.specs.State.{State, Battle}
 use Rattle.lobby_model.specs.Outcome.{Happening, happens, tell, everyone}
 use Rattle.lobby_model.specs.Battles.{change_room, in_room, asks_to_join, member_leaves, closes}

@@ -1,8 +1,8 @@
 -- What a client knows from the bytes that it was sent. Nothing here speaks of the server.
 use Rattle.std.specs.Prelude.{ℕ, List, [], ◌∷◌, flat_map, Option, Some, None}
 use Rattle.line_framer.specs.Frames.{frames}
-use Rattle.reply_grammar.specs.declared.Reply.{Reply}
-use Rattle.reply_grammar.specs.Replies.{Line}
+use Rattle.reply_kinds.specs.declared.Reply.{Reply}
+use Rattle.reply_kinds.specs.Replies.{Line}
 use Rattle.reply_reader.specs.Lines.{read_line}
 use Rattle.lobby_view.specs.View.{View, new_view, shown_all}
 

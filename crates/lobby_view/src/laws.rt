@@ -16,7 +16,7 @@ ghost use Rattle.lobby_model.specs.declared.event.Phase.TheVariants.{In};
 ghost use Rattle.line_words.specs.Table.{at_number};
 ghost use Rattle.line_framer.specs.Frames.{frames, is_spoilt, rest_of};
 ghost use Rattle.lobby_view.specs.Bytes.{frame_limit, all_read, view};
-ghost use Rattle.reply_grammar.specs.Replies.{Fits, IsId, print};
+ghost use Rattle.reply_kinds.specs.Replies.{Fits, IsId, print};
 ghost use Rattle.lobby_model.specs.Events.{sent};
 ghost use Rattle.lobby_view.specs.Legal.{IsLegal, IsLegalHistory, IsLegalSchedule};
 ghost use Rattle.lobby_view.specs.Private.{whispers};

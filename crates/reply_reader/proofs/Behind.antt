@@ -1,8 +1,8 @@
 -- What a line reads as, from its head.
 use Rattle.std.proofs.Common.{◌≡◌, ◌∙◌, ap, ℕ, List}
 use Rattle.std.specs.Prelude.{Option, Some, None}
-use Rattle.reply_grammar.specs.declared.Reply.{Reply}
-use Rattle.reply_grammar.specs.Replies.{Line, ReadsAs}
+use Rattle.reply_kinds.specs.declared.Reply.{Reply}
+use Rattle.reply_kinds.specs.Replies.{Line, ReadsAs}
 use Rattle.reply_reader.specs.Lines.{read_line}
 use Rattle.reply_reader.specs.Heads.{with_id}
 use Rattle.reply_reader.proofs.Whole.{reading_is_inverse, not_read}

@@ -1,7 +1,7 @@
 -- A command that is known.
 use Rattle.std.proofs.Common.{◌≡◌, ℕ, List, sym, subst, Result}
-use Rattle.reply_grammar.specs.declared.command_word.CommandWord.{CommandWord}
-use Rattle.reply_grammar.specs.declared.Reply.{Reply}
+use Rattle.reply_kinds.specs.declared.command_word.CommandWord.{CommandWord}
+use Rattle.reply_kinds.specs.declared.Reply.{Reply}
 use Rattle.reply_fields.specs.declared.error.ReadError.{ReadError}
 use Rattle.reply_fields.specs.Fields.{Gives}
 use Rattle.reply_reader.specs.Lines.{read_arguments}

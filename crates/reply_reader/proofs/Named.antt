@@ -1,7 +1,7 @@
 -- A command word that was guessed and compared.
 use Rattle.std.proofs.Common.{◌≡◌, ℕ, true, List, Some, ap, ◌∙◌}
-use Rattle.reply_grammar.specs.declared.command_word.CommandWord.{CommandWord}
-use Rattle.reply_grammar.specs.Replies.{word_of}
+use Rattle.reply_kinds.specs.declared.command_word.CommandWord.{CommandWord}
+use Rattle.reply_kinds.specs.Replies.{word_of}
 use Rattle.reply_reader.specs.Lines.{same, named}
 use Rattle.reply_reader.proofs.Whole.{same_is, named_again}
 

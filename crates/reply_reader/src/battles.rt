@@ -1,6 +1,6 @@
 //! Reading the replies on the list of battles.
 
-ghost use Rattle.reply_grammar.specs.declared.command_word.CommandWord.TheVariants as command;
+ghost use Rattle.reply_kinds.specs.declared.command_word.CommandWord.TheVariants as command;
 ghost use Rattle.reply_reader.specs.Lines.{read_arguments};
 ghost use Rattle.reply_fields.specs.Fields.{Gives};
 
@@ -9,7 +9,7 @@ use reply_fields::{
     ReadError, battle_at, ended, flag_at, name_at, optional_at, sentence_at, small_at, u16_at,
     wide_at, word_at,
 };
-use reply_grammar::Reply;
+use reply_kinds::Reply;
 use std::alloc::Global;
 
 pub(crate) fn open_battle(bytes: &[u8]) -> Result<Reply, ReadError>

@@ -1,12 +1,12 @@
 //! Reading the replies on channels and private talk.
 
-ghost use Rattle.reply_grammar.specs.declared.command_word.CommandWord.TheVariants as command;
+ghost use Rattle.reply_kinds.specs.declared.command_word.CommandWord.TheVariants as command;
 ghost use Rattle.reply_reader.specs.Lines.{read_arguments};
 ghost use Rattle.reply_fields.specs.Fields.{Gives};
 
 use crate::shapes::{name_and_text, nothing, only_name, two_names, two_names_and_text};
 use reply_fields::{ReadError, ended, name_at, names_at, u32_at};
-use reply_grammar::Reply;
+use reply_kinds::Reply;
 use std::alloc::Global;
 
 pub(crate) fn join(alloc: Global, bytes: &[u8]) -> Result<Reply, ReadError>

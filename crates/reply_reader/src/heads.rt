@@ -1,8 +1,8 @@
 //! A line taken apart before its arguments are read.
 
 ghost use Rattle.std.specs.Prelude.{◌≡◌, IfNone, IfOk, IfSome, None, Some};
-ghost use Rattle.reply_grammar.specs.declared.Reply.TheVariants as reply;
-ghost use Rattle.reply_grammar.specs.declared.command_word.CommandWord.TheVariants as command;
+ghost use Rattle.reply_kinds.specs.declared.Reply.TheVariants as reply;
+ghost use Rattle.reply_kinds.specs.declared.command_word.CommandWord.TheVariants as command;
 ghost use Rattle.reply_reader.specs.Heads.{with_id};
 ghost use Rattle.reply_reader.specs.Lines.{read_arguments, read_body, read_line, read_numbered};
 
@@ -12,7 +12,7 @@ use crate::session::status_of;
 use crate::shapes::two_names_and_text;
 use line_words::{NameBuf, TextBuf, split_at_byte};
 use reply_fields::{ReadError, id_of};
-use reply_grammar::{CommandWord, Reply};
+use reply_kinds::{CommandWord, Reply};
 use std::alloc::{AllocError, Global};
 
 /// A line whose command is known and whose arguments are not read yet. Who has a use for one kind of

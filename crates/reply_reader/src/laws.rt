@@ -1,8 +1,8 @@
 //! Laws of the printed lines.
 
 ghost use Rattle.std.specs.Prelude.{◌≡◌, ◌↔◌, ℕ, List, Option, Some};
-ghost use Rattle.reply_grammar.specs.declared.Reply.{Reply};
-ghost use Rattle.reply_grammar.specs.Replies.{Fits, IsId, Line, ReadsAs, line_text};
+ghost use Rattle.reply_kinds.specs.declared.Reply.{Reply};
+ghost use Rattle.reply_kinds.specs.Replies.{Fits, IsId, Line, ReadsAs, line_text};
 ghost use Rattle.reply_reader.specs.Lines.{read_line};
 
 /// Two different pairs of a message id and a reply never print alike.

@@ -1,14 +1,14 @@
 //! Reading the replies on the greeting, logins and users.
 
-ghost use Rattle.reply_grammar.specs.declared.Reply.TheVariants as reply;
-ghost use Rattle.reply_grammar.specs.declared.command_word.CommandWord.TheVariants as command;
+ghost use Rattle.reply_kinds.specs.declared.Reply.TheVariants as reply;
+ghost use Rattle.reply_kinds.specs.declared.command_word.CommandWord.TheVariants as command;
 ghost use Rattle.reply_reader.specs.Lines.{read_arguments};
 ghost use Rattle.reply_fields.specs.Fields.{Gives};
 
 use crate::shapes::{nothing, only_name, only_text};
 use line_words::NameBuf;
 use reply_fields::{ReadError, ended, name_at, small_at, u16_at, u32_at, wide_at, word_at};
-use reply_grammar::Reply;
+use reply_kinds::Reply;
 use std::alloc::Global;
 
 #[tactic(auto, unfolding(crate::specs::Reading::shaped))]

@@ -1,10 +1,10 @@
 //! Reading the arguments that several replies share, to the end of the line.
 
 ghost use Rattle.std.specs.Prelude.{[], ◌∷◌};
-ghost use Rattle.reply_grammar.specs.Kinds.{Name, Text, Words};
+ghost use Rattle.reply_kinds.specs.Kinds.{Name, Text, Words};
 ghost use Rattle.reply_fields.specs.Fields.{Gives};
 ghost use Rattle.reply_reader.specs.Reading.{shaped};
-ghost use Rattle.reply_grammar.specs.Replies.{battle_number};
+ghost use Rattle.reply_kinds.specs.Replies.{battle_number};
 
 use line_words::{NameBuf, TextBuf, WordList};
 use reply_fields::{ReadError, battle_at, ended, name_at, text_at, words_at};

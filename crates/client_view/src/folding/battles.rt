@@ -2,7 +2,7 @@
 
 ghost use Rattle.std.specs.Prelude.{◌≡◌, ℕ, List, Option, OnOk, OnErr};
 ghost use Rattle.line_words.specs.Table.{put_number};
-ghost use Rattle.reply_grammar.specs.declared.Reply.TheVariants as reply;
+ghost use Rattle.reply_kinds.specs.declared.Reply.TheVariants as reply;
 ghost use Rattle.lobby_view.specs.View.{shown, in_room_of, entered};
 ghost use Rattle.room_lists.specs.Room as room;
 ghost use Rattle.client_view.specs.Kinds.{Battles, Opening, kind_of};
@@ -13,7 +13,7 @@ use crate::known::Known;
 use crate::names::Names;
 use crate::own_room::OwnRoom;
 use line_words::{NameBuf, SentenceBuf, WordBuf};
-use reply_grammar::{OpenedBattle, Reply};
+use reply_kinds::{OpenedBattle, Reply};
 use std::alloc::AllocError;
 
 impl Known {

@@ -1,13 +1,13 @@
 //! The lines of channels.
 
 ghost use Rattle.std.specs.Prelude.{◌≡◌, OnOk, OnErr};
-ghost use Rattle.reply_grammar.specs.declared.Reply.TheVariants as reply;
+ghost use Rattle.reply_kinds.specs.declared.Reply.TheVariants as reply;
 ghost use Rattle.lobby_view.specs.View.{shown};
 ghost use Rattle.client_view.specs.Kinds.{Channels, kind_of};
 
 use crate::known::Known;
 use line_words::{NameBuf, NameList};
-use reply_grammar::Reply;
+use reply_kinds::Reply;
 use std::alloc::AllocError;
 
 impl Known {

@@ -1,7 +1,7 @@
 //! The lines of the client's own room.
 
 ghost use Rattle.std.specs.Prelude.{◌≡◌, OnOk, OnErr};
-ghost use Rattle.reply_grammar.specs.declared.Reply.TheVariants as reply;
+ghost use Rattle.reply_kinds.specs.declared.Reply.TheVariants as reply;
 ghost use Rattle.lobby_view.specs.View.{shown};
 ghost use Rattle.client_view.specs.Kinds.{Members, Bots, Rects, Tags, Units, kind_of};
 
@@ -9,7 +9,7 @@ use crate::folding::own;
 use crate::known::Known;
 use crate::own_room::Bot;
 use line_words::{NameBuf, WordBuf};
-use reply_grammar::Reply;
+use reply_kinds::Reply;
 use room_lists::Rect;
 use std::alloc::AllocError;
 

@@ -1,14 +1,14 @@
 //! The lines of the session and its users.
 
 ghost use Rattle.std.specs.Prelude.{◌≡◌, OnOk, OnErr};
-ghost use Rattle.reply_grammar.specs.declared.Reply.TheVariants as reply;
+ghost use Rattle.reply_kinds.specs.declared.Reply.TheVariants as reply;
 ghost use Rattle.lobby_view.specs.View.{shown};
 ghost use Rattle.client_view.specs.Kinds.{Session, kind_of};
 
 use crate::known::Known;
 use crate::users::User;
 use line_words::{NameBuf, WordBuf};
-use reply_grammar::Reply;
+use reply_kinds::Reply;
 use std::alloc::AllocError;
 
 impl Known {

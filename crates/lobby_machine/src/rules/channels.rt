@@ -1,7 +1,7 @@
 //! Channels and private talk: docs/PROTOCOL.md, "What the server does", from "JOIN" to "CHANNELS".
 
 ghost use Rattle.std.specs.Prelude.{◌≡◌, [], ◌∷◌, ◌++◌, OnOk};
-ghost use Rattle.reply_grammar.specs.Lent.{reply_of};
+ghost use Rattle.reply_kinds.specs.Lent.{reply_of};
 ghost use Rattle.lobby_model.specs.Outcome.{tell, user};
 ghost use Rattle.lobby_model.specs.Channels.{join, leave, name_lines, say_in_channel, say_private, list_channels};
 ghost use Rattle.lobby_post.specs.Posted.{Told, with_own};
@@ -13,7 +13,7 @@ use lobby_guards::Stop;
 use lobby_guards::guards::{members_with, names_without, user_named};
 use lobby_maps::{Change, Maps};
 use lobby_post::Post;
-use reply_grammar::LentReply;
+use reply_kinds::LentReply;
 use std::alloc::AllocError;
 
 /// `JOIN`: the user is not in the channel.

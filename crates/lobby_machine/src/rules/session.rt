@@ -4,8 +4,8 @@
 ghost use Rattle.std.specs.Prelude.{◌≡◌, ℕ, List, [], ◌∷◌, OnOk, IfOk, true, false, Some, None, option_copied};
 ghost use Rattle.line_words.specs.Table.{at_number};
 ghost use Rattle.command_grammar.specs.declared.command.Command.TheVariants as command;
-ghost use Rattle.reply_grammar.specs.declared.Reply.TheVariants as reply;
-ghost use Rattle.battle_room.specs.Room.{has_member};
+ghost use Rattle.reply_kinds.specs.declared.Reply.TheVariants as reply;
+ghost use Rattle.room_lists.specs.Room.{has_member};
 ghost use Rattle.lobby_model.specs.State.{Battle, battle_of, hears, name_of};
 ghost use Rattle.lobby_model.specs.Outcome.{done, only_told, tell, issuer};
 ghost use Rattle.lobby_model.specs.Sessions.{departs, set_user_status, user_of};
@@ -25,7 +25,7 @@ use lobby_guards::Stop;
 use lobby_guards::guards::{account_for, free_name, not_logged_in};
 use lobby_maps::{Change, Maps, Seat};
 use lobby_post::{ClientKey, Post};
-use reply_grammar::LentReply;
+use reply_kinds::LentReply;
 use status_bits::{UserStatus, merge_user};
 use std::alloc::{AllocError, Global};
 

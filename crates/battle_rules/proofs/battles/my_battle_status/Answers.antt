@@ -3,7 +3,7 @@ use Rattle.std.proofs.lemmas.Int.{to_z-of_z}
 use Rattle.std.specs.Prelude.{is_some}
 use Rattle.status_bits.specs.Fields.{merge}
 use Rattle.status_bits.specs.BattleWord.{battle_table}
-use Rattle.battle_room.specs.Room.{Member, has_member, status_in, status_of}
+use Rattle.room_lists.specs.Room.{Member, has_member, status_in, status_of}
 use Rattle.battle_room.proofs.Named.{found_is_among}
 use Rattle.lobby_model.specs.State.{Battle}
 use Rattle.lobby_model.specs.Battles.{set_own_status}

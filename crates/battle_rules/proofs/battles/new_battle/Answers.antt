@@ -1,7 +1,7 @@
 use Rattle.std.proofs.Common.{◌∙◌, sym, ap, refl, subst}
 use Rattle.std.specs.Prelude.{Result, Ok, Err, IfOk}
 use Rattle.std.specs.Global.{Box}
-use Rattle.battle_room.specs.Room.{Room}
+use Rattle.room_lists.specs.Room.{Room}
 use Rattle.lobby_model.specs.Battles.{open_battle}
 use Rattle.lobby_model.specs.State.{Battle}
 use Rattle.lobby_maps.specs.Battles.{IsNew}

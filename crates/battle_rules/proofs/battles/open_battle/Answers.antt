@@ -1,5 +1,5 @@
 use Rattle.std.proofs.Common.{[], ◌∷◌, subst}
-use Rattle.reply_grammar.specs.declared.Reply.TheVariants as reply
+use Rattle.reply_kinds.specs.declared.Reply.TheVariants as reply
 use Rattle.lobby_model.specs.State.{Battle}
 use Rattle.lobby_model.specs.Outcome.{everyone, tell, user}
 use Rattle.lobby_model.specs.Battles.{opened_line}

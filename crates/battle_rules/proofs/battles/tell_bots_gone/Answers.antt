@@ -1,9 +1,9 @@
 use Rattle.std.proofs.Common.{◌≡◌, ◌∙◌, ◌<◌, [], ◌∷◌, ap, sym, subst, length, slice_index_or, Bool, List, ℕ}
 use Rattle.std.specs.Prelude.{if◌then◌else◌}
 use Rattle.std.specs.Ordering.{is_eq}
-use Rattle.reply_grammar.specs.declared.Reply.TheVariants as reply
+use Rattle.reply_kinds.specs.declared.Reply.TheVariants as reply
 use Rattle.line_words.specs.Table.{same_name}
-use Rattle.battle_room.specs.Room.{Bot, member_names}
+use Rattle.room_lists.specs.Room.{Bot, member_names}
 use Rattle.lobby_model.specs.Outcome.{tell, users}
 use Rattle.lobby_model.specs.Sessions.{to_others}
 use Rattle.lobby_post.specs.Posted.{Posted, Told}

@@ -1,7 +1,7 @@
 use Rattle.std.proofs.Common.{take}
 use Rattle.std.specs.Prelude.{filter}
 use Rattle.line_words.specs.Table.{same_name}
-use Rattle.battle_room.specs.Room.{member_names}
+use Rattle.room_lists.specs.Room.{member_names}
 use Rattle.lobby_post.specs.Posted.{Told}
 use Rattle.battle_rules.proofs.InBattles.{gone}
 use Rattle.battle_rules.proofs.battles.tell_bots_gone.Given as goal

@@ -1,6 +1,6 @@
 use Rattle.std.proofs.Common.{◌≡◌, ℕ, List, [], ◌∷◌, sym, subst}
-use Rattle.reply_grammar.specs.declared.Reply.TheVariants as reply
-use Rattle.battle_room.specs.Room.{Room, asker_names}
+use Rattle.reply_kinds.specs.declared.Reply.TheVariants as reply
+use Rattle.room_lists.specs.Room.{Room, asker_names}
 use Rattle.lobby_model.specs.State.{State}
 use Rattle.lobby_model.specs.Outcome.{Letter, tell, users}
 use Rattle.lobby_model.specs.Texts.{battle_was_closed}

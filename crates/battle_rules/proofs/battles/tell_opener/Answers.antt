@@ -1,5 +1,5 @@
 use Rattle.std.proofs.Common.{◌≡◌, ap, ◌∙◌, [], ◌∷◌}
-use Rattle.reply_grammar.specs.declared.Reply.TheVariants as reply
+use Rattle.reply_kinds.specs.declared.Reply.TheVariants as reply
 use Rattle.lobby_model.specs.State.{name_of}
 use Rattle.lobby_post.specs.Posted.{Posted, blank, with_own}
 use Rattle.lobby_post.proofs.Telling.{with_own_more}

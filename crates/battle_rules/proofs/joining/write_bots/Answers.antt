@@ -1,5 +1,5 @@
 use Rattle.std.proofs.Common.{to_z, of_z, ◌≡◌, ◌∙◌, [], ◌∷◌, ap, sym, map, arith, rules, w64}
-use Rattle.reply_grammar.specs.declared.Reply.TheVariants as reply
+use Rattle.reply_kinds.specs.declared.Reply.TheVariants as reply
 use Rattle.lobby_model.specs.Battles.{bot_line}
 use Rattle.std.proofs.lemmas.List.{take_all}
 use Rattle.battle_rules.specs.BattleTalk.{written}

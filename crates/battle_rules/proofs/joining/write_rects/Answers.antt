@@ -1,7 +1,7 @@
 use Rattle.std.proofs.Common.{◌≡◌, ◌∙◌, ap, sym, ℕ, ◌<◌, [], ◌∷◌, map, length, arith}
 use Rattle.std.specs.Prelude.{None, Some}
 use Rattle.std.proofs.lemmas.List.{take_all}
-use Rattle.battle_room.specs.Room.{Rect}
+use Rattle.room_lists.specs.Room.{Rect}
 use Rattle.lobby_model.specs.Battles.{rect_line}
 use Rattle.battle_rules.specs.BattleTalk.{written}
 use Rattle.battle_rules.proofs.Joins.{settled, written_more}

@@ -1,5 +1,5 @@
 use Rattle.std.proofs.Common.{◌∙◌, ap, sym, map, arith, [], ◌∷◌}
-use Rattle.reply_grammar.specs.declared.Reply.TheVariants as reply
+use Rattle.reply_kinds.specs.declared.Reply.TheVariants as reply
 use Rattle.std.proofs.lemmas.List.{take_all}
 use Rattle.battle_rules.specs.BattleTalk.{written}
 use Rattle.battle_rules.proofs.Joins.{written_more}

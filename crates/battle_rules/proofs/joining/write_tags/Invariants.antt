@@ -1,5 +1,5 @@
 use Rattle.std.proofs.Common.{◌≡◌, [], ◌∷◌, map, take}
-use Rattle.reply_grammar.specs.declared.Reply.TheVariants as reply
+use Rattle.reply_kinds.specs.declared.Reply.TheVariants as reply
 use Rattle.battle_rules.specs.BattleTalk.{written}
 use Rattle.battle_rules.proofs.joining.write_tags.Given as goal
 

@@ -1,7 +1,7 @@
 use Rattle.std.proofs.Common.{◌≡◌, ◌∙◌, ℕ, List, [], ◌∷◌, ap, sym, subst, false, rules}
 use Rattle.std.specs.Prelude.{Some, is_some}
-use Rattle.battle_room.specs.declared.bots.Bot.{Bot}
-use Rattle.battle_room.specs.Room.{bot_of, is_full_of_bots, member_names, with_bot}
+use Rattle.room_lists.specs.Room.{Bot}
+use Rattle.room_lists.specs.Room.{bot_of, is_full_of_bots, member_names, with_bot}
 use Rattle.lobby_model.specs.State.{State, Battle, battle_of}
 use Rattle.lobby_model.specs.Texts.{bot_name_taken, too_many_bots}
 use Rattle.lobby_model.specs.Outcome.{tell, users, done, message, refuse_if}

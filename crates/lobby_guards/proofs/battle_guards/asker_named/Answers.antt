@@ -3,7 +3,7 @@ use Rattle.std.proofs.lemmas.Result.{IfOk-weaker}
 use Rattle.std.specs.Prelude.{is_some, option_copied}
 use Rattle.line_words.specs.Table.{same_name}
 use Rattle.line_words.proofs.Tables.{same_name_is}
-use Rattle.battle_room.specs.Room.{Asker, has_asker}
+use Rattle.room_lists.specs.Room.{Asker, has_asker}
 use Rattle.battle_room.proofs.Named.{found_is_among}
 use Rattle.lobby_model.specs.State.{Battle}
 use Rattle.lobby_guards.proofs.Obeying.{found_passes}

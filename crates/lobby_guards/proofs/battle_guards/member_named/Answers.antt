@@ -2,7 +2,7 @@ use Rattle.std.proofs.Common.{◌∙◌, refl, sym, ap}
 use Rattle.std.proofs.lemmas.Result.{IfErr-weaker, IfOk-weaker}
 use Rattle.std.specs.Prelude.{is_some, option_copied}
 use Rattle.lobby_model.specs.State.{Battle}
-use Rattle.battle_room.specs.Room.{Member, has_member}
+use Rattle.room_lists.specs.Room.{Member, has_member}
 use Rattle.battle_room.proofs.Named.{found_is_among}
 use Rattle.lobby_guards.proofs.battle_guards.member_named.Goals as goal
 

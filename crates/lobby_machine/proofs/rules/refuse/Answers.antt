@@ -1,5 +1,5 @@
 use Rattle.std.proofs.Common.{◌∙◌, subst, ap, [], ◌∷◌}
-use Rattle.reply_grammar.specs.declared.Reply.{Reply}
+use Rattle.reply_kinds.specs.declared.Reply.{Reply}
 use Rattle.lobby_model.specs.Outcome.{tell, issuer}
 use Rattle.lobby_post.specs.Posted.{Told}
 use Rattle.lobby_guards.specs.Answers.{reply_saying}

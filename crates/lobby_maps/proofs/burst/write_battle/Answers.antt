@@ -1,5 +1,5 @@
 use Rattle.std.proofs.Common.{to_z, of_z, ◌≡◌, ◌∙◌, ap, [], ◌∷◌, rules, w64}
-use Rattle.reply_grammar.specs.declared.Reply.TheVariants as reply
+use Rattle.reply_kinds.specs.declared.Reply.TheVariants as reply
 use Rattle.lobby_model.specs.State.{Battle}
 use Rattle.lobby_post.specs.Posted.{with_own}
 use Rattle.lobby_maps.proofs.Rooms.{battle_told}

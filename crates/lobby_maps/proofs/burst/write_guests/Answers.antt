@@ -1,6 +1,6 @@
 use Rattle.std.proofs.Common.{◌∙◌, ap, sym, [], ◌∷◌, not}
 use Rattle.std.specs.Prelude.{None, if◌then◌else◌}
-use Rattle.reply_grammar.specs.declared.Reply.TheVariants as reply
+use Rattle.reply_kinds.specs.declared.Reply.TheVariants as reply
 use Rattle.line_words.specs.Table.{same_name}
 use Rattle.lobby_post.specs.Posted.{with_own}
 use Rattle.lobby_post.proofs.Telling.{with_own_none}

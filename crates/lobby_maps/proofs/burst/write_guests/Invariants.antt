@@ -1,7 +1,7 @@
 use Rattle.std.proofs.Common.{◌≡◌, map, take}
 use Rattle.std.specs.Prelude.{None}
 use Rattle.line_words.specs.Table.{all_but}
-use Rattle.reply_grammar.specs.declared.Reply.TheVariants as reply
+use Rattle.reply_kinds.specs.declared.Reply.TheVariants as reply
 use Rattle.lobby_post.specs.Posted.{with_own}
 use Rattle.lobby_maps.proofs.burst.write_guests.Given as goal
 

@@ -1,5 +1,5 @@
 use Rattle.std.proofs.Common.{◌≡◌, map, take}
-use Rattle.reply_grammar.specs.declared.Reply.TheVariants as reply
+use Rattle.reply_kinds.specs.declared.Reply.TheVariants as reply
 use Rattle.lobby_post.specs.Posted.{with_own}
 use Rattle.lobby_maps.proofs.burst.write_motd.Given as goal
 

@@ -1,5 +1,5 @@
 use Rattle.std.proofs.Common.{ap}
-use Rattle.reply_grammar.specs.declared.Reply.{Reply}
+use Rattle.reply_kinds.specs.declared.Reply.{Reply}
 use Rattle.std.specs.Prelude.{ℕ, Option}
 use Rattle.reply_reader.proofs.Whole.{alike}
 use Rattle.reply_reader.proofs.laws.no_two_alike.Goals as goal

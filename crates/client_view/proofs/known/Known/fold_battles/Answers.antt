@@ -1,6 +1,6 @@
 use Rattle.std.proofs.Common.{◌∙◌, ap, sym, w64, ℤ, rules}
 use Rattle.std.proofs.lemmas.Int.{to_z-of_z}
-use Rattle.reply_grammar.specs.declared.Reply.TheVariants as reply
+use Rattle.reply_kinds.specs.declared.Reply.TheVariants as reply
 use Rattle.lobby_view.specs.View.{shown}
 use Rattle.client_view.proofs.known.Known.fold_battles.Goals as goal
 

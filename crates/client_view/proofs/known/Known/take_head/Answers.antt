@@ -1,6 +1,6 @@
 use Rattle.std.proofs.Common.{◌≡◌, sym, subst, length}
 use Rattle.std.specs.Prelude.{OnOk, IfOk}
-use Rattle.reply_grammar.specs.declared.command_word.CommandWord.{CommandWord}
+use Rattle.reply_kinds.specs.declared.command_word.CommandWord.{CommandWord}
 use Rattle.reply_reader.specs.Lines.{read_arguments}
 use Rattle.lobby_view.specs.View.{shown_all}
 use Rattle.client_view.specs.Told.{told}

@@ -1,6 +1,6 @@
 use Rattle.std.proofs.Common.{◌∙◌, ap, w64, ℤ}
 use Rattle.std.proofs.lemmas.Int.{to_z-of_z}
-use Rattle.reply_grammar.specs.declared.Reply.TheVariants as reply
+use Rattle.reply_kinds.specs.declared.Reply.TheVariants as reply
 use Rattle.lobby_view.specs.View.{View, shown, in_room_of}
 use Rattle.room_lists.specs.Room.{with_bot_status}
 use Rattle.client_view.proofs.known.Known.update_bot.Goals as goal

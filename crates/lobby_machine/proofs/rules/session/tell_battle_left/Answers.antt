@@ -1,6 +1,6 @@
 use Rattle.std.specs.Ordering.{nat_cmp}
 use Rattle.line_words.proofs.Once.{contradiction}
-use Rattle.battle_room.specs.Room.{has_member}
+use Rattle.room_lists.specs.Room.{has_member}
 use Rattle.lobby_model.proofs.Finding.{none_at}
 use Rattle.lobby_model.specs.State.{Battle}
 use Rattle.lobby_machine.proofs.rules.session.tell_battle_left.Goals as goal

@@ -6,7 +6,7 @@ use Rattle.std.specs.Map.{set_value}
 use Rattle.line_words.proofs.Tables.{lookup_is_find}
 use Rattle.line_words.proofs.Ties.{none_of}
 use Rattle.line_words.proofs.Written.{set_is_change, none_is_change}
-use Rattle.battle_room.specs.Room.{has_asker, has_member, with_asker}
+use Rattle.room_lists.specs.Room.{has_asker, has_member, with_asker}
 use Rattle.lobby_maps.specs.Battles.{room_changed}
 use Rattle.lobby_post.proofs.Refusals.{on_err}
 use Rattle.lobby_maps.proofs.Base.{set_same}

@@ -2,7 +2,7 @@ use Rattle.std.proofs.Common.{◌≡◌, ◌∙◌, ap, sym, subst, refl, true, 
 use Rattle.std.specs.Prelude.{◌≤◌}
 use Rattle.line_words.specs.Table.{ByName, ByNumber, at_number, change_number, put_number}
 use Rattle.lobby_model.specs.State.{Battle, updated}
-use Rattle.battle_room.specs.Room.{with_asker, with_member}
+use Rattle.room_lists.specs.Room.{with_asker, with_member}
 use Rattle.lobby_maps.specs.declared.battles.BattleChange.{BattleChange}
 use Rattle.lobby_maps.specs.declared.seats.Seat.{Seat}
 use Rattle.lobby_maps.specs.Info.{info_changed}

@@ -7,7 +7,7 @@ use Rattle.std.specs.Map.{remove_entry, set_value}
 use Rattle.line_words.specs.Table.{at_number, without_number, change_number}
 use Rattle.line_words.proofs.Tables.{lookup_is_find}
 use Rattle.line_words.proofs.Written.{remove_is_without, remove_entry-set_value, set_is_change}
-use Rattle.battle_room.specs.Room.{without_member}
+use Rattle.room_lists.specs.Room.{without_member}
 use Rattle.lobby_model.specs.State.{Battle}
 use Rattle.lobby_model.specs.Battles.{is_founder}
 use Rattle.lobby_maps.specs.Battles.{left_at, room_changed}

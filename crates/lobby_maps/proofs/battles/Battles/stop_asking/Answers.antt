@@ -5,7 +5,7 @@ use Rattle.std.specs.BTreeMap.{is_at}
 use Rattle.std.specs.Map.{set_value}
 use Rattle.line_words.proofs.Ties.{none_of}
 use Rattle.line_words.proofs.Written.{set_is_change, none_is_change}
-use Rattle.battle_room.specs.Room.{without_asker}
+use Rattle.room_lists.specs.Room.{without_asker}
 use Rattle.lobby_model.specs.State.{Battle}
 use Rattle.lobby_maps.specs.Battles.{room_changed}
 use Rattle.lobby_maps.proofs.battles.Battles.stop_asking.Goals as goal

@@ -2,7 +2,7 @@ use Rattle.std.proofs.Common.{◌≡◌, ◌∙◌, ap, sym}
 use Rattle.std.specs.Prelude.{Some, None}
 use Rattle.std.proofs.lemmas.Option.{same_Some}
 use Rattle.line_words.specs.Table.{at_number}
-use Rattle.battle_room.specs.Room.{has_asker}
+use Rattle.room_lists.specs.Room.{has_asker}
 use Rattle.lobby_maps.specs.Battles.{asks_at}
 use Rattle.lobby_maps.proofs.Base.{asking_there, own_found, own_none, own_nowhere, own_only}
 use Rattle.lobby_maps.proofs.Seated.{as_asker}

@@ -1,6 +1,6 @@
 use Rattle.std.proofs.Common.{◌≡◌, ◌∙◌, ◌+◌, ap, sym, subst, refl, true, [], ◌∷◌, ◌++◌, arith}
 use Rattle.std.specs.Prelude.{None, if◌then◌else◌}
-use Rattle.reply_grammar.specs.Replies.{print}
+use Rattle.reply_kinds.specs.Replies.{print}
 use Rattle.line_words.specs.Table.{ByNumber, put_number, same_number}
 use Rattle.lobby_model.specs.State.{State, Client, name_in}
 use Rattle.lobby_model.specs.Sessions.{greeted, greeting, has_place}

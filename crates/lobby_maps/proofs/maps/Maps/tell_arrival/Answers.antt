@@ -3,8 +3,8 @@ use Rattle.std.specs.Prelude.{None, if◌then◌else◌}
 use Rattle.lobby_model.specs.State.{State}
 use Rattle.lobby_model.specs.Outcome.{tell, others}
 use Rattle.lobby_model.specs.Sessions.{added, arrival}
-use Rattle.reply_grammar.specs.declared.Reply.TheVariants as reply
-use Rattle.reply_grammar.specs.Replies.{printed_line}
+use Rattle.reply_kinds.specs.declared.Reply.TheVariants as reply
+use Rattle.reply_kinds.specs.Replies.{printed_line}
 use Rattle.lobby_post.specs.Posted.{Told, telling, with_others}
 use Rattle.lobby_maps.specs.Seats.{user_in}
 use Rattle.lobby_maps.proofs.Arrivals.{arrival_told, not_zero}

@@ -1,5 +1,5 @@
 use Rattle.std.proofs.Common.{ℕ, ◌∙◌, ap, sym, subst, map, [], ◌∷◌}
-use Rattle.reply_grammar.specs.declared.Reply.TheVariants as reply
+use Rattle.reply_kinds.specs.declared.Reply.TheVariants as reply
 use Rattle.line_words.specs.Table.{put_name}
 use Rattle.std.specs.Prelude.{flat_map}
 use Rattle.lobby_model.specs.State.{State, Battle}

@@ -1,6 +1,6 @@
 use Rattle.std.proofs.Common.{◌∙◌, ap, subst, map, [], ◌∷◌}
-use Rattle.reply_grammar.specs.Lent.{reply_of}
-use Rattle.battle_room.specs.Room.{asker_names}
+use Rattle.reply_kinds.specs.Lent.{reply_of}
+use Rattle.room_lists.specs.Room.{asker_names}
 use Rattle.lobby_model.specs.State.{State}
 use Rattle.lobby_model.specs.Outcome.{tell, users}
 use Rattle.lobby_post.specs.Posted.{Told, addressed, but_issuer}

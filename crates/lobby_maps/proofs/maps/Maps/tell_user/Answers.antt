@@ -1,5 +1,5 @@
 use Rattle.std.proofs.Common.{subst, [], ◌∷◌}
-use Rattle.reply_grammar.specs.Lent.{reply_of}
+use Rattle.reply_kinds.specs.Lent.{reply_of}
 use Rattle.lobby_model.specs.State.{State}
 use Rattle.lobby_model.specs.Outcome.{tell, user}
 use Rattle.lobby_post.specs.Posted.{Told}

@@ -1,4 +1,4 @@
-use Rattle.reply_grammar.specs.Lent.{reply_of}
+use Rattle.reply_kinds.specs.Lent.{reply_of}
 use Rattle.lobby_post.proofs.Telling.{told_issuer}
 use Rattle.lobby_post.proofs.post.Post.tell_issuer.Goals as goal
 

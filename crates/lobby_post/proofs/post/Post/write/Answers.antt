@@ -1,7 +1,7 @@
 use Rattle.std.proofs.Common.{◌≡◌, ◌∙◌, ◌++◌, ap, length, rules, arith, append_assoc, length-append}
 use Rattle.std.specs.Prelude.{None}
-use Rattle.reply_grammar.specs.Replies.{id_text, printed_line}
-use Rattle.reply_grammar.specs.Lent.{reply_of}
+use Rattle.reply_kinds.specs.Replies.{id_text, printed_line}
+use Rattle.reply_kinds.specs.Lent.{reply_of}
 use Rattle.lobby_post.specs.Posted.{Posted, telling}
 use Rattle.lobby_post.proofs.Lines.{parts_more, written}
 use Rattle.lobby_post.proofs.post.Post.write.Goals as goal

@@ -1,7 +1,7 @@
 use Rattle.std.proofs.Common.{◌≡◌, ◌∙◌, ap, length, rules, [], arith, length-append}
 use Rattle.std.specs.Prelude.{None}
-use Rattle.reply_grammar.specs.Replies.{printed_line}
-use Rattle.reply_grammar.specs.Lent.{reply_of}
+use Rattle.reply_kinds.specs.Replies.{printed_line}
+use Rattle.reply_kinds.specs.Lent.{reply_of}
 use Rattle.lobby_post.specs.Posted.{Posted, telling}
 use Rattle.lobby_post.proofs.Lines.{parts_more, written_for_others}
 use Rattle.lobby_post.proofs.post.Post.write_for_others.Goals as goal

@@ -1,5 +1,5 @@
 use Rattle.std.proofs.Common.{◌≡◌, ◌∙◌, ◌++◌, [], ◌∷◌, length, ap, sym, append-nil, rules, arith, length-append}
-use Rattle.reply_grammar.specs.Lent.{reply_of}
+use Rattle.reply_kinds.specs.Lent.{reply_of}
 use Rattle.lobby_post.specs.Posted.{Posted, with_others}
 use Rattle.lobby_post.proofs.Lines.{parts_more, written_more_for_others}
 use Rattle.lobby_post.proofs.post.Post.write_more_for_others.Goals as goal

@@ -1,5 +1,5 @@
 use Rattle.std.proofs.Common.{◌∙◌, ◌++◌, [], ◌∷◌, ap, sym, length, append-nil, arith, length-append}
-use Rattle.reply_grammar.specs.Lent.{reply_of}
+use Rattle.reply_kinds.specs.Lent.{reply_of}
 use Rattle.lobby_post.specs.Posted.{Posted, with_own}
 use Rattle.lobby_post.proofs.Lines.{parts_more, written_own}
 use Rattle.lobby_post.proofs.post.Post.write_own.Goals as goal
