@@ -11,7 +11,24 @@ root=$(git rev-parse --absolute-git-dir)/bench
 mkdir -p "$root/crates/$program"
 cp HANDLES "$root"
 libraries=$(cat crates.txt bench/programs.txt | awk -v names="$program" -f tools/below.awk)
+names="$program $libraries"
+
+# without_ending NAME : the files of a program or library of benchmarks, by the names that rt takes.
+without_ending() {
+    local from=bench/programs/$1 to=$root/crates/$1
+    rm -rf "$to/src" "$to/specs" "$to/proofs"
+    find "$from" -name '*.bench' | while IFS= read -r file; do
+        copy=$to${file#"$from"}
+        mkdir -p "$(dirname "$copy")"
+        cp "$file" "${copy%.bench}"
+    done
+}
+
 for library in $libraries; do
+    if [ -d "bench/programs/$library" ]; then
+        without_ending "$library"
+        continue
+    fi
     to=$root/crates/$library
     mkdir -p "$to/out"
     rm -rf "$to/src" "$to/specs" "$to/proofs"
@@ -24,20 +41,14 @@ for library in $libraries; do
         cp -al "crates/$library/out/rlib" "$to/out"
     fi
 done
-names="$program $libraries"
 cat crates.txt bench/programs.txt | awk -v names="${names//$'\n'/ }" '
     BEGIN { split(names, wanted, " "); for (i in wanted) stands[wanted[i]] }
     { name = $1; sub(/:.*/, "", name) }
     name in stands' > "$root/crates.txt"
 
+without_ending "$program"
 from=bench/programs/$program
 to=$root/crates/$program
-rm -rf "$to/src" "$to/specs" "$to/proofs"
-find "$from" -name '*.bench' | while IFS= read -r file; do
-    copy=$to${file#"$from"}
-    mkdir -p "$(dirname "$copy")"
-    cp "$file" "${copy%.bench}"
-done
 if ! (cd "$to" && rt run < /dev/null > out.shown 2> out.log); then
     tail -n 20 "$to/out.log" >&2
     exit 1

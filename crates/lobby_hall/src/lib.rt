@@ -3,7 +3,7 @@
 #![tactic(auto)]
 
 mod hall;
-mod place;
+mod index;
 mod record;
 mod sessions;
 

@@ -8,7 +8,7 @@ ghost use Rattle.lobby_hall.specs.Record.{log_at};
 ghost use Rattle.lobby_hall.specs.Copied.{IsWithin, caught_up, changed_at, completed, completed_log, no_log, read_on};
 ghost use Rattle.lobby_hall.specs.Following.{Follows, IsFull, StillFollows};
 
-use crate::place::place_of;
+use crate::index::index_of;
 use lobby_machine::Lobby;
 use std::alloc::{AllocError, Global};
 use std::marker::Model;
@@ -107,7 +107,7 @@ impl Record {
     fn log(&self, client: u64) -> Option<&Log>
         ensures { option_copied result ≡ of_client self.now client }
     {
-        self.logs.get(place_of(client)?)
+        self.logs.get(index_of(client)?)
     }
 
     /// Begins the log of the next client.
@@ -134,13 +134,13 @@ impl Record {
         ensures log { self.new ≡ (if is_ok result then caught_up self.old lobby.now.plain client else self.old) }
         ensures within { IfSome (of_client self.old client) IsWithin }
     {
-        let Some(place) = place_of(client) else {
+        let Some(index) = index_of(client) else {
             return Ok(());
         };
-        if place >= self.logs.len() {
+        if index >= self.logs.len() {
             return Ok(());
         }
-        let log = &mut self.logs[place];
+        let log = &mut self.logs[index];
         log.catch_up(lobby, client)
     }
 
@@ -205,11 +205,11 @@ impl Record {
         ensures log { self.new ≡ changed_at (read_on count) self.old client }
         ensures none { count ≡ 0 → self.new ≡ self.old }
     {
-        let Some(place) = place_of(client) else {
+        let Some(index) = index_of(client) else {
             return;
         };
-        if place < self.logs.len() {
-            let log = &mut self.logs[place];
+        if index < self.logs.len() {
+            let log = &mut self.logs[index];
             log.note_read(count);
         }
     }

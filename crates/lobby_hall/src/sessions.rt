@@ -8,7 +8,7 @@ ghost use Rattle.lobby_hall.specs.Standing.{session_at};
 ghost use Rattle.client_session.specs.OneSession.{Accepted, Fed, IsNextOf, IsReady};
 ghost use Rattle.client_session.specs.Sessions.{KeepsKinds};
 
-use crate::place::place_of;
+use crate::index::index_of;
 use client_session::{Next, Session};
 use line_framer::FeedError;
 use std::alloc::AllocError;
@@ -24,13 +24,13 @@ pub(crate) fn feed(
     ensures same_length { length sessions.new.items ≡ length sessions.old.items }
     ensures err { OnErr result (sessions.new.items ≡ sessions.old.items) }
 {
-    let Some(place) = place_of(client) else {
+    let Some(index) = index_of(client) else {
         return Ok(());
     };
-    if place >= sessions.len() {
+    if index >= sessions.len() {
         return Ok(());
     }
-    feed_one(&mut sessions[place], piece)
+    feed_one(&mut sessions[index], piece)
 }
 
 fn feed_one(session: &mut Option<Session>, piece: &[u8]) -> Result<(), AllocError>
@@ -52,13 +52,13 @@ pub(crate) fn accept(sessions: &mut Vec<Option<Session>>, client: u64)
     ensures others { (q : ℕ) → q ≢ client → session_at sessions.new.items q ≡ session_at sessions.old.items q }
     ensures same_length { length sessions.new.items ≡ length sessions.old.items }
 {
-    let Some(place) = place_of(client) else {
+    let Some(index) = index_of(client) else {
         return;
     };
-    if place >= sessions.len() {
+    if index >= sessions.len() {
         return;
     }
-    accept_one(&mut sessions[place]);
+    accept_one(&mut sessions[index]);
 }
 
 fn accept_one(session: &mut Option<Session>)
@@ -73,11 +73,11 @@ fn accept_one(session: &mut Option<Session>)
 pub(crate) fn close(sessions: &mut Vec<Option<Session>>, client: u64)
     ensures { sessions.new.items ≡ changed_at (λ _. None) sessions.old.items client }
 {
-    let Some(place) = place_of(client) else {
+    let Some(index) = index_of(client) else {
         return;
     };
-    if place < sessions.len() {
-        sessions[place] = None;
+    if index < sessions.len() {
+        sessions[index] = None;
     }
 }
 
@@ -106,7 +106,7 @@ pub(crate) fn is_ready(sessions: &[Option<Session>], client: u64) -> bool
 fn session_of(sessions: &[Option<Session>], client: u64) -> Option<&Session>
     ensures { option_copied result ≡ session_at sessions.now client }
 {
-    match sessions.get(place_of(client)?) {
+    match sessions.get(index_of(client)?) {
         Some(Some(session)) => Some(session),
         _ => None,
     }
