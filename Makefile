@@ -33,7 +33,7 @@ bench:
 	@for figures in bench/*.sh; do echo "== $$figures"; $$figures || exit 1; done
 
 memory:
-	@checks/refused_memory.sh
+	@checks/memory.sh && checks/refused_memory.sh
 
 soak:
 	@checks/soak.sh

@@ -1,9 +1,10 @@
 #!/usr/bin/env bash
-# Refuses each allocation in turn, one a run, to a server that starts, which says for each that it has no memory, or that it cannot
-# listen where it got no thread.
+# refused_memory.sh [PROGRAM]: refuses each allocation in turn, one a run, to a server that starts, as the gate built it, or to another
+# build of it. It says for each that it has no memory, or that it cannot listen where it got no thread.
 set -euo pipefail
+program=$(realpath -m "${1:-$(dirname "$0")/../crates/lobby_main/out/lobby_main}")
+[ -x "$program" ] || { echo "there is no $program: make test builds it"; exit 1; }
 cd "$(dirname "$0")/.."
-(cd crates/lobby_main && rt run -- hash < /dev/null > /dev/null)
 room=$(mktemp -d)
 trap 'rm -rf "$room"' EXIT
 checks/refuse_allocation.sh "$room/refuse_allocation.so"
@@ -11,8 +12,8 @@ printf 'address = "127.0.0.1:0"\nworkers = 2\nmotd = ["Welcome"]\nstop_at_input_
 # start NUMBER : the status of a server to which this allocation is refused, and what it says.
 start() {
     local got=0
-    REFUSED=$1 LD_PRELOAD="$room/refuse_allocation.so" timeout 60 crates/lobby_main/out/lobby_main serve "$room/settings.toml" \
-        examples/accounts.toml < /dev/null > "$room/said" 2>&1 || got=$?
+    REFUSED=$1 LD_PRELOAD="$room/refuse_allocation.so" timeout 60 "$program" serve "$room/settings.toml" examples/accounts.toml \
+        < /dev/null > "$room/said" 2>&1 || got=$?
     echo "$got" $(cat "$room/said")
 }
 failed=0

@@ -2,7 +2,7 @@
 
 use crate::accounts::lobby_of;
 use crate::deeds::{Deed, Subject, try_deeds};
-use crate::lobbies::{HOME, act, are_alike, read_some, say, show_unread};
+use crate::lobbies::{HOME, act, are_alike, read_some, say, show_unread, use_buffer_up};
 use crate::notes::Notes;
 use crate::refuser::Refuser;
 use account_book::{Account, AccountBook};
@@ -120,7 +120,9 @@ impl<const USERS: u32> Subject for Crowd<USERS> {
     }
 
     fn use_up(&mut self, alloc: Global) -> bool {
+        // the last user is not in the channel
         use_buffers_up(&mut self.lobby, alloc, USERS)
+            && use_buffer_up(&mut self.lobby, alloc, u64::from(USERS))
     }
 
     fn is_as(&mut self, other: &mut Crowd<USERS>) -> bool {

@@ -24,7 +24,7 @@ const PIECE: usize = 512;
 
 /// They log in, one after another, and talk in two channels; then Anna opens a battle and furnishes it, Cleo joins it, is forced this
 /// and that, and leaves with two bots; Bert goes with his channels, and is shut.
-const DEEDS: [(u64, Deed); 51] = [
+const DEEDS: [(u64, Deed); 52] = [
     (1, Deed::Open),
     (2, Deed::Open),
     (3, Deed::Open),
@@ -73,6 +73,7 @@ const DEEDS: [(u64, Deed); 51] = [
     (3, Deed::Send(b"ADDBOT Tik 1088 -1 KAIK")),
     (1, Deed::Send(b"SAYBATTLE go")),
     (3, Deed::Send(b"SAYBATTLEEX goes")),
+    (3, Deed::Send(b"MYBATTLESTATUS 1024 7")),
     (1, Deed::Send(b"HANDICAP Cleo 10")),
     (1, Deed::Send(b"FORCETEAMNO Cleo 3")),
     (1, Deed::Send(b"FORCEALLYNO Cleo 1")),
@@ -144,7 +145,7 @@ pub fn read_some(lobby: &mut Lobby, client: u64, count: usize) {
 }
 
 /// A client is told more than a buffer has that is kept, and reads it.
-fn use_buffer_up(lobby: &mut Lobby, alloc: Global, client: u64) -> bool {
+pub fn use_buffer_up(lobby: &mut Lobby, alloc: Global, client: u64) -> bool {
     for _ in 0..ANSWERS {
         if !say(lobby, alloc, client, b"#4294967295 PING") {
             return false;

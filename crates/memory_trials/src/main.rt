@@ -52,7 +52,9 @@ fn try_all<R: Wait + Print + AllocGlobal>(
 
 fn main(rt: HostRuntime) -> io::Result<()> {
     let Some(mut refuser) = chosen(&rt) else {
-        return println!(rt; "memory_trials [scarce|counted], and memory to begin with");
+        return println!(rt;
+            "usage: memory_trials [scarce|counted]; or there is no memory to begin with"
+        );
     };
     let mut notes = Notes::new();
     let tried = try_all(&rt, &mut refuser, &mut notes);

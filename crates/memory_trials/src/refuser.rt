@@ -22,10 +22,7 @@ impl Refuser {
     /// The way that a word names; `None` where there is no such way, or no memory for it.
     pub fn named(alloc: Global, word: &str) -> Option<Refuser> {
         match word {
-            "scarce" => match Hog::new(alloc, MOST_PIECES) {
-                Some(hog) => Some(Refuser::Scarce(hog)),
-                None => None,
-            },
+            "scarce" => Some(Refuser::Scarce(Hog::new(alloc, MOST_PIECES)?)),
             "counted" => Some(Refuser::Counted(Counted::new(alloc))),
             _ => None,
         }
