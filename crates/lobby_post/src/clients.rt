@@ -113,14 +113,6 @@ impl Clients {
         self.slots.key_of(client)
     }
 
-    /// The key of a client, for a line to many: `Post::address_key` looks at no slot, and delivery finds the
-    /// client where it likely is.
-    pub fn likely_key(&self, client: u64) -> ClientKey
-        ensures { result.number ≡ client }
-    {
-        self.slots.likely_key(client)
-    }
-
     /// Whether a key's client is logged in under this name, and in the slot in which the key saw it.
     pub fn is_named_at(&self, key: ClientKey, name: &NameBuf) -> bool
         ensures { result ≡ true → name_at (plain self.now.slots) key.number ≡ Some name.now }

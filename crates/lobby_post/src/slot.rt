@@ -23,14 +23,14 @@ use std::marker::Model;
 /// A client, with what waits for it.
 #[derive(Drop)]
 pub struct Slot {
+    ip: [u8; 4],
     home: u8,
-    /// Whether it stands in its worker's list of those that were touched.
-    listed: bool,
     phase: Phase,
+    outbox: Outbox,
     /// What of the event at hand is still to be put.
     due: Due,
-    outbox: Outbox,
-    ip: [u8; 4],
+    /// Whether it stands in its worker's list of those that were touched.
+    listed: bool,
 }
 
 impl Model for Slot {
@@ -54,12 +54,12 @@ impl Slot {
         ensures listed { result.listed ≡ true }
     {
         Slot {
-            home,
-            listed: true,
-            phase: Phase::Greeted,
-            due: Due::nothing(),
-            outbox: Outbox::new(alloc, limit),
             ip,
+            home,
+            phase: Phase::Greeted,
+            outbox: Outbox::new(alloc, limit),
+            due: Due::nothing(),
+            listed: true,
         }
     }
 

@@ -196,16 +196,6 @@ impl Slots {
         }
     }
 
-    /// The key of a client, with the slot in which it likely is. No slot is looked at.
-    pub fn likely_key(&self, client: u64) -> ClientKey
-        ensures { result.number ≡ client }
-    {
-        ClientKey {
-            number: client,
-            slot: self.near.likely(ClientKey::of(client)),
-        }
-    }
-
     /// The slot of a key's client, if that is in the slot in which the key saw it.
     pub fn at(&self, key: ClientKey) -> Option<&Slot>
         ensures { IfSome result (λ slot. lookup (is_at (nat_cmp key.number)) self.now ≡ Some slot.now) }
