@@ -1,12 +1,12 @@
 // load MODE PORT PID ... : clients of a lobby at 127.0.0.1:PORT, whose process is PID. It compares every byte that comes back,
 // and prints one line of names and figures. The processor time is that of the server over the measured time alone.
 //
-//   load fanout PORT PID CLIENTS WINDOW SECONDS [QUIET]   the first client speaks in a channel of all, with WINDOW lines unanswered
-//   load ping PORT PID CLIENTS DEPTH SECONDS [QUIET]      each client keeps DEPTH times PING unanswered
-//   load logins PORT PID CLIENTS one|all                  greeted clients log in, one after another or all at once
-//   load memory PORT PID CLIENTS                          what the server holds: before, with greeted clients, with members of a channel
+//   load fanout PORT PID CLIENTS WINDOW SECONDS [QUIET [BYTES]]   the first client speaks in a channel of all, with WINDOW lines unanswered
+//   load ping PORT PID CLIENTS DEPTH SECONDS [QUIET]              each client keeps DEPTH times PING unanswered
+//   load logins PORT PID CLIENTS one|all                          greeted clients log in, one after another or all at once
+//   load memory PORT PID CLIENTS                                  what the server holds: before, with greeted clients, with members of a channel
 //
-// Clients log in as u0001, u0002 and so on. QUIET more are greeted, and do nothing. gcc -O2.
+// Clients log in as u0001, u0002 and so on. QUIET more are greeted, and do nothing. BYTES has a delivered line, 60 if left out. gcc -O2.
 #define _GNU_SOURCE
 #include <arpa/inet.h>
 #include <errno.h>
@@ -35,9 +35,12 @@ enum {
     LINE_MOST = 1024,      // bytes of a line of a login or a JOIN
     READ_BYTES = 65536,
     READY_MOST = 1024,
-    CYCLE = 4096,          // so many different lines are spoken, and then the first again
-    SAID_BYTES = 60,       // a delivered line with its LF
-    SAY_BYTES = 53,        // the same line as it is spoken, without the name of the speaker
+    WINDOW_MOST = 4096,
+    CYCLE_BYTES = 1 << 20, // the lines that are spoken have so many bytes at most, and then the first comes again
+    SAID_LEAST = 60,       // bytes of a delivered line with its LF
+    SAID_MOST = 8000,
+    SAID_FRONT = 16,       // the bytes of a delivered line before its text
+    SAY_FRONT = 9,         // the same of the line as it is spoken, which does not name the speaker
     DEPTH_MOST = 1024,
     BUCKETS = 1000000,     // of a tenth of a microsecond
 };
@@ -68,7 +71,8 @@ static int server;
 static double deadline;
 static bool is_in_order;     // whether users log in one after another, in the order of their numbers
 static unsigned greeted_count, in_count, told_count, settled_count;
-static char said[CYCLE * SAID_BYTES], say[CYCLE * SAY_BYTES];
+static size_t said_bytes, say_bytes, cycle; // of a delivered line, of the line as it is spoken, and how many different ones there are
+static char said[CYCLE_BYTES], say[CYCLE_BYTES];
 static uint32_t latencies[BUCKETS];
 static uint64_t answered;
 static void (*take)(struct client *, const char *, size_t);
@@ -219,8 +223,8 @@ static void take_lines(struct client *client, const char *bytes, size_t count) {
 // Each member gets each line once and in order: its bytes are a stream that is known.
 static void take_said(struct client *client, const char *bytes, size_t count) {
     while (count > 0) {
-        size_t at = client->bytes % sizeof said;
-        size_t piece = sizeof said - at < count ? sizeof said - at : count;
+        size_t all = cycle * said_bytes, at = client->bytes % all;
+        size_t piece = all - at < count ? all - at : count;
         if (memcmp(said + at, bytes, piece) != 0) fail("other lines than were said, behind byte %lu of client %u", client->bytes, client->number);
         client->bytes += piece;
         bytes += piece;
@@ -347,25 +351,28 @@ static void print_usage(struct usage from, struct usage to) {
     printf(" seconds %.4f user %.2f system %.2f\n", to.at - from.at, to.user - from.user, to.system - from.system);
 }
 
-static void make_lines(void) {
-    char line[128];
-    for (int place = 0; place < CYCLE; place++) {
-        int length = snprintf(line, sizeof line, "SAID " CHANNEL " u0001 %06d a line for all who listen, ...........", place);
-        if (length < SAID_BYTES - 1) fail("the lines are too short");
-        line[SAID_BYTES - 1] = '\n';
-        memcpy(said + place * SAID_BYTES, line, SAID_BYTES);
-        char *spoken = say + place * SAY_BYTES;
-        memcpy(spoken, "SAY " CHANNEL " ", 9);
-        memcpy(spoken + 9, line + 16, SAID_BYTES - 16);
+static void make_lines(size_t bytes) {
+    said_bytes = bytes;
+    say_bytes = bytes - SAID_FRONT + SAY_FRONT;
+    cycle = CYCLE_BYTES / bytes;
+    for (size_t place = 0; place < cycle; place++) {
+        char *line = said + place * said_bytes, *spoken = say + place * say_bytes, front[SAID_LEAST];
+        int length = snprintf(front, sizeof front, "SAID " CHANNEL " u0001 %06zu a line for all who listen, ", place);
+        memset(line, '.', said_bytes);
+        memcpy(line, front, (size_t)length);
+        line[said_bytes - 1] = '\n';
+        memcpy(spoken, "SAY " CHANNEL " ", SAY_FRONT);
+        memcpy(spoken + SAY_FRONT, line + SAID_FRONT, said_bytes - SAID_FRONT);
     }
 }
 
 // Speaks up to this line, as far as the socket takes it.
 static void speak(const struct client *speaker, uint64_t *spoken, uint64_t lines) {
-    while (*spoken < lines * SAY_BYTES) {
-        size_t at = *spoken % sizeof say;
-        uint64_t left = lines * SAY_BYTES - *spoken;
-        size_t piece = sizeof say - at < left ? sizeof say - at : (size_t)left;
+    size_t all = cycle * say_bytes;
+    while (*spoken < lines * say_bytes) {
+        size_t at = *spoken % all;
+        uint64_t left = lines * say_bytes - *spoken;
+        size_t piece = all - at < left ? all - at : (size_t)left;
         ssize_t length = write(speaker->socket, say + at, piece);
         if (length < 0 && errno == EAGAIN) return;
         if (length < 0) fail("the speaker cannot write: %s", strerror(errno));
@@ -379,24 +386,24 @@ static bool have_all(uint64_t bytes) {
     return true;
 }
 
-static void run_fanout(uint64_t window, double seconds) {
+static void run_fanout(uint64_t window, double seconds, size_t bytes) {
     const struct client *speaker = &clients[0];
     uint64_t spoken = 0, lines = window;
     log_all_in(true);
     join_all();
-    make_lines();
+    make_lines(bytes);
     take = take_said;
     struct usage from = usage();
     while (now() < from.at + seconds) {
-        lines = speaker->bytes / SAID_BYTES + window;
+        lines = speaker->bytes / said_bytes + window;
         speak(speaker, &spoken, lines);
         pump(1);
     }
-    lines = (spoken + SAY_BYTES - 1) / SAY_BYTES;
+    lines = (spoken + say_bytes - 1) / say_bytes;
     do {
         speak(speaker, &spoken, lines);
         pump(1);
-    } while (!have_all(lines * SAID_BYTES));
+    } while (!have_all(lines * said_bytes));
     struct usage to = usage();
     expect_silence();
     printf("lines %lu", lines * client_count);
@@ -484,7 +491,7 @@ int main(int count, char **words) {
     int port = (int)number_at(2, count, words, 65535);
     server = (int)number_at(3, count, words, 1 << 30);
     client_count = (unsigned)number_at(4, count, words, CLIENTS_MOST);
-    quiet_count = count > 7 ? (unsigned)number_at(7, count, words, CLIENTS_MOST) : 0;
+    quiet_count = count > 7 && strcmp(words[7], "0") != 0 ? (unsigned)number_at(7, count, words, CLIENTS_MOST) : 0;
     clients = calloc(client_count + quiet_count, sizeof *clients);
     poll_set = epoll_create1(0);
     if (clients == NULL || poll_set < 0) fail("no memory or poll");
@@ -494,8 +501,10 @@ int main(int count, char **words) {
         run_memory(port);
         return 0;
     }
+    size_t bytes = count > 8 ? (size_t)number_at(8, count, words, SAID_MOST) : SAID_LEAST;
+    if (bytes < SAID_LEAST) fail("a line has %d bytes at least", SAID_LEAST);
     open_clients(port);
-    if (strcmp(mode, "fanout") == 0) run_fanout((uint64_t)number_at(5, count, words, CYCLE), (double)number_at(6, count, words, 30));
+    if (strcmp(mode, "fanout") == 0) run_fanout((uint64_t)number_at(5, count, words, WINDOW_MOST), (double)number_at(6, count, words, 30), bytes);
     else if (strcmp(mode, "ping") == 0) run_ping((unsigned)number_at(5, count, words, DEPTH_MOST), (double)number_at(6, count, words, 30));
     else if (strcmp(mode, "logins") == 0 && count > 5) run_logins(words[5]);
     else fail("no such mode");

@@ -1,16 +1,16 @@
 #!/usr/bin/env bash
-# The server beside a bare epoll loop, over loopback: fan-out, PING, logins, memory, system calls.
+# The server beside a bare epoll loop, over loopback: fan-out of short and of longer lines, PING, logins, memory, system calls.
 #   bench/server.sh [WORKERS [RUNS [SECONDS]]]
 # Runs the server that `make build` leaves, or the one at LOBBY_MAIN, with so many workers (1), and the bare loop with one write a
 # client and round and with one write a line: all in turn, a new process each time, so many runs (5), a measured time of so many
 # seconds (3) where a mode has one. Prints medians of the runs, and of the ratios of each turn. MODES, some of
-# "fanout ping quiet logins memory calls", leaves the others out.
+# "fanout lengths ping quiet logins memory calls", leaves the others out.
 set -euo pipefail
 cd "$(dirname "$0")/.."
 workers=${1:-1}
 runs=${2:-5}
 seconds=${3:-3}
-modes=${MODES:-fanout ping quiet logins memory calls}
+modes=${MODES:-fanout lengths ping quiet logins memory calls}
 main=${LOBBY_MAIN:-$PWD/bin/lobby_main}
 [ -x "$main" ] || { echo "there is no $main: make build makes it"; exit 1; }
 ulimit -n 8192
@@ -90,8 +90,11 @@ figure() { printf "$1" "$(each "$2" "$3" | median)"; }
 # ratio FILE FILE EXPRESSION : the median of the ratios of runs in one turn.
 ratio() { printf '%.2f' "$(paste <(each "$1" "$3") <(each "$2" "$3") | awk '$2 > 0 { print $1 / $2 }' | median)"; }
 
+# Processor seconds a million delivered lines.
+fanout_cost='(of["user"] + of["system"]) / of["lines"] * 1e6'
+
 fanout() {
-    local members window name cost='(of["user"] + of["system"]) / of["lines"] * 1e6'
+    local members window name
     echo "Fan-out: processor seconds a million delivered lines (user + system), delivered lines a second, seconds taken by $workers worker(s)"
     echo '| Members | In flight | Server | Bare | Bare, a write a line | Server / bare | Server / bare, a write a line | Lines a second: server | bare | bare, a write a line |'
     echo '|---|---|---|---|---|---|---|---|---|---|'
@@ -100,14 +103,32 @@ fanout() {
             in_turn "ours bare bare_lines" fanout "$members" "$window" "$seconds"
             printf '| %d | %d ' "$members" "$window"
             for name in ours bare bare_lines; do
-                figure '| %.3f' "$name.fanout.$members.$window" "$cost"
+                figure '| %.3f' "$name.fanout.$members.$window" "$fanout_cost"
                 figure ' (%.3f' "$name.fanout.$members.$window" 'of["user"] / of["lines"] * 1e6'
                 figure ' + %.3f) ' "$name.fanout.$members.$window" 'of["system"] / of["lines"] * 1e6'
             done
-            printf '| %s | %s ' "$(ratio "ours.fanout.$members.$window" "bare.fanout.$members.$window" "$cost")" \
-                "$(ratio "ours.fanout.$members.$window" "bare_lines.fanout.$members.$window" "$cost")"
+            printf '| %s | %s ' "$(ratio "ours.fanout.$members.$window" "bare.fanout.$members.$window" "$fanout_cost")" \
+                "$(ratio "ours.fanout.$members.$window" "bare_lines.fanout.$members.$window" "$fanout_cost")"
             for name in ours bare bare_lines; do figure "| %'.0f " "$name.fanout.$members.$window" 'of["lines"] / of["seconds"]'; done
             echo '|'
+        done
+    done
+}
+
+lengths() {
+    local members window bytes name
+    echo 'Fan-out of longer lines: processor seconds a million delivered lines'
+    echo '| Members | In flight | Bytes of a line | Server | Bare | Server / bare |'
+    echo '|---|---|---|---|---|---|'
+    for window in 4 32; do
+        for members in 50 1000; do
+            for bytes in 300 600 1200 2400 4800 8000; do
+                for name in ours bare; do rm -f "$room/$name.fanout.$members.$window"; done
+                in_turn "ours bare" fanout "$members" "$window" "$seconds" 0 "$bytes"
+                printf '| %d | %d | %d ' "$members" "$window" "$bytes"
+                for name in ours bare; do figure '| %.3f ' "$name.fanout.$members.$window" "$fanout_cost"; done
+                echo "| $(ratio "ours.fanout.$members.$window" "bare.fanout.$members.$window" "$fanout_cost") |"
+            done
         done
     done
 }
@@ -145,7 +166,7 @@ quiet() {
         printf '| %d ' "$others"
         for name in ours bare; do figure '| %.0f ' "$name.ping.1.1" 'of["median"]'; done
         for name in ours bare; do figure '| %.1f ' "$name.ping.1.1" '(of["user"] + of["system"]) / of["answers"] * 1e6'; done
-        for name in ours bare; do figure '| %.2f ' "$name.fanout.50.4" '(of["user"] + of["system"]) / of["lines"] * 1e6'; done
+        for name in ours bare; do figure '| %.2f ' "$name.fanout.50.4" "$fanout_cost"; done
         echo '|'
     done
 }

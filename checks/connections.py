@@ -11,6 +11,7 @@ import errno
 import os
 import re
 import select
+import signal
 import socket
 import subprocess
 import sys
@@ -632,8 +633,21 @@ def all_gone(workers):
         expect_in_any_order(bert, removed([ANNA, *CROWD]))
 
 
+def urgent_bytes(workers):
+    """What a client sends behind an urgent byte is read too, though a poll tells of all of it at once, since the server stands still
+    meanwhile, and a read ends at that byte. The byte itself is no part of the stream."""
+    with Server(workers, [ANNA]) as server:
+        client = greeted(server)
+        server.process.send_signal(signal.SIGSTOP)
+        client.send("PING\nPI")
+        client.socket.send(b"!", socket.MSG_OOB)
+        client.send("NG\n")
+        server.process.send_signal(signal.SIGCONT)
+        client.expect("PONG\nPONG\n")
+
+
 CHECKS = [slow_reader, slow_readers, half_closed, late_readers, resets, resets_at_once, hasty_logins, one_by_one, line_limits, flood, burst]
-CHECKS += [restarts, open_files, short_memory, all_gone]
+CHECKS += [urgent_bytes, restarts, open_files, short_memory, all_gone]
 
 
 def check(workers="4", *names):
