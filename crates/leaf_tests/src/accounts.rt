@@ -1,6 +1,6 @@
 //! Vectors of the two standards behind password words, and files with each kind of fault.
 
-use crate::verdict::{same, same_for};
+use crate::verdict::{fail, same, same_for};
 use account_book::{Account, AccountBook, AccountsError, LoginFault, password_word};
 use base64::engine::general_purpose::STANDARD;
 use std::alloc::Global;
@@ -112,36 +112,103 @@ fn base64_test_vectors(rt: HostRuntime) {
     }
 }
 
-// What an account of the file shows: with `?` in the function that owns the book, its proof would take a minute.
-fn shows_bert(rt: &impl Abort, book: &AccountBook) -> Result<(), LoginFault> {
-    let bert = book.check(b"Bert", WORD)?;
-    same(rt, bert.name(), b"Bert".as_slice());
-    same(rt, bert.password(), WORD);
-    same(rt, (bert.id(), bert.rank()), (2, 3));
-    assert!(rt; !bert.access() && !bert.bot());
-    same(rt, bert.country(), b"??".as_slice());
-    same(rt, book.check(b"Cleo", WORD)?.country(), b"FR".as_slice());
-    Ok(())
+/// What an account shows.
+#[derive(Clone, Copy)]
+struct Shown {
+    id: u32,
+    rank: u8,
+    access: bool,
+    bot: bool,
+    country: &'static [u8],
 }
 
-fn refuses_logins(rt: &impl Abort, book: &AccountBook) {
-    let other_word = book.check(b"Anna", NO_PASSWORD);
-    same(rt, other_word.err(), Some(LoginFault::BadPassword));
-    let other_name = book.check(b"anna", WORD);
-    same(rt, other_name.err(), Some(LoginFault::NoAccount));
-    assert!(rt; book.get(b"Anna").is_some() && book.get(b"Dora").is_none());
+/// A name and a password word, and the account that is told of them, or why there is none.
+type Login = (&'static [u8], &'static [u8], Result<Shown, LoginFault>);
+
+/// A good file, how many accounts it has that can log in, what is answered to logins, and which names have such an account.
+#[derive(Clone, Copy)]
+struct File {
+    text: &'static [u8],
+    count: usize,
+    logins: &'static [Login],
+    names: &'static [(&'static [u8], bool)],
 }
+
+fn is_shown(account: &Account, name: &[u8], word: &[u8], shown: Shown) -> bool {
+    account.name() == name
+        && account.password() == word
+        && account.id() == shown.id
+        && account.rank() == shown.rank
+        && account.access() == shown.access
+        && account.bot() == shown.bot
+        && account.country() == shown.country
+}
+
+fn answers(book: &AccountBook, login: Login) -> bool {
+    let (name, word, wanted) = login;
+    match (book.check(name, word), wanted) {
+        (Ok(account), Ok(shown)) => is_shown(account, name, word, shown),
+        (Err(told), Err(wanted)) => told == wanted,
+        _ => false,
+    }
+}
+
+fn show(rt: &impl Abort, book: &AccountBook, file: &File) {
+    same(rt, book.len(), file.count);
+    same(rt, book.is_empty(), false);
+    for login in file.logins {
+        same_for(rt, &login.0, answers(book, *login), true);
+    }
+    for (name, is_there) in file.names {
+        same_for(rt, name, book.get(name).is_some(), *is_there);
+    }
+}
+
+fn read(rt: &impl Abort, alloc: Global, file: &File) {
+    match AccountBook::from_toml(alloc, file.text) {
+        Ok(book) => {
+            show(rt, &book, file);
+            drop(book);
+        }
+        Err(_) => fail(rt, "the file is good"),
+    }
+}
+
+const FIRST: File = File {
+    text: THREE,
+    count: 3,
+    logins: &[
+        (
+            b"Bert",
+            WORD,
+            Ok(Shown {
+                id: 2,
+                rank: 3,
+                access: false,
+                bot: false,
+                country: b"??",
+            }),
+        ),
+        (
+            b"Cleo",
+            WORD,
+            Ok(Shown {
+                id: 3,
+                rank: 0,
+                access: false,
+                bot: false,
+                country: b"FR",
+            }),
+        ),
+        (b"Anna", NO_PASSWORD, Err(LoginFault::BadPassword)),
+        (b"anna", WORD, Err(LoginFault::NoAccount)),
+    ],
+    names: &[(b"Anna", true), (b"Dora", false)],
+};
 
 #[test]
 fn reads_a_file_and_checks_logins(rt: HostRuntime) {
-    let Ok(book) = AccountBook::from_toml(rt.alloc(), THREE) else {
-        assert!(rt; false, "the file is good");
-        return;
-    };
-    same(&rt, book.len(), 3);
-    assert!(rt; !book.is_empty());
-    same(&rt, shows_bert(&rt, &book), Ok(()));
-    refuses_logins(&rt, &book);
+    read(&rt, rt.alloc(), &FIRST);
 }
 
 /// Adds an account of this number; those of access and of a bot have a rank of 7 and no country.
@@ -153,17 +220,23 @@ fn add(book: &mut AccountBook, alloc: Global, id: u32, marked: bool) -> Result<(
     }
 }
 
-#[test]
-fn adds_an_account(rt: HostRuntime) {
-    let mut book = AccountBook::new(rt.alloc());
-    same(&rt, add(&mut book, rt.alloc(), u32::MAX, true), Ok(()));
+/// Of two accounts of one name the first is kept.
+fn add_two(rt: &impl Abort, book: &mut AccountBook, alloc: Global) {
+    same(rt, add(book, alloc, u32::MAX, true), Ok(()));
     same(
-        &rt,
-        add(&mut book, rt.alloc(), 5, false),
+        rt,
+        add(book, alloc, 5, false),
         Err(AccountsError::DuplicateName),
     );
     let first = book.check(b"[AI]_1", WORD).ok().map(Account::id);
-    same(&rt, first, Some(u32::MAX));
+    same(rt, first, Some(u32::MAX));
+}
+
+#[test]
+fn adds_an_account(rt: HostRuntime) {
+    let mut book = AccountBook::new(rt.alloc());
+    add_two(&rt, &mut book, rt.alloc());
+    drop(book);
 }
 
 /// Name, password word, rank and country of accounts, and whether they are accounts. The last words have bits left over
@@ -260,29 +333,40 @@ country = '??'
 disabled = false
 ";
 
-// As `shows_bert`, beside the function that owns the book.
-fn shows_defaults(rt: &impl Abort, book: &AccountBook) -> Result<(), LoginFault> {
-    let dora = book.check(b"Dora", WORD)?;
-    same(rt, (dora.id(), dora.rank()), (4, 2));
-    same(rt, dora.country(), b"SE".as_slice());
-    assert!(rt; !dora.access() && !dora.bot());
-    let fred = book.check(b"Fred", WORD)?;
-    same(rt, (fred.id(), fred.rank()), (6, 0));
-    same(rt, fred.country(), b"??".as_slice());
-    assert!(rt; !fred.access() && fred.bot());
-    Ok(())
-}
+const SECOND: File = File {
+    text: SECOND_FORMAT,
+    count: 2,
+    logins: &[
+        (
+            b"Dora",
+            WORD,
+            Ok(Shown {
+                id: 4,
+                rank: 2,
+                access: false,
+                bot: false,
+                country: b"SE",
+            }),
+        ),
+        (
+            b"Fred",
+            WORD,
+            Ok(Shown {
+                id: 6,
+                rank: 0,
+                access: false,
+                bot: true,
+                country: b"??",
+            }),
+        ),
+        (b"Emil", WORD, Err(LoginFault::NoAccount)),
+    ],
+    names: &[],
+};
 
 #[test]
 fn reads_the_second_format(rt: HostRuntime) {
-    let Ok(book) = AccountBook::from_toml(rt.alloc(), SECOND_FORMAT) else {
-        assert!(rt; false, "the file is good");
-        return;
-    };
-    same(&rt, book.len(), 2);
-    same(&rt, shows_defaults(&rt, &book), Ok(()));
-    let disabled = book.check(b"Emil", WORD);
-    same(&rt, disabled.err(), Some(LoginFault::NoAccount));
+    read(&rt, rt.alloc(), &SECOND);
 }
 
 /// Lines behind those of a good account, and why the file is refused in the first format and in the second.

@@ -1,11 +1,33 @@
 //! Those who ask to join a room, with memory at hand.
 
 use crate::rooms::{has_members, join, new_room, word};
+use crate::verdict::{fail, same_for};
 use battle_room::{Room, RoomError};
 use line_words::{NameBuf, WordBuf};
 use std::alloc::Global;
+use std::process::Abort;
 
-/// One asks to join who is no member and does not ask yet.
+type Password = Option<&'static [u8]>;
+
+/// What is done to a room, and what it shows then: who asks with which script passwords, and who is in it.
+#[derive(Clone, Copy)]
+enum Step {
+    /// One asks to join who is no member and does not ask yet.
+    Asks(&'static [u8], Password),
+    /// The request of a user is taken: it has this script password, or is refused.
+    IsTaken(&'static [u8], Result<Password, RoomError>),
+    /// One is let in who is no member, having asked or not.
+    IsLetIn(&'static [u8]),
+    IsDropped(&'static [u8]),
+    /// One joins who is no member.
+    Joins(&'static [u8]),
+    Askers(&'static [(&'static [u8], Password)]),
+    /// One who asks has this script password.
+    AsksWith(&'static [u8], Password),
+    AsksNot(&'static [u8]),
+    Members(&'static [&'static [u8]]),
+}
+
 fn ask(room: &mut Room, user: &[u8], script_password: Option<WordBuf>) -> bool {
     match NameBuf::of(user) {
         Some(user) => !room.has_member(&user)
@@ -45,10 +67,14 @@ fn asks_with(room: &Room, user: &[u8], password: Option<&[u8]>) -> bool {
     }
 }
 
-/// Bert asks with a script password, and then Cleo without one.
-fn two_ask(room: &mut Room, alloc: Global) -> bool {
-    let password = word(alloc, b"pw9");
-    password.is_some() && ask(room, b"Bert", password) && ask(room, b"Cleo", None)
+fn asks(room: &mut Room, alloc: Global, user: &[u8], password: Option<&[u8]>) -> bool {
+    match password {
+        Some(bytes) => match word(alloc, bytes) {
+            Some(password) => ask(room, user, Some(password)),
+            None => false,
+        },
+        None => ask(room, user, None),
+    }
 }
 
 /// Whether who takes the request of this user is given this script password, or is told this refusal.
@@ -63,7 +89,6 @@ fn gives(room: &mut Room, user: &[u8], wanted: Result<Option<&[u8]>, RoomError>)
     }
 }
 
-/// One is let in, or joins without having asked, who is no member.
 fn lets_in(room: &mut Room, user: &[u8]) -> bool {
     match NameBuf::of(user) {
         Some(user) => !room.has_member(&user) && room.let_in(&user).is_ok(),
@@ -71,61 +96,93 @@ fn lets_in(room: &mut Room, user: &[u8]) -> bool {
     }
 }
 
-fn drop_asker(room: &mut Room, user: &[u8]) {
-    if let Some(user) = NameBuf::of(user) {
-        room.drop_asker(&user);
+fn drops_asker(room: &mut Room, user: &[u8]) -> bool {
+    match NameBuf::of(user) {
+        Some(user) => {
+            room.drop_asker(&user);
+            true
+        }
+        None => false,
     }
 }
 
-const TAKEN: [(&[u8], Result<Option<&[u8]>, RoomError>); 5] = [
-    (b"Anna", Err(RoomError::NoRequest)),
-    (b"Bert", Ok(Some(b"pw9"))),
-    (b"Bert", Err(RoomError::NoRequest)),
-    (b"Dora", Err(RoomError::NoRequest)),
-    (b"Cleo", Ok(None)),
+fn takes(room: &mut Room, alloc: Global, step: Step) -> bool {
+    match step {
+        Step::Asks(user, password) => asks(room, alloc, user, password),
+        Step::IsTaken(user, wanted) => gives(room, user, wanted),
+        Step::IsLetIn(user) => lets_in(room, user),
+        Step::IsDropped(user) => drops_asker(room, user),
+        Step::Joins(user) => join(room, user),
+        Step::Askers(wanted) => has_askers(room, wanted),
+        Step::AsksWith(user, password) => asks_with(room, user, password),
+        Step::AsksNot(user) => !asks_with(room, user, None),
+        Step::Members(wanted) => has_members(room, wanted),
+    }
+}
+
+fn take_all(rt: &impl Abort, room: &mut Room, alloc: Global, steps: &[Step]) {
+    for (k, step) in steps.iter().enumerate() {
+        same_for(rt, &k, takes(room, alloc, *step), true);
+    }
+}
+
+/// Takes these steps in a room of Anna.
+fn play(rt: &impl Abort, alloc: Global, steps: &[Step]) {
+    match new_room(alloc) {
+        Some(mut room) => {
+            take_all(rt, &mut room, alloc, steps);
+            drop(room);
+        }
+        None => fail(rt, "a room of one"),
+    }
+}
+
+const TAKEN_ONCE: [Step; 10] = [
+    Step::Asks(b"Bert", Some(b"pw9")),
+    Step::Asks(b"Cleo", None),
+    Step::Askers(&[(b"Bert", Some(b"pw9")), (b"Cleo", None)]),
+    Step::IsTaken(b"Anna", Err(RoomError::NoRequest)),
+    Step::IsTaken(b"Bert", Ok(Some(b"pw9"))),
+    Step::IsTaken(b"Bert", Err(RoomError::NoRequest)),
+    Step::IsTaken(b"Dora", Err(RoomError::NoRequest)),
+    Step::IsTaken(b"Cleo", Ok(None)),
+    Step::Askers(&[]),
+    Step::Members(&[b"Anna"]),
 ];
 
 #[test]
 fn each_request_is_taken_once(rt: HostRuntime) {
-    let Some(mut room) = new_room(rt.alloc()) else {
-        assert!(rt; false, "a room of one");
-        return;
-    };
-    assert!(rt; two_ask(&mut room, rt.alloc()));
-    assert!(rt; has_askers(&room, &[(b"Bert", Some(b"pw9")), (b"Cleo", None)]));
-    for (user, wanted) in TAKEN {
-        assert!(rt; gives(&mut room, user, wanted), "{user:?}");
-    }
-    assert!(rt; has_askers(&room, &[]));
-    assert!(rt; has_members(&room, &[b"Anna"]));
+    play(&rt, rt.alloc(), &TAKEN_ONCE);
 }
+
+const LET_IN: [Step; 6] = [
+    Step::Asks(b"Bert", Some(b"pw9")),
+    Step::Asks(b"Cleo", None),
+    Step::IsLetIn(b"Bert"),
+    Step::IsLetIn(b"Dora"),
+    Step::Members(&[b"Anna", b"Bert", b"Dora"]),
+    Step::Askers(&[(b"Cleo", None)]),
+];
 
 #[test]
 fn one_who_is_let_in_asks_no_more(rt: HostRuntime) {
-    let Some(mut room) = new_room(rt.alloc()) else {
-        assert!(rt; false, "a room of one");
-        return;
-    };
-    assert!(rt; two_ask(&mut room, rt.alloc()));
-    assert!(rt; lets_in(&mut room, b"Bert"));
-    assert!(rt; lets_in(&mut room, b"Dora"));
-    assert!(rt; has_members(&room, &[b"Anna", b"Bert", b"Dora"]));
-    assert!(rt; has_askers(&room, &[(b"Cleo", None)]));
+    play(&rt, rt.alloc(), &LET_IN);
 }
+
+const DROPPED: [Step; 10] = [
+    Step::Asks(b"Bert", Some(b"pw9")),
+    Step::Asks(b"Cleo", None),
+    Step::IsDropped(b"Bert"),
+    Step::IsDropped(b"Bert"),
+    Step::Joins(b"Emil"),
+    Step::Askers(&[(b"Cleo", None)]),
+    Step::Asks(b"Bert", None),
+    Step::Askers(&[(b"Cleo", None), (b"Bert", None)]),
+    Step::AsksWith(b"Bert", None),
+    Step::AsksNot(b"Emil"),
+];
 
 #[test]
 fn one_who_is_dropped_may_ask_again(rt: HostRuntime) {
-    let Some(mut room) = new_room(rt.alloc()) else {
-        assert!(rt; false, "a room of one");
-        return;
-    };
-    assert!(rt; two_ask(&mut room, rt.alloc()));
-    drop_asker(&mut room, b"Bert");
-    drop_asker(&mut room, b"Bert");
-    assert!(rt; join(&mut room, b"Emil"));
-    assert!(rt; has_askers(&room, &[(b"Cleo", None)]));
-    assert!(rt; ask(&mut room, b"Bert", None));
-    assert!(rt; has_askers(&room, &[(b"Cleo", None), (b"Bert", None)]));
-    assert!(rt; asks_with(&room, b"Bert", None));
-    assert!(rt; !asks_with(&room, b"Emil", None));
+    play(&rt, rt.alloc(), &DROPPED);
 }

@@ -1,8 +1,23 @@
 //! Who is in which channel after joins. What memory refuses is tried once more, since nothing has changed then.
 
-use crate::verdict::same;
+use crate::verdict::same_for;
 use channel_book::{ChannelBook, ChannelError};
 use line_words::NameBuf;
+use std::alloc::Global;
+use std::process::Abort;
+
+/// What is done to a book, and what it shows then: a channel's members, the channels, those that a user is in.
+#[derive(Clone, Copy)]
+enum Step {
+    /// A user joins a channel, with this answer.
+    Joins(&'static [u8], &'static [u8], Result<(), ChannelError>),
+    /// A user leaves a channel that it is in.
+    Leaves(&'static [u8], &'static [u8]),
+    LeavesAll(&'static [u8]),
+    Members(&'static [u8], &'static [&'static [u8]]),
+    Channels(&'static [&'static [u8]]),
+    IsIn(&'static [u8], &'static [&'static [u8]]),
+}
 
 /// Joins, once more where memory was refused: then there are as many channels as before, and the user is in none of them anew.
 fn join(book: &mut ChannelBook, channel: &NameBuf, user: &NameBuf) -> Result<(), ChannelError> {
@@ -89,56 +104,107 @@ fn has_named(book: &ChannelBook, channel: &[u8], wanted: &[&[u8]]) -> bool {
     }
 }
 
+fn leaves_all(book: &mut ChannelBook, user: &[u8]) -> bool {
+    match NameBuf::of(user) {
+        Some(user) => {
+            book.leave_all(&user);
+            true
+        }
+        None => false,
+    }
+}
+
+// Takes the step of this place in a table.
+fn take(rt: &impl Abort, book: &mut ChannelBook, k: usize, step: Step) {
+    match step {
+        Step::Joins(channel, user, wanted) => {
+            same_for(rt, &k, joins(book, channel, user), Some(wanted))
+        }
+        Step::Leaves(channel, user) => {
+            same_for(rt, &k, leaves(book, channel, user), Some(Ok(())))
+        }
+        Step::LeavesAll(user) => same_for(rt, &k, leaves_all(book, user), true),
+        Step::Members(channel, names) => same_for(rt, &k, has_named(book, channel, names), true),
+        Step::Channels(channels) => same_for(rt, &k, has_channels(book, channels), true),
+        Step::IsIn(user, channels) => same_for(rt, &k, is_in(book, user, channels), true),
+    }
+}
+
+fn take_all(rt: &impl Abort, book: &mut ChannelBook, steps: &[Step]) {
+    for (k, step) in steps.iter().enumerate() {
+        take(rt, book, k, *step);
+    }
+}
+
+// Takes these steps with a new book.
+fn play(rt: &impl Abort, alloc: Global, steps: &[Step]) {
+    let mut book = ChannelBook::new(alloc);
+    take_all(rt, &mut book, steps);
+    drop(book);
+}
+
+const MEMBERS: [Step; 8] = [
+    Step::Channels(&[]),
+    Step::Joins(b"main", b"Bert", Ok(())),
+    Step::Joins(b"main", b"Anna", Ok(())),
+    Step::Joins(b"main", b"Cleo", Ok(())),
+    Step::Joins(b"main", b"Anna", Err(ChannelError::AlreadyIn)),
+    Step::Members(b"main", &[b"Bert", b"Anna", b"Cleo"]),
+    Step::Members(b"Main", &[]),
+    Step::Channels(&[b"main"]),
+];
+
 #[test]
 fn members_stand_in_order_of_joining(rt: HostRuntime) {
-    let mut book = ChannelBook::new(rt.alloc());
-    assert!(rt; has_channels(&book, &[]));
-    for user in [b"Bert".as_slice(), b"Anna", b"Cleo"] {
-        same(&rt, joins(&mut book, b"main", user), Some(Ok(())));
-    }
-    let again = joins(&mut book, b"main", b"Anna");
-    same(&rt, again, Some(Err(ChannelError::AlreadyIn)));
-    assert!(rt; has_named(&book, b"main", &[b"Bert", b"Anna", b"Cleo"]));
-    assert!(rt; has_named(&book, b"Main", &[]));
-    assert!(rt; has_channels(&book, &[b"main"]));
+    play(&rt, rt.alloc(), &MEMBERS);
 }
+
+const CHANNELS: [Step; 8] = [
+    Step::Joins(b"aa", b"Anna", Ok(())),
+    Step::Joins(b"_", b"Anna", Ok(())),
+    Step::Joins(b"a", b"Anna", Ok(())),
+    Step::Joins(b"[x]", b"Anna", Ok(())),
+    Step::Joins(b"Z", b"Anna", Ok(())),
+    Step::Joins(b"9", b"Anna", Ok(())),
+    Step::Joins(b"]", b"Anna", Ok(())),
+    Step::Channels(&[b"9", b"Z", b"[x]", b"]", b"_", b"a", b"aa"]),
+];
 
 #[test]
 fn channels_stand_in_the_order_of_their_bytes(rt: HostRuntime) {
-    let mut book = ChannelBook::new(rt.alloc());
-    for channel in [b"aa".as_slice(), b"_", b"a", b"[x]", b"Z", b"9", b"]"] {
-        same(&rt, joins(&mut book, channel, b"Anna"), Some(Ok(())));
-    }
-    assert!(rt; has_channels(&book, &[b"9", b"Z", b"[x]", b"]", b"_", b"a", b"aa"]));
+    play(&rt, rt.alloc(), &CHANNELS);
 }
+
+const CHANNELS_OF_A_USER: [Step; 7] = [
+    Step::Joins(b"main", b"Anna", Ok(())),
+    Step::Joins(b"big", b"Anna", Ok(())),
+    Step::Joins(b"Z", b"Anna", Ok(())),
+    Step::Joins(b"main", b"Bert", Ok(())),
+    Step::IsIn(b"Anna", &[b"Z", b"big", b"main"]),
+    Step::IsIn(b"Bert", &[b"main"]),
+    Step::IsIn(b"Cleo", &[]),
+];
 
 #[test]
 fn the_channels_of_a_user_stand_in_the_order_of_their_bytes(rt: HostRuntime) {
-    let mut book = ChannelBook::new(rt.alloc());
-    for channel in [b"main".as_slice(), b"big", b"Z"] {
-        same(&rt, joins(&mut book, channel, b"Anna"), Some(Ok(())));
-    }
-    same(&rt, joins(&mut book, b"main", b"Bert"), Some(Ok(())));
-    assert!(rt; is_in(&book, b"Anna", &[b"Z", b"big", b"main"]));
-    assert!(rt; is_in(&book, b"Bert", &[b"main"]));
-    assert!(rt; is_in(&book, b"Cleo", &[]));
+    play(&rt, rt.alloc(), &CHANNELS_OF_A_USER);
 }
+
+const LAST_CHANNEL: [Step; 11] = [
+    Step::Joins(b"main", b"Anna", Ok(())),
+    Step::Joins(b"big", b"Anna", Ok(())),
+    Step::Joins(b"main", b"Bert", Ok(())),
+    Step::Joins(b"big", b"Bert", Ok(())),
+    Step::Leaves(b"main", b"Anna"),
+    Step::IsIn(b"Anna", &[b"big"]),
+    Step::Leaves(b"big", b"Anna"),
+    Step::IsIn(b"Anna", &[]),
+    Step::LeavesAll(b"Bert"),
+    Step::IsIn(b"Bert", &[]),
+    Step::Channels(&[]),
+];
 
 #[test]
 fn who_left_the_last_channel_has_none(rt: HostRuntime) {
-    let mut book = ChannelBook::new(rt.alloc());
-    for user in [b"Anna".as_slice(), b"Bert"] {
-        for channel in [b"main".as_slice(), b"big"] {
-            same(&rt, joins(&mut book, channel, user), Some(Ok(())));
-        }
-    }
-    same(&rt, leaves(&mut book, b"main", b"Anna"), Some(Ok(())));
-    assert!(rt; is_in(&book, b"Anna", &[b"big"]));
-    same(&rt, leaves(&mut book, b"big", b"Anna"), Some(Ok(())));
-    assert!(rt; is_in(&book, b"Anna", &[]));
-    if let Some(bert) = NameBuf::of(b"Bert") {
-        book.leave_all(&bert);
-    }
-    assert!(rt; is_in(&book, b"Bert", &[]));
-    assert!(rt; has_channels(&book, &[]));
+    play(&rt, rt.alloc(), &LAST_CHANNEL);
 }

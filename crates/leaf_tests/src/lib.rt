@@ -24,8 +24,6 @@ mod rooms;
 #[cfg(test)]
 mod settings;
 #[cfg(test)]
-mod shared_pieces;
-#[cfg(test)]
 mod status_words;
 #[cfg(test)]
 mod units;

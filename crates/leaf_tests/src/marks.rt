@@ -1,9 +1,11 @@
 //! Marks, which no contract speaks of: each name has the one that was given with it.
 
+use crate::verdict::{fail, same};
 use battle_room::Room;
 use channel_book::ChannelBook;
 use line_words::NameBuf;
 use std::alloc::Global;
+use std::process::Abort;
 
 /// One more member, under a mark, of a name that no member has.
 fn join(room: &mut Room<u8>, member: &[u8], mark: u8) -> bool {
@@ -30,27 +32,40 @@ fn has_marks(room: &Room<u8>, wanted: &[u8]) -> bool {
     same
 }
 
-/// Anna's room under 1, which Bert joins under 2, and into which Cleo is let under 3.
-fn marked_room(alloc: Global) -> Option<Room<u8>> {
-    let mut room = Room::with_mark(alloc, NameBuf::of(b"Anna")?, 1u8).ok()?;
-    if join(&mut room, b"Bert", 2) && let_in(&mut room, b"Cleo", 3) {
-        Some(room)
-    } else {
-        None
+/// Whether a member was there, who is dropped then.
+fn drops(room: &mut Room<u8>, member: &[u8]) -> bool {
+    match NameBuf::of(member) {
+        Some(member) => {
+            let was_there = room.has_member(&member);
+            room.drop_member(&member);
+            was_there
+        }
+        None => false,
     }
+}
+
+/// Anna's room under 1 is joined by Bert under 2, and Cleo is let in under 3.
+fn mark_members(rt: &impl Abort, room: &mut Room<u8>) {
+    same(rt, join(room, b"Bert", 2), true);
+    same(rt, let_in(room, b"Cleo", 3), true);
+    same(rt, has_marks(room, &[1, 2, 3]), true);
+    same(rt, drops(room, b"Bert"), true);
+    same(rt, has_marks(room, &[1, 3]), true);
+}
+
+fn new_room(alloc: Global) -> Option<Room<u8>> {
+    Room::with_mark(alloc, NameBuf::of(b"Anna")?, 1u8).ok()
 }
 
 #[test]
 fn members_have_their_marks(rt: HostRuntime) {
-    let Some(mut room) = marked_room(rt.alloc()) else {
-        assert!(rt; false, "a room of three");
-        return;
-    };
-    assert!(rt; has_marks(&room, &[1, 2, 3]));
-    if let Some(bert) = NameBuf::of(b"Bert") {
-        room.drop_member(&bert);
+    match new_room(rt.alloc()) {
+        Some(mut room) => {
+            mark_members(&rt, &mut room);
+            drop(room);
+        }
+        None => fail(&rt, "a room of one"),
     }
-    assert!(rt; has_marks(&room, &[1, 3]));
 }
 
 /// A user joins a channel under a mark.
@@ -63,17 +78,24 @@ fn join_channel(book: &mut ChannelBook<u8>, channel: &NameBuf, user: &[u8], mark
     }
 }
 
+/// Anna, Bert and Cleo join under 1, 2 and 3, and then Anna leaves.
+fn mark_names(rt: &impl Abort, book: &mut ChannelBook<u8>, channel: &NameBuf, anna: &NameBuf) {
+    same(rt, join_channel(book, channel, b"Anna", 1), true);
+    same(rt, join_channel(book, channel, b"Bert", 2), true);
+    same(rt, join_channel(book, channel, b"Cleo", 3), true);
+    same(rt, book.marks_in(channel), [1, 2, 3].as_slice());
+    book.remove_member(channel, anna);
+    same(rt, book.marks_in(channel), [2, 3].as_slice());
+}
+
 #[test]
 fn names_in_channels_have_their_marks(rt: HostRuntime) {
-    let mut book = ChannelBook::with_marks(rt.alloc());
-    let (Some(channel), Some(anna)) = (NameBuf::of(b"main"), NameBuf::of(b"Anna")) else {
-        assert!(rt; false, "two names");
-        return;
-    };
-    assert!(rt; join_channel(&mut book, &channel, b"Anna", 1));
-    assert!(rt; join_channel(&mut book, &channel, b"Bert", 2));
-    assert!(rt; join_channel(&mut book, &channel, b"Cleo", 3));
-    assert!(rt; book.marks_in(&channel) == [1, 2, 3].as_slice());
-    book.remove_member(&channel, &anna);
-    assert!(rt; book.marks_in(&channel) == [2, 3].as_slice());
+    match (NameBuf::of(b"main"), NameBuf::of(b"Anna")) {
+        (Some(channel), Some(anna)) => {
+            let mut book = ChannelBook::with_marks(rt.alloc());
+            mark_names(&rt, &mut book, &channel, &anna);
+            drop(book);
+        }
+        _ => fail(&rt, "two names"),
+    }
 }

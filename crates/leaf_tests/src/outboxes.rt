@@ -1,8 +1,32 @@
-//! One client's queue with memory at hand: its order, its limit and its cut.
+//! One client's queue with memory at hand: the order of copied and of shared bytes, its limit and its cut.
 
-use crate::verdict::same;
+use crate::verdict::same_for;
+use bytes::Bytes;
 use outbox::Outbox;
+use std::alloc::Global;
 use std::process::Abort;
+
+/// What is done to an outbox, and what it shows then.
+#[derive(Clone, Copy)]
+enum Step {
+    /// There is room for these bytes, and they are put by copying.
+    Puts(&'static [u8]),
+    /// There is room for these bytes, and they are put as a shared piece.
+    Shares(&'static [u8]),
+    /// There is no room for these bytes as a shared piece.
+    RefusesToShare(&'static [u8]),
+    /// So many bytes are copied from this place on, and the buffer is then this.
+    CopiesFrom(usize, usize, &'static [u8; 8]),
+    /// So many bytes are taken, and the buffer is then this.
+    Takes(usize, &'static [u8; 8]),
+    /// What a reader had is let go.
+    Releases,
+    Cuts,
+    Unread(usize),
+    HasRoomFor(usize),
+    HasNoRoomFor(usize),
+    IsCut(bool),
+}
 
 /// Makes room for bytes and puts them, as the lobby does for each event; whether there was room.
 fn puts(outbox: &mut Outbox, bytes: &[u8]) -> bool {
@@ -13,55 +37,137 @@ fn puts(outbox: &mut Outbox, bytes: &[u8]) -> bool {
     true
 }
 
+/// Makes room for a shared piece and puts it; whether there was room.
+fn shares(outbox: &mut Outbox, bytes: &'static [u8]) -> bool {
+    let piece: Bytes = Bytes::from_static(bytes);
+    if !outbox.room_for(piece.len()) || outbox.reserve_shared(0, 1).is_err() {
+        return false;
+    }
+    outbox.put_shared(piece);
+    true
+}
+
+/// What is done.
+fn act(rt: &impl Abort, outbox: &mut Outbox, buffer: &mut [u8; 8], k: usize, step: Step) {
+    match step {
+        Step::Puts(bytes) => same_for(rt, &k, puts(outbox, bytes), true),
+        Step::Shares(bytes) => same_for(rt, &k, shares(outbox, bytes), true),
+        Step::RefusesToShare(bytes) => same_for(rt, &k, shares(outbox, bytes), false),
+        Step::CopiesFrom(place, count, bytes) => {
+            same_for(rt, &k, outbox.copy_from(place, buffer), count);
+            same_for(rt, &k, &*buffer, bytes);
+        }
+        Step::Takes(count, bytes) => {
+            same_for(rt, &k, outbox.take(buffer), count);
+            same_for(rt, &k, &*buffer, bytes);
+        }
+        Step::Releases => outbox.release(0),
+        Step::Cuts => outbox.cut(),
+        _ => show(rt, outbox, k, step),
+    }
+}
+
+/// What it shows.
+fn show(rt: &impl Abort, outbox: &Outbox, k: usize, step: Step) {
+    match step {
+        Step::Unread(count) => same_for(rt, &k, outbox.unread(), count),
+        Step::HasRoomFor(count) => same_for(rt, &k, outbox.room_for(count), true),
+        Step::HasNoRoomFor(count) => same_for(rt, &k, outbox.room_for(count), false),
+        Step::IsCut(is_so) => same_for(rt, &k, outbox.is_cut(), is_so),
+        _ => {}
+    }
+}
+
+fn act_all(rt: &impl Abort, outbox: &mut Outbox, buffer: &mut [u8; 8], steps: &[Step]) {
+    for (k, step) in steps.iter().enumerate() {
+        act(rt, outbox, buffer, k, *step);
+    }
+}
+
+/// Takes these steps, so many times over, with a new outbox of this limit and one buffer.
+fn play(rt: &impl Abort, alloc: Global, limit: usize, steps: &[Step], times: u32) {
+    let mut outbox = Outbox::new(alloc, limit);
+    let mut buffer = [b'.'; 8];
+    for _ in 0..times {
+        act_all(rt, &mut outbox, &mut buffer, steps);
+    }
+    drop(outbox);
+}
+
+const LONG: [u8; 65_530] = [b'x'; 65_530];
+
+static LONG_PIECE: [u8; 65_530] = LONG;
+
 #[test]
 fn room_ends_at_the_limit(rt: HostRuntime) {
-    let mut outbox = Outbox::new(rt.alloc(), 65_536);
-    assert!(rt; puts(&mut outbox, &[b'x'; 65_530]));
-    same(&rt, outbox.unread(), 65_530);
-    assert!(rt; outbox.room_for(6));
-    assert!(rt; !outbox.room_for(7));
+    for first in [Step::Puts(&LONG_PIECE), Step::Shares(&LONG_PIECE)] {
+        let steps = [
+            first,
+            Step::Unread(65_530),
+            Step::HasRoomFor(6),
+            Step::HasNoRoomFor(7),
+        ];
+        play(&rt, rt.alloc(), 65_536, &steps, 1);
+    }
 }
 
-fn take_first(rt: &impl Abort, outbox: &mut Outbox, piece: &mut [u8; 8]) {
-    assert!(rt; puts(outbox, b"PONG\nENDOF\n"));
-    same(&rt, outbox.copy_from(9, piece), 2);
-    same(&rt, &*piece, b"F\n......");
-    same(&rt, outbox.take(piece), 8);
-    same(&rt, &*piece, b"PONG\nEND");
-}
-
-fn take_rest(rt: &impl Abort, outbox: &mut Outbox, piece: &mut [u8; 8]) {
-    assert!(rt; puts(outbox, b"#1 PONG\n"));
-    same(&rt, outbox.unread(), 11);
-    same(&rt, outbox.take(piece), 8);
-    same(&rt, &*piece, b"OF\n#1 PO");
-    same(&rt, outbox.take(piece), 3);
-    same(&rt, &*piece, b"NG\n#1 PO");
-    same(&rt, outbox.take(piece), 0);
-}
-
-fn put_again(rt: &impl Abort, outbox: &mut Outbox) {
-    outbox.release(0);
-    assert!(rt; puts(outbox, b"PONG\n"));
-    same(rt, outbox.unread(), 5);
-}
+const COPIED: [Step; 11] = [
+    Step::Puts(b"PONG\nENDOF\n"),
+    Step::CopiesFrom(9, 2, b"F\n......"),
+    Step::Takes(8, b"PONG\nEND"),
+    Step::Puts(b"#1 PONG\n"),
+    Step::Unread(11),
+    Step::Takes(8, b"OF\n#1 PO"),
+    Step::Takes(3, b"NG\n#1 PO"),
+    Step::Takes(0, b"NG\n#1 PO"),
+    Step::Releases,
+    Step::Puts(b"PONG\n"),
+    Step::Unread(5),
+];
 
 #[test]
 fn bytes_come_out_in_their_order(rt: HostRuntime) {
-    let mut outbox = Outbox::new(rt.alloc(), 12);
-    let mut piece = [b'.'; 8];
-    take_first(&rt, &mut outbox, &mut piece);
-    take_rest(&rt, &mut outbox, &mut piece);
-    put_again(&rt, &mut outbox);
+    play(&rt, rt.alloc(), 12, &COPIED, 1);
 }
+
+/// Shared pieces among copied bytes.
+const SHARED: [Step; 10] = [
+    Step::Puts(b"PONG\n"),
+    Step::Shares(b"SAIDo\n"),
+    Step::Shares(b""),
+    Step::Puts(b"ENDOF\n"),
+    Step::CopiesFrom(9, 8, b"o\nENDOF\n"),
+    Step::Takes(8, b"PONG\nSAI"),
+    Step::Takes(8, b"Do\nENDOF"),
+    Step::Takes(1, b"\no\nENDOF"),
+    Step::Takes(0, b"\no\nENDOF"),
+    Step::Releases,
+];
+
+#[test]
+fn shared_pieces_come_out_among_copied_bytes(rt: HostRuntime) {
+    play(&rt, rt.alloc(), 64, &SHARED, 3);
+}
+
+const CUT: [Step; 6] = [
+    Step::Puts(b"PONG\n"),
+    Step::IsCut(false),
+    Step::Cuts,
+    Step::IsCut(true),
+    Step::Takes(0, b"........"),
+    Step::HasNoRoomFor(1),
+];
+
+const CUT_WITH_A_SHARE: [Step; 5] = [
+    Step::Shares(b"PONG\n"),
+    Step::Cuts,
+    Step::Takes(0, b"........"),
+    Step::HasNoRoomFor(1),
+    Step::RefusesToShare(b"PONG\n"),
+];
 
 #[test]
 fn a_cut_client_gets_nothing_more(rt: HostRuntime) {
-    let mut outbox = Outbox::new(rt.alloc(), 64);
-    assert!(rt; puts(&mut outbox, b"PONG\n"));
-    assert!(rt; !outbox.is_cut());
-    outbox.cut();
-    assert!(rt; outbox.is_cut());
-    same(&rt, outbox.take(&mut [0; 8]), 0);
-    assert!(rt; !outbox.room_for(1));
+    play(&rt, rt.alloc(), 64, &CUT, 1);
+    play(&rt, rt.alloc(), 64, &CUT_WITH_A_SHARE, 1);
 }

@@ -1,6 +1,6 @@
 //! A room with memory at hand: each of its calls that may be refused it, and the most tags that a room has.
 
-use crate::verdict::same;
+use crate::verdict::{fail, same};
 use battle_room::{Room, RoomError};
 use line_words::{KeyBuf, NameBuf, Pair, PairList, SentenceBuf, WordBuf, WordList};
 use status_bits::BattleStatus;
@@ -60,15 +60,21 @@ pub(crate) fn new_room(alloc: Global) -> Option<Room> {
     Room::new(alloc, NameBuf::of(b"Anna")?).ok()
 }
 
+fn fill(rt: &impl Abort, room: &mut Room, alloc: Global) {
+    same(rt, fills(room, alloc), true);
+    same(rt, has_members(room, &[b"Anna", b"Bert", b"Cleo"]), true);
+    same(rt, has_bots(room, b"Bert", &[b"Robo", b"Rex"]), true);
+}
+
 #[test]
 fn members_and_bots_are_added(rt: HostRuntime) {
-    let Some(mut room) = new_room(rt.alloc()) else {
-        assert!(rt; false, "a room of one");
-        return;
-    };
-    assert!(rt; fills(&mut room, rt.alloc()));
-    assert!(rt; has_members(&room, &[b"Anna", b"Bert", b"Cleo"]));
-    assert!(rt; has_bots(&room, b"Bert", &[b"Robo", b"Rex"]));
+    match new_room(rt.alloc()) {
+        Some(mut room) => {
+            fill(&rt, &mut room, rt.alloc());
+            drop(room);
+        }
+        None => fail(&rt, "a room of one"),
+    }
 }
 
 fn add_pair(list: &mut Vec<Pair>, alloc: Global, key: &[u8], value: &[u8]) -> Option<()> {
@@ -147,32 +153,40 @@ fn has_tag(room: &Room, key: &[u8]) -> bool {
 /// One tag more is refused, and none of the others is set then.
 fn set_more(rt: &impl Abort, room: &mut Room, alloc: Global) {
     same(rt, set_tags(room, all_pairs(alloc)), Some(Ok(())));
-    assert!(rt; begins(room, 512, b"k1", b"1"));
+    same(rt, begins(room, 512, b"k1", b"1"), true);
     let more = pairs(alloc, &[(b"new", b"1"), (b"k1", b"2")]);
     same(rt, set_tags(room, more), Some(Err(RoomError::TooManyTags)));
-    assert!(rt; begins(room, 512, b"k1", b"1"));
+    same(rt, begins(room, 512, b"k1", b"1"), true);
     let other = pairs(alloc, &[(b"k1", b"2")]);
     same(rt, set_tags(room, other), Some(Ok(())));
-    assert!(rt; begins(room, 512, b"k1", b"2"));
+    same(rt, begins(room, 512, b"k1", b"2"), true);
 }
 
-fn remove_some(rt: &impl Abort, room: &mut Room, alloc: Global) {
-    let Some(keys) = words(alloc, &[b"k2", b"k1", b"zz", b"k2"]) else {
-        assert!(rt; false, "four words");
-        return;
-    };
-    assert!(rt; removes(room, &keys, &[b"k2", b"k1"]));
-    assert!(rt; begins(room, 510, b"k3", b"1"));
-    assert!(rt; !has_tag(room, b"k1"));
-    assert!(rt; has_tag(room, b"k3"));
+fn remove_some(rt: &impl Abort, room: &mut Room, keys: &[WordBuf]) {
+    same(rt, removes(room, keys, &[b"k2", b"k1"]), true);
+    same(rt, begins(room, 510, b"k3", b"1"), true);
+    same(rt, has_tag(room, b"k1"), false);
+    same(rt, has_tag(room, b"k3"), true);
+}
+
+fn set_and_remove(rt: &impl Abort, room: &mut Room, alloc: Global) {
+    set_more(rt, room, alloc);
+    match words(alloc, &[b"k2", b"k1", b"zz", b"k2"]) {
+        Some(keys) => {
+            remove_some(rt, room, &keys);
+            drop(keys);
+        }
+        None => fail(rt, "four words"),
+    }
 }
 
 #[test]
 fn five_hundred_and_twelve_tags(rt: HostRuntime) {
-    let Some(mut room) = new_room(rt.alloc()) else {
-        assert!(rt; false, "a room of one");
-        return;
-    };
-    set_more(&rt, &mut room, rt.alloc());
-    remove_some(&rt, &mut room, rt.alloc());
+    match new_room(rt.alloc()) {
+        Some(mut room) => {
+            set_and_remove(&rt, &mut room, rt.alloc());
+            drop(room);
+        }
+        None => fail(&rt, "a room of one"),
+    }
 }

@@ -1,6 +1,6 @@
 //! Settings with memory at hand.
 
-use crate::verdict::{same, same_for};
+use crate::verdict::{fail, same, same_for};
 use line_words::TextBuf;
 use lobby_model::settings::{DEFAULT_OUTBOX_LIMIT, GREATEST_OUTBOX_LIMIT, LEAST_OUTBOX_LIMIT};
 use lobby_model::{Settings, SettingsError};
@@ -40,8 +40,11 @@ fn shows_default(rt: &impl Abort, settings: &Settings) {
 #[test]
 fn the_default_is_kept(rt: HostRuntime) {
     match settings(rt.alloc(), 1, b"Welcome") {
-        Ok(settings) => shows_default(&rt, &settings),
-        Err(refusal) => assert!(rt; false, "{refusal}"),
+        Ok(settings) => {
+            shows_default(&rt, &settings);
+            drop(settings);
+        }
+        Err(_) => fail(&rt, "the default is in its bounds"),
     }
 }
 

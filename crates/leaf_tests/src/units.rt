@@ -1,7 +1,7 @@
 //! The disabled units of a room, with memory at hand, and the most that there are.
 
 use crate::rooms::{has_words, join, new_room, word, words};
-use crate::verdict::same;
+use crate::verdict::{fail, same, same_for};
 use battle_room::{Room, RoomError};
 use line_words::{NameBuf, WordBuf, WordList};
 use std::alloc::Global;
@@ -151,15 +151,21 @@ fn shows(room: &mut Room, alloc: Global, row: Row) -> bool {
     }
 }
 
+fn show_all(rt: &impl Abort, room: &mut Room, alloc: Global) {
+    same(rt, join(room, b"Bert"), true);
+    for (k, row) in ROWS.iter().enumerate() {
+        same_for(rt, &k, shows(room, alloc, *row), true);
+    }
+}
+
 #[test]
 fn units_are_disabled_and_enabled(rt: HostRuntime) {
-    let Some(mut room) = new_room(rt.alloc()) else {
-        assert!(rt; false, "a room of one");
-        return;
-    };
-    assert!(rt; join(&mut room, b"Bert"));
-    for (k, row) in ROWS.into_iter().enumerate() {
-        assert!(rt; shows(&mut room, rt.alloc(), row), "{k}");
+    match new_room(rt.alloc()) {
+        Some(mut room) => {
+            show_all(&rt, &mut room, rt.alloc());
+            drop(room);
+        }
+        None => fail(&rt, "a room of one"),
     }
 }
 
@@ -198,6 +204,7 @@ fn begins(room: &Room, count: usize, first: &[u8]) -> bool {
 
 /// One unit more is refused, and none of the others is disabled then.
 fn disable_more(rt: &impl Abort, room: &mut Room, alloc: Global) {
+    same(rt, join(room, b"Bert"), true);
     same(rt, disable(room, b"Anna", all_units(alloc)), Some(Ok(1024)));
     let one_old = words(alloc, &[b"u7", b"new"]);
     same(
@@ -213,15 +220,16 @@ fn disable_more(rt: &impl Abort, room: &mut Room, alloc: Global) {
     );
     let old = words(alloc, &[b"u7", b"u1024"]);
     same(rt, disable(room, b"Anna", old), Some(Ok(0)));
-    assert!(rt; begins(room, 1024, b"u1"));
+    same(rt, begins(room, 1024, b"u1"), true);
 }
 
 #[test]
 fn one_thousand_and_twenty_four_units(rt: HostRuntime) {
-    let Some(mut room) = new_room(rt.alloc()) else {
-        assert!(rt; false, "a room of one");
-        return;
-    };
-    assert!(rt; join(&mut room, b"Bert"));
-    disable_more(&rt, &mut room, rt.alloc());
+    match new_room(rt.alloc()) {
+        Some(mut room) => {
+            disable_more(&rt, &mut room, rt.alloc());
+            drop(room);
+        }
+        None => fail(&rt, "a room of one"),
+    }
 }

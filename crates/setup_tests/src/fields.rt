@@ -1,8 +1,9 @@
 //! Fields of a table of each kind, missing ones, and ones that are refused.
 
-use crate::verdict::{same, same_for};
-use std::test::Fail;
-use toml::Table;
+use crate::verdict::{fail, same_for};
+use std::alloc::Global;
+use std::process::Abort;
+use toml::{Table, Value};
 use toml_fields::{
     DocumentError, FieldFault, flag_or, list_or_empty, number_at, number_or, read_document,
     text_at, text_of, text_or,
@@ -17,76 +18,133 @@ half = 0.5
 list = ['one', 2]
 ";
 
-fn table(rt: HostRuntime) -> Result<Table, Fail> {
-    Ok(read_document(rt.alloc(), FILE)?)
+type Told<T> = Result<T, FieldFault>;
+
+/// What is asked of a key, and what is told.
+#[derive(Clone, Copy)]
+enum Row {
+    /// A text.
+    TextAt(&'static str, Told<&'static str>),
+    /// A text, or else this one.
+    TextOr(&'static str, &'static str, Told<&'static str>),
+    /// A number that is not less than the first of these and not more than the second.
+    NumberAt(&'static str, (u32, u32), Told<u32>),
+    /// Such a number, or else this one.
+    NumberOr(&'static str, (u32, u32), u32, Told<u32>),
+    /// A flag, or else this one.
+    FlagOr(&'static str, bool, Told<bool>),
+    /// A list, and each of its values as a text.
+    List(&'static str, Told<&'static [Told<&'static str>]>),
 }
 
-#[test]
-fn what_is_there_is_read(rt: HostRuntime) -> Result<(), Fail> {
-    let table = table(rt)?;
-    same(&rt, text_at(&table, "word"), Ok("a text"));
-    same(&rt, text_or(&table, "word", "another"), Ok("a text"));
-    same(&rt, number_at(&table, "count", 7, 7), Ok(7));
-    same(&rt, number_or(&table, "count", 0, 8, 1), Ok(7));
-    same(&rt, flag_or(&table, "set", false), Ok(true));
-    let values = list_or_empty(&table, "list")?;
-    assert_eq!(rt; values.len(), 2);
-    same(&rt, text_of(&values[0]), Ok("one"));
-    same(&rt, text_of(&values[1]), Err(FieldFault::OtherKind));
-    Ok(())
-}
-
-#[test]
-fn what_is_missing_has_its_default(rt: HostRuntime) -> Result<(), Fail> {
-    let table = table(rt)?;
-    same(&rt, text_at(&table, "none"), Err(FieldFault::Missing));
-    same(
-        &rt,
-        number_at(&table, "none", 0, 9),
-        Err(FieldFault::Missing),
-    );
-    same(&rt, text_or(&table, "none", "another"), Ok("another"));
-    same(&rt, number_or(&table, "none", 0, 9, 4), Ok(4));
-    same(&rt, flag_or(&table, "none", true), Ok(true));
-    same(&rt, list_or_empty(&table, "none")?.len(), 0);
-    Ok(())
-}
-
-#[test]
-fn other_kinds_and_numbers_out_of_bounds_are_refused(rt: HostRuntime) -> Result<(), Fail> {
-    let table = table(rt)?;
-    let other = FieldFault::OtherKind;
-    same(&rt, text_at(&table, "count"), Err(other));
-    same(&rt, text_or(&table, "set", ""), Err(other));
-    same(&rt, number_at(&table, "half", 0, 9), Err(other));
-    same(&rt, number_or(&table, "word", 0, 9, 0), Err(other));
-    same(&rt, flag_or(&table, "count", false), Err(other));
-    same(&rt, list_or_empty(&table, "word").err(), Some(other));
-    for (low, high) in [(0, 6), (8, 9)] {
-        same(
-            &rt,
-            number_at(&table, "count", low, high),
-            Err(FieldFault::NotAllowed),
-        );
+fn has_texts(values: &[Value], wanted: &[Told<&str>]) -> bool {
+    let mut same = values.len() == wanted.len();
+    for (value, text) in values.iter().zip(wanted) {
+        same = same && text_of(value) == *text;
     }
-    same(
-        &rt,
-        number_or(&table, "low", 0, 9, 0),
-        Err(FieldFault::NotAllowed),
-    );
-    Ok(())
+    same
+}
+
+fn is_list(table: &Table, key: &str, wanted: Told<&[Told<&str>]>) -> bool {
+    match (list_or_empty(table, key), wanted) {
+        (Ok(values), Ok(wanted)) => has_texts(values, wanted),
+        (Err(told), Err(wanted)) => told == wanted,
+        _ => false,
+    }
+}
+
+fn compare(rt: &impl Abort, table: &Table, k: usize, row: Row) {
+    match row {
+        Row::TextAt(key, wanted) => same_for(rt, &k, text_at(table, key), wanted),
+        Row::TextOr(key, other, wanted) => same_for(rt, &k, text_or(table, key, other), wanted),
+        Row::NumberAt(key, (low, high), wanted) => {
+            same_for(rt, &k, number_at(table, key, low, high), wanted)
+        }
+        Row::NumberOr(key, (low, high), other, wanted) => {
+            same_for(rt, &k, number_or(table, key, low, high, other), wanted)
+        }
+        Row::FlagOr(key, other, wanted) => same_for(rt, &k, flag_or(table, key, other), wanted),
+        Row::List(key, wanted) => same_for(rt, &k, is_list(table, key, wanted), true),
+    }
+}
+
+fn compare_all(rt: &impl Abort, table: &Table, rows: &[Row]) {
+    for (k, row) in rows.iter().enumerate() {
+        compare(rt, table, k, *row);
+    }
+}
+
+/// Reads the file, and compares what these rows ask of it.
+fn ask(rt: &impl Abort, alloc: Global, rows: &[Row]) {
+    match read_document(alloc, FILE) {
+        Ok(table) => {
+            compare_all(rt, &table, rows);
+            drop(table);
+        }
+        Err(_) => fail(rt, "the file is good"),
+    }
+}
+
+const THERE: [Row; 6] = [
+    Row::TextAt("word", Ok("a text")),
+    Row::TextOr("word", "another", Ok("a text")),
+    Row::NumberAt("count", (7, 7), Ok(7)),
+    Row::NumberOr("count", (0, 8), 1, Ok(7)),
+    Row::FlagOr("set", false, Ok(true)),
+    Row::List("list", Ok(&[Ok("one"), Err(FieldFault::OtherKind)])),
+];
+
+#[test]
+fn what_is_there_is_read(rt: HostRuntime) {
+    ask(&rt, rt.alloc(), &THERE);
+}
+
+const MISSING: [Row; 6] = [
+    Row::TextAt("none", Err(FieldFault::Missing)),
+    Row::NumberAt("none", (0, 9), Err(FieldFault::Missing)),
+    Row::TextOr("none", "another", Ok("another")),
+    Row::NumberOr("none", (0, 9), 4, Ok(4)),
+    Row::FlagOr("none", true, Ok(true)),
+    Row::List("none", Ok(&[])),
+];
+
+#[test]
+fn what_is_missing_has_its_default(rt: HostRuntime) {
+    ask(&rt, rt.alloc(), &MISSING);
+}
+
+const REFUSED: [Row; 9] = [
+    Row::TextAt("count", Err(FieldFault::OtherKind)),
+    Row::TextOr("set", "", Err(FieldFault::OtherKind)),
+    Row::NumberAt("half", (0, 9), Err(FieldFault::OtherKind)),
+    Row::NumberOr("word", (0, 9), 0, Err(FieldFault::OtherKind)),
+    Row::FlagOr("count", false, Err(FieldFault::OtherKind)),
+    Row::List("word", Err(FieldFault::OtherKind)),
+    Row::NumberAt("count", (0, 6), Err(FieldFault::NotAllowed)),
+    Row::NumberAt("count", (8, 9), Err(FieldFault::NotAllowed)),
+    Row::NumberOr("low", (0, 9), 0, Err(FieldFault::NotAllowed)),
+];
+
+#[test]
+fn other_kinds_and_numbers_out_of_bounds_are_refused(rt: HostRuntime) {
+    ask(&rt, rt.alloc(), &REFUSED);
+}
+
+const NO_FILES: [(&[u8], usize); 4] = [
+    (b"[[account", 1),
+    (b"a = 1\nb = \n", 2),
+    (b"a = 1\n\na = 2\n", 3),
+    (b"a = 'b'\nc = '\xff'\n", 2),
+];
+
+fn refusal(alloc: Global, file: &[u8]) -> Option<DocumentError> {
+    read_document(alloc, file).err()
 }
 
 #[test]
 fn a_file_that_is_none_shows_its_line(rt: HostRuntime) {
-    let rows: [(&[u8], usize); 4] = [
-        (b"[[account", 1),
-        (b"a = 1\nb = \n", 2),
-        (b"a = 1\n\na = 2\n", 3),
-        (b"a = 'b'\nc = '\xff'\n", 2),
-    ];
-    for (file, line) in rows {
-        let refused = read_document(rt.alloc(), file).err();
-        same_for(&rt, &file, refused, Some(DocumentError::NotToml { line }));
+    for (file, line) in NO_FILES {
+        let wanted = Some(DocumentError::NotToml { line });
+        same_for(&rt, &file, refusal(rt.alloc(), file), wanted);
     }
 }

@@ -1,10 +1,11 @@
 //! Files of settings: the smallest one, one that names all keys, and ones with each kind of fault.
 
-use crate::verdict::{same, same_for};
+use crate::verdict::{fail, same, same_for};
+use lobby_model::Settings;
 use lobby_setup::{Key, Refusal, Setup, SetupError, read_setup};
+use std::alloc::{AllocError, Global};
 use std::net::{Ipv4Addr, SocketAddrV4};
 use std::process::Abort;
-use std::test::Fail;
 use toml_fields::FieldFault;
 
 const ALL: &[u8] = b"
@@ -20,187 +21,268 @@ stop_at_input_end = true
 colour = 'a key that is not known'
 ";
 
-/// The refusal of a file that has an address and this line.
-fn refusal_with(rt: HostRuntime, line: &str) -> Result<Option<SetupError>, Fail> {
-    let file = format!(in rt.alloc(); "address = '127.0.0.1:0'\n{line}\n")?;
-    Ok(read_setup(rt.alloc(), file.as_bytes()).err())
+/// Why a file is refused, or `None` if it is a good one.
+fn refusal(alloc: Global, file: &[u8]) -> Option<SetupError> {
+    read_setup(alloc, file).err()
+}
+
+/// Why a file that has an address and this line is refused; `Memory` too where there is none to write the file in.
+fn refusal_with(alloc: Global, line: &str) -> Option<SetupError> {
+    match format!(in alloc; "address = '127.0.0.1:0'\n{line}\n") {
+        Ok(file) => refusal(alloc, file.as_bytes()),
+        Err(_) => Some(SetupError::Memory),
+    }
 }
 
 fn refused(key: Key, fault: FieldFault) -> Option<SetupError> {
     Some(SetupError::Unusable(Refusal::Field { key, fault }))
 }
 
-fn shows_defaults(rt: &impl Abort, setup: &Setup) {
-    let here = SocketAddrV4::new(Ipv4Addr::LOCALHOST, 0);
-    assert!(rt; setup.address == here);
-    same(rt, (setup.workers, setup.stop_at_input_end), (4, false));
-    let settings = &setup.settings;
-    same(
-        rt,
-        settings.protocol_version().as_slice(),
-        b"0.38".as_slice(),
-    );
-    same(rt, settings.spring_version().as_slice(), b"*".as_slice());
-    same(rt, (settings.udp_port(), settings.server_mode()), (8201, 0));
-    same(rt, settings.outbox_limit(), 4_194_304);
-    assert!(rt; settings.motd().as_slice().is_empty());
+/// A file, and what the server is set up to by it.
+struct Wanted {
+    file: &'static [u8],
+    address: ([u8; 4], u16),
+    workers: u32,
+    stop_at_input_end: bool,
+    protocol_version: &'static [u8],
+    spring_version: &'static [u8],
+    udp_port: u16,
+    server_mode: u8,
+    outbox_limit: usize,
+    motd: &'static [&'static [u8]],
 }
 
-#[test]
-fn an_address_is_enough(rt: HostRuntime) {
-    match read_setup(rt.alloc(), b"address = '127.0.0.1:0'") {
-        Ok(setup) => shows_defaults(&rt, &setup),
-        Err(error) => assert!(rt; false, "{error}"),
+fn has_motd(settings: &Settings, wanted: &[&[u8]]) -> bool {
+    let lines = settings.motd().as_slice();
+    let mut same = lines.len() == wanted.len();
+    for (line, bytes) in lines.iter().zip(wanted) {
+        same = same && line.as_slice() == *bytes;
     }
+    same
 }
 
-fn shows_all(rt: &impl Abort, setup: &Setup) {
-    let there = SocketAddrV4::new(Ipv4Addr::new(10, 0, 0, 2), 65_535);
-    assert!(rt; setup.address == there);
-    same(rt, (setup.workers, setup.stop_at_input_end), (64, true));
-    let settings = &setup.settings;
+fn compare_settings(rt: &impl Abort, settings: &Settings, wanted: &Wanted) {
     same(
         rt,
         settings.protocol_version().as_slice(),
-        b"0.39".as_slice(),
+        wanted.protocol_version,
     );
     same(
         rt,
         settings.spring_version().as_slice(),
-        b"105.0".as_slice(),
+        wanted.spring_version,
     );
-    same(rt, (settings.udp_port(), settings.server_mode()), (0, 1));
-    same(rt, settings.outbox_limit(), 65_536);
-    let motd = settings.motd().as_slice();
-    assert_eq!(rt; motd.len(), 3);
-    same(rt, motd[2].as_slice(), b"Gr\xc3\xbc\xc3\x9fe".as_slice());
+    same(rt, settings.udp_port(), wanted.udp_port);
+    same(rt, settings.server_mode(), wanted.server_mode);
+    same(rt, settings.outbox_limit(), wanted.outbox_limit);
+    same(rt, has_motd(settings, wanted.motd), true);
 }
+
+fn compare(rt: &impl Abort, setup: &Setup, wanted: &Wanted) {
+    let ([a, b, c, d], port) = wanted.address;
+    let address = SocketAddrV4::new(Ipv4Addr::new(a, b, c, d), port);
+    same(rt, setup.address == address, true);
+    same(rt, setup.workers, wanted.workers);
+    same(rt, setup.stop_at_input_end, wanted.stop_at_input_end);
+    compare_settings(rt, &setup.settings, wanted);
+}
+
+fn read(rt: &impl Abort, alloc: Global, wanted: &Wanted) {
+    match read_setup(alloc, wanted.file) {
+        Ok(setup) => {
+            compare(rt, &setup, wanted);
+            drop(setup);
+        }
+        Err(_) => fail(rt, "the file is good"),
+    }
+}
+
+const SMALLEST: Wanted = Wanted {
+    file: b"address = '127.0.0.1:0'",
+    address: ([127, 0, 0, 1], 0),
+    workers: 4,
+    stop_at_input_end: false,
+    protocol_version: b"0.38",
+    spring_version: b"*",
+    udp_port: 8201,
+    server_mode: 0,
+    outbox_limit: 4_194_304,
+    motd: &[],
+};
+
+#[test]
+fn an_address_is_enough(rt: HostRuntime) {
+    read(&rt, rt.alloc(), &SMALLEST);
+}
+
+const LARGEST: Wanted = Wanted {
+    file: ALL,
+    address: ([10, 0, 0, 2], 65_535),
+    workers: 64,
+    stop_at_input_end: true,
+    protocol_version: b"0.39",
+    spring_version: b"105.0",
+    udp_port: 0,
+    server_mode: 1,
+    outbox_limit: 65_536,
+    motd: &[b"Welcome!", b"", b"Gr\xc3\xbc\xc3\x9fe"],
+};
 
 #[test]
 fn all_keys_are_read(rt: HostRuntime) {
-    match read_setup(rt.alloc(), ALL) {
-        Ok(setup) => shows_all(&rt, &setup),
-        Err(error) => assert!(rt; false, "{error}"),
+    read(&rt, rt.alloc(), &LARGEST);
+}
+
+/// A line behind the address, and the key whose value is refused for it.
+type Row = (&'static str, Key);
+
+fn refuse_all(rt: &impl Abort, alloc: Global, rows: &[Row], fault: FieldFault) {
+    for (line, key) in rows {
+        same_for(rt, line, refusal_with(alloc, line), refused(*key, fault));
     }
 }
 
-#[test]
-fn each_value_has_its_bounds(rt: HostRuntime) -> Result<(), Fail> {
-    let rows = [
-        ("workers = 0", Key::Workers),
-        ("workers = 65", Key::Workers),
-        ("workers = -1", Key::Workers),
-        ("outbox_limit = 65535", Key::OutboxLimit),
-        ("outbox_limit = 67108865", Key::OutboxLimit),
-        ("protocol_version = ''", Key::ProtocolVersion),
-        ("protocol_version = '0 38'", Key::ProtocolVersion),
-        (
-            "spring_version = 'a234567890a234567890a234567890abc'",
-            Key::SpringVersion,
-        ),
-        ("udp_port = 65536", Key::UdpPort),
-        ("server_mode = 2", Key::ServerMode),
-    ];
-    for (line, key) in rows {
-        let want = refused(key, FieldFault::NotAllowed);
-        same_for(&rt, &line, refusal_with(rt, line)?, want);
-    }
-    Ok(())
-}
+const NOT_ALLOWED: [Row; 10] = [
+    ("workers = 0", Key::Workers),
+    ("workers = 65", Key::Workers),
+    ("workers = -1", Key::Workers),
+    ("outbox_limit = 65535", Key::OutboxLimit),
+    ("outbox_limit = 67108865", Key::OutboxLimit),
+    ("protocol_version = ''", Key::ProtocolVersion),
+    ("protocol_version = '0 38'", Key::ProtocolVersion),
+    (
+        "spring_version = 'a234567890a234567890a234567890abc'",
+        Key::SpringVersion,
+    ),
+    ("udp_port = 65536", Key::UdpPort),
+    ("server_mode = 2", Key::ServerMode),
+];
 
 #[test]
-fn each_value_has_its_kind(rt: HostRuntime) -> Result<(), Fail> {
-    let rows = [
-        ("workers = '4'", Key::Workers),
-        ("workers = 4.0", Key::Workers),
-        ("outbox_limit = []", Key::OutboxLimit),
-        ("protocol_version = 0.38", Key::ProtocolVersion),
-        ("spring_version = 105", Key::SpringVersion),
-        ("udp_port = true", Key::UdpPort),
-        ("server_mode = false", Key::ServerMode),
-        ("motd = 'Welcome!'", Key::Motd),
-        ("stop_at_input_end = 1", Key::StopAtInputEnd),
-    ];
-    for (line, key) in rows {
-        let want = refused(key, FieldFault::OtherKind);
-        same_for(&rt, &line, refusal_with(rt, line)?, want);
-    }
-    Ok(())
+fn each_value_has_its_bounds(rt: HostRuntime) {
+    refuse_all(&rt, rt.alloc(), &NOT_ALLOWED, FieldFault::NotAllowed);
 }
+
+const OTHER_KIND: [Row; 9] = [
+    ("workers = '4'", Key::Workers),
+    ("workers = 4.0", Key::Workers),
+    ("outbox_limit = []", Key::OutboxLimit),
+    ("protocol_version = 0.38", Key::ProtocolVersion),
+    ("spring_version = 105", Key::SpringVersion),
+    ("udp_port = true", Key::UdpPort),
+    ("server_mode = false", Key::ServerMode),
+    ("motd = 'Welcome!'", Key::Motd),
+    ("stop_at_input_end = 1", Key::StopAtInputEnd),
+];
+
+#[test]
+fn each_value_has_its_kind(rt: HostRuntime) {
+    refuse_all(&rt, rt.alloc(), &OTHER_KIND, FieldFault::OtherKind);
+}
+
+const ADDRESSES: [(&[u8], FieldFault); 5] = [
+    (b"workers = 4", FieldFault::Missing),
+    (b"address = 8200", FieldFault::OtherKind),
+    (b"address = 'localhost:8200'", FieldFault::NotAllowed),
+    (b"address = '127.0.0.1'", FieldFault::NotAllowed),
+    (b"address = '127.0.0.1:08200'", FieldFault::NotAllowed),
+];
 
 #[test]
 fn an_address_is_four_numbers_and_a_port(rt: HostRuntime) {
-    let rows: [(&[u8], FieldFault); 5] = [
-        (b"workers = 4", FieldFault::Missing),
-        (b"address = 8200", FieldFault::OtherKind),
-        (b"address = 'localhost:8200'", FieldFault::NotAllowed),
-        (b"address = '127.0.0.1'", FieldFault::NotAllowed),
-        (b"address = '127.0.0.1:08200'", FieldFault::NotAllowed),
-    ];
-    for (file, fault) in rows {
-        let error = read_setup(rt.alloc(), file).err();
-        same_for(&rt, &file, error, refused(Key::Address, fault));
+    for (file, fault) in ADDRESSES {
+        let told = refusal(rt.alloc(), file);
+        same_for(&rt, &file, told, refused(Key::Address, fault));
     }
 }
 
-#[test]
-fn the_first_bad_line_of_the_day_is_named(rt: HostRuntime) -> Result<(), Fail> {
-    let line = |place: usize, fault: FieldFault| {
-        Some(SetupError::Unusable(Refusal::MotdLine { place, fault }))
-    };
-    let bad = refusal_with(rt, "motd = ['a', \"b\\nc\", 5]")?;
-    same(&rt, bad, line(2, FieldFault::NotAllowed));
-    let bad = refusal_with(rt, "motd = ['a', 5, \"b\\r\"]")?;
-    same(&rt, bad, line(2, FieldFault::OtherKind));
-    let mut many = String::new(rt.alloc());
-    many.push_str("motd = [")?;
-    for _ in 0..100 {
-        many.push_str("'',")?;
+/// A message of the day of so many empty lines.
+fn motd_of(alloc: Global, count: u32) -> Result<String, AllocError> {
+    let mut line = String::new(alloc);
+    line.push_str("motd = [")?;
+    for _ in 0..count {
+        line.push_str("'',")?;
     }
-    let hundred = format!(in rt.alloc(); "{many}]")?;
-    same(&rt, refusal_with(rt, hundred.as_str())?, None);
-    let one_more = format!(in rt.alloc(); "{many}'']")?;
-    let bad = refusal_with(rt, one_more.as_str())?;
-    same(&rt, bad, line(101, FieldFault::NotAllowed));
-    Ok(())
+    line.push_str("]")?;
+    Ok(line)
 }
 
-#[test]
-fn a_refusal_says_what_is_wrong_and_where(rt: HostRuntime) -> Result<(), Fail> {
-    let rows: [(&[u8], &str); 4] = [
-        (
-            b"workers = 4\naddress = '127.0.0.1:0\n",
-            "line 2 is not TOML",
-        ),
-        (
-            b"",
-            "`address` is missing: expected an IPv4 address and a port, as \"127.0.0.1:8200\"",
-        ),
-        (
-            b"address = '127.0.0.1:0'\nworkers = 65",
-            "`workers` is not allowed: expected a whole number from 1 to 64",
-        ),
-        (
-            b"address = '127.0.0.1:0'\nmotd = [5]",
-            "line 1 of `motd` is of another kind: expected a list of at most 100 texts of at most 1000 bytes without CR and LF",
-        ),
-    ];
-    for (file, want) in rows {
-        match read_setup(rt.alloc(), file) {
-            Ok(_) => assert!(rt; false, "{want}"),
-            Err(error) => {
-                let text = format!(in rt.alloc(); "{error}")?;
-                same(&rt, text.as_str(), want);
-            }
-        }
+fn refusal_of_lines(alloc: Global, count: u32) -> Option<SetupError> {
+    match motd_of(alloc, count) {
+        Ok(line) => refusal_with(alloc, line.as_str()),
+        Err(AllocError) => Some(SetupError::Memory),
     }
-    Ok(())
+}
+
+fn bad_line(place: usize, fault: FieldFault) -> Option<SetupError> {
+    Some(SetupError::Unusable(Refusal::MotdLine { place, fault }))
+}
+
+const BAD_LINES: [(&str, FieldFault); 2] = [
+    ("motd = ['a', \"b\\nc\", 5]", FieldFault::NotAllowed),
+    ("motd = ['a', 5, \"b\\r\"]", FieldFault::OtherKind),
+];
+
+#[test]
+fn the_first_bad_line_of_the_day_is_named(rt: HostRuntime) {
+    for (line, fault) in BAD_LINES {
+        same_for(
+            &rt,
+            &line,
+            refusal_with(rt.alloc(), line),
+            bad_line(2, fault),
+        );
+    }
+    same(&rt, refusal_of_lines(rt.alloc(), 100), None);
+    same(
+        &rt,
+        refusal_of_lines(rt.alloc(), 101),
+        bad_line(101, FieldFault::NotAllowed),
+    );
+}
+
+/// Whether an error shows itself by this text.
+fn shows(alloc: Global, error: Option<SetupError>, wanted: &str) -> bool {
+    match error {
+        Some(error) => match format!(in alloc; "{error}") {
+            Ok(text) => text.as_str() == wanted,
+            Err(_) => false,
+        },
+        None => false,
+    }
+}
+
+const TEXTS: [(&[u8], &str); 4] = [
+    (
+        b"workers = 4\naddress = '127.0.0.1:0\n",
+        "line 2 is not TOML",
+    ),
+    (
+        b"",
+        "`address` is missing: expected an IPv4 address and a port, as \"127.0.0.1:8200\"",
+    ),
+    (
+        b"address = '127.0.0.1:0'\nworkers = 65",
+        "`workers` is not allowed: expected a whole number from 1 to 64",
+    ),
+    (
+        b"address = '127.0.0.1:0'\nmotd = [5]",
+        "line 1 of `motd` is of another kind: expected a list of at most 100 texts of at most 1000 bytes without CR and LF",
+    ),
+];
+
+#[test]
+fn a_refusal_says_what_is_wrong_and_where(rt: HostRuntime) {
+    for (file, text) in TEXTS {
+        let told = refusal(rt.alloc(), file);
+        same_for(&rt, &text, shows(rt.alloc(), told, text), true);
+    }
 }
 
 #[test]
 fn each_front_of_a_file_has_an_answer(rt: HostRuntime) {
     for len in 0..ALL.len() {
-        let error = read_setup(rt.alloc(), &ALL[..len]).err();
-        assert!(rt; error != Some(SetupError::Memory), "{len} bytes");
+        let told = refusal(rt.alloc(), &ALL[..len]);
+        same_for(&rt, &len, told == Some(SetupError::Memory), false);
     }
 }

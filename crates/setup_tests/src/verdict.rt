@@ -1,4 +1,4 @@
-//! A comparison that a test rests on, as a call: what is shown where it fails is proved once, and not in each test.
+//! What a test rests on, as calls: what is shown where it fails is proved once, and not in each test.
 
 use std::fmt::Debug;
 use std::process::Abort;
@@ -16,4 +16,9 @@ pub fn same_for<C: Debug, T: PartialEq + Debug + Drop>(
     wanted: T,
 ) {
     assert_eq!(rt; told, wanted, "{case:?}");
+}
+
+/// Fails the test, and says why.
+pub fn fail(rt: &impl Abort, why: &str) {
+    assert!(rt; false, "{why}");
 }
