@@ -3,6 +3,7 @@
 ghost use Rattle.std.specs.Prelude.{◌≡◌, true};
 
 use lobby_turns::{Conn, Got, Link, Sent};
+use mio::event::Event;
 use wire_link::WireLink;
 
 /// A client and its link.
@@ -13,7 +14,7 @@ pub struct Connection {
     // the last round in which it got a turn
     pub(crate) round: u64,
     // a poll told that its link is gone
-    pub(crate) is_gone: bool,
+    is_gone: bool,
     // its link is gone and memory was refused since
     is_over: bool,
 }
@@ -28,6 +29,12 @@ impl Connection {
             is_gone: false,
             is_over: false,
         }
+    }
+
+    /// Notes what a poll told of its link.
+    pub(crate) fn note(&mut self, event: &Event) {
+        self.is_gone |= event.is_write_closed();
+        self.link.note(event);
     }
 
     /// Whether its client is only to be shut, and no more to be served: its link is gone, and memory was refused since.

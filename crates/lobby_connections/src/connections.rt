@@ -10,6 +10,7 @@ use crate::poll_timeout::PollTimeout;
 use lobby_lock::{Held, MOST_EVENTS};
 use lobby_machine::Wakes;
 use lobby_turns::{Conn, TurnState};
+use mio::event::Event;
 use mio::net::TcpStream;
 use mio::{Registry, Token};
 use slab::Slab;
@@ -201,12 +202,12 @@ impl Connections {
         self.lingering.turn(registry, token)
     }
 
-    /// The link of the connection under a key is gone, as a poll told. Nothing happens where there is none.
-    pub fn lose(&mut self, key: usize)
+    /// Notes what a poll told of the connection under the event's token. Nothing happens where there is none.
+    pub fn note(&mut self, event: &Event)
         ensures { self.new ≡ self.old }
     {
-        if let Some(connection) = self.slab.get_mut(key) {
-            connection.is_gone = true;
+        if let Some(connection) = self.slab.get_mut(event.token().0) {
+            connection.note(event);
         }
     }
 

@@ -82,8 +82,9 @@ impl WorkerLoop {
         }
     }
 
-    /// What the last poll told of the waker and of the listener.
-    fn readiness(&self) -> Readiness {
+    /// Notes what the last poll told of the connections, before any of them gets a turn, and says what it told of the waker and of the
+    /// listener.
+    fn note_events(&mut self) -> Readiness {
         let mut readiness = Readiness {
             woken: false,
             listener: false,
@@ -91,6 +92,7 @@ impl WorkerLoop {
         for event in &self.events {
             readiness.woken |= event.token() == WAKER;
             readiness.listener |= event.token() == LISTENER;
+            self.connections.note(event);
         }
         readiness
     }
@@ -160,9 +162,6 @@ impl WorkerLoop {
         for event in &self.events {
             let token = event.token();
             if !connections.let_go(registry, token) {
-                if event.is_write_closed() {
-                    connections.lose(token.0);
-                }
                 pass = turns::turn(rt, shared, pass, connections, registry, token.0);
             }
         }
@@ -178,7 +177,7 @@ impl WorkerLoop {
         let pass = turns::look_for_own(rt, shared, pass, &mut self.connections);
         let timeout = self.connections.poll_timeout().duration();
         let polled = self.poll.poll(&mut self.events, timeout);
-        let readiness = self.readiness();
+        let readiness = self.note_events();
         if readiness.woken {
             shared.gate.woken(pass.number());
         }

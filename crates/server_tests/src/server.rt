@@ -266,3 +266,24 @@ const NO_MORE: [Act; 1] = [Act {
 fn who_sends_no_more_gets_all_answers(rt: HostRuntime) {
     drop(play(&rt, rt, 2, Hold::Open, &NO_MORE));
 }
+
+const ENDS_AT_ONCE: [Act; 1] = [Act {
+    times: 1,
+    steps: &[
+        Enters(0),
+        Enters(1),
+        Sends(0, PING),
+        IsKept,
+        Sends(1, PING),
+        Finishes(1),
+        GoesOn,
+        Reads(1, PONG),
+        Ends(1),
+    ],
+}];
+
+/// A client sends its last line and ends while its worker stands still, so the poll tells of both at once, and of the end never again.
+#[test]
+fn whose_line_and_end_come_at_once_is_answered_and_closed(rt: HostRuntime) {
+    drop(play(&rt, rt, 1, Hold::Write, &ENDS_AT_ONCE));
+}

@@ -13,6 +13,7 @@ ghost use Rattle.lobby_turns.specs.Wire.{got_count, sent_count, untouched};
 use http_server::Log;
 pub use lingering::Lingering;
 use lobby_turns::{Got, Link, Sent};
+use mio::event::Event;
 use mio::net::TcpStream;
 use mio::{Interest, Registry, Token};
 use std::io::{self, ErrorKind, Read, Write};
@@ -26,9 +27,16 @@ const LAST_FRESH: u64 = 18_446_744_073_709_551_583;
 
 /// The link over a socket that never waits. It tells proofs which bytes the system said that its calls
 /// moved; that takes no memory.
+///
+/// A poll tells each arrival once (it is edge-triggered), and the link remembers whether its last read left the socket empty. Until a
+/// poll tells of the socket again a read is then answered `Later` without a call of the system.
 #[derive(Drop)]
 pub struct WireLink {
     stream: TcpStream,
+    // whether the socket may have something to read
+    is_readable: bool,
+    // whether it may have that after each read: no poll tells again of an end or a failure, and urgent bytes part what one read gives
+    stays_readable: bool,
     reads: u64,
     writes: u64,
     failures: u64,
@@ -45,6 +53,8 @@ impl WireLink {
     {
         WireLink {
             stream,
+            is_readable: true,
+            stays_readable: false,
             reads: 0,
             writes: 0,
             failures: 0,
@@ -63,8 +73,16 @@ impl WireLink {
         registry.register(
             &mut self.stream,
             token,
-            Interest::READABLE | Interest::WRITABLE,
+            Interest::READABLE | Interest::WRITABLE | Interest::PRIORITY,
         )
+    }
+
+    /// Notes what a poll told of the socket. It is to be called before the next read, with each event of each poll.
+    pub fn note(&mut self, event: &Event)
+        ensures { ⟦<WireLink as Link>⟧.wire self.new ≡ ⟦<WireLink as Link>⟧.wire self.old }
+    {
+        self.is_readable = true;
+        self.stays_readable |= event.is_read_closed() || event.is_error() || event.is_priority();
     }
 
     /// Ends what is written, and gives the socket for what may still come. None, and the socket is closed, where the other side has
@@ -93,6 +111,16 @@ fn takes_all(last_sent: Option<Sent>) -> bool {
     match last_sent {
         None | Some(Sent::Took(_)) => true,
         Some(Sent::Later) | Some(Sent::Fault) => false,
+    }
+}
+
+/// Whether a stream socket may have more behind such a read into a slice of this length. One that gave less than fits had no more at
+/// that moment, so what comes later is a new arrival, of which a poll tells.
+fn may_have_more(got: Got, length: usize) -> bool {
+    match got {
+        Got::Bytes(count) => count == length,
+        Got::Later => false,
+        Got::End | Got::Fault => true,
     }
 }
 
@@ -146,7 +174,12 @@ impl Link for WireLink {
 
     fn read(&mut self, into: &mut [u8]) -> Got {
         self.reads += 1;
-        let got = try_read(&mut self.stream, into);
+        let got = if self.is_readable {
+            try_read(&mut self.stream, into)
+        } else {
+            Got::Later
+        };
+        self.is_readable = self.stays_readable || may_have_more(got, into.len());
         match got {
             Got::Bytes(count) => note(&mut self.read, &into[..count]),
             Got::Fault => self.failures += 1,
