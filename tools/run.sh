@@ -32,7 +32,7 @@ status=0
 rt try "${limit[@]}" -- "$@" < "$room/input" 2> "$room/told" || status=$?
 # Of a program that came to its end, only what it told itself.
 if grep -q '^run=ended ' "$room/told"; then
-    grep -v -E '^(checked: |interpreted: |run=)' "$room/told" >&2 || true
+    grep -v -E '^(checked: |interpreted: |races: |run=)' "$room/told" >&2 || true
 else
     cat "$room/told" >&2
 fi
