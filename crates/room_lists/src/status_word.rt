@@ -1,6 +1,6 @@
 //! How a status is kept.
 
-ghost use Rattle.std.specs.Prelude.{◌≡◌, ℕ};
+ghost use Rattle.std.specs.Prelude.{ℕ};
 
 use status_bits::BattleStatus;
 
@@ -8,24 +8,12 @@ use status_bits::BattleStatus;
 /// their ranges.
 pub trait StatusWord: Copy {
     ghost number: { Self → ℕ };
-
-    /// The status as a word.
-    fn word(self) -> u32
-        ensures { result ≡ number self };
 }
 
 impl StatusWord for u32 {
     ghost number = { λ word. word };
-
-    fn word(self) -> u32 {
-        self
-    }
 }
 
 impl StatusWord for BattleStatus {
     ghost number = { λ status. status };
-
-    fn word(self) -> u32 {
-        BattleStatus::word(self)
-    }
 }
