@@ -1,7 +1,6 @@
 -- The values of an index, each behind the bytes of its own name.
-use Rattle.std.proofs.Common.{◌≡◌, ◌≤◌, ◌+◌, ℕ, suc, length, arith, List, [], ◌∷◌, ◌++◌, map, filter, refl, sym, ap, subst, ◌∙◌, Bool, true, false, cond, not, is_some}
+use Rattle.std.proofs.Common.{◌≡◌, ℕ, List, [], ◌∷◌, ◌++◌, map, filter, refl, sym, ap, subst, ◌∙◌, Bool, true, false, cond, not, is_some}
 use Rattle.std.specs.Prelude.{find, if◌then◌else◌, Some, None}
-use Rattle.std.proofs.lemmas.List.{map-append}
 use Rattle.std.proofs.lemmas.Option.{same_Some}
 use Rattle.std.specs.Cmp.Lexicographic.{texts_ties, nat_list_eq_equiv}
 use Rattle.std.specs.List.{IsDistinct, AllByRecursion}
@@ -121,23 +120,3 @@ module _ {K V : Type 0} (bytes : K → List ℕ) (name : V → List ℕ) where
         | true ↦ λ same. (sym (same_name_is (bytes k) (bytes e.0) (sym (texts_ties (bytes k) (bytes e.0)) ∙ same)) ∙ is, each.1)
         | false ↦ λ other. (each.0, index_inserted es k v each.1 is)
       ] refl
-
-  -- the next of some entries is put among those that stand in an index, where each is put so into the values
-  module _ (with_one : List V → V → List V) (with_all : List V → List V → List V)
-      (inserted : (es : List (K × V)) (k : K) (v : V) → IsIndex bytes name es → bytes k ≡ name v
-      → values_of (insert_entry (same_key bytes) es k v) ≡ with_one (values_of es) v)
-      (more : (vs ws : List V) (w : V) → with_all vs (ws ++ w ∷ []) ≡ with_one (with_all vs ws) w)
-      (vs : List V) (es done rest left new : List (K × V)) (k : K) (v : V) (spare now : ℕ)
-      (keys : IsIndex bytes name es) (rest_keys : IsIndex bytes name rest) (said : values_of es ≡ with_all vs (values_of done)) (fits : length rest ≤ spare)
-      (next : rest ≡ (k, v) ∷ left) (is : new ≡ insert_entry (same_key bytes) es k v) (room : spare ≤ now + 1) where
-    of_next : IsIndex bytes name ((k, v) ∷ left)
-    of_next = subst (IsIndex bytes name) next rest_keys
-
-    pub put_next : IsIndex bytes name new × IsIndex bytes name left × (values_of new ≡ with_all vs (values_of (done ++ (k, v) ∷ []))) × (length left ≤ now)
-    put_next = (
-      subst (IsIndex bytes name) (sym is) (index_inserted es k v keys of_next.0),
-      of_next.1,
-      ap values_of is ∙ inserted es k v keys of_next.0 ∙ ap (λ ws. with_one ws v) said
-          ∙ sym (more vs (values_of done) v) ∙ ap (with_all vs) (sym (map-append (λ e. e.1) done ((k, v) ∷ []))),
-      (let one : length rest ≡ suc (length left) = ap length next in omega arith),
-    )

@@ -1,7 +1,7 @@
 pub mod Counted
+pub mod Entries
 pub mod Indexed
 pub mod Listed
 pub mod Picked
 pub mod Seen
-pub mod Tagged
 pub mod Tests

@@ -1,85 +1,131 @@
 -- Words that are picked from a list, each once.
-use Rattle.std.proofs.Common.{◌≡◌, ◌<◌, ◌+◌, ℕ, List, [], ◌∷◌, ◌++◌, refl, sym, ap, ◌∙◌, Bool, true, false, not, length, drop, filter, get_or}
+use Rattle.std.proofs.Common.{◌≡◌, ◌<◌, ◌≤◌, ◌+◌, ℕ, List, [], ◌∷◌, ◌++◌, refl, sym, ap, ◌∙◌, Bool, true, false, not, length, map, drop, get_or}
 use Rattle.std.specs.Prelude.{◌||◌, ◌&&◌, if◌then◌else◌}
-use Rattle.std.specs.List.{list_any}
-use Rattle.std.proofs.lemmas.List.{append_assoc, at_drop_more}
+use Rattle.std.proofs.lemmas.List.{append_assoc, append-nil, at_drop_more, drop_all}
 use Rattle.line_words.specs.Table.{same_name, is_among}
 use Rattle.line_words.proofs.Tables.{same_name_is}
 use Rattle.line_words.proofs.Once.{apart_either_way}
-use Rattle.room_lists.proofs.Tests.{and_neither}
-use Rattle.std.proofs.Math.Bool.{and-true, and-false}
+use Rattle.room_lists.specs.Keyed.{has_key, without_key, keys_there}
+use Rattle.room_lists.specs.Units.{words_new}
+use Rattle.room_lists.proofs.Entries.{has_key_is}
+use Rattle.room_lists.proofs.Tests.{and_neither, neither}
+use mathlib.Core.Bool.{beq}
+use Rattle.std.proofs.Math.Bool.{and-true, and-false, or-false, or_assoc}
 
--- Which words are picked, and from what. A picked word is not picked again: past it, the rest is picked from something else
-pub record Picking (S : Type 0) : Type 0 where
-  pub picks : S → List ℕ → Bool
-  pub past : S → List ℕ → S
-  pub all : S → List (List ℕ) → List (List ℕ)
-  pub next : (s : S) (word : List ℕ) (words : List (List ℕ)) → all s (word ∷ words) ≡ (if picks s word then word ∷ all (past s word) words else all s words)
-  pub once : (s : S) (word other : List ℕ) → picks (past s other) word ≡ (picks s word && not (same_name word other))
-
-module _ {S : Type 0} (p : Picking S) where
-  abbrev pub past_all : S → List (List ℕ) → S
-  past_all s [] = s
-  past_all s (word ∷ words) = past_all (p.past s word) words
-
-  past_more : (s : S) (words : List (List ℕ)) (word : List ℕ) → past_all s (words ++ word ∷ []) ≡ p.past (past_all s words) word
-  past_more s [] word = refl
-  past_more s (w ∷ words) word = past_more (p.past s w) words word
-
-  picks_past : (s : S) (word : List ℕ) (others : List (List ℕ)) → p.picks (past_all s others) word ≡ (p.picks s word && not (is_among word others))
-  picks_past s word [] = sym (and-true (p.picks s word))
-  picks_past s word (w ∷ others) =
-      picks_past (p.past s w) word others ∙ ap (λ b. b && not (is_among word others)) (p.once s word w)
-      ∙ and_neither (p.picks s word) (same_name word w) (is_among word others)
+module _ (test : List ℕ → Bool) where
+  -- those that pass a test and were not seen
+  abbrev pub picked : List (List ℕ) → List (List ℕ) → List (List ℕ)
+  picked seen [] = []
+  picked seen (word ∷ words) = if test word && not (is_among word seen) then word ∷ picked (seen ++ word ∷ []) words else picked seen words
 
   -- the words found so far, and those that the rest of the list gives
-  module _ (s : S) (found words : List (List ℕ)) (i : ℕ) (word : List ℕ) (inside : i < length words) (is : word ≡ get_or words i word) where
-    rest_is : p.all (past_all s found) (drop i words)
-        ≡ (if p.picks (past_all s found) word then word ∷ p.all (p.past (past_all s found) word) (drop (i + 1) words) else p.all (past_all s found) (drop (i + 1) words))
-    rest_is =
-        at_drop_more (p.all (past_all s found)) words i word inside ∙ ap (λ w. p.all (past_all s found) (w ∷ drop (i + 1) words)) (sym is)
-        ∙ p.next (past_all s found) word (drop (i + 1) words)
+  module _ (found words : List (List ℕ)) (i : ℕ) (word : List ℕ) (inside : i < length words) (is : word ≡ get_or words i word) where
+    rest_is : picked found (drop i words)
+        ≡ (if test word && not (is_among word found) then word ∷ picked (found ++ word ∷ []) (drop (i + 1) words) else picked found (drop (i + 1) words))
+    rest_is = at_drop_more (picked found) words i word inside ∙ ap (λ w. picked found (w ∷ drop (i + 1) words)) (sym is)
 
-    pub found_more : p.picks s word ≡ true → is_among word found ≡ false
-        → (found ++ word ∷ []) ++ p.all (past_all s (found ++ word ∷ [])) (drop (i + 1) words) ≡ found ++ p.all (past_all s found) (drop i words)
-    found_more picked new =
-        let yes : p.picks (past_all s found) word ≡ true = picks_past s word found ∙ ap (λ b. b && not (is_among word found)) picked ∙ ap not new in
-        ap (λ left. (found ++ word ∷ []) ++ p.all left (drop (i + 1) words)) (past_more s found word)
-        ∙ append_assoc found (word ∷ []) (p.all (p.past (past_all s found) word) (drop (i + 1) words))
-        ∙ ap (λ b. found ++ (if b then word ∷ p.all (p.past (past_all s found) word) (drop (i + 1) words) else p.all (past_all s found) (drop (i + 1) words))) (sym yes)
+    pub found_more : test word ≡ true → is_among word found ≡ false
+        → (found ++ word ∷ []) ++ picked (found ++ word ∷ []) (drop (i + 1) words) ≡ found ++ picked found (drop i words)
+    found_more passes new =
+        let more = picked (found ++ word ∷ []) (drop (i + 1) words) in
+        append_assoc found (word ∷ []) more
+        ∙ ap (λ b. found ++ (if b then word ∷ more else picked found (drop (i + 1) words)))
+        (sym (ap (λ b. b && not (is_among word found)) passes ∙ ap not new))
         ∙ ap (λ ws. found ++ ws) (sym rest_is)
 
-    passed : p.picks (past_all s found) word ≡ false → found ++ p.all (past_all s found) (drop (i + 1) words) ≡ found ++ p.all (past_all s found) (drop i words)
+    passed : (test word && not (is_among word found)) ≡ false → found ++ picked found (drop (i + 1) words) ≡ found ++ picked found (drop i words)
     passed gone =
-        ap (λ b. found ++ (if b then word ∷ p.all (p.past (past_all s found) word) (drop (i + 1) words) else p.all (past_all s found) (drop (i + 1) words))) (sym gone)
+        ap (λ b. found ++ (if b then word ∷ picked (found ++ word ∷ []) (drop (i + 1) words) else picked found (drop (i + 1) words))) (sym gone)
         ∙ ap (λ ws. found ++ ws) (sym rest_is)
 
-    pub passed_absent : p.picks s word ≡ false → found ++ p.all (past_all s found) (drop (i + 1) words) ≡ found ++ p.all (past_all s found) (drop i words)
-    passed_absent none = passed (picks_past s word found ∙ ap (λ b. b && not (is_among word found)) none)
+    pub passed_other : test word ≡ false → found ++ picked found (drop (i + 1) words) ≡ found ++ picked found (drop i words)
+    passed_other other = passed (ap (λ b. b && not (is_among word found)) other)
 
-    pub passed_again : is_among word found ≡ true → found ++ p.all (past_all s found) (drop (i + 1) words) ≡ found ++ p.all (past_all s found) (drop i words)
-    passed_again again = passed (picks_past s word found ∙ ap (λ b. p.picks s word && not b) again ∙ and-false (p.picks s word))
+    pub passed_again : is_among word found ≡ true → found ++ picked found (drop (i + 1) words) ≡ found ++ picked found (drop i words)
+    passed_again again = passed (ap (λ b. test word && not b) again ∙ and-false (test word))
 
--- who is there without those of one name
-pub there_without : {V : Type 0} (name : V → List ℕ) (vs : List V) (key other : List ℕ)
-    → list_any (λ v. same_name key (name v)) (filter (λ v. not (same_name other (name v))) vs) ≡ (list_any (λ v. same_name key (name v)) vs && not (same_name key other))
-there_without name [] key other = refl
-there_without {V} name (t ∷ vs) key other =
-    let left : List V = filter (λ v. not (same_name other (name v))) vs in
-    let rest = there_without name vs key other in
-    elim (same_name other (name t)) as (λ b. same_name other (name t) ≡ b
-    → list_any (λ v. same_name key (name v)) (if not b then t ∷ left else left)
-    ≡ ((same_name key (name t) || list_any (λ v. same_name key (name v)) vs) && not (same_name key other))) [
-      | true ↦ λ e. let is = same_name_is other (name t) e in
-          rest ∙ elim (same_name key (name t)) as (λ a. same_name key (name t) ≡ a
-          → (list_any (λ v. same_name key (name v)) vs && not (same_name key other)) ≡ ((a || list_any (λ v. same_name key (name v)) vs) && not (same_name key other))) [
-            | true ↦ λ f. let same : same_name key other ≡ true = ap (same_name key) is ∙ f in
-                ap (λ s. list_any (λ v. same_name key (name v)) vs && not s) same ∙ and-false (list_any (λ v. same_name key (name v)) vs) ∙ sym (ap not same)
-            | false ↦ λ f. refl
-          ] refl
-      | false ↦ λ e. elim (same_name key (name t)) as (λ a. same_name key (name t) ≡ a
-          → (a || list_any (λ v. same_name key (name v)) left) ≡ ((a || list_any (λ v. same_name key (name v)) vs) && not (same_name key other))) [
-            | true ↦ λ f. sym (ap not (apart_either_way other key (ap (same_name other) (same_name_is key (name t) f) ∙ e)))
-            | false ↦ λ f. rest
-          ] refl
-    ] refl
+  pub all_picked : (found words : List (List ℕ)) (i : ℕ) → length words ≤ i → found ++ picked found (drop i words) ≡ picked [] words → found ≡ picked [] words
+  all_picked found words i past held = sym (append-nil found) ∙ ap (λ ws. found ++ picked found ws) (sym (drop_all i words past)) ∙ held
+
+pub among_more : (word : List ℕ) (words : List (List ℕ)) (other : List ℕ) → is_among word (words ++ other ∷ []) ≡ (is_among word words || same_name word other)
+among_more word [] other = or-false (same_name word other)
+among_more word (w ∷ words) other =
+    ap (λ b. same_name word w || b) (among_more word words other) ∙ sym (or_assoc (same_name word w) (is_among word words) (same_name word other))
+
+-- one more was seen
+seen_too : (b : Bool) (seen : List (List ℕ)) (word other : List ℕ)
+    → ((b && not (is_among other seen)) && not (same_name other word)) ≡ (b && not (is_among other (seen ++ word ∷ [])))
+seen_too b seen word other = and_neither b (is_among other seen) (same_name other word) ∙ ap (λ c. b && not c) (sym (among_more other seen word))
+
+-- a picked key is not there any more
+module _ {T : Type 0} (key_of : T → List ℕ) where
+  there_without : (items : List T) (key other : List ℕ)
+      → has_key key_of key (without_key key_of other items) ≡ (has_key key_of key items && not (same_name key other))
+  there_without [] key other = refl
+  there_without (t ∷ items) key other =
+      let left = without_key key_of other items in
+      let there = has_key key_of key items in
+      let rest = there_without items key other in
+      elim (same_name other (key_of t)) as (λ b. same_name other (key_of t) ≡ b
+      → has_key key_of key (if not b then t ∷ left else left) ≡ ((same_name key (key_of t) || there) && not (same_name key other))) [
+        | true ↦ λ e. let is = same_name_is other (key_of t) e in
+            rest ∙ elim (same_name key (key_of t)) as (λ a. same_name key (key_of t) ≡ a
+            → (there && not (same_name key other)) ≡ ((a || there) && not (same_name key other))) [
+              | true ↦ λ f. let same : same_name key other ≡ true = ap (same_name key) is ∙ f in
+                  ap (λ s. there && not s) same ∙ and-false there ∙ sym (ap not same)
+              | false ↦ λ f. refl
+            ] refl
+        | false ↦ λ e. elim (same_name key (key_of t)) as (λ a. same_name key (key_of t) ≡ a
+            → (a || has_key key_of key left) ≡ ((a || there) && not (same_name key other))) [
+              | true ↦ λ f. sym (ap not (apart_either_way other key (ap (same_name other) (same_name_is key (key_of t) f) ∙ e)))
+              | false ↦ λ f. rest
+            ] refl
+      ] refl
+
+  pub picked_there : (test : List ℕ → Bool) (keys : List (List ℕ)) (items : List T) (seen : List (List ℕ))
+      → ((key : List ℕ) → (test key && not (is_among key seen)) ≡ has_key key_of key items) → picked test seen keys ≡ keys_there key_of items keys
+  picked_there test [] items seen same = refl
+  picked_there test (key ∷ keys) items seen same =
+      ap (λ b. if b then key ∷ picked test (seen ++ key ∷ []) keys else picked test seen keys) (same key)
+      ∙ elim (has_key key_of key items) as (λ b. (if b then key ∷ picked test (seen ++ key ∷ []) keys else picked test seen keys)
+      ≡ (if b then key ∷ keys_there key_of (without_key key_of key items) keys else keys_there key_of items keys)) [
+        | true ↦ ap (λ ks. key ∷ ks) (picked_there test keys (without_key key_of key items) (seen ++ key ∷ [])
+            (λ other. sym (seen_too (test other) seen key other) ∙ ap (λ b. b && not (same_name other key)) (same other) ∙ sym (there_without items other key)))
+        | false ↦ picked_there test keys items seen same
+      ]
+
+-- a picked word is there from then on
+pub picked_new : (test : List ℕ → Bool) (words units seen : List (List ℕ))
+    → ((word : List ℕ) → (test word && not (is_among word seen)) ≡ not (is_among word units)) → picked test seen words ≡ words_new units words
+picked_new test [] units seen same = refl
+picked_new test (word ∷ words) units seen same =
+    ap (λ b. if b then word ∷ picked test (seen ++ word ∷ []) words else picked test seen words) (same word)
+    ∙ elim (is_among word units) as (λ b. (if not b then word ∷ picked test (seen ++ word ∷ []) words else picked test seen words)
+    ≡ (if b then words_new units words else word ∷ words_new (units ++ word ∷ []) words)) [
+      | true ↦ picked_new test words units seen same
+      | false ↦ ap (λ ws. word ∷ ws) (picked_new test words (units ++ word ∷ []) (seen ++ word ∷ [])
+          (λ other. sym (seen_too (test other) seen word other) ∙ ap (λ b. b && not (same_name other word)) (same other)
+          ∙ sym (neither (is_among other units) (same_name other word)) ∙ ap not (sym (among_more other units word))))
+    ]
+
+beq_true : (b : Bool) → beq b true ≡ b
+beq_true true = refl
+beq_true false = refl
+
+beq_false : (b : Bool) → beq b false ≡ not b
+beq_false true = refl
+beq_false false = refl
+
+-- the keys that are there, or those that are not
+abbrev pub asked : {T : Type 0} → (T → List ℕ) → List T → Bool → List ℕ → Bool
+asked key_of items are_there key = beq (has_key key_of key items) are_there
+
+module _ {T : Type 0} (key_of : T → List ℕ) (items : List T) (keys : List (List ℕ)) (are_there : Bool) where
+  pub asked_there : are_there ≡ true → picked (asked key_of items are_there) [] keys ≡ keys_there key_of items keys
+  asked_there is = picked_there key_of (asked key_of items are_there) keys items []
+      (λ key. and-true (asked key_of items are_there key) ∙ ap (beq (has_key key_of key items)) is ∙ beq_true (has_key key_of key items))
+
+  pub asked_new : are_there ≡ false → picked (asked key_of items are_there) [] keys ≡ words_new (map key_of items) keys
+  asked_new is = picked_new (asked key_of items are_there) keys (map key_of items) []
+      (λ key. and-true (asked key_of items are_there key) ∙ ap (beq (has_key key_of key items)) is ∙ beq_false (has_key key_of key items)
+      ∙ ap not (sym (has_key_is key_of key items)))

@@ -1,4 +1,5 @@
 pub mod Room
+pub mod Keyed
 pub mod Tags
 pub mod Units
 pub mod Index

@@ -4,6 +4,7 @@
 #![tactic(auto)]
 
 mod bots;
+mod keyed;
 mod names;
 mod rects;
 mod status_word;

@@ -1,25 +1,12 @@
-use Rattle.std.specs.Map.{values_of}
-use Rattle.std.specs.Vec.Iter.{into_iter_items}
-use Rattle.indexmap.specs.IndexMap.{spare}
-use Rattle.room_lists.specs.Units.{with_unit, with_units}
-use Rattle.room_lists.proofs.Counted.{with_more}
-use Rattle.room_lists.proofs.Indexed.{put_next}
-use Rattle.room_lists.proofs.Tagged.{key_bytes}
-use Rattle.room_lists.proofs.Listed.{unit_name, unit_inserted, units_put}
+use Rattle.std.proofs.Common.{◌≡◌, ◌∙◌, ap, subst}
+use Rattle.std.specs.Prelude.{ℕ, List, OnOk}
+use Rattle.room_lists.specs.Units.{with_units}
+use Rattle.room_lists.proofs.Listed.{with_units_are}
 use Rattle.room_lists.proofs.units.Units.put.Goals as goal
 
-pub loop-key-preserved : goal.loop-key-preserved
-loop-key-preserved c =
-    let put = put_next key_bytes unit_name with_unit with_units unit_inserted (with_more units_put) (values_of c.reserve.new.self.entries) c.loop-key.self-inside.by_word.entries c.loop-key.yielded (into_iter_items c.loop-key.key-iterator)
-    (into_iter_items c.next.new.self) c.insert.new.self.entries c.in-Some.key c.in-Some.word (spare c.loop-key.self-inside.by_word) (spare c.insert.new.self)
-    c.loop-key.invariant.keys c.loop-key.invariant.left c.loop-key.invariant.said c.loop-key.invariant.fits
-    c.in-Some.ensures.steps.0 c.in_ok-insert.ensures.entries c.insert.ensures.spare in
-    record { keys = put.0; left = put.1; said = put.2; fits = put.3 }
-
-pub loop-key-preserved-in_ok-insert : goal.loop-key-preserved-in_ok-insert
-loop-key-preserved-in_ok-insert c =
-    let put = put_next key_bytes unit_name with_unit with_units unit_inserted (with_more units_put) (values_of c.reserve.new.self.entries) c.loop-key.self-inside.by_word.entries c.loop-key.yielded (into_iter_items c.loop-key.key-iterator)
-    (into_iter_items c.next.new.self) c.insert.new.self.entries c.in-Some.key c.in-Some.word (spare c.loop-key.self-inside.by_word) (spare c.insert.new.self)
-    c.loop-key.invariant.keys c.loop-key.invariant.left c.loop-key.invariant.said c.loop-key.invariant.fits
-    c.in-Some.ensures.steps.0 c.in_ok-insert.ensures.entries c.insert.ensures.spare in
-    record { keys = put.0; left = put.1; said = put.2; fits = put.3 }
+pub returns-clause-ok : goal.returns-clause-ok
+returns-clause-ok c =
+    subst (λ (us : List (List ℕ)). OnOk c.put.result (c.put.new.self ≡ us))
+    (with_units_are c.self.inside.units c.into_vec.result.items
+    ∙ ap (λ (us : List (List ℕ)). with_units us c.into_vec.result.items) c.self.view_is ∙ ap (with_units c.args.self.now) c.into_vec.ensures)
+    c.put.ensures.ok

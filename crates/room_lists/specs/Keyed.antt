@@ -1,0 +1,30 @@
+-- Items in order of first putting, each found by its key.
+use Rattle.std.specs.Prelude.{ℕ, Bool, not, if◌then◌else◌, List, [], ◌∷◌, filter}
+use Rattle.std.specs.List.{list_any}
+use Rattle.line_words.specs.Table.{same_name}
+
+module _ {T : Type 0} (key_of : T → List ℕ) where
+  abbrev pub has_key : List ℕ → List T → Bool
+  has_key key items = list_any (λ t. same_name key (key_of t)) items
+
+  -- a key that is there keeps its place
+  abbrev pub with_item : List T → T → List T
+  with_item [] item = item ∷ []
+  with_item (t ∷ items) item = if same_name (key_of item) (key_of t) then item ∷ items else t ∷ with_item items item
+
+  -- a later item of one key wins
+  abbrev pub with_items : List T → List T → List T
+  with_items items [] = items
+  with_items items (item ∷ more) = with_items (with_item items item) more
+
+  abbrev pub without_key : List ℕ → List T → List T
+  without_key key items = filter (λ t. not (same_name key (key_of t))) items
+
+  abbrev pub without_keys : List T → List (List ℕ) → List T
+  without_keys items [] = items
+  without_keys items (key ∷ keys) = without_keys (without_key key items) keys
+
+  -- the keys that are there, each once, in the order of the list of keys
+  abbrev pub keys_there : List T → List (List ℕ) → List (List ℕ)
+  keys_there items [] = []
+  keys_there items (key ∷ keys) = if has_key key items then key ∷ keys_there (without_key key items) keys else keys_there items keys

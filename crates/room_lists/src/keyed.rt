@@ -1,0 +1,215 @@
+//! Items that are found by their keys, as the script tags and the disabled units of a room are.
+
+ghost use Rattle.std.specs.Prelude.{◌≡◌, ◌<◌, ◌≤◌, ◌^◌, ℕ, List, Vec, not, nat_lt, map, length, [], true, false, OnOk, OnErr, IfOk};
+ghost use Rattle.std.specs.Map.{values_of};
+ghost use Rattle.room_lists.specs.Index.{IsIndex};
+ghost use Rattle.room_lists.specs.Keyed as keyed;
+ghost use Rattle.room_lists.specs.Units.{words_new};
+
+use crate::names::is_same;
+use indexmap::{IndexMap, IndexSet};
+use line_words::{Pair, WordBuf, WordList};
+use std::alloc::{AllocError, Global};
+use std::marker::Model;
+
+/// An item that is found by its key.
+pub(crate) trait Keyed: Drop {
+    ghost key_of: { Self → List ℕ };
+
+    /// The bytes of the key.
+    fn key(&self) -> &[u8]
+        ensures { result.now ≡ key_of self.now };
+}
+
+impl Keyed for Pair {
+    ghost key_of = { λ pair. pair.key };
+
+    fn key(&self) -> &[u8] {
+        self.key.as_slice()
+    }
+}
+
+impl Keyed for WordBuf {
+    ghost key_of = { λ word. word };
+
+    fn key(&self) -> &[u8] {
+        self.as_slice()
+    }
+}
+
+/// Items in order of first putting, no two of one key.
+///
+/// A look-up takes the same time however many there are. The index has a copy of each key.
+#[derive(Drop)]
+pub(crate) struct KeyedList<T: Keyed> {
+    by_key: IndexMap<Vec<u8>, T>,
+}
+
+impl<T: Keyed> Model for KeyedList<T> {
+    ghost use Rattle.std.specs.Prelude.{List, ℕ, Vec};
+    ghost use Rattle.std.specs.declared.alloc.Global.{Global};
+    ghost use Rattle.indexmap.specs.IndexMap.{values};
+    ghost use Rattle.room_lists.specs.Index.{IsIndex};
+
+    ghost Value = { List T };
+
+    ghost view = { λ l. values l.by_key };
+
+    ghost invariant = { λ l. IsIndex (λ (key : Vec ℕ Global). key.items) T.key_of l.by_key.entries };
+}
+
+/// Whether a key is among those of items.
+fn has_key<T: Keyed>(key: &[u8], items: &[T]) -> bool
+    ensures { result ≡ keyed.has_key T.key_of key.now items.now }
+{
+    items.iter().any(|item| is_same(key, item.key()))
+}
+
+/// Each item behind a copy of its key.
+fn entries_of<T: Keyed>(alloc: Global, items: Vec<T>) -> Result<Vec<(Vec<u8>, T)>, AllocError>
+    ensures items { IfOk result (λ entries. values_of entries.items ≡ items.items) }
+    ensures keys { IfOk result (λ entries. IsIndex (λ (key : Vec ℕ Global). key.items) T.key_of entries.items) }
+{
+    let mut entries = Vec::with_capacity(alloc, items.len())?;
+    for item in items {
+        let key = Vec::from_slice(alloc, item.key())?;
+        entries.push((key, item))?;
+    }
+    Ok(entries)
+}
+
+impl<T: Keyed> KeyedList<T> {
+    /// No items. It takes no memory yet.
+    pub(crate) fn new(alloc: Global) -> KeyedList<T>
+        ensures { result ≡ [] }
+    {
+        KeyedList {
+            by_key: IndexMap::new(alloc),
+        }
+    }
+
+    /// The items.
+    pub(crate) fn as_slice(&self) -> &[T]
+        ensures { result.now ≡ self.now }
+    {
+        self.by_key.values().as_slice()
+    }
+
+    /// Whether an item of this key is there.
+    fn has_bytes(&self, key: &[u8]) -> bool
+        ensures { result ≡ keyed.has_key T.key_of key.now self.now }
+    {
+        self.by_key.contains_key(key)
+    }
+
+    /// Whether there would be at most `limit` items, if these were put.
+    pub(crate) fn has_room_for(&self, items: &[T], limit: usize) -> bool
+        requires { limit < 2 ^ 63 }
+        ensures { result ≡ not (nat_lt limit (length (keyed.with_items T.key_of self.now items.now))) }
+    {
+        self.has_ample_room_for(items, limit) || self.has_room_for_distinct(items, limit)
+    }
+
+    /// Whether there is room even if each item whose key is not there yet is counted, also where its key
+    /// stands twice. That is one look-up an item, and nearly always it is so.
+    fn has_ample_room_for(&self, items: &[T], limit: usize) -> bool
+        requires { limit < 2 ^ 63 }
+        ensures { result ≡ true → length (keyed.with_items T.key_of self.now items.now) ≤ limit }
+    {
+        let mut most = self.by_key.len();
+        for item in items {
+            if most > limit {
+                return false;
+            }
+            if !self.has_bytes(item.key()) {
+                most += 1;
+            }
+        }
+        most <= limit
+    }
+
+    /// Whether there is room if each key is counted once. For each item whose key is not there yet that
+    /// is a walk of those before it, since no memory is asked for here.
+    fn has_room_for_distinct(&self, items: &[T], limit: usize) -> bool
+        requires { limit < 2 ^ 63 }
+        ensures { result ≡ not (nat_lt limit (length (keyed.with_items T.key_of self.now items.now))) }
+    {
+        let mut count = self.by_key.len();
+        for k in 0..items.len() {
+            if count > limit {
+                return false;
+            }
+            let key = items[k].key();
+            if !self.has_bytes(key) && !has_key(key, &items[..k]) {
+                count += 1;
+            }
+        }
+        count <= limit
+    }
+
+    /// Puts items. Where memory is refused, nothing changes.
+    pub(crate) fn put(&mut self, alloc: Global, items: Vec<T>) -> Result<(), AllocError>
+        ensures ok { OnOk result (self.new ≡ keyed.with_items T.key_of self.old items.items) }
+        ensures err { OnErr result (self.new ≡ self.old) }
+    {
+        let entries = entries_of(alloc, items)?;
+        self.by_key.reserve(entries.len())?;
+        for (key, item) in entries {
+            self.by_key.insert(key, item)?; // there is room
+        }
+        Ok(())
+    }
+
+    /// Removes the items of these keys.
+    pub(crate) fn remove(&mut self, keys: &[WordBuf])
+        ensures { self.new ≡ keyed.without_keys T.key_of self.old keys.now }
+    {
+        for key in keys {
+            // Its contract says that no key stands twice, which the proof wants of the keys as they were.
+            let _ = self.by_key.len();
+            let _ = self.by_key.shift_remove(key.as_slice());
+        }
+    }
+
+    /// Removes all items.
+    pub(crate) fn clear(&mut self)
+        ensures { self.new ≡ [] }
+    {
+        self.by_key.clear();
+    }
+
+    /// Those of the keys that are there, each once.
+    pub(crate) fn keys_there(&self, alloc: Global, keys: &[WordBuf]) -> Result<WordList, AllocError>
+        ensures { IfOk result (λ there. there ≡ keyed.keys_there T.key_of self.now keys.now) }
+    {
+        self.keys_where(alloc, keys, true)
+    }
+
+    /// Those of the keys that are not there, each once.
+    pub(crate) fn keys_new(&self, alloc: Global, keys: &[WordBuf]) -> Result<WordList, AllocError>
+        ensures { IfOk result (λ new. new ≡ words_new (map T.key_of self.now) keys.now) }
+    {
+        self.keys_where(alloc, keys, false)
+    }
+
+    /// Those of the keys that are there, or those that are not, each once.
+    fn keys_where(
+        &self,
+        alloc: Global,
+        keys: &[WordBuf],
+        are_there: bool,
+    ) -> Result<WordList, AllocError>
+        ensures there { are_there ≡ true → IfOk result (λ picked. picked ≡ keyed.keys_there T.key_of self.now keys.now) }
+        ensures new { are_there ≡ false → IfOk result (λ picked. picked ≡ words_new (map T.key_of self.now) keys.now) }
+    {
+        let mut seen = IndexSet::new(alloc);
+        let mut picked = Vec::new(alloc);
+        for key in keys {
+            let bytes = key.as_slice();
+            if self.has_bytes(bytes) == are_there && seen.insert(bytes)? {
+                picked.push(WordBuf::copy_of(alloc, bytes)?)?;
+            }
+        }
+        Ok(WordList::new(picked))
+    }
+}
