@@ -13,7 +13,7 @@ use std::marker::Model;
 /// The highest rank: a status word has three bits for it.
 const TOP_RANK: u8 = 7;
 
-/// An account under which a client can log in.
+/// An account under which a client can log in. Its fields are those of a table of a file of accounts.
 #[derive(Drop)]
 pub struct Account {
     name: Vec<u8>,
@@ -40,10 +40,11 @@ impl Model for Account {
 
 impl Account {
     /// An account of these fields: a name of 1 to 20 letters, digits, `_`, `[` and `]`; a password
-    /// word (see [`crate::password_word`]); a number; a rank of 0 to 7; whether its owner is a
-    /// moderator; whether it is a program; a country of two upper-case letters, or `??`.
+    /// word, 24 bytes (see [`crate::password_word`]); a number of 32 bits; a rank of 0 to 7; whether its
+    /// owner is a moderator (`access`); whether it is a program's (`bot`); a country of two upper-case
+    /// letters, or `??`.
     ///
-    /// `BadField(0)` where a field breaks its rule, else `Memory` where there is none for the name.
+    /// `BadField(0)` where a field breaks its rule, else `Memory` where memory for the name is refused.
     pub fn new(
         alloc: Global,
         name: &[u8],
@@ -102,7 +103,7 @@ impl Account {
         &self.name
     }
 
-    /// The word of its password.
+    /// The word of its password: the base64 text of 16 bytes, 24 bytes long.
     pub fn password(&self) -> &[u8]
         ensures value { result.now ≡ self.now.password }
         ensures is_password_word { is_password_word result.now ≡ true }
@@ -110,7 +111,7 @@ impl Account {
         &self.password
     }
 
-    /// Its number, which ADDUSER tells.
+    /// Its number, 0 to 4294967295, which ADDUSER tells (`accountID`).
     pub fn id(&self) -> u32
         ensures { result ≡ self.now.id }
     {

@@ -70,7 +70,7 @@ impl AccountBook {
         self.accounts.is_empty()
     }
 
-    /// The account of this name.
+    /// The account of this name; None where there is none.
     pub fn get(&self, name: &[u8]) -> Option<&Account>
         ensures { option_copied result ≡ account_of name.now self.now }
     {
@@ -79,8 +79,8 @@ impl AccountBook {
 
     /// Adds an account behind the others.
     ///
-    /// `DuplicateName` where an account of that name is there, else `Memory` where there is none to
-    /// keep one more. A refused account is let go, and the book stays as it was.
+    /// `DuplicateName` where an account of that name is there, else `Memory` where memory for one more
+    /// is refused. A refused account is let go, and the book stays as it was.
     pub fn add(&mut self, account: Account) -> Result<(), AccountsError>
         ensures ok { OnOk result (self.new ≡ self.old ++ account ∷ []) }
         ensures duplicate { (result ≡ Err AccountsError.DuplicateName)

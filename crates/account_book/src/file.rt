@@ -3,7 +3,7 @@
 //! It is TOML. `format` is 1 or 2, and 1 where it is missing; `account` is a list of tables and may
 //! be missing; keys that are not known are passed over. Each table has the keys `name`, `password`
 //! and `id`, and may have `rank` (else 0), `access` and `bot` (else false) and `country` (else
-//! `??`).
+//! `??`). What each may be stands at [`Account::new`](crate::Account::new).
 //!
 //! In format 2 there may be a table `default`, which gives rank, access, bot and country for the
 //! accounts that leave them out, and an account may have `disabled` (else false). A disabled

@@ -13,7 +13,7 @@ fn octet_before_dot(text: &[u8]) -> Option<(u8, &[u8])>
     Some((u8::try_from(value).ok()?, rest))
 }
 
-/// The IPv4 address that the text writes: four numbers up to 255 without leading zeros, parted by dots.
+/// The IPv4 address that the whole text writes: four numbers 0 to 255 without leading zeros, parted by dots. `None` at any other text.
 pub fn address(text: &[u8]) -> Option<[u8; 4]>
     ensures { Finds (IsAddress text.now) result }
 {
@@ -30,7 +30,8 @@ fn port(text: &[u8]) -> Option<u16>
     u16::try_from(number(text)?).ok()
 }
 
-/// The IPv4 address and the port that the text writes: an address, a colon, and a number up to 65535 without leading zeros.
+/// The IPv4 address and the port that the whole text writes: an address, a colon, and a number 0 to 65535 without leading zeros.
+/// `None` at any other text.
 pub fn socket_address(text: &[u8]) -> Option<([u8; 4], u16)>
     ensures { Finds (IsSocketAddress text.now) result }
 {

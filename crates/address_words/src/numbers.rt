@@ -16,7 +16,7 @@ pub fn part_at(bytes: &[u8], mark: u8) -> Option<(&[u8], &[u8])>
     Some((&bytes[..at], &bytes[at + 1..]))
 }
 
-/// The number that the text writes: decimal, without leading zeros, at most 4294967295.
+/// The number that the whole text writes: decimal, without leading zeros, 0 to 4294967295. `None` at any other text.
 pub fn number(text: &[u8]) -> Option<u32>
     ensures { Finds (IsNumber text.now) result }
 {
@@ -27,7 +27,8 @@ pub fn number(text: &[u8]) -> Option<u32>
     (buffer.format(value) == digits).then_some(value)
 }
 
-/// The number that the text begins with, up to a `mark` that stands before the digits in ASCII, and what stands behind it.
+/// The number, as `number` reads one, before the first `mark` of the text, and what stands behind the mark. `None` where there is no
+/// mark or no such number. The mark is a byte before the digits in ASCII.
 pub fn number_before(text: &[u8], mark: u8) -> Option<(u32, &[u8])>
     requires { mark < 48 }
     ensures sound { IfSome result (λ parts. LeadsWith mark text.now parts.0 parts.1.now) }

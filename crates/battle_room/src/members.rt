@@ -52,7 +52,7 @@ impl<M: Copy> Member<M> {
         &self.name
     }
 
-    /// The mark that was given with the member.
+    /// The mark that was given with the member. No contract speaks of it.
     pub fn mark(&self) -> M {
         self.mark
     }
@@ -64,7 +64,8 @@ impl<M: Copy> Member<M> {
         self.status
     }
 
-    /// The colour that the member shows, as it was sent.
+    /// The colour that the member shows, as it was sent (`teamColor`): in the protocol -2147483648 to
+    /// 4294967295, which is not checked here.
     pub fn colour(&self) -> i64
         ensures { result ≡ self.now.colour }
     {

@@ -1,6 +1,6 @@
 //! A room: what the members of a battle share.
 
-ghost use Rattle.std.specs.Prelude.{◌≡◌, ◌<◌, List, not, OnOk, OnErr, IfOk, option_copied, false};
+ghost use Rattle.std.specs.Prelude.{◌≡◌, ◌<◌, not, OnOk, OnErr, IfOk, option_copied, false};
 ghost use Rattle.std.specs.List.{IsDistinct};
 ghost use Rattle.line_words.specs.Table.{same_name, at_number};
 ghost use Rattle.room_lists.specs.Room as room;
@@ -46,8 +46,8 @@ impl<M: Copy> Model for Room<M> {
 }
 
 impl Room {
-    /// Not run by the server, which uses `with_mark`: a room with its founder alone, without bots,
-    /// rectangles and tags.
+    /// Not run by the server, which uses `with_mark`: a room with its founder alone, and all its lists
+    /// empty. Fails only where memory is refused.
     pub fn new(alloc: Global, founder: NameBuf) -> Result<Room, AllocError>
         ensures { IfOk result (λ r. r ≡ room.new_room founder) }
     {
@@ -76,7 +76,8 @@ impl Room {
 }
 
 impl<M: Copy> Room<M> {
-    /// A room with its founder alone, who has this mark, without bots, rectangles and tags.
+    /// A room with its founder alone, who has this mark, and all its lists empty. Fails only where memory
+    /// is refused.
     pub fn with_mark(alloc: Global, founder: NameBuf, mark: M) -> Result<Room<M>, AllocError>
         ensures { IfOk result (λ r. r ≡ room.new_room founder) }
     {
@@ -115,7 +116,7 @@ impl<M: Copy> Room<M> {
         self.rects.at(ally)
     }
 
-    /// The start rectangles of all ally numbers, in their order.
+    /// The start rectangles of the ally numbers 0 to 15, in their order; None for one that has none.
     pub fn rects(&self) -> &[Option<Rect>; ALLY_COUNT]
         ensures { self.now.rects ≡ numbered 0 result.now }
     {
@@ -151,7 +152,7 @@ impl<M: Copy> Room<M> {
         self.askers.has(name)
     }
 
-    /// The one of a name who asks to join.
+    /// The one of a name who asks to join; None where nobody of it does.
     pub fn asker(&self, name: &NameBuf) -> Option<&Asker>
         ensures { option_copied result ≡ room.asker_of name.now self.now }
     {
@@ -165,14 +166,14 @@ impl<M: Copy> Room<M> {
         self.members.has(name)
     }
 
-    /// The member of a name.
+    /// The member of a name; None where there is none.
     pub fn member(&self, name: &NameBuf) -> Option<&Member<M>>
         ensures { option_copied result ≡ room.member_of name.now self.now }
     {
         self.members.member(name)
     }
 
-    /// The bot of a name.
+    /// The first bot of a name; None where there is none.
     pub fn bot(&self, name: &WordBuf) -> Option<&Bot>
         ensures { option_copied result ≡ room.bot_of name.now self.now }
     {
@@ -187,42 +188,45 @@ impl<M: Copy> Room<M> {
         self.members.is_first(name)
     }
 
-    /// Whether there are as many bots as there may be.
+    /// Whether there are 64 bots (`BOT_LIMIT`) or more.
     pub fn is_full_of_bots(&self) -> bool
         ensures { result ≡ room.is_full_of_bots self.now }
     {
         self.bots.is_full()
     }
 
-    /// Whether there would be no more tags than there may be, if these were set.
+    /// Whether there would be at most 512 tags (`TAG_LIMIT`), if these were set.
     pub fn has_room_for(&self, pairs: &[Pair]) -> bool
         ensures { result ≡ not (room.has_too_many_tags (tags.with_tags self.now.tags pairs.now)) }
     {
         self.tags.has_room_for(pairs)
     }
 
-    /// Those of the keys that are set, each once, in the order of the list of keys.
+    /// Those of the keys that are set, each once, in the order of the list of keys. Fails only where memory
+    /// is refused.
     pub fn keys_there(&self, alloc: Global, keys: &[WordBuf]) -> Result<WordList, AllocError>
         ensures { IfOk result (λ there. there ≡ tags.keys_there self.now.tags keys.now) }
     {
         self.tags.keys_there(alloc, keys)
     }
 
-    /// Whether there would be no more disabled units than there may be, if these were disabled.
+    /// Whether there would be at most 1,024 disabled units (`UNIT_LIMIT`), if these were disabled.
     pub fn has_room_for_units(&self, words: &[WordBuf]) -> bool
         ensures { result ≡ not (room.has_too_many_units (units.with_units self.now.units words.now)) }
     {
         self.units.has_room_for(words)
     }
 
-    /// Those of the words that are no disabled units, each once, in the order of the list of words.
+    /// Those of the words that are no disabled units, each once, in the order of the list of words. Fails
+    /// only where memory is refused.
     pub fn units_new(&self, alloc: Global, words: &[WordBuf]) -> Result<WordList, AllocError>
         ensures { IfOk result (λ new. new ≡ units.words_new self.now.units words.now) }
     {
         self.units.words_new(alloc, words)
     }
 
-    /// Those of the words that are disabled units, each once, in the order of the list of words.
+    /// Those of the words that are disabled units, each once, in the order of the list of words. Fails only
+    /// where memory is refused.
     pub fn units_there(&self, alloc: Global, words: &[WordBuf]) -> Result<WordList, AllocError>
         ensures { IfOk result (λ there. there ≡ units.words_there self.now.units words.now) }
     {
@@ -239,7 +243,7 @@ impl<M: Copy> Room<M> {
         self.members.add(name, mark)
     }
 
-    /// One who may be a member goes, with all its bots.
+    /// A member goes, with all its bots. Where there is none of the name, only bots with that owner go.
     pub fn drop_member(&mut self, name: &NameBuf)
         ensures { self.new ≡ room.without_member name.now self.old }
     {
@@ -254,7 +258,8 @@ impl<M: Copy> Room<M> {
         self.members.put_status(name, status, colour);
     }
 
-    /// One bot more. Where memory is refused, nothing changes.
+    /// One bot more, behind the others, also where its name is taken or there are 64. Where memory is
+    /// refused, nothing changes.
     pub fn put_bot(&mut self, bot: Bot) -> Result<(), AllocError>
         ensures ok { OnOk result (self.new ≡ room.with_bot bot self.old) }
         ensures err { OnErr result (self.new ≡ self.old) }
@@ -276,7 +281,7 @@ impl<M: Copy> Room<M> {
         self.bots.remove(name);
     }
 
-    /// A start rectangle for an ally number, 0 to 15, in place of the one that it may have.
+    /// A start rectangle for an ally number, 0 to 15, in the place of an earlier one.
     pub fn put_rect(&mut self, ally: u8, rect: Rect)
         requires { ally < 16 }
         ensures { self.new ≡ room.with_rect ally rect self.old }
@@ -284,7 +289,7 @@ impl<M: Copy> Room<M> {
         self.rects.put(ally, rect);
     }
 
-    /// No start rectangle for an ally number, 0 to 15.
+    /// No start rectangle any more for an ally number, 0 to 15. Where it has none, nothing changes.
     pub fn drop_rect(&mut self, ally: u8)
         requires { ally < 16 }
         ensures { self.new ≡ room.without_rect ally self.old }
@@ -292,8 +297,8 @@ impl<M: Copy> Room<M> {
         self.rects.remove(ally);
     }
 
-    /// Sets tags: a key that is set keeps its place, and of two pairs of one key the later wins.
-    /// Where memory is refused, nothing changes.
+    /// Sets tags, however many there are then: a key that is set keeps its place, another comes last, and of
+    /// two pairs of one key the later wins. Where memory is refused, nothing changes.
     pub fn put_tags(&mut self, pairs: PairList) -> Result<(), AllocError>
         ensures ok { OnOk result (self.new ≡ room.set_tags pairs self.old) }
         ensures err { OnErr result (self.new ≡ self.old) }
@@ -308,7 +313,8 @@ impl<M: Copy> Room<M> {
         self.tags.remove(keys);
     }
 
-    /// Units are disabled: one that is keeps its place. Where memory is refused, nothing changes.
+    /// Units are disabled, however many there are then: one that is keeps its place, another comes last.
+    /// Where memory is refused, nothing changes.
     pub fn put_units(&mut self, words: WordList) -> Result<(), AllocError>
         ensures ok { OnOk result (self.new ≡ room.disable_units words self.old) }
         ensures err { OnErr result (self.new ≡ self.old) }
@@ -341,14 +347,14 @@ impl<M: Copy> Room<M> {
         self.askers.add(name, script_password)
     }
 
-    /// One who may ask to join asks no more.
+    /// One who asks to join asks no more. Where nobody of the name asks, nothing changes.
     pub fn drop_asker(&mut self, name: &NameBuf)
         ensures { self.new ≡ room.without_asker name.now self.old }
     {
         drop(self.remove_asker(name));
     }
 
-    /// One who may ask to join asks no more, and is given where it does.
+    /// One who asks to join asks no more, and is given; None, and no change, where nobody of the name asks.
     pub(crate) fn remove_asker(&mut self, name: &NameBuf) -> Option<Asker>
         ensures given { result ≡ room.asker_of name.now self.old }
         ensures rest { self.new ≡ room.without_asker name.now self.old }

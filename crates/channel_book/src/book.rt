@@ -57,7 +57,7 @@ impl ChannelBook {
 
     /// A user joins a channel, behind those who are in it. The first who joins makes the channel.
     ///
-    /// `AlreadyIn` where the user is in it, else `Memory` where there is none for one name more.
+    /// `AlreadyIn` where the user is in it, else `Memory` where memory for one more is refused.
     /// The names of a refused call are let go, and the book stays as it was.
     pub fn join(&mut self, channel: NameBuf, user: NameBuf) -> Result<(), ChannelError>
         ensures ok { OnOk result (self.new ≡ joined channel user self.old) }
@@ -86,7 +86,8 @@ impl<M: Copy> ChannelBook<M> {
         }
     }
 
-    /// A user who is not in a channel joins it under a mark. Where memory is refused, nothing changes.
+    /// A user who is not in a channel joins it under a mark, behind those who are in it; the first makes
+    /// the channel. Fails only where memory is refused; then nothing changes.
     pub fn add_member(&mut self, channel: NameBuf, user: NameBuf, mark: M) -> Result<(), AllocError>
         requires { is_among user (names_in self.old channel) ≡ false }
         ensures ok { OnOk result (self.new ≡ joined channel user self.old) }
@@ -119,7 +120,8 @@ impl<M: Copy> ChannelBook<M> {
         Ok(())
     }
 
-    /// A user who may be in a channel is in it no more.
+    /// A user is in a channel no more, which goes with the last of its members. Where the user is not in it,
+    /// nothing changes.
     pub fn remove_member(&mut self, channel: &NameBuf, user: &NameBuf)
         ensures { self.new ≡ left channel.now user.now self.old }
     {
@@ -152,7 +154,8 @@ impl<M: Copy> ChannelBook<M> {
         }
     }
 
-    /// The marks of the members of a channel, in the order of their names.
+    /// The marks of the members of a channel, in the order of joining; none, where there is none of that name.
+    /// No contract speaks of them.
     pub fn marks_in(&self, channel: &NameBuf) -> &[M] {
         match self.lists.get(channel) {
             Some(members) => members.marks(),
@@ -160,7 +163,7 @@ impl<M: Copy> ChannelBook<M> {
         }
     }
 
-    /// The members of a channel, where there is one of that name.
+    /// The members of a channel; None where there is none of that name.
     pub fn members_in(&self, channel: &NameBuf) -> Option<&Members<M>>
         ensures { names_of (option_copied result) ≡ names_in self.now channel.now }
     {
@@ -184,14 +187,15 @@ impl<M: Copy> ChannelBook<M> {
         }
     }
 
-    /// How many are in a channel.
+    /// How many are in a channel; 0 where there is none of that name.
     pub fn member_count(&self, channel: &NameBuf) -> usize
         ensures { result ≡ length (names_in self.now channel.now) }
     {
         self.names_in(channel).len()
     }
 
-    /// The member who joined a channel with `k` of its members before.
+    /// The member with `k` of the members of a channel before it, in order of joining; None where there are
+    /// no more than `k`.
     pub fn member_at(&self, channel: &NameBuf, k: usize) -> Option<&NameBuf>
         ensures { option_copied result ≡ slice_get (names_in self.now channel.now) k }
     {
@@ -207,7 +211,8 @@ impl<M: Copy> ChannelBook<M> {
         self.lists.len()
     }
 
-    /// The name of the channel with `k` channels before it, in the order of the bytes of names.
+    /// The name of the channel with `k` channels before it, in the order of the bytes of names; None where
+    /// there are no more than `k`.
     pub fn channel_at(&self, k: usize) -> Option<&NameBuf>
         ensures { option_copied result ≡ slice_get (keys_of self.now) k }
     {

@@ -61,7 +61,7 @@ impl<M: Copy> Lists<M> {
         Ok(())
     }
 
-    /// A user who may be in a channel is in it no more.
+    /// A user is in a channel no more. Where it is not in it, nothing changes.
     pub fn remove(&mut self, channel: &NameBuf, user: &NameBuf)
         ensures { self.new ≡ left channel.now user.now self.old }
     {

@@ -10,8 +10,8 @@ use line_words::NameBuf;
 use std::alloc::{AllocError, Global};
 use std::marker::Model;
 
-/// The names of those who are in a channel, in order of joining, none of them twice; beside each what
-/// its caller gave with it, of which no contract speaks.
+/// The names of those who are in a channel, in order of joining, none of them twice; beside each the
+/// mark that its caller gave with it, of which no contract speaks.
 ///
 /// Whether a name is among them takes the same time however many there are.
 #[derive(Drop)]
@@ -29,7 +29,7 @@ impl<M: Copy> Model for Members<M> {
 }
 
 impl<M: Copy> Members<M> {
-    /// The names.
+    /// The names, in order of joining.
     pub fn as_slice(&self) -> &[NameBuf]
         ensures names { result.now ≡ self.now }
         ensures distinct { IsDistinct same_name result.now }
@@ -37,7 +37,7 @@ impl<M: Copy> Members<M> {
         self.marks.keys().as_slice()
     }
 
-    /// What stands beside the names, in their order.
+    /// The marks of the members, in the order of joining. No contract speaks of them.
     pub fn marks(&self) -> &[M] {
         self.marks.values().as_slice()
     }

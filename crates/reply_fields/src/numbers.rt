@@ -1,6 +1,6 @@
 //! Reading one number, and the bytes behind it.
 
-ghost use Rattle.std.specs.Prelude.{◌≡◌, ◌≤◌, ℤ, ◌≤ℤ◌, IfErr, IfOk, Some, ◌==◌, not};
+ghost use Rattle.std.specs.Prelude.{◌≡◌, ◌≤◌, ℤ, ◌≤ℤ◌, IfErr, IfOk, Some, ◌==◌};
 ghost use Rattle.reply_fields.specs.Fields.{Gives, begins_with, flag_at, is_canonical, number_at, number_in, wide_at, whole};
 
 use crate::error::ReadError;
@@ -14,14 +14,14 @@ pub fn battle_at(bytes: &[u8]) -> Result<(u32, &[u8]), ReadError>
     number_at(bytes, 1, 2147483647)
 }
 
-/// A number of 32 bits, behind one space.
+/// A number of 32 bits, 0 to 4,294,967,295, behind one space.
 pub fn u32_at(bytes: &[u8]) -> Result<(u32, &[u8]), ReadError>
     ensures { Gives (λ x. (x.0, x.1.now)) result (number_at 0 4294967295 bytes.now) }
 {
     number_at(bytes, 0, u32::MAX)
 }
 
-/// A number of 16 bits, behind one space.
+/// A number of 16 bits, 0 to 65,535, behind one space.
 pub fn u16_at(bytes: &[u8]) -> Result<(u16, &[u8]), ReadError>
     ensures { Gives (λ x. (x.0, x.1.now)) result (number_at 0 65535 bytes.now) }
 {
@@ -37,7 +37,7 @@ pub fn small_at(bytes: &[u8], high: u8) -> Result<(u8, &[u8]), ReadError>
     Ok((number as u8, rest))
 }
 
-/// A message id, 0 to 2,147,483,647, that is the whole word, or `None`.
+/// The message id, 0 to 2,147,483,647, that the whole word is, in decimal without needless zeros; `None` where it is none.
 pub fn id_of(word: &[u8]) -> Option<u32>
     ensures { result ≡ number_in 0 2147483647 word.now }
 {

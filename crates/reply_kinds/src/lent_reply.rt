@@ -6,9 +6,9 @@ use line_words::{NameBuf, Pair, SentenceBuf, Text, TextBuf, WordBuf};
 /// A reply with its fields lent, the arguments in their order: it says and prints what the `Reply` of
 /// its name does, and nothing is copied for it.
 ///
-/// Texts of refusals are fixed, and lent as `Text`s, which take no memory: `Text::lend(b"Log in first")`.
-/// What users write and the message of the day are lent as they are owned. Numbers have the ranges
-/// of the fields of `Reply`.
+/// Texts of refusals are lent as `Text`s, since nearly all are fixed and a `Text` takes no memory:
+/// `Text::lend(b"Log in first")`. What users write and the message of the day are lent as they are owned.
+/// Numbers have the ranges of the fields of `Reply`.
 #[derive(Clone, Copy)]
 pub enum LentReply<'a> {
     /// `TASSERVER`. The UDP port is the one for address translation.

@@ -15,12 +15,13 @@ pub use lent_reply::LentReply;
 use line_words::{NameBuf, NameList, PairList, SentenceBuf, TextBuf, WordBuf, WordList};
 pub use opened_battle::OpenedBattle;
 
-/// A line to a client, its fields the arguments in their order.
+/// A line to a client, its fields the arguments in their order (docs/PROTOCOL.md, section 4).
 ///
 /// Names, words, sentences and texts keep the byte rules of their types. The other ranges are
 /// those of the protocol: a battle's number is 1 to 2147483647 (`battleID`), an ally team's 0 to
 /// 15 (`allyNo`), a side of a start rectangle 0 to 200, `server_mode` and `battle_type` (`type`)
-/// 0 to 1, `nat_type` 0 to 2, and colours, hashes, ranks and `cpu` -2147483648 to 4294967295.
+/// 0 to 1, `nat_type` 0 to 2, and colours, hashes, ranks and `cpu` -2147483648 to 4294967295. The type
+/// does not hold these, and printing does not ask for them.
 #[derive(Drop)]
 pub enum Reply {
     /// `TASSERVER`. The greeting: the versions spoken, the UDP port for address translation and the server's mode.

@@ -19,7 +19,7 @@ use std::alloc::{AllocError, Global};
 /// line alone reads the arguments of that kind, and makes no reply of the others.
 #[derive(Clone, Copy)]
 pub struct Head<'a> {
-    /// The message id in front of the line.
+    /// The message id in front of the line, 0 to 2147483647, if there is one.
     pub id: Option<u32>,
     /// The command.
     pub command: CommandWord,
@@ -27,7 +27,8 @@ pub struct Head<'a> {
     pub arguments: &'a [u8],
 }
 
-/// The head of a line without its LF. None where the line reads as no pair of an id and a reply.
+/// The head of a line without its LF. None where no id and command word stand in front, and then the
+/// line reads as no pair of an id and a reply.
 #[tactic(auto, unfolding(crate::specs::Lines::read_line))]
 pub fn read_head(line: &[u8]) -> Option<Head<'_>>
     ensures some { IfSome result (λ head. read_line line.now ≡ with_id head.id (read_arguments head.command head.arguments.now)) }

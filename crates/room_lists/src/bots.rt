@@ -14,7 +14,8 @@ use std::marker::Model;
 /// one by its name, so they are kept few.
 pub const BOT_LIMIT: usize = 64;
 
-/// A bot, which the client of its owner runs. Its status is of a kind `S`.
+/// A bot, which the client of its owner runs. Its status is of a kind `S`. Its colour is kept as it was
+/// sent (`teamColor`), in the protocol -2147483648 to 4294967295, which is not checked here.
 #[derive(Drop)]
 pub struct Bot<S: StatusWord> {
     name: WordBuf,
@@ -99,7 +100,8 @@ impl<S: StatusWord> Bot<S> {
     }
 }
 
-/// Bots in order of adding.
+/// Bots in order of adding. That no two have one name, and that they are no more than `BOT_LIMIT`, is for
+/// the rules of a room.
 #[derive(Drop)]
 pub struct Bots<S: StatusWord> {
     bots: Vec<Bot<S>>,
@@ -124,28 +126,29 @@ impl<S: StatusWord> Bots<S> {
         }
     }
 
-    /// The bots.
+    /// The bots, in order of adding.
     pub fn as_slice(&self) -> &[Bot<S>]
         ensures { result.now ≡ self.now }
     {
         self.bots.as_slice()
     }
 
-    /// The first bot of a name.
+    /// The first bot of a name; None where there is none.
     pub fn bot(&self, name: &WordBuf) -> Option<&Bot<S>>
         ensures { option_copied result ≡ find (λ b. same_name name.now b.name) self.now }
     {
         self.bots.iter().find(|b| b.has_name(name))
     }
 
-    /// Whether there are as many as there may be.
+    /// Whether there are 64 (`BOT_LIMIT`) or more.
     pub fn is_full(&self) -> bool
         ensures { result ≡ nat_le 64 (length self.now) }
     {
         self.bots.len() >= BOT_LIMIT
     }
 
-    /// One more. Where memory is refused, nothing changes.
+    /// One more, behind the others, also where its name is there or the list is full. Fails only where memory
+    /// is refused, and then nothing changes.
     pub fn add(&mut self, bot: Bot<S>) -> Result<(), AllocError>
         ensures ok { OnOk result (self.new ≡ self.old ++ bot ∷ []) }
         ensures err { OnErr result (self.new ≡ self.old) }
@@ -154,21 +157,21 @@ impl<S: StatusWord> Bots<S> {
         Ok(())
     }
 
-    /// Without those of a name.
+    /// Without those of a name. Where there is none, nothing changes.
     pub fn remove(&mut self, name: &WordBuf)
         ensures { self.new ≡ filter (λ b. not (same_name name.now b.name)) self.old }
     {
         self.bots.retain(|b| !b.has_name(name));
     }
 
-    /// Without those of an owner.
+    /// Without those of an owner. Where it has none, nothing changes.
     pub fn remove_owned(&mut self, owner: &NameBuf)
         ensures { self.new ≡ filter (λ b. not (same_name owner.now b.owner)) self.old }
     {
         self.bots.retain(|b| !owner.cmp(b.owner()).is_eq());
     }
 
-    /// A status and a colour for those of a name.
+    /// A status and a colour for those of a name. Where there is none, nothing changes.
     pub fn put_status(&mut self, name: &WordBuf, status: S, colour: i64)
         ensures { self.new ≡ map (λ b. if same_name name.now b.name then room.bot_with (S.number status) colour b else b) self.old }
     {

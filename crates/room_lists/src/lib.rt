@@ -1,6 +1,8 @@
 //! The lists of a battle's room: bots, script tags and disabled units, in their order, and what a start
-//! rectangle is. They know no rules: who may change a list is for those who keep a room, as `battle_room`
-//! for a server, and a client's view. What the members of a battle share stands in `specs/`.
+//! rectangle is. They know no rules: who may change a list, and how long one may get, is for those who keep
+//! a room, as `battle_room` for a server, and a client's view. The limits stand here, with the questions
+//! whether there is room, and no call of a list refuses what is past them. What the members of a battle
+//! share stands in `specs/`.
 #![tactic(auto)]
 
 mod bots;

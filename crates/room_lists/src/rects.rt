@@ -2,7 +2,8 @@
 
 use std::marker::Model;
 
-/// Where the teams of an ally number may start, in two hundredths of the map's width and height.
+/// Where the teams of an ally number may start (`ADDSTARTRECT`), in two-hundredths of the map's width and
+/// height: each side is 0 to 200 in the protocol, which is not checked here.
 #[derive(Clone, Copy, PartialEq, Eq, Debug)]
 pub struct Rect {
     pub left: u8,

@@ -13,7 +13,8 @@ use std::marker::Model;
 /// less. There is a limit because a room keeps its tags in memory and who joins is sent them all.
 pub const TAG_LIMIT: usize = 512;
 
-/// Script tags in order of first setting.
+/// Script tags in order of first setting, no two of one key. They may be more than `TAG_LIMIT`: the rules
+/// of a room ask `has_room_for` before they set any.
 ///
 /// A look-up by key takes the same time however many there are. The index has a copy of each key.
 #[derive(Drop)]
@@ -40,21 +41,22 @@ impl Tags {
         }
     }
 
-    /// The tags.
+    /// The tags, in order of first setting.
     pub fn as_slice(&self) -> &[Pair]
         ensures { result.now ≡ self.now }
     {
         self.tags.as_slice()
     }
 
-    /// Whether there would be no more tags than there may be, if these were set.
+    /// Whether there would be at most 512 tags (`TAG_LIMIT`), if these were set.
     pub fn has_room_for(&self, pairs: &[Pair]) -> bool
         ensures { result ≡ not (has_too_many_tags (tags.with_tags self.now pairs.now)) }
     {
         self.tags.has_room_for(pairs, TAG_LIMIT)
     }
 
-    /// Sets tags. Where memory is refused, nothing changes.
+    /// Sets tags one by one: a key that is set keeps its place and has the new value, another comes last.
+    /// However many there are then, it fails only where memory is refused, and then nothing changes.
     pub fn put(&mut self, alloc: Global, pairs: PairList) -> Result<(), AllocError>
         ensures ok { OnOk result (self.new ≡ tags.with_tags self.old pairs) }
         ensures err { OnErr result (self.new ≡ self.old) }
@@ -62,14 +64,15 @@ impl Tags {
         self.tags.put(alloc, pairs.into_vec())
     }
 
-    /// Removes tags.
+    /// Removes the tags of these keys. Keys that are not set change nothing.
     pub fn remove(&mut self, keys: &[WordBuf])
         ensures { self.new ≡ tags.without_tags self.old keys.now }
     {
         self.tags.remove(keys);
     }
 
-    /// Those of the keys that are set, each once.
+    /// Those of the keys that are set, each once, in the order of the list of keys. Fails only where memory
+    /// is refused.
     pub fn keys_there(&self, alloc: Global, keys: &[WordBuf]) -> Result<WordList, AllocError>
         ensures { IfOk result (λ there. there ≡ tags.keys_there self.now keys.now) }
     {

@@ -14,7 +14,8 @@ use std::marker::Model;
 /// that are some 20 kB.
 pub const UNIT_LIMIT: usize = 1024;
 
-/// Units in order of first disabling, none of them twice.
+/// Units in order of first disabling, none of them twice. They may be more than `UNIT_LIMIT`: the rules of
+/// a room ask `has_room_for` before they disable any.
 ///
 /// A look-up takes the same time however many there are. The index has a copy of each word.
 #[derive(Drop)]
@@ -40,21 +41,22 @@ impl Units {
         }
     }
 
-    /// The units.
+    /// The units, in order of first disabling.
     pub fn as_slice(&self) -> &[WordBuf]
         ensures { result.now ≡ self.now }
     {
         self.units.as_slice()
     }
 
-    /// Whether there would be no more units than there may be, if these were disabled.
+    /// Whether there would be at most 1,024 units (`UNIT_LIMIT`), if these were disabled.
     pub fn has_room_for(&self, words: &[WordBuf]) -> bool
         ensures { result ≡ not (has_too_many_units (units.with_units self.now words.now)) }
     {
         self.units.has_room_for(words, UNIT_LIMIT)
     }
 
-    /// Units are disabled. Where memory is refused, nothing changes.
+    /// Units are disabled: one that is keeps its place, another comes last. However many there are then, it
+    /// fails only where memory is refused, and then nothing changes.
     pub fn put(&mut self, alloc: Global, words: WordList) -> Result<(), AllocError>
         ensures ok { OnOk result (self.new ≡ units.with_units self.old words) }
         ensures err { OnErr result (self.new ≡ self.old) }
@@ -62,7 +64,7 @@ impl Units {
         self.units.put(alloc, words.into_vec())
     }
 
-    /// Units are enabled again.
+    /// Units are enabled again. Words that are no disabled units change nothing.
     pub fn remove(&mut self, words: &[WordBuf])
         ensures { self.new ≡ units.without_units self.old words.now }
     {
@@ -76,14 +78,16 @@ impl Units {
         self.units.clear();
     }
 
-    /// Those of the words that are no disabled units, each once.
+    /// Those of the words that are no disabled units, each once, in the order of the list of words. Fails
+    /// only where memory is refused.
     pub fn words_new(&self, alloc: Global, words: &[WordBuf]) -> Result<WordList, AllocError>
         ensures { IfOk result (λ new. new ≡ units.words_new self.now words.now) }
     {
         self.units.keys_new(alloc, words)
     }
 
-    /// Those of the words that are disabled units, each once.
+    /// Those of the words that are disabled units, each once, in the order of the list of words. Fails only
+    /// where memory is refused.
     pub fn words_there(&self, alloc: Global, words: &[WordBuf]) -> Result<WordList, AllocError>
         ensures { IfOk result (λ there. there ≡ units.words_there self.now words.now) }
     {

@@ -33,7 +33,9 @@ const SIDE: Field = Field {
     width: 4,
 };
 
-/// The status of a member or a bot of a battle, as MYBATTLESTATUS and CLIENTBATTLESTATUS carry it.
+/// The status of a member or a bot of a battle, as MYBATTLESTATUS and CLIENTBATTLESTATUS carry it:
+/// bit 1 ready, 2 to 5 team, 6 to 9 ally team, 10 player, 11 to 17 handicap, 22 to 23 sync,
+/// 24 to 27 side; all others are clear, and the handicap is at most 100.
 #[derive(Clone, Copy, PartialEq, Eq, Debug)]
 pub struct BattleStatus {
     word: u32,
@@ -53,7 +55,7 @@ impl Model for BattleStatus {
 }
 
 impl BattleStatus {
-    /// The status of one who has just joined: a spectator of team 0 whose sync is not known.
+    /// The status of one who has just joined, 0: a spectator of team 0 whose sync is not known.
     pub fn zero() -> BattleStatus
         ensures { result ≡ 0 }
     {
@@ -67,14 +69,14 @@ impl BattleStatus {
         READY.number_in(self.word) == 1
     }
 
-    /// The team, 0 to 15, whose members share their units.
+    /// The team, 0 to 15. Members of one team share their units.
     pub fn team(self) -> u8
         ensures { result ≡ number_in battle.team self }
     {
         TEAM.number_in(self.word) as u8
     }
 
-    /// The ally team, 0 to 15, whose teams fight side by side.
+    /// The ally team, 0 to 15. Teams of one ally team fight side by side.
     pub fn ally(self) -> u8
         ensures { result ≡ number_in battle.ally self }
     {

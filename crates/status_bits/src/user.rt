@@ -17,8 +17,9 @@ const ACCESS: Field = Field { first: 5, width: 1 };
 
 const BOT: Field = Field { first: 6, width: 1 };
 
-/// The status of a user, as MYSTATUS and CLIENTSTATUS carry it. Only `in_game` and `away` are the
-/// client's own to set; rank, access and bot come from its account.
+/// The status of a user, as MYSTATUS and CLIENTSTATUS carry it: bit 0 in game, 1 away, 2 to 4 rank,
+/// 5 moderator (`access`), 6 bot; all others are clear. Only `in_game` and `away` are the client's own
+/// to set; the others come from its account.
 #[derive(Clone, Copy, PartialEq, Eq, Debug)]
 pub struct UserStatus {
     word: u32,
@@ -38,7 +39,8 @@ impl Model for UserStatus {
 }
 
 impl UserStatus {
-    /// The status with which the owner of an account logs in: neither in game nor away.
+    /// The status with which the owner of an account logs in, neither in game nor away: a rank of 0 to 7,
+    /// whether it is a moderator (`access`), and whether it is a program (`bot`).
     pub fn of_account(rank: u8, access: bool, bot: bool) -> UserStatus
         requires { rank < 8 }
         ensures word { result ≡ user.account_word rank access bot }

@@ -2,7 +2,7 @@
 
 ghost use Rattle.std.specs.Prelude.{◌≡◌, ◌≤◌, None, IfOk, option_map};
 ghost use Rattle.toml.specs.Data.{get_member, no_items};
-ghost use Rattle.toml.specs.View.{view, table_view, items_view};
+ghost use Rattle.toml.specs.View.{view, table_view};
 ghost use Rattle.toml_fields.specs.Fields.{flag, list, lent, number, optional, required, section, seen_list, seen_section, text};
 
 use crate::fault::FieldFault;

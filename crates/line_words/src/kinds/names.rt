@@ -92,8 +92,8 @@ impl NameBuf {
         }
     }
 
-    /// A copy of bytes that keep the rule. It takes no memory: the answer that there is none is for
-    /// the readers of lines, which copy each kind by a call of this form.
+    /// A copy of bytes that keep the rule. It takes no memory, and as it is written never fails: the
+    /// answer has this form since the readers of lines copy each kind by such a call.
     pub fn copy_of(_alloc: Global, bytes: &[u8]) -> Result<NameBuf, AllocError>
         requires { IsTrue (is_name bytes.now) }
         ensures { IfOk result (λ x. x ≡ bytes.now) }
