@@ -22,7 +22,7 @@ use std::marker::Model;
 pub struct Battle {
     /// What all were told of it as it opened; its map and the hash of that are those of now.
     pub opened: OpenedBattle,
-    /// How many watch, as the founder says.
+    /// How many watch, 0 to 65535, as the founder says.
     pub spectators: u16,
     /// Whether nobody may join it now.
     pub locked: bool,

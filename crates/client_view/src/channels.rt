@@ -54,7 +54,8 @@ impl Channels {
         self.by_name.len()
     }
 
-    /// The name of the channel with `k` of them before it, in the order of the bytes of names.
+    /// The name of the channel with `k` of them before it, in the order of the bytes of names; None where there
+    /// are no more than `k`.
     pub fn name_at(&self, k: usize) -> Option<&NameBuf>
         ensures name { option_copied result ≡ slice_get (keys_of self.now) k }
         ensures ordered { IsStrictlySortedBy name_cmp (keys_of self.now) }

@@ -5,7 +5,7 @@ use thiserror::Error;
 /// Why a view did not take in a piece of bytes, or not all of it.
 #[derive(Clone, Copy, PartialEq, Eq, Debug, Error)]
 pub enum ViewError {
-    /// There was no memory for the line that begins behind `taken` bytes of the piece. The lines
+    /// Memory was refused for the line that goes on, or begins, behind `taken` bytes of the piece. The lines
     /// before it are taken in, `folded` of which a reply printed, and nothing of what stands behind them:
     /// where `taken` is 0, nothing has changed. The rest of the piece may be fed again.
     #[error("no memory for more lines")]

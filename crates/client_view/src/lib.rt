@@ -3,8 +3,9 @@
 //! authors of clients, and of bots that host battles.
 //!
 //! A client makes a [`View`] when it connects and feeds it each piece that it reads, whatever the
-//! piece cuts in two. Behind a login the view has exactly what the server's lobby shows this user,
-//! and an author reads it there in place of following thirty kinds of line by hand.
+//! piece cuts in two. Behind a login, and for as long as the server does not cut the client, the view
+//! has exactly what the server's lobby shows this user once all lines of an event are folded
+//! (`view_law`), and an author reads it there in place of following 26 kinds of line by hand.
 //!
 //! ```rust
 //! use client_view::{View, ViewError};

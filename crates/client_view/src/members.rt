@@ -11,6 +11,7 @@ use std::marker::Model;
 /// A member of the client's room.
 #[derive(Drop)]
 pub struct Member {
+    /// Its name.
     pub name: NameBuf,
     /// Its battle status, of which `status_bits` tells the fields. 0 until the server tells it.
     pub status: u32,

@@ -61,7 +61,7 @@ impl OwnRoom {
         })
     }
 
-    /// The number of the battle.
+    /// The number of the battle, 1 to 2147483647.
     pub fn battle(&self) -> u32
         ensures { result ≡ self.now.battle }
     {
@@ -89,7 +89,7 @@ impl OwnRoom {
         self.bots.as_slice()
     }
 
-    /// The start rectangle of an ally number, if it has one.
+    /// The start rectangle of an ally number, 0 to 15, if it has one.
     pub fn rect_at(&self, ally: u8) -> Option<Rect>
         ensures { result ≡ at_number self.now.room.rects ally }
     {

@@ -16,11 +16,11 @@ use std::marker::Model;
 /// What is known of a user who is logged in.
 #[derive(Drop)]
 pub struct User {
-    /// The country of its account, two letters, or `??`.
+    /// The country of its account, two letters, or `??`: any word, as the server tells it.
     pub country: WordBuf,
     /// What its login said of its processor, -2147483648 to 4294967295.
     pub cpu: i64,
-    /// The number of its account.
+    /// The number of its account, 0 to 4294967295.
     pub account: u32,
     /// Its status word, of which `status_bits` tells the fields.
     pub status: u32,

@@ -1,11 +1,11 @@
 //! What a client knows from its own bytes.
 
-ghost use Rattle.std.specs.Prelude.{◌≡◌, ◌≢◌, ℕ, ◌+◌, ◌<◌, ◌≤◌, Bool, true, false, List, [], ◌++◌, length, take, drop, IfOk, OnErr, Err, nat_lt, option_copied};
+ghost use Rattle.std.specs.Prelude.{◌≡◌, ℕ, ◌+◌, ◌<◌, ◌≤◌, true, false, [], ◌++◌, length, take, drop, IfOk, OnErr, Err, nat_lt, option_copied};
 ghost use Rattle.line_framer.specs.Frames as frames;
 ghost use Rattle.line_framer.specs.Buffered.{IsFirstEnd};
 ghost use Rattle.reply_reader.specs.Lines.{read_line};
 ghost use Rattle.lobby_view.specs.View.{shown_all};
-ghost use Rattle.lobby_view.specs.Bytes.{one_read, frame_limit};
+ghost use Rattle.lobby_view.specs.Bytes.{one_read};
 ghost use Rattle.client_view.specs.Following.{Following, Followed, TookIn, HasNew, Stopped};
 
 use crate::battles::Battles;
@@ -64,9 +64,9 @@ impl View {
     ///
     /// `LineTooLong` where a line of the bytes so far has more than 20,479 bytes before its LF, whether
     /// it has ended or not: the lines before it are folded, and then nothing changes any more.
-    /// `Memory` where there was none for a line, which stops the feed at the end of the line before: it
+    /// `Memory` where memory was refused for a line, which stops the feed at the end of the line before: it
     /// says how many bytes it took in, all of them of whole lines, and how many lines it folded. Nothing
-    /// behind them was taken in. Who feeds a line at a time so finds nothing changed.
+    /// behind them was taken in. So who feeds a line at a time finds nothing changed.
     pub fn feed(&mut self, piece: &[u8]) -> Result<usize, ViewError>
         ensures ok { IfOk result (λ count. TookIn self.old piece.now self.new × (self.new.spoilt ≡ false) × HasNew self.old piece.now count) }
         ensures too_long { result ≡ Err ViewError.LineTooLong → TookIn self.old piece.now self.new × (self.new.spoilt ≡ true) }

@@ -9,7 +9,9 @@ use wire_link::WireLink;
 /// A client and its link.
 #[derive(Drop)]
 pub struct Connection {
+    /// The client, with the bytes that are under way.
     pub conn: Conn,
+    /// The link over its socket.
     pub link: WireLink,
     // the last round in which it got a turn
     pub(crate) round: u64,

@@ -117,7 +117,7 @@ impl Connections {
         self.slab.len()
     }
 
-    /// More than any key of a connection.
+    /// A number that is greater than the key of each connection.
     pub fn key_bound(&self) -> usize
         ensures { result ≡ self.now.key_bound }
     {

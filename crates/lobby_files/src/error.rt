@@ -30,13 +30,13 @@ pub enum AccountsFault {
 /// Why a file of settings or of accounts cannot be used.
 #[derive(Clone, Copy, PartialEq, Eq, Debug, Error)]
 pub enum FileError {
-    /// It cannot be read.
+    /// It cannot be read, for this cause.
     #[error("the file cannot be read: {0}")]
     Unreadable(ErrorKind),
-    /// It is no good file of settings.
+    /// It is no good file of settings: its first fault.
     #[error("{0}")]
     Settings(Refusal),
-    /// It is no good file of accounts.
+    /// It is no good file of accounts: its first fault.
     #[error("{0}")]
     Accounts(AccountsFault),
     /// Memory was refused. The file may be good.

@@ -213,8 +213,9 @@ impl Hall {
         self.remove(client)
     }
 
-    /// Takes one step of a schedule. A step for a client that is not open, and an open that the
-    /// lobby refuses, do nothing. Where memory is refused, nothing changes.
+    /// Takes one step of a schedule, in which an open names a worker from 0 to 63 as home. A step for a
+    /// client that is not open, and an open that the lobby refuses, do nothing. Fails only where memory is
+    /// refused, and then nothing changes.
     pub fn step(&mut self, step: &Step) -> Result<(), HallError>
         requires { HasHome step.now }
         ensures ok { OnOk result (TakesStep self.old self.new step.now) }
@@ -293,7 +294,8 @@ impl Hall {
 }
 
 /// The record of a whole schedule: a lobby with these settings, to which one may log in under these
-/// accounts, takes its steps in order. Fails only where memory is refused.
+/// accounts, takes its steps in order, in which each open names a worker from 0 to 63 as home. Fails only
+/// where memory is refused.
 pub fn run(
     alloc: Global,
     settings: Settings,

@@ -1,6 +1,6 @@
 //! What the lines of a script ask for.
 
-ghost use Rattle.std.specs.Prelude.{◌≡◌, ℕ, List, IfOk};
+ghost use Rattle.std.specs.Prelude.{◌≡◌, IfOk};
 ghost use Rattle.address_words.specs.Words.{Finds};
 ghost use Rattle.lobby_script.specs.Actions.{Arguments, IsAccount, IsLimit, IsMotd, IsOpen, IsPlain, IsRead, IsSend, Says, verb_of};
 

@@ -9,7 +9,7 @@ use lobby_model::schedule::Piece;
 use std::alloc::{AllocError, Global};
 
 /// The bytes that the text stands for: `\n`, `\t`, `\r`, `\\` and `\xHH` are one byte each, and
-/// every other byte but a backslash is itself.
+/// every other byte but a backslash is itself. `None` where a backslash stands before anything else.
 pub fn unescape(alloc: Global, text: &[u8]) -> Result<Option<Piece>, AllocError>
     ensures { IfOk result (Finds (StandsForBytes text.now)) }
 {

@@ -28,7 +28,7 @@ pub enum PlayFault {
 }
 
 impl PlayFault {
-    /// The exit status of the program.
+    /// The exit status of the program: 1 for a bad step, 2 for a device or a script that is too long, 4 for memory.
     pub fn status(self) -> u8
         ensures { result ≡ status_of self }
     {
@@ -54,8 +54,11 @@ impl From<AllocError> for PlayFault {
 /// Why a line cannot be played.
 #[derive(Clone, Copy, PartialEq, Eq, Debug)]
 pub enum LineFault {
+    /// It is none that a script may have there.
     BadStep,
+    /// The output could not be written.
     Device,
+    /// Memory was refused.
     Memory,
 }
 

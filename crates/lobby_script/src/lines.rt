@@ -14,6 +14,7 @@ pub struct Lines<'a> {
 }
 
 impl<'a> Lines<'a> {
+    /// The lines of a script, of which all are still to come.
     pub fn of(script: &'a [u8]) -> Lines<'a>
         ensures { lines_left result.rest ≡ lines_of script.now }
     {

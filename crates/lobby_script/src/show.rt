@@ -1,13 +1,7 @@
 //! Shows what was put to a client.
 
-ghost use Rattle.std.specs.Prelude.{◌≡◌, List, [], ◌∷◌, ◌++◌, length, drop, decimal, IfOk, OnOk, Err};
+ghost use Rattle.std.specs.Prelude.{◌≡◌, [], ◌∷◌, ◌++◌, length, drop, IfOk, OnOk, Err};
 ghost use Rattle.std.specs.Io.KnownBytes.{Appends, Keeps};
-ghost use Rattle.lobby_model.specs.declared.event.Event.{Event};
-ghost use Rattle.lobby_model.specs.Configuration.{Configuration};
-ghost use Rattle.lobby_model.specs.State.{empty_lobby};
-ghost use Rattle.lobby_model.specs.History.{put_in};
-ghost use Rattle.lobby_model.specs.Schedule.{World};
-ghost use Rattle.lobby_hall.specs.Standing.{Stands};
 ghost use Rattle.lobby_hall.specs.Record.{log_at};
 ghost use Rattle.lobby_script.specs.Acts.{labelled};
 ghost use Rattle.lobby_script.specs.declared.fault.LineFault.TheVariants as fault;

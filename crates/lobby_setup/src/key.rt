@@ -6,23 +6,25 @@ ghost use Rattle.lobby_setup.specs.Keys.{name_of};
 /// A key of a file of settings.
 #[derive(Clone, Copy, PartialEq, Eq, Debug)]
 pub enum Key {
-    /// `address`: where the server listens.
+    /// `address`: where the server listens, a text of an IPv4 address, a colon and a port. It has to be there.
     Address,
-    /// `workers`: how many threads serve clients.
+    /// `workers`: how many threads serve clients, 1 to 64; 4 if left out.
     Workers,
-    /// `outbox_limit`: the most bytes that may wait unread for a client.
+    /// `outbox_limit`: the most bytes that may wait unread for a client, 65536 to 67108864; 4194304 if left out.
     OutboxLimit,
-    /// `protocol_version`: the version of the protocol that a client is greeted with.
+    /// `protocol_version`: the version of the protocol that a client is greeted with, a text of 1 to 32 bytes from `!` to `~`; `0.38`
+    /// if left out.
     ProtocolVersion,
-    /// `spring_version`: the version of the engine that a client is greeted with.
+    /// `spring_version`: the version of the engine that a client is greeted with, such a text too; `*` if left out.
     SpringVersion,
-    /// `udp_port`: the port that a client is greeted with.
+    /// `udp_port`: the port that a client is greeted with, 0 to 65535; 8201 if left out.
     UdpPort,
-    /// `server_mode`: the mode that a client is greeted with.
+    /// `server_mode`: the mode that a client is greeted with, 0 or 1; 0 if left out.
     ServerMode,
-    /// `motd`: the lines that a client is sent when it logs in.
+    /// `motd`: the lines that a client is sent when it logs in, at most 100 texts of at most 1000 bytes without CR and LF; none if left
+    /// out.
     Motd,
-    /// `stop_at_input_end`: whether the server stops where its standard input ends.
+    /// `stop_at_input_end`: whether the server stops where its standard input ends; false if left out.
     StopAtInputEnd,
 }
 

@@ -1,8 +1,7 @@
 //! The message of the day.
 
-ghost use Rattle.std.specs.Prelude.{◌≡◌, ◌+◌, None, IfOk, IfSome, IfNone};
+ghost use Rattle.std.specs.Prelude.{◌≡◌, ◌+◌, None, IfOk};
 ghost use Rattle.toml.specs.View.{view, items_view};
-ghost use Rattle.toml_fields.specs.Fields.{lent};
 ghost use Rattle.lobby_setup.specs.Motd.{line_of, lines_of, motd_fault, line_fault};
 
 use crate::error::Refusal;

@@ -20,7 +20,7 @@ use toml_fields::read_document;
 pub struct Setup {
     /// What the lobby is told: its greeting, its message of the day, and how much may wait unread for a client.
     pub settings: Settings,
-    /// Where the server listens. With port 0 the system chooses one.
+    /// Where the server listens. With port 0 the system chooses a port.
     pub address: SocketAddrV4,
     /// How many threads serve clients, 1 to 64.
     pub workers: u32,
@@ -32,7 +32,7 @@ pub struct Setup {
 ///
 /// `Unusable` where the file is not TOML or not UTF-8, else with the first key that is refused, in the order of [`crate::Key`]: it is
 /// missing though it has to be there, or its value is of another kind or not allowed. In a message of the day it is the first line
-/// that is refused. `Memory` where there was none for the file, or, once no key is refused, for the settings.
+/// that is refused. `Memory` where it was refused for the file, or, once no key is refused, for the settings.
 pub fn read_setup(alloc: Global, bytes: &[u8]) -> Result<Setup, SetupError>
     ensures answer { IsAnswer bytes.now result }
     ensures workers { IfOk result (λ setup. (1 ≤ setup.workers) × (setup.workers ≤ 64)) }

@@ -1,6 +1,6 @@
 //! Why a server ends.
 
-ghost use Rattle.std.specs.Prelude.{◌≡◌, ◌≤◌, ◌↔◌, ◌⊎◌, None, IfSome};
+ghost use Rattle.std.specs.Prelude.{◌≡◌, ◌≤◌, ◌↔◌, None, IfSome};
 ghost use Rattle.lobby_workers.specs.Statuses.{status_of, IsEnd};
 
 use std::alloc::AllocError;
@@ -27,7 +27,7 @@ pub enum ServerError {
 }
 
 impl ServerError {
-    /// The exit status of a program that ends so.
+    /// The exit status of a program that ends so: 2 for settings, accounts and input, 3 for a listener, 4 for memory.
     pub fn status(self) -> u8
         ensures value { result ≡ status_of self }
         ensures within { (2 ≤ result) × (result ≤ 4) }

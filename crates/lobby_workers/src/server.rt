@@ -24,7 +24,9 @@ use std::thread::{self, Promise, PromisedHandle, Scope, Threads};
 /// What a server serves, and how.
 #[derive(Drop)]
 pub struct Service {
+    /// What the lobby is told.
     pub settings: Settings,
+    /// Who may log in.
     pub accounts: AccountBook,
     /// How many threads serve clients, 1 to 64.
     pub workers: u32,
@@ -78,7 +80,7 @@ struct Ended {
 /// where a read failed. A worker that is stopped shuts its clients, and its pass is taken back. Then
 /// the desk is closed, and for each worker a line is printed: `worker W: N events`, or `worker W: full`
 /// for 18446744073709551615 and more. Without `stop_at_input_end` the workers run until the program is killed. A print that fails
-/// is ignored.
+/// is ignored. The gate is told what the workers do, for tests. The contract says of all this no more than which statuses there are.
 pub fn run_server<R: Threads + Wait + Net + Sync, I: Read, O: Write, G: Gate + Sync>(
     rt: &R,
     alloc: Global,

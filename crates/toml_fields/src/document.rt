@@ -12,8 +12,8 @@ use toml::Table;
 /// Why a file is not read.
 #[derive(Clone, Copy, PartialEq, Eq, Debug, Error)]
 pub enum DocumentError {
-    /// It is not TOML, or not UTF-8. The line, counted from 1, is the one where the reading stopped; the
-    /// contract says of it only that it is a line of the file.
+    /// It is not TOML, or not UTF-8. The line, counted from 1, is the one where the reading stopped; promised
+    /// of it is that it is a line of the file.
     #[error("line {line} is not TOML")]
     NotToml { line: usize },
     /// Memory was refused.

@@ -1,9 +1,8 @@
 //! The lines of battles, as all see them.
 
-ghost use Rattle.std.specs.Prelude.{◌≡◌, ℕ, List, Option, OnOk, OnErr};
-ghost use Rattle.line_words.specs.Table.{put_number};
+ghost use Rattle.std.specs.Prelude.{◌≡◌, Option, OnOk, OnErr};
 ghost use Rattle.reply_kinds.specs.declared.Reply.TheVariants as reply;
-ghost use Rattle.lobby_view.specs.View.{shown, in_room_of, entered};
+ghost use Rattle.lobby_view.specs.View.{shown, entered};
 ghost use Rattle.room_lists.specs.Room as room;
 ghost use Rattle.client_view.specs.Kinds.{Battles, Opening, kind_of};
 
