@@ -55,8 +55,9 @@ pub fn refused_command_changes_no_map()
 /// The lobby is sound after any history: its maps stand in the order of their keys, and no client
 /// and no battle has a number above the last that was given. Clients and users agree. Who is in a
 /// channel is a user, once, and a channel is there only while it has members. Who is in a battle is
-/// a user, once, and in no other battle; the founder is the first member. Names of bots and keys of
-/// tags stand once, and a bot's owner is a member.
+/// a user, once, and in no other battle; the founder is the first member. Names of bots, keys of tags
+/// and disabled units stand once, the units are at most 1,024, and a bot's owner is a member. Who asks
+/// to join a battle is a user, asks at one battle, there once, and is in none.
 ///
 /// Each event keeps a sound lobby sound, before its lines are put and after, and so does each
 /// command of a client that is there.

@@ -38,8 +38,8 @@ pub data MayShut (old at : Snapshot) (talk : List Moment) : Type 0 where
   finished : told_end talk ≡ true → IsWrittenOut old at 16 → MayShut old at talk
   ended : HasEnded at → IsEmptied at talk → MayShut old at talk
 
--- Nothing more can be done now: all that came was said to the lobby, and the link has no more, or said so in this turn; and the link took
--- nothing in this turn, or the client has been sent everything and may still say more
+-- Nothing more can be done now: all that came was said to the lobby, and the link has no more, or said so in this turn; and the turn's
+-- last write was taken in no part, or the client has been sent everything and may still say more
 pub record IsIdle (old new : Snapshot) (talk : List Moment) : Type 0 where
   pub calm : told_end talk ≡ false
   pub fed : new.conn.unfed ≡ []
