@@ -1,23 +1,15 @@
 -- Where a list parts at its first such byte.
 use Rattle.std.proofs.Common.{◌≡◌, ℕ, ◌+◌, ◌<◌, ◌^◌, Bool, true, false, ◌||◌, List, [], ◌∷◌, ◌++◌, refl, sym, ap, ◌∙◌, arith, eq-eqb, nat_eq, decimal}
 use Rattle.std.proofs.Common.{suc, ◌-◌, ◌≤◌, length, get_or, take, drop, take-append-drop, drop-cons, add-one, length-take, length-drop}
-use Rattle.std.proofs.lemmas.Bool.{false≢true, false_from_ne_true, eqb-true}
+use Rattle.std.proofs.lemmas.Bool.{false≢true, false_from_ne_true, eqb-true, or_parts}
 use Rattle.std.proofs.lemmas.List.{take_all, get_or-take}
 use Rattle.std.proofs.lemmas.Str.Parse.{digit_at}
 use Rattle.std.proofs.lemmas.Fmt.{decimal_is_IsNumeral}
 use Rattle.line_words.specs.Bytes.{has_byte}
 
-pub first_of_or : (a b : Bool) → (a || b) ≡ false → a ≡ false
-first_of_or true b h = h
-first_of_or false b h = refl
-
-pub second_of_or : (a b : Bool) → (a || b) ≡ false → b ≡ false
-second_of_or true b h = absurd (false≢true (sym h))
-second_of_or false b h = h
-
 -- a byte that the list lacks stands not at its front
 not_first : (m x : ℕ) (xs : List ℕ) → has_byte m (x ∷ xs) ≡ false → m ≡ x → ⊥
-not_first m x xs h e = false≢true (sym (first_of_or (nat_eq x m) (has_byte m xs) h) ∙ eq-eqb x m (sym e))
+not_first m x xs h e = false≢true (sym (or_parts (nat_eq x m) (has_byte m xs) h).0 ∙ eq-eqb x m (sym e))
 
 pub parted_once : (m : ℕ) (xs ys : List ℕ) {r s : List ℕ} → has_byte m xs ≡ false → has_byte m ys ≡ false → xs ++ m ∷ r ≡ ys ++ m ∷ s → (xs ≡ ys) × (r ≡ s)
 parted_once m [] [] h g e = (refl, cc)
@@ -25,7 +17,7 @@ parted_once m [] (y ∷ ys) h g e = let same : m ≡ y = cc in absurd (not_first
 parted_once m (x ∷ xs) [] h g e = let same : m ≡ x = cc in absurd (not_first m x xs h same)
 parted_once m (x ∷ xs) (y ∷ ys) {r} {s} h g e =
     let tails : xs ++ m ∷ r ≡ ys ++ m ∷ s = cc in
-    let more = parted_once m xs ys (second_of_or (nat_eq x m) _ h) (second_of_or (nat_eq y m) _ g) tails in
+    let more = parted_once m xs ys (or_parts (nat_eq x m) _ h).1 (or_parts (nat_eq y m) _ g).1 tails in
     let heads : x ≡ y = cc in
     (ap (λ l. x ∷ l) more.0 ∙ ap (λ z. z ∷ ys) heads, more.1)
 
@@ -33,7 +25,7 @@ pub never_parted : (m : ℕ) (xs ys r : List ℕ) → has_byte m xs ≡ false �
 never_parted m [] [] r h e = cc
 never_parted m [] (y ∷ ys) r h e = cc
 never_parted m (x ∷ xs) [] r h e = let same : m ≡ x = cc in not_first m x xs h same
-never_parted m (x ∷ xs) (y ∷ ys) r h e = never_parted m xs ys r (second_of_or (nat_eq x m) _ h) cc
+never_parted m (x ∷ xs) (y ∷ ys) r h e = never_parted m xs ys r (or_parts (nat_eq x m) _ h).1 cc
 
 -- the parts round a place where the byte stands
 pub parts_round : (m at : ℕ) (xs : List ℕ) → at < length xs → nat_eq (get_or xs at 0) m ≡ true → xs ≡ take at xs ++ m ∷ take (length xs - (at + 1)) (drop (at + 1) xs)
@@ -78,8 +70,8 @@ lacks_colon n small = lacks_others 58 n (λ d least most same. omega (arith, mos
 pub lacks-append : (m : ℕ) (xs ys : List ℕ) → has_byte m xs ≡ false → has_byte m ys ≡ false → has_byte m (xs ++ ys) ≡ false
 lacks-append m [] ys h g = g
 lacks-append m (x ∷ xs) ys h g =
-    let rest = lacks-append m xs ys (second_of_or (nat_eq x m) _ h) g in
-    ap (λ b. b || has_byte m (xs ++ ys)) (first_of_or (nat_eq x m) _ h) ∙ rest
+    let rest = lacks-append m xs ys (or_parts (nat_eq x m) _ h).1 g in
+    ap (λ b. b || has_byte m (xs ++ ys)) (or_parts (nat_eq x m) _ h).0 ∙ rest
 
 -- a list with the length 0
 pub nothing_left : (xs : List ℕ) → nat_eq (length xs) 0 ≡ true → xs ≡ []

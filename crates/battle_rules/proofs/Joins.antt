@@ -20,6 +20,7 @@ use Rattle.lobby_maps.specs.Seats.{IsOwn}
 use Rattle.battle_rules.specs.BattleTalk.{is_issuer, written}
 use Rattle.battle_rules.proofs.InBattles.{told_own_user, told_same}
 use Rattle.lobby_maps.proofs.Rooms.{put_then}
+use Rattle.lobby_model.proofs.Named.{named_so}
 
 pub written_more : (r : Recipient) (p : Posted) (xs ys : List Reply) → written r (written r p xs) ys ≡ written r p (xs ++ ys)
 written_more Issuer p xs ys = with_own_more p xs ys
@@ -44,9 +45,6 @@ room_written recipient number room a b c d e f statuses bots rects tags units =
     (written_then recipient d e f _ _ tags units)))
 
 -- lines for the user of a name, who is the issuer or not
-named_so : (name : List ℕ) (o : Option (List ℕ)) → is_named (same_name name) o ≡ true → o ≡ Some name
-named_so name None h = absurd (cc)
-named_so name (Some n) h = ap (λ k. Some k) (sym (same_name_is name n h))
 
 not_named : (name : List ℕ) (o : Option (List ℕ)) → is_named (same_name name) o ≡ false → is_named (λ n. same_name n name) o ≡ false
 not_named name None h = refl

@@ -24,7 +24,7 @@ AreLively-lively (e ∷ es) =
     elim (has_names e.1) as (λ b. has_names e.1 ≡ b → AreLively (cond b (e ∷ lively es) (lively es))) [ true ↦ λ t. (t, rest) | false ↦ λ t. rest ] refl
 
 -- a channel with somebody in it
-has_names-append : (names : List (List ℕ)) (name : List ℕ) → has_names (names ++ name ∷ []) ≡ true
+pub has_names-append : (names : List (List ℕ)) (name : List ℕ) → has_names (names ++ name ∷ []) ≡ true
 has_names-append [] name = refl
 has_names-append (n ∷ ns) name = refl
 

@@ -16,8 +16,9 @@ use Rattle.channel_book.specs.Channels.{Channels, names_of, names_in, has_names,
 use Rattle.channel_book.specs.Book.{AreLively}
 use Rattle.channel_book.specs.Places.{Places, places_in, with_place, without_place, without_user, left_each}
 use Rattle.channel_book.proofs.Lively.{lively_same}
+use Rattle.line_words.proofs.Once.{out_of_but}
 
-same_name_sym : (a b : List ℕ) → same_name a b ≡ same_name b a
+pub same_name_sym : (a b : List ℕ) → same_name a b ≡ same_name b a
 same_name_sym a b =
     both_ways (same_name a b) (same_name b a)
     (λ e. ap (λ x. same_name b x) (same_name_is a b e) ∙ same_name_itself b) (λ e. ap (λ x. same_name a x) (same_name_is b a e) ∙ same_name_itself a)
@@ -235,15 +236,6 @@ module _ (user name : List ℕ) where
         | false ↦ λ t. ap (λ b. same_name user n || b) rest
       ] refl
 
-gone : (name : List ℕ) (names : List (List ℕ)) → is_among name (all_but name names) ≡ false
-gone name [] = refl
-gone name (n ∷ ns) =
-    let rest = gone name ns in
-    elim (same_name name n) as (λ b. same_name name n ≡ b → is_among name (cond (not b) (n ∷ all_but name ns) (all_but name ns)) ≡ false) [
-      | true ↦ λ t. rest
-      | false ↦ λ t. ap (λ b. b || is_among name (all_but name ns)) t ∙ rest
-    ] refl
-
 nobody_left_out : (name : List ℕ) (names : List (List ℕ)) → is_among name names ≡ false → all_but name names ≡ names
 nobody_left_out name [] none = refl
 nobody_left_out name (n ∷ ns) none =
@@ -285,7 +277,7 @@ module _ (channels : Channels) (name : List ℕ) (rising : IsStrictlySortedBy na
       own : places_in (left channel name channels) name ≡ remove_key (is_at (name_cmp channel)) (places_in channels name)
       own =
           ap keys_of (picked_lively (is_among name) refl (change_name channels channel (all_but name)))
-          ∙ change_picked (is_among name) refl channel (all_but name) (gone name) channels rising
+          ∙ change_picked (is_among name) refl channel (all_but name) (out_of_but name) channels rising
 
       others : (user : List ℕ) → same_name user name ≡ false → places_in (left channel name channels) user ≡ places_in channels user
       others user apart =
@@ -306,7 +298,7 @@ module _ (channels : Channels) (name : List ℕ) (rising : IsStrictlySortedBy na
       own : places_in (all_left name channels) name ≡ []
       own =
           ap keys_of (picked_lively (is_among name) refl (map_values each channels))
-          ∙ no_keys (is_among name) each (λ channel names. gone name names) channels
+          ∙ no_keys (is_among name) each (λ channel names. out_of_but name names) channels
 
       others : (user : List ℕ) → same_name user name ≡ false → places_in (all_left name channels) user ≡ places_in channels user
       others user apart =

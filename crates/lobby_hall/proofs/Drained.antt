@@ -31,25 +31,17 @@ use Rattle.lobby_hall.proofs.Each.{at_each, not_same}
 use Rattle.lobby_hall.proofs.Unread.{unread_there, unread_same}
 use Rattle.lobby_hall.proofs.Changed.{of-changed_same, of-changed_other}
 use Rattle.lobby_hall.proofs.Recorded.{of-completed, put_in-snoc, taken_in-snoc, nobody}
-
-min_zero : (n : ℕ) → min n 0 ≡ 0
-min_zero n = omega arith
-
-min_suc : (n m : ℕ) → min (suc n) (suc m) ≡ suc (min n m)
-min_suc n m = omega arith
-
-zero_min : (m : ℕ) → min 0 m ≡ 0
-zero_min m = omega arith
+use Rattle.std.proofs.Math.Nat.{zero-min, min-zero, suc-min-suc}
 
 pub take_min : (n : ℕ) (u : List ℕ) → take (min n (length u)) u ≡ take n u
-take_min zero u = ap (λ k. take k u) (zero_min (length u))
-take_min (suc n) [] = ap (λ (k : ℕ). take {A = ℕ} k []) (min_zero (suc n))
-take_min (suc n) (x ∷ u) = ap (λ k. take k (x ∷ u)) (min_suc n (length u)) ∙ ap (λ v. x ∷ v) (take_min n u)
+take_min zero u = ap (λ k. take k u) (zero-min (length u))
+take_min (suc n) [] = ap (λ (k : ℕ). take {A = ℕ} k []) (min-zero (suc n))
+take_min (suc n) (x ∷ u) = ap (λ k. take k (x ∷ u)) (suc-min-suc n (length u)) ∙ ap (λ v. x ∷ v) (take_min n u)
 
 pub drop_min : (n : ℕ) (u : List ℕ) → drop (min n (length u)) u ≡ drop n u
-drop_min zero u = ap (λ k. drop k u) (zero_min (length u))
-drop_min (suc n) [] = ap (λ (k : ℕ). drop {A = ℕ} k []) (min_zero (suc n))
-drop_min (suc n) (x ∷ u) = ap (λ k. drop k (x ∷ u)) (min_suc n (length u)) ∙ drop_min n u
+drop_min zero u = ap (λ k. drop k u) (zero-min (length u))
+drop_min (suc n) [] = ap (λ (k : ℕ). drop {A = ℕ} k []) (min-zero (suc n))
+drop_min (suc n) (x ∷ u) = ap (λ k. drop k (x ∷ u)) (suc-min-suc n (length u)) ∙ drop_min n u
 
 -- taking as many bytes as there are is taking as many as were asked for
 pub same_drain : (s : State) (c n : ℕ) → T (is_sorted nat_cmp s.clients)
@@ -153,7 +145,7 @@ module _ (settings : Configuration) (accounts : List Account) (events : List Eve
           elim x.cut as (λ b. x.cut ≡ b → ((log_at (completed new later) c).put ≡ put_in start events c) × ((log_at (completed new later) c).read ≡ taken_in start events c ++ take n x.unread)) [
             | true ↦ λ k.
                 let empty : x.unread ≡ [] = (balanced settings accounts events c).gone x found k in
-                let zero_count : count ≡ 0 = ap (λ (u : List ℕ). min n (length u)) empty ∙ min_zero n in
+                let zero_count : count ≡ 0 = ap (λ (u : List ℕ). min n (length u)) empty ∙ min-zero n in
                 let l : Log = completed_log log (unread_of here c) in
                 let is : log_at (completed new later) c ≡ completed_log l (drop n x.unread) = ap log_of (of-completed new later c ∙ ap (option_map (λ l. completed_log l (unread_of later c))) ((own log f).1 zero_count)) ∙ ap (λ u. completed_log l u) later_unread in (
                   ap (λ (l : Log). l.put) is

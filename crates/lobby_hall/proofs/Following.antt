@@ -43,6 +43,8 @@ use Rattle.lobby_hall.proofs.Recorded.{of-within}
 use Rattle.lobby_hall.proofs.Kept.{open_gives}
 use Rattle.lobby_hall.proofs.Drained.{drained_at, drained_other, drained_same}
 use Rattle.lobby_hall.proofs.Opened.{of-append_some, of-append_past}
+use Rattle.lobby_post.proofs.Marks.{with_batch-home}
+use Rattle.std.proofs.lemmas.Bool.{or_parts}
 
 -- Lists of numbers.
 
@@ -129,13 +131,6 @@ shut_came s d c y f =
       | false ↦ λ g. absurd (cc)
     ] (sym (at-without nat_cmp nat_cmp_total s.clients d c)
     ∙ ap (λ (t : State). at_number t.clients c) (sym (departed s (name_of s d) (disconnects d))) ∙ f)
-
-batch_home : (limit : ℕ) (bytes : List ℕ) (y : Client) → (with_batch limit bytes y).home ≡ y.home
-batch_home limit bytes y =
-    elim (is_live y) as (λ l. (if l then (if has_room_for limit y bytes then record y { unread = y.unread ++ bytes } else record y { cut = true; unread = [] }) else y).home ≡ y.home) [
-      | true ↦ elim (has_room_for limit y bytes) as (λ r. (if r then record y { unread = y.unread ++ bytes } else record y { cut = true; unread = [] }).home ≡ y.home) [ true ↦ refl | false ↦ refl ]
-      | false ↦ refl
-    ]
 
 nothing : (bytes : List ℕ) → is_empty bytes ≡ true → bytes ≡ []
 nothing [] e = refl
@@ -312,7 +307,7 @@ module _ (homes : ℕ) (lobby : Shown) (behind : Option ℕ) (logs : List Log) (
     homed_after : (c : ℕ) (z : Client) → at_number (next lobby.plain e).clients c ≡ Some z → z.home < homes
     homed_after c z found =
         let b = before c z found in
-        subst (λ h. h < homes) (sym (batch_home lobby.plain.settings.outbox_limit (batch lobby.plain e c) b.0) ∙ ap (λ (x : Client). x.home) b.2) (home_before c z found)
+        subst (λ h. h < homes) (sym (with_batch-home lobby.plain.settings.outbox_limit (batch lobby.plain e c) b.0) ∙ ap (λ (x : Client). x.home) b.2) (home_before c z found)
 
     unread_after : ((home : ℕ) → home ≤ 63 → DirtyAfter lobby.plain e home (dirty_at lobby home) (dirty_at new home)) → (c : ℕ) → IsUnlisted homes new c
         → (unread_of (next lobby.plain e) c ≡ []) ⊎ (unread_of (next lobby.plain e) c ≡ unread_of lobby.plain c)
@@ -359,10 +354,6 @@ module _ (homes : ℕ) (lobby : Shown) (behind : Option ℕ) (logs : List Log) (
 
 -- An open.
 
-first_false : (a b : Bool) → (a || b) ≡ false → a ≡ false
-first_false true b e = absurd (cc)
-first_false false b e = refl
-
 within-append : (logs : List Log) (log : Log) → AllByRecursion IsWithin logs → IsWithin log → AllByRecursion IsWithin (logs ++ log ∷ [])
 within-append [] log within here = (here, tt)
 within-append (first ∷ logs) log within here = (within.0, within-append logs log within.1 here)
@@ -400,7 +391,7 @@ module _ (s : State) (ip : List ℕ) (home : ℕ) (place : has_place s ≡ true)
       let bytes = batch s (event.Open ip home) c in
       let is : with_batch limit bytes (greeted ip home) ≡ z =
       same_Some _ z (sym (opened_at c ∙ ap (λ b. option_map (with_batch limit bytes) (cond b (Some (greeted ip home)) (at_number s.clients c))) here) ∙ found) in
-      ap (λ (x : Client). x.home) (sym is) ∙ batch_home limit bytes (greeted ip home)
+      ap (λ (x : Client). x.home) (sym is) ∙ with_batch-home limit bytes (greeted ip home)
 
 module _ (homes : ℕ) (lobby : Shown) (behind : Option ℕ) (logs : List Log) (f : Follows homes lobby behind logs) where
   -- a client of a worker is let in, and is the last in that worker's list
@@ -436,8 +427,8 @@ module _ (homes : ℕ) (lobby : Shown) (behind : Option ℕ) (logs : List Log) (
                   (λ e. let no : true ≡ false = sym (same_itself c) ∙ ap (same_number c) (let k : c ≡ s.last_client + 1 = omega (arith, e, f.one_log_each) in k) ∙ t in absurd (cc))
                   (unread_same s later c (opened_other s ip home place c t))
                   (f.full c
-                  (λ worker small. first_false _ _ (sym (has-append (dirty_at lobby worker) (if same_number home worker then number ∷ [] else []) c)
-                  ∙ ap (λ xs. has_number xs c) (sym (dirty worker (omega (arith, small, f.few)))) ∙ unlisted worker (omega (arith, small, wide))))
+                  (λ worker small. (or_parts _ _ (sym (has-append (dirty_at lobby worker) (if same_number home worker then number ∷ [] else []) c)
+                  ∙ ap (λ xs. has_number xs c) (sym (dirty worker (omega (arith, small, f.few)))) ∙ unlisted worker (omega (arith, small, wide)))).0)
                   ne))
             ] refl;
       }

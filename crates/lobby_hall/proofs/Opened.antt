@@ -27,13 +27,9 @@ use Rattle.lobby_hall.specs.Copied.{completed_log, completed, no_log}
 use Rattle.lobby_hall.proofs.Each.{at_each, not_same}
 use Rattle.lobby_hall.proofs.Unread.{unread_nobody, unread_there, unread_same}
 use Rattle.lobby_hall.proofs.Recorded.{of-completed, put_in-snoc, taken_in-snoc, balanced_later}
+use Rattle.line_words.proofs.Options.{get-append_some}
 
 -- a list with one more value
-
-get-append_some : {X : Type 0} (xs ys : List X) (k : ℕ) (x : X) → slice_get xs k ≡ Some x → slice_get (xs ++ ys) k ≡ Some x
-get-append_some [] ys k x e = absurd (cc)
-get-append_some (y ∷ xs) ys zero x e = e
-get-append_some (y ∷ xs) ys (suc k) x e = get-append_some xs ys k x e
 
 pub of-append_some : {X : Type 0} (xs ys : List X) (q : ℕ) (x : X) → of_client xs q ≡ Some x → of_client (xs ++ ys) q ≡ Some x
 of-append_some xs ys zero x e = absurd (cc)

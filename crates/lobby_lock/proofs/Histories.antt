@@ -11,13 +11,10 @@ use Rattle.lobby_model.specs.declared.event.Event.{Event}
 use Rattle.lobby_model.specs.State.{State}
 use Rattle.lobby_model.specs.Next.{next}
 use Rattle.lobby_model.specs.History.{after}
+use Rattle.lobby_model.proofs.Histories.{after-append}
 use Rattle.lobby_lock.specs.declared.view.Worker.{Worker}
 use Rattle.lobby_lock.specs.History.{Entry, events_of, after_history, made_by, under, Begins}
 use Rattle.lobby_lock.specs.Rule.{IsTold, Covers, Agree, with_events}
-
-pub after-append : (s : State) (xs ys : List Event) → after s (xs ++ ys) ≡ after (after s xs) ys
-after-append s [] ys = refl
-after-append s (x ∷ xs) ys = after-append (next s x) xs ys
 
 pub after_history-append : (s : State) (xs ys : List Entry) → after_history s (xs ++ ys) ≡ after_history (after_history s xs) ys
 after_history-append s xs ys = ap (after s) (map-append (λ (x : Entry). x.1) xs ys) ∙ after-append s (events_of xs) (events_of ys)

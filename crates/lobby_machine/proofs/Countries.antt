@@ -8,9 +8,7 @@ use Rattle.std.proofs.lemmas.Slice.Eq.{bytes_eq-Decides}
 use Rattle.std.proofs.lemmas.Bool.{and_parts, and_from}
 use Rattle.account_book.specs.Account.{is_country}
 use Rattle.line_words.specs.Bytes.{is_word, is_word_byte}
-
-upper_case_in_word : (b : ℕ) → is_ascii_uppercase b ≡ true → is_word_byte b ≡ true
-upper_case_in_word b h = grind (arith)
+use Rattle.line_words.proofs.WordLemmas.{upper_case_in_word}
 
 upper_case_word : (bytes : List ℕ) → list_all is_ascii_uppercase bytes ≡ true → list_all is_word_byte bytes ≡ true
 upper_case_word [] h = refl

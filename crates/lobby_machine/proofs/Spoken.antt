@@ -21,6 +21,7 @@ use Rattle.lobby_guards.specs.declared.refusal.Stop.{Stop}
 use Rattle.lobby_guards.specs.declared.refusal.Stop.TheVariants as stop
 use Rattle.lobby_maps.specs.Seats.{user_in}
 use Rattle.lobby_guards.specs.Answers.{Obeyed, Answers, Refuses, refusal_reply}
+use Rattle.line_words.proofs.Options.{none_from_is_some}
 
 pub status_set : (s : State) (c : ℕ) (me name : List ℕ) (asked status word : ℕ) (old new : Posted) → name ≡ me
     → status ≡ merge user_table (status_in (at_name s.users me)) asked → word ≡ status
@@ -53,9 +54,6 @@ stopped s c post outcome refusal (stop.Refused refused) because comes = record {
 stopped s c post outcome refusal stop.Memory because comes = tt
 
 -- a login
-none_there : {X : Type 0} (o : Option X) → is_some o ≡ false → o ≡ None
-none_there None h = refl
-none_there (Some x) h = absurd (cc)
 
 pub not_let_in : (s : State) (c : ℕ) (cpu : ℤ) (authorises : Bool) (r : Result Account LoginFault) → is_ok r ≡ false
     → log_in s c cpu authorises r ≡ Refused (reply.Denied invalid_login)
@@ -79,5 +77,5 @@ module _ (s : State) (c : ℕ) (cpu : ℤ) (authorises : Bool) (r : Result Accou
       subst (λ o. Obeyed s c old new (LogIn name seat) o) (sym comes) (record {
         told = told_then s old a new _ _ first second;
         effect = refl;
-        can_be = record { hears = live; nobody = nobody; free = ap (at_name s.users) named ∙ none_there _ free; here = here; outside = outside };
+        can_be = record { hears = live; nobody = nobody; free = ap (at_name s.users) named ∙ none_from_is_some _ free; here = here; outside = outside };
       })

@@ -23,6 +23,7 @@ use Rattle.lobby_post.specs.Posted.{has_number}
 use Rattle.lobby_maps.specs.Changes.{clients_after}
 use Rattle.lobby_maps.specs.declared.change.Change.{Change}
 use Rattle.lobby_maps.specs.declared.change.Change.TheVariants.{Nothing, Status, LogIn, LogOut, Join, Leave, InBattles}
+use Rattle.channel_book.proofs.Placed.{same_name_sym}
 
 -- names are where they were
 pub agree_kept : (m n : ByNumber Client) (seats : ByName Seat) → ((c : ℕ) → name_at n c ≡ name_at m c) → Agree m seats → Agree n seats
@@ -78,9 +79,6 @@ only_one (Some seat) c d there apart =
     ≡ (b || false)) [ true ↦ refl | false ↦ refl ] ∙ there) in
     ap (λ k. same_number d k || false) (sym at) ∙ ap (λ b. b || false) (same_either_way d c ∙ apart)
 
-same_name_either : (a b : List ℕ) → same_name a b ≡ same_name b a
-same_name_either a b = (eq_by_cmp_equiv name_cmp_total).symm a b
-
 -- one who leaves, whether its client stays or not
 module _ (m : ByNumber Client) (c : ℕ) where
   parted_at : (stays : Bool) (d : ℕ) → name_at (parted m c stays) d ≡ (if same_number c d then None else name_at m d)
@@ -120,7 +118,7 @@ module _ (m : ByNumber Client) (c : ℕ) where
         ≡ is_named (same_name q) (if same_number c d then None else name_at m d)) [
           | None ↦ λ e. agree q d ∙ not_here q d (ap (is_named (same_name q)) e)
           | Some me ↦ λ e.
-              let mine : is_named (same_name q) (name_at m c) ≡ same_name me q = ap (is_named (same_name q)) e ∙ same_name_either q me in
+              let mine : is_named (same_name q) (name_at m c) ≡ same_name me q = ap (is_named (same_name q)) e ∙ same_name_sym q me in
               ap (λ o. has_number (client_in o) d) (at-without name_cmp name_cmp_total seats me q)
               ∙ elim (same_name me q) as (λ b. same_name me q ≡ b
               → has_number (client_in (cond (not b) (at_name seats q) None)) d
@@ -215,13 +213,6 @@ no_seat seats name none =
     (sym (at-map_values name_cmp user_in seats name) ∙ none)
 
 -- a client some of whose bytes are taken
-pub name_drained : (m : ByNumber Client) (c n d : ℕ) → name_at (change_number m c (drained n)) d ≡ name_at m d
-name_drained m c n d =
-    ap name_of_client (at-change nat_cmp nat_cmp-IsAntisymmetric (drained n) m c d)
-    ∙ elim (at_number m d) as (λ o. name_of_client (option_map (λ x. if same_number c d then drained n x else x) o) ≡ name_of_client o) [
-      | None ↦ refl
-      | Some x ↦ elim (same_number c d) as (λ b. name_in (if b then drained n x else x).phase ≡ name_in x.phase) [ true ↦ refl | false ↦ refl ]
-    ]
 
 -- a new client, at which nobody is logged in
 module _ (last : ℕ) (m : ByNumber Client) (w : Client) (numbered : Numbered last m) where

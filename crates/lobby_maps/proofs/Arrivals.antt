@@ -9,9 +9,7 @@ use Rattle.lobby_model.specs.Sessions.{added, shown_status, arrival}
 use Rattle.lobby_model.specs.Events.{under}
 use Rattle.lobby_post.specs.Posted.{Posted, Sends, Told, telling, with_others}
 use Rattle.lobby_post.proofs.Telling.{told_lines_to_others}
-
-as_much : (n : ℕ) → n ≡ n + 0
-as_much n = omega arith
+use Rattle.std.proofs.Math.Nat.{add-zero}
 
 -- its status, where that is not 0
 pub not_zero : (n : ℕ) → n ≢ 0 → (n == 0) ≡ false
@@ -33,7 +31,7 @@ module _ (s : State) (old first mid new : Posted) (name : List ℕ) (user : User
         shared = printed_line None (added name user) ++ print_all
             (under None (if b then [] else reply.ClientStatus name word ∷ []));
       }) [
-        | true ↦ one ∙ (λ i. record old { text = as_much (old.text + length came) i; own = []; shared = sym (append-nil came) i })
+        | true ↦ one ∙ (λ i. record old { text = sym (add-zero (old.text + length came)) i; own = []; shared = sym (append-nil came) i })
         | false ↦ ap (λ p. with_others p (reply.ClientStatus name word ∷ [])) one
       ]
       ∙ (λ i. record old {

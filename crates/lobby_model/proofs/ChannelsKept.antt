@@ -12,10 +12,7 @@ use Rattle.line_words.proofs.Tables.{name_cmp_total, name_cmp_same, is_sorted-fi
 use Rattle.lobby_model.proofs.Finding.{some_of, of_change, of_put, of_filter}
 use Rattle.lobby_model.proofs.Users.{same_clients}
 use Rattle.line_words.proofs.Once.{once_with, once_but, out_of_but, among_with_is, among_of_but}
-
-has_one : (names : List (List ℕ)) (me : List ℕ) → has_names (names ++ me ∷ []) ≡ true
-has_one [] me = refl
-has_one (name ∷ names) me = refl
+use Rattle.channel_book.proofs.Lively.{has_names-append}
 
 module _ (users : ByName User) where
   but_sound : (me : List ℕ) (names : List (List ℕ)) → has_names (all_but me names) ≡ true → SoundChannel users names
@@ -61,7 +58,7 @@ module _ (users : ByName User) where
       where
         new : SoundChannel users (names_in channels channel ++ me ∷ [])
         new = record {
-          lives = has_one (names_in channels channel) me;
+          lives = has_names-append (names_in channels channel) me;
           once = once_with me (names_in channels channel) out (once_in channel);
           are_users = λ name in_it. elim (among_with_is me name (names_in channels channel) in_it) [
             | inl before ↦ user_in channel name before

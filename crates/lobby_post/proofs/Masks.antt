@@ -6,10 +6,7 @@ use Rattle.std.specs.Ordering.{is_eq}
 use Rattle.std.specs.Cmp.{nat_cmp_total, tied_itself}
 use Rattle.std.proofs.lemmas.Nat.Bits.{bit_at_or, bit_at_set_same, bit_at_set_other, bit_at-zero, bit_at-lt}
 use Rattle.line_words.specs.Table.{same_number}
-use Rattle.lobby_model.proofs.Delivered.{same_number_is}
-
-pub same_itself : (k : ℕ) → same_number k k ≡ true
-same_itself k = ap is_eq (tied_itself nat_cmp_total k)
+use Rattle.lobby_model.proofs.Delivered.{same_number_is, same_itself}
 
 pub home_bit : (n home : ℕ) → n < 64 → has_home (1 * 2 ^ n % 18446744073709551616) home ≡ same_number n home
 home_bit n home h =

@@ -11,7 +11,7 @@ use Rattle.lobby_post.specs.Mail.{Held, Line}
 use Rattle.lobby_post.specs.Dirty.{IsNewly, Roomy, is_of, line_at, line_of, lines_of, mark_of, marks_of, news, news_of, stands, times}
 use Rattle.lobby_post.proofs.Counts.{times-first}
 use Rattle.lobby_post.proofs.Homes.{line-at}
-use Rattle.lobby_post.proofs.Newly.{first_of_and}
+use Rattle.lobby_model.proofs.Versions.{and_first}
 
 -- a test that each number of a list passes
 filter_every : (p : ℕ → Bool) (xs : List ℕ) → ((c : ℕ) → 0 < times c xs → p c ≡ true) → filter p xs ≡ xs
@@ -31,7 +31,7 @@ module _ (pieces : ByNumber (List ℕ)) (slots : ByNumber Held) (home : ℕ) whe
       elim (lookup (is_at (nat_cmp c)) slots) as (λ o. lookup (is_at (nat_cmp c)) slots ≡ o → 0 < news_of pieces home c o → stands (marks_of slots) home c ≡ true) [
         | None ↦ λ e m. absurd (omega (arith, m))
         | Some held ↦ λ e m. ap (is_of home) (lookup-values mark_of (is_at (nat_cmp c)) held slots e)
-            ∙ first_of_and (same_number held.client.home home) _ (counts_yes _ m)
+            ∙ and_first (same_number held.client.home home) _ (counts_yes _ m)
       ] refl more
 
   module _ (after : ByNumber Held) (same : (c : ℕ) → stands (marks_of after) home c ≡ stands (marks_of slots) home c) where

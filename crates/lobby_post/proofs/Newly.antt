@@ -73,10 +73,6 @@ more_listed true t = refl
 more_listed false true = refl
 more_listed false false = refl
 
-pub first_of_and : (s b : Bool) → (s && b) ≡ true → s ≡ true
-first_of_and true b e = refl
-first_of_and false b e = e
-
 pub never_both : (s b : Bool) → b ≡ false → ◌≡◌ {A = ℕ} (if b && s then 1 else 0) 0
 never_both s b e = ap {B = ℕ} (λ b. if b && s then 1 else 0) e
 

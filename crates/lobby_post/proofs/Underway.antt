@@ -17,7 +17,8 @@ use Rattle.lobby_post.proofs.Crowds.{IsWritten, written_through}
 use Rattle.lobby_post.proofs.Idle.{idle_one, idle_written}
 use Rattle.lobby_post.proofs.Marks.{IsPut, marks_put, stands_same}
 use Rattle.lobby_post.proofs.Parcels.{own_piece, touched_alike, wake_first}
-use Rattle.lobby_post.proofs.Newly.{IsNext, first_of_and, less_idle, marks_next, more_listed, never_both, news_other, news_past, next_line, no_news, once, times_ordered}
+use Rattle.lobby_post.proofs.Newly.{IsNext, less_idle, marks_next, more_listed, never_both, news_other, news_past, next_line, no_news, once, times_ordered}
+use Rattle.lobby_model.proofs.Versions.{and_first}
 
 -- what holds between two pieces: all that are told, and those that are left
 pub record IsUnderway (whole rest : ByNumber (List ℕ)) (first slots : ByNumber Held) (before lines : ℕ → Line) (last : ℕ) : Type 0 where
@@ -112,7 +113,7 @@ module _ (c : ℕ) (bytes : List ℕ) (x w : Held) (es : ByNumber Held) (found :
 
       has_idle : (home : ℕ) → now_fresh home ≡ true → 1 ≤ (lines home).idle
       has_idle home t =
-          let same : x.client.home ≡ home = same_number_is x.client.home home (first_of_and (same_number x.client.home home) _ t) in
+          let same : x.client.home ≡ home = same_number_is x.client.home home (and_first (same_number x.client.home home) _ t) in
           let small : home < 64 = subst (λ h. h < 64) same small_home in
           let more = idle_next home in
           let one : ◌≡◌ {A = ℕ} (if now_fresh home then 1 else 0) 1 = ap (λ b. if b then 1 else 0) t in

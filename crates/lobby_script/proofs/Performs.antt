@@ -26,6 +26,7 @@ use Rattle.lobby_script.specs.Scene.{Scene, unopened, has_no_label, is_allowed}
 use Rattle.lobby_script.specs.Acts.{Acts, LabelActs, ClientActs, OrderGives, given, happened, with_label, labelled, put_so_far}
 use Rattle.lobby_script.specs.Halls.{Moves}
 use Rattle.lobby_script.specs.Player.{HallStands, IsAt, Performed}
+use Rattle.line_words.proofs.Options.{none_from_is_some}
 
 -- what the player's map has at a label
 pub at_label : (player : Player) (scene : Scene) (label : ℕ) (found : Option Label) → IsAt player scene → lookup (is_at (nat_cmp label)) player.labels.entries ≡ found → at_number scene.labels label ≡ found
@@ -42,10 +43,6 @@ some_label Greater a b c p q s = s
 put_some : (labels : ByNumber Label) (label : ℕ) (entry : Label) → has_no_label (put_number labels label entry) ≡ false
 put_some [] label entry = refl
 put_some (e ∷ labels) label entry = some_label (nat_cmp label e.0) _ _ _ refl refl refl
-
-none_from_test : {X : Type 0} (o : Option X) → is_some o ≡ false → o ≡ None
-none_from_test None h = refl
-none_from_test (Some x) h = absurd (false≢true (sym h))
 
 -- ---- for the client of a label
 
@@ -107,7 +104,7 @@ show_acts player new s label entry client hall after put at found is was now sta
 
 module _ (player : Player) (s : Scene) (setting : Setting) (at : IsAt player s) where
   is_fresh : is_some player.hall ≡ false → s ≡ unopened player.setup
-  is_fresh none = subst (λ h. HallStands h player.setup s) (none_from_test player.hall none) at.hall
+  is_fresh none = subst (λ h. HallStands h player.setup s) (none_from_is_some player.hall none) at.hall
 
   pub set_acts : (new : Player) → is_some player.hall ≡ false → new ≡ record player { setup = with_setting player.setup setting } → can_be_set player.setup setting ≡ true → Performed new s (action.Set setting) []
   set_acts new none now allowed =
@@ -115,7 +112,7 @@ module _ (player : Player) (s : Scene) (setting : Setting) (at : IsAt player s) 
       let before : Prepared = player.setup in
       let after : Scene = unopened (with_setting before setting) in
       let there : IsAt (record player { setup = with_setting before setting }) after = record {
-        hall = subst (λ h. HallStands h (with_setting before setting) after) (sym (none_from_test player.hall none)) refl;
+        hall = subst (λ h. HallStands h (with_setting before setting) after) (sym (none_from_is_some player.hall none)) refl;
         labels = at.labels ∙ ap (λ (x : Scene). x.labels) fresh;
       } in
       (ap (λ (x : Scene). is_allowed x (action.Set setting)) fresh ∙ allowed, (after, (refl, ap (λ (x : Scene). unopened (with_setting x.prepared setting)) (sym fresh)), subst (λ p. IsAt p after) (sym now) there))
@@ -149,4 +146,4 @@ open_acts player new s label ip client hall at free (here, w, gives, stands) num
     (ap (λ o. not (is_some o)) free, (next, (refl, (here, w, gives, refl)), there))
 
 pub no_such_label : (player : Player) (s : Scene) (label : ℕ) (test : Bool) → IsAt player s → test ≡ is_some (lookup (is_at (nat_cmp label)) player.labels.entries) → test ≡ false → at_number s.labels label ≡ None
-no_such_label player s label test at is absent = none_from_test (at_number s.labels label) (ap is_some (at_label player s label _ at refl) ∙ sym is ∙ absent)
+no_such_label player s label test at is absent = none_from_is_some (at_number s.labels label) (ap is_some (at_label player s label _ at refl) ∙ sym is ∙ absent)

@@ -6,7 +6,7 @@ use Rattle.std.proofs.KnownBytes.{Appends-trans}
 use Rattle.line_framer.specs.Frames.{Parts, parts, with_byte, lines_in}
 use Rattle.line_words.specs.Bytes.{has_byte}
 use Rattle.address_words.specs.Words.{PartedAt}
-use Rattle.address_words.proofs.Parts.{first_of_or, second_of_or}
+use Rattle.std.proofs.lemmas.Bool.{or_parts}
 use Rattle.lobby_script.specs.Acts.{labelled}
 
 byte_before : (b : ℕ) (p : Parts) (line : List ℕ) (lines : List (List ℕ)) → p.0 ≡ line ∷ lines → (with_byte b p).0 ≡ (b ∷ line) ∷ lines
@@ -20,13 +20,13 @@ byte_alone b (p ∷ ps, rest) e = absurd cc
 first_line : (line behind : List ℕ) → has_byte 10 line ≡ false → lines_in (line ++ 10 ∷ behind) ≡ line ∷ lines_in behind
 first_line [] behind h = refl
 first_line (x ∷ xs) behind h =
-    ap (λ b. (cond b ([] ∷ (parts (xs ++ 10 ∷ behind)).0, (parts (xs ++ 10 ∷ behind)).1) (with_byte x (parts (xs ++ 10 ∷ behind)))).0) (first_of_or (nat_eq x 10) _ h)
-    ∙ byte_before x (parts (xs ++ 10 ∷ behind)) xs (lines_in behind) (first_line xs behind (second_of_or (nat_eq x 10) _ h))
+    ap (λ b. (cond b ([] ∷ (parts (xs ++ 10 ∷ behind)).0, (parts (xs ++ 10 ∷ behind)).1) (with_byte x (parts (xs ++ 10 ∷ behind)))).0) (or_parts (nat_eq x 10) _ h).0
+    ∙ byte_before x (parts (xs ++ 10 ∷ behind)) xs (lines_in behind) (first_line xs behind (or_parts (nat_eq x 10) _ h).1)
 
 no_line : (bytes : List ℕ) → has_byte 10 bytes ≡ false → lines_in bytes ≡ []
 no_line [] h = refl
 no_line (x ∷ xs) h =
-    ap (λ b. (cond b ([] ∷ (parts xs).0, (parts xs).1) (with_byte x (parts xs))).0) (first_of_or (nat_eq x 10) _ h) ∙ byte_alone x (parts xs) (no_line xs (second_of_or (nat_eq x 10) _ h))
+    ap (λ b. (cond b ([] ∷ (parts xs).0, (parts xs).1) (with_byte x (parts xs))).0) (or_parts (nat_eq x 10) _ h).0 ∙ byte_alone x (parts xs) (no_line xs (or_parts (nat_eq x 10) _ h).1)
 
 pub none_labelled : (label : ℕ) (bytes : List ℕ) → has_byte 10 bytes ≡ false → labelled label bytes ≡ []
 none_labelled label bytes h = ap (flat_map (λ line. decimal label ++ 62 ∷ 32 ∷ (line ++ 10 ∷ []))) (no_line bytes h)

@@ -28,6 +28,7 @@ use Rattle.lobby_turns.specs.Holds.{IsTaken, Stands, Drains, DrainedInto, Draine
 use Rattle.lobby_turns.proofs.Joins.{held_none, joined_none, joined_then, joined_more, stands_more}
 use Rattle.lobby_turns.proofs.Parts.{drained-append, went_drains}
 use Rattle.lobby_turns.proofs.Talks.{are_drains-append, told_end-append, dry_behind}
+use Rattle.std.proofs.Math.Nat.{zero-min, min-zero, suc-min-suc}
 
 from_one : (n : ℕ) (o : Option Client) → taken_from n o ≡ take n (unread_in o)
 from_one zero None = refl
@@ -37,19 +38,10 @@ from_one n (Some client) = refl
 pub taken_is : (s : State) (c n : ℕ) → taken_by s (event.Drain c n) c ≡ take n (unread_of s c)
 taken_is s c n = ap (λ b. if b then taken_from n (at_number s.clients c) else []) (same_itself c) ∙ from_one n (at_number s.clients c)
 
-min_nil : (n : ℕ) → min 0 n ≡ 0
-min_nil n = omega arith
-
-min_suc : (n m : ℕ) → min (suc n) (suc m) ≡ suc (min n m)
-min_suc n m = omega arith
-
-min_zero : (n : ℕ) → min n 0 ≡ 0
-min_zero n = omega arith
-
 take_min : (n : ℕ) (u : List ℕ) → take (min (length u) n) u ≡ take n u
-take_min zero u = ap (λ k. take k u) (min_zero (length u))
-take_min (suc n) [] = ap (λ (k : ℕ). take {A = ℕ} k []) (min_nil (suc n))
-take_min (suc n) (x ∷ u) = ap (λ k. take k (x ∷ u)) (min_suc (length u) n) ∙ ap (λ v. x ∷ v) (take_min n u)
+take_min zero u = ap (λ k. take k u) (min-zero (length u))
+take_min (suc n) [] = ap (λ (k : ℕ). take {A = ℕ} k []) (zero-min (suc n))
+take_min (suc n) (x ∷ u) = ap (λ k. take k (x ∷ u)) (suc-min-suc (length u) n) ∙ ap (λ v. x ∷ v) (take_min n u)
 
 -- the bytes that came stand at the front of the slice
 pub at_front : (s : State) (c n count : ℕ) (into rest : List ℕ) → count ≡ min (length (unread_of s c)) n → into ≡ take count (unread_of s c) ++ rest

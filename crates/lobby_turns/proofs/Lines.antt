@@ -12,6 +12,7 @@ use Rattle.client_session.specs.Sessions.{Heard, IsNext, NextAt}
 use Rattle.client_session.specs.OneSession.{Accepted}
 use Rattle.client_session.proofs.Lines.{line_asked}
 use Rattle.lobby_turns.specs.Went.{AreNext}
+use Rattle.line_words.proofs.Options.{get-append_some}
 
 -- more bytes give more frames, behind those that there were
 grown : (bytes more : List ℕ) (limit : ℕ) → (rest : List (List ℕ)) × (frames (bytes ++ more) limit ≡ frames bytes limit ++ rest)
@@ -21,11 +22,6 @@ grown bytes more limit =
       | false ↦ λ sound. (frames (rest_of bytes ++ more) limit, frames-append bytes more limit sound)
     ] refl
 
-get_more : {A : Type 0} (xs ys : List A) (k : ℕ) (x : A) → slice_get xs k ≡ Some x → slice_get (xs ++ ys) k ≡ Some x
-get_more [] ys k x e = absurd (cc (e))
-get_more (y ∷ xs) ys zero x e = e
-get_more (y ∷ xs) ys (suc k) x e = get_more xs ys k x e
-
 -- the line that is next stays next
 is_next-more : (bytes more : List ℕ) (k : ℕ) (request : Request) → IsNext bytes k (Line request) → IsNext (bytes ++ more) k (Line request)
 is_next-more bytes more k request =
@@ -33,7 +29,7 @@ is_next-more bytes more k request =
       | None ↦ λ e f. absurd f
       | Some line ↦ λ e reads.
           let g = grown bytes more line_limit in
-          let there : slice_get (frames (bytes ++ more) line_limit) k ≡ Some line = ap (λ l. slice_get l k) g.1 ∙ get_more (frames bytes line_limit) g.0 k line e in
+          let there : slice_get (frames (bytes ++ more) line_limit) k ≡ Some line = ap (λ l. slice_get l k) g.1 ∙ get-append_some (frames bytes line_limit) g.0 k line e in
           subst (λ (o : Option (List ℕ)). NextAt o (bytes ++ more) (Line request)) (sym there) reads
     ] refl
 

@@ -18,6 +18,7 @@ use Rattle.client_session.specs.OneSession.{IsNextOf}
 use Rattle.lobby_turns.specs.Receiving.{OnlyReads, IsAllReceived, HasToReceive, has_bytes, has_line, has_more, SaysWithin, StepIs, ReceivesNext, ReceivedIs, Receives}
 use Rattle.lobby_turns.proofs.Parts.{went_then}
 use Rattle.lobby_turns.proofs.Sayings.{says_none, says_then}
+use Rattle.std.proofs.Math.Nat.{add-zero, zero-add}
 
 -- so many lines were said to the lobby and so many reads were made, and these workers are to be woken
 pub record Receiving (old new : Snapshot) (lines reads wakes : ℕ) : Type 0 where
@@ -51,12 +52,6 @@ quietly a b c m k n wakes u h went only none =
       only = only_then a b c k n h.only only;
     }
 
-add_none : (n : ℕ) → n + 0 ≡ n
-add_none n = omega arith
-
-none_add : (n : ℕ) → 0 + n ≡ n
-none_add n = omega arith
-
 pub receiving_read : (a b c : Snapshot) (m k wakes : ℕ) → Receiving a b m k wakes → ReceivesNext b c step.Read → Receiving a c m (k + 1) wakes
 receiving_read a b c m k wakes h s =
     subst (λ (n : ℕ). Receiving a c m (k + n) wakes) s.step_is.1 (quietly a b c m k s.reads wakes s.talk h s.went s.only s.step_is.0)
@@ -65,7 +60,7 @@ pub receiving_said : (a b c : Snapshot) (m k wakes : ℕ) (said : Said) (all : �
     → ((home : ℕ) → has_home all home ≡ (has_home wakes home || has_home said.wakes home)) → Receiving a c (m + said.lines) k all
 receiving_said a b c m k wakes said all h s both = record {
   says = says_then a b c m said.lines wakes said.wakes all h.says (record { talk = s.talk; went = s.went; said = s.step_is.1 }) both;
-  only = subst (λ (n : ℕ). OnlyReads a c n) (ap (λ n. k + n) s.step_is.0 ∙ add_none k) (only_then a b c k s.reads h.only s.only);
+  only = subst (λ (n : ℕ). OnlyReads a c n) (ap (λ n. k + n) s.step_is.0 ∙ add-zero k) (only_then a b c k s.reads h.only s.only);
 }
 
 -- ---- where receiving ends
@@ -171,7 +166,7 @@ fed_first a b c how went same s = record {
   went = went_then a b c [] s.talk went s.went;
   reads = s.reads;
   few = s.few;
-  only = subst (λ (n : ℕ). OnlyReads a c n) (none_add s.reads) (only_then a b c 0 s.reads (only_none a b same) s.only);
+  only = subst (λ (n : ℕ). OnlyReads a c n) (zero-add s.reads) (only_then a b c 0 s.reads (only_none a b same) s.only);
   step_is = step_behind a b c s.talk s.reads how same went.client s.only s.step_is;
 }
 
@@ -244,7 +239,7 @@ goes_on_said a b c m k wakes rounds said all how is accepted within h found both
     let s : ReceivesNext b c (step.Said said) = subst (λ (x : Step). ReceivesNext b c x) is found in
     record {
       receiving = receiving_said a b c m k wakes said all h.receiving s both;
-      late = λ e. s.only.reads_are ∙ ap (λ n. b.wire.reads + n) s.step_is.0 ∙ add_none b.wire.reads ∙ h.late (sym (s.only.still s.step_is.0) ∙ e);
+      late = λ e. s.only.reads_are ∙ ap (λ n. b.wire.reads + n) s.step_is.0 ∙ add-zero b.wire.reads ∙ h.late (sym (s.only.still s.step_is.0) ∙ e);
       rounds_are = omega (arith, h.rounds_are, said_some m how said is within accepted);
       few_lines = lines_fit m how said is h.few_lines within;
       few_reads = h.few_reads;

@@ -16,6 +16,7 @@ use Rattle.lobby_turns.specs.Holds.{Drains}
 use Rattle.lobby_turns.specs.Sending.{MaySend, OnlyWrites, IsAllSent, StepIs, SendsNext, IsStop, IsWrittenOut, all_written, stopped, spent, Writes, SentIs, Sends}
 use Rattle.lobby_turns.proofs.Parts.{went_none, went_then}
 use Rattle.lobby_turns.proofs.Talks.{are_drains-append, calm-append, finished-append, dry_behind}
+use Rattle.std.proofs.Math.Nat.{add-zero}
 
 -- so many writes were made, and no drain said that nothing will come
 pub record Sending (old new : Snapshot) (writes : ℕ) : Type 0 where
@@ -25,15 +26,9 @@ pub record Sending (old new : Snapshot) (writes : ℕ) : Type 0 where
   pub calm : told_end talk ≡ false
   pub only : OnlyWrites old new writes
 
-add_none : (n : ℕ) → n ≡ n + 0
-add_none n = omega arith
-
-none_add : (n : ℕ) → 0 + n ≡ n
-none_add n = omega arith
-
 pub only_same : (a : Snapshot) → OnlyWrites a a 0
 only_same a = record {
-  writes_are = add_none a.wire.writes;
+  writes_are = sym (add-zero a.wire.writes);
   reads = refl;
   failures = omega arith;
   last_got = refl;
@@ -287,7 +282,7 @@ one_write a b writes reads failures last_got session unfed =
 
 pub no_write : (a b : Snapshot) → b.wire ≡ a.wire → b.conn.session ≡ a.conn.session → b.conn.unfed ≡ a.conn.unfed → OnlyWrites a b 0
 no_write a b wire session unfed = record {
-  writes_are = ap (λ w. w.writes) wire ∙ add_none a.wire.writes;
+  writes_are = ap (λ w. w.writes) wire ∙ sym (add-zero a.wire.writes);
   reads = ap (λ w. w.reads) wire;
   failures = omega (arith, ap (λ w. w.failures) wire);
   last_got = ap (λ w. w.last_got) wire;

@@ -8,10 +8,7 @@ use Rattle.std.proofs.lemmas.Map.Views.{any-filter_same}
 use Rattle.line_words.specs.Table.{same_name, is_among, all_but}
 use Rattle.line_words.proofs.Tables.{same_name_is, same_name_itself}
 use Rattle.line_words.proofs.Once.{Apart, apart_either_way, contradiction, any_of_filter}
-
-pub neither : (a b : Bool) → (a || b) ≡ false → (a ≡ false) × (b ≡ false)
-neither true b e = absurd (cc)
-neither false b e = (refl, e)
+use Rattle.std.proofs.lemmas.Bool.{or_parts}
 
 apart_is : (name : List ℕ) (names : List (List ℕ)) → Apart name names → is_among name names ≡ false
 apart_is name [] h = refl
@@ -47,7 +44,7 @@ module _ {X : Type 0} (p : X → Bool) where
   pub none_dropped : (xs : List X) → list_any p xs ≡ false → filter (λ x. not (p x)) xs ≡ xs
   none_dropped [] none = refl
   none_dropped (x ∷ xs) none =
-      let parts = neither _ _ none in
+      let parts = or_parts _ _ none in
       let rest = filter (λ y. not (p y)) xs in
       ap (λ b. if not b then x ∷ rest else rest) parts.0 ∙ ap (λ ys. x ∷ ys) (none_dropped xs parts.1)
 

@@ -26,8 +26,9 @@ use Rattle.lobby_view.specs.Observe.{observe, shared, own_room, listed}
 use Rattle.lobby_view.proofs.Basics.{Seen, seen_by_each, shown_all-append, owned, inside}
 use Rattle.lobby_view.proofs.Finding.{find_only}
 use Rattle.lobby_view.proofs.Changed.{roomed, listed_changed, room_changed}
-use Rattle.lobby_view.proofs.Distinct.{neither, at_end_apart, is_at_end}
+use Rattle.lobby_view.proofs.Distinct.{at_end_apart, is_at_end}
 use Rattle.lobby_view.proofs.RoomShown.{room_shown, only_members, zeroed}
+use Rattle.std.proofs.lemmas.Bool.{or_parts}
 
 -- f brings me in at the end of the members, and changes nothing else that members share
 module _ (s : State) (me : List ℕ) (id : ℕ) (battle : Battle) (script_password : Option (List ℕ)) (mine : Bool)
@@ -61,7 +62,7 @@ module _ (s : State) (me : List ℕ) (id : ℕ) (battle : Battle) (script_passwo
     out_of_it = free id battle there
 
     not_founder : same_name me battle.info.founder ≡ false
-    not_founder = (neither _ _ (sym (ap (is_among me) (sound.battles.each id battle there).founder.1) ∙ out_of_it)).0
+    not_founder = (or_parts _ _ (sym (ap (is_among me) (sound.battles.each id battle there).founder.1) ∙ out_of_it)).0
 
     entered_at : at_number (change_number s.battles id (roomed f)) id ≡ Some (roomed f battle)
     entered_at =

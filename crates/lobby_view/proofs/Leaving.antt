@@ -18,7 +18,8 @@ use Rattle.lobby_view.specs.Observe.{observe, shared, own_room}
 use Rattle.lobby_view.proofs.Basics.{Seen, shown_all-append, owned, inside, all_done, room_lines_shown}
 use Rattle.lobby_view.proofs.OwnBattle.{its_battle, not_its_battle}
 use Rattle.lobby_view.proofs.Changed.{room_changed, not_own}
-use Rattle.lobby_view.proofs.Distinct.{neither, first_apart, stays, none_dropped, none_in_fewer, among_names}
+use Rattle.lobby_view.proofs.Distinct.{first_apart, stays, none_dropped, none_in_fewer, among_names}
+use Rattle.std.proofs.lemmas.Bool.{or_parts}
 
 -- one bot dropped by its name, and each of some
 abbrev drop_one : List ℕ → List Bot → List Bot
@@ -43,7 +44,7 @@ is_named name b = same_name name b.name
 first_stays : (ds : List Bot) (b : Bot) (bots : List Bot) → list_any (is_named b.name) ds ≡ false → drop_each ds (b ∷ bots) ≡ b ∷ drop_each ds bots
 first_stays [] b bots out = refl
 first_stays (d ∷ ds) b bots out =
-    let apart = neither _ _ out in
+    let apart = or_parts _ _ out in
     ap (λ t. drop_each ds (if not t then b ∷ drop_one d.name bots else drop_one d.name bots)) (apart_either_way b.name d.name apart.0)
     ∙ first_stays ds b (drop_one d.name bots) apart.1
 

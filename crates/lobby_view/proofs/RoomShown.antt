@@ -22,7 +22,8 @@ use Rattle.lobby_view.specs.Observe.{shared}
 use Rattle.lobby_view.proofs.Basics.{shown_all-append, inside, all_done, room_lines_shown}
 use Rattle.lobby_view.proofs.Places.{sorted_before, put_last}
 use Rattle.lobby_view.proofs.Leaving.{in_its_own}
-use Rattle.lobby_view.proofs.Distinct.{neither, first_apart}
+use Rattle.lobby_view.proofs.Distinct.{first_apart}
+use Rattle.std.proofs.lemmas.Bool.{or_parts}
 
 abbrev names : List Member → List (List ℕ)
 names members = map (λ m. m.name) members
@@ -48,21 +49,21 @@ statuses_done (m ∷ ms) room = statuses_done ms (shows_status m room)
 first_stays : (ms : List Member) (x : Member) (xs : List Member) → is_among x.name (names ms) ≡ false → with_each ms (x ∷ xs) ≡ x ∷ with_each ms xs
 first_stays [] x xs out = refl
 first_stays (m ∷ ms) x xs out =
-    let apart = neither _ _ out in
+    let apart = or_parts _ _ out in
     ap (λ b. with_each ms ((if b then member_with m.status m.colour x else x) ∷ with_one m xs)) (apart_either_way x.name m.name apart.0)
     ∙ first_stays ms x (with_one m xs) apart.1
 
 none_changed : (m : Member) (xs : List Member) → is_among m.name (names xs) ≡ false → with_one m xs ≡ xs
 none_changed m [] out = refl
 none_changed m (x ∷ xs) out =
-    let apart = neither _ _ out in λ i. (if apart.0 i then member_with m.status m.colour x else x) ∷ none_changed m xs apart.1 i
+    let apart = or_parts _ _ out in λ i. (if apart.0 i then member_with m.status m.colour x else x) ∷ none_changed m xs apart.1 i
 
 names_zeroed : (ms newcomers : List Member) → names (zeroed ms ++ newcomers) ≡ names (ms ++ newcomers)
 names_zeroed [] newcomers = refl
 names_zeroed (m ∷ ms) newcomers = ap (λ ns. m.name ∷ ns) (names_zeroed ms newcomers)
 
 out_of_front : (name : List ℕ) (xs ys : List (List ℕ)) → is_among name (xs ++ ys) ≡ false → (is_among name xs ≡ false) × (is_among name ys ≡ false)
-out_of_front name xs ys out = neither _ _ (sym (list_any-append (same_name name) xs ys) ∙ out)
+out_of_front name xs ys out = or_parts _ _ (sym (list_any-append (same_name name) xs ys) ∙ out)
 
 -- status lines of members, to one who sees behind them some who are new
 statuses_are : (ms newcomers : List Member) → IsDistinct same_name (names (ms ++ newcomers)) → with_each ms (zeroed ms ++ newcomers) ≡ ms ++ newcomers
@@ -102,13 +103,13 @@ out_of_done : (done : List (List ℕ)) (name : List ℕ) (rest : List (List ℕ)
 out_of_done [] name rest once = refl
 out_of_done (d ∷ done) name rest once =
     let apart = first_apart d (done ++ name ∷ rest) once in
-    ap (λ b. b || is_among name done) (apart_either_way d name (neither _ _ (out_of_front d done (name ∷ rest) apart.0).1).0)
+    ap (λ b. b || is_among name done) (apart_either_way d name (or_parts _ _ (out_of_front d done (name ∷ rest) apart.0).1).0)
     ∙ out_of_done done name rest apart.1
 
 tag_last : (done : List Pair) (t : Pair) → is_among t.key (tag_keys done) ≡ false → with_tag done t ≡ done ++ t ∷ []
 tag_last [] t out = refl
 tag_last (d ∷ done) t out =
-    let apart = neither _ _ out in
+    let apart = or_parts _ _ out in
     ap (λ b. if b then t ∷ done else d ∷ with_tag done t) apart.0 ∙ ap (λ tags. d ∷ tags) (tag_last done t apart.1)
 
 abbrev tag_line : Pair → Reply

@@ -6,9 +6,10 @@ use Rattle.lobby_model.proofs.Quiet.{next_drain}
 use Rattle.lobby_post.specs.Mail.{plain}
 use Rattle.lobby_maps.specs.Seats.{Agree, IsListed, Numbered, users_of}
 use Rattle.lobby_maps.specs.Shown.{lobby_of}
-use Rattle.lobby_maps.proofs.Agreed.{agree_kept, listed_kept, name_drained, numbered_changed}
+use Rattle.lobby_maps.proofs.Agreed.{agree_kept, listed_kept, numbered_changed}
 use Rattle.lobby_maps.proofs.Lists.{known_same, lists_same}
 use Rattle.lobby_maps.proofs.maps.Maps.drain.Goals as goal
+use Rattle.lobby_model.proofs.Users.{drain_names}
 
 pub invariant_of-self : goal.invariant_of-self
 invariant_of-self c =
@@ -18,9 +19,9 @@ invariant_of-self c =
         limited = c.drain.ensures.limit ∙ c.self.invariant.1.limited;
         rest = c.drain.ensures.due [] c.self.invariant.1.rest;
         agree = subst (λ (n : ByNumber Client). Agree n c.self.inside.seats.users.entries) (sym c.drain.ensures.clients)
-            (agree_kept m _ c.self.inside.seats.users.entries (name_drained m c.args.client (length c.args.into.now)) c.self.invariant.1.agree);
+            (agree_kept m _ c.self.inside.seats.users.entries (drain_names m c.args.client (length c.args.into.now)) c.self.invariant.1.agree);
         listed = subst (λ (n : ByNumber Client). IsListed c.self.inside.seats.clients.keys n) (sym c.drain.ensures.clients)
-            (listed_kept m _ c.self.inside.seats.clients.keys (name_drained m c.args.client (length c.args.into.now)) c.self.invariant.1.listed);
+            (listed_kept m _ c.self.inside.seats.clients.keys (drain_names m c.args.client (length c.args.into.now)) c.self.invariant.1.listed);
         numbered = subst (λ (n : ByNumber Client). Numbered c.self.inside.last_client n) (sym c.drain.ensures.clients)
             (numbered_changed c.self.inside.last_client m c.args.client (drained (length c.args.into.now)) c.self.invariant.1.numbered);
         known = known_same c.self.inside.clients c.drain.new.self c.drain.ensures.marks c.drain.ensures.lines _ c.self.invariant.1.known;
