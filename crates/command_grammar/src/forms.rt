@@ -1,13 +1,13 @@
-//! One reader for each command that has arguments: all arguments are read first, and those that are
-//! kept are copied then, so that a fault takes no memory.
+//! One reader for each command that has arguments: it takes an argument for each kind of the command's
+//! row, from left to right. All are read first, and those that are kept are copied then, so that a
+//! fault takes no memory.
 
 ghost use Rattle.std.specs.Prelude.{◌≡◌, ◌∷◌, IfOk, IfSome, IsTrue, OnErr, is_some};
 ghost use Rattle.std.specs.Option.{option_map};
 ghost use Rattle.line_words.specs.Bytes.{is_sentence, is_text, is_word};
 ghost use Rattle.command_grammar.specs.declared.command.Command.TheVariants as command;
-ghost use Rattle.command_grammar.specs.declared.command_word.CommandWord.TheVariants as words;
-ghost use Rattle.command_grammar.specs.Reading.{Gives, arguments_at, row_at};
-ghost use Rattle.command_grammar.specs.Table.{Wide, battle_titles};
+ghost use Rattle.command_grammar.specs.Reading.{Gives, row_at};
+ghost use Rattle.command_grammar.specs.Table.{Wide, battle_titles, add_bot_row, add_rectangle_row, ally_row, battle_info_row, battle_status_row, color_row, deny_row, handicap_row, join_battle_row, join_row, login_row, name_and_text, one_name, one_text, one_word, open_battle_row, remove_rectangle_row, some_pairs, some_words, status_row, team_row, update_bot_row};
 
 use crate::arguments::{
     flag_at, login_flags_at, name_at, natural_at, optional_at, optional_text_at, sentence_at,
@@ -21,7 +21,7 @@ use std::alloc::{AllocError, Global};
 
 pub(crate) fn login(alloc: Global, rest: &[u8]) -> Result<Command, ReadError>
     requires { IsTrue (is_text rest.now) }
-    ensures { Gives result (arguments_at words.Login rest.now) }
+    ensures { Gives result (row_at login_row command.Login rest.now) }
 {
     let (user_name, rest) = word_at(rest)?;
     let (password, rest) = word_at(rest)?;
@@ -71,7 +71,7 @@ fn copy_of_login(alloc: Global, login: &LentLogin<'_>) -> Result<Command, AllocE
 
 pub(crate) fn my_status(rest: &[u8]) -> Result<Command, ReadError>
     requires { IsTrue (is_text rest.now) }
-    ensures { Gives result (arguments_at words.MyStatus rest.now) }
+    ensures { Gives result (row_at status_row command.MyStatus rest.now) }
 {
     let (status, _) = natural_at(rest, 4294967295)?;
     Ok(Command::MyStatus { status })
@@ -79,7 +79,7 @@ pub(crate) fn my_status(rest: &[u8]) -> Result<Command, ReadError>
 
 pub(crate) fn join(alloc: Global, rest: &[u8]) -> Result<Command, ReadError>
     requires { IsTrue (is_text rest.now) }
-    ensures { Gives result (arguments_at words.Join rest.now) }
+    ensures { Gives result (row_at join_row command.Join rest.now) }
 {
     let (channel, rest) = name_at(rest)?;
     let (key, _) = optional_at(rest)?;
@@ -91,7 +91,7 @@ pub(crate) fn join(alloc: Global, rest: &[u8]) -> Result<Command, ReadError>
 
 pub(crate) fn leave(alloc: Global, rest: &[u8]) -> Result<Command, ReadError>
     requires { IsTrue (is_text rest.now) }
-    ensures { Gives result (arguments_at words.Leave rest.now) }
+    ensures { Gives result (row_at one_name command.Leave rest.now) }
 {
     let (channel, _) = name_at(rest)?;
     Ok(Command::Leave {
@@ -101,7 +101,7 @@ pub(crate) fn leave(alloc: Global, rest: &[u8]) -> Result<Command, ReadError>
 
 pub(crate) fn say(alloc: Global, rest: &[u8]) -> Result<Command, ReadError>
     requires { IsTrue (is_text rest.now) }
-    ensures { Gives result (arguments_at words.Say rest.now) }
+    ensures { Gives result (row_at name_and_text command.Say rest.now) }
 {
     let (channel, rest) = name_at(rest)?;
     let text = text_at(rest)?;
@@ -113,7 +113,7 @@ pub(crate) fn say(alloc: Global, rest: &[u8]) -> Result<Command, ReadError>
 
 pub(crate) fn say_ex(alloc: Global, rest: &[u8]) -> Result<Command, ReadError>
     requires { IsTrue (is_text rest.now) }
-    ensures { Gives result (arguments_at words.SayEx rest.now) }
+    ensures { Gives result (row_at name_and_text command.SayEx rest.now) }
 {
     let (channel, rest) = name_at(rest)?;
     let text = text_at(rest)?;
@@ -125,7 +125,7 @@ pub(crate) fn say_ex(alloc: Global, rest: &[u8]) -> Result<Command, ReadError>
 
 pub(crate) fn say_private(alloc: Global, rest: &[u8]) -> Result<Command, ReadError>
     requires { IsTrue (is_text rest.now) }
-    ensures { Gives result (arguments_at words.SayPrivate rest.now) }
+    ensures { Gives result (row_at name_and_text command.SayPrivate rest.now) }
 {
     let (user, rest) = name_at(rest)?;
     let text = text_at(rest)?;
@@ -137,7 +137,7 @@ pub(crate) fn say_private(alloc: Global, rest: &[u8]) -> Result<Command, ReadErr
 
 pub(crate) fn open_battle(alloc: Global, rest: &[u8]) -> Result<Command, ReadError>
     requires { IsTrue (is_text rest.now) }
-    ensures { Gives result (arguments_at words.OpenBattle rest.now) }
+    ensures { Gives result (row_at open_battle_row command.OpenBattle rest.now) }
 {
     let (battle_type, rest) = natural_at(rest, 1)?;
     let (nat_type, rest) = natural_at(rest, 2)?;
@@ -281,7 +281,7 @@ fn copy_of_two(
 
 pub(crate) fn join_battle(alloc: Global, rest: &[u8]) -> Result<Command, ReadError>
     requires { IsTrue (is_text rest.now) }
-    ensures { Gives result (arguments_at words.JoinBattle rest.now) }
+    ensures { Gives result (row_at join_battle_row command.JoinBattle rest.now) }
 {
     let (battle, rest) = natural_at(rest, 2147483647)?;
     let (password, rest) = optional_at(rest)?;
@@ -295,7 +295,7 @@ pub(crate) fn join_battle(alloc: Global, rest: &[u8]) -> Result<Command, ReadErr
 
 pub(crate) fn join_battle_accept(alloc: Global, rest: &[u8]) -> Result<Command, ReadError>
     requires { IsTrue (is_text rest.now) }
-    ensures { Gives result (arguments_at words.JoinBattleAccept rest.now) }
+    ensures { Gives result (row_at one_name command.JoinBattleAccept rest.now) }
 {
     let (user, _) = name_at(rest)?;
     Ok(Command::JoinBattleAccept {
@@ -305,7 +305,7 @@ pub(crate) fn join_battle_accept(alloc: Global, rest: &[u8]) -> Result<Command, 
 
 pub(crate) fn join_battle_deny(alloc: Global, rest: &[u8]) -> Result<Command, ReadError>
     requires { IsTrue (is_text rest.now) }
-    ensures { Gives result (arguments_at words.JoinBattleDeny rest.now) }
+    ensures { Gives result (row_at deny_row command.JoinBattleDeny rest.now) }
 {
     let (user, rest) = name_at(rest)?;
     let reason = optional_text_at(rest);
@@ -338,7 +338,7 @@ fn copy_of_optional(alloc: Global, word: Option<&[u8]>) -> Result<Option<WordBuf
 
 pub(crate) fn update_battle_info(alloc: Global, rest: &[u8]) -> Result<Command, ReadError>
     requires { IsTrue (is_text rest.now) }
-    ensures { Gives result (arguments_at words.UpdateBattleInfo rest.now) }
+    ensures { Gives result (row_at battle_info_row command.UpdateBattleInfo rest.now) }
 {
     let (spectator_count, rest) = natural_at(rest, 65535)?;
     let (locked, rest) = flag_at(rest)?;
@@ -354,7 +354,7 @@ pub(crate) fn update_battle_info(alloc: Global, rest: &[u8]) -> Result<Command, 
 
 pub(crate) fn my_battle_status(rest: &[u8]) -> Result<Command, ReadError>
     requires { IsTrue (is_text rest.now) }
-    ensures { Gives result (arguments_at words.MyBattleStatus rest.now) }
+    ensures { Gives result (row_at battle_status_row command.MyBattleStatus rest.now) }
 {
     let (battle_status, rest) = natural_at(rest, 4294967295)?;
     let (team_color, _) = wide_at(rest)?;
@@ -366,7 +366,7 @@ pub(crate) fn my_battle_status(rest: &[u8]) -> Result<Command, ReadError>
 
 pub(crate) fn say_battle(alloc: Global, rest: &[u8]) -> Result<Command, ReadError>
     requires { IsTrue (is_text rest.now) }
-    ensures { Gives result (arguments_at words.SayBattle rest.now) }
+    ensures { Gives result (row_at one_text command.SayBattle rest.now) }
 {
     let text = text_at(rest)?;
     Ok(Command::SayBattle {
@@ -376,7 +376,7 @@ pub(crate) fn say_battle(alloc: Global, rest: &[u8]) -> Result<Command, ReadErro
 
 pub(crate) fn say_battle_ex(alloc: Global, rest: &[u8]) -> Result<Command, ReadError>
     requires { IsTrue (is_text rest.now) }
-    ensures { Gives result (arguments_at words.SayBattleEx rest.now) }
+    ensures { Gives result (row_at one_text command.SayBattleEx rest.now) }
 {
     let text = text_at(rest)?;
     Ok(Command::SayBattleEx {
@@ -386,7 +386,7 @@ pub(crate) fn say_battle_ex(alloc: Global, rest: &[u8]) -> Result<Command, ReadE
 
 pub(crate) fn add_bot(alloc: Global, rest: &[u8]) -> Result<Command, ReadError>
     requires { IsTrue (is_text rest.now) }
-    ensures { Gives result (arguments_at words.AddBot rest.now) }
+    ensures { Gives result (row_at add_bot_row command.AddBot rest.now) }
 {
     let (bot, rest) = word_at(rest)?;
     let (battle_status, rest) = natural_at(rest, 4294967295)?;
@@ -402,7 +402,7 @@ pub(crate) fn add_bot(alloc: Global, rest: &[u8]) -> Result<Command, ReadError>
 
 pub(crate) fn update_bot(alloc: Global, rest: &[u8]) -> Result<Command, ReadError>
     requires { IsTrue (is_text rest.now) }
-    ensures { Gives result (arguments_at words.UpdateBot rest.now) }
+    ensures { Gives result (row_at update_bot_row command.UpdateBot rest.now) }
 {
     let (bot, rest) = word_at(rest)?;
     let (battle_status, rest) = natural_at(rest, 4294967295)?;
@@ -416,7 +416,7 @@ pub(crate) fn update_bot(alloc: Global, rest: &[u8]) -> Result<Command, ReadErro
 
 pub(crate) fn remove_bot(alloc: Global, rest: &[u8]) -> Result<Command, ReadError>
     requires { IsTrue (is_text rest.now) }
-    ensures { Gives result (arguments_at words.RemoveBot rest.now) }
+    ensures { Gives result (row_at one_word command.RemoveBot rest.now) }
 {
     let (bot, _) = word_at(rest)?;
     Ok(Command::RemoveBot {
@@ -426,7 +426,7 @@ pub(crate) fn remove_bot(alloc: Global, rest: &[u8]) -> Result<Command, ReadErro
 
 pub(crate) fn add_start_rect(rest: &[u8]) -> Result<Command, ReadError>
     requires { IsTrue (is_text rest.now) }
-    ensures { Gives result (arguments_at words.AddStartRect rest.now) }
+    ensures { Gives result (row_at add_rectangle_row command.AddStartRect rest.now) }
 {
     let (ally_no, rest) = natural_at(rest, 15)?;
     let (left, rest) = natural_at(rest, 200)?;
@@ -444,7 +444,7 @@ pub(crate) fn add_start_rect(rest: &[u8]) -> Result<Command, ReadError>
 
 pub(crate) fn remove_start_rect(rest: &[u8]) -> Result<Command, ReadError>
     requires { IsTrue (is_text rest.now) }
-    ensures { Gives result (arguments_at words.RemoveStartRect rest.now) }
+    ensures { Gives result (row_at remove_rectangle_row command.RemoveStartRect rest.now) }
 {
     let (ally_no, _) = natural_at(rest, 15)?;
     Ok(Command::RemoveStartRect {
@@ -455,7 +455,7 @@ pub(crate) fn remove_start_rect(rest: &[u8]) -> Result<Command, ReadError>
 #[tactic(auto, unfolding(crate::specs::Reading::pairs_at), using(crate::proofs::Checks::pairs_need_memory))]
 pub(crate) fn set_script_tags(alloc: Global, rest: &[u8]) -> Result<Command, ReadError>
     requires { IsTrue (is_text rest.now) }
-    ensures { Gives result (arguments_at words.SetScriptTags rest.now) }
+    ensures { Gives result (row_at some_pairs command.SetScriptTags rest.now) }
 {
     let text = text_at(rest)?;
     check_pairs(text)?;
@@ -467,7 +467,7 @@ pub(crate) fn set_script_tags(alloc: Global, rest: &[u8]) -> Result<Command, Rea
 #[tactic(auto, using(crate::proofs::Checks::disabled_need_memory))]
 pub(crate) fn disable_units(alloc: Global, rest: &[u8]) -> Result<Command, ReadError>
     requires { IsTrue (is_text rest.now) }
-    ensures { Gives result (arguments_at words.DisableUnits rest.now) }
+    ensures { Gives result (row_at some_words command.DisableUnits rest.now) }
 {
     check_words(rest)?;
     Ok(Command::DisableUnits {
@@ -478,7 +478,7 @@ pub(crate) fn disable_units(alloc: Global, rest: &[u8]) -> Result<Command, ReadE
 #[tactic(auto, using(crate::proofs::Checks::enabled_need_memory))]
 pub(crate) fn enable_units(alloc: Global, rest: &[u8]) -> Result<Command, ReadError>
     requires { IsTrue (is_text rest.now) }
-    ensures { Gives result (arguments_at words.EnableUnits rest.now) }
+    ensures { Gives result (row_at some_words command.EnableUnits rest.now) }
 {
     check_words(rest)?;
     Ok(Command::EnableUnits {
@@ -489,7 +489,7 @@ pub(crate) fn enable_units(alloc: Global, rest: &[u8]) -> Result<Command, ReadEr
 #[tactic(auto, using(crate::proofs::Checks::words_need_memory))]
 pub(crate) fn remove_script_tags(alloc: Global, rest: &[u8]) -> Result<Command, ReadError>
     requires { IsTrue (is_text rest.now) }
-    ensures { Gives result (arguments_at words.RemoveScriptTags rest.now) }
+    ensures { Gives result (row_at some_words command.RemoveScriptTags rest.now) }
 {
     check_words(rest)?;
     Ok(Command::RemoveScriptTags {
@@ -499,7 +499,7 @@ pub(crate) fn remove_script_tags(alloc: Global, rest: &[u8]) -> Result<Command, 
 
 pub(crate) fn handicap(alloc: Global, rest: &[u8]) -> Result<Command, ReadError>
     requires { IsTrue (is_text rest.now) }
-    ensures { Gives result (arguments_at words.Handicap rest.now) }
+    ensures { Gives result (row_at handicap_row command.Handicap rest.now) }
 {
     let (user, rest) = name_at(rest)?;
     let (value, _) = natural_at(rest, 100)?;
@@ -511,7 +511,7 @@ pub(crate) fn handicap(alloc: Global, rest: &[u8]) -> Result<Command, ReadError>
 
 pub(crate) fn force_team_no(alloc: Global, rest: &[u8]) -> Result<Command, ReadError>
     requires { IsTrue (is_text rest.now) }
-    ensures { Gives result (arguments_at words.ForceTeamNo rest.now) }
+    ensures { Gives result (row_at team_row command.ForceTeamNo rest.now) }
 {
     let (user, rest) = name_at(rest)?;
     let (number, _) = natural_at(rest, 15)?;
@@ -523,7 +523,7 @@ pub(crate) fn force_team_no(alloc: Global, rest: &[u8]) -> Result<Command, ReadE
 
 pub(crate) fn force_ally_no(alloc: Global, rest: &[u8]) -> Result<Command, ReadError>
     requires { IsTrue (is_text rest.now) }
-    ensures { Gives result (arguments_at words.ForceAllyNo rest.now) }
+    ensures { Gives result (row_at ally_row command.ForceAllyNo rest.now) }
 {
     let (user, rest) = name_at(rest)?;
     let (number, _) = natural_at(rest, 15)?;
@@ -535,7 +535,7 @@ pub(crate) fn force_ally_no(alloc: Global, rest: &[u8]) -> Result<Command, ReadE
 
 pub(crate) fn force_team_color(alloc: Global, rest: &[u8]) -> Result<Command, ReadError>
     requires { IsTrue (is_text rest.now) }
-    ensures { Gives result (arguments_at words.ForceTeamColor rest.now) }
+    ensures { Gives result (row_at color_row command.ForceTeamColor rest.now) }
 {
     let (user, rest) = name_at(rest)?;
     let (team_color, _) = wide_at(rest)?;
@@ -547,7 +547,7 @@ pub(crate) fn force_team_color(alloc: Global, rest: &[u8]) -> Result<Command, Re
 
 pub(crate) fn force_spectator_mode(alloc: Global, rest: &[u8]) -> Result<Command, ReadError>
     requires { IsTrue (is_text rest.now) }
-    ensures { Gives result (arguments_at words.ForceSpectatorMode rest.now) }
+    ensures { Gives result (row_at one_name command.ForceSpectatorMode rest.now) }
 {
     let (user, _) = name_at(rest)?;
     Ok(Command::ForceSpectatorMode {
@@ -557,7 +557,7 @@ pub(crate) fn force_spectator_mode(alloc: Global, rest: &[u8]) -> Result<Command
 
 pub(crate) fn kick_from_battle(alloc: Global, rest: &[u8]) -> Result<Command, ReadError>
     requires { IsTrue (is_text rest.now) }
-    ensures { Gives result (arguments_at words.KickFromBattle rest.now) }
+    ensures { Gives result (row_at one_name command.KickFromBattle rest.now) }
 {
     let (user, _) = name_at(rest)?;
     Ok(Command::KickFromBattle {
@@ -567,7 +567,7 @@ pub(crate) fn kick_from_battle(alloc: Global, rest: &[u8]) -> Result<Command, Re
 
 pub(crate) fn ring(alloc: Global, rest: &[u8]) -> Result<Command, ReadError>
     requires { IsTrue (is_text rest.now) }
-    ensures { Gives result (arguments_at words.Ring rest.now) }
+    ensures { Gives result (row_at one_name command.Ring rest.now) }
 {
     let (user, _) = name_at(rest)?;
     Ok(Command::Ring {
