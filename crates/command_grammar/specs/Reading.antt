@@ -230,6 +230,17 @@ abbrev pub row_at : (kinds : List Kind) → Maker kinds → List ℕ → Result 
 row_at [] made rest = Ok made
 row_at (k ∷ ks) maker rest = argument_at k (λ x. row_at ks (maker x)) rest
 
+-- the command that is made owns bytes, whatever its arguments are
+abbrev pub AlwaysOwns : (kinds : List Kind) → Maker kinds → Type 0
+AlwaysOwns [] made = IsTrue (owns_bytes made)
+AlwaysOwns (k ∷ ks) maker = (x : Value k) → AlwaysOwns ks (maker x)
+
+-- what a reader of a row returns, whatever command its arguments are for: they make that command, or memory is refused to one that owns bytes
+abbrev pub GivesRow : {X : Type 0} (kinds : List Kind) → (Maker kinds → X → Command) → Result X ReadError → List ℕ → Type 0
+GivesRow kinds make (Ok x) rest = (maker : Maker kinds) → row_at kinds maker rest ≡ Ok (make maker x)
+GivesRow kinds make (Err (errors.Fault f)) rest = (maker : Maker kinds) → row_at kinds maker rest ≡ Err f
+GivesRow kinds make (Err (errors.Memory e)) rest = (maker : Maker kinds) → AlwaysOwns kinds maker → IsTrue (needs_memory (row_at kinds maker rest))
+
 -- what an entry of the table makes of the rest of a line
 abbrev pub known_at : Option Entry → List ℕ → Result Command ReadFault
 known_at None rest = Err fault.UnknownCommand

@@ -36,9 +36,6 @@ status_word = Natural 4294967295
 abbrev pub small_number : Kind
 small_number = Natural 65535
 
-abbrev pub team_number : Kind
-team_number = Natural 15
-
 abbrev pub ally_number : Kind
 ally_number = Natural 15
 
@@ -131,14 +128,19 @@ some_pairs = Pairs ∷ []
 abbrev pub some_words : List Kind
 some_words = Words ∷ []
 
-abbrev pub handicap_row : List Kind
-handicap_row = Name ∷ Natural 100 ∷ []
+-- a name, and a number from 0 to this one
+abbrev pub name_and_number : ℕ → List Kind
+name_and_number high = Name ∷ Natural high ∷ []
 
+abbrev pub handicap_row : List Kind
+handicap_row = name_and_number 100
+
+-- teams are 0 to 15, and so are allies
 abbrev pub team_row : List Kind
-team_row = Name ∷ team_number ∷ []
+team_row = name_and_number 15
 
 abbrev pub ally_row : List Kind
-ally_row = Name ∷ ally_number ∷ []
+ally_row = name_and_number 15
 
 abbrev pub color_row : List Kind
 color_row = Name ∷ Wide ∷ []

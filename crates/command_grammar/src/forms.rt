@@ -1,13 +1,13 @@
-//! One reader for each command that has arguments: it takes an argument for each kind of the command's
-//! row, from left to right. All are read first, and those that are kept are copied then, so that a
-//! fault takes no memory.
+//! One reader for each command whose row of arguments no other command has: it takes an argument for
+//! each kind of the row, from left to right. All are read first, and those that are kept are copied
+//! then, so that a fault takes no memory.
 
 ghost use Rattle.std.specs.Prelude.{◌≡◌, ◌∷◌, IfOk, IfSome, IsTrue, OnErr, is_some};
 ghost use Rattle.std.specs.Option.{option_map};
 ghost use Rattle.line_words.specs.Bytes.{is_sentence, is_text, is_word};
 ghost use Rattle.command_grammar.specs.declared.command.Command.TheVariants as command;
 ghost use Rattle.command_grammar.specs.Reading.{Gives, row_at};
-ghost use Rattle.command_grammar.specs.Table.{Wide, battle_titles, add_bot_row, add_rectangle_row, ally_row, battle_info_row, battle_status_row, color_row, deny_row, handicap_row, join_battle_row, join_row, login_row, name_and_text, one_name, one_text, one_word, open_battle_row, remove_rectangle_row, some_pairs, some_words, status_row, team_row, update_bot_row};
+ghost use Rattle.command_grammar.specs.Table.{Wide, battle_titles, add_bot_row, add_rectangle_row, battle_info_row, battle_status_row, color_row, deny_row, join_battle_row, join_row, login_row, one_word, open_battle_row, remove_rectangle_row, some_pairs, status_row, update_bot_row};
 
 use crate::arguments::{
     flag_at, login_flags_at, name_at, natural_at, optional_at, optional_text_at, sentence_at,
@@ -15,7 +15,7 @@ use crate::arguments::{
 };
 use crate::command::Command;
 use crate::fault::ReadError;
-use crate::lists::{check_pairs, check_words, copy_of_pairs, copy_of_words};
+use crate::lists::{check_pairs, copy_of_pairs};
 use line_words::{NameBuf, SentenceBuf, TextBuf, WordBuf};
 use std::alloc::{AllocError, Global};
 
@@ -86,52 +86,6 @@ pub(crate) fn join(alloc: Global, rest: &[u8]) -> Result<Command, ReadError>
     Ok(Command::Join {
         channel: NameBuf::copy_of(alloc, channel)?,
         key: copy_of_optional(alloc, key)?,
-    })
-}
-
-pub(crate) fn leave(alloc: Global, rest: &[u8]) -> Result<Command, ReadError>
-    requires { IsTrue (is_text rest.now) }
-    ensures { Gives result (row_at one_name command.Leave rest.now) }
-{
-    let (channel, _) = name_at(rest)?;
-    Ok(Command::Leave {
-        channel: NameBuf::copy_of(alloc, channel)?,
-    })
-}
-
-pub(crate) fn say(alloc: Global, rest: &[u8]) -> Result<Command, ReadError>
-    requires { IsTrue (is_text rest.now) }
-    ensures { Gives result (row_at name_and_text command.Say rest.now) }
-{
-    let (channel, rest) = name_at(rest)?;
-    let text = text_at(rest)?;
-    Ok(Command::Say {
-        channel: NameBuf::copy_of(alloc, channel)?,
-        text: TextBuf::copy_of(alloc, text)?,
-    })
-}
-
-pub(crate) fn say_ex(alloc: Global, rest: &[u8]) -> Result<Command, ReadError>
-    requires { IsTrue (is_text rest.now) }
-    ensures { Gives result (row_at name_and_text command.SayEx rest.now) }
-{
-    let (channel, rest) = name_at(rest)?;
-    let text = text_at(rest)?;
-    Ok(Command::SayEx {
-        channel: NameBuf::copy_of(alloc, channel)?,
-        text: TextBuf::copy_of(alloc, text)?,
-    })
-}
-
-pub(crate) fn say_private(alloc: Global, rest: &[u8]) -> Result<Command, ReadError>
-    requires { IsTrue (is_text rest.now) }
-    ensures { Gives result (row_at name_and_text command.SayPrivate rest.now) }
-{
-    let (user, rest) = name_at(rest)?;
-    let text = text_at(rest)?;
-    Ok(Command::SayPrivate {
-        user: NameBuf::copy_of(alloc, user)?,
-        text: TextBuf::copy_of(alloc, text)?,
     })
 }
 
@@ -293,16 +247,6 @@ pub(crate) fn join_battle(alloc: Global, rest: &[u8]) -> Result<Command, ReadErr
     })
 }
 
-pub(crate) fn join_battle_accept(alloc: Global, rest: &[u8]) -> Result<Command, ReadError>
-    requires { IsTrue (is_text rest.now) }
-    ensures { Gives result (row_at one_name command.JoinBattleAccept rest.now) }
-{
-    let (user, _) = name_at(rest)?;
-    Ok(Command::JoinBattleAccept {
-        user: NameBuf::copy_of(alloc, user)?,
-    })
-}
-
 pub(crate) fn join_battle_deny(alloc: Global, rest: &[u8]) -> Result<Command, ReadError>
     requires { IsTrue (is_text rest.now) }
     ensures { Gives result (row_at deny_row command.JoinBattleDeny rest.now) }
@@ -361,26 +305,6 @@ pub(crate) fn my_battle_status(rest: &[u8]) -> Result<Command, ReadError>
     Ok(Command::MyBattleStatus {
         battle_status,
         team_color,
-    })
-}
-
-pub(crate) fn say_battle(alloc: Global, rest: &[u8]) -> Result<Command, ReadError>
-    requires { IsTrue (is_text rest.now) }
-    ensures { Gives result (row_at one_text command.SayBattle rest.now) }
-{
-    let text = text_at(rest)?;
-    Ok(Command::SayBattle {
-        text: TextBuf::copy_of(alloc, text)?,
-    })
-}
-
-pub(crate) fn say_battle_ex(alloc: Global, rest: &[u8]) -> Result<Command, ReadError>
-    requires { IsTrue (is_text rest.now) }
-    ensures { Gives result (row_at one_text command.SayBattleEx rest.now) }
-{
-    let text = text_at(rest)?;
-    Ok(Command::SayBattleEx {
-        text: TextBuf::copy_of(alloc, text)?,
     })
 }
 
@@ -464,75 +388,6 @@ pub(crate) fn set_script_tags(alloc: Global, rest: &[u8]) -> Result<Command, Rea
     })
 }
 
-#[tactic(auto, using(crate::proofs::Checks::disabled_need_memory))]
-pub(crate) fn disable_units(alloc: Global, rest: &[u8]) -> Result<Command, ReadError>
-    requires { IsTrue (is_text rest.now) }
-    ensures { Gives result (row_at some_words command.DisableUnits rest.now) }
-{
-    check_words(rest)?;
-    Ok(Command::DisableUnits {
-        units: copy_of_words(alloc, rest)?,
-    })
-}
-
-#[tactic(auto, using(crate::proofs::Checks::enabled_need_memory))]
-pub(crate) fn enable_units(alloc: Global, rest: &[u8]) -> Result<Command, ReadError>
-    requires { IsTrue (is_text rest.now) }
-    ensures { Gives result (row_at some_words command.EnableUnits rest.now) }
-{
-    check_words(rest)?;
-    Ok(Command::EnableUnits {
-        units: copy_of_words(alloc, rest)?,
-    })
-}
-
-#[tactic(auto, using(crate::proofs::Checks::words_need_memory))]
-pub(crate) fn remove_script_tags(alloc: Global, rest: &[u8]) -> Result<Command, ReadError>
-    requires { IsTrue (is_text rest.now) }
-    ensures { Gives result (row_at some_words command.RemoveScriptTags rest.now) }
-{
-    check_words(rest)?;
-    Ok(Command::RemoveScriptTags {
-        keys: copy_of_words(alloc, rest)?,
-    })
-}
-
-pub(crate) fn handicap(alloc: Global, rest: &[u8]) -> Result<Command, ReadError>
-    requires { IsTrue (is_text rest.now) }
-    ensures { Gives result (row_at handicap_row command.Handicap rest.now) }
-{
-    let (user, rest) = name_at(rest)?;
-    let (value, _) = natural_at(rest, 100)?;
-    Ok(Command::Handicap {
-        user: NameBuf::copy_of(alloc, user)?,
-        value: value as u8,
-    })
-}
-
-pub(crate) fn force_team_no(alloc: Global, rest: &[u8]) -> Result<Command, ReadError>
-    requires { IsTrue (is_text rest.now) }
-    ensures { Gives result (row_at team_row command.ForceTeamNo rest.now) }
-{
-    let (user, rest) = name_at(rest)?;
-    let (number, _) = natural_at(rest, 15)?;
-    Ok(Command::ForceTeamNo {
-        user: NameBuf::copy_of(alloc, user)?,
-        number: number as u8,
-    })
-}
-
-pub(crate) fn force_ally_no(alloc: Global, rest: &[u8]) -> Result<Command, ReadError>
-    requires { IsTrue (is_text rest.now) }
-    ensures { Gives result (row_at ally_row command.ForceAllyNo rest.now) }
-{
-    let (user, rest) = name_at(rest)?;
-    let (number, _) = natural_at(rest, 15)?;
-    Ok(Command::ForceAllyNo {
-        user: NameBuf::copy_of(alloc, user)?,
-        number: number as u8,
-    })
-}
-
 pub(crate) fn force_team_color(alloc: Global, rest: &[u8]) -> Result<Command, ReadError>
     requires { IsTrue (is_text rest.now) }
     ensures { Gives result (row_at color_row command.ForceTeamColor rest.now) }
@@ -542,35 +397,5 @@ pub(crate) fn force_team_color(alloc: Global, rest: &[u8]) -> Result<Command, Re
     Ok(Command::ForceTeamColor {
         user: NameBuf::copy_of(alloc, user)?,
         team_color,
-    })
-}
-
-pub(crate) fn force_spectator_mode(alloc: Global, rest: &[u8]) -> Result<Command, ReadError>
-    requires { IsTrue (is_text rest.now) }
-    ensures { Gives result (row_at one_name command.ForceSpectatorMode rest.now) }
-{
-    let (user, _) = name_at(rest)?;
-    Ok(Command::ForceSpectatorMode {
-        user: NameBuf::copy_of(alloc, user)?,
-    })
-}
-
-pub(crate) fn kick_from_battle(alloc: Global, rest: &[u8]) -> Result<Command, ReadError>
-    requires { IsTrue (is_text rest.now) }
-    ensures { Gives result (row_at one_name command.KickFromBattle rest.now) }
-{
-    let (user, _) = name_at(rest)?;
-    Ok(Command::KickFromBattle {
-        user: NameBuf::copy_of(alloc, user)?,
-    })
-}
-
-pub(crate) fn ring(alloc: Global, rest: &[u8]) -> Result<Command, ReadError>
-    requires { IsTrue (is_text rest.now) }
-    ensures { Gives result (row_at one_name command.Ring rest.now) }
-{
-    let (user, _) = name_at(rest)?;
-    Ok(Command::Ring {
-        user: NameBuf::copy_of(alloc, user)?,
     })
 }

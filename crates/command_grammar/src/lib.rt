@@ -13,6 +13,7 @@ mod forms;
 mod laws;
 mod lists;
 mod reading;
+mod rows;
 mod table;
 
 pub use command::{Command, ReadFault, Request};

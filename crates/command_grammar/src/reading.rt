@@ -1,8 +1,7 @@
 //! Reading a line.
 
-ghost use Rattle.std.specs.Prelude.{◌≡◌, Ok, Err, IfOk, OnErr, IsTrue};
+ghost use Rattle.std.specs.Prelude.{◌≡◌, IfOk, OnErr, IsTrue};
 ghost use Rattle.command_grammar.specs.declared.command.Request.{Request};
-ghost use Rattle.line_words.specs.Bytes.{is_text};
 ghost use Rattle.command_grammar.specs.Owning.{owns_bytes};
 ghost use Rattle.command_grammar.specs.Reading.{Gives, without_spaces, text_of, id_of, with_id, numbered, needs_memory, command_of};
 ghost use Rattle.command_grammar.specs.Reads.{Reads};

@@ -12,6 +12,7 @@ ghost use Rattle.command_grammar.specs.Table.{entries, battle_entries, room_entr
 use crate::command::{Command, ReadFault};
 use crate::fault::ReadError;
 use crate::forms;
+use crate::rows::{name_and_number, name_and_text, one_name, one_text, some_words};
 use std::alloc::Global;
 
 /// The command of a word, byte for byte, and of the arguments behind it. Users and channels, the
@@ -28,10 +29,21 @@ pub(crate) fn read_arguments(alloc: Global, word: &[u8], rest: &[u8]) -> Result<
         _ if is(word, b"MYSTATUS") => forms::my_status(rest),
         _ if is(word, b"CHANNELS") => Ok(Command::Channels),
         _ if is(word, b"JOIN") => forms::join(alloc, rest),
-        _ if is(word, b"LEAVE") => forms::leave(alloc, rest),
-        _ if is(word, b"SAY") => forms::say(alloc, rest),
-        _ if is(word, b"SAYEX") => forms::say_ex(alloc, rest),
-        _ if is(word, b"SAYPRIVATE") => forms::say_private(alloc, rest),
+        _ if is(word, b"LEAVE") => Ok(Command::Leave {
+            channel: one_name(alloc, rest)?,
+        }),
+        _ if is(word, b"SAY") => {
+            let (channel, text) = name_and_text(alloc, rest)?;
+            Ok(Command::Say { channel, text })
+        }
+        _ if is(word, b"SAYEX") => {
+            let (channel, text) = name_and_text(alloc, rest)?;
+            Ok(Command::SayEx { channel, text })
+        }
+        _ if is(word, b"SAYPRIVATE") => {
+            let (user, text) = name_and_text(alloc, rest)?;
+            Ok(Command::SayPrivate { user, text })
+        }
         _ => of_battle(alloc, word, rest),
     }
 }
@@ -45,13 +57,19 @@ fn of_battle(alloc: Global, word: &[u8], rest: &[u8]) -> Result<Command, ReadErr
     match word {
         _ if is(word, b"OPENBATTLE") => forms::open_battle(alloc, rest),
         _ if is(word, b"JOINBATTLE") => forms::join_battle(alloc, rest),
-        _ if is(word, b"JOINBATTLEACCEPT") => forms::join_battle_accept(alloc, rest),
+        _ if is(word, b"JOINBATTLEACCEPT") => Ok(Command::JoinBattleAccept {
+            user: one_name(alloc, rest)?,
+        }),
         _ if is(word, b"JOINBATTLEDENY") => forms::join_battle_deny(alloc, rest),
         _ if is(word, b"LEAVEBATTLE") => Ok(Command::LeaveBattle),
         _ if is(word, b"UPDATEBATTLEINFO") => forms::update_battle_info(alloc, rest),
         _ if is(word, b"MYBATTLESTATUS") => forms::my_battle_status(rest),
-        _ if is(word, b"SAYBATTLE") => forms::say_battle(alloc, rest),
-        _ if is(word, b"SAYBATTLEEX") => forms::say_battle_ex(alloc, rest),
+        _ if is(word, b"SAYBATTLE") => Ok(Command::SayBattle {
+            text: one_text(alloc, rest)?,
+        }),
+        _ if is(word, b"SAYBATTLEEX") => Ok(Command::SayBattleEx {
+            text: one_text(alloc, rest)?,
+        }),
         _ => of_room(alloc, word, rest),
     }
 }
@@ -69,9 +87,15 @@ fn of_room(alloc: Global, word: &[u8], rest: &[u8]) -> Result<Command, ReadError
         _ if is(word, b"ADDSTARTRECT") => forms::add_start_rect(rest),
         _ if is(word, b"REMOVESTARTRECT") => forms::remove_start_rect(rest),
         _ if is(word, b"SETSCRIPTTAGS") => forms::set_script_tags(alloc, rest),
-        _ if is(word, b"REMOVESCRIPTTAGS") => forms::remove_script_tags(alloc, rest),
-        _ if is(word, b"DISABLEUNITS") => forms::disable_units(alloc, rest),
-        _ if is(word, b"ENABLEUNITS") => forms::enable_units(alloc, rest),
+        _ if is(word, b"REMOVESCRIPTTAGS") => Ok(Command::RemoveScriptTags {
+            keys: some_words(alloc, rest)?,
+        }),
+        _ if is(word, b"DISABLEUNITS") => Ok(Command::DisableUnits {
+            units: some_words(alloc, rest)?,
+        }),
+        _ if is(word, b"ENABLEUNITS") => Ok(Command::EnableUnits {
+            units: some_words(alloc, rest)?,
+        }),
         _ if is(word, b"ENABLEALLUNITS") => Ok(Command::EnableAllUnits),
         _ => of_host(alloc, word, rest),
     }
@@ -84,13 +108,28 @@ fn of_host(alloc: Global, word: &[u8], rest: &[u8]) -> Result<Command, ReadError
     ensures { Gives result (known_at (entry_named host_entries word.now) rest.now) }
 {
     match word {
-        _ if is(word, b"HANDICAP") => forms::handicap(alloc, rest),
-        _ if is(word, b"FORCETEAMNO") => forms::force_team_no(alloc, rest),
-        _ if is(word, b"FORCEALLYNO") => forms::force_ally_no(alloc, rest),
+        _ if is(word, b"HANDICAP") => {
+            let (user, value) = name_and_number(alloc, rest, 100)?;
+            Ok(Command::Handicap { user, value })
+        }
+        _ if is(word, b"FORCETEAMNO") => {
+            let (user, number) = name_and_number(alloc, rest, 15)?;
+            Ok(Command::ForceTeamNo { user, number })
+        }
+        _ if is(word, b"FORCEALLYNO") => {
+            let (user, number) = name_and_number(alloc, rest, 15)?;
+            Ok(Command::ForceAllyNo { user, number })
+        }
         _ if is(word, b"FORCETEAMCOLOR") => forms::force_team_color(alloc, rest),
-        _ if is(word, b"FORCESPECTATORMODE") => forms::force_spectator_mode(alloc, rest),
-        _ if is(word, b"KICKFROMBATTLE") => forms::kick_from_battle(alloc, rest),
-        _ if is(word, b"RING") => forms::ring(alloc, rest),
+        _ if is(word, b"FORCESPECTATORMODE") => Ok(Command::ForceSpectatorMode {
+            user: one_name(alloc, rest)?,
+        }),
+        _ if is(word, b"KICKFROMBATTLE") => Ok(Command::KickFromBattle {
+            user: one_name(alloc, rest)?,
+        }),
+        _ if is(word, b"RING") => Ok(Command::Ring {
+            user: one_name(alloc, rest)?,
+        }),
         _ => Err(ReadError::Fault(ReadFault::UnknownCommand)),
     }
 }
