@@ -1,24 +1,37 @@
 -- The arguments of each command keep their kinds and fit into its line, and the id its limit.
-use Rattle.std.proofs.Common.{◌≡◌, ℕ, ◌≤◌, List, [], ◌∷◌, ◌++◌, length, length-append, refl, sym, ap, subst, ◌∙◌, Bool, true, inl, inr, arith}
+use Rattle.std.proofs.Common.{◌≡◌, ℕ, ◌≤◌, List, [], ◌∷◌, ◌++◌, length, length-append, refl, sym, ap, subst, ◌∙◌, Bool, true, false, cond, inl, inr, arith, rules}
 use Rattle.std.specs.Prelude.{◌&&◌, IsTrue, IfSome, Option, Some, None}
 use Rattle.std.proofs.lemmas.Bool.{and_from}
 use Rattle.line_words.specs.Bytes.{is_text}
 use Rattle.command_grammar.specs.declared.command.Command.{Command}
 use Rattle.command_grammar.specs.declared.command.Request.{Request}
-use Rattle.command_grammar.specs.declared.command_word.CommandWord.{CommandWord}
-use Rattle.command_grammar.specs.declared.command_word.CommandWord.TheVariants as word
-use Rattle.command_grammar.specs.Forms.{command_named, Form}
+use Rattle.command_grammar.specs.Forms.{is_same, entry_named, command_named, Form}
 use Rattle.command_grammar.specs.Reads.{id_limit, Carries, Asks, Reads}
 use Rattle.command_grammar.specs.Kinds.{fits, all_fit, keeps_kinds}
 use Rattle.command_grammar.specs.Sizes.{sizes_of, argument_bytes}
-use Rattle.command_grammar.specs.Table.{Kind, Values, Arguments, entry_of, given, arguments_of}
+use Rattle.command_grammar.specs.Table.{Kind, Values, Arguments, Entry, entries, battle_entries, room_entries, host_entries, given, arguments_of}
 use Rattle.command_grammar.proofs.Slices.{text_back}
 use Rattle.command_grammar.proofs.Taken.{IsUnread, if_so, applied, EachFits, row_taken}
 
--- the arguments of a command that the table makes
-again : (w : CommandWord) (xs : Values (entry_of w).kinds) → arguments_of (applied (entry_of w).kinds (entry_of w).maker xs) ≡ given w xs
-again word.Ping xs = refl
-again _ xs = refl
+-- the arguments of a command that an entry makes are the values that it is made of
+abbrev Again : Entry → Type 0
+Again e = (xs : Values e.kinds) → arguments_of (applied e.kinds e.maker xs) ≡ given e.kinds xs
+
+abbrev EachAgain : List Entry → Type 0
+EachAgain [] = Unit {0}
+EachAgain (e ∷ es) = Again e × EachAgain es
+
+each_again : EachAgain entries
+unfolding entries battle_entries room_entries host_entries
+each_again = search rules
+
+again : (es : List Entry) → EachAgain es → (name : List ℕ) → IfSome (entry_named es name) Again
+again [] h name = tt
+again (e ∷ es) h name = by (is_same name e.word) (entry_named es name) (again es h.1 name)
+  where
+    by : (t : Bool) (o : Option Entry) → IfSome o Again → IfSome (cond t (Some e) o) Again
+    by true o others = h.0
+    by false o others = others
 
 all_fit_after : (before : Bool) (ks : List Kind) (xs : Values ks) → IsTrue before → EachFits ks xs → IsTrue (all_fit before ks xs)
 all_fit_after before [] xs b h = b
@@ -32,14 +45,14 @@ record Bounded (c : Command) (most : ℕ) : Type 0 where
 unread_bounded : {c : Command} {most : ℕ} → IsUnread c → Bounded c most
 unread_bounded {c} {most} f = subst (λ d. Bounded d most) (sym f.1) (record { kinds = refl; bytes = omega arith })
 
-form_bounded : (o : Option CommandWord) (rest : List ℕ) (c : Command) → IsTrue (is_text rest) → Form o rest c → Bounded c (length rest)
-form_bounded None rest c h m = unread_bounded (_, m)
-form_bounded (Some w) rest c h m = elim (row_taken (entry_of w).kinds (entry_of w).maker rest c h m) [
+form_bounded : (o : Option Entry) → IfSome o Again → (rest : List ℕ) (c : Command) → IsTrue (is_text rest) → Form o rest c → Bounded c (length rest)
+form_bounded None a rest c h m = unread_bounded (_, m)
+form_bounded (Some e) a rest c h m = elim (row_taken e.kinds e.maker rest c h m) [
   | inl f ↦ unread_bounded f
   | inr t ↦
-      let is : given w t.values ≡ arguments_of c = sym (ap arguments_of t.made ∙ again w t.values) in
+      let is : given e.kinds t.values ≡ arguments_of c = sym (ap arguments_of t.made ∙ a t.values) in
       record {
-        kinds = subst (λ (a : Arguments). IsTrue (all_fit true a.kinds a.values)) is (all_fit_after true (entry_of w).kinds t.values refl t.fit);
+        kinds = subst (λ (a : Arguments). IsTrue (all_fit true a.kinds a.values)) is (all_fit_after true e.kinds t.values refl t.fit);
         bytes = subst (λ (a : Arguments). sizes_of a.kinds a.values ≤ length rest) is t.room;
       }
 ]
@@ -49,7 +62,7 @@ asks_bounded [] c m = subst (λ d. Bounded d 0) (sym m) (record { kinds = refl; 
 asks_bounded (b ∷ bs) c m = elim (if_so (is_text (b ∷ bs)) _ c _ m) [
   | inl f ↦ unread_bounded f
   | inr y ↦
-      let one = form_bounded (command_named y.1.name) y.1.rest c (text_back y.1.name y.1.rest (subst (λ t. IsTrue (is_text t)) y.1.whole y.0)) y.1.form in
+      let one = form_bounded (command_named y.1.name) (again entries each_again y.1.name) y.1.rest c (text_back y.1.name y.1.rest (subst (λ t. IsTrue (is_text t)) y.1.whole y.0)) y.1.form in
       let whole = ap length y.1.whole in
       let bytes = one.bytes in
       record { kinds = one.kinds; bytes = omega (arith, whole, length-append y.1.name y.1.rest) }

@@ -12,7 +12,9 @@ use Rattle.command_grammar.specs.Arguments.{has_flag}
 use Rattle.line_words.specs.declared.lists.Pair.{Pair}
 use Rattle.command_grammar.specs.declared.command.ReadFault.{ReadFault}
 use Rattle.command_grammar.specs.declared.command.ReadFault.TheVariants as fault
+use Rattle.command_grammar.specs.declared.command.Command.{Command}
 use Rattle.command_grammar.specs.declared.command.Command.TheVariants as command
+use Rattle.command_grammar.specs.Owning.{owns_bytes}
 use Rattle.command_grammar.specs.Reading.{◌>>=◌, pair_in, needs_memory, is_pair_or_empty, pairs_in, pairs_of, behind_pairs, at_least_one, without_empty, words_in, words_at}
 use Rattle.command_grammar.proofs.Slices.{text_back, word_kind}
 use Rattle.command_grammar.proofs.Sequences.{PairRead, pair_read, no_words, words_next}
@@ -96,17 +98,10 @@ pairs_need_memory (Err f) h = h
 
 -- Words
 
-pub words_need_memory : (r : Result (List (List ℕ)) ReadFault) → IsTrue (is_ok r) → IsTrue (needs_memory (r >>= λ keys. Ok (command.RemoveScriptTags keys)))
-words_need_memory (Ok words) h = refl
-words_need_memory (Err f) h = h
-
-pub disabled_need_memory : (r : Result (List (List ℕ)) ReadFault) → IsTrue (is_ok r) → IsTrue (needs_memory (r >>= λ units. Ok (command.DisableUnits units)))
-disabled_need_memory (Ok words) h = refl
-disabled_need_memory (Err f) h = h
-
-pub enabled_need_memory : (r : Result (List (List ℕ)) ReadFault) → IsTrue (is_ok r) → IsTrue (needs_memory (r >>= λ units. Ok (command.EnableUnits units)))
-enabled_need_memory (Ok words) h = refl
-enabled_need_memory (Err f) h = h
+pub words_need_memory : (r : Result (List (List ℕ)) ReadFault) → IsTrue (is_ok r) → (maker : List (List ℕ) → Command) → ((words : List (List ℕ)) → IsTrue (owns_bytes (maker words)))
+    → IsTrue (needs_memory (r >>= λ words. Ok (maker words)))
+words_need_memory (Ok words) h maker owns = owns words
+words_need_memory (Err f) h maker owns = h
 
 pub no_words_at : (rest : List ℕ) → IsTrue (is_spaces rest) → has_byte 9 rest ≡ false → words_at rest ≡ Err fault.MissingArgument
 unfolding words_at

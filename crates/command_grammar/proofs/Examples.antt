@@ -7,6 +7,7 @@ use Rattle.command_grammar.specs.declared.command.Command.TheVariants as command
 use Rattle.command_grammar.specs.declared.command.Request.{Request}
 use Rattle.command_grammar.specs.Reads.{Reads}
 use Rattle.command_grammar.specs.Reading.{pair, request_of, text_of, numbered, word_at, optional_at, name_at, number_in, number_at, natural_at, wide_at, flag_at, text_at, optional_text_at, login_flags_at, sentence_at, pair_in, pairs_of, pairs_at, words_in, words_at}
+use Rattle.command_grammar.specs.Table.{entries, battle_entries, room_entries, host_entries}
 use Rattle.command_grammar.proofs.Lines.{request_read}
 
 abbrev request : Option ℕ → Command → Request
@@ -72,7 +73,7 @@ good_lines =
     ∷ []
 
 good_lines_read : EachReads good_lines
-unfolding request_of text_of numbered word_at optional_at name_at number_in number_at natural_at wide_at flag_at text_at optional_text_at login_flags_at sentence_at pair_in pairs_of pairs_at words_in words_at
+unfolding request_of entries battle_entries room_entries host_entries text_of numbered word_at optional_at name_at number_in number_at natural_at wide_at flag_at text_at optional_text_at login_flags_at sentence_at pair_in pairs_of pairs_at words_in words_at
 good_lines_read = each_reads good_lines (refl, (refl, (refl, (refl, (refl, (refl, (refl, (refl, (refl, (refl, (refl, (refl, (refl, (refl, (refl, (refl, (refl, (refl, (refl, (refl, (refl, (refl, (refl, (refl, (refl, (refl, (refl, (refl, (refl, (refl, (refl, (refl, (refl, (refl, (refl, (refl, (refl, (refl, (refl, (refl, (refl, (refl, tt))))))))))))))))))))))))))))))))))))))))))
 
 -- each fault of each command
@@ -194,7 +195,7 @@ bad_lines =
     ∷ []
 
 bad_lines_read : EachReads bad_lines
-unfolding request_of text_of numbered word_at optional_at name_at number_in number_at natural_at wide_at flag_at text_at optional_text_at login_flags_at sentence_at pair_in pairs_of pairs_at words_in words_at
+unfolding request_of entries battle_entries room_entries host_entries text_of numbered word_at optional_at name_at number_in number_at natural_at wide_at flag_at text_at optional_text_at login_flags_at sentence_at pair_in pairs_of pairs_at words_in words_at
 bad_lines_read = each_reads bad_lines (refl, (refl, (refl, (refl, (refl, (refl, (refl, (refl, (refl, (refl, (refl, (refl, (refl, (refl, (refl, (refl, (refl, (refl, (refl, (refl, (refl, (refl, (refl, (refl, (refl, (refl, (refl, (refl, (refl, (refl, (refl, (refl, (refl, (refl, (refl, (refl, (refl, (refl, (refl, (refl, (refl, (refl, (refl, (refl, (refl, (refl, (refl, (refl, (refl, (refl, (refl, (refl, (refl, (refl, (refl, (refl, (refl, (refl, (refl, (refl, (refl, (refl, (refl, (refl, (refl, (refl, (refl, (refl, (refl, (refl, (refl, (refl, (refl, (refl, (refl, (refl, (refl, (refl, (refl, (refl, (refl, (refl, (refl, (refl, (refl, (refl, (refl, (refl, (refl, (refl, (refl, (refl, (refl, (refl, (refl, (refl, (refl, (refl, (refl, (refl, (refl, (refl, (refl, (refl, (refl, (refl, (refl, (refl, (refl, (refl, (refl, (refl, (refl, tt)))))))))))))))))))))))))))))))))))))))))))))))))))))))))))))))))))))))))))))))))))))))))))))))))))))))))))))))))
 
 -- message ids
@@ -214,7 +215,7 @@ lines_with_ids =
     ∷ []
 
 lines_with_ids_read : EachReads lines_with_ids
-unfolding request_of text_of numbered word_at optional_at name_at number_in number_at natural_at wide_at flag_at text_at optional_text_at login_flags_at sentence_at pair_in pairs_of pairs_at words_in words_at
+unfolding request_of entries battle_entries room_entries host_entries text_of numbered word_at optional_at name_at number_in number_at natural_at wide_at flag_at text_at optional_text_at login_flags_at sentence_at pair_in pairs_of pairs_at words_in words_at
 lines_with_ids_read = each_reads lines_with_ids (refl, (refl, (refl, (refl, (refl, (refl, (refl, (refl, (refl, (refl, (refl, tt)))))))))))
 
 -- who may join, and which units are allowed
@@ -245,5 +246,5 @@ asking_lines =
     ∷ []
 
 asking_lines_read : EachReads asking_lines
-unfolding request_of text_of numbered word_at optional_at name_at number_in number_at natural_at wide_at flag_at text_at optional_text_at login_flags_at sentence_at pair_in pairs_of pairs_at words_in words_at
+unfolding request_of entries battle_entries room_entries host_entries text_of numbered word_at optional_at name_at number_in number_at natural_at wide_at flag_at text_at optional_text_at login_flags_at sentence_at pair_in pairs_of pairs_at words_in words_at
 asking_lines_read = each_reads asking_lines (refl, (refl, (refl, (refl, (refl, (refl, (refl, (refl, (refl, (refl, (refl, (refl, (refl, (refl, (refl, (refl, (refl, (refl, (refl, (refl, (refl, (refl, tt))))))))))))))))))))))

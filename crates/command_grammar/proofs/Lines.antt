@@ -24,7 +24,7 @@ use Rattle.command_grammar.proofs.Tables.{form_settles}
 
 composed_settles : (text : List ℕ) → Settles (Composed text) (known_at (command_named (before 32 text)) (from 32 text))
 composed_settles text =
-    let one = form_settles (command_named (before 32 text)) (from 32 text) (from_ends 32 text) in
+    let one = form_settles (before 32 text) (from 32 text) (from_ends 32 text) in
     record {
       holds = record {
         name = before 32 text;

@@ -3,18 +3,21 @@ use Rattle.std.specs.Prelude.{◌≡◌, ℕ, Bool, nat_eq, find, List, [], ◌�
 use Rattle.std.specs.Cmp.Lexicographic.{pointwise}
 use Rattle.command_grammar.specs.declared.command.ReadFault.TheVariants as fault
 use Rattle.command_grammar.specs.declared.command.Command.{Command}
-use Rattle.command_grammar.specs.declared.command_word.CommandWord.{CommandWord}
 use Rattle.command_grammar.specs.Arguments.{IsFault, Word, OptionalWord, Name, Natural, Wide, Flag, Text, OptionalText, Sentence, LoginFlags, Pairs, Words}
 use Rattle.command_grammar.specs.Table as kind
-use Rattle.command_grammar.specs.Table.{Kind, Value, Maker, entry_of, commands}
+use Rattle.command_grammar.specs.Table.{Kind, Value, Maker, Entry, entries}
 
--- two words are the same, byte for byte
+-- two words are the same, byte for byte: what `==` says of slices, while `same_name` of line_words goes by their order, as lists of names are searched
 abbrev pub is_same : List ℕ → List ℕ → Bool
 is_same = pointwise nat_eq
 
--- the command of that word
-abbrev pub command_named : List ℕ → Option CommandWord
-command_named name = find (λ c. is_same name (entry_of c).word) commands
+-- the entry of that word
+abbrev pub entry_named : List Entry → List ℕ → Option Entry
+entry_named es name = find (λ e. is_same name e.word) es
+
+-- what the table has for that word
+abbrev pub command_named : List ℕ → Option Entry
+command_named = entry_named entries
 
 -- an argument of this kind at the front of the rest; a text, flags, pairs and words leave no rest
 abbrev pub Argument : (k : Kind) → (Value k → List ℕ → Command → Type 0) → List ℕ → Command → Type 0
@@ -37,6 +40,6 @@ Row [] made rest c = c ≡ made
 Row (k ∷ ks) maker rest c = Argument k (λ x. Row ks (maker x)) rest c
 
 -- rest, which is what stands behind the command word, and the command that it makes
-abbrev pub Form : Option CommandWord → List ℕ → Command → Type 0
+abbrev pub Form : Option Entry → List ℕ → Command → Type 0
 Form None rest c = IsFault fault.UnknownCommand c
-Form (Some w) rest c = Row (entry_of w).kinds (entry_of w).maker rest c
+Form (Some e) rest c = Row e.kinds e.maker rest c

@@ -10,15 +10,13 @@ use Rattle.command_grammar.specs.declared.command.ReadFault.TheVariants as fault
 use Rattle.command_grammar.specs.declared.command.Command.{Command}
 use Rattle.command_grammar.specs.declared.command.Command.TheVariants as command
 use Rattle.command_grammar.specs.declared.command.Request.{Request}
-use Rattle.command_grammar.specs.declared.command_word.CommandWord.{CommandWord}
-use Rattle.command_grammar.specs.declared.command_word.CommandWord.TheVariants as word
 use Rattle.command_grammar.specs.declared.fault.ReadError.{ReadError}
 use Rattle.command_grammar.specs.declared.fault.ReadError.TheVariants as errors
 use Rattle.command_grammar.specs.Owning.{owns_bytes}
 use Rattle.command_grammar.specs.Arguments.{flagged}
 use Rattle.command_grammar.specs.Forms.{command_named}
 use Rattle.command_grammar.specs.Table as kind
-use Rattle.command_grammar.specs.Table.{Kind, Value, Maker, entry_of}
+use Rattle.command_grammar.specs.Table.{Kind, Value, Maker, Entry}
 use Rattle.command_grammar.specs.Reads.{id_limit}
 
 -- one reading after another: the first fault ends it
@@ -232,15 +230,21 @@ abbrev pub row_at : (kinds : List Kind) → Maker kinds → List ℕ → Result 
 row_at [] made rest = Ok made
 row_at (k ∷ ks) maker rest = argument_at k (λ x. row_at ks (maker x)) rest
 
--- what the form of a command makes of the rest of its line; it goes by cases of the word, as the reader does
-abbrev pub arguments_at : CommandWord → List ℕ → Result Command ReadFault
-arguments_at word.Ping rest = Ok command.Ping
-arguments_at w rest = row_at (entry_of w).kinds (entry_of w).maker rest
+-- the command that is made owns bytes, whatever its arguments are
+abbrev pub AlwaysOwns : (kinds : List Kind) → Maker kinds → Type 0
+AlwaysOwns [] made = IsTrue (owns_bytes made)
+AlwaysOwns (k ∷ ks) maker = (x : Value k) → AlwaysOwns ks (maker x)
 
--- the command of a command word and its rest
-abbrev pub known_at : Option CommandWord → List ℕ → Result Command ReadFault
+-- what a reader of a row returns, whatever command its arguments are for: they make that command, or memory is refused to one that owns bytes
+abbrev pub GivesRow : {X : Type 0} (kinds : List Kind) → (Maker kinds → X → Command) → Result X ReadError → List ℕ → Type 0
+GivesRow kinds make (Ok x) rest = (maker : Maker kinds) → row_at kinds maker rest ≡ Ok (make maker x)
+GivesRow kinds make (Err (errors.Fault f)) rest = (maker : Maker kinds) → row_at kinds maker rest ≡ Err f
+GivesRow kinds make (Err (errors.Memory e)) rest = (maker : Maker kinds) → AlwaysOwns kinds maker → IsTrue (needs_memory (row_at kinds maker rest))
+
+-- what an entry of the table makes of the rest of a line
+abbrev pub known_at : Option Entry → List ℕ → Result Command ReadFault
 known_at None rest = Err fault.UnknownCommand
-known_at (Some w) rest = arguments_at w rest
+known_at (Some e) rest = row_at e.kinds e.maker rest
 
 -- the command of a text
 unfoldable pub text_of : List ℕ → Result Command ReadFault

@@ -3,8 +3,6 @@ use Rattle.std.specs.Prelude.{ℕ, ℤ, Bool, List, [], ◌∷◌, codes, Option
 use Rattle.line_words.specs.declared.lists.Pair.{Pair}
 use Rattle.command_grammar.specs.declared.command.Command.{Command}
 use Rattle.command_grammar.specs.declared.command.Command.TheVariants as command
-use Rattle.command_grammar.specs.declared.command_word.CommandWord.{CommandWord}
-use Rattle.command_grammar.specs.declared.command_word.CommandWord.TheVariants as word
 
 pub data Kind : Type 0 where
   Word : Kind
@@ -45,10 +43,6 @@ ally_number = Natural 15
 abbrev pub side_number : Kind
 side_number = Natural 200
 
--- the engine's name and version, the map, the title and the game's name
-abbrev pub battle_titles : List Kind
-battle_titles = Sentence ∷ Sentence ∷ Sentence ∷ Sentence ∷ Sentence ∷ []
-
 -- what an argument of a kind is
 abbrev pub Value : Kind → Type 0
 Value Word = List ℕ
@@ -74,6 +68,83 @@ abbrev pub Maker : List Kind → Type 0
 Maker [] = Command
 Maker (k ∷ ks) = Value k → Maker ks
 
+-- The rows: the kinds of the arguments of a command, from left to right. Commands can share one.
+
+abbrev pub login_row : List Kind
+login_row = Word ∷ Word ∷ Wide ∷ Word ∷ Sentence ∷ LoginFlags ∷ []
+
+abbrev pub status_row : List Kind
+status_row = status_word ∷ []
+
+abbrev pub join_row : List Kind
+join_row = Name ∷ OptionalWord ∷ []
+
+abbrev pub one_name : List Kind
+one_name = Name ∷ []
+
+abbrev pub name_and_text : List Kind
+name_and_text = Name ∷ Text ∷ []
+
+-- the engine's name and version, the map, the title and the game's name
+abbrev pub battle_titles : List Kind
+battle_titles = Sentence ∷ Sentence ∷ Sentence ∷ Sentence ∷ Sentence ∷ []
+
+abbrev pub open_battle_row : List Kind
+open_battle_row = Natural 1 ∷ Natural 2 ∷ Word ∷ small_number ∷ small_number ∷ Wide ∷ Wide ∷ Wide ∷ battle_titles
+
+abbrev pub join_battle_row : List Kind
+join_battle_row = Natural 2147483647 ∷ OptionalWord ∷ OptionalWord ∷ []
+
+abbrev pub deny_row : List Kind
+deny_row = Name ∷ OptionalText ∷ []
+
+abbrev pub battle_info_row : List Kind
+battle_info_row = small_number ∷ Flag ∷ Wide ∷ Sentence ∷ []
+
+abbrev pub battle_status_row : List Kind
+battle_status_row = status_word ∷ Wide ∷ []
+
+abbrev pub one_text : List Kind
+one_text = Text ∷ []
+
+abbrev pub add_bot_row : List Kind
+add_bot_row = Word ∷ status_word ∷ Wide ∷ Sentence ∷ []
+
+abbrev pub update_bot_row : List Kind
+update_bot_row = Word ∷ status_word ∷ Wide ∷ []
+
+abbrev pub one_word : List Kind
+one_word = Word ∷ []
+
+abbrev pub add_rectangle_row : List Kind
+add_rectangle_row = ally_number ∷ side_number ∷ side_number ∷ side_number ∷ side_number ∷ []
+
+abbrev pub remove_rectangle_row : List Kind
+remove_rectangle_row = ally_number ∷ []
+
+abbrev pub some_pairs : List Kind
+some_pairs = Pairs ∷ []
+
+abbrev pub some_words : List Kind
+some_words = Words ∷ []
+
+-- a name, and a number from 0 to this one
+abbrev pub name_and_number : ℕ → List Kind
+name_and_number high = Name ∷ Natural high ∷ []
+
+abbrev pub handicap_row : List Kind
+handicap_row = name_and_number 100
+
+-- teams are 0 to 15, and so are allies
+abbrev pub team_row : List Kind
+team_row = name_and_number 15
+
+abbrev pub ally_row : List Kind
+ally_row = name_and_number 15
+
+abbrev pub color_row : List Kind
+color_row = Name ∷ Wide ∷ []
+
 -- one line of the table
 pub record Entry : Type 0 where
   pub word : List ℕ
@@ -83,132 +154,110 @@ pub record Entry : Type 0 where
 abbrev pub entry : List ℕ → (kinds : List Kind) → Maker kinds → Entry
 entry word kinds maker = record { word = word; kinds = kinds; maker = maker }
 
--- the table ..
-abbrev pub entry_of : CommandWord → Entry
-entry_of word.Ping = entry (codes "PING") [] command.Ping
-entry_of word.Exit = entry (codes "EXIT") [] command.Exit
-entry_of word.Login = entry (codes "LOGIN") (Word ∷ Word ∷ Wide ∷ Word ∷ Sentence ∷ LoginFlags ∷ []) command.Login
-entry_of word.MyStatus = entry (codes "MYSTATUS") (status_word ∷ []) command.MyStatus
-entry_of word.Channels = entry (codes "CHANNELS") [] command.Channels
-entry_of word.Join = entry (codes "JOIN") (Name ∷ OptionalWord ∷ []) command.Join
-entry_of word.Leave = entry (codes "LEAVE") (Name ∷ []) command.Leave
-entry_of word.Say = entry (codes "SAY") (Name ∷ Text ∷ []) command.Say
-entry_of word.SayEx = entry (codes "SAYEX") (Name ∷ Text ∷ []) command.SayEx
-entry_of word.SayPrivate = entry (codes "SAYPRIVATE") (Name ∷ Text ∷ []) command.SayPrivate
-entry_of word.OpenBattle = entry (codes "OPENBATTLE") (Natural 1 ∷ Natural 2 ∷ Word ∷ small_number ∷ small_number ∷ Wide ∷ Wide ∷ Wide ∷ battle_titles) command.OpenBattle
-entry_of word.JoinBattle = entry (codes "JOINBATTLE") (Natural 2147483647 ∷ OptionalWord ∷ OptionalWord ∷ []) command.JoinBattle
-entry_of word.JoinBattleAccept = entry (codes "JOINBATTLEACCEPT") (Name ∷ []) command.JoinBattleAccept
-entry_of word.JoinBattleDeny = entry (codes "JOINBATTLEDENY") (Name ∷ OptionalText ∷ []) command.JoinBattleDeny
-entry_of word.LeaveBattle = entry (codes "LEAVEBATTLE") [] command.LeaveBattle
-entry_of word.UpdateBattleInfo = entry (codes "UPDATEBATTLEINFO") (small_number ∷ Flag ∷ Wide ∷ Sentence ∷ []) command.UpdateBattleInfo
-entry_of word.MyBattleStatus = entry (codes "MYBATTLESTATUS") (status_word ∷ Wide ∷ []) command.MyBattleStatus
-entry_of word.SayBattle = entry (codes "SAYBATTLE") (Text ∷ []) command.SayBattle
-entry_of word.SayBattleEx = entry (codes "SAYBATTLEEX") (Text ∷ []) command.SayBattleEx
-entry_of word.AddBot = entry (codes "ADDBOT") (Word ∷ status_word ∷ Wide ∷ Sentence ∷ []) command.AddBot
-entry_of word.UpdateBot = entry (codes "UPDATEBOT") (Word ∷ status_word ∷ Wide ∷ []) command.UpdateBot
-entry_of word.RemoveBot = entry (codes "REMOVEBOT") (Word ∷ []) command.RemoveBot
-entry_of word.AddStartRect = entry (codes "ADDSTARTRECT") (ally_number ∷ side_number ∷ side_number ∷ side_number ∷ side_number ∷ []) command.AddStartRect
-entry_of word.RemoveStartRect = entry (codes "REMOVESTARTRECT") (ally_number ∷ []) command.RemoveStartRect
-entry_of word.SetScriptTags = entry (codes "SETSCRIPTTAGS") (Pairs ∷ []) command.SetScriptTags
-entry_of word.RemoveScriptTags = entry (codes "REMOVESCRIPTTAGS") (Words ∷ []) command.RemoveScriptTags
-entry_of word.DisableUnits = entry (codes "DISABLEUNITS") (Words ∷ []) command.DisableUnits
-entry_of word.EnableUnits = entry (codes "ENABLEUNITS") (Words ∷ []) command.EnableUnits
-entry_of word.EnableAllUnits = entry (codes "ENABLEALLUNITS") [] command.EnableAllUnits
-entry_of word.Handicap = entry (codes "HANDICAP") (Name ∷ Natural 100 ∷ []) command.Handicap
-entry_of word.ForceTeamNo = entry (codes "FORCETEAMNO") (Name ∷ ally_number ∷ []) command.ForceTeamNo
-entry_of word.ForceAllyNo = entry (codes "FORCEALLYNO") (Name ∷ ally_number ∷ []) command.ForceAllyNo
-entry_of word.ForceTeamColor = entry (codes "FORCETEAMCOLOR") (Name ∷ Wide ∷ []) command.ForceTeamColor
-entry_of word.ForceSpectatorMode = entry (codes "FORCESPECTATORMODE") (Name ∷ []) command.ForceSpectatorMode
-entry_of word.KickFromBattle = entry (codes "KICKFROMBATTLE") (Name ∷ []) command.KickFromBattle
-entry_of word.Ring = entry (codes "RING") (Name ∷ []) command.Ring
+-- The table of commands, its last part first, and each part ends with the one behind it: the code has a function for each.
 
--- .. and all of its commands
-abbrev pub commands : List CommandWord
-commands =
-    word.Ping
-    ∷ word.Exit
-    ∷ word.Login
-    ∷ word.MyStatus
-    ∷ word.Channels
-    ∷ word.Join
-    ∷ word.Leave
-    ∷ word.Say
-    ∷ word.SayEx
-    ∷ word.SayPrivate
-    ∷ word.OpenBattle
-    ∷ word.JoinBattle
-    ∷ word.JoinBattleAccept
-    ∷ word.JoinBattleDeny
-    ∷ word.LeaveBattle
-    ∷ word.UpdateBattleInfo
-    ∷ word.MyBattleStatus
-    ∷ word.SayBattle
-    ∷ word.SayBattleEx
-    ∷ word.AddBot
-    ∷ word.UpdateBot
-    ∷ word.RemoveBot
-    ∷ word.AddStartRect
-    ∷ word.RemoveStartRect
-    ∷ word.SetScriptTags
-    ∷ word.RemoveScriptTags
-    ∷ word.DisableUnits
-    ∷ word.EnableUnits
-    ∷ word.EnableAllUnits
-    ∷ word.Handicap
-    ∷ word.ForceTeamNo
-    ∷ word.ForceAllyNo
-    ∷ word.ForceTeamColor
-    ∷ word.ForceSpectatorMode
-    ∷ word.KickFromBattle
-    ∷ word.Ring
+-- what a founder does to players
+unfoldable pub host_entries : List Entry
+host_entries =
+    entry (codes "HANDICAP") handicap_row command.Handicap
+    ∷ entry (codes "FORCETEAMNO") team_row command.ForceTeamNo
+    ∷ entry (codes "FORCEALLYNO") ally_row command.ForceAllyNo
+    ∷ entry (codes "FORCETEAMCOLOR") color_row command.ForceTeamColor
+    ∷ entry (codes "FORCESPECTATORMODE") one_name command.ForceSpectatorMode
+    ∷ entry (codes "KICKFROMBATTLE") one_name command.KickFromBattle
+    ∷ entry (codes "RING") one_name command.Ring
     ∷ []
+
+-- bots, start rectangles, script tags and units
+unfoldable pub room_entries : List Entry
+room_entries =
+    entry (codes "ADDBOT") add_bot_row command.AddBot
+    ∷ entry (codes "UPDATEBOT") update_bot_row command.UpdateBot
+    ∷ entry (codes "REMOVEBOT") one_word command.RemoveBot
+    ∷ entry (codes "ADDSTARTRECT") add_rectangle_row command.AddStartRect
+    ∷ entry (codes "REMOVESTARTRECT") remove_rectangle_row command.RemoveStartRect
+    ∷ entry (codes "SETSCRIPTTAGS") some_pairs command.SetScriptTags
+    ∷ entry (codes "REMOVESCRIPTTAGS") some_words command.RemoveScriptTags
+    ∷ entry (codes "DISABLEUNITS") some_words command.DisableUnits
+    ∷ entry (codes "ENABLEUNITS") some_words command.EnableUnits
+    ∷ entry (codes "ENABLEALLUNITS") [] command.EnableAllUnits
+    ∷ host_entries
+
+-- battles
+unfoldable pub battle_entries : List Entry
+battle_entries =
+    entry (codes "OPENBATTLE") open_battle_row command.OpenBattle
+    ∷ entry (codes "JOINBATTLE") join_battle_row command.JoinBattle
+    ∷ entry (codes "JOINBATTLEACCEPT") one_name command.JoinBattleAccept
+    ∷ entry (codes "JOINBATTLEDENY") deny_row command.JoinBattleDeny
+    ∷ entry (codes "LEAVEBATTLE") [] command.LeaveBattle
+    ∷ entry (codes "UPDATEBATTLEINFO") battle_info_row command.UpdateBattleInfo
+    ∷ entry (codes "MYBATTLESTATUS") battle_status_row command.MyBattleStatus
+    ∷ entry (codes "SAYBATTLE") one_text command.SayBattle
+    ∷ entry (codes "SAYBATTLEEX") one_text command.SayBattleEx
+    ∷ room_entries
+
+-- users and channels; with all parts behind it, this is the table
+unfoldable pub entries : List Entry
+entries =
+    entry (codes "PING") [] command.Ping
+    ∷ entry (codes "EXIT") [] command.Exit
+    ∷ entry (codes "LOGIN") login_row command.Login
+    ∷ entry (codes "MYSTATUS") status_row command.MyStatus
+    ∷ entry (codes "CHANNELS") [] command.Channels
+    ∷ entry (codes "JOIN") join_row command.Join
+    ∷ entry (codes "LEAVE") one_name command.Leave
+    ∷ entry (codes "SAY") name_and_text command.Say
+    ∷ entry (codes "SAYEX") name_and_text command.SayEx
+    ∷ entry (codes "SAYPRIVATE") name_and_text command.SayPrivate
+    ∷ battle_entries
 
 -- the arguments of a command
 pub record Arguments : Type 0 where
   pub kinds : List Kind
   pub values : Values kinds
 
--- those that the table has for a word
-abbrev pub given : (w : CommandWord) → Values (entry_of w).kinds → Arguments
-given w values = record { kinds = (entry_of w).kinds; values = values }
+-- a row of kinds, and a value for each
+abbrev pub given : (kinds : List Kind) → Values kinds → Arguments
+given kinds values = record { kinds = kinds; values = values }
 
 abbrev pub arguments_of : Command → Arguments
-arguments_of command.Blank = record { kinds = []; values = tt }
-arguments_of (command.Unread fault) = record { kinds = []; values = tt }
-arguments_of command.Ping = given word.Ping tt
-arguments_of command.Exit = given word.Exit tt
-arguments_of (command.Login user_name password cpu local_ip lobby authorises) = given word.Login (user_name, (password, (cpu, (local_ip, (lobby, (authorises, tt))))))
-arguments_of (command.MyStatus status) = given word.MyStatus (status, tt)
-arguments_of command.Channels = given word.Channels tt
-arguments_of (command.Join channel key) = given word.Join (channel, (key, tt))
-arguments_of (command.Leave channel) = given word.Leave (channel, tt)
-arguments_of (command.Say channel text) = given word.Say (channel, (text, tt))
-arguments_of (command.SayEx channel text) = given word.SayEx (channel, (text, tt))
-arguments_of (command.SayPrivate user text) = given word.SayPrivate (user, (text, tt))
+arguments_of command.Blank = given [] tt
+arguments_of (command.Unread fault) = given [] tt
+arguments_of command.Ping = given [] tt
+arguments_of command.Exit = given [] tt
+arguments_of (command.Login user_name password cpu local_ip lobby authorises) = given login_row (user_name, (password, (cpu, (local_ip, (lobby, (authorises, tt))))))
+arguments_of (command.MyStatus status) = given status_row (status, tt)
+arguments_of command.Channels = given [] tt
+arguments_of (command.Join channel key) = given join_row (channel, (key, tt))
+arguments_of (command.Leave channel) = given one_name (channel, tt)
+arguments_of (command.Say channel text) = given name_and_text (channel, (text, tt))
+arguments_of (command.SayEx channel text) = given name_and_text (channel, (text, tt))
+arguments_of (command.SayPrivate user text) = given name_and_text (user, (text, tt))
 arguments_of (command.OpenBattle battle_type nat_type password port max_players game_hash rank map_hash engine_name engine_version map title game_name) =
-    given word.OpenBattle (battle_type, (nat_type, (password, (port, (max_players, (game_hash, (rank, (map_hash, (engine_name, (engine_version, (map, (title, (game_name, tt)))))))))))))
-arguments_of (command.JoinBattle battle password script_password) = given word.JoinBattle (battle, (password, (script_password, tt)))
-arguments_of (command.JoinBattleAccept user) = given word.JoinBattleAccept (user, tt)
-arguments_of (command.JoinBattleDeny user reason) = given word.JoinBattleDeny (user, (reason, tt))
-arguments_of command.LeaveBattle = given word.LeaveBattle tt
-arguments_of (command.UpdateBattleInfo spectator_count locked map_hash map) = given word.UpdateBattleInfo (spectator_count, (locked, (map_hash, (map, tt))))
-arguments_of (command.MyBattleStatus battle_status team_color) = given word.MyBattleStatus (battle_status, (team_color, tt))
-arguments_of (command.SayBattle text) = given word.SayBattle (text, tt)
-arguments_of (command.SayBattleEx text) = given word.SayBattleEx (text, tt)
-arguments_of (command.AddBot bot battle_status team_color ai) = given word.AddBot (bot, (battle_status, (team_color, (ai, tt))))
-arguments_of (command.UpdateBot bot battle_status team_color) = given word.UpdateBot (bot, (battle_status, (team_color, tt)))
-arguments_of (command.RemoveBot bot) = given word.RemoveBot (bot, tt)
-arguments_of (command.AddStartRect ally_no left top right bottom) = given word.AddStartRect (ally_no, (left, (top, (right, (bottom, tt)))))
-arguments_of (command.RemoveStartRect ally_no) = given word.RemoveStartRect (ally_no, tt)
-arguments_of (command.SetScriptTags pairs) = given word.SetScriptTags (pairs, tt)
-arguments_of (command.RemoveScriptTags keys) = given word.RemoveScriptTags (keys, tt)
-arguments_of (command.DisableUnits units) = given word.DisableUnits (units, tt)
-arguments_of (command.EnableUnits units) = given word.EnableUnits (units, tt)
-arguments_of command.EnableAllUnits = given word.EnableAllUnits tt
-arguments_of (command.Handicap user value) = given word.Handicap (user, (value, tt))
-arguments_of (command.ForceTeamNo user number) = given word.ForceTeamNo (user, (number, tt))
-arguments_of (command.ForceAllyNo user number) = given word.ForceAllyNo (user, (number, tt))
-arguments_of (command.ForceTeamColor user team_color) = given word.ForceTeamColor (user, (team_color, tt))
-arguments_of (command.ForceSpectatorMode user) = given word.ForceSpectatorMode (user, tt)
-arguments_of (command.KickFromBattle user) = given word.KickFromBattle (user, tt)
-arguments_of (command.Ring user) = given word.Ring (user, tt)
+    given open_battle_row (battle_type, (nat_type, (password, (port, (max_players, (game_hash, (rank, (map_hash, (engine_name, (engine_version, (map, (title, (game_name, tt)))))))))))))
+arguments_of (command.JoinBattle battle password script_password) = given join_battle_row (battle, (password, (script_password, tt)))
+arguments_of (command.JoinBattleAccept user) = given one_name (user, tt)
+arguments_of (command.JoinBattleDeny user reason) = given deny_row (user, (reason, tt))
+arguments_of command.LeaveBattle = given [] tt
+arguments_of (command.UpdateBattleInfo spectator_count locked map_hash map) = given battle_info_row (spectator_count, (locked, (map_hash, (map, tt))))
+arguments_of (command.MyBattleStatus battle_status team_color) = given battle_status_row (battle_status, (team_color, tt))
+arguments_of (command.SayBattle text) = given one_text (text, tt)
+arguments_of (command.SayBattleEx text) = given one_text (text, tt)
+arguments_of (command.AddBot bot battle_status team_color ai) = given add_bot_row (bot, (battle_status, (team_color, (ai, tt))))
+arguments_of (command.UpdateBot bot battle_status team_color) = given update_bot_row (bot, (battle_status, (team_color, tt)))
+arguments_of (command.RemoveBot bot) = given one_word (bot, tt)
+arguments_of (command.AddStartRect ally_no left top right bottom) = given add_rectangle_row (ally_no, (left, (top, (right, (bottom, tt)))))
+arguments_of (command.RemoveStartRect ally_no) = given remove_rectangle_row (ally_no, tt)
+arguments_of (command.SetScriptTags pairs) = given some_pairs (pairs, tt)
+arguments_of (command.RemoveScriptTags keys) = given some_words (keys, tt)
+arguments_of (command.DisableUnits units) = given some_words (units, tt)
+arguments_of (command.EnableUnits units) = given some_words (units, tt)
+arguments_of command.EnableAllUnits = given [] tt
+arguments_of (command.Handicap user value) = given handicap_row (user, (value, tt))
+arguments_of (command.ForceTeamNo user number) = given team_row (user, (number, tt))
+arguments_of (command.ForceAllyNo user number) = given ally_row (user, (number, tt))
+arguments_of (command.ForceTeamColor user team_color) = given color_row (user, (team_color, tt))
+arguments_of (command.ForceSpectatorMode user) = given one_name (user, tt)
+arguments_of (command.KickFromBattle user) = given one_name (user, tt)
+arguments_of (command.Ring user) = given one_name (user, tt)

@@ -1,13 +1,13 @@
-//! One reader for each command that has arguments: all arguments are read first, and those that are
-//! kept are copied then, so that a fault takes no memory.
+//! One reader for each command whose row of arguments no other command has: it takes an argument for
+//! each kind of the row, from left to right. All are read first, and those that are kept are copied
+//! then, so that a fault takes no memory.
 
 ghost use Rattle.std.specs.Prelude.{◌≡◌, ◌∷◌, IfOk, IfSome, IsTrue, OnErr, is_some};
 ghost use Rattle.std.specs.Option.{option_map};
 ghost use Rattle.line_words.specs.Bytes.{is_sentence, is_text, is_word};
 ghost use Rattle.command_grammar.specs.declared.command.Command.TheVariants as command;
-ghost use Rattle.command_grammar.specs.declared.command_word.CommandWord.TheVariants as words;
-ghost use Rattle.command_grammar.specs.Reading.{Gives, arguments_at, row_at};
-ghost use Rattle.command_grammar.specs.Table.{Wide, battle_titles};
+ghost use Rattle.command_grammar.specs.Reading.{Gives, row_at};
+ghost use Rattle.command_grammar.specs.Table.{Wide, battle_titles, add_bot_row, add_rectangle_row, battle_info_row, battle_status_row, color_row, deny_row, join_battle_row, join_row, login_row, one_word, open_battle_row, remove_rectangle_row, some_pairs, status_row, update_bot_row};
 
 use crate::arguments::{
     flag_at, login_flags_at, name_at, natural_at, optional_at, optional_text_at, sentence_at,
@@ -15,13 +15,13 @@ use crate::arguments::{
 };
 use crate::command::Command;
 use crate::fault::ReadError;
-use crate::lists::{check_pairs, check_words, copy_of_pairs, copy_of_words};
+use crate::lists::{check_pairs, copy_of_pairs};
 use line_words::{NameBuf, SentenceBuf, TextBuf, WordBuf};
 use std::alloc::{AllocError, Global};
 
 pub(crate) fn login(alloc: Global, rest: &[u8]) -> Result<Command, ReadError>
     requires { IsTrue (is_text rest.now) }
-    ensures { Gives result (arguments_at words.Login rest.now) }
+    ensures { Gives result (row_at login_row command.Login rest.now) }
 {
     let (user_name, rest) = word_at(rest)?;
     let (password, rest) = word_at(rest)?;
@@ -71,7 +71,7 @@ fn copy_of_login(alloc: Global, login: &LentLogin<'_>) -> Result<Command, AllocE
 
 pub(crate) fn my_status(rest: &[u8]) -> Result<Command, ReadError>
     requires { IsTrue (is_text rest.now) }
-    ensures { Gives result (arguments_at words.MyStatus rest.now) }
+    ensures { Gives result (row_at status_row command.MyStatus rest.now) }
 {
     let (status, _) = natural_at(rest, 4294967295)?;
     Ok(Command::MyStatus { status })
@@ -79,7 +79,7 @@ pub(crate) fn my_status(rest: &[u8]) -> Result<Command, ReadError>
 
 pub(crate) fn join(alloc: Global, rest: &[u8]) -> Result<Command, ReadError>
     requires { IsTrue (is_text rest.now) }
-    ensures { Gives result (arguments_at words.Join rest.now) }
+    ensures { Gives result (row_at join_row command.Join rest.now) }
 {
     let (channel, rest) = name_at(rest)?;
     let (key, _) = optional_at(rest)?;
@@ -89,55 +89,9 @@ pub(crate) fn join(alloc: Global, rest: &[u8]) -> Result<Command, ReadError>
     })
 }
 
-pub(crate) fn leave(alloc: Global, rest: &[u8]) -> Result<Command, ReadError>
-    requires { IsTrue (is_text rest.now) }
-    ensures { Gives result (arguments_at words.Leave rest.now) }
-{
-    let (channel, _) = name_at(rest)?;
-    Ok(Command::Leave {
-        channel: NameBuf::copy_of(alloc, channel)?,
-    })
-}
-
-pub(crate) fn say(alloc: Global, rest: &[u8]) -> Result<Command, ReadError>
-    requires { IsTrue (is_text rest.now) }
-    ensures { Gives result (arguments_at words.Say rest.now) }
-{
-    let (channel, rest) = name_at(rest)?;
-    let text = text_at(rest)?;
-    Ok(Command::Say {
-        channel: NameBuf::copy_of(alloc, channel)?,
-        text: TextBuf::copy_of(alloc, text)?,
-    })
-}
-
-pub(crate) fn say_ex(alloc: Global, rest: &[u8]) -> Result<Command, ReadError>
-    requires { IsTrue (is_text rest.now) }
-    ensures { Gives result (arguments_at words.SayEx rest.now) }
-{
-    let (channel, rest) = name_at(rest)?;
-    let text = text_at(rest)?;
-    Ok(Command::SayEx {
-        channel: NameBuf::copy_of(alloc, channel)?,
-        text: TextBuf::copy_of(alloc, text)?,
-    })
-}
-
-pub(crate) fn say_private(alloc: Global, rest: &[u8]) -> Result<Command, ReadError>
-    requires { IsTrue (is_text rest.now) }
-    ensures { Gives result (arguments_at words.SayPrivate rest.now) }
-{
-    let (user, rest) = name_at(rest)?;
-    let text = text_at(rest)?;
-    Ok(Command::SayPrivate {
-        user: NameBuf::copy_of(alloc, user)?,
-        text: TextBuf::copy_of(alloc, text)?,
-    })
-}
-
 pub(crate) fn open_battle(alloc: Global, rest: &[u8]) -> Result<Command, ReadError>
     requires { IsTrue (is_text rest.now) }
-    ensures { Gives result (arguments_at words.OpenBattle rest.now) }
+    ensures { Gives result (row_at open_battle_row command.OpenBattle rest.now) }
 {
     let (battle_type, rest) = natural_at(rest, 1)?;
     let (nat_type, rest) = natural_at(rest, 2)?;
@@ -281,7 +235,7 @@ fn copy_of_two(
 
 pub(crate) fn join_battle(alloc: Global, rest: &[u8]) -> Result<Command, ReadError>
     requires { IsTrue (is_text rest.now) }
-    ensures { Gives result (arguments_at words.JoinBattle rest.now) }
+    ensures { Gives result (row_at join_battle_row command.JoinBattle rest.now) }
 {
     let (battle, rest) = natural_at(rest, 2147483647)?;
     let (password, rest) = optional_at(rest)?;
@@ -293,19 +247,9 @@ pub(crate) fn join_battle(alloc: Global, rest: &[u8]) -> Result<Command, ReadErr
     })
 }
 
-pub(crate) fn join_battle_accept(alloc: Global, rest: &[u8]) -> Result<Command, ReadError>
-    requires { IsTrue (is_text rest.now) }
-    ensures { Gives result (arguments_at words.JoinBattleAccept rest.now) }
-{
-    let (user, _) = name_at(rest)?;
-    Ok(Command::JoinBattleAccept {
-        user: NameBuf::copy_of(alloc, user)?,
-    })
-}
-
 pub(crate) fn join_battle_deny(alloc: Global, rest: &[u8]) -> Result<Command, ReadError>
     requires { IsTrue (is_text rest.now) }
-    ensures { Gives result (arguments_at words.JoinBattleDeny rest.now) }
+    ensures { Gives result (row_at deny_row command.JoinBattleDeny rest.now) }
 {
     let (user, rest) = name_at(rest)?;
     let reason = optional_text_at(rest);
@@ -338,7 +282,7 @@ fn copy_of_optional(alloc: Global, word: Option<&[u8]>) -> Result<Option<WordBuf
 
 pub(crate) fn update_battle_info(alloc: Global, rest: &[u8]) -> Result<Command, ReadError>
     requires { IsTrue (is_text rest.now) }
-    ensures { Gives result (arguments_at words.UpdateBattleInfo rest.now) }
+    ensures { Gives result (row_at battle_info_row command.UpdateBattleInfo rest.now) }
 {
     let (spectator_count, rest) = natural_at(rest, 65535)?;
     let (locked, rest) = flag_at(rest)?;
@@ -354,7 +298,7 @@ pub(crate) fn update_battle_info(alloc: Global, rest: &[u8]) -> Result<Command, 
 
 pub(crate) fn my_battle_status(rest: &[u8]) -> Result<Command, ReadError>
     requires { IsTrue (is_text rest.now) }
-    ensures { Gives result (arguments_at words.MyBattleStatus rest.now) }
+    ensures { Gives result (row_at battle_status_row command.MyBattleStatus rest.now) }
 {
     let (battle_status, rest) = natural_at(rest, 4294967295)?;
     let (team_color, _) = wide_at(rest)?;
@@ -364,29 +308,9 @@ pub(crate) fn my_battle_status(rest: &[u8]) -> Result<Command, ReadError>
     })
 }
 
-pub(crate) fn say_battle(alloc: Global, rest: &[u8]) -> Result<Command, ReadError>
-    requires { IsTrue (is_text rest.now) }
-    ensures { Gives result (arguments_at words.SayBattle rest.now) }
-{
-    let text = text_at(rest)?;
-    Ok(Command::SayBattle {
-        text: TextBuf::copy_of(alloc, text)?,
-    })
-}
-
-pub(crate) fn say_battle_ex(alloc: Global, rest: &[u8]) -> Result<Command, ReadError>
-    requires { IsTrue (is_text rest.now) }
-    ensures { Gives result (arguments_at words.SayBattleEx rest.now) }
-{
-    let text = text_at(rest)?;
-    Ok(Command::SayBattleEx {
-        text: TextBuf::copy_of(alloc, text)?,
-    })
-}
-
 pub(crate) fn add_bot(alloc: Global, rest: &[u8]) -> Result<Command, ReadError>
     requires { IsTrue (is_text rest.now) }
-    ensures { Gives result (arguments_at words.AddBot rest.now) }
+    ensures { Gives result (row_at add_bot_row command.AddBot rest.now) }
 {
     let (bot, rest) = word_at(rest)?;
     let (battle_status, rest) = natural_at(rest, 4294967295)?;
@@ -402,7 +326,7 @@ pub(crate) fn add_bot(alloc: Global, rest: &[u8]) -> Result<Command, ReadError>
 
 pub(crate) fn update_bot(alloc: Global, rest: &[u8]) -> Result<Command, ReadError>
     requires { IsTrue (is_text rest.now) }
-    ensures { Gives result (arguments_at words.UpdateBot rest.now) }
+    ensures { Gives result (row_at update_bot_row command.UpdateBot rest.now) }
 {
     let (bot, rest) = word_at(rest)?;
     let (battle_status, rest) = natural_at(rest, 4294967295)?;
@@ -416,7 +340,7 @@ pub(crate) fn update_bot(alloc: Global, rest: &[u8]) -> Result<Command, ReadErro
 
 pub(crate) fn remove_bot(alloc: Global, rest: &[u8]) -> Result<Command, ReadError>
     requires { IsTrue (is_text rest.now) }
-    ensures { Gives result (arguments_at words.RemoveBot rest.now) }
+    ensures { Gives result (row_at one_word command.RemoveBot rest.now) }
 {
     let (bot, _) = word_at(rest)?;
     Ok(Command::RemoveBot {
@@ -426,7 +350,7 @@ pub(crate) fn remove_bot(alloc: Global, rest: &[u8]) -> Result<Command, ReadErro
 
 pub(crate) fn add_start_rect(rest: &[u8]) -> Result<Command, ReadError>
     requires { IsTrue (is_text rest.now) }
-    ensures { Gives result (arguments_at words.AddStartRect rest.now) }
+    ensures { Gives result (row_at add_rectangle_row command.AddStartRect rest.now) }
 {
     let (ally_no, rest) = natural_at(rest, 15)?;
     let (left, rest) = natural_at(rest, 200)?;
@@ -444,7 +368,7 @@ pub(crate) fn add_start_rect(rest: &[u8]) -> Result<Command, ReadError>
 
 pub(crate) fn remove_start_rect(rest: &[u8]) -> Result<Command, ReadError>
     requires { IsTrue (is_text rest.now) }
-    ensures { Gives result (arguments_at words.RemoveStartRect rest.now) }
+    ensures { Gives result (row_at remove_rectangle_row command.RemoveStartRect rest.now) }
 {
     let (ally_no, _) = natural_at(rest, 15)?;
     Ok(Command::RemoveStartRect {
@@ -455,7 +379,7 @@ pub(crate) fn remove_start_rect(rest: &[u8]) -> Result<Command, ReadError>
 #[tactic(auto, unfolding(crate::specs::Reading::pairs_at), using(crate::proofs::Checks::pairs_need_memory))]
 pub(crate) fn set_script_tags(alloc: Global, rest: &[u8]) -> Result<Command, ReadError>
     requires { IsTrue (is_text rest.now) }
-    ensures { Gives result (arguments_at words.SetScriptTags rest.now) }
+    ensures { Gives result (row_at some_pairs command.SetScriptTags rest.now) }
 {
     let text = text_at(rest)?;
     check_pairs(text)?;
@@ -464,113 +388,14 @@ pub(crate) fn set_script_tags(alloc: Global, rest: &[u8]) -> Result<Command, Rea
     })
 }
 
-#[tactic(auto, using(crate::proofs::Checks::disabled_need_memory))]
-pub(crate) fn disable_units(alloc: Global, rest: &[u8]) -> Result<Command, ReadError>
-    requires { IsTrue (is_text rest.now) }
-    ensures { Gives result (arguments_at words.DisableUnits rest.now) }
-{
-    check_words(rest)?;
-    Ok(Command::DisableUnits {
-        units: copy_of_words(alloc, rest)?,
-    })
-}
-
-#[tactic(auto, using(crate::proofs::Checks::enabled_need_memory))]
-pub(crate) fn enable_units(alloc: Global, rest: &[u8]) -> Result<Command, ReadError>
-    requires { IsTrue (is_text rest.now) }
-    ensures { Gives result (arguments_at words.EnableUnits rest.now) }
-{
-    check_words(rest)?;
-    Ok(Command::EnableUnits {
-        units: copy_of_words(alloc, rest)?,
-    })
-}
-
-#[tactic(auto, using(crate::proofs::Checks::words_need_memory))]
-pub(crate) fn remove_script_tags(alloc: Global, rest: &[u8]) -> Result<Command, ReadError>
-    requires { IsTrue (is_text rest.now) }
-    ensures { Gives result (arguments_at words.RemoveScriptTags rest.now) }
-{
-    check_words(rest)?;
-    Ok(Command::RemoveScriptTags {
-        keys: copy_of_words(alloc, rest)?,
-    })
-}
-
-pub(crate) fn handicap(alloc: Global, rest: &[u8]) -> Result<Command, ReadError>
-    requires { IsTrue (is_text rest.now) }
-    ensures { Gives result (arguments_at words.Handicap rest.now) }
-{
-    let (user, rest) = name_at(rest)?;
-    let (value, _) = natural_at(rest, 100)?;
-    Ok(Command::Handicap {
-        user: NameBuf::copy_of(alloc, user)?,
-        value: value as u8,
-    })
-}
-
-pub(crate) fn force_team_no(alloc: Global, rest: &[u8]) -> Result<Command, ReadError>
-    requires { IsTrue (is_text rest.now) }
-    ensures { Gives result (arguments_at words.ForceTeamNo rest.now) }
-{
-    let (user, rest) = name_at(rest)?;
-    let (number, _) = natural_at(rest, 15)?;
-    Ok(Command::ForceTeamNo {
-        user: NameBuf::copy_of(alloc, user)?,
-        number: number as u8,
-    })
-}
-
-pub(crate) fn force_ally_no(alloc: Global, rest: &[u8]) -> Result<Command, ReadError>
-    requires { IsTrue (is_text rest.now) }
-    ensures { Gives result (arguments_at words.ForceAllyNo rest.now) }
-{
-    let (user, rest) = name_at(rest)?;
-    let (number, _) = natural_at(rest, 15)?;
-    Ok(Command::ForceAllyNo {
-        user: NameBuf::copy_of(alloc, user)?,
-        number: number as u8,
-    })
-}
-
 pub(crate) fn force_team_color(alloc: Global, rest: &[u8]) -> Result<Command, ReadError>
     requires { IsTrue (is_text rest.now) }
-    ensures { Gives result (arguments_at words.ForceTeamColor rest.now) }
+    ensures { Gives result (row_at color_row command.ForceTeamColor rest.now) }
 {
     let (user, rest) = name_at(rest)?;
     let (team_color, _) = wide_at(rest)?;
     Ok(Command::ForceTeamColor {
         user: NameBuf::copy_of(alloc, user)?,
         team_color,
-    })
-}
-
-pub(crate) fn force_spectator_mode(alloc: Global, rest: &[u8]) -> Result<Command, ReadError>
-    requires { IsTrue (is_text rest.now) }
-    ensures { Gives result (arguments_at words.ForceSpectatorMode rest.now) }
-{
-    let (user, _) = name_at(rest)?;
-    Ok(Command::ForceSpectatorMode {
-        user: NameBuf::copy_of(alloc, user)?,
-    })
-}
-
-pub(crate) fn kick_from_battle(alloc: Global, rest: &[u8]) -> Result<Command, ReadError>
-    requires { IsTrue (is_text rest.now) }
-    ensures { Gives result (arguments_at words.KickFromBattle rest.now) }
-{
-    let (user, _) = name_at(rest)?;
-    Ok(Command::KickFromBattle {
-        user: NameBuf::copy_of(alloc, user)?,
-    })
-}
-
-pub(crate) fn ring(alloc: Global, rest: &[u8]) -> Result<Command, ReadError>
-    requires { IsTrue (is_text rest.now) }
-    ensures { Gives result (arguments_at words.Ring rest.now) }
-{
-    let (user, _) = name_at(rest)?;
-    Ok(Command::Ring {
-        user: NameBuf::copy_of(alloc, user)?,
     })
 }

@@ -8,12 +8,13 @@
 
 mod arguments;
 mod command;
-mod command_word;
 mod fault;
 mod forms;
 mod laws;
 mod lists;
 mod reading;
+mod rows;
+mod table;
 
 pub use command::{Command, ReadFault, Request};
 pub use laws::{fits_into_its_line, keeps_kinds, reads_as_one_request};

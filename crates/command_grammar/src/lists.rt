@@ -1,12 +1,12 @@
 //! Arguments that are lists. A list is checked whole before any of it is copied, so that a fault takes
 //! no memory.
 
-ghost use Rattle.std.specs.Prelude.{◌≡◌, ◌==◌, Err, IfErr, IfNone, IfOk, IfSome, IsTrue, Ok, OnOk, false, is_ok};
+ghost use Rattle.std.specs.Prelude.{◌≡◌, ◌==◌, Err, IfErr, IfNone, IfOk, IfSome, IsTrue, Ok, OnOk, is_ok};
 ghost use Rattle.std.specs.List.{list_all};
-ghost use Rattle.line_words.specs.Bytes.{has_byte, is_key, is_sentence, is_text};
+ghost use Rattle.line_words.specs.Bytes.{is_key, is_sentence, is_text};
 ghost use Rattle.line_words.specs.Sentences.{between_tabs};
 ghost use Rattle.command_grammar.specs.declared.command.ReadFault.TheVariants as fault;
-ghost use Rattle.command_grammar.specs.Reading.{is_pair_or_empty, pair, pair_in, pair_of, pairs_of, words_at, words_in};
+ghost use Rattle.command_grammar.specs.Reading.{is_pair_or_empty, pair, pair_in, pair_of, pairs_of, words_at};
 
 use crate::arguments::has_tab;
 use crate::command::ReadFault;

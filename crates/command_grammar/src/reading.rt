@@ -1,16 +1,14 @@
 //! Reading a line.
 
-ghost use Rattle.std.specs.Prelude.{◌≡◌, Ok, Err, IfOk, OnErr, IsTrue};
+ghost use Rattle.std.specs.Prelude.{◌≡◌, IfOk, OnErr, IsTrue};
 ghost use Rattle.command_grammar.specs.declared.command.Request.{Request};
-ghost use Rattle.line_words.specs.Bytes.{is_text};
 ghost use Rattle.command_grammar.specs.Owning.{owns_bytes};
-ghost use Rattle.command_grammar.specs.Reading.{Gives, without_spaces, arguments_at, text_of, id_of, with_id, numbered, needs_memory, command_of, request_of};
+ghost use Rattle.command_grammar.specs.Reading.{Gives, without_spaces, text_of, id_of, with_id, numbered, needs_memory, command_of};
 ghost use Rattle.command_grammar.specs.Reads.{Reads};
 
 use crate::command::{Command, ReadFault, Request};
-use crate::command_word::CommandWord;
 use crate::fault::ReadError;
-use crate::forms;
+use crate::table::read_arguments;
 use line_words::{Words, is_text, read_number, split_at_byte};
 use std::alloc::{AllocError, Global};
 
@@ -112,53 +110,5 @@ fn read_command(alloc: Global, text: &[u8]) -> Result<Command, ReadError>
         return Err(ReadError::Fault(ReadFault::BadByte));
     }
     let (word, rest) = split_at_byte(text, b' ');
-    match CommandWord::named(word) {
-        None => Err(ReadError::Fault(ReadFault::UnknownCommand)),
-        Some(word) => read_arguments(alloc, word, rest),
-    }
-}
-
-// The arguments that the form of the command asks for.
-fn read_arguments(alloc: Global, word: CommandWord, rest: &[u8]) -> Result<Command, ReadError>
-    requires { IsTrue (is_text rest.now) }
-    ensures { Gives result (arguments_at word rest.now) }
-{
-    match word {
-        CommandWord::Ping => Ok(Command::Ping),
-        CommandWord::Exit => Ok(Command::Exit),
-        CommandWord::Login => forms::login(alloc, rest),
-        CommandWord::MyStatus => forms::my_status(rest),
-        CommandWord::Channels => Ok(Command::Channels),
-        CommandWord::Join => forms::join(alloc, rest),
-        CommandWord::Leave => forms::leave(alloc, rest),
-        CommandWord::Say => forms::say(alloc, rest),
-        CommandWord::SayEx => forms::say_ex(alloc, rest),
-        CommandWord::SayPrivate => forms::say_private(alloc, rest),
-        CommandWord::OpenBattle => forms::open_battle(alloc, rest),
-        CommandWord::JoinBattle => forms::join_battle(alloc, rest),
-        CommandWord::JoinBattleAccept => forms::join_battle_accept(alloc, rest),
-        CommandWord::JoinBattleDeny => forms::join_battle_deny(alloc, rest),
-        CommandWord::LeaveBattle => Ok(Command::LeaveBattle),
-        CommandWord::UpdateBattleInfo => forms::update_battle_info(alloc, rest),
-        CommandWord::MyBattleStatus => forms::my_battle_status(rest),
-        CommandWord::SayBattle => forms::say_battle(alloc, rest),
-        CommandWord::SayBattleEx => forms::say_battle_ex(alloc, rest),
-        CommandWord::AddBot => forms::add_bot(alloc, rest),
-        CommandWord::UpdateBot => forms::update_bot(alloc, rest),
-        CommandWord::RemoveBot => forms::remove_bot(alloc, rest),
-        CommandWord::AddStartRect => forms::add_start_rect(rest),
-        CommandWord::RemoveStartRect => forms::remove_start_rect(rest),
-        CommandWord::SetScriptTags => forms::set_script_tags(alloc, rest),
-        CommandWord::RemoveScriptTags => forms::remove_script_tags(alloc, rest),
-        CommandWord::DisableUnits => forms::disable_units(alloc, rest),
-        CommandWord::EnableUnits => forms::enable_units(alloc, rest),
-        CommandWord::EnableAllUnits => Ok(Command::EnableAllUnits),
-        CommandWord::Handicap => forms::handicap(alloc, rest),
-        CommandWord::ForceTeamNo => forms::force_team_no(alloc, rest),
-        CommandWord::ForceAllyNo => forms::force_ally_no(alloc, rest),
-        CommandWord::ForceTeamColor => forms::force_team_color(alloc, rest),
-        CommandWord::ForceSpectatorMode => forms::force_spectator_mode(alloc, rest),
-        CommandWord::KickFromBattle => forms::kick_from_battle(alloc, rest),
-        CommandWord::Ring => forms::ring(alloc, rest),
-    }
+    read_arguments(alloc, word, rest)
 }
