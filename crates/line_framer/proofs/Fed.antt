@@ -11,11 +11,6 @@ use Rattle.line_framer.proofs.Limit.{all_sound, or_first, parts_of_sound, sound_
 use Rattle.line_framer.proofs.Stands.{lines-append, spoilt-append, rest-append, stands_fed}
 use Rattle.line_framer.proofs.Buffer.{none_behind_whole}
 
--- the buffer from the next line on, after it was moved and a piece came behind it
-pub appended : (old moved new kept : List ℕ) (start moved_start : ℕ) → moved_start ≤ length moved → drop moved_start moved ≡ drop start old → new ≡ moved ++ kept → drop moved_start new ≡ drop start old ++ kept
-appended old moved new kept start moved_start within same is =
-    ap (drop moved_start) is ∙ drop-append-le moved_start moved kept within ∙ ap (λ xs. xs ++ kept) same
-
 -- where no LF stands behind a place, a cut there keeps the first one
 narrowed : (xs : List ℕ) (w : ℕ) → ((k : ℕ) → w ≤ k → k < length xs → get_or xs k 0 ≢ 10) → (next : Option ℕ) → IsFirstEnd xs next → IsFirstEnd (take w xs) next
 narrowed xs w none None h = λ k lt is.
