@@ -1,4 +1,4 @@
-use Rattle.std.proofs.Common.{◌≡◌, ◌+◌, ◌-◌, take, drop, Some, sym, ap, subst, refl, ◌∙◌, ◌∷◌, arith, ℕ, length, length-take, length-drop}
+use Rattle.std.proofs.Common.{◌≡◌, ◌+◌, ◌-◌, take, drop, sym, ap, subst, refl, ◌∙◌, ◌∷◌, arith, ℕ, length, length-take, length-drop}
 use Rattle.std.specs.Prelude.{map}
 use Rattle.line_framer.specs.Frames.{without_cr, rest_of, lines_in}
 use Rattle.line_framer.specs.Buffered.{IsBuffered, IsFirstEnd}
@@ -10,50 +10,36 @@ pub unwrap-size-requires : goal.unwrap-size-requires
 unwrap-size-requires c = some_next c.self.inside.ahead.bytes c.self.inside.next c.self.invariant.next_end (rw (← c.self.view_is) at c.requires)
 
 pub overflow_add-size : goal.overflow_add-size
-overflow_add-size c =
-    let f = c.self.inside in
-    omega (arith, first_is_whole f.ahead.bytes c.unwrap-size.result f.whole f.limit (rw c.unwrap-size.ensures at c.self.invariant))
+overflow_add-size c = omega (arith, first_is_whole c.unwrap-size.ensures c.self.invariant)
 
 pub consume-requires : goal.consume-requires
-consume-requires c =
-    let f = c.self.inside in
-    omega (arith, first_is_whole f.ahead.bytes c.unwrap-size.result f.whole f.limit (rw c.unwrap-size.ensures at c.self.invariant), c.self.invariant.within)
+consume-requires c = omega (arith, first_is_whole c.unwrap-size.ensures c.self.invariant, c.self.invariant.within)
 
 pub overflow_sub-self : goal.overflow_sub-self
-overflow_sub-self c =
-    let f = c.self.inside in
-    first_is_whole f.ahead.bytes c.unwrap-size.result f.whole f.limit (rw c.unwrap-size.ensures at c.self.invariant)
+overflow_sub-self c = first_is_whole c.unwrap-size.ensures c.self.invariant
 
 pub slice_bounds-first_end-end : goal.slice_bounds-first_end-end
 slice_bounds-first_end-end c =
-    let f = c.self.inside in
     omega (arith, c.self.invariant.within, ap length (c.as_slice.ensures ∙ c.release.ensures.bytes ∙ c.consume.ensures.bytes), length-take {A = ℕ}, length-drop {A = ℕ})
 
 pub invariant_of-self : goal.invariant_of-self
 invariant_of-self c =
     let f = c.self.inside in
-    let n = c.unwrap-size.result in
-    let b : IsBuffered f.ahead.bytes (Some n) f.whole f.limit = rw c.unwrap-size.ensures at c.self.invariant in
-    let later : c.release.new.self.bytes ≡ drop (n + 1) f.ahead.bytes = c.release.ensures.bytes ∙ c.consume.ensures.bytes in
-    let found : IsFirstEnd (take (f.whole - (n + 1)) (drop (n + 1) f.ahead.bytes)) c.first_end-self-inside.result =
-    subst (λ xs. IsFirstEnd (take (f.whole - (n + 1)) xs) c.first_end-self-inside.result) (c.as_slice.ensures ∙ later) c.first_end-self-inside.ensures in
-    subst (λ xs. IsBuffered xs c.first_end-self-inside.result (f.whole - (n + 1)) f.limit) (sym later) (left f.ahead.bytes n f.whole f.limit b c.first_end-self-inside.result found)
+    let whole = f.whole - (c.unwrap-size.result + 1) in
+    let later : c.release.new.self.bytes ≡ drop (c.unwrap-size.result + 1) f.ahead.bytes = c.release.ensures.bytes ∙ c.consume.ensures.bytes in
+    let found = subst (λ xs. IsFirstEnd (take whole xs) c.first_end-self-inside.result) (c.as_slice.ensures ∙ later) c.first_end-self-inside.ensures in
+    subst (λ xs. IsBuffered xs c.first_end-self-inside.result whole f.limit) (sym later) (left c.unwrap-size.ensures c.self.invariant found)
 
 pub returns-clause-stands : goal.returns-clause-stands
 returns-clause-stands c = λ bytes dropped.
     rw (← c.self.view_is) (λ s.
-    let f = c.self.inside in
-    let n = c.unwrap-size.result in
-    let b : IsBuffered f.ahead.bytes (Some n) f.whole f.limit = rw c.unwrap-size.ensures at c.self.invariant in
-    let later : drop (n + 1) f.ahead.bytes ≡ c.release.new.self.bytes = sym (c.release.ensures.bytes ∙ c.consume.ensures.bytes) in
-    stands_dropped _ bytes dropped _ (take n f.ahead.bytes) s refl refl (lines_first f.ahead.bytes n f.whole f.limit b ∙ ap (λ xs. take n f.ahead.bytes ∷ lines_in xs) later)
-    (rest_first f.ahead.bytes n f.whole f.limit b ∙ ap rest_of later))
+    let line = take c.unwrap-size.result c.self.inside.ahead.bytes in
+    let later = sym (c.release.ensures.bytes ∙ c.consume.ensures.bytes) in
+    stands_dropped _ bytes dropped _ line s refl refl (lines_first c.unwrap-size.ensures c.self.invariant ∙ ap (λ xs. line ∷ lines_in xs) later)
+    (rest_first c.unwrap-size.ensures c.self.invariant ∙ ap rest_of later))
 
 pub returns-clause-lines : goal.returns-clause-lines
 returns-clause-lines c =
     rw (← c.self.view_is) (
-    let f = c.self.inside in
-    let n = c.unwrap-size.result in
-    let b : IsBuffered f.ahead.bytes (Some n) f.whole f.limit = rw c.unwrap-size.ensures at c.self.invariant in
-    let later : c.release.new.self.bytes ≡ drop (n + 1) f.ahead.bytes = c.release.ensures.bytes ∙ c.consume.ensures.bytes in
-    ap (λ xs. map without_cr (lines_in xs)) later ∙ sym (ap (λ ls. drop 1 (map without_cr ls)) (lines_first f.ahead.bytes n f.whole f.limit b)))
+    ap (λ xs. map without_cr (lines_in xs)) (c.release.ensures.bytes ∙ c.consume.ensures.bytes)
+    ∙ sym (ap (λ ls. drop 1 (map without_cr ls)) (lines_first c.unwrap-size.ensures c.self.invariant)))
