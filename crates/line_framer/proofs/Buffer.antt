@@ -25,9 +25,6 @@ lines_of_none a none = ap (λ (q : Parts). map without_cr q.0) (parts_none a non
 pub first_of_none : (a : List ℕ) → HasNoEnd a → first (map without_cr (lines_in a)) ≡ None
 first_of_none a none = ap first (lines_of_none a none)
 
-pub first_of_some : (a : List ℕ) (n : ℕ) → FirstEndAt a n → first (map without_cr (lines_in a)) ≡ Some (without_cr (take n a))
-first_of_some a n h = ap (λ (q : Parts). first (map without_cr q.0)) (parts_first a n h)
-
 pub some_next : (a : List ℕ) (next : Option ℕ) → IsFirstEnd a next → IsSome (first (map without_cr (lines_in a))) → IsSome next
 some_next a None none h = subst IsSome (first_of_none a none) h
 some_next a (Some n) e h = refl
@@ -47,22 +44,31 @@ widened a whole rest (Some n) e =
       before = λ k lt is. e.before k lt (get_or-take whole a k 0 (omega arith) ∙ is);
     }
 
-module _ (a : List ℕ) (n whole limit : ℕ) (b : IsBuffered a (Some n) whole limit) where
+without_cr_shorter : (line : List ℕ) → length (without_cr line) ≤ length line
+without_cr_shorter [] = omega arith
+without_cr_shorter (x ∷ []) = elim (x == 13) as (λ t. length (if t then [] else x ∷ []) ≤ 1) [ true ↦ omega arith | false ↦ omega arith ]
+without_cr_shorter (x ∷ y ∷ line) = omega (arith, without_cr_shorter (y ∷ line))
+
+-- the next line of a buffer that has one
+module _ {a : List ℕ} {next : Option ℕ} {n whole limit : ℕ} (is : next ≡ Some n) (b : IsBuffered a next whole limit) where
+  ends : FirstEndAt a n
+  ends = subst (IsFirstEnd a) is b.next_end
+
   pub first_is_whole : n + 1 ≤ whole
   first_is_whole =
       elim (nat_le whole n) as (λ t. nat_le whole n ≡ t → n + 1 ≤ whole) [
-        | true ↦ λ e. absurd (none_behind_whole a whole b.rest n (grind (arith)) b.next_end.within b.next_end.is_end)
+        | true ↦ λ e. absurd (none_behind_whole a whole b.rest n (grind (arith)) ends.within ends.is_end)
         | false ↦ λ e. grind (arith)
       ] refl
 
   pub lines_first : lines_in a ≡ take n a ∷ lines_in (drop (n + 1) a)
-  lines_first = ap (λ (q : Parts). q.0) (parts_first a n b.next_end)
+  lines_first = ap (λ (q : Parts). q.0) (parts_first a n ends)
 
   pub rest_first : rest_of a ≡ rest_of (drop (n + 1) a)
-  rest_first = ap (λ (q : Parts). q.1) (parts_first a n b.next_end)
+  rest_first = ap (λ (q : Parts). q.1) (parts_first a n ends)
 
-  pub left : (next : Option ℕ) → IsFirstEnd (take (whole - (n + 1)) (drop (n + 1) a)) next → IsBuffered (drop (n + 1) a) next (whole - (n + 1)) limit
-  left next found =
+  pub left : {later : Option ℕ} → IsFirstEnd (take (whole - (n + 1)) (drop (n + 1) a)) later → IsBuffered (drop (n + 1) a) later (whole - (n + 1)) limit
+  left {later} found =
       let l = drop (n + 1) a in
       let w = whole - (n + 1) in
       let same : n + 1 + w ≡ whole = omega (arith, first_is_whole) in
@@ -70,18 +76,16 @@ module _ (a : List ℕ) (n whole limit : ℕ) (b : IsBuffered a (Some n) whole l
       record {
         within = omega (arith, b.within, length-drop (n + 1) a);
         rest = rest;
-        next_end = widened l w rest next found;
-        sound = or-false (not (fits limit (take n a))) (any_long limit (lines_in l)) (not (fits limit (rest_of l))) (sym (ap (spoilt_in limit) (parts_first a n b.next_end)) ∙ b.sound);
+        next_end = widened l w rest later found;
+        sound = or-false (not (fits limit (take n a))) (any_long limit (lines_in l)) (not (fits limit (rest_of l))) (sym (ap (spoilt_in limit) (parts_first a n ends)) ∙ b.sound);
       }
 
-without_cr_shorter : (line : List ℕ) → length (without_cr line) ≤ length line
-without_cr_shorter [] = omega arith
-without_cr_shorter (x ∷ []) = elim (x == 13) as (λ t. length (if t then [] else x ∷ []) ≤ 1) [ true ↦ omega arith | false ↦ omega arith ]
-without_cr_shorter (x ∷ y ∷ line) = omega (arith, without_cr_shorter (y ∷ line))
+  pub line_is_short : length (without_cr (take n a)) ≤ limit
+  line_is_short =
+      let e : ((not (fits limit (take n a)) || any_long limit (lines_in (drop (n + 1) a))) || not (fits limit (rest_of (drop (n + 1) a)))) ≡ false = sym (ap (spoilt_in limit) (parts_first a n ends)) ∙ b.sound in
+      let fit : not (fits limit (take n a)) ≡ false = or_first _ _ (or_first _ _ e) in
+      let short : length (take n a) ≤ limit = grind (arith) in
+      omega (arith, without_cr_shorter (take n a))
 
-pub line_is_short : (a : List ℕ) (n whole limit : ℕ) → IsBuffered a (Some n) whole limit → length (without_cr (take n a)) ≤ limit
-line_is_short a n whole limit b =
-    let e : ((not (fits limit (take n a)) || any_long limit (lines_in (drop (n + 1) a))) || not (fits limit (rest_of (drop (n + 1) a)))) ≡ false = sym (ap (spoilt_in limit) (parts_first a n b.next_end)) ∙ b.sound in
-    let fit : not (fits limit (take n a)) ≡ false = or_first _ _ (or_first _ _ e) in
-    let short : length (take n a) ≤ limit = grind (arith) in
-    omega (arith, without_cr_shorter (take n a))
+  pub first_is : first (map without_cr (lines_in a)) ≡ Some (without_cr (take n a))
+  first_is = ap (λ (q : Parts). first (map without_cr q.0)) (parts_first a n ends)

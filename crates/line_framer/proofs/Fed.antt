@@ -11,11 +11,6 @@ use Rattle.line_framer.proofs.Limit.{all_sound, or_first, parts_of_sound, sound_
 use Rattle.line_framer.proofs.Stands.{lines-append, spoilt-append, rest-append, stands_fed}
 use Rattle.line_framer.proofs.Buffer.{none_behind_whole}
 
--- the buffer from the next line on, after it was moved and a piece came behind it
-pub appended : (old moved new kept : List ℕ) (start moved_start : ℕ) → moved_start ≤ length moved → drop moved_start moved ≡ drop start old → new ≡ moved ++ kept → drop moved_start new ≡ drop start old ++ kept
-appended old moved new kept start moved_start within same is =
-    ap (drop moved_start) is ∙ drop-append-le moved_start moved kept within ∙ ap (λ xs. xs ++ kept) same
-
 -- where no LF stands behind a place, a cut there keeps the first one
 narrowed : (xs : List ℕ) (w : ℕ) → ((k : ℕ) → w ≤ k → k < length xs → get_or xs k 0 ≢ 10) → (next : Option ℕ) → IsFirstEnd xs next → IsFirstEnd (take w xs) next
 narrowed xs w none None h = λ k lt is.
@@ -36,7 +31,7 @@ take-append-take w [] ys = take-take w (w - 0) ys (omega arith)
 take-append-take zero (x ∷ xs) ys = refl
 take-append-take (suc w) (x ∷ xs) ys = ap (λ zs. x ∷ zs) (ap (λ n. take w (xs ++ take n ys)) (omega arith) ∙ take-append-take w xs ys)
 
-module _ (a piece : List ℕ) (next : Option ℕ) (whole limit : ℕ) (b : IsBuffered a next whole limit) where
+module _ {a : List ℕ} (piece : List ℕ) {next : Option ℕ} {whole limit : ℕ} (b : IsBuffered a next whole limit) where
   pub rest_size : length (rest_of a) ≡ length a - whole
   rest_size = ap length b.rest ∙ length-drop whole a
 
@@ -49,24 +44,24 @@ module _ (a piece : List ℕ) (next : Option ℕ) (whole limit : ℕ) (b : IsBuf
   behind_whole more = ap (λ r. r ++ more) b.rest ∙ sym (drop-append-le whole a more b.within)
 
   -- what is kept has no LF where no line ends in it
-  pub no_end_kept : (kept : List ℕ) (cut : ℕ) (spoilt : Bool) → IsCut (rest_of a ++ piece) limit cut spoilt → kept ≡ (if spoilt then take (cut - length (rest_of a)) piece else piece) → cut ≡ 0 → HasNoEnd kept
-  no_end_kept kept cut true c is zero_cut k lt e =
+  pub no_end_kept : {kept : List ℕ} {cut : ℕ} (spoilt : Bool) → IsCut (rest_of a ++ piece) limit cut spoilt → kept ≡ (if spoilt then take (cut - length (rest_of a)) piece else piece) → cut ≡ 0 → HasNoEnd kept
+  no_end_kept {kept} {cut} true c is zero_cut k lt e =
       absurd (omega (arith, ap length is, length-take (cut - length (rest_of a)) piece))
-  no_end_kept kept cut false c is zero_cut k lt e =
+  no_end_kept {kept} {cut} false c is zero_cut k lt e =
       let all : rest_of (rest_of a ++ piece) ≡ rest_of a ++ piece = c.rest refl ∙ ap (λ n. drop n (rest_of a ++ piece)) zero_cut in
       let none : HasNoEnd (rest_of a ++ piece) = subst HasNoEnd all (rest_has_no_end (rest_of a ++ piece)) in
       none (length (rest_of a) + k) (omega (arith, ap length is, length-append (rest_of a) piece))
       (get_or-append-add (rest_of a) piece k 0 ∙ ap (λ xs. get_or xs k 0) (sym is) ∙ e)
 
   -- a piece that is kept whole
-  module _ (new : Option ℕ) (cut : ℕ) (c : IsCut (rest_of a ++ piece) limit cut false) (few : cut ≤ length (rest_of a) + length piece) where
+  module _ {cut : ℕ} (c : IsCut (rest_of a ++ piece) limit cut false) (few : cut ≤ length (rest_of a) + length piece) where
     pub fed_sound : is_spoilt (a ++ piece) limit ≡ false
     fed_sound = spoilt-append a piece limit b.sound ∙ sym c.spoilt_is
 
     pub fed_lines : lines_in (a ++ piece) ≡ sound_lines limit (lines_in (a ++ piece))
     fed_lines = sym (all_sound limit (lines_in (a ++ piece)) (or_first _ _ fed_sound))
 
-    pub fed_buffer : IsFirstEnd (a ++ piece) new → IsBuffered (a ++ piece) new (whole + cut) limit
+    pub fed_buffer : {new : Option ℕ} → IsFirstEnd (a ++ piece) new → IsBuffered (a ++ piece) new (whole + cut) limit
     fed_buffer found = record {
       within = omega (arith, few, rest_size, b.within, length-append a piece);
       rest = rest-append a piece limit b.sound ∙ c.rest refl ∙ ap (drop cut) (behind_whole piece) ∙ drop-drop cut whole (a ++ piece);
@@ -82,7 +77,7 @@ module _ (a piece : List ℕ) (next : Option ℕ) (whole limit : ℕ) (b : IsBuf
         (is ∙ sym fed_sound) (ap lines_in same ∙ fed_lines) (λ e. ap rest_of same)
 
   -- what is kept before the spoilt place
-  module _ (new : Option ℕ) (cut : ℕ) (c : IsCut (rest_of a ++ piece) limit cut true) (few : cut ≤ length (rest_of a) + length piece) (apart : (cut ≡ 0) ⊎ (length (rest_of a) < cut)) where
+  module _ {cut : ℕ} (c : IsCut (rest_of a ++ piece) limit cut true) (few : cut ≤ length (rest_of a) + length piece) (apart : (cut ≡ 0) ⊎ (length (rest_of a) < cut)) where
     pub cut_lines : take (whole + cut) (a ++ take (cut - length (rest_of a)) piece) ≡ with_ends (sound_lines limit (lines_in (a ++ piece)))
     cut_lines =
         take-add whole cut (a ++ take (cut - length (rest_of a)) piece)
@@ -112,8 +107,8 @@ module _ (a piece : List ℕ) (next : Option ℕ) (whole limit : ℕ) (b : IsBuf
           | inr some ↦ absurd (omega (arith, size, rest_size, b.within))
         ]
 
-    pub cut_buffer : IsFirstEnd (a ++ take (cut - length (rest_of a)) piece) new → IsBuffered (take (whole + cut) (a ++ take (cut - length (rest_of a)) piece)) new (whole + cut) limit
-    cut_buffer found =
+    pub cut_buffer : {new : Option ℕ} → IsFirstEnd (a ++ take (cut - length (rest_of a)) piece) new → IsBuffered (take (whole + cut) (a ++ take (cut - length (rest_of a)) piece)) new (whole + cut) limit
+    cut_buffer {new} found =
         let all = a ++ take (cut - length (rest_of a)) piece in
         record {
           within = omega (arith, enough, length-take (whole + cut) all);

@@ -1,5 +1,5 @@
 // Where lines end, and what of a piece is kept.
-ghost use Rattle.std.specs.Prelude.{◌≡◌, ℕ, ◌+◌, ◌-◌, ◌^◌, ◌<◌, ◌≤◌, List, ◌++◌, length, take, drop, vec_len, vec_capacity, ◌⊎◌, false, if◌then◌else◌};
+ghost use Rattle.std.specs.Prelude.{◌≡◌, ℕ, ◌+◌, ◌-◌, ◌^◌, ◌<◌, ◌≤◌, List, ◌++◌, length, take, ◌⊎◌, false, if◌then◌else◌};
 ghost use Rattle.line_framer.specs.Frames as frames;
 ghost use Rattle.line_framer.specs.Buffered.{HasNoEnd, IsFirstEnd, IsLastEnd, IsCut};
 
@@ -102,41 +102,4 @@ pub(crate) fn cut_piece(piece: &[u8], before: usize, limit: usize) -> Cut
         whole,
         spoilt: false,
     }
-}
-
-// Moves what stands from `start` on to the beginning of the buffer, where it is no longer than what was dropped before it,
-// so that each dropped byte pays for at most one that is moved. Gives where it stands then.
-pub(crate) fn closed_up(buffer: &mut Vec<u8>, start: usize) -> usize
-    requires { start ≤ vec_len buffer.old }
-    ensures within { result ≤ vec_len buffer.new }
-    ensures same { drop result buffer.new.items ≡ drop start buffer.old.items }
-{
-    let ahead = buffer.len() - start;
-    if start < ahead {
-        return start;
-    }
-    buffer.copy_within(start.., 0);
-    buffer.truncate(ahead);
-    0
-}
-
-// The room in bytes that is kept where nothing stands in the buffer.
-const KEPT: usize = 4_096;
-
-// Empties a buffer in which nothing stands from `start` on. Room that a burst left is given back, since who sent it may be
-// quiet for long. Gives where the bytes from `start` on stand then.
-pub(crate) fn given_back(buffer: &mut Vec<u8>, start: usize) -> usize
-    requires { start ≤ vec_len buffer.old }
-    ensures within { result ≤ vec_len buffer.new }
-    ensures same { drop result buffer.new.items ≡ drop start buffer.old.items }
-    ensures kept { start ≡ vec_len buffer.old → vec_capacity buffer.new ≤ 4096 }
-{
-    if start < buffer.len() {
-        return start;
-    }
-    buffer.clear();
-    if buffer.capacity() > KEPT {
-        buffer.shrink_to_fit();
-    }
-    0
 }

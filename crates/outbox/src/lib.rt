@@ -13,11 +13,11 @@
 ghost use Rattle.std.specs.Prelude.{◌≡◌, ◌≢◌, ◌⊎◌, ◌+◌, ◌-◌, ◌^◌, ◌<◌, ◌≤◌, ◌↔◌, [], ◌++◌, length, take, drop, min, IsTrue, IfSome, IfNone, OnOk, OnErr, true, false};
 ghost use Rattle.outbox.specs.Queue.{room};
 
+use byte_queue::ByteQueue;
 use bytes::Bytes;
 use std::alloc::{AllocError, Global};
 use std::collections::VecDeque;
 use std::marker::Model;
-use std::mem;
 
 /// The greatest limit with which pieces are shared: 2^63 - 1 bytes, all of which can be counted.
 const COUNTED: usize = isize::MAX as usize;
@@ -39,10 +39,9 @@ struct Share {
 #[derive(Drop)]
 pub struct Outbox {
     limit: usize,
-    bytes: Vec<u8>,
-    /// How many bytes at the front of `bytes` were taken.
-    taken: usize,
-    /// How many bytes behind those stand before the last shared piece.
+    /// The bytes that were copied and wait.
+    own: ByteQueue,
+    /// How many of them stand before the last shared piece.
     ahead: usize,
     /// How many bytes the shared pieces have.
     shared: usize,
@@ -51,7 +50,7 @@ pub struct Outbox {
 }
 
 impl Model for Outbox {
-    ghost use Rattle.std.specs.Prelude.{◌-◌, drop, vec_len, vec_capacity};
+    ghost use Rattle.std.specs.Prelude.{◌-◌};
     ghost use Rattle.std.specs.VecDeque.{deque_len, deque_capacity};
     ghost use Rattle.outbox.specs.Queue.{Queue};
     ghost use Rattle.outbox.specs.Woven.{woven, pieces_for, IsKept};
@@ -60,13 +59,13 @@ impl Model for Outbox {
 
     ghost view = { λ o. record {
       limit = o.limit;
-      unread = woven o.shares.items (drop o.taken o.bytes.items);
+      unread = woven o.shares.items o.own.bytes;
       cut = o.cut;
-      spare = vec_capacity o.bytes - vec_len o.bytes;
+      spare = o.own.room;
       spare_pieces = pieces_for o.limit (deque_capacity o.shares - deque_len o.shares);
     } };
 
-    ghost invariant = { λ o. IsKept o.limit o.taken o.ahead o.shared o.bytes.items o.shares.items o.cut };
+    ghost invariant = { λ o. IsKept o.limit o.ahead o.shared o.own.bytes o.shares.items o.cut };
 }
 
 /// Copies bytes to the front of a slice, as many as there are and fit, and says how many.
@@ -86,8 +85,7 @@ impl Outbox {
     {
         Outbox {
             limit,
-            bytes: Vec::new(alloc),
-            taken: 0,
+            own: ByteQueue::new(alloc),
             ahead: 0,
             shared: 0,
             cut: false,
@@ -101,7 +99,7 @@ impl Outbox {
         ensures within_limit { result ≤ self.now.limit }
         ensures small { result < 2 ^ 63 }
     {
-        self.bytes.len() - self.taken + self.shared
+        self.own.len() + self.shared
     }
 
     /// Whether the client was cut. Nothing is unread then.
@@ -113,7 +111,7 @@ impl Outbox {
     }
 
     /// Whether `n` more bytes may be put: they fit the limit beside what is unread, and the client
-    /// was not cut. No byte at all may always be put.
+    /// was not cut. To put 0 bytes is always allowed, after a cut too.
     pub fn room_for(&self, n: usize) -> bool
         ensures { IsTrue result ↔ (n ≤ room self.now) }
     {
@@ -131,25 +129,7 @@ impl Outbox {
         ensures ok { OnOk result (n ≤ self.new.spare) }
         ensures err { OnErr result (self.old.spare < n) }
     {
-        if self.bytes.capacity() - self.bytes.len() < n {
-            self.close_up();
-        }
-        self.bytes.reserve(n)
-    }
-
-    /// Moves the own bytes that wait to the front of the buffer, if at least as many were taken
-    /// before them. So each byte that moves is paid for by one that was taken, which pays once only:
-    /// all the moves together cost no more than all the bytes that were ever put.
-    fn close_up(&mut self)
-        ensures unchanged { self.new ≡ record self.old { spare = self.new.spare } }
-        ensures spare_kept { self.old.spare ≤ self.new.spare }
-    {
-        let own = self.bytes.len() - self.taken;
-        if own <= self.taken {
-            self.bytes.copy_within(self.taken.., 0);
-            self.bytes.truncate(own);
-            self.taken = 0;
-        }
+        self.own.reserve(n)
     }
 
     /// Appends bytes for which there is room, under the limit and in memory. It takes no memory.
@@ -162,8 +142,7 @@ impl Outbox {
         } }
         ensures spare_left { self.old.spare ≤ self.new.spare + length bytes.now }
     {
-        let done = self.bytes.extend_from_slice(bytes).is_ok();
-        prove!(done);
+        self.own.append(bytes);
     }
 
     /// Makes room in memory for `bytes` more bytes that are put by copying, and places for `pieces`
@@ -219,7 +198,7 @@ impl Outbox {
         if piece.is_empty() {
             return;
         }
-        let before = self.bytes.len() - self.taken - self.ahead;
+        let before = self.own.len() - self.ahead;
         self.ahead += before;
         self.shared += piece.len();
         self.shares.push_back_reserved(Share {
@@ -240,10 +219,9 @@ impl Outbox {
         ensures pieces_kept { self.old.spare_pieces ≤ self.new.spare_pieces }
     {
         self.cut = true;
-        self.taken = 0;
         self.ahead = 0;
         self.shared = 0;
-        self.bytes.clear();
+        self.own.truncate(0);
         self.shares.clear();
     }
 
@@ -265,9 +243,6 @@ impl Outbox {
         while done < wanted {
             done += self.take_run(&mut into[done..]);
         }
-        if self.unread() == 0 {
-            self.close_up();
-        }
         done
     }
 
@@ -286,13 +261,13 @@ impl Outbox {
         ensures pieces_kept { self.old.spare_pieces ≤ self.new.spare_pieces }
     {
         let Some(Share { before, mut bytes }) = self.shares.pop_front() else {
-            let count = copy_front(&self.bytes[self.taken..], into);
-            self.taken += count;
+            let count = copy_front(self.own.as_slice(), into);
+            self.own.consume(count);
             return count;
         };
         if before > 0 {
-            let count = copy_front(&self.bytes[self.taken..self.taken + before], into);
-            self.taken += count;
+            let count = copy_front(&self.own.as_slice()[..before], into);
+            self.own.consume(count);
             self.ahead -= count;
             self.shares.push_front_reserved(Share {
                 before: before - count,
@@ -329,45 +304,41 @@ impl Outbox {
         ensures run { take (length result.now) (drop from self.now.unread) ≡ result.now }
         ensures some { from < length self.now.unread → 0 < length result.now }
     {
-        let mut own = self.taken;
+        let mut own = self.own.as_slice();
         let mut left = from;
         for i in 0..self.shares.len() {
             let share = &self.shares[i];
             if left < share.before {
-                return &self.bytes[own + left..own + share.before];
+                return &own[left..share.before];
             }
             left -= share.before;
-            own += share.before;
+            own = &own[share.before..];
             if left < share.bytes.len() {
                 return &share.bytes.as_slice()[left..];
             }
             left -= share.bytes.len();
         }
-        let rest = &self.bytes[own..];
-        &rest[left.min(rest.len())..]
+        &own[left.min(own.len())..]
     }
 
     /// Whether it holds a buffer. Where it does not, `adopt` may save it from asking for memory.
     pub fn has_buffer(&self) -> bool
         ensures { result ≡ false → self.now.spare ≡ 0 }
     {
-        self.bytes.capacity() > 0
+        self.own.has_buffer()
     }
 
     /// Takes an empty buffer for its own, where it has none. Otherwise the buffer goes.
-    pub fn adopt(&mut self, mut buffer: Vec<u8>)
+    pub fn adopt(&mut self, buffer: Vec<u8>)
         ensures unchanged { self.new ≡ record self.old { spare = self.new.spare } }
         ensures spare_kept { self.old.spare ≤ self.new.spare }
     {
-        if self.bytes.capacity() == 0 {
-            buffer.clear();
-            self.taken = 0;
-            self.bytes = buffer;
-        }
+        self.own.adopt(buffer);
     }
 
-    /// Hands its buffer over where nothing is unread, so that another outbox may adopt it. Many
-    /// places for shared pieces go.
+    /// Hands its buffer over where nothing is unread, so that another outbox may adopt it. The outbox
+    /// is left without a buffer and without `spare`, so what it copies next wants memory or a buffer
+    /// again. It keeps its limit and whether it is cut; many places for shared pieces go.
     pub fn hand_over(&mut self) -> Option<Vec<u8>>
         ensures unchanged { self.new ≡ record self.old {
           spare = self.new.spare;
@@ -377,10 +348,8 @@ impl Outbox {
         ensures none { IfNone result ((self.new ≡ self.old) × (self.old.unread ≢ [])) }
     {
         if self.unread() == 0 {
-            self.taken = 0;
             self.shares.shrink_to(KEPT_PLACES);
-            let none = Vec::new(*self.bytes.allocator());
-            Some(mem::replace(&mut self.bytes, none))
+            Some(self.own.take_buffer())
         } else {
             None
         }
@@ -394,9 +363,8 @@ impl Outbox {
         ensures unread_kept { 0 < length self.old.unread → self.new ≡ self.old }
         ensures little_kept { self.old.spare ≤ most → self.new ≡ self.old }
     {
-        if self.unread() == 0 && self.bytes.capacity() - self.bytes.len() > most {
-            self.taken = 0;
-            self.bytes = Vec::new(*self.bytes.allocator());
+        if self.unread() == 0 {
+            self.own.release(most);
         }
     }
 }

@@ -1,18 +1,14 @@
-use Rattle.std.proofs.Common.{◌≡◌, ◌+◌, ◌-◌, take, drop, None, Some, sym, ap, ◌∙◌, arith}
-use Rattle.std.proofs.Common.{length, ◌≤◌, subst}
+use Rattle.std.proofs.Common.{◌≡◌, ◌≤◌, take, length, None, Some, sym, ap, subst, ◌∙◌, arith}
 use Rattle.line_framer.specs.Frames.{without_cr}
 use Rattle.line_framer.specs.Framed.{next_line, waiting}
-use Rattle.line_framer.proofs.Buffer.{lines_of_none, first_of_none, first_of_some, line_is_short}
+use Rattle.line_framer.proofs.Buffer.{lines_of_none, first_of_none, first_is, line_is_short}
 use Rattle.line_framer.proofs.Stands.{next_frame}
 use Rattle.line_framer.proofs.Framer.peek.Goals as goal
 
 lent : (c : goal.After-without_cr) → Some c.without_cr.result.now ≡ next_line c.args.self.now
 lent c =
-    let f = c.self.inside in
-    let b = rw c.in-Some.is at c.self.invariant.1 in
-    let size : f.start + c.in-Some.end - f.start ≡ c.in-Some.end = omega arith in
-    ap Some (c.without_cr.ensures ∙ ap without_cr (ap (λ n. take n (drop f.start c.deref.result.now)) size ∙ ap (λ xs. take c.in-Some.end (drop f.start xs)) c.deref.ensures.value))
-    ∙ sym (first_of_some (drop f.start f.buffer.items) c.in-Some.end b.next_end) ∙ ap next_line c.self.view_is
+    ap Some (c.without_cr.ensures ∙ ap (λ xs. without_cr (take c.in-Some.end xs)) c.as_slice.ensures)
+    ∙ sym (first_is c.in-Some.is c.self.invariant) ∙ ap next_line c.self.view_is
 
 pub returns-in-Some-clause-value : goal.returns-in-Some-clause-value
 returns-in-Some-clause-value c = lent c
@@ -22,8 +18,8 @@ returns-in-Some-clause-stands c = λ bytes dropped s. lent c ∙ next_frame c.ar
 
 none_lent : (c : goal.In-None) → None ≡ next_line c.args.self.now
 none_lent c =
-    let b = rw c.in-None.is at c.self.invariant.1 in
-    sym (first_of_none (drop c.self.inside.start c.self.inside.buffer.items) b.next_end) ∙ ap next_line c.self.view_is
+    let b = rw c.in-None.is at c.self.invariant in
+    sym (first_of_none c.self.inside.ahead.bytes b.next_end) ∙ ap next_line c.self.view_is
 
 pub returns-in-None-clause-value : goal.returns-in-None-clause-value
 returns-in-None-clause-value c = none_lent c
@@ -33,15 +29,10 @@ returns-in-None-clause-stands c = λ bytes dropped s. none_lent c ∙ next_frame
 
 pub returns-in-Some-clause-short : goal.returns-in-Some-clause-short
 returns-in-Some-clause-short c =
-    let f = c.self.inside in
-    let b = rw c.in-Some.is at c.self.invariant.1 in
-    let size : f.start + c.in-Some.end - f.start ≡ c.in-Some.end = omega arith in
-    let lent_is : c.without_cr.result.now ≡ without_cr (take c.in-Some.end (drop f.start f.buffer.items)) =
-    c.without_cr.ensures ∙ ap without_cr (ap (λ n. take n (drop f.start c.deref.result.now)) size ∙ ap (λ xs. take c.in-Some.end (drop f.start xs)) c.deref.ensures.value) in
-    let short : length c.without_cr.result.now ≤ f.limit = omega (arith, ap length lent_is, line_is_short (drop f.start f.buffer.items) c.in-Some.end f.whole f.limit b) in
-    subst (λ v. length c.without_cr.result.now ≤ v.limit) c.self.view_is short
+    let lent_is : c.without_cr.result.now ≡ without_cr (take c.in-Some.end c.self.inside.ahead.bytes) = c.without_cr.ensures ∙ ap (λ xs. without_cr (take c.in-Some.end xs)) c.as_slice.ensures in
+    subst (λ v. length c.without_cr.result.now ≤ v.limit) c.self.view_is (omega (arith, ap length lent_is, line_is_short c.in-Some.is c.self.invariant))
 
 pub returns-in-None-clause-none : goal.returns-in-None-clause-none
 returns-in-None-clause-none c =
-    let b = rw c.in-None.is at c.self.invariant.1 in
-    sym (ap waiting c.self.view_is) ∙ lines_of_none (drop c.self.inside.start c.self.inside.buffer.items) b.next_end
+    let b = rw c.in-None.is at c.self.invariant in
+    sym (ap waiting c.self.view_is) ∙ lines_of_none c.self.inside.ahead.bytes b.next_end
