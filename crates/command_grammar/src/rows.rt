@@ -1,7 +1,7 @@
-//! Readers of the rows of arguments that several commands have: each gives the arguments of its row,
-//! from left to right, and `src/table.rt` says which command they are for. A row is the kinds of the
-//! arguments, as `specs/Table.antt` names it. All arguments are read before one is copied, so that a
-//! fault takes no memory.
+//! Readers of the rows of arguments that several commands have. A row is the kinds of a command's
+//! arguments from left to right, and has its name in `specs/Table.antt`; `src/table.rt` says which
+//! command the arguments are for. All are read before one is copied, so that a fault takes no memory,
+//! and nothing behind the last is looked at.
 
 ghost use Rattle.std.specs.Prelude.{IsTrue};
 ghost use Rattle.line_words.specs.Bytes.{is_text};
@@ -14,6 +14,7 @@ use crate::lists::{check_words, copy_of_words};
 use line_words::{NameBuf, TextBuf, WordList};
 use std::alloc::Global;
 
+/// The next word, which is to be a name.
 pub(crate) fn one_name(alloc: Global, rest: &[u8]) -> Result<NameBuf, ReadError>
     requires { IsTrue (is_text rest.now) }
     ensures { GivesRow one_name (λ maker name. maker name) result rest.now }
@@ -22,7 +23,7 @@ pub(crate) fn one_name(alloc: Global, rest: &[u8]) -> Result<NameBuf, ReadError>
     Ok(NameBuf::copy_of(alloc, name)?)
 }
 
-/// A name, and a number from 0 to `high`.
+/// A name, and the next word, which is to be a number from 0 to `high`.
 pub(crate) fn name_and_number(
     alloc: Global,
     rest: &[u8],
@@ -36,6 +37,7 @@ pub(crate) fn name_and_number(
     Ok((NameBuf::copy_of(alloc, name)?, number as u8))
 }
 
+/// A name, and all behind one space, which may be empty.
 pub(crate) fn name_and_text(alloc: Global, rest: &[u8]) -> Result<(NameBuf, TextBuf), ReadError>
     requires { IsTrue (is_text rest.now) }
     ensures { GivesRow name_and_text (λ maker x. maker x.0 x.1) result rest.now }
@@ -48,6 +50,7 @@ pub(crate) fn name_and_text(alloc: Global, rest: &[u8]) -> Result<(NameBuf, Text
     ))
 }
 
+/// All behind one space, which may be empty.
 pub(crate) fn one_text(alloc: Global, rest: &[u8]) -> Result<TextBuf, ReadError>
     requires { IsTrue (is_text rest.now) }
     ensures { GivesRow one_text (λ maker text. maker text) result rest.now }
@@ -56,7 +59,7 @@ pub(crate) fn one_text(alloc: Global, rest: &[u8]) -> Result<TextBuf, ReadError>
     Ok(TextBuf::copy_of(alloc, text)?)
 }
 
-/// One or more words.
+/// All words, at least one.
 #[tactic(auto, using(crate::proofs::Checks::words_need_memory))]
 pub(crate) fn some_words(alloc: Global, rest: &[u8]) -> Result<WordList, ReadError>
     requires { IsTrue (is_text rest.now) }

@@ -1,7 +1,7 @@
 //! The table of commands: a line for each has its word, and what reads the arguments behind it.
 //!
 //! A word is looked for in one part of the table after another, as `specs/Table.antt` has them. Each
-//! part is a function, since all lines in one are proved far slower.
+//! part is a function, since one over all lines is proved slower.
 
 ghost use Rattle.std.specs.Prelude.{◌≡◌, IsTrue};
 ghost use Rattle.line_words.specs.Bytes.{is_text};
