@@ -9,6 +9,7 @@ use Rattle.line_framer.specs.Buffered.{HasNoEnd}
 use Rattle.line_framer.proofs.Parts.{parts_onto, parts_none, rest_has_no_end}
 use Rattle.line_framer.proofs.Limit.{too_long, short_rest}
 use Rattle.line_framer.proofs.Stands.{frames-append, spoilt-append, rest-append}
+use Rattle.std.proofs.lemmas.Bool.{le-leb}
 
 -- two pieces without an LF
 pub none_in_both : (xs ys : List ℕ) → HasNoEnd xs → HasNoEnd ys → HasNoEnd (xs ++ ys)
@@ -22,9 +23,6 @@ none_in_both xs ys hx hy k lt is =
           (sym (get_or-append-add xs ys (k - length xs) 0) ∙ ap (λ n. get_or (xs ++ ys) n 0) place ∙ is)
     ] refl
 
-fits_is : (n limit : ℕ) → n ≤ limit → nat_le n limit ≡ true
-fits_is n limit h = grind (arith, nat_tests)
-
 -- one line and its LF
 module _ (line : List ℕ) (none : HasNoEnd line) (limit : ℕ) where
   parts_of_line : parts (line ++ 10 ∷ []) ≡ ((line ++ []) ∷ [], [])
@@ -34,14 +32,14 @@ module _ (line : List ℕ) (none : HasNoEnd line) (limit : ℕ) where
   frames_of_line small =
       ap (λ (q : Parts). map without_cr (sound_lines limit q.0)) parts_of_line
       ∙ ap (λ l. map without_cr (sound_lines limit (l ∷ []))) (append-nil line)
-      ∙ ap (λ b. map without_cr (if b then line ∷ [] else [])) (fits_is (length line) limit small)
+      ∙ ap (λ b. map without_cr (if b then line ∷ [] else [])) (le-leb (length line) limit small)
 
   spoilt_of_line : length line ≤ limit → is_spoilt (line ++ 10 ∷ []) limit ≡ false
   spoilt_of_line small =
       ap (λ (q : Parts). list_any (λ part. not (fits limit part)) q.0 || not (fits limit q.1)) parts_of_line
       ∙ ap (λ l. (not (fits limit l) || false) || not (fits limit [])) (append-nil line)
-      ∙ ap (λ b. (not b || false) || not (fits limit [])) (fits_is (length line) limit small)
-      ∙ ap not (fits_is 0 limit (omega arith))
+      ∙ ap (λ b. (not b || false) || not (fits limit [])) (le-leb (length line) limit small)
+      ∙ ap not (le-leb 0 limit (omega arith))
 
 -- a stream that is not spoilt, and further bytes without an LF
 module _ (bytes more : List ℕ) (limit : ℕ) (sound : is_spoilt bytes limit ≡ false) (none : HasNoEnd more) where

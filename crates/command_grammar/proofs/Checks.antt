@@ -2,7 +2,7 @@
 use Rattle.std.proofs.Common.{◌≡◌, ℕ, List, [], ◌∷◌, ◌++◌, length, append_assoc, append-nil, refl, sym, ap, subst, ◌∙◌, Bool, true, false, cond, arith}
 use Rattle.std.specs.Prelude.{◌==◌, ◌&&◌, ◌||◌, IsTrue, Result, Ok, Err, is_ok, codes}
 use Rattle.std.specs.List.{list_all}
-use Rattle.std.proofs.lemmas.Bool.{and_parts, and_from, ne_eqb}
+use Rattle.std.proofs.lemmas.Bool.{and_parts, and_from, ne_eqb, or_parts}
 use Rattle.line_words.specs.Bytes.{is_spaces, has_byte, is_text, is_word, is_sentence}
 use Rattle.line_words.specs.Parts.{between, with_front}
 use Rattle.line_words.specs.Words.{FirstWord}
@@ -166,10 +166,6 @@ pairs_done text items e h =
 
 pub word_pushed : (items : List (List ℕ)) (left w more : List ℕ) → FirstWord left w more → (items ++ w ∷ []) ++ words_in more ≡ items ++ words_in left
 word_pushed items left w more f = append_assoc items (w ∷ []) (words_in more) ∙ ap (λ (ws : List (List ℕ)). items ++ ws) (sym (words_next f))
-
-pub or_parts : (a b : Bool) → (a || b) ≡ false → (a ≡ false) × (b ≡ false)
-or_parts true b h = absurd (let n : ⊥ = cc in n)
-or_parts false b h = (refl, h)
 
 no_tab_back : (xs ys : List ℕ) → has_byte 9 (xs ++ ys) ≡ false → has_byte 9 ys ≡ false
 no_tab_back [] ys h = h

@@ -3,7 +3,7 @@ use Rattle.std.proofs.Common.{◌≡◌, ℕ, ◌<◌, ◌≤◌, List, [], ◌�
 use Rattle.std.specs.Prelude.{◌==◌, ◌&&◌, not, nat_le, ◌⊎◌, IsTrue, MatchBool, Option, Some, None, Err}
 use Rattle.std.specs.List.{list_all}
 use Rattle.std.proofs.lemmas.Bool.Decides.{nat_tests}
-use Rattle.std.proofs.lemmas.Bool.{eqb-true, ne_eqb, and_parts, and_from}
+use Rattle.std.proofs.lemmas.Bool.{eqb-true, ne_eqb, and_parts, and_from, le-leb, leb-true}
 use Rattle.line_words.specs.Bytes.{is_spaces, has_byte, is_text, is_digit}
 use Rattle.line_words.specs.Numbers.{is_digits, value_of}
 use Rattle.line_words.specs.Parts.{before, from}
@@ -68,15 +68,9 @@ gap_ends : (gap text : List ℕ) → 0 < length gap → IsTrue (is_spaces gap) �
 gap_ends [] text h s = absurd (omega arith)
 gap_ends (x ∷ gap) text h s = eqb-true x 32 (and_first (x == 32) (is_spaces gap) s)
 
-pub le_test : (a b : ℕ) → a ≤ b → nat_le a b ≡ true
-le_test a b h = grind (arith, nat_tests)
-
-pub test_le : (a b : ℕ) → nat_le a b ≡ true → a ≤ b
-test_le a b h = grind (arith, nat_tests)
-
 -- a line that has an id is read so
 id_by : (digits : List ℕ) → IsTrue (is_digits digits) → value_of digits ≤ id_limit → id_of digits ≡ Some (value_of digits)
-id_by digits d v = rw (and_from (is_digits digits) (nat_le (value_of digits) id_limit) d (le_test (value_of digits) id_limit v)) refl
+id_by digits d v = rw (and_from (is_digits digits) (nat_le (value_of digits) id_limit) d (le-leb (value_of digits) id_limit v)) refl
 
 behind_id : (line : List ℕ) (id : ℕ) (behind : List ℕ) → 0 < length behind → with_id line (Some id) behind ≡ (Some id, without_spaces behind)
 behind_id line id [] h = absurd (omega arith)
@@ -113,7 +107,7 @@ has_id_made digits behind id e is h =
     let s = skipped behind in
     let parts = id_test digits (is_id digits) refl id is in
     let both = and_parts (is_digits digits) (nat_le (value_of digits) id_limit) parts.0 in
-    let small = test_le (value_of digits) id_limit both.1 in
+    let small = leb-true (value_of digits) id_limit both.1 in
     let same = parts.1 in
     record {
       digits = digits;

@@ -2,7 +2,7 @@
 use Rattle.std.proofs.Common.{◌≡◌, ℕ, ◌<◌, List, [], ◌∷◌, ◌++◌, length, refl, ap, subst, ◌∙◌, Bool, true, false, cond, arith}
 use Rattle.std.specs.Prelude.{◌==◌, not, nat_le, IsTrue, Ok, Err}
 use Rattle.std.specs.List.{list_all}
-use Rattle.std.proofs.lemmas.Bool.{and_parts, and_from, not-true}
+use Rattle.std.proofs.lemmas.Bool.{and_parts, and_from, not-true, le-leb}
 use Rattle.line_words.specs.Bytes.{is_spaces, has_byte, is_text, is_text_byte, is_word, is_word_byte, is_sentence, is_sentence_byte}
 use Rattle.line_words.specs.Sentences.{between_tabs}
 use Rattle.line_words.specs.Parts.{before, from, between, with_front}
@@ -10,7 +10,6 @@ use Rattle.line_words.specs.Words.{FirstWord}
 use Rattle.command_grammar.specs.declared.command.ReadFault.TheVariants as fault
 use Rattle.command_grammar.specs.Reading.{without_spaces, checked_word, word_at}
 use Rattle.command_grammar.proofs.Cuts.{first_word_is, spaces_skipped, nor_first, nor_second}
-use Rattle.command_grammar.proofs.Lines.{le_test}
 
 pub word_missing : (rest : List ℕ) → IsTrue (is_spaces rest) → word_at rest ≡ Err fault.MissingArgument
 unfolding word_at
@@ -71,7 +70,7 @@ word_bytes (x ∷ w) h s t =
 pub word_kind : (rest w r : List ℕ) → IsTrue (is_text rest) → FirstWord rest w r → has_byte 9 w ≡ false → IsTrue (is_word w)
 word_kind rest w r h f t =
     let whole : IsTrue (is_text (f.gap ++ (w ++ r))) = subst (λ s. IsTrue (is_text s)) f.whole h in
-    and_from (nat_le 1 (length w)) (list_all is_word_byte w) (le_test 1 (length w) (let s = f.some_byte in omega arith))
+    and_from (nat_le 1 (length w)) (list_all is_word_byte w) (le-leb 1 (length w) (let s = f.some_byte in omega arith))
     (word_bytes w (text_front w r (text_back f.gap (w ++ r) whole)) f.no_space t)
 
 -- The sentences of a text are sentences.

@@ -2,7 +2,7 @@
 use Rattle.std.proofs.Common.{◌≡◌, ℕ, ◌+◌, ◌≤◌, ◌<◌, List, [], ◌∷◌, ◌++◌, length, length-append, refl, ap, subst, Bool, true, false, cond, inl, inr, arith}
 use Rattle.std.specs.Prelude.{ℤ, pos, negsuc, ◌≤ℤ◌, ◌⊎◌, ◌==◌, nat_le, IsTrue, MatchBool, Some, None, sum_by}
 use Rattle.std.specs.List.{list_any, list_all}
-use Rattle.std.proofs.lemmas.Bool.{and_parts, and_from}
+use Rattle.std.proofs.lemmas.Bool.{and_parts, and_from, or_parts, le-leb}
 use Rattle.std.proofs.lemmas.Int.{ints}
 use Rattle.std.proofs.lemmas.List.Sums.{sum_by-cons}
 use Rattle.line_words.specs.Bytes.{has_byte, is_key, is_name, is_sentence, is_sentence_byte, is_text, is_word}
@@ -24,8 +24,6 @@ use Rattle.command_grammar.specs.Table as kind
 use Rattle.command_grammar.specs.Table.{Kind, Value, Values, Maker}
 use Rattle.command_grammar.proofs.Sequences.{first}
 use Rattle.command_grammar.proofs.Slices.{text_back, text_behind, word_kind, sentence_front, sentence_kinds}
-use Rattle.command_grammar.proofs.Checks.{or_parts}
-use Rattle.command_grammar.proofs.Lines.{le_test}
 
 -- the line was not read
 abbrev pub IsUnread : Command → Type 0
@@ -100,7 +98,7 @@ number_taken low high K rest c h m = unless_unread (word_taken (NumberWord low h
     by t (inr x) = inl (_, x.1)
 
 up_to : (n high : ℕ) (z : ℤ) → z ≡ pos n → z ≤ℤ pos high → IsTrue (is_up_to high n)
-up_to n high z e h = le_test n high (let k : pos n ≤ℤ pos high = subst (λ y. y ≤ℤ pos high) e h in omega (arith, ints))
+up_to n high z e h = le-leb n high (let k : pos n ≤ℤ pos high = subst (λ y. y ≤ℤ pos high) e h in omega (arith, ints))
 
 natural_taken : (high : ℕ) (K : ℕ → List ℕ → Command → Type 0) (rest : List ℕ) (c : Command) → IsTrue (is_text rest) → Natural high K rest c → IsUnread c ⊎ Taken (kind.Natural high) K rest c
 natural_taken high K rest c h m = unless_unread (number_taken (pos 0) (pos high) (λ z behind c. (n : ℕ) × (z ≡ pos n) × K n behind c) rest c h m) λ t. inr (record {
@@ -113,14 +111,14 @@ natural_taken high K rest c h m = unless_unread (number_taken (pos 0) (pos high)
 })
 
 wide : (z : ℤ) → negsuc 2147483647 ≤ℤ z → z ≤ℤ pos 4294967295 → IsTrue (is_wide z)
-wide (pos n) l h = le_test n 4294967295 (omega (arith, ints))
-wide (negsuc n) l h = le_test n 2147483647 (omega (arith, ints))
+wide (pos n) l h = le-leb n 4294967295 (omega (arith, ints))
+wide (negsuc n) l h = le-leb n 2147483647 (omega (arith, ints))
 
 -- Lists
 
 at_least_one_taken : {A : Type 0} (test : A → Bool) (K : List A → Command → Type 0) (xs : List A) (c : Command) → IsTrue (list_all test xs) → AtLeastOne K xs c → IsUnread c ⊎ (IsTrue (are_some test xs) × K xs c)
 at_least_one_taken test K [] c h m = inl (_, m)
-at_least_one_taken test K (x ∷ xs) c h m = inr (and_from (nat_le 1 (length (x ∷ xs))) (list_all test (x ∷ xs)) (le_test 1 (length (x ∷ xs)) (omega arith)) h, m)
+at_least_one_taken test K (x ∷ xs) c h m = inr (and_from (nat_le 1 (length (x ∷ xs))) (list_all test (x ∷ xs)) (le-leb 1 (length (x ∷ xs)) (omega arith)) h, m)
 
 -- the sentences of a text take one byte more than it
 parts_some : (stop : ℕ) (bs : List ℕ) → 0 < length (between stop bs)

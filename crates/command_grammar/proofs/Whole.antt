@@ -1,7 +1,7 @@
 -- What the readers of a whole line make of it.
 use Rattle.std.proofs.Common.{◌≡◌, ℕ, List, [], ◌∷◌, refl, sym, ap, subst, ◌∙◌, Bool, true, false, cond, inl, arith}
 use Rattle.std.specs.Prelude.{ℤ, pos, ◌≤ℤ◌, IsTrue, Option, Some, None, Result, Ok, Err, nat_le}
-use Rattle.std.proofs.lemmas.Bool.{and_parts}
+use Rattle.std.proofs.lemmas.Bool.{and_parts, leb-true}
 use Rattle.std.proofs.lemmas.Int.{ints}
 use Rattle.line_words.specs.Numbers.{IsNumeral, is_digits, value_of}
 use Rattle.command_grammar.specs.declared.command.ReadFault.{ReadFault}
@@ -10,7 +10,7 @@ use Rattle.command_grammar.specs.declared.command.Request.{Request}
 use Rattle.command_grammar.specs.Owning.{owns_bytes}
 use Rattle.command_grammar.specs.Reads.{Reads, id_limit}
 use Rattle.command_grammar.specs.Reading.{without_spaces, command_of, needs_memory, text_of, is_id, id_of, numbered, request_with, request_of}
-use Rattle.command_grammar.proofs.Lines.{request_only, test_le}
+use Rattle.command_grammar.proofs.Lines.{request_only}
 
 numeral : (digits : List ℕ) → IsTrue (is_digits digits) → IsNumeral digits (pos (value_of digits))
 numeral [] h = absurd (let n : ⊥ = cc in n)
@@ -19,7 +19,7 @@ numeral (b ∷ bs) h = inl (h, refl)
 no_id_by : (digits : List ℕ) (t : Bool) → is_id digits ≡ t → ((z : ℤ) → IsNumeral digits z → pos 0 ≤ℤ z → z ≤ℤ pos id_limit → ⊥) → None ≡ cond t (Some (value_of digits)) None
 no_id_by digits true is none =
     let both = and_parts (is_digits digits) (nat_le (value_of digits) id_limit) is in
-    let small = test_le (value_of digits) id_limit both.1 in
+    let small = leb-true (value_of digits) id_limit both.1 in
     absurd (none (pos (value_of digits)) (numeral digits both.0) (omega (arith, ints)) (omega (arith, ints)))
 no_id_by digits false is none = refl
 

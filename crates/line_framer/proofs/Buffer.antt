@@ -6,7 +6,8 @@ use Rattle.line_framer.specs.Frames.{Parts, lines_in, rest_of, fits, without_cr}
 use Rattle.line_framer.specs.Framed.{first}
 use Rattle.line_framer.specs.Buffered.{HasNoEnd, FirstEndAt, IsFirstEnd, IsBuffered}
 use Rattle.line_framer.proofs.Parts.{parts_none, parts_first, rest_has_no_end}
-use Rattle.line_framer.proofs.Limit.{any_long, spoilt_in, or_first}
+use Rattle.line_framer.proofs.Limit.{any_long, spoilt_in}
+use Rattle.std.proofs.lemmas.Bool.{or_parts}
 
 or-false : (a b c : Bool) → ((a || b) || c) ≡ false → (b || c) ≡ false
 or-false true b c h = absurd (subst T h tt)
@@ -83,7 +84,7 @@ module _ {a : List ℕ} {next : Option ℕ} {n whole limit : ℕ} (is : next ≡
   pub line_is_short : length (without_cr (take n a)) ≤ limit
   line_is_short =
       let e : ((not (fits limit (take n a)) || any_long limit (lines_in (drop (n + 1) a))) || not (fits limit (rest_of (drop (n + 1) a)))) ≡ false = sym (ap (spoilt_in limit) (parts_first a n ends)) ∙ b.sound in
-      let fit : not (fits limit (take n a)) ≡ false = or_first _ _ (or_first _ _ e) in
+      let fit : not (fits limit (take n a)) ≡ false = (or_parts _ _ (or_parts _ _ e).0).0 in
       let short : length (take n a) ≤ limit = grind (arith) in
       omega (arith, without_cr_shorter (take n a))
 

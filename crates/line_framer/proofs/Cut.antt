@@ -8,6 +8,7 @@ use Rattle.line_framer.specs.Frames.{with_ends, Parts, lines_in, rest_of, sound_
 use Rattle.line_framer.specs.Buffered.{HasNoEnd, LastEndAt, IsCut}
 use Rattle.line_framer.proofs.Parts.{parts_none, rest-end}
 use Rattle.line_framer.proofs.Limit.{spoilt_behind, lines_behind, rest_behind, too_long, short_rest}
+use Rattle.std.proofs.lemmas.Bool.{leb-true}
 
 -- the first bytes are whole lines that fit, and what is behind them decides
 pub record Behind (bytes : List ℕ) (limit whole : ℕ) : Type 0 where
@@ -62,9 +63,6 @@ nothing_cut t limit = record { spoilt = refl; lines = refl; rest = refl }
 lt-of-leb : (a b : ℕ) → nat_le a b ≡ false → b < a
 lt-of-leb a b h = grind (arith)
 
-le-of-leb : (a b : ℕ) → nat_le a b ≡ true → a ≤ b
-le-of-leb a b h = grind (arith)
-
 -- the window of the piece that is searched: what is behind the whole lines and behind the unfinished line
 module _ (rest piece : List ℕ) (whole from size : ℕ) (none : HasNoEnd rest) (at : length rest + from ≡ max whole (length rest)) where
   in_window : (k : ℕ) → k < size → get_or (take size (drop from piece)) k 0 ≡ get_or (rest ++ piece) (length rest + (from + k)) 0
@@ -76,7 +74,7 @@ module _ (rest piece : List ℕ) (whole from size : ℕ) (none : HasNoEnd rest) 
   none_up_to low w k above behind within below =
       elim (nat_le (length rest) k) as (λ b. nat_le (length rest) k ≡ b → get_or (rest ++ piece) k 0 ≢ 10) [
         | true ↦ λ e is.
-            let h : length rest ≤ k = le-of-leb (length rest) k e in
+            let h : length rest ≤ k = leb-true (length rest) k e in
             let b : length rest + from + low ≤ k = behind h in
             let j = k - (length rest + from) in
             let same : length rest + (from + j) ≡ k = omega arith in

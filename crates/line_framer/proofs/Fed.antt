@@ -7,9 +7,10 @@ use Rattle.line_framer.specs.Frames.{with_ends, Parts, parts, lines_in, rest_of,
 use Rattle.line_framer.specs.Framed.{TookIn}
 use Rattle.line_framer.specs.Buffered.{HasNoEnd, IsFirstEnd, IsBuffered, IsCut}
 use Rattle.line_framer.proofs.Parts.{joined, rest_has_no_end, with_ends-append}
-use Rattle.line_framer.proofs.Limit.{all_sound, or_first, parts_of_sound, sound_is_sound}
+use Rattle.line_framer.proofs.Limit.{all_sound, parts_of_sound, sound_is_sound}
 use Rattle.line_framer.proofs.Stands.{lines-append, spoilt-append, rest-append, stands_fed}
 use Rattle.line_framer.proofs.Buffer.{none_behind_whole}
+use Rattle.std.proofs.lemmas.Bool.{or_parts}
 
 -- where no LF stands behind a place, a cut there keeps the first one
 narrowed : (xs : List ℕ) (w : ℕ) → ((k : ℕ) → w ≤ k → k < length xs → get_or xs k 0 ≢ 10) → (next : Option ℕ) → IsFirstEnd xs next → IsFirstEnd (take w xs) next
@@ -59,7 +60,7 @@ module _ {a : List ℕ} (piece : List ℕ) {next : Option ℕ} {whole limit : �
     fed_sound = spoilt-append a piece limit b.sound ∙ sym c.spoilt_is
 
     pub fed_lines : lines_in (a ++ piece) ≡ sound_lines limit (lines_in (a ++ piece))
-    fed_lines = sym (all_sound limit (lines_in (a ++ piece)) (or_first _ _ fed_sound))
+    fed_lines = sym (all_sound limit (lines_in (a ++ piece)) (or_parts _ _ fed_sound).0)
 
     pub fed_buffer : {new : Option ℕ} → IsFirstEnd (a ++ piece) new → IsBuffered (a ++ piece) new (whole + cut) limit
     fed_buffer found = record {

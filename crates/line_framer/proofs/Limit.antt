@@ -7,15 +7,10 @@ use Rattle.line_framer.specs.Frames.{without_cr, with_ends, Parts, parts, with_b
 use Rattle.line_framer.specs.Buffered.{HasNoEnd}
 use Rattle.line_framer.specs.Laws.{IsPlainLine, ComesOut}
 use Rattle.line_framer.proofs.Parts.{behind, parts-append, onto, parts_onto, parts_none, joined, with_ends-append}
-
-le-leb : (a b : ℕ) → a ≤ b → nat_le a b ≡ true
-le-leb a b h = grind (arith)
+use Rattle.std.proofs.lemmas.Bool.{or_parts, le-leb}
 
 lt-leb : (a b : ℕ) → b < a → nat_le a b ≡ false
 lt-leb a b h = grind (arith)
-
-leb-le : (a b : ℕ) → nat_le a b ≡ true → a ≤ b
-leb-le a b h = grind (arith)
 
 abbrev pub any_long : ℕ → List (List ℕ) → Bool
 any_long limit ls = list_any (λ part. not (fits limit part)) ls
@@ -64,14 +59,6 @@ all_sound limit (l ∷ ls) =
       | true ↦ λ h. ap (λ xs. l ∷ xs) (all_sound limit ls h)
       | false ↦ λ h. absurd (subst T h tt)
     ]
-
-pub or_first : (a b : Bool) → (a || b) ≡ false → a ≡ false
-or_first true b e = e
-or_first false b e = refl
-
-pub or_second : (a b : Bool) → (a || b) ≡ false → b ≡ false
-or_second true b e = absurd (subst T e tt)
-or_second false b e = e
 
 -- lines fit that take few bytes in all
 short_lines : (limit : ℕ) (ls : List (List ℕ)) → length (with_ends ls) ≤ limit + 1 → any_long limit ls ≡ false
@@ -141,8 +128,8 @@ lines_no_lf (x ∷ xs) =
 parts_line : (p t : List ℕ) → NoLf p → parts (p ++ 10 ∷ t) ≡ (p ∷ lines_in t, rest_of t)
 parts_line [] t h = refl
 parts_line (x ∷ p) t h =
-    ap (λ b. if b then ([] ∷ (parts (p ++ 10 ∷ t)).0, (parts (p ++ 10 ∷ t)).1) else with_byte x (parts (p ++ 10 ∷ t))) (or_first (x == 10) _ h)
-    ∙ ap (with_byte x) (parts_line p t (or_second (x == 10) _ h))
+    ap (λ b. if b then ([] ∷ (parts (p ++ 10 ∷ t)).0, (parts (p ++ 10 ∷ t)).1) else with_byte x (parts (p ++ 10 ∷ t))) (or_parts (x == 10) _ h).0
+    ∙ ap (with_byte x) (parts_line p t (or_parts (x == 10) _ h).1)
 
 parts-with_ends : (ls : List (List ℕ)) → AllByRecursion NoLf ls → parts (with_ends ls) ≡ (ls, [])
 parts-with_ends [] h = refl
