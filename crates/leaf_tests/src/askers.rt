@@ -106,15 +106,15 @@ fn drops_asker(room: &mut Room, user: &[u8]) -> bool {
     }
 }
 
-fn takes(room: &mut Room, alloc: Global, step: Step) -> bool {
+fn takes(room: &mut Room, alloc: Global, step: &Step) -> bool {
     match step {
-        Step::Asks(user, password) => asks(room, alloc, user, password),
-        Step::IsTaken(user, wanted) => gives(room, user, wanted),
+        Step::Asks(user, password) => asks(room, alloc, user, *password),
+        Step::IsTaken(user, wanted) => gives(room, user, *wanted),
         Step::IsLetIn(user) => lets_in(room, user),
         Step::IsDropped(user) => drops_asker(room, user),
         Step::Joins(user) => join(room, user),
         Step::Askers(wanted) => has_askers(room, wanted),
-        Step::AsksWith(user, password) => asks_with(room, user, password),
+        Step::AsksWith(user, password) => asks_with(room, user, *password),
         Step::AsksNot(user) => !asks_with(room, user, None),
         Step::Members(wanted) => has_members(room, wanted),
     }
@@ -122,7 +122,7 @@ fn takes(room: &mut Room, alloc: Global, step: Step) -> bool {
 
 fn take_all(rt: &impl Abort, room: &mut Room, alloc: Global, steps: &[Step]) {
     for (k, step) in steps.iter().enumerate() {
-        same_for(rt, &k, takes(room, alloc, *step), true);
+        same_for(rt, &k, takes(room, alloc, step), true);
     }
 }
 
@@ -137,7 +137,7 @@ fn play(rt: &impl Abort, alloc: Global, steps: &[Step]) {
     }
 }
 
-const TAKEN_ONCE: [Step; 10] = [
+static TAKEN_ONCE: [Step; 10] = [
     Step::Asks(b"Bert", Some(b"pw9")),
     Step::Asks(b"Cleo", None),
     Step::Askers(&[(b"Bert", Some(b"pw9")), (b"Cleo", None)]),
@@ -155,7 +155,7 @@ fn each_request_is_taken_once(rt: HostRuntime) {
     play(&rt, rt.alloc(), &TAKEN_ONCE);
 }
 
-const LET_IN: [Step; 6] = [
+static LET_IN: [Step; 6] = [
     Step::Asks(b"Bert", Some(b"pw9")),
     Step::Asks(b"Cleo", None),
     Step::IsLetIn(b"Bert"),
@@ -169,7 +169,7 @@ fn one_who_is_let_in_asks_no_more(rt: HostRuntime) {
     play(&rt, rt.alloc(), &LET_IN);
 }
 
-const DROPPED: [Step; 10] = [
+static DROPPED: [Step; 10] = [
     Step::Asks(b"Bert", Some(b"pw9")),
     Step::Asks(b"Cleo", None),
     Step::IsDropped(b"Bert"),

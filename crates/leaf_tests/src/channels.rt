@@ -33,11 +33,16 @@ fn join(book: &mut ChannelBook, channel: &NameBuf, user: &NameBuf) -> Result<(),
     }
 }
 
-/// What is answered to one who joins; nothing where these are no names.
-fn joins(book: &mut ChannelBook, channel: &[u8], user: &[u8]) -> Option<Result<(), ChannelError>> {
-    let channel = NameBuf::of(channel)?;
-    let user = NameBuf::of(user)?;
-    Some(join(book, &channel, &user))
+fn joins(
+    book: &mut ChannelBook,
+    channel: &[u8],
+    user: &[u8],
+    wanted: Result<(), ChannelError>,
+) -> bool {
+    match (NameBuf::of(channel), NameBuf::of(user)) {
+        (Some(channel), Some(user)) => join(book, &channel, &user) == wanted,
+        _ => false,
+    }
 }
 
 fn shows(found: Option<&NameBuf>, wanted: Option<&[u8]>) -> bool {
@@ -90,11 +95,11 @@ fn is_in(book: &ChannelBook, user: &[u8], wanted: &[&[u8]]) -> bool {
     same
 }
 
-/// What is answered to one who leaves; nothing where these are no names.
-fn leaves(book: &mut ChannelBook, channel: &[u8], user: &[u8]) -> Option<Result<(), ChannelError>> {
-    let channel = NameBuf::of(channel)?;
-    let user = NameBuf::of(user)?;
-    Some(book.leave(&channel, &user))
+fn leaves(book: &mut ChannelBook, channel: &[u8], user: &[u8]) -> bool {
+    match (NameBuf::of(channel), NameBuf::of(user)) {
+        (Some(channel), Some(user)) => book.leave(&channel, &user).is_ok(),
+        _ => false,
+    }
 }
 
 fn has_named(book: &ChannelBook, channel: &[u8], wanted: &[&[u8]]) -> bool {
@@ -114,25 +119,21 @@ fn leaves_all(book: &mut ChannelBook, user: &[u8]) -> bool {
     }
 }
 
-// Takes the step of this place in a table.
-fn take(rt: &impl Abort, book: &mut ChannelBook, k: usize, step: Step) {
+/// Whether a step comes out as it says.
+fn takes(book: &mut ChannelBook, step: &Step) -> bool {
     match step {
-        Step::Joins(channel, user, wanted) => {
-            same_for(rt, &k, joins(book, channel, user), Some(wanted))
-        }
-        Step::Leaves(channel, user) => {
-            same_for(rt, &k, leaves(book, channel, user), Some(Ok(())))
-        }
-        Step::LeavesAll(user) => same_for(rt, &k, leaves_all(book, user), true),
-        Step::Members(channel, names) => same_for(rt, &k, has_named(book, channel, names), true),
-        Step::Channels(channels) => same_for(rt, &k, has_channels(book, channels), true),
-        Step::IsIn(user, channels) => same_for(rt, &k, is_in(book, user, channels), true),
+        Step::Joins(channel, user, wanted) => joins(book, channel, user, *wanted),
+        Step::Leaves(channel, user) => leaves(book, channel, user),
+        Step::LeavesAll(user) => leaves_all(book, user),
+        Step::Members(channel, names) => has_named(book, channel, names),
+        Step::Channels(channels) => has_channels(book, channels),
+        Step::IsIn(user, channels) => is_in(book, user, channels),
     }
 }
 
 fn take_all(rt: &impl Abort, book: &mut ChannelBook, steps: &[Step]) {
     for (k, step) in steps.iter().enumerate() {
-        take(rt, book, k, *step);
+        same_for(rt, &k, takes(book, step), true);
     }
 }
 
@@ -143,7 +144,7 @@ fn play(rt: &impl Abort, alloc: Global, steps: &[Step]) {
     drop(book);
 }
 
-const MEMBERS: [Step; 8] = [
+static MEMBERS: [Step; 8] = [
     Step::Channels(&[]),
     Step::Joins(b"main", b"Bert", Ok(())),
     Step::Joins(b"main", b"Anna", Ok(())),
@@ -159,7 +160,7 @@ fn members_stand_in_order_of_joining(rt: HostRuntime) {
     play(&rt, rt.alloc(), &MEMBERS);
 }
 
-const CHANNELS: [Step; 8] = [
+static CHANNELS: [Step; 8] = [
     Step::Joins(b"aa", b"Anna", Ok(())),
     Step::Joins(b"_", b"Anna", Ok(())),
     Step::Joins(b"a", b"Anna", Ok(())),
@@ -175,7 +176,7 @@ fn channels_stand_in_the_order_of_their_bytes(rt: HostRuntime) {
     play(&rt, rt.alloc(), &CHANNELS);
 }
 
-const CHANNELS_OF_A_USER: [Step; 7] = [
+static CHANNELS_OF_A_USER: [Step; 7] = [
     Step::Joins(b"main", b"Anna", Ok(())),
     Step::Joins(b"big", b"Anna", Ok(())),
     Step::Joins(b"Z", b"Anna", Ok(())),
@@ -190,7 +191,7 @@ fn the_channels_of_a_user_stand_in_the_order_of_their_bytes(rt: HostRuntime) {
     play(&rt, rt.alloc(), &CHANNELS_OF_A_USER);
 }
 
-const LAST_CHANNEL: [Step; 11] = [
+static LAST_CHANNEL: [Step; 11] = [
     Step::Joins(b"main", b"Anna", Ok(())),
     Step::Joins(b"big", b"Anna", Ok(())),
     Step::Joins(b"main", b"Bert", Ok(())),

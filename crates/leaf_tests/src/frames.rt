@@ -8,12 +8,13 @@ use std::rt::HostRuntime;
 
 const LIMIT: usize = 8192;
 
+/// A size of pieces that cuts nothing.
+const WHOLE: usize = 16_384;
+
 /// What comes, with what is answered, and what is next then.
 #[derive(Clone, Copy)]
 enum Step {
     Comes(&'static [u8], Result<(), FeedError>),
-    /// All of it comes in pieces of this size, and each is taken in.
-    ComesInPieces(&'static [u8], usize),
     /// The next line is this, and it is dropped.
     Next(&'static [u8]),
     /// The next line has so many bytes.
@@ -23,7 +24,7 @@ enum Step {
 }
 
 // Takes off the next line where it is the one that is wanted.
-fn takes(framer: &mut Framer, want: &[u8]) -> bool {
+fn takes_off(framer: &mut Framer, want: &[u8]) -> bool {
     if framer.next_len() != Some(want.len()) {
         return false;
     }
@@ -45,7 +46,7 @@ fn fed(framer: &mut Framer, piece: &[u8]) -> Result<(), FeedError> {
     }
 }
 
-// A size of nothing counts as one byte.
+// What comes is fed in pieces of this size; a size of nothing counts as one byte.
 fn fed_in_pieces(framer: &mut Framer, stream: &[u8], size: usize) -> Result<(), FeedError> {
     for piece in stream.chunks(size.max(1)) {
         fed(framer, piece)?;
@@ -53,53 +54,51 @@ fn fed_in_pieces(framer: &mut Framer, stream: &[u8], size: usize) -> Result<(), 
     Ok(())
 }
 
-fn take(rt: &impl Abort, framer: &mut Framer, k: usize, step: Step) {
+/// Whether a step comes out as it says.
+fn takes(framer: &mut Framer, size: usize, step: &Step) -> bool {
     match step {
-        Step::Comes(piece, wanted) => same_for(rt, &k, fed(framer, piece), wanted),
-        Step::ComesInPieces(stream, size) => {
-            same_for(rt, &k, fed_in_pieces(framer, stream, size), Ok(()))
-        }
-        Step::Next(line) => same_for(rt, &k, takes(framer, line), true),
-        Step::NextLen(len) => same_for(rt, &k, framer.next_len(), Some(len)),
-        Step::NothingIsNext => {
-            same_for(rt, &k, framer.next_len(), None);
-            same_for(rt, &k, framer.peek(), None);
-        }
-        Step::IsSpoilt(is_so) => same_for(rt, &k, framer.is_spoilt(), is_so),
+        Step::Comes(stream, wanted) => fed_in_pieces(framer, stream, size) == *wanted,
+        Step::Next(line) => takes_off(framer, line),
+        Step::NextLen(len) => framer.next_len() == Some(*len),
+        Step::NothingIsNext => framer.next_len().is_none() && framer.peek().is_none(),
+        Step::IsSpoilt(is_so) => framer.is_spoilt() == *is_so,
     }
 }
 
-fn take_all(rt: &impl Abort, framer: &mut Framer, steps: &[Step]) {
+fn take_all(rt: &impl Abort, framer: &mut Framer, size: usize, steps: &[Step]) {
     for (k, step) in steps.iter().enumerate() {
-        take(rt, framer, k, *step);
+        same_for(rt, &(size, k), takes(framer, size, step), true);
     }
 }
 
-/// Takes these steps with a new framer.
-fn play(rt: &impl Abort, alloc: Global, limit: usize, steps: &[Step]) {
+/// Takes these steps with a new framer of this limit; what comes is cut into pieces of this size.
+fn play(rt: &impl Abort, alloc: Global, limit: usize, size: usize, steps: &[Step]) {
     let mut framer = Framer::new(alloc, limit);
-    take_all(rt, &mut framer, steps);
+    take_all(rt, &mut framer, size, steps);
     drop(framer);
 }
 
+static SIZES: [usize; 4] = [1, 2, 7, 64];
+
+static CUT: [Step; 8] = [
+    Step::Comes(b"PING\r\nSAY main a\rb\n\n\r\r\nEXIT", Ok(())),
+    Step::Next(b"PING"),
+    Step::Next(b"SAY main a\rb"),
+    Step::Next(b""),
+    Step::Next(b"\r"),
+    Step::NothingIsNext,
+    Step::Comes(b"\n", Ok(())),
+    Step::Next(b"EXIT"),
+];
+
 #[test]
 fn a_line_is_one_however_it_is_cut(rt: HostRuntime) {
-    for size in [1, 2, 7, 64] {
-        let steps = [
-            Step::ComesInPieces(b"PING\r\nSAY main a\rb\n\n\r\r\nEXIT", size),
-            Step::Next(b"PING"),
-            Step::Next(b"SAY main a\rb"),
-            Step::Next(b""),
-            Step::Next(b"\r"),
-            Step::NothingIsNext,
-            Step::Comes(b"\n", Ok(())),
-            Step::Next(b"EXIT"),
-        ];
-        play(&rt, rt.alloc(), LIMIT, &steps);
+    for size in &SIZES {
+        play(&rt, rt.alloc(), LIMIT, *size, &CUT);
     }
 }
 
-const LATE_LF: [Step; 6] = [
+static LATE_LF: [Step; 6] = [
     Step::Comes(b"PI", Ok(())),
     Step::Comes(b"NG\r", Ok(())),
     Step::NothingIsNext,
@@ -110,10 +109,10 @@ const LATE_LF: [Step; 6] = [
 
 #[test]
 fn a_cr_is_dropped_though_its_lf_comes_in_the_next_piece(rt: HostRuntime) {
-    play(&rt, rt.alloc(), LIMIT, &LATE_LF);
+    play(&rt, rt.alloc(), LIMIT, WHOLE, &LATE_LF);
 }
 
-const AT_THE_LIMIT: [Step; 4] = [
+static AT_THE_LIMIT: [Step; 4] = [
     Step::Comes(&[b'A'; 8192], Ok(())),
     Step::Comes(b"\n", Ok(())),
     Step::NextLen(8192),
@@ -122,10 +121,10 @@ const AT_THE_LIMIT: [Step; 4] = [
 
 #[test]
 fn a_line_of_8192_bytes_is_a_line(rt: HostRuntime) {
-    play(&rt, rt.alloc(), LIMIT, &AT_THE_LIMIT);
+    play(&rt, rt.alloc(), LIMIT, WHOLE, &AT_THE_LIMIT);
 }
 
-const OVER_THE_LIMIT: [Step; 6] = [
+static OVER_THE_LIMIT: [Step; 6] = [
     Step::Comes(b"PING\nEX", Ok(())),
     Step::Comes(&[b'A'; 8191], Err(FeedError::Spoilt)),
     Step::IsSpoilt(true),
@@ -136,10 +135,10 @@ const OVER_THE_LIMIT: [Step; 6] = [
 
 #[test]
 fn a_line_of_8193_bytes_spoils_and_the_line_before_it_is_kept(rt: HostRuntime) {
-    play(&rt, rt.alloc(), LIMIT, &OVER_THE_LIMIT);
+    play(&rt, rt.alloc(), LIMIT, WHOLE, &OVER_THE_LIMIT);
 }
 
-const MANY_LINES: [Step; 3] = [
+static MANY_LINES: [Step; 3] = [
     Step::Comes(b"PING\nPONG\r\nEXIT\nPING\n", Err(FeedError::Spoilt)),
     Step::Next(b"PING"),
     Step::NothingIsNext,
@@ -147,5 +146,5 @@ const MANY_LINES: [Step; 3] = [
 
 #[test]
 fn a_piece_of_many_lines_may_be_longer_than_the_limit(rt: HostRuntime) {
-    play(&rt, rt.alloc(), 4, &MANY_LINES);
+    play(&rt, rt.alloc(), 4, WHOLE, &MANY_LINES);
 }

@@ -47,40 +47,46 @@ fn shares(outbox: &mut Outbox, bytes: &'static [u8]) -> bool {
     true
 }
 
-/// What is done.
-fn act(rt: &impl Abort, outbox: &mut Outbox, buffer: &mut [u8; 8], k: usize, step: Step) {
-    match step {
-        Step::Puts(bytes) => same_for(rt, &k, puts(outbox, bytes), true),
-        Step::Shares(bytes) => same_for(rt, &k, shares(outbox, bytes), true),
-        Step::RefusesToShare(bytes) => same_for(rt, &k, shares(outbox, bytes), false),
-        Step::CopiesFrom(place, count, bytes) => {
-            same_for(rt, &k, outbox.copy_from(place, buffer), count);
-            same_for(rt, &k, &*buffer, bytes);
-        }
-        Step::Takes(count, bytes) => {
-            same_for(rt, &k, outbox.take(buffer), count);
-            same_for(rt, &k, &*buffer, bytes);
-        }
-        Step::Releases => outbox.release(0),
-        Step::Cuts => outbox.cut(),
-        _ => show(rt, outbox, k, step),
-    }
+fn copies(
+    outbox: &Outbox,
+    buffer: &mut [u8; 8],
+    place: usize,
+    count: usize,
+    bytes: &[u8; 8],
+) -> bool {
+    outbox.copy_from(place, buffer) == count && *buffer == *bytes
 }
 
-/// What it shows.
-fn show(rt: &impl Abort, outbox: &Outbox, k: usize, step: Step) {
+fn takes(outbox: &mut Outbox, buffer: &mut [u8; 8], count: usize, bytes: &[u8; 8]) -> bool {
+    outbox.take(buffer) == count && *buffer == *bytes
+}
+
+/// Does what a step says, and whether it comes out so.
+fn acts(outbox: &mut Outbox, buffer: &mut [u8; 8], step: &Step) -> bool {
     match step {
-        Step::Unread(count) => same_for(rt, &k, outbox.unread(), count),
-        Step::HasRoomFor(count) => same_for(rt, &k, outbox.room_for(count), true),
-        Step::HasNoRoomFor(count) => same_for(rt, &k, outbox.room_for(count), false),
-        Step::IsCut(is_so) => same_for(rt, &k, outbox.is_cut(), is_so),
-        _ => {}
+        Step::Puts(bytes) => puts(outbox, bytes),
+        Step::Shares(bytes) => shares(outbox, bytes),
+        Step::RefusesToShare(bytes) => !shares(outbox, bytes),
+        Step::CopiesFrom(place, count, bytes) => copies(outbox, buffer, *place, *count, bytes),
+        Step::Takes(count, bytes) => takes(outbox, buffer, *count, bytes),
+        Step::Releases => {
+            outbox.release(0);
+            true
+        }
+        Step::Cuts => {
+            outbox.cut();
+            true
+        }
+        Step::Unread(count) => outbox.unread() == *count,
+        Step::HasRoomFor(count) => outbox.room_for(*count),
+        Step::HasNoRoomFor(count) => !outbox.room_for(*count),
+        Step::IsCut(is_so) => outbox.is_cut() == *is_so,
     }
 }
 
 fn act_all(rt: &impl Abort, outbox: &mut Outbox, buffer: &mut [u8; 8], steps: &[Step]) {
     for (k, step) in steps.iter().enumerate() {
-        act(rt, outbox, buffer, k, *step);
+        same_for(rt, &k, acts(outbox, buffer, step), true);
     }
 }
 
@@ -96,22 +102,27 @@ fn play(rt: &impl Abort, alloc: Global, limit: usize, steps: &[Step], times: u32
 
 const LONG: [u8; 65_530] = [b'x'; 65_530];
 
-static LONG_PIECE: [u8; 65_530] = LONG;
+static FULL: [Step; 4] = [
+    Step::Puts(&LONG),
+    Step::Unread(65_530),
+    Step::HasRoomFor(6),
+    Step::HasNoRoomFor(7),
+];
+
+static FULL_OF_A_SHARE: [Step; 4] = [
+    Step::Shares(&LONG),
+    Step::Unread(65_530),
+    Step::HasRoomFor(6),
+    Step::HasNoRoomFor(7),
+];
 
 #[test]
 fn room_ends_at_the_limit(rt: HostRuntime) {
-    for first in [Step::Puts(&LONG_PIECE), Step::Shares(&LONG_PIECE)] {
-        let steps = [
-            first,
-            Step::Unread(65_530),
-            Step::HasRoomFor(6),
-            Step::HasNoRoomFor(7),
-        ];
-        play(&rt, rt.alloc(), 65_536, &steps, 1);
-    }
+    play(&rt, rt.alloc(), 65_536, &FULL, 1);
+    play(&rt, rt.alloc(), 65_536, &FULL_OF_A_SHARE, 1);
 }
 
-const COPIED: [Step; 11] = [
+static COPIED: [Step; 11] = [
     Step::Puts(b"PONG\nENDOF\n"),
     Step::CopiesFrom(9, 2, b"F\n......"),
     Step::Takes(8, b"PONG\nEND"),
@@ -131,7 +142,7 @@ fn bytes_come_out_in_their_order(rt: HostRuntime) {
 }
 
 /// Shared pieces among copied bytes.
-const SHARED: [Step; 10] = [
+static SHARED: [Step; 10] = [
     Step::Puts(b"PONG\n"),
     Step::Shares(b"SAIDo\n"),
     Step::Shares(b""),
@@ -149,7 +160,7 @@ fn shared_pieces_come_out_among_copied_bytes(rt: HostRuntime) {
     play(&rt, rt.alloc(), 64, &SHARED, 3);
 }
 
-const CUT: [Step; 6] = [
+static CUT: [Step; 6] = [
     Step::Puts(b"PONG\n"),
     Step::IsCut(false),
     Step::Cuts,
@@ -158,7 +169,7 @@ const CUT: [Step; 6] = [
     Step::HasNoRoomFor(1),
 ];
 
-const CUT_WITH_A_SHARE: [Step; 5] = [
+static CUT_WITH_A_SHARE: [Step; 5] = [
     Step::Shares(b"PONG\n"),
     Step::Cuts,
     Step::Takes(0, b"........"),

@@ -6,7 +6,7 @@ use reply_grammar::{LentReply, Reply, print, print_id, print_lent};
 use reply_reader::read_reply;
 use std::alloc::{AllocError, Global};
 
-const LINES: [&[u8]; 59] = [
+static LINES: [&[u8]; 59] = [
     b"TASSERVER 0.38 * 8201 0",
     b"#4 ACCEPTED Bert",
     b"DENIED Invalid username or password",
@@ -68,7 +68,7 @@ const LINES: [&[u8]; 59] = [
     b"RING Anna",
 ];
 
-const REFUSED: [&[u8]; 60] = [
+static REFUSED: [&[u8]; 60] = [
     b"",
     b" PONG",
     b"PONG ",
@@ -133,15 +133,15 @@ const REFUSED: [&[u8]; 60] = [
 
 #[test]
 fn each_reply_is_printed_as_it_was_read(rt: HostRuntime) {
-    for line in LINES {
-        same_for(&rt, &line, prints_again(rt.alloc(), line), Ok(Some(true)));
+    for line in &LINES {
+        same_for(&rt, line, prints_again(rt.alloc(), line), Ok(Some(true)));
     }
 }
 
 #[test]
 fn what_no_reply_prints_is_refused(rt: HostRuntime) {
-    for line in REFUSED {
-        same_for(&rt, &line, prints_again(rt.alloc(), line), Ok(None));
+    for line in &REFUSED {
+        same_for(&rt, line, prints_again(rt.alloc(), line), Ok(None));
     }
 }
 

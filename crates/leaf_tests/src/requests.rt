@@ -1,38 +1,12 @@
 //! Lines that are read with memory at hand.
 
 use crate::verdict::same_for;
-use command_grammar::{Command, ReadFault, read_request};
-use line_words::{Pair, TextBuf, WordBuf};
-use std::alloc::{AllocError, Global};
-
-// The fault of a line that is no command.
-fn fault_of(alloc: Global, line: &[u8]) -> Result<Option<ReadFault>, AllocError> {
-    match read_request(alloc, line) {
-        Ok(request) => {
-            let fault = match &request.command {
-                Command::Unread(fault) => Some(*fault),
-                _ => None,
-            };
-            request.discard();
-            Ok(fault)
-        }
-        Err(refusal) => Err(refusal),
-    }
-}
-
-fn id_of(alloc: Global, line: &[u8]) -> Result<Option<u32>, AllocError> {
-    match read_request(alloc, line) {
-        Ok(request) => {
-            let id = request.id;
-            request.discard();
-            Ok(id)
-        }
-        Err(refusal) => Err(refusal),
-    }
-}
+use command_grammar::{Command, ReadFault, Request, read_request};
+use line_words::{TextBuf, WordBuf};
+use std::alloc::Global;
 
 // A line of each command.
-const GOOD_LINES: [&[u8]; 36] = [
+static GOOD_LINES: [&[u8]; 36] = [
     b"PING",
     b"CHANNELS",
     b"LEAVEBATTLE",
@@ -73,12 +47,17 @@ const GOOD_LINES: [&[u8]; 36] = [
 
 #[test]
 fn each_command_is_read(rt: HostRuntime) {
-    for line in GOOD_LINES {
-        same_for(&rt, &line, fault_of(rt.alloc(), line), Ok(None));
+    for line in &GOOD_LINES {
+        same_for(
+            &rt,
+            line,
+            is_read_as(rt.alloc(), line, &Expected::Good),
+            true,
+        );
     }
 }
 
-const FAULTS: [(&[u8], ReadFault); 21] = [
+static FAULTS: [(&[u8], ReadFault); 21] = [
     (b"ping", ReadFault::UnknownCommand),
     (b"#9", ReadFault::UnknownCommand),
     (b"#2147483648 PING", ReadFault::UnknownCommand),
@@ -104,12 +83,13 @@ const FAULTS: [(&[u8], ReadFault); 21] = [
 
 #[test]
 fn faults_are_told(rt: HostRuntime) {
-    for (line, fault) in FAULTS {
-        same_for(&rt, &line, fault_of(rt.alloc(), line), Ok(Some(fault)));
+    for (line, fault) in &FAULTS {
+        let expected = Expected::Unread(*fault);
+        same_for(&rt, line, is_read_as(rt.alloc(), line, &expected), true);
     }
 }
 
-const IDS: [(&[u8], Option<u32>); 6] = [
+static IDS: [(&[u8], Option<u32>); 6] = [
     (b"PING", None),
     (b"  #007  PING", Some(7)),
     (b"#2147483647 PING", Some(2147483647)),
@@ -120,35 +100,43 @@ const IDS: [(&[u8], Option<u32>); 6] = [
 
 #[test]
 fn ids_are_read(rt: HostRuntime) {
-    for (line, id) in IDS {
-        same_for(&rt, &line, id_of(rt.alloc(), line), Ok(id));
+    for (line, id) in &IDS {
+        let expected = Expected::Id(*id);
+        same_for(&rt, line, is_read_as(rt.alloc(), line, &expected), true);
     }
 }
 
-// What the arguments of a line must be.
+// What a line must be read as.
 #[derive(Clone, Copy)]
-enum Expected<'a> {
+enum Expected {
+    // any command
+    Good,
+    // no command
+    Unread(ReadFault),
+    // anything under this id
+    Id(Option<u32>),
     Join {
-        channel: &'a [u8],
-        key: Option<&'a [u8]>,
+        channel: &'static [u8],
+        key: Option<&'static [u8]>,
     },
     SayPrivate {
-        user: &'a [u8],
-        text: &'a [u8],
+        user: &'static [u8],
+        text: &'static [u8],
     },
     MyStatus {
         status: u32,
     },
     Deny {
-        user: &'a [u8],
-        reason: Option<&'a [u8]>,
+        user: &'static [u8],
+        reason: Option<&'static [u8]>,
     },
     Login {
         authorises: bool,
     },
+    Tags(&'static [(&'static [u8], &'static [u8])]),
 }
 
-const READ_LINES: [(&[u8], Expected<'static>); 16] = [
+static READ_LINES: [(&[u8], Expected); 17] = [
     (
         b"JOIN  main  ",
         Expected::Join {
@@ -231,6 +219,10 @@ const READ_LINES: [(&[u8], Expected<'static>); 16] = [
         b"LOGIN Anna X03MO1qnZdYdgyfeuILPmQ== 0 * TestLobby 1.0\t0\tb\tx",
         Expected::Login { authorises: true },
     ),
+    (
+        b"SETSCRIPTTAGS \ta=1\t\tb=",
+        Expected::Tags(&[(b"a", b"1"), (b"b", b"")]),
+    ),
 ];
 
 fn is_word(word: &Option<WordBuf>, expected: Option<&[u8]>) -> bool {
@@ -296,20 +288,45 @@ fn is_login(command: &Command, authorises: bool) -> bool {
     }
 }
 
-fn has_arguments(command: &Command, expected: Expected<'_>) -> bool {
-    match expected {
-        Expected::Join { channel, key } => is_join(command, channel, key),
-        Expected::SayPrivate { user, text } => is_private(command, user, text),
-        Expected::MyStatus { status } => is_status(command, status),
-        Expected::Deny { user, reason } => is_deny(command, user, reason),
-        Expected::Login { authorises } => is_login(command, authorises),
+// Whether these are the tags, in their order.
+fn has_tags(command: &Command, wanted: &[(&[u8], &[u8])]) -> bool {
+    let Command::SetScriptTags { pairs } = command else {
+        return false;
+    };
+    let mut same = pairs.as_slice().len() == wanted.len();
+    for (pair, (key, value)) in pairs.as_slice().iter().zip(wanted) {
+        same = same && pair.key.as_slice() == *key && pair.value.as_slice() == *value;
+    }
+    same
+}
+
+fn fault_of(command: &Command) -> Option<ReadFault> {
+    match command {
+        Command::Unread(fault) => Some(*fault),
+        _ => None,
     }
 }
 
-fn is_read_as(alloc: Global, line: &[u8], expected: Expected<'_>) -> bool {
+fn is_as(request: &Request, expected: &Expected) -> bool {
+    let command = &request.command;
+    match expected {
+        Expected::Good => fault_of(command).is_none(),
+        Expected::Unread(fault) => fault_of(command) == Some(*fault),
+        Expected::Id(id) => request.id == *id,
+        Expected::Join { channel, key } => is_join(command, channel, *key),
+        Expected::SayPrivate { user, text } => is_private(command, user, text),
+        Expected::MyStatus { status } => is_status(command, *status),
+        Expected::Deny { user, reason } => is_deny(command, user, *reason),
+        Expected::Login { authorises } => is_login(command, *authorises),
+        Expected::Tags(wanted) => has_tags(command, wanted),
+    }
+}
+
+// Whether a line is read so; not where memory is refused.
+fn is_read_as(alloc: Global, line: &[u8], expected: &Expected) -> bool {
     match read_request(alloc, line) {
         Ok(request) => {
-            let is_read = has_arguments(&request.command, expected);
+            let is_read = is_as(&request, expected);
             request.discard();
             is_read
         }
@@ -319,40 +336,7 @@ fn is_read_as(alloc: Global, line: &[u8], expected: Expected<'_>) -> bool {
 
 #[test]
 fn arguments_are_read(rt: HostRuntime) {
-    for (line, expected) in READ_LINES {
-        assert!(rt; is_read_as(rt.alloc(), line, expected), "{line:?}");
+    for (line, expected) in &READ_LINES {
+        same_for(&rt, line, is_read_as(rt.alloc(), line, expected), true);
     }
-}
-
-fn is_pair(pair: Option<&Pair>, key: &[u8], value: &[u8]) -> bool {
-    match pair {
-        Some(pair) => pair.key.as_slice() == key && pair.value.as_slice() == value,
-        None => false,
-    }
-}
-
-// The tags a=1 and b=.
-fn has_both_tags(command: &Command) -> bool {
-    match command {
-        Command::SetScriptTags { pairs } => {
-            let pairs = pairs.as_slice();
-            pairs.len() == 2
-                && is_pair(pairs.get(0), b"a", b"1")
-                && is_pair(pairs.get(1), b"b", b"")
-        }
-        _ => false,
-    }
-}
-
-#[test]
-fn tags_are_kept_in_order(rt: HostRuntime) {
-    let is_read = match read_request(rt.alloc(), b"SETSCRIPTTAGS \ta=1\t\tb=") {
-        Ok(request) => {
-            let is_read = has_both_tags(&request.command);
-            request.discard();
-            is_read
-        }
-        Err(_) => false,
-    };
-    assert!(rt; is_read);
 }

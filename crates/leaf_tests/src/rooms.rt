@@ -1,8 +1,8 @@
 //! A room with memory at hand: each of its calls that may be refused it, and the most tags that a room has.
 
-use crate::verdict::{fail, same};
+use crate::verdict::{fail, same_for};
 use battle_room::{Room, RoomError};
-use line_words::{KeyBuf, NameBuf, Pair, PairList, SentenceBuf, WordBuf, WordList};
+use line_words::{KeyBuf, NameBuf, Pair, PairList, SentenceBuf, WordBuf};
 use status_bits::BattleStatus;
 use std::alloc::Global;
 use std::process::Abort;
@@ -47,34 +47,9 @@ fn has_bots(room: &Room, owner: &[u8], wanted: &[&[u8]]) -> bool {
     same
 }
 
-/// Anna's room is joined by Bert, who adds two bots, and by Cleo.
-fn fills(room: &mut Room, alloc: Global) -> bool {
-    join(room, b"Bert")
-        && join(room, b"Cleo")
-        && add_bot(room, alloc, b"Bert", b"Robo").is_some()
-        && add_bot(room, alloc, b"Bert", b"Rex").is_some()
-}
-
 /// A room of Anna alone.
 pub(crate) fn new_room(alloc: Global) -> Option<Room> {
     Room::new(alloc, NameBuf::of(b"Anna")?).ok()
-}
-
-fn fill(rt: &impl Abort, room: &mut Room, alloc: Global) {
-    same(rt, fills(room, alloc), true);
-    same(rt, has_members(room, &[b"Anna", b"Bert", b"Cleo"]), true);
-    same(rt, has_bots(room, b"Bert", &[b"Robo", b"Rex"]), true);
-}
-
-#[test]
-fn members_and_bots_are_added(rt: HostRuntime) {
-    match new_room(rt.alloc()) {
-        Some(mut room) => {
-            fill(&rt, &mut room, rt.alloc());
-            drop(room);
-        }
-        None => fail(&rt, "a room of one"),
-    }
 }
 
 fn add_pair(list: &mut Vec<Pair>, alloc: Global, key: &[u8], value: &[u8]) -> Option<()> {
@@ -83,7 +58,7 @@ fn add_pair(list: &mut Vec<Pair>, alloc: Global, key: &[u8], value: &[u8]) -> Op
     list.push(Pair { key, value }).ok()
 }
 
-fn pairs(alloc: Global, wanted: &[(&[u8], &[u8])]) -> Option<PairList> {
+pub(crate) fn pairs(alloc: Global, wanted: &[(&[u8], &[u8])]) -> Option<PairList> {
     let mut list = Vec::new(alloc);
     for (key, value) in wanted {
         add_pair(&mut list, alloc, key, value)?;
@@ -92,7 +67,7 @@ fn pairs(alloc: Global, wanted: &[(&[u8], &[u8])]) -> Option<PairList> {
 }
 
 /// The pairs k1=1 to k512=1.
-fn all_pairs(alloc: Global) -> Option<PairList> {
+fn most_pairs(alloc: Global) -> Option<PairList> {
     let mut list = Vec::new(alloc);
     for k in 1..513u32 {
         let key = format!(in alloc; "k{k}").ok()?;
@@ -111,11 +86,11 @@ fn begins(room: &Room, count: usize, key: &[u8], value: &[u8]) -> bool {
     }
 }
 
-/// What the founder is told who sets these; nothing where there was no memory for them.
-fn set_tags(room: &mut Room, pairs: Option<PairList>) -> Option<Result<(), RoomError>> {
+/// Whether the founder is told this who sets these tags.
+fn sets(room: &mut Room, pairs: Option<PairList>, wanted: Result<(), RoomError>) -> bool {
     match (NameBuf::of(b"Anna"), pairs) {
-        (Some(founder), Some(pairs)) => Some(room.set_tags(&founder, pairs)),
-        _ => None,
+        (Some(founder), Some(pairs)) => room.set_tags(&founder, pairs) == wanted,
+        _ => false,
     }
 }
 
@@ -127,22 +102,22 @@ pub(crate) fn words(alloc: Global, wanted: &[&[u8]]) -> Option<Vec<WordBuf>> {
     Some(list)
 }
 
-pub(crate) fn has_words(list: &WordList, wanted: &[&[u8]]) -> bool {
-    let mut same = list.as_slice().len() == wanted.len();
-    for (word, bytes) in list.as_slice().iter().zip(wanted) {
+pub(crate) fn has_words(words: &[WordBuf], wanted: &[&[u8]]) -> bool {
+    let mut same = words.len() == wanted.len();
+    for (word, bytes) in words.iter().zip(wanted) {
         same = same && word.as_slice() == *bytes;
     }
     same
 }
 
 /// Whether the founder is told that of these keys those are gone.
-fn removes(room: &mut Room, keys: &[WordBuf], gone: &[&[u8]]) -> bool {
-    match NameBuf::of(b"Anna") {
-        Some(founder) => match room.remove_tags(&founder, keys) {
-            Ok(there) => has_words(&there, gone),
+fn removes(room: &mut Room, keys: Option<Vec<WordBuf>>, gone: &[&[u8]]) -> bool {
+    match (NameBuf::of(b"Anna"), keys) {
+        (Some(founder), Some(keys)) => match room.remove_tags(&founder, &keys) {
+            Ok(there) => has_words(there.as_slice(), gone),
             Err(_) => false,
         },
-        None => false,
+        _ => false,
     }
 }
 
@@ -150,43 +125,93 @@ fn has_tag(room: &Room, key: &[u8]) -> bool {
     room.tags().iter().any(|tag| tag.key.as_slice() == key)
 }
 
-/// One tag more is refused, and none of the others is set then.
-fn set_more(rt: &impl Abort, room: &mut Room, alloc: Global) {
-    same(rt, set_tags(room, all_pairs(alloc)), Some(Ok(())));
-    same(rt, begins(room, 512, b"k1", b"1"), true);
-    let more = pairs(alloc, &[(b"new", b"1"), (b"k1", b"2")]);
-    same(rt, set_tags(room, more), Some(Err(RoomError::TooManyTags)));
-    same(rt, begins(room, 512, b"k1", b"1"), true);
-    let other = pairs(alloc, &[(b"k1", b"2")]);
-    same(rt, set_tags(room, other), Some(Ok(())));
-    same(rt, begins(room, 512, b"k1", b"2"), true);
+type PairText = (&'static [u8], &'static [u8]);
+
+/// What is done to a room, and what it shows then. Tags are set and removed by the founder.
+#[derive(Clone, Copy)]
+enum Step {
+    /// One joins who is no member.
+    Joins(&'static [u8]),
+    /// A member adds a bot.
+    AddsBot(&'static [u8], &'static [u8]),
+    Members(&'static [&'static [u8]]),
+    /// These are the bots, each of this owner.
+    Bots(&'static [u8], &'static [&'static [u8]]),
+    Sets(&'static [PairText], Result<(), RoomError>),
+    /// The tags k1=1 to k512=1 are set.
+    SetsMost,
+    /// Of these keys those are told to be gone.
+    Removes(&'static [&'static [u8]], &'static [&'static [u8]]),
+    /// There are so many tags, the first of this key and value.
+    Tags(usize, &'static [u8], &'static [u8]),
+    HasTag(&'static [u8], bool),
 }
 
-fn remove_some(rt: &impl Abort, room: &mut Room, keys: &[WordBuf]) {
-    same(rt, removes(room, keys, &[b"k2", b"k1"]), true);
-    same(rt, begins(room, 510, b"k3", b"1"), true);
-    same(rt, has_tag(room, b"k1"), false);
-    same(rt, has_tag(room, b"k3"), true);
-}
-
-fn set_and_remove(rt: &impl Abort, room: &mut Room, alloc: Global) {
-    set_more(rt, room, alloc);
-    match words(alloc, &[b"k2", b"k1", b"zz", b"k2"]) {
-        Some(keys) => {
-            remove_some(rt, room, &keys);
-            drop(keys);
-        }
-        None => fail(rt, "four words"),
+/// Whether a step comes out as it says.
+fn takes(room: &mut Room, alloc: Global, step: &Step) -> bool {
+    match step {
+        Step::Joins(member) => join(room, member),
+        Step::AddsBot(owner, bot) => add_bot(room, alloc, owner, bot).is_some(),
+        Step::Members(wanted) => has_members(room, wanted),
+        Step::Bots(owner, wanted) => has_bots(room, owner, wanted),
+        Step::Sets(wanted, told) => sets(room, pairs(alloc, wanted), *told),
+        Step::SetsMost => sets(room, most_pairs(alloc), Ok(())),
+        Step::Removes(keys, gone) => removes(room, words(alloc, keys), gone),
+        Step::Tags(count, key, value) => begins(room, *count, key, value),
+        Step::HasTag(key, is_so) => has_tag(room, key) == *is_so,
     }
 }
+
+fn take_all(rt: &impl Abort, room: &mut Room, alloc: Global, steps: &[Step]) {
+    for (k, step) in steps.iter().enumerate() {
+        same_for(rt, &k, takes(room, alloc, step), true);
+    }
+}
+
+/// Takes these steps in a room of Anna.
+fn play(rt: &impl Abort, alloc: Global, steps: &[Step]) {
+    match new_room(alloc) {
+        Some(mut room) => {
+            take_all(rt, &mut room, alloc, steps);
+            drop(room);
+        }
+        None => fail(rt, "a room of one"),
+    }
+}
+
+/// Anna's room is joined by Bert, who adds two bots, and by Cleo.
+static MEMBERS: [Step; 6] = [
+    Step::Joins(b"Bert"),
+    Step::Joins(b"Cleo"),
+    Step::AddsBot(b"Bert", b"Robo"),
+    Step::AddsBot(b"Bert", b"Rex"),
+    Step::Members(&[b"Anna", b"Bert", b"Cleo"]),
+    Step::Bots(b"Bert", &[b"Robo", b"Rex"]),
+];
+
+#[test]
+fn members_and_bots_are_added(rt: HostRuntime) {
+    play(&rt, rt.alloc(), &MEMBERS);
+}
+
+/// One tag more is refused, and none of the others is set then.
+static TAGS: [Step; 10] = [
+    Step::SetsMost,
+    Step::Tags(512, b"k1", b"1"),
+    Step::Sets(
+        &[(b"new", b"1"), (b"k1", b"2")],
+        Err(RoomError::TooManyTags),
+    ),
+    Step::Tags(512, b"k1", b"1"),
+    Step::Sets(&[(b"k1", b"2")], Ok(())),
+    Step::Tags(512, b"k1", b"2"),
+    Step::Removes(&[b"k2", b"k1", b"zz", b"k2"], &[b"k2", b"k1"]),
+    Step::Tags(510, b"k3", b"1"),
+    Step::HasTag(b"k1", false),
+    Step::HasTag(b"k3", true),
+];
 
 #[test]
 fn five_hundred_and_twelve_tags(rt: HostRuntime) {
-    match new_room(rt.alloc()) {
-        Some(mut room) => {
-            set_and_remove(&rt, &mut room, rt.alloc());
-            drop(room);
-        }
-        None => fail(&rt, "a room of one"),
-    }
+    play(&rt, rt.alloc(), &TAGS);
 }

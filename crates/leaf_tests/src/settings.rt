@@ -49,7 +49,7 @@ fn the_default_is_kept(rt: HostRuntime) {
 }
 
 /// A version, the mode, the limit of an outbox, and whether they are in their bounds.
-const VALUES: [(&[u8], u8, usize, bool); 9] = [
+static VALUES: [(&[u8], u8, usize, bool); 9] = [
     (b"0.38", 1, LEAST_OUTBOX_LIMIT, true),
     (&[b'~'; 32], 0, GREATEST_OUTBOX_LIMIT, true),
     (b"", 0, LEAST_OUTBOX_LIMIT, false),
@@ -73,21 +73,20 @@ fn refusal(
 
 #[test]
 fn a_value_out_of_its_bounds_is_refused(rt: HostRuntime) {
-    for (version, mode, limit, is_good) in VALUES {
-        let want = if is_good {
+    for (k, (version, mode, limit, is_good)) in VALUES.iter().enumerate() {
+        let want = if *is_good {
             None
         } else {
             Some(SettingsError::OutOfBounds)
         };
-        let first = refusal(rt.alloc(), version, b"*", mode, limit);
-        same_for(&rt, &(version, mode, limit), first, want);
-        let second = refusal(rt.alloc(), b"0.38", version, mode, limit);
-        same_for(&rt, &(version, mode, limit), second, want);
+        let first = refusal(rt.alloc(), version, b"*", *mode, *limit);
+        let second = refusal(rt.alloc(), b"0.38", version, *mode, *limit);
+        same_for(&rt, &k, (first, second), (want, want));
     }
 }
 
 /// How many lines, each of them, and why they are refused.
-const MESSAGES: [(u32, &[u8], Option<SettingsError>); 3] = [
+static MESSAGES: [(u32, &[u8], Option<SettingsError>); 3] = [
     (100, &[b'x'; 1_000], None),
     (101, b"", Some(SettingsError::OutOfBounds)),
     (1, &[b'x'; 1_001], Some(SettingsError::OutOfBounds)),
@@ -95,8 +94,8 @@ const MESSAGES: [(u32, &[u8], Option<SettingsError>); 3] = [
 
 #[test]
 fn a_message_of_the_day_has_100_lines_of_1000_bytes(rt: HostRuntime) {
-    for (count, line, told) in MESSAGES {
-        let refusal = settings(rt.alloc(), count, line).err();
-        same_for(&rt, &count, refusal, told);
+    for (count, line, told) in &MESSAGES {
+        let refusal = settings(rt.alloc(), *count, line).err();
+        same_for(&rt, count, refusal, *told);
     }
 }

@@ -11,124 +11,161 @@ use std::process::Abort;
 #[derive(Clone, Copy)]
 enum Call {
     Disable(&'static [&'static [u8]]),
+    /// The units u1 to u1024.
+    DisableMost,
     Enable(&'static [&'static [u8]]),
     EnableAll,
 }
 
+/// Units in their order.
+#[derive(Clone, Copy)]
+enum Units {
+    These(&'static [&'static [u8]]),
+    /// So many, the first of them this.
+    Begin(usize, &'static [u8]),
+}
+
 /// Who calls, what is asked, of which units it tells or why it is refused, and the units thereafter.
-type Row = (
-    &'static [u8],
-    Call,
-    Result<&'static [&'static [u8]], RoomError>,
-    &'static [&'static [u8]],
-);
+type Row = (&'static [u8], Call, Result<Units, RoomError>, Units);
 
 // Anna is the founder and Bert is a member. Cleo is not.
-const ROWS: [Row; 14] = [
+static ROWS: [Row; 14] = [
     (
         b"Anna",
         Call::Disable(&[b"armcom", b"corcom", b"armcom"]),
-        Ok(&[b"armcom", b"corcom"]),
-        &[b"armcom", b"corcom"],
+        Ok(Units::These(&[b"armcom", b"corcom"])),
+        Units::These(&[b"armcom", b"corcom"]),
     ),
     (
         b"Anna",
         Call::Disable(&[b"corcom", b"armflash"]),
-        Ok(&[b"armflash"]),
-        &[b"armcom", b"corcom", b"armflash"],
+        Ok(Units::These(&[b"armflash"])),
+        Units::These(&[b"armcom", b"corcom", b"armflash"]),
     ),
     (
         b"Anna",
         Call::Disable(&[b"corcom"]),
-        Ok(&[]),
-        &[b"armcom", b"corcom", b"armflash"],
+        Ok(Units::These(&[])),
+        Units::These(&[b"armcom", b"corcom", b"armflash"]),
     ),
     (
         b"Bert",
         Call::Disable(&[b"x"]),
         Err(RoomError::NotAllowed),
-        &[b"armcom", b"corcom", b"armflash"],
+        Units::These(&[b"armcom", b"corcom", b"armflash"]),
     ),
     (
         b"Cleo",
         Call::Disable(&[b"x"]),
         Err(RoomError::NotMember),
-        &[b"armcom", b"corcom", b"armflash"],
+        Units::These(&[b"armcom", b"corcom", b"armflash"]),
     ),
     (
         b"Anna",
         Call::Enable(&[b"x"]),
-        Ok(&[]),
-        &[b"armcom", b"corcom", b"armflash"],
+        Ok(Units::These(&[])),
+        Units::These(&[b"armcom", b"corcom", b"armflash"]),
     ),
     (
         b"Anna",
         Call::Enable(&[b"armcom", b"x", b"armcom"]),
-        Ok(&[b"armcom"]),
-        &[b"corcom", b"armflash"],
+        Ok(Units::These(&[b"armcom"])),
+        Units::These(&[b"corcom", b"armflash"]),
     ),
     (
         b"Bert",
         Call::Enable(&[b"corcom"]),
         Err(RoomError::NotAllowed),
-        &[b"corcom", b"armflash"],
+        Units::These(&[b"corcom", b"armflash"]),
     ),
     (
         b"Cleo",
         Call::Enable(&[b"corcom"]),
         Err(RoomError::NotMember),
-        &[b"corcom", b"armflash"],
+        Units::These(&[b"corcom", b"armflash"]),
     ),
     (
         b"Anna",
         Call::Disable(&[b"armcom"]),
-        Ok(&[b"armcom"]),
-        &[b"corcom", b"armflash", b"armcom"],
+        Ok(Units::These(&[b"armcom"])),
+        Units::These(&[b"corcom", b"armflash", b"armcom"]),
     ),
     (
         b"Bert",
         Call::EnableAll,
         Err(RoomError::NotAllowed),
-        &[b"corcom", b"armflash", b"armcom"],
+        Units::These(&[b"corcom", b"armflash", b"armcom"]),
     ),
     (
         b"Cleo",
         Call::EnableAll,
         Err(RoomError::NotMember),
-        &[b"corcom", b"armflash", b"armcom"],
+        Units::These(&[b"corcom", b"armflash", b"armcom"]),
     ),
-    (b"Anna", Call::EnableAll, Ok(&[]), &[]),
-    (b"Anna", Call::EnableAll, Ok(&[]), &[]),
+    (
+        b"Anna",
+        Call::EnableAll,
+        Ok(Units::These(&[])),
+        Units::These(&[]),
+    ),
+    (
+        b"Anna",
+        Call::EnableAll,
+        Ok(Units::These(&[])),
+        Units::These(&[]),
+    ),
 ];
 
-fn has_units(room: &Room, wanted: &[&[u8]]) -> bool {
-    let mut same = room.units().len() == wanted.len();
-    for (unit, bytes) in room.units().iter().zip(wanted) {
-        same = same && unit.as_slice() == *bytes;
+fn are(units: &[WordBuf], wanted: &Units) -> bool {
+    match wanted {
+        Units::These(wanted) => has_words(units, wanted),
+        Units::Begin(count, first) => units.len() == *count && begins(units, first),
     }
-    same
 }
 
-/// Whether these words are told, or this refusal.
-fn tells(told: Result<WordList, RoomError>, wanted: Result<&[&[u8]], RoomError>) -> bool {
+fn begins(units: &[WordBuf], first: &[u8]) -> bool {
+    match units.first() {
+        Some(unit) => unit.as_slice() == first,
+        None => false,
+    }
+}
+
+/// Whether these units are told, or this refusal.
+fn tells(told: Result<WordList, RoomError>, wanted: &Result<Units, RoomError>) -> bool {
     match (told, wanted) {
-        (Ok(told), Ok(wanted)) => has_words(&told, wanted),
-        (Err(told), Err(wanted)) => told == wanted,
+        (Ok(told), Ok(wanted)) => are(told.as_slice(), wanted),
+        (Err(told), Err(wanted)) => told == *wanted,
         _ => false,
     }
+}
+
+/// The units u1 to u1024.
+fn most_units(alloc: Global) -> Option<Vec<WordBuf>> {
+    let mut list = Vec::new(alloc);
+    for k in 1..1025u32 {
+        let unit = format!(in alloc; "u{k}").ok()?;
+        list.push(word(alloc, unit.as_bytes())?).ok()?;
+    }
+    Some(list)
+}
+
+fn disable(
+    room: &mut Room,
+    by: &NameBuf,
+    units: Option<Vec<WordBuf>>,
+) -> Option<Result<WordList, RoomError>> {
+    Some(room.disable_units(by, WordList::new(units?)))
 }
 
 fn make_call(
     room: &mut Room,
     alloc: Global,
     by: &NameBuf,
-    asked: Call,
+    asked: &Call,
 ) -> Option<Result<WordList, RoomError>> {
     match asked {
-        Call::Disable(units) => {
-            let units = words(alloc, units)?;
-            Some(room.disable_units(by, WordList::new(units)))
-        }
+        Call::Disable(units) => disable(room, by, words(alloc, units)),
+        Call::DisableMost => disable(room, by, most_units(alloc)),
         Call::Enable(units) => {
             let units = words(alloc, units)?;
             Some(room.enable_units(by, &units))
@@ -140,96 +177,69 @@ fn make_call(
     }
 }
 
-fn shows(room: &mut Room, alloc: Global, row: Row) -> bool {
+fn shows(room: &mut Room, alloc: Global, row: &Row) -> bool {
     let (by, asked, wanted, left) = row;
     let Some(by) = NameBuf::of(by) else {
         return false;
     };
     match make_call(room, alloc, &by, asked) {
-        Some(told) => tells(told, wanted) && has_units(room, left),
+        Some(told) => tells(told, wanted) && are(room.units(), left),
         None => false,
     }
 }
 
-fn show_all(rt: &impl Abort, room: &mut Room, alloc: Global) {
+fn show_all(rt: &impl Abort, room: &mut Room, alloc: Global, rows: &[Row]) {
     same(rt, join(room, b"Bert"), true);
-    for (k, row) in ROWS.iter().enumerate() {
-        same_for(rt, &k, shows(room, alloc, *row), true);
+    for (k, row) in rows.iter().enumerate() {
+        same_for(rt, &k, shows(room, alloc, row), true);
+    }
+}
+
+/// Takes these rows in a room of Anna and Bert.
+fn play(rt: &impl Abort, alloc: Global, rows: &[Row]) {
+    match new_room(alloc) {
+        Some(mut room) => {
+            show_all(rt, &mut room, alloc, rows);
+            drop(room);
+        }
+        None => fail(rt, "a room of one"),
     }
 }
 
 #[test]
 fn units_are_disabled_and_enabled(rt: HostRuntime) {
-    match new_room(rt.alloc()) {
-        Some(mut room) => {
-            show_all(&rt, &mut room, rt.alloc());
-            drop(room);
-        }
-        None => fail(&rt, "a room of one"),
-    }
-}
-
-/// The units u1 to u1024.
-fn all_units(alloc: Global) -> Option<Vec<WordBuf>> {
-    let mut list = Vec::new(alloc);
-    for k in 1..1025u32 {
-        let unit = format!(in alloc; "u{k}").ok()?;
-        list.push(word(alloc, unit.as_bytes())?).ok()?;
-    }
-    Some(list)
-}
-
-/// How many units a member is told who disables these; nothing where there was no memory for them.
-fn disable(
-    room: &mut Room,
-    by: &[u8],
-    units: Option<Vec<WordBuf>>,
-) -> Option<Result<usize, RoomError>> {
-    match (NameBuf::of(by), units) {
-        (Some(by), Some(units)) => match room.disable_units(&by, WordList::new(units)) {
-            Ok(new) => Some(Ok(new.as_slice().len())),
-            Err(refusal) => Some(Err(refusal)),
-        },
-        _ => None,
-    }
-}
-
-/// Whether so many units are disabled, the first of them this.
-fn begins(room: &Room, count: usize, first: &[u8]) -> bool {
-    match room.units().first() {
-        Some(unit) => room.units().len() == count && unit.as_slice() == first,
-        None => false,
-    }
+    play(&rt, rt.alloc(), &ROWS);
 }
 
 /// One unit more is refused, and none of the others is disabled then.
-fn disable_more(rt: &impl Abort, room: &mut Room, alloc: Global) {
-    same(rt, join(room, b"Bert"), true);
-    same(rt, disable(room, b"Anna", all_units(alloc)), Some(Ok(1024)));
-    let one_old = words(alloc, &[b"u7", b"new"]);
-    same(
-        rt,
-        disable(room, b"Anna", one_old),
-        Some(Err(RoomError::TooManyUnits)),
-    );
-    let of_another = words(alloc, &[b"new"]);
-    same(
-        rt,
-        disable(room, b"Bert", of_another),
-        Some(Err(RoomError::NotAllowed)),
-    );
-    let old = words(alloc, &[b"u7", b"u1024"]);
-    same(rt, disable(room, b"Anna", old), Some(Ok(0)));
-    same(rt, begins(room, 1024, b"u1"), true);
-}
+static MOST: [Row; 4] = [
+    (
+        b"Anna",
+        Call::DisableMost,
+        Ok(Units::Begin(1024, b"u1")),
+        Units::Begin(1024, b"u1"),
+    ),
+    (
+        b"Anna",
+        Call::Disable(&[b"u7", b"new"]),
+        Err(RoomError::TooManyUnits),
+        Units::Begin(1024, b"u1"),
+    ),
+    (
+        b"Bert",
+        Call::Disable(&[b"new"]),
+        Err(RoomError::NotAllowed),
+        Units::Begin(1024, b"u1"),
+    ),
+    (
+        b"Anna",
+        Call::Disable(&[b"u7", b"u1024"]),
+        Ok(Units::These(&[])),
+        Units::Begin(1024, b"u1"),
+    ),
+];
 
 #[test]
 fn one_thousand_and_twenty_four_units(rt: HostRuntime) {
-    match new_room(rt.alloc()) {
-        Some(mut room) => {
-            disable_more(&rt, &mut room, rt.alloc());
-            drop(room);
-        }
-        None => fail(&rt, "a room of one"),
-    }
+    play(&rt, rt.alloc(), &MOST);
 }

@@ -3,28 +3,28 @@
 use crate::verdict::{same, same_for};
 use address_words::{address, number, number_before, part_at, socket_address};
 
+static NUMBERS: [(&[u8], Option<u32>); 9] = [
+    (b"0", Some(0)),
+    (b"10", Some(10)),
+    (b"4294967295", Some(u32::MAX)),
+    (b"4294967296", None),
+    (b"", None),
+    (b"01", None),
+    (b"+1", None),
+    (b"-1", None),
+    (b"1 ", None),
+];
+
 #[test]
 fn numbers_have_no_leading_zeros(rt: HostRuntime) {
-    let rows: [(&[u8], Option<u32>); 9] = [
-        (b"0", Some(0)),
-        (b"10", Some(10)),
-        (b"4294967295", Some(u32::MAX)),
-        (b"4294967296", None),
-        (b"", None),
-        (b"01", None),
-        (b"+1", None),
-        (b"-1", None),
-        (b"1 ", None),
-    ];
-    for (text, want) in rows {
-        same_for(&rt, &text, number(text), want);
+    for (text, want) in &NUMBERS {
+        same_for(&rt, text, number(text), *want);
     }
     same(
         &rt,
-        number_before(b"12 rest", b' '),
-        Some((12, b"rest".as_slice())),
+        (number_before(b"12 rest", b' '), number_before(b"12", b' ')),
+        (Some((12, b"rest".as_slice())), None),
     );
-    same(&rt, number_before(b"12", b' '), None);
     same(
         &rt,
         part_at(b"a=b=c", b'='),
@@ -32,37 +32,40 @@ fn numbers_have_no_leading_zeros(rt: HostRuntime) {
     );
 }
 
+static ADDRESSES: [(&[u8], Option<[u8; 4]>); 8] = [
+    (b"127.0.0.1", Some([127, 0, 0, 1])),
+    (b"255.255.255.255", Some([255, 255, 255, 255])),
+    (b"256.0.0.1", None),
+    (b"10.0.0", None),
+    (b"10.0.0.1.2", None),
+    (b"10.0.0.01", None),
+    (b"10..0.1", None),
+    (b"localhost", None),
+];
+
 #[test]
 fn addresses_have_four_numbers(rt: HostRuntime) {
-    let rows: [(&[u8], Option<[u8; 4]>); 8] = [
-        (b"127.0.0.1", Some([127, 0, 0, 1])),
-        (b"255.255.255.255", Some([255, 255, 255, 255])),
-        (b"256.0.0.1", None),
-        (b"10.0.0", None),
-        (b"10.0.0.1.2", None),
-        (b"10.0.0.01", None),
-        (b"10..0.1", None),
-        (b"localhost", None),
-    ];
-    for (text, want) in rows {
-        same_for(&rt, &text, address(text), want);
+    for (text, want) in &ADDRESSES {
+        same_for(&rt, text, address(text), *want);
     }
 }
 
+const HERE: [u8; 4] = [127, 0, 0, 1];
+
+static PORTS: [(&[u8], Option<([u8; 4], u16)>); 8] = [
+    (b"127.0.0.1:8200", Some((HERE, 8200))),
+    (b"127.0.0.1:0", Some((HERE, 0))),
+    (b"127.0.0.1:65535", Some((HERE, u16::MAX))),
+    (b"127.0.0.1:65536", None),
+    (b"127.0.0.1:08200", None),
+    (b"127.0.0.1:", None),
+    (b"127.0.0.1", None),
+    (b"[::1]:8200", None),
+];
+
 #[test]
 fn a_port_stands_behind_a_colon(rt: HostRuntime) {
-    let here = [127, 0, 0, 1];
-    let rows: [(&[u8], Option<([u8; 4], u16)>); 8] = [
-        (b"127.0.0.1:8200", Some((here, 8200))),
-        (b"127.0.0.1:0", Some((here, 0))),
-        (b"127.0.0.1:65535", Some((here, u16::MAX))),
-        (b"127.0.0.1:65536", None),
-        (b"127.0.0.1:08200", None),
-        (b"127.0.0.1:", None),
-        (b"127.0.0.1", None),
-        (b"[::1]:8200", None),
-    ];
-    for (text, want) in rows {
-        same_for(&rt, &text, socket_address(text), want);
+    for (text, want) in &PORTS {
+        same_for(&rt, text, socket_address(text), *want);
     }
 }

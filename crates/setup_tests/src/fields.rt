@@ -53,24 +53,22 @@ fn is_list(table: &Table, key: &str, wanted: Told<&[Told<&str>]>) -> bool {
     }
 }
 
-fn compare(rt: &impl Abort, table: &Table, k: usize, row: Row) {
+/// Whether this is told of a key.
+fn tells(table: &Table, row: &Row) -> bool {
     match row {
-        Row::TextAt(key, wanted) => same_for(rt, &k, text_at(table, key), wanted),
-        Row::TextOr(key, other, wanted) => same_for(rt, &k, text_or(table, key, other), wanted),
-        Row::NumberAt(key, (low, high), wanted) => {
-            same_for(rt, &k, number_at(table, key, low, high), wanted)
-        }
-        Row::NumberOr(key, (low, high), other, wanted) => {
-            same_for(rt, &k, number_or(table, key, low, high, other), wanted)
-        }
-        Row::FlagOr(key, other, wanted) => same_for(rt, &k, flag_or(table, key, other), wanted),
-        Row::List(key, wanted) => same_for(rt, &k, is_list(table, key, wanted), true),
+        Row::TextAt(key, wanted) => text_at(table, key) == *wanted,
+        Row::TextOr(key, other, wanted) => text_or(table, key, other) == *wanted,
+        Row::NumberAt(key, (low, high), wanted) => number_at(table, key, *low, *high) == *wanted,
+        Row::NumberOr(key, (low, high), other, wanted) => number_or(table, key, *low, *high, *other)
+            == *wanted,
+        Row::FlagOr(key, other, wanted) => flag_or(table, key, *other) == *wanted,
+        Row::List(key, wanted) => is_list(table, key, *wanted),
     }
 }
 
 fn compare_all(rt: &impl Abort, table: &Table, rows: &[Row]) {
     for (k, row) in rows.iter().enumerate() {
-        compare(rt, table, k, *row);
+        same_for(rt, &k, tells(table, row), true);
     }
 }
 
@@ -85,7 +83,7 @@ fn ask(rt: &impl Abort, alloc: Global, rows: &[Row]) {
     }
 }
 
-const THERE: [Row; 6] = [
+static THERE: [Row; 6] = [
     Row::TextAt("word", Ok("a text")),
     Row::TextOr("word", "another", Ok("a text")),
     Row::NumberAt("count", (7, 7), Ok(7)),
@@ -99,7 +97,7 @@ fn what_is_there_is_read(rt: HostRuntime) {
     ask(&rt, rt.alloc(), &THERE);
 }
 
-const MISSING: [Row; 6] = [
+static MISSING: [Row; 6] = [
     Row::TextAt("none", Err(FieldFault::Missing)),
     Row::NumberAt("none", (0, 9), Err(FieldFault::Missing)),
     Row::TextOr("none", "another", Ok("another")),
@@ -113,7 +111,7 @@ fn what_is_missing_has_its_default(rt: HostRuntime) {
     ask(&rt, rt.alloc(), &MISSING);
 }
 
-const REFUSED: [Row; 9] = [
+static REFUSED: [Row; 9] = [
     Row::TextAt("count", Err(FieldFault::OtherKind)),
     Row::TextOr("set", "", Err(FieldFault::OtherKind)),
     Row::NumberAt("half", (0, 9), Err(FieldFault::OtherKind)),
@@ -130,7 +128,7 @@ fn other_kinds_and_numbers_out_of_bounds_are_refused(rt: HostRuntime) {
     ask(&rt, rt.alloc(), &REFUSED);
 }
 
-const NO_FILES: [(&[u8], usize); 4] = [
+static NO_FILES: [(&[u8], usize); 4] = [
     (b"[[account", 1),
     (b"a = 1\nb = \n", 2),
     (b"a = 1\n\na = 2\n", 3),
@@ -143,8 +141,8 @@ fn refusal(alloc: Global, file: &[u8]) -> Option<DocumentError> {
 
 #[test]
 fn a_file_that_is_none_shows_its_line(rt: HostRuntime) {
-    for (file, line) in NO_FILES {
-        let wanted = Some(DocumentError::NotToml { line });
-        same_for(&rt, &file, refusal(rt.alloc(), file), wanted);
+    for (file, line) in &NO_FILES {
+        let wanted = Some(DocumentError::NotToml { line: *line });
+        same_for(&rt, file, refusal(rt.alloc(), file), wanted);
     }
 }

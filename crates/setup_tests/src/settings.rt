@@ -64,26 +64,41 @@ fn has_motd(settings: &Settings, wanted: &[&[u8]]) -> bool {
 fn compare_settings(rt: &impl Abort, settings: &Settings, wanted: &Wanted) {
     same(
         rt,
-        settings.protocol_version().as_slice(),
-        wanted.protocol_version,
+        (
+            settings.protocol_version().as_slice(),
+            settings.spring_version().as_slice(),
+        ),
+        (wanted.protocol_version, wanted.spring_version),
     );
     same(
         rt,
-        settings.spring_version().as_slice(),
-        wanted.spring_version,
+        (
+            settings.udp_port(),
+            settings.server_mode(),
+            settings.outbox_limit(),
+            has_motd(settings, wanted.motd),
+        ),
+        (
+            wanted.udp_port,
+            wanted.server_mode,
+            wanted.outbox_limit,
+            true,
+        ),
     );
-    same(rt, settings.udp_port(), wanted.udp_port);
-    same(rt, settings.server_mode(), wanted.server_mode);
-    same(rt, settings.outbox_limit(), wanted.outbox_limit);
-    same(rt, has_motd(settings, wanted.motd), true);
 }
 
 fn compare(rt: &impl Abort, setup: &Setup, wanted: &Wanted) {
     let ([a, b, c, d], port) = wanted.address;
     let address = SocketAddrV4::new(Ipv4Addr::new(a, b, c, d), port);
-    same(rt, setup.address == address, true);
-    same(rt, setup.workers, wanted.workers);
-    same(rt, setup.stop_at_input_end, wanted.stop_at_input_end);
+    same(
+        rt,
+        (
+            setup.address == address,
+            setup.workers,
+            setup.stop_at_input_end,
+        ),
+        (true, wanted.workers, wanted.stop_at_input_end),
+    );
     compare_settings(rt, &setup.settings, wanted);
 }
 
@@ -97,7 +112,7 @@ fn read(rt: &impl Abort, alloc: Global, wanted: &Wanted) {
     }
 }
 
-const SMALLEST: Wanted = Wanted {
+static SMALLEST: Wanted = Wanted {
     file: b"address = '127.0.0.1:0'",
     address: ([127, 0, 0, 1], 0),
     workers: 4,
@@ -115,7 +130,7 @@ fn an_address_is_enough(rt: HostRuntime) {
     read(&rt, rt.alloc(), &SMALLEST);
 }
 
-const LARGEST: Wanted = Wanted {
+static LARGEST: Wanted = Wanted {
     file: ALL,
     address: ([10, 0, 0, 2], 65_535),
     workers: 64,
@@ -142,7 +157,7 @@ fn refuse_all(rt: &impl Abort, alloc: Global, rows: &[Row], fault: FieldFault) {
     }
 }
 
-const NOT_ALLOWED: [Row; 10] = [
+static NOT_ALLOWED: [Row; 10] = [
     ("workers = 0", Key::Workers),
     ("workers = 65", Key::Workers),
     ("workers = -1", Key::Workers),
@@ -163,7 +178,7 @@ fn each_value_has_its_bounds(rt: HostRuntime) {
     refuse_all(&rt, rt.alloc(), &NOT_ALLOWED, FieldFault::NotAllowed);
 }
 
-const OTHER_KIND: [Row; 9] = [
+static OTHER_KIND: [Row; 9] = [
     ("workers = '4'", Key::Workers),
     ("workers = 4.0", Key::Workers),
     ("outbox_limit = []", Key::OutboxLimit),
@@ -180,7 +195,7 @@ fn each_value_has_its_kind(rt: HostRuntime) {
     refuse_all(&rt, rt.alloc(), &OTHER_KIND, FieldFault::OtherKind);
 }
 
-const ADDRESSES: [(&[u8], FieldFault); 5] = [
+static ADDRESSES: [(&[u8], FieldFault); 5] = [
     (b"workers = 4", FieldFault::Missing),
     (b"address = 8200", FieldFault::OtherKind),
     (b"address = 'localhost:8200'", FieldFault::NotAllowed),
@@ -190,9 +205,9 @@ const ADDRESSES: [(&[u8], FieldFault); 5] = [
 
 #[test]
 fn an_address_is_four_numbers_and_a_port(rt: HostRuntime) {
-    for (file, fault) in ADDRESSES {
+    for (file, fault) in &ADDRESSES {
         let told = refusal(rt.alloc(), file);
-        same_for(&rt, &file, told, refused(Key::Address, fault));
+        same_for(&rt, file, told, refused(Key::Address, *fault));
     }
 }
 
@@ -218,19 +233,19 @@ fn bad_line(place: usize, fault: FieldFault) -> Option<SetupError> {
     Some(SetupError::Unusable(Refusal::MotdLine { place, fault }))
 }
 
-const BAD_LINES: [(&str, FieldFault); 2] = [
+static BAD_LINES: [(&str, FieldFault); 2] = [
     ("motd = ['a', \"b\\nc\", 5]", FieldFault::NotAllowed),
     ("motd = ['a', 5, \"b\\r\"]", FieldFault::OtherKind),
 ];
 
 #[test]
 fn the_first_bad_line_of_the_day_is_named(rt: HostRuntime) {
-    for (line, fault) in BAD_LINES {
+    for (line, fault) in &BAD_LINES {
         same_for(
             &rt,
-            &line,
+            line,
             refusal_with(rt.alloc(), line),
-            bad_line(2, fault),
+            bad_line(2, *fault),
         );
     }
     same(&rt, refusal_of_lines(rt.alloc(), 100), None);
@@ -252,7 +267,7 @@ fn shows(alloc: Global, error: Option<SetupError>, wanted: &str) -> bool {
     }
 }
 
-const TEXTS: [(&[u8], &str); 4] = [
+static TEXTS: [(&[u8], &str); 4] = [
     (
         b"workers = 4\naddress = '127.0.0.1:0\n",
         "line 2 is not TOML",
@@ -273,9 +288,9 @@ const TEXTS: [(&[u8], &str); 4] = [
 
 #[test]
 fn a_refusal_says_what_is_wrong_and_where(rt: HostRuntime) {
-    for (file, text) in TEXTS {
+    for (file, text) in &TEXTS {
         let told = refusal(rt.alloc(), file);
-        same_for(&rt, &text, shows(rt.alloc(), told, text), true);
+        same_for(&rt, text, shows(rt.alloc(), told, text), true);
     }
 }
 
