@@ -1,11 +1,11 @@
 //! What a client knows from its bytes, whole and byte by byte, and beyond the longest line.
 
-use crate::verdict::same;
-use client_view::{Battle, Channels, OwnRoom, User, View, ViewError};
+use crate::verdict::same_for;
+use client_view::{View, ViewError};
 use line_words::NameBuf;
+use std::alloc::Global;
 use std::process::Abort;
 use std::rt::HostRuntime;
-use std::test::Fail;
 
 /// What Anna is sent from her login on, until she has opened a battle and Bert and his bot are in it.
 const SENT: &[u8] = b"TASSERVER 0.38 * 8201 0\n\
@@ -34,122 +34,161 @@ SETSCRIPTTAGS a=1\tb=2\n\
 REMOVESCRIPTTAGS a\n\
 SAIDBATTLE Bert go\n";
 
-fn name(bytes: &[u8]) -> Result<NameBuf, Fail> {
-    Ok(NameBuf::of(bytes).ok_or("no name")?)
+/// A battle in the list: its number, map and map's hash, whether it is locked, how many spectators are told, and how many members.
+#[derive(Clone, Copy)]
+struct Listed {
+    number: u32,
+    map: &'static [u8],
+    map_hash: i64,
+    locked: bool,
+    spectators: u16,
+    members: usize,
 }
 
-fn see_users(rt: &impl Abort, view: &mut View) -> Result<(), Fail> {
-    same(rt, view.feed(SENT), Ok(24));
-    assert!(rt; view.me() == b"Anna".as_slice());
-    same(rt, view.users().len(), 2);
-    let bert: &User = view.users().get(&name(b"Bert")?).ok_or("no Bert")?;
-    assert!(rt; bert.country.as_slice() == b"??".as_slice());
-    same(rt, (bert.cpu, bert.account, bert.status), (2400, 2, 12));
-    Ok(())
+/// How much there is in a client's own room, and the number of its battle.
+#[derive(Clone, Copy)]
+struct Held {
+    battle: u32,
+    members: usize,
+    bots: usize,
+    tags: usize,
 }
 
-#[test]
-fn a_view_has_what_the_lines_told(rt: HostRuntime) -> Result<(), Fail> {
-    let mut view = View::new(rt.alloc());
-    let seen = see_users(&rt, &mut view);
-    drop(view);
-    seen
+/// What is fed to a view, and what it shows then.
+#[derive(Clone, Copy)]
+enum Step {
+    /// These bytes at once, with this answer.
+    Feeds(&'static [u8], Result<usize, ViewError>),
+    /// These bytes one by one, of which so many lines are folded.
+    FeedsEach(&'static [u8], usize),
+    /// These bytes, and after each refusal of memory what was not taken in; so many lines are folded.
+    FeedsOn(&'static [u8], usize),
+    Me(&'static [u8]),
+    /// There are so many users, channels and battles.
+    Counts(usize, usize, usize),
+    /// A user of this name, country, speed, account and status.
+    User(&'static [u8], &'static [u8], i64, u32, u32),
+    /// A channel of so many members, the first of whom is this.
+    Channel(&'static [u8], usize, &'static [u8]),
+    Lists(Listed),
+    Holds(Held),
+    /// The room's first bot has this status and colour.
+    Bot(u32, i64),
+    /// The room has one rectangle, of the first allies, which ends at the right and below at these.
+    Rect(u8, u8),
+    Units(&'static [&'static [u8]]),
+    HasNoRoom,
 }
 
-fn see_channel(rt: &impl Abort, view: &mut View) -> Result<(), Fail> {
-    same(rt, view.feed(SENT), Ok(24));
-    let channels: &Channels = view.channels();
-    same(rt, channels.len(), 1);
-    let names = channels.get(&name(b"main")?).ok_or("no main")?;
-    same(rt, names.len(), 2);
-    assert!(rt;
-        names
-            .first()
-            .is_some_and(|first| first.as_slice() == b"Anna".as_slice())
-    );
-    same(rt, view.feed(b"LEFT main Anna\n"), Ok(1));
-    same(rt, view.channels().len(), 0);
-    Ok(())
+/// How many lines are folded of bytes that are fed one by one.
+fn feed_each(view: &mut View, bytes: &[u8]) -> Option<usize> {
+    let mut folded: usize = 0;
+    for k in 0..bytes.len() {
+        folded = folded.saturating_add(view.feed(&bytes[k..k + 1]).ok()?);
+    }
+    Some(folded)
 }
 
-#[test]
-fn a_channel_has_those_who_are_in_it(rt: HostRuntime) -> Result<(), Fail> {
-    let mut view = View::new(rt.alloc());
-    let seen = see_channel(&rt, &mut view);
-    drop(view);
-    seen
+/// What is left of a piece where memory was refused behind so many bytes: that is at its start or behind an LF, and before the end.
+fn left_of(piece: &[u8], taken: usize) -> Option<&[u8]> {
+    let (taken_in, left) = piece.split_at_checked(taken)?;
+    if (taken_in.is_empty() || taken_in.ends_with(b"\n")) && !left.is_empty() {
+        Some(left)
+    } else {
+        None
+    }
 }
 
-fn see_battle(rt: &impl Abort, view: &mut View) -> Result<(), Fail> {
-    same(rt, view.feed(SENT), Ok(24));
-    same(rt, view.battles().len(), 1);
-    let battle: &Battle = view.battles().get(1).ok_or("no battle")?;
-    assert!(rt; battle.opened.map.as_slice() == b"Other Map".as_slice() && battle.locked);
-    same(rt, (battle.spectators, battle.opened.map_hash), (2, 5));
-    same(rt, battle.members().len(), 2);
-    Ok(())
+/// Feeds a piece, and after each refusal of memory what was not taken in. Gives how many lines were folded.
+fn feed_on(view: &mut View, piece: &[u8]) -> Option<usize> {
+    let mut rest = piece;
+    let mut before: usize = 0;
+    for _ in 0..piece.len() {
+        match view.feed(rest) {
+            Ok(count) => return Some(before.saturating_add(count)),
+            Err(ViewError::Memory { taken, folded }) => {
+                rest = left_of(rest, taken)?;
+                before = before.saturating_add(folded);
+            }
+            Err(ViewError::LineTooLong) => return None,
+        }
+    }
+    None
 }
 
-#[test]
-fn a_battle_has_its_members(rt: HostRuntime) -> Result<(), Fail> {
-    let mut view = View::new(rt.alloc());
-    let seen = see_battle(&rt, &mut view);
-    drop(view);
-    seen
+fn has_counts(view: &View, users: usize, channels: usize, battles: usize) -> bool {
+    view.users().len() == users
+        && view.channels().len() == channels
+        && view.battles().len() == battles
 }
 
-fn see_room(rt: &impl Abort, view: &mut View) -> Result<(), Fail> {
-    same(rt, view.feed(SENT), Ok(24));
-    let room: &OwnRoom = view.room().ok_or("no room")?;
-    same(
-        rt,
-        (room.battle(), room.members().len(), room.bots().len()),
-        (1, 2, 1),
-    );
-    let bot = room.bots().first().ok_or("no bot")?;
-    same(rt, (bot.status(), bot.colour()), (1024, -1));
-    assert!(rt;
-        room.rect_at(1)
-            .is_some_and(|rect| rect.right == 200 && rect.bottom == 60)
-    );
-    same(rt, (room.rect_count(), room.tags().len()), (1, 1));
-    same(rt, view.feed(b"BATTLECLOSED 1\n"), Ok(1));
-    assert!(rt; view.room().is_none());
-    Ok(())
+fn has_user(view: &View, name: &[u8], country: &[u8], cpu: i64, account: u32, status: u32) -> bool {
+    let Some(name) = NameBuf::of(name) else {
+        return false;
+    };
+    match view.users().get(&name) {
+        Some(user) => user.country.as_slice() == country
+            && user.cpu == cpu
+            && user.account == account
+            && user.status == status,
+        None => false,
+    }
 }
 
-#[test]
-fn the_room_has_what_its_members_share(rt: HostRuntime) -> Result<(), Fail> {
-    let mut view = View::new(rt.alloc());
-    let seen = see_room(&rt, &mut view);
-    drop(view);
-    seen
+fn has_channel(view: &View, name: &[u8], members: usize, first: &[u8]) -> bool {
+    let Some(name) = NameBuf::of(name) else {
+        return false;
+    };
+    match view.channels().get(&name) {
+        Some(names) => names.len() == members
+            && names
+                .first()
+                .is_some_and(|member| member.as_slice() == first),
+        None => false,
+    }
 }
 
-/// A line that Anna is sent in her room, and the units that are disabled behind it.
-const UNITS: [(&[u8], &[&[u8]]); 9] = [
-    (b"DISABLEUNITS armcom corcom\n", &[b"armcom", b"corcom"]),
-    (
-        b"#7 DISABLEUNITS armflash\n",
-        &[b"armcom", b"corcom", b"armflash"],
-    ),
-    (
-        b"DISABLEUNITS corcom armpw armpw\n",
-        &[b"armcom", b"corcom", b"armflash", b"armpw"],
-    ),
-    (b"ENABLEUNITS armcom armpw x\n", &[b"corcom", b"armflash"]),
-    (
-        b"DISABLEUNITS armcom\n",
-        &[b"corcom", b"armflash", b"armcom"],
-    ),
-    (
-        b"JOINBATTLEREQUEST Cleo 10.0.0.3\n",
-        &[b"corcom", b"armflash", b"armcom"],
-    ),
-    (b"ENABLEALLUNITS\n", &[]),
-    (b"DISABLEUNITS corcom\n", &[b"corcom"]),
-    (b"OPENBATTLE 1\n", &[]),
-];
+fn lists(view: &View, wanted: &Listed) -> bool {
+    match view.battles().get(wanted.number) {
+        Some(battle) => battle.opened.map.as_slice() == wanted.map
+            && battle.opened.map_hash == wanted.map_hash
+            && battle.locked == wanted.locked
+            && battle.spectators == wanted.spectators
+            && battle.members().len() == wanted.members,
+        None => false,
+    }
+}
+
+fn holds(view: &View, wanted: &Held) -> bool {
+    match view.room() {
+        Some(room) => room.battle() == wanted.battle
+            && room.members().len() == wanted.members
+            && room.bots().len() == wanted.bots
+            && room.tags().len() == wanted.tags,
+        None => false,
+    }
+}
+
+fn has_bot(view: &View, status: u32, colour: i64) -> bool {
+    match view.room() {
+        Some(room) => match room.bots().first() {
+            Some(bot) => bot.status() == status && bot.colour() == colour,
+            None => false,
+        },
+        None => false,
+    }
+}
+
+fn has_rect(view: &View, right: u8, bottom: u8) -> bool {
+    match view.room() {
+        Some(room) => room.rect_count() == 1
+            && match room.rect_at(1) {
+                Some(rect) => rect.right == right && rect.bottom == bottom,
+                None => false,
+            },
+        None => false,
+    }
+}
 
 fn has_units(view: &View, wanted: &[&[u8]]) -> bool {
     let Some(room) = view.room() else {
@@ -162,116 +201,178 @@ fn has_units(view: &View, wanted: &[&[u8]]) -> bool {
     same
 }
 
-fn see_units(rt: &impl Abort, view: &mut View) {
-    same(rt, view.feed(SENT), Ok(24));
-    for (line, units) in UNITS {
-        same(rt, view.feed(line), Ok(1));
-        assert!(rt; has_units(view, units));
+/// Whether a view shows what a step says.
+fn shows(view: &View, step: &Step) -> bool {
+    match step {
+        Step::Me(name) => view.me() == *name,
+        Step::Counts(users, channels, battles) => has_counts(view, *users, *channels, *battles),
+        Step::User(name, country, cpu, account, status) => has_user(
+            view, name, country, *cpu, *account, *status,
+        ),
+        Step::Channel(name, members, first) => has_channel(view, name, *members, first),
+        Step::Lists(wanted) => lists(view, wanted),
+        Step::Holds(wanted) => holds(view, wanted),
+        Step::Bot(status, colour) => has_bot(view, *status, *colour),
+        Step::Rect(right, bottom) => has_rect(view, *right, *bottom),
+        Step::Units(wanted) => has_units(view, wanted),
+        Step::HasNoRoom => view.room().is_none(),
+        _ => false,
     }
 }
+
+/// Whether a step comes out as it says.
+fn takes(view: &mut View, step: &Step) -> bool {
+    match step {
+        Step::Feeds(bytes, told) => view.feed(bytes) == *told,
+        Step::FeedsEach(bytes, folded) => feed_each(view, bytes) == Some(*folded),
+        Step::FeedsOn(bytes, folded) => feed_on(view, bytes) == Some(*folded),
+        _ => shows(view, step),
+    }
+}
+
+fn take_all(rt: &impl Abort, view: &mut View, steps: &[Step]) {
+    for (k, step) in steps.iter().enumerate() {
+        same_for(rt, &k, takes(view, step), true);
+    }
+}
+
+/// Takes these steps with a new view.
+fn play(rt: &impl Abort, alloc: Global, steps: &[Step]) {
+    let mut view = View::new(alloc);
+    take_all(rt, &mut view, steps);
+    drop(view);
+}
+
+static USERS: [Step; 4] = [
+    Step::Feeds(SENT, Ok(24)),
+    Step::Me(b"Anna"),
+    Step::Counts(2, 1, 1),
+    Step::User(b"Bert", b"??", 2400, 2, 12),
+];
+
+#[test]
+fn a_view_has_what_the_lines_told(rt: HostRuntime) {
+    play(&rt, rt.alloc(), &USERS);
+}
+
+static CHANNEL: [Step; 5] = [
+    Step::Feeds(SENT, Ok(24)),
+    Step::Counts(2, 1, 1),
+    Step::Channel(b"main", 2, b"Anna"),
+    Step::Feeds(b"LEFT main Anna\n", Ok(1)),
+    Step::Counts(2, 0, 1),
+];
+
+#[test]
+fn a_channel_has_those_who_are_in_it(rt: HostRuntime) {
+    play(&rt, rt.alloc(), &CHANNEL);
+}
+
+static BATTLE: [Step; 3] = [
+    Step::Feeds(SENT, Ok(24)),
+    Step::Counts(2, 1, 1),
+    Step::Lists(Listed {
+        number: 1,
+        map: b"Other Map",
+        map_hash: 5,
+        locked: true,
+        spectators: 2,
+        members: 2,
+    }),
+];
+
+#[test]
+fn a_battle_has_its_members(rt: HostRuntime) {
+    play(&rt, rt.alloc(), &BATTLE);
+}
+
+const ROOM: Held = Held {
+    battle: 1,
+    members: 2,
+    bots: 1,
+    tags: 1,
+};
+
+static SHARED: [Step; 6] = [
+    Step::Feeds(SENT, Ok(24)),
+    Step::Holds(ROOM),
+    Step::Bot(1024, -1),
+    Step::Rect(200, 60),
+    Step::Feeds(b"BATTLECLOSED 1\n", Ok(1)),
+    Step::HasNoRoom,
+];
+
+#[test]
+fn the_room_has_what_its_members_share(rt: HostRuntime) {
+    play(&rt, rt.alloc(), &SHARED);
+}
+
+/// Lines that Anna is sent in her room, and the units that are disabled behind each.
+static UNITS: [Step; 19] = [
+    Step::Feeds(SENT, Ok(24)),
+    Step::Feeds(b"DISABLEUNITS armcom corcom\n", Ok(1)),
+    Step::Units(&[b"armcom", b"corcom"]),
+    Step::Feeds(b"#7 DISABLEUNITS armflash\n", Ok(1)),
+    Step::Units(&[b"armcom", b"corcom", b"armflash"]),
+    Step::Feeds(b"DISABLEUNITS corcom armpw armpw\n", Ok(1)),
+    Step::Units(&[b"armcom", b"corcom", b"armflash", b"armpw"]),
+    Step::Feeds(b"ENABLEUNITS armcom armpw x\n", Ok(1)),
+    Step::Units(&[b"corcom", b"armflash"]),
+    Step::Feeds(b"DISABLEUNITS armcom\n", Ok(1)),
+    Step::Units(&[b"corcom", b"armflash", b"armcom"]),
+    Step::Feeds(b"JOINBATTLEREQUEST Cleo 10.0.0.3\n", Ok(1)),
+    Step::Units(&[b"corcom", b"armflash", b"armcom"]),
+    Step::Feeds(b"ENABLEALLUNITS\n", Ok(1)),
+    Step::Units(&[]),
+    Step::Feeds(b"DISABLEUNITS corcom\n", Ok(1)),
+    Step::Units(&[b"corcom"]),
+    Step::Feeds(b"OPENBATTLE 1\n", Ok(1)),
+    Step::Units(&[]),
+];
 
 #[test]
 fn the_room_has_the_units_that_are_disabled(rt: HostRuntime) {
-    let mut view = View::new(rt.alloc());
-    see_units(&rt, &mut view);
-    drop(view);
+    play(&rt, rt.alloc(), &UNITS);
 }
 
-fn see_pieces(rt: &impl Abort, view: &mut View) -> Result<(), Fail> {
-    let mut folded: usize = 0;
-    for k in 0..SENT.len() {
-        folded = folded.saturating_add(view.feed(&SENT[k..k + 1])?);
-    }
-    same(rt, folded, 24);
-    same(
-        rt,
-        (
-            view.users().len(),
-            view.channels().len(),
-            view.battles().len(),
-        ),
-        (2, 1, 1),
-    );
-    let room = view.room().ok_or("no room")?;
-    same(
-        rt,
-        (room.members().len(), room.bots().len(), room.tags().len()),
-        (2, 1, 1),
-    );
-    Ok(())
-}
+static PIECES: [Step; 3] = [
+    Step::FeedsEach(SENT, 24),
+    Step::Counts(2, 1, 1),
+    Step::Holds(ROOM),
+];
 
 #[test]
-fn a_view_is_the_same_however_its_bytes_are_cut(rt: HostRuntime) -> Result<(), Fail> {
-    let mut view = View::new(rt.alloc());
-    let seen = see_pieces(&rt, &mut view);
-    drop(view);
-    seen
+fn a_view_is_the_same_however_its_bytes_are_cut(rt: HostRuntime) {
+    play(&rt, rt.alloc(), &PIECES);
 }
 
-fn see_longest(rt: &impl Abort, view: &mut View) {
-    same(rt, view.feed(&[b'A'; 20_479]), Ok(0));
-    same(rt, view.feed(b"\nACCEPTED Bert\n"), Ok(1));
-    same(rt, view.feed(&[b'A'; 20_480]), Err(ViewError::LineTooLong));
-    same(
-        rt,
-        view.feed(b"\nACCEPTED Anna\n"),
-        Err(ViewError::LineTooLong),
-    );
-    assert!(rt; view.me() == b"Bert".as_slice());
-}
+static LONGEST: [Step; 5] = [
+    Step::Feeds(&[b'A'; 20_479], Ok(0)),
+    Step::Feeds(b"\nACCEPTED Bert\n", Ok(1)),
+    Step::Feeds(&[b'A'; 20_480], Err(ViewError::LineTooLong)),
+    Step::Feeds(b"\nACCEPTED Anna\n", Err(ViewError::LineTooLong)),
+    Step::Me(b"Bert"),
+];
 
 #[test]
 fn a_line_of_20479_bytes_is_a_line_and_a_longer_one_ends_all(rt: HostRuntime) {
-    let mut view = View::new(rt.alloc());
-    see_longest(&rt, &mut view);
-    drop(view);
+    play(&rt, rt.alloc(), &LONGEST);
 }
 
-/// Feeds a piece, and after each refusal of memory what was not taken in. Gives how many lines were
-/// folded, and sees that each refusal stopped at the start or behind an LF, before the end.
-fn feed_on(rt: &impl Abort, view: &mut View, piece: &[u8]) -> Result<usize, Fail> {
-    let mut rest = piece;
-    let mut before: usize = 0;
-    for _ in 0..piece.len() {
-        match view.feed(rest) {
-            Ok(count) => return Ok(before.saturating_add(count)),
-            Err(ViewError::Memory { taken, folded }) => {
-                let (taken_in, left) = rest.split_at_checked(taken).ok_or("more than all")?;
-                assert!(rt; taken_in.is_empty() || taken_in.ends_with(b"\n"));
-                assert!(rt; !left.is_empty());
-                before = before.saturating_add(folded);
-                rest = left;
-            }
-            Err(ViewError::LineTooLong) => return Err("a line is too long".into()),
-        }
-    }
-    Err("no end".into())
-}
-
-fn see_fed_on(rt: &impl Abort, view: &mut View) -> Result<(), Fail> {
-    same(rt, feed_on(rt, view, SENT)?, 24);
-    same(rt, feed_on(rt, view, b"ADDBOT 1 Rex")?, 0);
-    same(rt, feed_on(rt, view, b" Bert 0 0 E323\n")?, 1);
-    let room = view.room().ok_or("no room")?;
-    same(
-        rt,
-        (
-            view.users().len(),
-            view.battles().len(),
-            room.members().len(),
-            room.bots().len(),
-            room.tags().len(),
-        ),
-        (2, 1, 2, 2, 1),
-    );
-    Ok(())
-}
+static FED_ON: [Step; 5] = [
+    Step::FeedsOn(SENT, 24),
+    Step::FeedsOn(b"ADDBOT 1 Rex", 0),
+    Step::FeedsOn(b" Bert 0 0 E323\n", 1),
+    Step::Counts(2, 1, 1),
+    Step::Holds(Held {
+        battle: 1,
+        members: 2,
+        bots: 2,
+        tags: 1,
+    }),
+];
 
 #[test]
-fn a_feed_that_memory_refused_goes_on_where_it_stopped(rt: HostRuntime) -> Result<(), Fail> {
-    let mut view = View::new(rt.alloc());
-    let seen = see_fed_on(&rt, &mut view);
-    drop(view);
-    seen
+fn a_feed_that_memory_refused_goes_on_where_it_stopped(rt: HostRuntime) {
+    play(&rt, rt.alloc(), &FED_ON);
 }
