@@ -1,13 +1,12 @@
 -- What a drain takes.
 use Rattle.std.proofs.Common.{◌≡◌, ℕ, zero, suc, ◌+◌, ◌-◌, ◌*◌, ◌<◌, ◌≤◌, true, false, List, [], ◌∷◌, ◌++◌, length, take, drop, min, refl, sym, ap, ◌∙◌, arith, append_assoc, append-nil, length-append, subst, true≢false, inl, inr}
-use Rattle.std.specs.Prelude.{◌||◌, Option, Some, None, Result, Ok, Err, is_ok, if◌then◌else◌}
+use Rattle.std.specs.Prelude.{◌||◌, Option, Some, None, if◌then◌else◌}
 use Rattle.std.proofs.Math.Bool.{or-false}
 use Rattle.std.proofs.Math.Seq.{take-append-add}
 use Rattle.std.proofs.lemmas.List.{length-drop, take_at, take-append-le, length-take-le, drop_all}
 use Rattle.std.specs.FinMap.{nat_cmp-IsAntisymmetric}
 use Rattle.std.specs.Ordering.{nat_cmp}
 use Rattle.std.specs.Option.{option_map}
-use Rattle.std.specs.Result.{IsOk}
 use Rattle.line_words.specs.Table.{at_number}
 use Rattle.line_words.proofs.Tables.{at-change}
 use Rattle.lobby_model.specs.declared.event.Event.TheVariants as event
@@ -194,11 +193,6 @@ drained_held p q h k c n into piece taken is d =
       dry_is = d.dry_is;
       all = d.all;
     })
-
--- what was copied
-pub copied : {A B : Type 0} (r : Result A B) (new old piece : List ℕ) → IsOk r → new ≡ (if is_ok r then old ++ piece else old) → new ≡ old ++ piece
-copied (Ok x) new old piece ok is = is
-copied (Err x) new old piece ok is = absurd (true≢false (sym ok))
 
 -- ---- letting go
 

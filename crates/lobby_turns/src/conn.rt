@@ -1,6 +1,6 @@
 //! The connection of a client.
 
-ghost use Rattle.std.specs.Prelude.{◌≡◌, ◌≢◌, ◌↔◌, ◌+◌, ◌≤◌, ◌<◌, ℕ, List, [], ◌++◌, length, drop, OnOk, OnErr, IfOk, IsTrue, Some};
+ghost use Rattle.std.specs.Prelude.{◌≡◌, ◌≢◌, ◌↔◌, ◌+◌, ◌≤◌, ℕ, List, [], ◌++◌, length, drop, OnOk, OnErr, IfOk, IsTrue, Some};
 ghost use Rattle.lobby_lock.specs.Passes.{ShownPass};
 ghost use Rattle.client_session.specs.OneSession.{Accepted, HasLineNext, IsNextOf};
 ghost use Rattle.client_session.specs.Sessions.{Heard, KeepsKinds};
@@ -10,6 +10,7 @@ ghost use Rattle.lobby_turns.specs.Went.{Went};
 
 use crate::gate::Gate;
 use crate::link::{Got, Link, Sent};
+use byte_queue::ByteQueue;
 use client_session::{Next, Session};
 use line_framer::FeedError;
 use std::alloc::{AllocError, Global};
@@ -27,20 +28,18 @@ pub struct Conn {
     pub(crate) alloc: Global,
     pub(crate) session: Session,
     pub(crate) unfed: Vec<u8>,
-    pub(crate) drained: Vec<u8>,
-    // how many of the drained bytes were written
-    pub(crate) written: usize,
+    pub(crate) unwritten: ByteQueue,
 }
 
 impl Model for Conn {
-    ghost use Rattle.std.specs.Prelude.{◌≡◌, ◌≤◌, drop, vec_len, vec_capacity};
+    ghost use Rattle.std.specs.Prelude.{◌≡◌, []};
     ghost use Rattle.lobby_turns.specs.Snapshot.{Carried};
 
     ghost Value = { Carried };
 
-    ghost view = { λ c. record { session = c.session; unfed = c.unfed.items; unwritten = drop c.written c.drained.items } };
+    ghost view = { λ c. record { session = c.session; unfed = c.unfed.items; unwritten = c.unwritten.bytes } };
 
-    ghost invariant = { λ c. (c.written ≤ vec_len c.drained) × (vec_len c.drained ≤ c.written → vec_capacity c.drained ≡ 0) };
+    ghost invariant = { λ c. c.unwritten.bytes ≡ [] → c.unwritten.room ≡ 0 };
 }
 
 impl Conn {
@@ -55,8 +54,7 @@ impl Conn {
             alloc,
             session: Session::new(alloc, client),
             unfed: Vec::new(alloc),
-            drained: Vec::new(alloc),
-            written: 0,
+            unwritten: ByteQueue::new(alloc),
         }
     }
 
@@ -80,7 +78,7 @@ impl Conn {
     fn rest(&self) -> &[u8]
         ensures { result.now ≡ self.now.unwritten }
     {
-        &self.drained[self.written..]
+        self.unwritten.as_slice()
     }
 
     /// Whether all that was drained was written.
@@ -91,15 +89,11 @@ impl Conn {
     }
 
     /// Has these bytes wait to be written, and no others.
-    pub(crate) fn set_drained(&mut self, drained: Vec<u8>)
-        ensures { self.new ≡ record self.old { unwritten = drained.items } }
+    pub(crate) fn set_drained(&mut self, mut drained: ByteQueue)
+        ensures { self.new ≡ record self.old { unwritten = drained.bytes } }
     {
-        self.written = 0;
-        if drained.is_empty() {
-            self.drained = Vec::new(self.alloc);
-        } else {
-            self.drained = drained;
-        }
+        drained.release(0);
+        self.unwritten = drained;
     }
 
     /// So many bytes more were written.
@@ -107,13 +101,8 @@ impl Conn {
         requires { count ≤ length self.old.unwritten }
         ensures { self.new ≡ record self.old { unwritten = drop count self.old.unwritten } }
     {
-        let written = self.written + count;
-        if written < self.drained.len() {
-            self.written = written;
-        } else {
-            self.written = 0;
-            self.drained = Vec::new(self.alloc);
-        }
+        self.unwritten.consume(count);
+        self.unwritten.release(0);
     }
 
     /// Feeds what was read and not yet fed. Where memory is refused, nothing changes.

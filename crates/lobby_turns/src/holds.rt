@@ -2,7 +2,7 @@
 //! or written in it. A hold has place for 32 events (`MOST_EVENTS`): so many lines of a burst cost one take and one give, and who
 //! waits for the lobby waits for no more of them.
 
-ghost use Rattle.std.specs.Prelude.{◌≡◌, ◌+◌, ◌<◌, ◌≤◌, [], length, vec_len, vec_capacity, OnErr, IfOk, IfSome, IsTrue, Some, None, false};
+ghost use Rattle.std.specs.Prelude.{◌≡◌, ◌+◌, ◌<◌, ◌≤◌, [], length, OnErr, IfOk, IfSome, IsTrue, Some, None, false};
 ghost use Rattle.command_grammar.specs.Kinds.{keeps_kinds};
 ghost use Rattle.lobby_model.specs.declared.event.Event.TheVariants as event;
 ghost use Rattle.lobby_lock.specs.Passes.{pass_after};
@@ -16,6 +16,7 @@ ghost use Rattle.lobby_turns.specs.Holds.{Stands, Made, SaysLines, IsWithin, Sta
 use crate::conn::{Conn, PIECE};
 use crate::gate::Gate;
 use crate::gated_desk::GatedDesk;
+use byte_queue::ByteQueue;
 use client_session::Next;
 use command_grammar::Request;
 use lobby_lock::{Desk, Held, MOST_EVENTS, Pass};
@@ -202,28 +203,28 @@ fn drain_all(held: &mut Held, client: u64, into: &mut [u8]) -> Piece
 
 /// Drains a piece behind what stands in a buffer, in a hold that goes on. The piece comes by way of a
 /// slice of its length.
-fn drain_behind(held: &mut Held, client: u64, bytes: &mut [u8], unwritten: &mut Vec<u8>) -> Piece
+fn drain_behind(held: &mut Held, client: u64, bytes: &mut [u8], unwritten: &mut ByteQueue) -> Piece
     requires few { length held.old.events + 2 ≤ MOST_EVENTS }
     requires stands { Stands held.old }
     requires piece { length bytes.old ≡ PIECE }
-    requires room { vec_len unwritten.old + PIECE ≤ vec_capacity unwritten.old }
-    ensures drained { DrainedBehind (pass_after held.old) (pass_after held.new) client unwritten.old.items unwritten.new.items result }
+    requires room { PIECE ≤ unwritten.old.room }
+    ensures drained { DrainedBehind (pass_after held.old) (pass_after held.new) client unwritten.old.bytes unwritten.new.bytes result }
     ensures stands { Stands held.new }
     ensures count { length held.new.events ≤ length held.old.events + 2 }
     ensures pass { held.new.pass ≡ held.old.pass }
 {
     let piece = drain_all(held, client, bytes);
-    let _ = unwritten.extend_from_slice(&bytes[..piece.count]);
+    unwritten.append(&bytes[..piece.count]);
     piece
 }
 
 /// Drains behind what stands in a buffer that has room for a piece, in a new hold: one piece, and as long
 /// as they are full and memory is there, further ones, so that one write carries more.
-fn drain_pieces(held: &mut Held, client: u64, unwritten: &mut Vec<u8>) -> Piece
+fn drain_pieces(held: &mut Held, client: u64, unwritten: &mut ByteQueue) -> Piece
     requires new { held.old.events ≡ [] }
     requires stands { Stands held.old }
-    requires room { vec_len unwritten.old + PIECE ≤ vec_capacity unwritten.old }
-    ensures drained { DrainedBehind (pass_after held.old) (pass_after held.new) client unwritten.old.items unwritten.new.items result }
+    requires room { PIECE ≤ unwritten.old.room }
+    ensures drained { DrainedBehind (pass_after held.old) (pass_after held.new) client unwritten.old.bytes unwritten.new.bytes result }
     ensures pass { held.new.pass ≡ held.old.pass }
 {
     let mut bytes = [0u8; PIECE];
@@ -267,9 +268,10 @@ pub(crate) fn drain<R: Wait, G: Gate>(
     ensures unfed { conn.new.unfed ≡ conn.old.unfed }
     ensures err { OnErr result.1 ((conn.new ≡ conn.old) × (result.0 ≡ pass)) }
 {
-    let Ok(mut unwritten) = Vec::with_capacity(conn.alloc, PIECE) else {
+    let mut unwritten = ByteQueue::new(conn.alloc);
+    if unwritten.reserve(PIECE).is_err() {
         return (pass, Err(AllocError));
-    };
+    }
     let mut held = desk.take(rt, pass);
     let piece = drain_pieces(&mut held, conn.client(), &mut unwritten);
     let pass = held.give(rt, desk.desk);

@@ -1,4 +1,5 @@
 use Rattle.std.proofs.Common.{◌∙◌, sym, ap}
+use Rattle.byte_queue.specs.Waiting.{Waiting}
 use Rattle.lobby_turns.specs.Snapshot.{Carried}
 use Rattle.lobby_turns.proofs.Drains.{drains_held}
 use Rattle.lobby_turns.proofs.holds.drain.Goals as goal
@@ -12,5 +13,5 @@ returns-clause-ok g c = λ wire.
     c.drain_pieces-piece.ensures.drained
     (ap (λ (x : Carried). x.session) new)
     (ap (λ (x : Carried). x.unfed) new)
-    (c.requires.written ∙ sym c.in-Ok.ensures.items)
+    (c.requires.written ∙ sym (c.reserve.ensures.bytes ∙ ap (λ (w : Waiting). w.bytes) c.new-unwritten.ensures))
     (ap (λ (x : Carried). x.unwritten) new)

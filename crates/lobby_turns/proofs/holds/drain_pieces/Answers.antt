@@ -9,7 +9,7 @@ loop-preserved c =
     let h = c.loop.invariant in
     let d = c.drain_behind-piece-in-loop.ensures in (
       drained_further _ _ _ _ _ _ _ _ _ c.if-piece.false h.0
-          (subst (λ (l : List ℕ). DrainedBehind (pass_after c.loop.held) (pass_after c.drain_behind-piece-in-loop.new.held) c.args.client l c.drain_behind-piece-in-loop.new.unwritten.items c.drain_behind-piece-in-loop.result) c.reserve.ensures.items d.drained),
+          (subst (λ (l : List ℕ). DrainedBehind (pass_after c.loop.held) (pass_after c.drain_behind-piece-in-loop.new.held) c.args.client l c.drain_behind-piece-in-loop.new.unwritten.bytes c.drain_behind-piece-in-loop.result) c.reserve.ensures.bytes d.drained),
       d.stands,
       omega (arith, h.2, d.count),
       d.pass ∙ h.3,
