@@ -5,7 +5,7 @@ ghost use Rattle.std.specs.Prelude.{◌≡◌, [], ◌∷◌, ◌++◌, decimal,
 ghost use Rattle.reply_kinds.specs.declared.Reply.TheVariants as reply;
 ghost use Rattle.line_words.specs.Table.{at_number};
 ghost use Rattle.reply_kinds.specs.Lent.{reply_of};
-ghost use Rattle.room_lists.specs.Room.{asker_names, member_names, new_room};
+ghost use Rattle.room_lists.specs.Room.{asker_names, new_room};
 ghost use Rattle.lobby_model.specs.State.{name_of, updated};
 ghost use Rattle.lobby_model.specs.Outcome.{everyone, tell, user, users};
 ghost use Rattle.lobby_model.specs.Battles.{address, ip_text, leave_battle, leaves_battle, member_has, open_battle, opened_line, say_in_battle, set_own_status, update_battle};
@@ -22,8 +22,8 @@ ghost use Rattle.battle_rules.specs.Opening.{game_hash_in, opens_one, password_i
 use battle_room::Room;
 use command_grammar::Command;
 use line_words::{NameBuf, SentenceBuf, Text, WordBuf, write_number};
-use lobby_guards::Stop;
 use lobby_guards::battle_guards::{founded_by, may_open, next_number, opens_unasked, own_battle};
+use lobby_guards::{Issuer, Stop};
 use lobby_maps::{Battle, BattleChange, Change, Maps, NO_PASSWORD, RoomChange};
 use lobby_post::{ClientKey, Post};
 use reply_kinds::{LentReply, OpenedBattle};
@@ -71,26 +71,20 @@ struct Inside {
 }
 
 /// `OPENBATTLE`: the user is in no battle and asks to join none, and a number is left.
-pub fn open_battle(
-    maps: &Maps,
-    client: u64,
-    me: &NameBuf,
-    command: &Command,
-    post: &mut Post,
-) -> Result<Change, Stop>
-    requires me { name_of maps.now.plain client ≡ Some me.now }
-    requires issuer { post.old.issuer ≡ client }
+pub fn open_battle(by: &Issuer, command: &Command, post: &mut Post) -> Result<Change, Stop>
+    requires me { name_of by.now.maps.now.plain by.now.client ≡ Some by.now.me.now }
+    requires issuer { post.old.issuer ≡ by.now.client }
     requires opens { opens_one command.now ≡ true }
-    ensures { Answers maps.now.plain client post.old post.new (answer maps.now.plain client (Some me.now) command.now) result }
+    ensures { Answers by.now.maps.now.plain by.now.client post.old post.new (answer by.now.maps.now.plain by.now.client (Some by.now.me.now) command.now) result }
 {
-    may_open(maps, me)?;
-    opens_unasked(maps, me)?;
-    let number = next_number(maps)?;
-    let battle = new_battle(maps, client, me, command)?;
-    match tell_opening(maps, me, number, &battle, post) {
+    may_open(by.maps, by.me)?;
+    opens_unasked(by.maps, by.me)?;
+    let number = next_number(by.maps)?;
+    let battle = new_battle(by, command)?;
+    match tell_opening(by.maps, by.me, number, &battle, post) {
         Ok(()) => Ok(Change::InBattles(BattleChange::Open {
             number,
-            name: me.copy(),
+            name: by.me.copy(),
             battle,
         })),
         Err(refused) => {
@@ -121,20 +115,15 @@ fn tell_opening(
 }
 
 /// The battle that a user opens by a command.
-fn new_battle(
-    maps: &Maps,
-    client: u64,
-    me: &NameBuf,
-    command: &Command,
-) -> Result<Box<Battle>, AllocError>
-    requires me { name_of maps.now.plain client ≡ Some me.now }
+fn new_battle(by: &Issuer, command: &Command) -> Result<Box<Battle>, AllocError>
+    requires me { name_of by.now.maps.now.plain by.now.client ≡ Some by.now.me.now }
     requires opens { opens_one command.now ≡ true }
-    ensures asked { IfOk result (λ battle. answer maps.now.plain client (Some me.now) command.now ≡ open_battle maps.now.plain me.now battle.value) }
-    ensures alone { IfOk result (λ battle. IsNew battle.value me.now) }
+    ensures asked { IfOk result (λ battle. answer by.now.maps.now.plain by.now.client (Some by.now.me.now) command.now ≡ open_battle by.now.maps.now.plain by.now.me.now battle.value) }
+    ensures alone { IfOk result (λ battle. IsNew battle.value by.now.me.now) }
 {
-    let opened = opened_by(maps, client, me, command)?;
-    match inside_of(maps, me, command) {
-        Ok(inside) => boxed_battle(maps.alloc(), opened, inside),
+    let opened = opened_by(by, command)?;
+    match inside_of(by.maps, by.me, command) {
+        Ok(inside) => boxed_battle(by.maps.alloc(), opened, inside),
         Err(refused) => {
             drop(opened);
             Err(refused)
@@ -168,15 +157,10 @@ fn boxed_battle(
 }
 
 /// What all are told of the battle that a user opens by a command.
-fn opened_by(
-    maps: &Maps,
-    client: u64,
-    me: &NameBuf,
-    command: &Command,
-) -> Result<OpenedBattle, AllocError>
-    requires there { is_some (at_number maps.now.plain.clients client) ≡ true }
+fn opened_by(by: &Issuer, command: &Command) -> Result<OpenedBattle, AllocError>
+    requires there { is_some (at_number by.now.maps.now.plain.clients by.now.client) ≡ true }
     requires opens { opens_one command.now ≡ true }
-    ensures { IfOk result (λ opened. answer maps.now.plain client (Some me.now) command.now ≡ open_battle maps.now.plain me.now (started opened (password_in command.now) (game_hash_in command.now) (new_room me.now))) }
+    ensures { IfOk result (λ opened. answer by.now.maps.now.plain by.now.client (Some by.now.me.now) command.now ≡ open_battle by.now.maps.now.plain by.now.me.now (started opened (password_in command.now) (game_hash_in command.now) (new_room by.now.me.now))) }
 {
     let Command::OpenBattle {
         battle_type,
@@ -191,11 +175,11 @@ fn opened_by(
     else {
         unreachable!()
     };
-    let texts = texts_of(maps, client, command)?;
+    let texts = texts_of(by.maps, by.client, command)?;
     Ok(OpenedBattle {
         battle_type: *battle_type,
         nat_type: *nat_type,
-        founder: me.copy(),
+        founder: by.me.copy(),
         ip: texts.ip,
         port: *port,
         max_players: *max_players,
@@ -288,17 +272,17 @@ fn tell_opener(maps: &Maps, me: &NameBuf, number: u32, post: &mut Post) -> Resul
 }
 
 /// `LEAVEBATTLE`: the user is in a battle, or asks to join one, and asks no more.
-pub fn leave_battle(maps: &Maps, client: u64, me: &NameBuf, post: &mut Post) -> Result<Change, Stop>
-    ensures { Answers maps.now.plain client post.old post.new (leave_battle maps.now.plain me.now) result }
+pub fn leave_battle(by: &Issuer, post: &mut Post) -> Result<Change, Stop>
+    ensures { Answers by.now.maps.now.plain by.now.client post.old post.new (leave_battle by.now.maps.now.plain by.now.me.now) result }
 {
-    if let Some(number) = maps.asked_by(me) {
-        return Ok(stop_asking(number, me));
+    if let Some(number) = by.maps.asked_by(by.me) {
+        return Ok(stop_asking(number, by.me));
     }
-    let (number, battle) = own_battle(maps, me)?;
-    tell_leaving(maps, me, number, battle, Leaving::Seen, post)?;
+    let (number, battle) = own_battle(by.maps, by.me)?;
+    tell_leaving(by.maps, by.me, number, battle, Leaving::Seen, post)?;
     Ok(Change::InBattles(BattleChange::Leave {
         number,
-        name: me.copy(),
+        name: by.me.copy(),
     }))
 }
 
@@ -388,19 +372,17 @@ fn tell_leaving_all(
 
 /// `UPDATEBATTLEINFO`: the user is in a battle, which it founded.
 pub fn update_battle(
-    maps: &Maps,
-    client: u64,
-    me: &NameBuf,
+    by: &Issuer,
     spectators: u16,
     locked: bool,
     map_hash: i64,
     map: &SentenceBuf,
     post: &mut Post,
 ) -> Result<Change, Stop>
-    ensures { Answers maps.now.plain client post.old post.new (update_battle maps.now.plain me.now (updated spectators locked map_hash map.now)) result }
+    ensures { Answers by.now.maps.now.plain by.now.client post.old post.new (update_battle by.now.maps.now.plain by.now.me.now (updated spectators locked map_hash map.now)) result }
 {
-    let (number, battle) = own_battle(maps, me)?;
-    founded_by(battle, me)?;
+    let (number, battle) = own_battle(by.maps, by.me)?;
+    founded_by(battle, by.me)?;
     let line = LentReply::UpdateBattleInfo {
         battle: number,
         spectator_count: spectators,
@@ -408,33 +390,31 @@ pub fn update_battle(
         map_hash,
         map,
     };
-    maps.tell_all(line, post)?;
+    by.maps.tell_all(line, post)?;
     Ok(Change::InBattles(BattleChange::Update {
         number,
         spectators,
         locked,
         map_hash,
-        map: SentenceBuf::copy_of(maps.alloc(), map.as_slice())?,
+        map: SentenceBuf::copy_of(by.maps.alloc(), map.as_slice())?,
     }))
 }
 
 /// `MYBATTLESTATUS`: the user is in a battle. Its handicap stays.
 pub fn my_battle_status(
-    maps: &Maps,
-    client: u64,
-    me: &NameBuf,
+    by: &Issuer,
     asked: u32,
     colour: i64,
     post: &mut Post,
 ) -> Result<Change, Stop>
-    ensures { Answers maps.now.plain client post.old post.new (set_own_status maps.now.plain me.now asked colour) result }
+    ensures { Answers by.now.maps.now.plain by.now.client post.old post.new (set_own_status by.now.maps.now.plain by.now.me.now asked colour) result }
 {
-    let (number, battle) = own_battle(maps, me)?;
-    let status = match battle.room.member(me) {
+    let (number, battle) = own_battle(by.maps, by.me)?;
+    let status = match battle.room.member(by.me) {
         Some(member) => merge_battle(member.status(), asked),
         None => unreachable!(),
     };
-    Ok(give_status(maps, number, battle, me, status, colour, post)?)
+    Ok(give_status(by.maps, number, battle, by.me, status, colour, post)?)
 }
 
 /// A member of a battle has this status and colour from now on.
@@ -467,17 +447,11 @@ pub fn give_status(
 }
 
 /// `SAYBATTLE` and `SAYBATTLEEX`: the user is in a battle.
-pub fn say_in_battle(
-    maps: &Maps,
-    client: u64,
-    me: &NameBuf,
-    line: LentReply,
-    post: &mut Post,
-) -> Result<Change, Stop>
-    ensures { Answers maps.now.plain client post.old post.new (say_in_battle maps.now.plain me.now (reply_of line.entry)) result }
+pub fn say_in_battle(by: &Issuer, line: LentReply, post: &mut Post) -> Result<Change, Stop>
+    ensures { Answers by.now.maps.now.plain by.now.client post.old post.new (say_in_battle by.now.maps.now.plain by.now.me.now (reply_of line.entry)) result }
 {
-    let (_, battle) = own_battle(maps, me)?;
-    maps.tell_room(&battle.room, line, post)?;
+    let (_, battle) = own_battle(by.maps, by.me)?;
+    by.maps.tell_room(&battle.room, line, post)?;
     Ok(Change::Nothing)
 }
 

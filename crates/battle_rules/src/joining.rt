@@ -17,11 +17,11 @@ ghost use Rattle.battle_rules.specs.BattleTalk.{is_issuer, written};
 use crate::battles::{address_of, stop_asking};
 use battle_room::{ALLY_COUNT, Room};
 use line_words::{NameBuf, Text, TextBuf, WordBuf};
-use lobby_guards::Stop;
 use lobby_guards::battle_guards::{
     asker_named, battle_numbered, founded_by, joins_unasked, may_join, not_locked, own_battle,
     right_password,
 };
+use lobby_guards::{Issuer, Stop};
 use lobby_maps::{Battle, BattleChange, Change, Maps};
 use lobby_post::{ClientKey, Post};
 use reply_kinds::LentReply;
@@ -39,30 +39,28 @@ pub enum Recipient {
 
 /// `JOINBATTLE`: the user is in no battle and asks to join none; there is a battle of that number,
 /// which is not locked and lets it in. It joins, or, where the founder authorises who does, it asks.
-pub fn join_battle<'a>(
-    maps: &Maps,
-    client: u64,
-    me: &'a NameBuf,
+pub fn join_battle(
+    by: &Issuer,
     number: u32,
     password: Option<&WordBuf>,
-    script_password: Option<&'a WordBuf>,
+    script_password: Option<&WordBuf>,
     post: &mut Post,
 ) -> Result<Change, Stop>
-    requires me { name_of maps.now.plain client ≡ Some me.now }
-    requires issuer { post.old.issuer ≡ client }
-    ensures { Answers maps.now.plain client post.old post.new (join_battle maps.now.plain me.now (address (at_number maps.now.plain.clients client)) number (option_copied password.entry) (option_copied script_password.entry)) result }
+    requires me { name_of by.now.maps.now.plain by.now.client ≡ Some by.now.me.now }
+    requires issuer { post.old.issuer ≡ by.now.client }
+    ensures { Answers by.now.maps.now.plain by.now.client post.old post.new (join_battle by.now.maps.now.plain by.now.me.now (address (at_number by.now.maps.now.plain.clients by.now.client)) number (option_copied password.entry) (option_copied script_password.entry)) result }
 {
-    may_join(maps, me)?;
-    joins_unasked(maps, me)?;
-    let battle = battle_numbered(maps, number)?;
+    may_join(by.maps, by.me)?;
+    joins_unasked(by.maps, by.me)?;
+    let battle = battle_numbered(by.maps, number)?;
     not_locked(battle)?;
     right_password(battle, password)?;
-    if maps.is_authorising(&battle.opened.founder) {
-        return Ok(ask_to_join(maps, client, me, number, battle, script_password, post)?);
+    if by.maps.is_authorising(&battle.opened.founder) {
+        return Ok(ask_to_join(by, number, battle, script_password, post)?);
     }
     tell_joining(
-        maps,
-        me,
+        by.maps,
+        by.me,
         number,
         battle,
         script_password,
@@ -71,54 +69,49 @@ pub fn join_battle<'a>(
     )?;
     Ok(Change::InBattles(BattleChange::Join {
         number,
-        name: me.copy(),
+        name: by.me.copy(),
     }))
 }
 
 /// A user asks to join a battle, with the script password that it gave, and the founder is told.
 fn ask_to_join(
-    maps: &Maps,
-    client: u64,
-    me: &NameBuf,
+    by: &Issuer,
     number: u32,
     battle: &Battle,
     script_password: Option<&WordBuf>,
     post: &mut Post,
 ) -> Result<Change, AllocError>
-    requires { name_of maps.now.plain client ≡ Some me.now }
-    ensures told { IfOk result (λ _. Told maps.now.plain post.old post.new (asks_to_join me.now number battle.now (option_copied script_password.entry) (address (at_number maps.now.plain.clients client))).told) }
-    ensures change { IfOk result (λ change. change ≡ InBattles (Ask number me.now (option_copied script_password.entry))) }
+    requires { name_of by.now.maps.now.plain by.now.client ≡ Some by.now.me.now }
+    ensures told { IfOk result (λ _. Told by.now.maps.now.plain post.old post.new (asks_to_join by.now.me.now number battle.now (option_copied script_password.entry) (address (at_number by.now.maps.now.plain.clients by.now.client))).told) }
+    ensures change { IfOk result (λ change. change ≡ InBattles (Ask number by.now.me.now (option_copied script_password.entry))) }
 {
-    let ip = address_of(maps, client)?;
-    let line = LentReply::JoinBattleRequest { user: me, ip: &ip };
-    let told = maps.tell_user(&battle.opened.founder, line, post);
+    let ip = address_of(by.maps, by.client)?;
+    let line = LentReply::JoinBattleRequest {
+        user: by.me,
+        ip: &ip,
+    };
+    let told = by.maps.tell_user(&battle.opened.founder, line, post);
     drop(ip);
     told?;
     Ok(Change::InBattles(BattleChange::Ask {
         number,
-        name: me.copy(),
-        script_password: copy_word(maps.alloc(), script_password)?,
+        name: by.me.copy(),
+        script_password: copy_word(by.maps.alloc(), script_password)?,
     }))
 }
 
 /// `JOINBATTLEACCEPT`: the user is in a battle, which it founded, and the one who joins asks to.
-pub fn accept(
-    maps: &Maps,
-    client: u64,
-    me: &NameBuf,
-    name: &NameBuf,
-    post: &mut Post,
-) -> Result<Change, Stop>
-    requires me { name_of maps.now.plain client ≡ Some me.now }
-    requires issuer { post.old.issuer ≡ client }
-    ensures { Answers maps.now.plain client post.old post.new (accept maps.now.plain me.now name.now) result }
+pub fn accept(by: &Issuer, name: &NameBuf, post: &mut Post) -> Result<Change, Stop>
+    requires me { name_of by.now.maps.now.plain by.now.client ≡ Some by.now.me.now }
+    requires issuer { post.old.issuer ≡ by.now.client }
+    ensures { Answers by.now.maps.now.plain by.now.client post.old post.new (accept by.now.maps.now.plain by.now.me.now name.now) result }
 {
-    let (number, battle) = own_battle(maps, me)?;
-    founded_by(battle, me)?;
+    let (number, battle) = own_battle(by.maps, by.me)?;
+    founded_by(battle, by.me)?;
     let asker = asker_named(battle, name)?;
     let script_password = asker.script_password();
     tell_joining(
-        maps,
+        by.maps,
         name,
         number,
         battle,
@@ -133,22 +126,21 @@ pub fn accept(
 }
 
 /// `JOINBATTLEDENY`: the user is in a battle, which it founded, and the one who is denied it asks to
-/// join. It is told the reason, if one is given.
+/// join. It is told the reason, or, where none is given, that the founder denied it.
 pub fn deny(
-    maps: &Maps,
-    client: u64,
-    me: &NameBuf,
+    by: &Issuer,
     name: &NameBuf,
     reason: Option<&TextBuf>,
     post: &mut Post,
 ) -> Result<Change, Stop>
-    ensures { Answers maps.now.plain client post.old post.new (deny maps.now.plain me.now name.now (option_copied reason.entry)) result }
+    ensures { Answers by.now.maps.now.plain by.now.client post.old post.new (deny by.now.maps.now.plain by.now.me.now name.now (option_copied reason.entry)) result }
 {
-    let (number, battle) = own_battle(maps, me)?;
-    founded_by(battle, me)?;
+    let (number, battle) = own_battle(by.maps, by.me)?;
+    founded_by(battle, by.me)?;
     asker_named(battle, name)?;
     let reason = reason_given(reason);
-    maps.tell_user(name, LentReply::JoinBattleFailed { text: &reason }, post)?;
+    by.maps
+        .tell_user(name, LentReply::JoinBattleFailed { text: &reason }, post)?;
     Ok(stop_asking(number, name))
 }
 

@@ -13,11 +13,11 @@ ghost use Rattle.battle_rules.specs.BattleTalk.{FitsForce, forced, forced_colour
 use crate::battles::{Leaving, give_status, in_room, tell_leaving};
 use battle_room::{Bot, Member, Rect, Room};
 use line_words::{KeyBuf, NameBuf, Pair, PairList, SentenceBuf, WordBuf, WordList};
-use lobby_guards::Stop;
 use lobby_guards::battle_guards::{
     bot_named, founded_by, free_bot_name, may_change, member_named, not_oneself, own_battle,
     room_for_bot, room_for_tags, room_for_units,
 };
+use lobby_guards::{Issuer, Stop};
 use lobby_maps::{BattleChange, Change, Maps, RoomChange};
 use lobby_post::{ClientKey, Post};
 use reply_kinds::LentReply;
@@ -94,52 +94,48 @@ impl Wording {
 
 /// `ADDBOT`: the user is in a battle; no bot has that name, and there is room for one more.
 pub fn add_bot(
-    maps: &Maps,
-    client: u64,
-    me: &NameBuf,
+    by: &Issuer,
     name: &WordBuf,
     asked: u32,
     colour: i64,
     ai: &SentenceBuf,
     post: &mut Post,
 ) -> Result<Change, Stop>
-    ensures { Answers maps.now.plain client post.old post.new (add_bot maps.now.plain me.now (new_bot name.now me.now asked colour ai.now)) result }
+    ensures { Answers by.now.maps.now.plain by.now.client post.old post.new (add_bot by.now.maps.now.plain by.now.me.now (new_bot name.now by.now.me.now asked colour ai.now)) result }
 {
-    let (number, battle) = own_battle(maps, me)?;
+    let (number, battle) = own_battle(by.maps, by.me)?;
     free_bot_name(battle, name)?;
     room_for_bot(battle)?;
     let status = merge_battle(BattleStatus::zero(), asked);
     let line = LentReply::AddBot {
         battle: number,
         bot: name,
-        owner: me,
+        owner: by.me,
         battle_status: status.word(),
         team_color: colour,
         ai,
     };
-    maps.tell_room(&battle.room, line, post)?;
-    let name = WordBuf::copy_of(maps.alloc(), name.as_slice())?;
-    let ai = SentenceBuf::copy_of(maps.alloc(), ai.as_slice())?;
-    let bot = Bot::new(me.copy(), name, status, colour, ai);
+    by.maps.tell_room(&battle.room, line, post)?;
+    let name = WordBuf::copy_of(by.maps.alloc(), name.as_slice())?;
+    let ai = SentenceBuf::copy_of(by.maps.alloc(), ai.as_slice())?;
+    let bot = Bot::new(by.me.copy(), name, status, colour, ai);
     Ok(in_room(number, RoomChange::AddBot { bot }))
 }
 
 /// `UPDATEBOT`: the user is in a battle; a bot has that name, and the user owns it or founded the
 /// battle.
 pub fn update_bot(
-    maps: &Maps,
-    client: u64,
-    me: &NameBuf,
+    by: &Issuer,
     name: &WordBuf,
     asked: u32,
     colour: i64,
     post: &mut Post,
 ) -> Result<Change, Stop>
-    ensures { Answers maps.now.plain client post.old post.new (update_bot maps.now.plain me.now name.now asked colour) result }
+    ensures { Answers by.now.maps.now.plain by.now.client post.old post.new (update_bot by.now.maps.now.plain by.now.me.now name.now asked colour) result }
 {
-    let (number, battle) = own_battle(maps, me)?;
+    let (number, battle) = own_battle(by.maps, by.me)?;
     let bot = bot_named(battle, name)?;
-    may_change(me, battle, bot)?;
+    may_change(by.me, battle, bot)?;
     let status = merge_battle(bot.status(), asked);
     let line = LentReply::UpdateBot {
         battle: number,
@@ -147,8 +143,8 @@ pub fn update_bot(
         battle_status: status.word(),
         team_color: colour,
     };
-    maps.tell_room(&battle.room, line, post)?;
-    let name = WordBuf::copy_of(maps.alloc(), name.as_slice())?;
+    by.maps.tell_room(&battle.room, line, post)?;
+    let name = WordBuf::copy_of(by.maps.alloc(), name.as_slice())?;
     let change = RoomChange::BotStatus {
         name,
         status,
@@ -158,41 +154,28 @@ pub fn update_bot(
 }
 
 /// `REMOVEBOT`: as `UPDATEBOT`.
-pub fn remove_bot(
-    maps: &Maps,
-    client: u64,
-    me: &NameBuf,
-    name: &WordBuf,
-    post: &mut Post,
-) -> Result<Change, Stop>
-    ensures { Answers maps.now.plain client post.old post.new (remove_bot maps.now.plain me.now name.now) result }
+pub fn remove_bot(by: &Issuer, name: &WordBuf, post: &mut Post) -> Result<Change, Stop>
+    ensures { Answers by.now.maps.now.plain by.now.client post.old post.new (remove_bot by.now.maps.now.plain by.now.me.now name.now) result }
 {
-    let (number, battle) = own_battle(maps, me)?;
+    let (number, battle) = own_battle(by.maps, by.me)?;
     let bot = bot_named(battle, name)?;
-    may_change(me, battle, bot)?;
+    may_change(by.me, battle, bot)?;
     let line = LentReply::RemoveBot {
         battle: number,
         bot: name,
     };
-    maps.tell_room(&battle.room, line, post)?;
-    let name = WordBuf::copy_of(maps.alloc(), name.as_slice())?;
+    by.maps.tell_room(&battle.room, line, post)?;
+    let name = WordBuf::copy_of(by.maps.alloc(), name.as_slice())?;
     Ok(in_room(number, RoomChange::RemoveBot { name }))
 }
 
 /// `ADDSTARTRECT`: the user is in a battle, which it founded.
-pub fn add_rect(
-    maps: &Maps,
-    client: u64,
-    me: &NameBuf,
-    ally: u8,
-    rect: Rect,
-    post: &mut Post,
-) -> Result<Change, Stop>
+pub fn add_rect(by: &Issuer, ally: u8, rect: Rect, post: &mut Post) -> Result<Change, Stop>
     requires { ally < 16 }
-    ensures { Answers maps.now.plain client post.old post.new (add_rect maps.now.plain me.now ally rect) result }
+    ensures { Answers by.now.maps.now.plain by.now.client post.old post.new (add_rect by.now.maps.now.plain by.now.me.now ally rect) result }
 {
-    let (number, battle) = own_battle(maps, me)?;
-    founded_by(battle, me)?;
+    let (number, battle) = own_battle(by.maps, by.me)?;
+    founded_by(battle, by.me)?;
     let line = LentReply::AddStartRect {
         ally_no: ally,
         left: rect.left,
@@ -200,118 +183,84 @@ pub fn add_rect(
         right: rect.right,
         bottom: rect.bottom,
     };
-    maps.tell_room(&battle.room, line, post)?;
+    by.maps.tell_room(&battle.room, line, post)?;
     Ok(in_room(number, RoomChange::SetRect { ally, rect }))
 }
 
 /// `REMOVESTARTRECT`: the user is in a battle, which it founded.
-pub fn remove_rect(
-    maps: &Maps,
-    client: u64,
-    me: &NameBuf,
-    ally: u8,
-    post: &mut Post,
-) -> Result<Change, Stop>
+pub fn remove_rect(by: &Issuer, ally: u8, post: &mut Post) -> Result<Change, Stop>
     requires { ally < 16 }
-    ensures { Answers maps.now.plain client post.old post.new (remove_rect maps.now.plain me.now ally) result }
+    ensures { Answers by.now.maps.now.plain by.now.client post.old post.new (remove_rect by.now.maps.now.plain by.now.me.now ally) result }
 {
-    let (number, battle) = own_battle(maps, me)?;
-    founded_by(battle, me)?;
+    let (number, battle) = own_battle(by.maps, by.me)?;
+    founded_by(battle, by.me)?;
     let line = LentReply::RemoveStartRect { ally_no: ally };
-    maps.tell_room(&battle.room, line, post)?;
+    by.maps.tell_room(&battle.room, line, post)?;
     Ok(in_room(number, RoomChange::RemoveRect { ally }))
 }
 
 /// `SETSCRIPTTAGS`: the user is in a battle, which it founded, and there is room for the tags.
-pub fn set_script_tags(
-    maps: &Maps,
-    client: u64,
-    me: &NameBuf,
-    pairs: &PairList,
-    post: &mut Post,
-) -> Result<Change, Stop>
-    ensures { Answers maps.now.plain client post.old post.new (set_script_tags maps.now.plain me.now pairs.now) result }
+pub fn set_script_tags(by: &Issuer, pairs: &PairList, post: &mut Post) -> Result<Change, Stop>
+    ensures { Answers by.now.maps.now.plain by.now.client post.old post.new (set_script_tags by.now.maps.now.plain by.now.me.now pairs.now) result }
 {
-    let (number, battle) = own_battle(maps, me)?;
-    founded_by(battle, me)?;
+    let (number, battle) = own_battle(by.maps, by.me)?;
+    founded_by(battle, by.me)?;
     room_for_tags(battle, pairs.as_slice())?;
     let line = LentReply::SetScriptTags {
         pairs: pairs.as_slice(),
     };
-    maps.tell_room(&battle.room, line, post)?;
-    let pairs = copy_pairs(maps.alloc(), pairs.as_slice())?;
+    by.maps.tell_room(&battle.room, line, post)?;
+    let pairs = copy_pairs(by.maps.alloc(), pairs.as_slice())?;
     Ok(in_room(number, RoomChange::SetTags { pairs }))
 }
 
 /// `REMOVESCRIPTTAGS`: the user is in a battle, which it founded. Keys that are not there are left
 /// out.
-pub fn remove_script_tags(
-    maps: &Maps,
-    client: u64,
-    me: &NameBuf,
-    keys: &WordList,
-    post: &mut Post,
-) -> Result<Change, Stop>
-    ensures { Answers maps.now.plain client post.old post.new (remove_script_tags maps.now.plain me.now keys.now) result }
+pub fn remove_script_tags(by: &Issuer, keys: &WordList, post: &mut Post) -> Result<Change, Stop>
+    ensures { Answers by.now.maps.now.plain by.now.client post.old post.new (remove_script_tags by.now.maps.now.plain by.now.me.now keys.now) result }
 {
-    let (number, battle) = own_battle(maps, me)?;
-    founded_by(battle, me)?;
-    let there = battle.room.keys_there(maps.alloc(), keys.as_slice())?;
-    tell_words(maps, &battle.room, Wording::TagsGone, there, post)?;
-    let keys = copy_words(maps.alloc(), keys.as_slice())?;
+    let (number, battle) = own_battle(by.maps, by.me)?;
+    founded_by(battle, by.me)?;
+    let there = battle.room.keys_there(by.maps.alloc(), keys.as_slice())?;
+    tell_words(by.maps, &battle.room, Wording::TagsGone, there, post)?;
+    let keys = copy_words(by.maps.alloc(), keys.as_slice())?;
     Ok(in_room(number, RoomChange::RemoveTags { keys }))
 }
 
 /// `DISABLEUNITS`: the user is in a battle, which it founded, and there is room for the units. Those
 /// that are disabled already are left out.
-pub fn disable_units(
-    maps: &Maps,
-    client: u64,
-    me: &NameBuf,
-    units: &WordList,
-    post: &mut Post,
-) -> Result<Change, Stop>
-    ensures { Answers maps.now.plain client post.old post.new (disable maps.now.plain me.now units.now) result }
+pub fn disable_units(by: &Issuer, units: &WordList, post: &mut Post) -> Result<Change, Stop>
+    ensures { Answers by.now.maps.now.plain by.now.client post.old post.new (disable by.now.maps.now.plain by.now.me.now units.now) result }
 {
-    let (number, battle) = own_battle(maps, me)?;
-    founded_by(battle, me)?;
+    let (number, battle) = own_battle(by.maps, by.me)?;
+    founded_by(battle, by.me)?;
     room_for_units(battle, units.as_slice())?;
-    let new = battle.room.units_new(maps.alloc(), units.as_slice())?;
-    tell_words(maps, &battle.room, Wording::UnitsDisabled, new, post)?;
-    let words = copy_words(maps.alloc(), units.as_slice())?;
+    let new = battle.room.units_new(by.maps.alloc(), units.as_slice())?;
+    tell_words(by.maps, &battle.room, Wording::UnitsDisabled, new, post)?;
+    let words = copy_words(by.maps.alloc(), units.as_slice())?;
     Ok(in_room(number, RoomChange::DisableUnits { words }))
 }
 
 /// `ENABLEUNITS`: the user is in a battle, which it founded. Units that are not disabled are left out.
-pub fn enable_units(
-    maps: &Maps,
-    client: u64,
-    me: &NameBuf,
-    units: &WordList,
-    post: &mut Post,
-) -> Result<Change, Stop>
-    ensures { Answers maps.now.plain client post.old post.new (enable maps.now.plain me.now units.now) result }
+pub fn enable_units(by: &Issuer, units: &WordList, post: &mut Post) -> Result<Change, Stop>
+    ensures { Answers by.now.maps.now.plain by.now.client post.old post.new (enable by.now.maps.now.plain by.now.me.now units.now) result }
 {
-    let (number, battle) = own_battle(maps, me)?;
-    founded_by(battle, me)?;
-    let there = battle.room.units_there(maps.alloc(), units.as_slice())?;
-    tell_words(maps, &battle.room, Wording::UnitsEnabled, there, post)?;
-    let words = copy_words(maps.alloc(), units.as_slice())?;
+    let (number, battle) = own_battle(by.maps, by.me)?;
+    founded_by(battle, by.me)?;
+    let there = battle.room.units_there(by.maps.alloc(), units.as_slice())?;
+    tell_words(by.maps, &battle.room, Wording::UnitsEnabled, there, post)?;
+    let words = copy_words(by.maps.alloc(), units.as_slice())?;
     Ok(in_room(number, RoomChange::EnableUnits { words }))
 }
 
 /// `ENABLEALLUNITS`: the user is in a battle, which it founded.
-pub fn enable_all_units(
-    maps: &Maps,
-    client: u64,
-    me: &NameBuf,
-    post: &mut Post,
-) -> Result<Change, Stop>
-    ensures { Answers maps.now.plain client post.old post.new (enable_every maps.now.plain me.now) result }
+pub fn enable_all_units(by: &Issuer, post: &mut Post) -> Result<Change, Stop>
+    ensures { Answers by.now.maps.now.plain by.now.client post.old post.new (enable_every by.now.maps.now.plain by.now.me.now) result }
 {
-    let (number, battle) = own_battle(maps, me)?;
-    founded_by(battle, me)?;
-    maps.tell_room(&battle.room, LentReply::EnableAllUnits, post)?;
+    let (number, battle) = own_battle(by.maps, by.me)?;
+    founded_by(battle, by.me)?;
+    by.maps
+        .tell_room(&battle.room, LentReply::EnableAllUnits, post)?;
     Ok(in_room(number, RoomChange::EnableAllUnits))
 }
 
@@ -336,40 +285,32 @@ fn tell_words(
 /// `HANDICAP` and the four `FORCE` commands: the user is in a battle, which it founded, and so is the
 /// one on whom it is forced.
 pub fn force_on_member(
-    maps: &Maps,
-    client: u64,
-    me: &NameBuf,
+    by: &Issuer,
     name: &NameBuf,
     force: Force,
     post: &mut Post,
 ) -> Result<Change, Stop>
     requires { FitsForce force }
-    ensures { Answers maps.now.plain client post.old post.new (forced maps.now.plain me.now name.now force) result }
+    ensures { Answers by.now.maps.now.plain by.now.client post.old post.new (forced by.now.maps.now.plain by.now.me.now name.now force) result }
 {
-    let (number, battle) = own_battle(maps, me)?;
-    founded_by(battle, me)?;
+    let (number, battle) = own_battle(by.maps, by.me)?;
+    founded_by(battle, by.me)?;
     let member = member_named(battle, name)?;
     let status = force.status(member);
     let colour = force.colour(member);
-    Ok(give_status(maps, number, battle, name, status, colour, post)?)
+    Ok(give_status(by.maps, number, battle, name, status, colour, post)?)
 }
 
 /// `KICKFROMBATTLE`: the user is in a battle, which it founded, and so is the other one who leaves.
-pub fn kick(
-    maps: &Maps,
-    client: u64,
-    me: &NameBuf,
-    name: &NameBuf,
-    post: &mut Post,
-) -> Result<Change, Stop>
-    ensures { Answers maps.now.plain client post.old post.new (kick maps.now.plain me.now name.now) result }
+pub fn kick(by: &Issuer, name: &NameBuf, post: &mut Post) -> Result<Change, Stop>
+    ensures { Answers by.now.maps.now.plain by.now.client post.old post.new (kick by.now.maps.now.plain by.now.me.now name.now) result }
 {
-    let (number, battle) = own_battle(maps, me)?;
-    founded_by(battle, me)?;
-    not_oneself(me, name)?;
+    let (number, battle) = own_battle(by.maps, by.me)?;
+    founded_by(battle, by.me)?;
+    not_oneself(by.me, name)?;
     member_named(battle, name)?;
-    maps.tell_user(name, LentReply::ForceQuitBattle, post)?;
-    tell_leaving(maps, name, number, battle, Leaving::Seen, post)?;
+    by.maps.tell_user(name, LentReply::ForceQuitBattle, post)?;
+    tell_leaving(by.maps, name, number, battle, Leaving::Seen, post)?;
     Ok(Change::InBattles(BattleChange::Leave {
         number,
         name: name.copy(),
@@ -377,19 +318,14 @@ pub fn kick(
 }
 
 /// `RING`: the user is in a battle, which it founded, and so is the one who hears it.
-pub fn ring(
-    maps: &Maps,
-    client: u64,
-    me: &NameBuf,
-    name: &NameBuf,
-    post: &mut Post,
-) -> Result<Change, Stop>
-    ensures { Answers maps.now.plain client post.old post.new (ring maps.now.plain me.now name.now) result }
+pub fn ring(by: &Issuer, name: &NameBuf, post: &mut Post) -> Result<Change, Stop>
+    ensures { Answers by.now.maps.now.plain by.now.client post.old post.new (ring by.now.maps.now.plain by.now.me.now name.now) result }
 {
-    let (_, battle) = own_battle(maps, me)?;
-    founded_by(battle, me)?;
+    let (_, battle) = own_battle(by.maps, by.me)?;
+    founded_by(battle, by.me)?;
     member_named(battle, name)?;
-    maps.tell_user(name, LentReply::Ring { user: me }, post)?;
+    by.maps
+        .tell_user(name, LentReply::Ring { user: by.me }, post)?;
     Ok(Change::Nothing)
 }
 

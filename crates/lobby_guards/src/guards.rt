@@ -2,12 +2,12 @@
 //! docs/PROTOCOL.md, "The texts".
 
 ghost use Rattle.std.specs.List.{IsDistinct};
-ghost use Rattle.std.specs.Prelude.{◌≡◌, true, false, Ok, Some, None, IfOk, IfErr, is_ok, is_some, option_copied};
+ghost use Rattle.std.specs.Prelude.{◌≡◌, true, false, Ok, IfOk, IfErr, is_ok, is_some};
 ghost use Rattle.account_book.specs.Book.{login};
 ghost use Rattle.line_words.specs.Table.{at_name, is_among, same_name};
 ghost use Rattle.channel_book.specs.Channels.{names_in};
 ghost use Rattle.lobby_guards.specs.Answers.{Refuses};
-ghost use Rattle.lobby_guards.specs.declared.refusal.Refusal.TheVariants.{LogInFirst, AlreadyIn, InvalidLogin, UserIsIn, AlreadyInChannel, NotInChannel, NoSuchUser};
+ghost use Rattle.lobby_guards.specs.declared.refusal.Refusal.TheVariants.{InvalidLogin, UserIsIn, AlreadyInChannel, NotInChannel, NoSuchUser};
 
 use crate::{Refusal, Stop, or_refuse, refuse_if};
 use account_book::Account;
@@ -15,22 +15,6 @@ use channel_book::Members;
 use line_words::{NameBuf, WordBuf};
 use lobby_maps::Maps;
 use lobby_post::ClientKey;
-
-/// The name of one who is logged in.
-pub fn logged_in(me: Option<&NameBuf>) -> Result<&NameBuf, Stop>
-    ensures ok { IfOk result (λ name. option_copied me.entry ≡ Some name.now) }
-    ensures err { IfErr result (Refuses LogInFirst (option_copied me.entry ≡ None)) }
-{
-    or_refuse(me, Refusal::LogInFirst)
-}
-
-/// Nobody is logged in at the client.
-pub fn not_logged_in(me: Option<&NameBuf>) -> Result<(), Stop>
-    ensures ok { IfOk result (λ _. option_copied me.entry ≡ None) }
-    ensures err { IfErr result (Refuses AlreadyIn (is_some (option_copied me.entry) ≡ true)) }
-{
-    refuse_if(me.is_some(), Refusal::AlreadyIn)
-}
 
 /// The account that a login is for.
 pub fn account_for<'a>(

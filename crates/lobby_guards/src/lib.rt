@@ -4,6 +4,8 @@
 
 pub mod battle_guards;
 pub mod guards;
+mod issuer;
 mod refusal;
 
+pub use issuer::Issuer;
 pub use refusal::{Refusal, Stop, or_refuse, refuse_if};

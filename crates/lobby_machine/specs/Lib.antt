@@ -1,4 +1,3 @@
 pub mod Shown
 pub mod Dirty
-pub mod Parts
 pub mod Talk

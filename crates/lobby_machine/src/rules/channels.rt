@@ -9,93 +9,94 @@ ghost use Rattle.lobby_guards.specs.Answers.{Answers};
 ghost use Rattle.lobby_machine.specs.Talk.{channel_lines, left_letters};
 
 use line_words::{NameBuf, TextBuf};
-use lobby_guards::Stop;
 use lobby_guards::guards::{members_with, names_without, user_named};
+use lobby_guards::{Issuer, Stop};
 use lobby_maps::{Change, Maps};
 use lobby_post::Post;
 use reply_kinds::LentReply;
 use std::alloc::AllocError;
 
 /// `JOIN`: the user is not in the channel.
-pub fn join(
-    maps: &Maps,
-    client: u64,
-    me: &NameBuf,
-    channel: &NameBuf,
-    post: &mut Post,
-) -> Result<Change, Stop>
-    ensures { Answers maps.now.plain client post.old post.new (join maps.now.plain me.now channel.now) result }
+pub fn join(by: &Issuer, channel: &NameBuf, post: &mut Post) -> Result<Change, Stop>
+    ensures { Answers by.now.maps.now.plain by.now.client post.old post.new (join by.now.maps.now.plain by.now.me.now channel.now) result }
 {
-    let names = names_without(maps, me, channel)?;
-    let keys = maps.channels().marks_in(channel);
-    maps.tell_user(me, LentReply::Join { channel }, post)?;
-    tell_members(maps, channel, names, me, post)?;
-    maps.tell_users(names, keys, LentReply::Joined { channel, user: me }, post)?;
+    let names = names_without(by.maps, by.me, channel)?;
+    let keys = by.maps.channels().marks_in(channel);
+    by.maps.tell_user(by.me, LentReply::Join { channel }, post)?;
+    tell_members(by.maps, channel, names, by.me, post)?;
+    by.maps.tell_users(
+        names,
+        keys,
+        LentReply::Joined {
+            channel,
+            user: by.me,
+        },
+        post,
+    )?;
     Ok(Change::Join {
         channel: channel.copy(),
-        name: me.copy(),
+        name: by.me.copy(),
     })
 }
 
 /// `LEAVE`: the user is in the channel.
-pub fn leave(
-    maps: &Maps,
-    client: u64,
-    me: &NameBuf,
-    channel: &NameBuf,
-    post: &mut Post,
-) -> Result<Change, Stop>
-    ensures { Answers maps.now.plain client post.old post.new (leave maps.now.plain me.now channel.now) result }
+pub fn leave(by: &Issuer, channel: &NameBuf, post: &mut Post) -> Result<Change, Stop>
+    ensures { Answers by.now.maps.now.plain by.now.client post.old post.new (leave by.now.maps.now.plain by.now.me.now channel.now) result }
 {
-    let members = members_with(maps, me, channel)?;
+    let members = members_with(by.maps, by.me, channel)?;
     let (names, keys) = (members.as_slice(), members.marks());
-    maps.tell_users(names, keys, LentReply::Left { channel, user: me }, post)?;
+    by.maps.tell_users(
+        names,
+        keys,
+        LentReply::Left {
+            channel,
+            user: by.me,
+        },
+        post,
+    )?;
     Ok(Change::Leave {
         channel: channel.copy(),
-        name: me.copy(),
+        name: by.me.copy(),
     })
 }
 
 /// `SAY` and `SAYEX`: the user is in the channel.
 pub fn say_in_channel(
-    maps: &Maps,
-    client: u64,
-    me: &NameBuf,
+    by: &Issuer,
     channel: &NameBuf,
     line: LentReply,
     post: &mut Post,
 ) -> Result<Change, Stop>
-    ensures { Answers maps.now.plain client post.old post.new (say_in_channel maps.now.plain me.now channel.now (reply_of line.entry)) result }
+    ensures { Answers by.now.maps.now.plain by.now.client post.old post.new (say_in_channel by.now.maps.now.plain by.now.me.now channel.now (reply_of line.entry)) result }
 {
-    let members = members_with(maps, me, channel)?;
+    let members = members_with(by.maps, by.me, channel)?;
     let (names, keys) = (members.as_slice(), members.marks());
-    maps.tell_users(names, keys, line, post)?;
+    by.maps.tell_users(names, keys, line, post)?;
     Ok(Change::Nothing)
 }
 
 /// `SAYPRIVATE`: somebody of that name is logged in.
 pub fn say_private(
-    maps: &Maps,
-    client: u64,
-    me: &NameBuf,
+    by: &Issuer,
     target: &NameBuf,
     text: &TextBuf,
     post: &mut Post,
 ) -> Result<Change, Stop>
-    ensures { Answers maps.now.plain client post.old post.new (say_private maps.now.plain me.now target.now text.now) result }
+    ensures { Answers by.now.maps.now.plain by.now.client post.old post.new (say_private by.now.maps.now.plain by.now.me.now target.now text.now) result }
 {
-    user_named(maps, target)?;
+    user_named(by.maps, target)?;
     post.tell_issuer(LentReply::SayPrivate { user: target, text })?;
-    maps.tell_user(target, LentReply::SaidPrivate { user: me, text }, post)?;
+    by.maps
+        .tell_user(target, LentReply::SaidPrivate { user: by.me, text }, post)?;
     Ok(Change::Nothing)
 }
 
 /// `CHANNELS`.
-pub fn list_channels(maps: &Maps, client: u64, post: &mut Post) -> Result<Change, Stop>
-    ensures { Answers maps.now.plain client post.old post.new (list_channels maps.now.plain) result }
+pub fn list_channels(by: &Issuer, post: &mut Post) -> Result<Change, Stop>
+    ensures { Answers by.now.maps.now.plain by.now.client post.old post.new (list_channels by.now.maps.now.plain) result }
 {
     post.begin_own();
-    write_channels(maps, post)?;
+    write_channels(by.maps, post)?;
     post.write_own(LentReply::EndOfChannels)?;
     post.address_issuer()?;
     Ok(Change::Nothing)

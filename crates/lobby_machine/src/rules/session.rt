@@ -1,15 +1,14 @@
 //! Coming and going, and the status of users: docs/PROTOCOL.md, "What the server does", from "Connect" to
 //! "MYSTATUS", and "EXIT" and "Disconnect".
 
-ghost use Rattle.std.specs.Prelude.{◌≡◌, ℕ, List, [], ◌∷◌, OnOk, IfOk, true, false, Some, None, option_copied};
+ghost use Rattle.std.specs.Prelude.{◌≡◌, ℕ, [], ◌∷◌, OnOk, IfOk, true, false, Some, None, option_copied};
+ghost use Rattle.account_book.specs.Book.{login};
 ghost use Rattle.line_words.specs.Table.{at_number};
-ghost use Rattle.command_grammar.specs.declared.command.Command.TheVariants as command;
 ghost use Rattle.reply_kinds.specs.declared.Reply.TheVariants as reply;
 ghost use Rattle.room_lists.specs.Room.{has_member};
 ghost use Rattle.lobby_model.specs.State.{Battle, battle_of, hears, name_of};
 ghost use Rattle.lobby_model.specs.Outcome.{done, only_told, tell, issuer};
-ghost use Rattle.lobby_model.specs.Sessions.{departs, set_user_status, user_of};
-ghost use Rattle.lobby_model.specs.Commands.{answer};
+ghost use Rattle.lobby_model.specs.Sessions.{departs, log_in, set_user_status, user_of};
 ghost use Rattle.lobby_post.specs.Posted.{Told, begun};
 ghost use Rattle.lobby_guards.specs.Answers.{Answers, Obeyed};
 ghost use Rattle.lobby_maps.specs.Battles.{IsOnly};
@@ -21,8 +20,8 @@ use super::channels::tell_left;
 use account_book::Account;
 use battle_rules::battles::{Leaving, tell_leaving};
 use line_words::{NameBuf, WordBuf};
-use lobby_guards::Stop;
-use lobby_guards::guards::{account_for, free_name, not_logged_in};
+use lobby_guards::guards::{account_for, free_name};
+use lobby_guards::{Issuer, Stop};
 use lobby_maps::{Change, Maps, Seat};
 use lobby_post::{ClientKey, Post};
 use reply_kinds::LentReply;
@@ -37,11 +36,10 @@ pub fn ping(maps: &Maps, client: u64, post: &mut Post) -> Result<Change, Stop>
     Ok(Change::Nothing)
 }
 
-/// `LOGIN`: nobody is logged in at the client, the account lets it in, and nobody has its name.
+/// `LOGIN` of a client at which nobody is logged in: the account lets it in, and nobody has its name.
 pub fn log_in(
     maps: &Maps,
     client: u64,
-    me: Option<&NameBuf>,
     user_name: &WordBuf,
     password: &WordBuf,
     cpu: i64,
@@ -49,10 +47,9 @@ pub fn log_in(
     post: &mut Post,
 ) -> Result<Change, Stop>
     requires hears { hears maps.now.plain client ≡ true }
-    requires me { option_copied me ≡ name_of maps.now.plain client }
-    ensures { (local_ip lobby : List ℕ) → Answers maps.now.plain client post.old post.new (answer maps.now.plain client (option_copied me.entry) (command.Login user_name.now password.now cpu local_ip lobby authorises)) result }
+    requires nobody { name_of maps.now.plain client ≡ None }
+    ensures { Answers maps.now.plain client post.old post.new (log_in maps.now.plain client cpu authorises (login maps.now.plain.accounts user_name.now password.now)) result }
 {
-    not_logged_in(me)?;
     let account = account_for(maps, user_name, password)?;
     let name = free_name(maps, account)?;
     let key = maps.client_key(client);
@@ -63,27 +60,21 @@ pub fn log_in(
 }
 
 /// `MYSTATUS`: rank, moderator and bot stay those of the account.
-pub fn my_status(
-    maps: &Maps,
-    client: u64,
-    me: &NameBuf,
-    asked: u32,
-    post: &mut Post,
-) -> Result<Change, Stop>
-    requires { name_of maps.now.plain client ≡ Some me.now }
-    ensures { Answers maps.now.plain client post.old post.new (set_user_status maps.now.plain me.now asked) result }
+pub fn my_status(by: &Issuer, asked: u32, post: &mut Post) -> Result<Change, Stop>
+    requires { name_of by.now.maps.now.plain by.now.client ≡ Some by.now.me.now }
+    ensures { Answers by.now.maps.now.plain by.now.client post.old post.new (set_user_status by.now.maps.now.plain by.now.me.now asked) result }
 {
-    let status = match maps.status_of(me) {
+    let status = match by.maps.status_of(by.me) {
         Some(status) => merge_user(status, asked),
         None => unreachable!(),
     };
     let line = LentReply::ClientStatus {
-        user: me,
+        user: by.me,
         status: status.word(),
     };
-    maps.tell_all(line, post)?;
+    by.maps.tell_all(line, post)?;
     Ok(Change::Status {
-        name: me.copy(),
+        name: by.me.copy(),
         status,
     })
 }
@@ -135,7 +126,7 @@ fn tell_battle_left(maps: &Maps, me: &NameBuf, post: &mut Post) -> Result<Option
     Ok(Some(number))
 }
 
-/// What the end of a client's connection comes to.
+/// What the end of a client's connection comes to. Fails only where memory is refused, as `decide` does.
 pub fn close(maps: &Maps, client: u64, post: &mut Post) -> Result<Change, AllocError>
     ensures { IfOk result (λ change. Obeyed maps.now.plain client (begun client None) post.new change (departs maps.now.plain (name_of maps.now.plain client) (parts client false))) }
 {

@@ -17,12 +17,12 @@ pub returns-in-Ok-clause-asked : goal.returns-in-Ok-clause-asked
 returns-in-Ok-clause-asked c =
     if_ok c.boxed_battle.result _ _ (λ (battle : Box Battle) is.
     c.in_ok-opened.ensures
-    ∙ (λ i. open_battle c.args.maps.now.plain c.args.me.now
+    ∙ (λ i. open_battle c.args.by.now.maps.now.plain c.args.by.now.me.now
     (started c.in_ok-opened.opened (sym c.in-Ok.ensures.password i) (sym c.in-Ok.ensures.game_hash i) (sym c.in-Ok.ensures.room i)))
-    ∙ ap (open_battle c.args.maps.now.plain c.args.me.now) (sym is)) c.boxed_battle.ensures
+    ∙ ap (open_battle c.args.by.now.maps.now.plain c.args.by.now.me.now) (sym is)) c.boxed_battle.ensures
 
 pub returns-in-Ok-clause-alone : goal.returns-in-Ok-clause-alone
 returns-in-Ok-clause-alone c =
-    if_ok c.boxed_battle.result _ _ (λ (battle : Box Battle) is. subst (λ (b : Battle). IsNew b c.args.me.now) (sym is)
-    (subst (λ (room : Room). IsNew (started c.in_ok-opened.opened c.in-Ok.inside.password c.in-Ok.inside.game_hash room) c.args.me.now) (sym c.in-Ok.ensures.room)
+    if_ok c.boxed_battle.result _ _ (λ (battle : Box Battle) is. subst (λ (b : Battle). IsNew b c.args.by.now.me.now) (sym is)
+    (subst (λ (room : Room). IsNew (started c.in_ok-opened.opened c.in-Ok.inside.password c.in-Ok.inside.game_hash room) c.args.by.now.me.now) (sym c.in-Ok.ensures.room)
     (record { members = refl; askers = refl }))) c.boxed_battle.ensures

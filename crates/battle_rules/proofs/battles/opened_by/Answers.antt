@@ -18,8 +18,8 @@ returns c =
     let passworded : c.ne.result ≡ not (same_name c.in-OpenBattle.password no_password) = c.ne.ensures
     ∙ ap (λ (bytes : List ℕ). not (bytes_eq bytes no_password)) c.as_slice.ensures.value
     ∙ ap not (sym (is_eq-slice_cmp c.in-OpenBattle.password no_password)) in
-    ap (answer c.args.maps.now.plain c.args.client (Some c.args.me.now)) is
-    ∙ (λ i. open_battle c.args.maps.now.plain c.args.me.now (record {
+    ap (answer c.args.by.now.maps.now.plain c.args.by.now.client (Some c.args.by.now.me.now)) is
+    ∙ (λ i. open_battle c.args.by.now.maps.now.plain c.args.by.now.me.now (record {
       info = record {
         battle_type = c.in-OpenBattle.battle_type;
         nat_type = c.in-OpenBattle.nat_type;
@@ -40,5 +40,5 @@ returns c =
       };
       password = password_in (sym is i);
       game_hash = game_hash_in (sym is i);
-      room = new_room c.args.me.now;
+      room = new_room c.args.by.now.me.now;
     }))

@@ -9,7 +9,7 @@ use Rattle.battle_rules.proofs.battles.say_in_battle.Goals as goal
 
 pub returns : goal.returns
 returns c =
-    said_so c.args.maps.now.plain c.args.client c.args.post.now c.tell_room.new.post c.args.me.now _ c.in_ok-battle.battle.now (reply_of c.args.line)
+    said_so c.args.by.now.maps.now.plain c.args.by.now.client c.args.post.now c.tell_room.new.post c.args.by.now.me.now _ c.in_ok-battle.battle.now (reply_of c.args.line)
     c.in_ok-battle.ensures.ok
-    (subst (λ (b : Battle). Told c.args.maps.now.plain c.args.post.now c.tell_room.new.post (tell (users (member_names b.room)) (reply_of c.args.line ∷ [])
+    (subst (λ (b : Battle). Told c.args.by.now.maps.now.plain c.args.post.now c.tell_room.new.post (tell (users (member_names b.room)) (reply_of c.args.line ∷ [])
     ∷ [])) c.battle.view_is c.in_ok-tell_room.ensures)

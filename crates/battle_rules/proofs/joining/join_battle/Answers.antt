@@ -7,5 +7,5 @@ use Rattle.battle_rules.proofs.joining.join_battle.Goals as goal
 
 pub tell_joining-requires : goal.tell_joining-requires
 tell_joining-requires c =
-    ap (λ client. is_named (same_name c.args.me.now) (name_of c.args.maps.now.plain client)) c.requires.issuer
-    ∙ ap (is_named (same_name c.args.me.now)) c.requires.me ∙ same_name_itself c.args.me.now
+    ap (λ client. is_named (same_name c.args.by.now.me.now) (name_of c.args.by.now.maps.now.plain client)) c.requires.issuer
+    ∙ ap (is_named (same_name c.args.by.now.me.now)) c.requires.me ∙ same_name_itself c.args.by.now.me.now

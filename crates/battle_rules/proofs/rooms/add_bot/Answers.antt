@@ -33,8 +33,8 @@ bot_added s c old new me number battle bot made change own free room same is tol
 
 pub returns : goal.returns
 returns c =
-    bot_added c.args.maps.now.plain c.args.client c.args.post.now c.tell_room.new.post c.args.me.now c.in_ok-number.number c.in_ok-number.battle.now
-    (new_bot c.args.name.now c.args.me.now c.args.asked c.args.colour c.args.ai.now) c.new-bot.result c.in_room.result
+    bot_added c.args.by.now.maps.now.plain c.args.by.now.client c.args.post.now c.tell_room.new.post c.args.by.now.me.now c.in_ok-number.number c.in_ok-number.battle.now
+    (new_bot c.args.name.now c.args.by.now.me.now c.args.asked c.args.colour c.args.ai.now) c.new-bot.result c.in_room.result
     c.in_ok-number.ensures.ok c.in_ok-free_bot_name.ensures.ok c.in_ok-room_for_bot.ensures.ok
     (search (rules, c.new-bot.ensures, c.copy.ensures, c.in_ok-name.ensures, c.in_ok-ai.ensures, c.as_slice.ensures.value, c.as_slice-2.ensures.value, c.merge_battle-status.ensures.word, c.zero.ensures))
     (search (rules, c.in_room.ensures))
