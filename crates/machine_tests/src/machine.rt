@@ -18,7 +18,7 @@ use std::slice;
 const WORD: &[u8] = b"X03MO1qnZdYdgyfeuILPmQ==";
 
 // Name, number, rank and country of each account; all have one password.
-const ACCOUNTS: [(&[u8], u32, u8, &[u8]); 3] = [
+static ACCOUNTS: [(&[u8], u32, u8, &[u8]); 3] = [
     (b"Anna", 1, 0, b"DE"),
     (b"Bert", 2, 3, b"??"),
     (b"Cleo", 3, 0, b"FR"),
@@ -39,8 +39,8 @@ fn add_account(
 }
 
 fn add_accounts(accounts: &mut AccountBook, alloc: Global) -> bool {
-    for (name, id, rank, country) in ACCOUNTS {
-        if !add_account(accounts, alloc, name, id, rank, country) {
+    for (name, id, rank, country) in &ACCOUNTS {
+        if !add_account(accounts, alloc, name, *id, *rank, country) {
             return false;
         }
     }
@@ -145,7 +145,7 @@ fn open_two(rt: &impl Abort, lobby: &mut Lobby) {
 }
 
 // Lines that are answered, most of them by a refusal.
-const ANSWERED: [&[u8]; 9] = [
+static ANSWERED: [&[u8]; 9] = [
     b"PING",
     b"ping",
     b"SAY main",
@@ -159,9 +159,9 @@ const ANSWERED: [&[u8]; 9] = [
 
 // The first line of these with which one of the clients wakes others than its own worker.
 fn misses(lobby: &mut Lobby, alloc: Global) -> Option<&'static [u8]> {
-    for line in ANSWERED {
+    for line in &ANSWERED {
         if !wakes_alone(lobby, alloc, 1, line, 5) || !wakes_alone(lobby, alloc, 2, line, 63) {
-            return Some(line);
+            return Some(*line);
         }
     }
     None

@@ -12,13 +12,13 @@ use std::io;
 
 const WORD: &[u8] = b"X03MO1qnZdYdgyfeuILPmQ==";
 
-const DEEDS: [(u64, Deed); 2] = [
+static DEEDS: [(u64, Deed); 2] = [
     (33, Deed::Send(b"JOIN main")),
     (1, Deed::Send(b"SAY main hello")),
 ];
 
 /// The channel's members are told, the list of channels has their number, and the last user logs out.
-const LOOKS: [(u64, Deed); 3] = [
+static LOOKS: [(u64, Deed); 3] = [
     (2, Deed::Send(b"SAY main who is there")),
     (33, Deed::Send(b"CHANNELS")),
     (33, Deed::Send(b"EXIT")),

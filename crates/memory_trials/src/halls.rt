@@ -14,7 +14,7 @@ use std::alloc::{AllocError, Global};
 use std::io;
 use std::io::Write;
 
-const DEEDS: [(u64, Deed); 27] = [
+static DEEDS: [(u64, Deed); 27] = [
     (1, Deed::Open),
     (
         1,
@@ -54,7 +54,7 @@ const DEEDS: [(u64, Deed); 27] = [
 ];
 
 /// An unfinished line of each is ended, and its next lines are taken.
-const LOOKS: [(u64, Deed); 7] = [
+static LOOKS: [(u64, Deed); 7] = [
     (1, Deed::Send(b"\n")),
     (1, Deed::Take),
     (2, Deed::Send(b"\n")),

@@ -61,7 +61,7 @@ LOGININFOEND
 /// His session reads twice, once more in vain, and then writes three times. He is shut once, and no event of his comes after that:
 /// Anna's are five, and six where she is told of him; his are an open, two drains, his login where it was read, one drain more
 /// where all three writes are over, and one shut.
-const FAILURES: [(End, TurnState, Text, Text, u64); 14] = [
+static FAILURES: [(End, TurnState, Text, Text, u64); 14] = [
     (End::FailsAt(1), TurnState::Closed, GREETED, NOTHING, 9),
     (End::FailsAt(2), TurnState::Closed, GREETED, NOTHING, 9),
     (
@@ -136,23 +136,23 @@ const ANNA: Caller = Caller {
 
 #[test]
 fn a_device_that_fails_at_any_call_shuts_its_client_once(rt: HostRuntime) {
-    for (end, state, told, seen, events) in FAILURES {
+    for (end, state, told, seen, events) in &FAILURES {
         let bert = Caller {
             sends: &[(BERT_LOGS_IN, 1)],
             piece: 32,
             room: 50,
-            end,
+            end: *end,
         };
         let steps = [
             Enters(ANNA),
             Turns(0, 1, TurnState::Idle),
             Enters(bert),
-            Turns(1, 1, state),
-            Reads(1, told),
+            Turns(1, 1, *state),
+            Reads(1, *told),
             Turns(0, 1, TurnState::Idle),
-            Reads(0, seen),
+            Reads(0, *seen),
         ];
-        play(&rt, rt.alloc(), &steps, events);
+        play(&rt, rt.alloc(), &steps, *events);
     }
 }
 
@@ -198,7 +198,7 @@ const BERT: Caller = Caller {
 };
 
 /// A turn says 64 lines of Bert's. Behind five turns of his Anna has place for what she did not read, behind ten she has not.
-const SLOW: [Step; 16] = [
+static SLOW: [Step; 16] = [
     Enters(SLOW_ANNA),
     Turns(READS_NOTHING, 1, TurnState::Idle),
     Enters(CLEO),
