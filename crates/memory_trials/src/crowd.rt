@@ -1,6 +1,5 @@
 //! A crowd of users who are logged in, and a channel of 33 whose last one joins.
 
-use crate::accounts::lobby_of;
 use crate::deeds::{Deed, Subject, try_deeds};
 use crate::lobbies::{HOME, act, are_alike, read_some, say, show_unread, use_buffer_up};
 use crate::notes::Notes;
@@ -9,6 +8,7 @@ use account_book::{Account, AccountBook};
 use lobby_machine::Lobby;
 use std::alloc::Global;
 use std::io;
+use test_lobby::lobby_of;
 
 const WORD: &[u8] = b"X03MO1qnZdYdgyfeuILPmQ==";
 
@@ -106,7 +106,7 @@ pub struct Crowd<const USERS: u32> {
 
 impl<const USERS: u32> Subject for Crowd<USERS> {
     fn new(alloc: Global) -> Option<Crowd<USERS>> {
-        let mut lobby = lobby_of(alloc, accounts(alloc, USERS))?;
+        let mut lobby = lobby_of(alloc, accounts(alloc, USERS)?)?;
         if enter_all(&mut lobby, alloc, USERS) && use_buffers_up(&mut lobby, alloc, USERS) {
             Some(Crowd { lobby })
         } else {

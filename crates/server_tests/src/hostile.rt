@@ -3,7 +3,8 @@
 use crate::gates::Hold;
 use crate::plays::Step::*;
 use crate::plays::{Act, BOTH_LOG_IN, play};
-use crate::running::{ANNA, BERT, BERT_COMES, BERT_IS_IN, BERT_LOGS_IN, PING, PONG, THIRD};
+use crate::running::{ANNA, BERT, PING, PONG, THIRD};
+use test_lobby::{BERT_COMES, BERT_IS_IN, BERT_LOGS_IN};
 
 static BURST: [Act; 2] = [
     Act {

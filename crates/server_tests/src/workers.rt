@@ -3,7 +3,8 @@
 use crate::gates::Hold;
 use crate::plays::Step::*;
 use crate::plays::{Act, BOTH_LOG_IN, play};
-use crate::running::{ANNA, ANNA_IS_IN, ANNA_LOGS_IN, BERT, BERT_COMES, BERT_LOGS_IN, PING, PONG};
+use crate::running::{ANNA, BERT, PING, PONG};
+use test_lobby::{ANNA_IS_IN, ANNA_LOGS_IN, BERT_COMES, BERT_LOGS_IN};
 
 static TWO_CLIENTS: [Act; 1] = [Act {
     times: 1,

@@ -1,37 +1,28 @@
 //! Clients whose device fails, and one that reads nothing, with others logged in beside them.
 
 use crate::plays::Step::{Enters, Reads, Turns};
-use crate::plays::{Caller, End, Step, Text, play};
+use crate::plays::{Caller, End, Step, play};
 use lobby_turns::TurnState;
-
-const ANNA_LOGS_IN: &[u8] = b"LOGIN Anna X03MO1qnZdYdgyfeuILPmQ== 0 * TestLobby 1.0\n";
-
-const BERT_LOGS_IN: &[u8] = b"LOGIN Bert X03MO1qnZdYdgyfeuILPmQ== 0 * TestLobby 1.0\n";
-
-const CLEO_LOGS_IN: &[u8] = b"LOGIN Cleo X03MO1qnZdYdgyfeuILPmQ== 0 * TestLobby 1.0\n";
-
-/// What Anna is told of her login, where nobody else is there.
-const ANNA_IS_IN: &[u8] = b"TASSERVER 0.38 * 8201 0
-ACCEPTED Anna
-MOTD Welcome
-ADDUSER Anna DE 0 1
-LOGININFOEND
-";
-
-/// What anyone is told of Bert's login.
-const BERT_COMES: &[u8] = b"ADDUSER Bert ?? 0 2\nCLIENTSTATUS Bert 12\n";
+use test_lobby::{
+    ANNA_IS_IN, ANNA_LOGS_IN, BERT_COMES, BERT_IS_IN, BERT_LOGS_IN, CLEO_LOGS_IN, GREETING, Text,
+};
 
 /// What Anna is told where Bert was shut before he logged in, where he was shut then, and where he was not shut.
-const NOTHING: Text = &[(ANNA_IS_IN, 1)];
+const NOTHING: Text = &[(GREETING, 1), (ANNA_IS_IN, 1)];
 
-const HE_CAME_AND_WENT: Text = &[(ANNA_IS_IN, 1), (BERT_COMES, 1), (b"REMOVEUSER Bert\n", 1)];
+const HE_CAME_AND_WENT: Text = &[
+    (GREETING, 1),
+    (ANNA_IS_IN, 1),
+    (BERT_COMES, 1),
+    (b"REMOVEUSER Bert\n", 1),
+];
 
-const HE_CAME: Text = &[(ANNA_IS_IN, 1), (BERT_COMES, 1)];
+const HE_CAME: Text = &[(GREETING, 1), (ANNA_IS_IN, 1), (BERT_COMES, 1)];
 
 /// What Bert is told of his login, where Anna is there, and what of it his link takes in no write, one and two.
 const NO_WRITE: Text = &[];
 
-const GREETED: Text = &[(b"TASSERVER 0.38 * 8201 0\n", 1)];
+const GREETED: Text = &[(GREETING, 1)];
 
 const ONE_WRITE: Text = &[(b"TASSERVER 0.38 * 8201 0\nACCEPTED Bert\nMOTD Welcome", 1)];
 
@@ -45,17 +36,7 @@ CLIENTSTA",
     1,
 )];
 
-const ALL: Text = &[(
-    b"TASSERVER 0.38 * 8201 0
-ACCEPTED Bert
-MOTD Welcome
-ADDUSER Anna DE 0 1
-ADDUSER Bert ?? 0 2
-CLIENTSTATUS Bert 12
-LOGININFOEND
-",
-    1,
-)];
+const ALL: Text = &[(GREETING, 1), (BERT_IS_IN, 1)];
 
 /// When Bert's device fails, what his turn comes to, what is written to him, what Anna is told, and how many events there are.
 /// His session reads twice, once more in vain, and then writes three times. He is shut once, and no event of his comes after that:

@@ -1,13 +1,14 @@
 //! One worker and its client over a link in memory.
 
 use crate::plays::Step::{Enters, Reads, Takes, Turns};
-use crate::plays::{Caller, End, Text, play};
+use crate::plays::{Caller, End, play};
 use lobby_turns::TurnState;
 use std::alloc::Global;
 use std::process::Abort;
 use std::sync::Wait;
+use test_lobby::{GREETING, Text};
 
-const GREETING: Text = &[(b"TASSERVER 0.38 * 8201 0\n", 1)];
+const GREETED: Text = &[(GREETING, 1)];
 
 /// What a client reads that sends `PING` alone.
 pub const GREETING_AND_PONG: &[u8] = b"TASSERVER 0.38 * 8201 0\nPONG\n";
@@ -38,7 +39,7 @@ fn check<R: Wait + Abort>(rt: &R, alloc: Global, cases: &[Case]) {
 
 static LINES: [Case; 3] = [
     // nothing came yet
-    (&[], 9, 100, End::Open, 1, TurnState::Idle, GREETING, 3),
+    (&[], 9, 100, End::Open, 1, TurnState::Idle, GREETED, 3),
     // byte by byte, more than a turn reads
     (
         LATE_PING,
@@ -47,7 +48,7 @@ static LINES: [Case; 3] = [
         End::Open,
         1,
         TurnState::Again,
-        GREETING,
+        GREETED,
         3,
     ),
     (LATE_PING, 1, 100, End::Open, 2, TurnState::Idle, PONGED, 6),
@@ -74,7 +75,7 @@ static LINKS: [Case; 5] = [
         End::FailsAt(1),
         1,
         TurnState::Closed,
-        GREETING,
+        GREETED,
         4,
     ),
     (PING, 9, 100, End::FailsAt(3), 1, TurnState::Closed, &[], 5),
@@ -104,7 +105,7 @@ static LONG: [Case; 2] = [
         End::Open,
         1,
         TurnState::Closed,
-        GREETING,
+        GREETED,
         4,
     ),
 ];
@@ -157,16 +158,7 @@ static EXITS: [Case; 3] = [
         5,
     ),
     // a first turn reads 16 blanks and writes 16 bytes
-    (
-        LATE_EXIT,
-        1,
-        1,
-        End::Open,
-        2,
-        TurnState::Closed,
-        GREETING,
-        6,
-    ),
+    (LATE_EXIT, 1, 1, End::Open, 2, TurnState::Closed, GREETED, 6),
     // a link that takes a byte a write is given 16 of them in its last turn
     (
         EXIT,
