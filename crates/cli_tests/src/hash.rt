@@ -4,7 +4,6 @@ use crate::verdict::same;
 use lobby_cli::hash_line;
 use std::alloc::{AllocError, Global};
 use std::io::{Error, ErrorKind, Read, Result, Write};
-use std::test::Fail;
 
 const PASSWORD: &[u8] = b"X03MO1qnZdYdgyfeuILPmQ==\n";
 
@@ -60,60 +59,73 @@ fn line(alloc: Global, count: usize, end: &[u8]) -> std::result::Result<Vec<u8>,
     Ok(line)
 }
 
+static LINE_ENDS: [(&[u8], &[u8]); 7] = [
+    (b"password\n", PASSWORD),
+    (b"password\r\n", PASSWORD),
+    (b"password", PASSWORD),
+    (b"password\nmore", PASSWORD),
+    (b"", EMPTY),
+    (b"\n", EMPTY),
+    // Without LF a CR belongs to the password.
+    (b"password\r", b"dYXdkGvIC54mYZss7XnL0w==\n"),
+];
+
 #[test]
 fn drops_the_lines_end_alone(rt: HostRuntime) {
-    let inputs: [(&[u8], &[u8]); 7] = [
-        (b"password\n", PASSWORD),
-        (b"password\r\n", PASSWORD),
-        (b"password", PASSWORD),
-        (b"password\nmore", PASSWORD),
-        (b"", EMPTY),
-        (b"\n", EMPTY),
-        // Without LF a CR belongs to the password.
-        (b"password\r", b"dYXdkGvIC54mYZss7XnL0w==\n"),
-    ];
-    for (input, word) in inputs {
+    for (input, word) in &LINE_ENDS {
         let (status, printed) = hashed(rt.alloc(), input);
-        same(&rt, status, 0);
-        same(&rt, printed.as_slice(), word);
+        same(&rt, (status, printed.as_slice()), (0, *word));
+    }
+}
+
+/// How many bytes stand before a line's end, that end, and the status.
+static LENGTHS: [(usize, &[u8], u8); 6] = [
+    (8_192, b"\n", 0),
+    (8_191, b"\r\n", 0),
+    (8_192, b"", 0),
+    (8_192, b"\r\n", 1),
+    (8_193, b"\n", 1),
+    (8_193, b"", 1),
+];
+
+/// The status of a line; none where memory is refused.
+fn status_of(alloc: Global, count: usize, end: &[u8]) -> Option<u8> {
+    match line(alloc, count, end) {
+        Ok(input) => Some(hashed(alloc, &input).0),
+        Err(AllocError) => None,
     }
 }
 
 #[test]
-fn refuses_a_line_over_the_limit(rt: HostRuntime) -> std::result::Result<(), Fail> {
-    for (count, end, status) in [
-        (8_192, "\n", 0),
-        (8_191, "\r\n", 0),
-        (8_192, "", 0),
-        (8_192, "\r\n", 1),
-        (8_193, "\n", 1),
-        (8_193, "", 1),
-    ] {
-        let input = line(rt.alloc(), count, end.as_bytes())?;
-        same(&rt, hashed(rt.alloc(), &input).0, status);
+fn refuses_a_line_over_the_limit(rt: HostRuntime) {
+    for (count, end, status) in &LENGTHS {
+        same(&rt, status_of(rt.alloc(), *count, end), Some(*status));
     }
-    Ok(())
 }
 
+/// What can be read before an input fails, how it fails, and how often it is read.
+static FAILURES: [(&[u8], ErrorKind, usize); 3] = [
+    (b"pass", ErrorKind::Other, 5),
+    (b"pass", ErrorKind::Interrupted, 8_194),
+    (&[b'a'; 8_192], ErrorKind::Interrupted, 8_194),
+];
+
 #[test]
-fn tells_of_an_input_that_fails(rt: HostRuntime) -> std::result::Result<(), Fail> {
-    let long = line(rt.alloc(), 8_192, b"")?;
-    for (rest, kind, reads) in [
-        (b"pass".as_slice(), ErrorKind::Other, 5),
-        (b"pass".as_slice(), ErrorKind::Interrupted, 8_194),
-        (long.as_slice(), ErrorKind::Interrupted, 8_194),
-    ] {
+fn tells_of_an_input_that_fails(rt: HostRuntime) {
+    for (rest, kind, reads) in &FAILURES {
         let mut input = Broken {
-            rest,
-            kind,
+            rest: *rest,
+            kind: *kind,
             reads: 0,
         };
         let mut output = Vec::new(rt.alloc());
-        same(&rt, hash_line(&mut input, &mut output), 2);
-        assert!(rt; output.is_empty());
-        same(&rt, input.reads, reads);
+        let status = hash_line(&mut input, &mut output);
+        same(
+            &rt,
+            (status, output.is_empty(), input.reads),
+            (2, true, *reads),
+        );
     }
-    Ok(())
 }
 
 #[test]

@@ -4,7 +4,6 @@ ghost use Rattle.std.specs.Prelude.{◌≤◌};
 ghost use Rattle.std.specs.List.{AllByRecursion};
 ghost use Rattle.lobby_hall.specs.Standing.{HasHome};
 
-use crate::settings::settings;
 use crate::verdict::same;
 use account_book::AccountBook;
 use command_grammar::Request;
@@ -12,9 +11,11 @@ use line_framer::FeedError;
 use lobby_hall::{Hall, HallError, Next, Record, Session, run};
 use lobby_model::Step;
 use lobby_model::schedule::Piece;
+use lobby_model::settings::LEAST_OUTBOX_LIMIT;
 use std::alloc::{AllocError, Global};
 use std::process::Abort;
 use std::test::Fail;
+use test_lobby::settings;
 
 const GREETING_AND_PONG: &[u8] = b"TASSERVER 0.38 * 8201 0\nPONG\n";
 
@@ -26,7 +27,7 @@ fn piece(alloc: Global, bytes: &[u8]) -> Result<Piece, AllocError> {
 fn record_of(alloc: Global, steps: &[Step]) -> Result<Record, Fail>
     requires { AllByRecursion HasHome steps.now }
 {
-    let settings = settings(alloc, &[])?;
+    let settings = settings(alloc, LEAST_OUTBOX_LIMIT).ok_or("no settings")?;
     Ok(run(alloc, settings, AccountBook::new(alloc), steps)?)
 }
 
@@ -73,7 +74,7 @@ fn a_whole_schedule_leaves_its_record(rt: HostRuntime) -> Result<(), Fail> {
 }
 
 fn new_hall(alloc: Global) -> Result<Hall, Fail> {
-    let settings = settings(alloc, &[])?;
+    let settings = settings(alloc, LEAST_OUTBOX_LIMIT).ok_or("no settings")?;
     Ok(Hall::new(alloc, settings, AccountBook::new(alloc))?)
 }
 

@@ -7,6 +7,4 @@ mod hall;
 #[cfg(test)]
 mod scripts;
 #[cfg(test)]
-mod settings;
-#[cfg(test)]
 mod verdict;

@@ -2,11 +2,10 @@
 
 use crate::verdict::same;
 use lobby_script::{MOST_READS, PlayFault, SCRIPT_LIMIT, play};
-use std::alloc::Global;
+use std::alloc::{AllocError, Global};
 use std::io;
 use std::io::{Error, ErrorKind, Read, Write};
 use std::process::Abort;
-use std::test::Fail;
 
 const SCRIPT: &[u8] = b"open 1 10.0.0.1\nshow 1\n";
 
@@ -86,7 +85,7 @@ type Reading = (
     &'static [u8],
 );
 
-const READINGS: [Reading; 6] = [
+static READINGS: [Reading; 6] = [
     (SCRIPT.len(), 1, None, Ok(()), SHOWN),
     (7, 2, None, Ok(()), SHOWN),
     (0, 1, None, Ok(()), SHOWN),
@@ -95,36 +94,56 @@ const READINGS: [Reading; 6] = [
     (22, SPARE_READS + 1, None, Err(PlayFault::Device), b""),
 ];
 
+/// Whether this comes of a reading.
+fn reads_so(alloc: Global, reading: &Reading) -> bool {
+    let (left, interruptions, end, told, output) = reading;
+    let mut reader = Faulty {
+        rest: SCRIPT,
+        left: *left,
+        interruptions: *interruptions,
+        end: *end,
+    };
+    let mut writer = Vec::new(alloc);
+    let played = play(alloc, &mut reader, &mut writer);
+    played == *told && writer.as_slice() == *output
+}
+
 #[test]
 fn interrupted_and_failed_reads(rt: HostRuntime) {
-    for (left, interruptions, end, told, output) in READINGS {
-        let mut reader = Faulty {
-            rest: SCRIPT,
-            left,
-            interruptions,
-            end,
-        };
-        let mut writer = Vec::new(rt.alloc());
-        let played = play(rt.alloc(), &mut reader, &mut writer);
-        assert!(&rt; played == told, "{interruptions}");
-        assert!(&rt; writer.as_slice() == output, "{interruptions}");
+    for (k, reading) in READINGS.iter().enumerate() {
+        same(&rt, (k, reads_so(rt.alloc(), reading)), (k, true));
     }
+}
+
+/// In so many writes a line is shown: the client's number, what parts it from the line, the line, and its end.
+const PARTS: usize = 4;
+
+/// Whether the script is played to its end where so many writes are taken and flushes are or are not, and fails for its device else.
+fn writes_so(alloc: Global, writes: usize, flushes: bool) -> bool {
+    let mut reader = SCRIPT;
+    let mut writer = Full { writes, flushes };
+    let played = play(alloc, &mut reader, &mut writer);
+    let told = if writes >= PARTS && flushes {
+        Ok(())
+    } else {
+        Err(PlayFault::Device)
+    };
+    played == told
 }
 
 #[test]
 fn failed_writes(rt: HostRuntime) {
     for writes in 0..6 {
-        for flushes in [false, true] {
-            let mut reader = SCRIPT;
-            let mut writer = Full { writes, flushes };
-            let played = play(rt.alloc(), &mut reader, &mut writer);
-            let told = if writes >= 4 && flushes {
-                Ok(())
-            } else {
-                Err(PlayFault::Device)
-            };
-            assert!(&rt; played == told, "{writes}");
-        }
+        same(
+            &rt,
+            (writes, writes_so(rt.alloc(), writes, false)),
+            (writes, true),
+        );
+        same(
+            &rt,
+            (writes, writes_so(rt.alloc(), writes, true)),
+            (writes, true),
+        );
     }
 }
 
@@ -132,7 +151,7 @@ fn failed_writes(rt: HostRuntime) {
 /// comes of it. One that is too long shows nothing, though a bad step stands in it.
 type Size = (&'static [u8], usize, Result<(), PlayFault>, &'static [u8]);
 
-const SIZES: [Size; 6] = [
+static SIZES: [Size; 6] = [
     (b"", SCRIPT_LIMIT, Ok(()), b""),
     (b"", SCRIPT_LIMIT + 1, Err(PlayFault::TooLong), b""),
     (b"x\n", SCRIPT_LIMIT, Err(PlayFault::BadStep(1)), b""),
@@ -141,19 +160,39 @@ const SIZES: [Size; 6] = [
     (SPOILT, SCRIPT_LIMIT + 1, Err(PlayFault::TooLong), b""),
 ];
 
-#[test]
-fn largest_scripts(rt: HostRuntime) -> Result<(), Fail> {
-    for (front, size, told, output) in SIZES {
-        let mut script = Vec::new(rt.alloc());
-        script.extend_from_slice(front)?;
-        script.resize(size, b'\n')?;
-        let mut reader = script.as_slice();
-        let mut writer = Vec::new(rt.alloc());
-        let played = play(rt.alloc(), &mut reader, &mut writer);
-        assert!(&rt; played == told, "{size}");
-        assert!(&rt; writer.as_slice() == output, "{size}");
+/// This front and empty lines behind it, in so many bytes.
+fn script_of(alloc: Global, front: &[u8], size: usize) -> Result<Vec<u8>, AllocError> {
+    let mut script = Vec::from_slice(alloc, front)?;
+    match script.resize(size, b'\n') {
+        Ok(()) => Ok(script),
+        Err(refused) => {
+            drop(script);
+            Err(refused)
+        }
     }
-    Ok(())
+}
+
+/// Whether this comes of a script.
+fn plays_so(alloc: Global, script: &[u8], told: Result<(), PlayFault>, output: &[u8]) -> bool {
+    let mut reader = script;
+    let mut writer = Vec::new(alloc);
+    play(alloc, &mut reader, &mut writer) == told && writer.as_slice() == output
+}
+
+/// Whether this comes of a script of this size; not where memory is refused.
+fn has_size(alloc: Global, case: &Size) -> bool {
+    let (front, size, told, output) = case;
+    match script_of(alloc, front, *size) {
+        Ok(script) => plays_so(alloc, script.as_slice(), *told, output),
+        Err(AllocError) => false,
+    }
+}
+
+#[test]
+fn largest_scripts(rt: HostRuntime) {
+    for (k, case) in SIZES.iter().enumerate() {
+        same(&rt, (k, has_size(rt.alloc(), case)), (k, true));
+    }
 }
 
 const PING: &[u8] = b"open 1 10.0.0.1\nsend 1 PING\\n\nall 1\nshow 1\n";
@@ -186,18 +225,25 @@ fn each_front_of_a_script_has_an_answer(rt: HostRuntime) {
 }
 
 /// What is told of each fault, and the exit status.
-const FAULTS: [(PlayFault, &str, u8); 4] = [
+static FAULTS: [(PlayFault, &str, u8); 4] = [
     (PlayFault::BadStep(3), "line 3: bad step", 1),
     (PlayFault::Device, "device fault", 2),
     (PlayFault::TooLong, "script too long", 2),
     (PlayFault::Memory, "no memory", 4),
 ];
 
-#[test]
-fn each_fault_has_its_text_and_status(rt: HostRuntime) -> Result<(), Fail> {
-    for (fault, text, status) in FAULTS {
-        same(&rt, format!(in rt.alloc(); "{fault}")?.as_str(), text);
-        same(&rt, fault.status(), status);
+/// Whether a fault shows itself by this text; not where memory is refused.
+fn has_text(alloc: Global, fault: PlayFault, text: &str) -> bool {
+    match format!(in alloc; "{fault}") {
+        Ok(told) => told.as_str() == text,
+        Err(_) => false,
     }
-    Ok(())
+}
+
+#[test]
+fn each_fault_has_its_text_and_status(rt: HostRuntime) {
+    for (fault, text, status) in &FAULTS {
+        let told = (*text, has_text(rt.alloc(), *fault, text), fault.status());
+        same(&rt, told, (*text, true, *status));
+    }
 }

@@ -2,12 +2,13 @@
 
 ghost use Rattle.std.specs.Prelude.{◌<◌};
 
-use crate::machine::{cut, drains, fill, new_lobby, say};
+use crate::machine::{cut, drains, fill, say};
 use crate::plays::{Part, play};
 use crate::verdict::{holds, same};
 use lobby_machine::{Lobby, Wakes};
 use std::alloc::Global;
 use std::process::Abort;
+use test_lobby::{ANNA_SAYS, BERT_SAYS, new_lobby};
 
 // These clients of a worker come out in this order, and nobody else.
 fn come_out(rt: &impl Abort, lobby: &mut Lobby, worker: u8, clients: &[u64])
@@ -73,9 +74,9 @@ fn a_client_that_was_cut_comes_out_once(rt: HostRuntime) {
 }
 
 // Two users whom one worker serves. The second of them enters the channel first, and is told first.
-const MEETING: [(u64, &[u8]); 4] = [
-    (1, b"LOGIN Anna X03MO1qnZdYdgyfeuILPmQ== 0 * TestLobby 1.0"),
-    (2, b"LOGIN Bert X03MO1qnZdYdgyfeuILPmQ== 0 * TestLobby 1.0"),
+static MEETING: [(u64, &[u8]); 4] = [
+    (1, ANNA_SAYS),
+    (2, BERT_SAYS),
     (2, b"JOIN main"),
     (1, b"JOIN main"),
 ];
@@ -83,8 +84,8 @@ const MEETING: [(u64, &[u8]); 4] = [
 fn meet(rt: &impl Abort, alloc: Global, lobby: &mut Lobby) {
     same(rt, lobby.open([10, 0, 0, 1], 5), Ok(1));
     same(rt, lobby.open([10, 0, 0, 2], 5), Ok(2));
-    for (client, line) in MEETING {
-        holds(rt, say(lobby, alloc, client, line).is_some(), client);
+    for (client, line) in &MEETING {
+        holds(rt, say(lobby, alloc, *client, line).is_some(), *client);
     }
     come_out(rt, lobby, 5, &[1, 2]);
 }

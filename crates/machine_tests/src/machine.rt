@@ -1,51 +1,13 @@
 //! A lobby: whom it wakes, and how a client ends and is cut.
 
-ghost use Rattle.std.specs.Prelude.{◌<◌, IfOk, IsTrue};
-ghost use Rattle.command_grammar.specs.Kinds.{keeps_kinds};
+ghost use Rattle.std.specs.Prelude.{◌<◌};
 
 use crate::plays::{Part, play};
 use crate::verdict::same;
-use account_book::{Account, AccountBook};
-use command_grammar::{Request, read_request};
-use line_words::TextBuf;
 use lobby_machine::{Drained, Lobby, OpenError, Wakes};
-use lobby_model::Settings;
-use lobby_model::settings::LEAST_OUTBOX_LIMIT;
-use std::alloc::{AllocError, Global};
+use std::alloc::Global;
 use std::process::Abort;
-use std::slice;
-
-const WORD: &[u8] = b"X03MO1qnZdYdgyfeuILPmQ==";
-
-// Name, number, rank and country of each account; all have one password.
-const ACCOUNTS: [(&[u8], u32, u8, &[u8]); 3] = [
-    (b"Anna", 1, 0, b"DE"),
-    (b"Bert", 2, 3, b"??"),
-    (b"Cleo", 3, 0, b"FR"),
-];
-
-fn add_account(
-    accounts: &mut AccountBook,
-    alloc: Global,
-    name: &[u8],
-    id: u32,
-    rank: u8,
-    country: &[u8],
-) -> bool {
-    match Account::new(alloc, name, WORD, id, rank, false, false, country) {
-        Ok(account) => accounts.add(account).is_ok(),
-        Err(_) => false,
-    }
-}
-
-fn add_accounts(accounts: &mut AccountBook, alloc: Global) -> bool {
-    for (name, id, rank, country) in ACCOUNTS {
-        if !add_account(accounts, alloc, name, id, rank, country) {
-            return false;
-        }
-    }
-    true
-}
+use test_lobby::{ANNA_SAYS, new_lobby, read};
 
 // The value, where it is as it should be.
 fn only_if<T: Drop>(is_so: bool, value: T) -> Option<T> {
@@ -55,47 +17,6 @@ fn only_if<T: Drop>(is_so: bool, value: T) -> Option<T> {
         drop(value);
         None
     }
-}
-
-fn new_accounts(alloc: Global) -> Option<AccountBook> {
-    let mut accounts = AccountBook::new(alloc);
-    let are_added = add_accounts(&mut accounts, alloc);
-    only_if(are_added, accounts)
-}
-
-// The default settings, but for the least limit of an outbox and a message of the day.
-fn new_settings(alloc: Global) -> Option<Settings> {
-    let motd = TextBuf::copy_of(alloc, b"Welcome").ok()?;
-    let lines = slice::from_ref(&motd);
-    let settings = Settings::new(alloc, b"0.38", b"*", 8201, 0, lines, LEAST_OUTBOX_LIMIT);
-    drop(motd);
-    settings.ok()
-}
-
-// A lobby of these accounts.
-fn lobby_of(alloc: Global, accounts: AccountBook) -> Option<Lobby> {
-    match new_settings(alloc) {
-        Some(settings) => Lobby::new(alloc, settings, accounts).ok(),
-        None => {
-            drop(accounts);
-            None
-        }
-    }
-}
-
-pub fn new_lobby(alloc: Global) -> Option<Lobby> {
-    match new_accounts(alloc) {
-        Some(accounts) => lobby_of(alloc, accounts),
-        None => None,
-    }
-}
-
-// What a line asks for, with arguments of their kinds.
-#[tactic(auto, using(command_grammar::proofs::Bounds::request_keeps))]
-fn read(alloc: Global, line: &[u8]) -> Result<Request, AllocError>
-    ensures { IfOk result (λ request. IsTrue (keeps_kinds request.command)) }
-{
-    read_request(alloc, line)
 }
 
 // Whom a line of a client wakes; nothing where memory is refused.
@@ -145,7 +66,7 @@ fn open_two(rt: &impl Abort, lobby: &mut Lobby) {
 }
 
 // Lines that are answered, most of them by a refusal.
-const ANSWERED: [&[u8]; 9] = [
+static ANSWERED: [&[u8]; 9] = [
     b"PING",
     b"ping",
     b"SAY main",
@@ -159,9 +80,9 @@ const ANSWERED: [&[u8]; 9] = [
 
 // The first line of these with which one of the clients wakes others than its own worker.
 fn misses(lobby: &mut Lobby, alloc: Global) -> Option<&'static [u8]> {
-    for line in ANSWERED {
+    for line in &ANSWERED {
         if !wakes_alone(lobby, alloc, 1, line, 5) || !wakes_alone(lobby, alloc, 2, line, 63) {
-            return Some(line);
+            return Some(*line);
         }
     }
     None
@@ -270,12 +191,10 @@ fn lobby_of_three(alloc: Global) -> Option<Lobby> {
     only_if(are_open, lobby)
 }
 
-const ANNA_LOGS_IN: &[u8] = b"LOGIN Anna X03MO1qnZdYdgyfeuILPmQ== 0 * TestLobby 1.0";
-
 // Anna logs in and out again, and reads what she got.
 pub fn log_in_and_out(rt: &impl Abort, alloc: Global, lobby: &mut Lobby) {
     let client = 1;
-    same(rt, wakes_alone(lobby, alloc, client, ANNA_LOGS_IN, 1), true);
+    same(rt, wakes_alone(lobby, alloc, client, ANNA_SAYS, 1), true);
     same(rt, wakes_nobody(lobby, alloc, client, b"#5 EXIT bye"), true);
     same(rt, wakes_nobody(lobby, alloc, client, b"PING"), true);
     let got = b"ACCEPTED Anna\nMOTD Welcome\nADDUSER Anna DE 0 1\nLOGININFOEND\n";

@@ -10,7 +10,7 @@ use std::io;
 /// index has room for nine at first: so that of those who ask grows, and that of the members, and that of the disabled units. Units
 /// are disabled, of which some are already, and enabled again, before and after one joins who is told which are. At the end some go
 /// who ask, who are members with bots, and the founder; those who shall not be shown have read all.
-const DEEDS: [(u64, Deed); 69] = [
+static DEEDS: [(u64, Deed); 69] = [
     (
         1,
         Deed::Send(
@@ -97,7 +97,7 @@ const DEEDS: [(u64, Deed); 69] = [
 
 /// The last user logs in once more, and is told the users, the battles and their members; then who is in the channel; it asks to
 /// join the battle, and is told what the members share; and those who ask are told that the battle is closed.
-const LOOKS: [(u64, Deed); 7] = [
+static LOOKS: [(u64, Deed); 7] = [
     (22, Deed::Send(b"EXIT")),
     (23, Deed::Open),
     (

@@ -1,6 +1,5 @@
 //! A crowd of users who are logged in, and a channel of 33 whose last one joins.
 
-use crate::accounts::lobby_of;
 use crate::deeds::{Deed, Subject, try_deeds};
 use crate::lobbies::{HOME, act, are_alike, read_some, say, show_unread, use_buffer_up};
 use crate::notes::Notes;
@@ -9,16 +8,17 @@ use account_book::{Account, AccountBook};
 use lobby_machine::Lobby;
 use std::alloc::Global;
 use std::io;
+use test_lobby::lobby_of;
 
 const WORD: &[u8] = b"X03MO1qnZdYdgyfeuILPmQ==";
 
-const DEEDS: [(u64, Deed); 2] = [
+static DEEDS: [(u64, Deed); 2] = [
     (33, Deed::Send(b"JOIN main")),
     (1, Deed::Send(b"SAY main hello")),
 ];
 
 /// The channel's members are told, the list of channels has their number, and the last user logs out.
-const LOOKS: [(u64, Deed); 3] = [
+static LOOKS: [(u64, Deed); 3] = [
     (2, Deed::Send(b"SAY main who is there")),
     (33, Deed::Send(b"CHANNELS")),
     (33, Deed::Send(b"EXIT")),
@@ -106,7 +106,7 @@ pub struct Crowd<const USERS: u32> {
 
 impl<const USERS: u32> Subject for Crowd<USERS> {
     fn new(alloc: Global) -> Option<Crowd<USERS>> {
-        let mut lobby = lobby_of(alloc, accounts(alloc, USERS))?;
+        let mut lobby = lobby_of(alloc, accounts(alloc, USERS)?)?;
         if enter_all(&mut lobby, alloc, USERS) && use_buffers_up(&mut lobby, alloc, USERS) {
             Some(Crowd { lobby })
         } else {

@@ -3,18 +3,19 @@
 ghost use Rattle.std.specs.Prelude.{IfOk, IfSome};
 ghost use Rattle.lobby_hall.specs.Standing.{HasHome};
 
-use crate::accounts::{book, settings};
 use crate::deeds::{Deed, Subject, try_deeds};
 use crate::notes::Notes;
 use crate::refuser::Refuser;
 use lobby_hall::{Hall, HallError, Record};
 use lobby_model::Step;
 use lobby_model::schedule::Piece;
+use lobby_model::settings::LEAST_OUTBOX_LIMIT;
 use std::alloc::{AllocError, Global};
 use std::io;
 use std::io::Write;
+use test_lobby::{book, settings};
 
-const DEEDS: [(u64, Deed); 27] = [
+static DEEDS: [(u64, Deed); 27] = [
     (1, Deed::Open),
     (
         1,
@@ -54,7 +55,7 @@ const DEEDS: [(u64, Deed); 27] = [
 ];
 
 /// An unfinished line of each is ended, and its next lines are taken.
-const LOOKS: [(u64, Deed); 7] = [
+static LOOKS: [(u64, Deed); 7] = [
     (1, Deed::Send(b"\n")),
     (1, Deed::Take),
     (2, Deed::Send(b"\n")),
@@ -108,7 +109,7 @@ fn show_log<R: Print>(rt: &R, record: &Record, client: u64) -> io::Result<()> {
 impl Subject for Hall {
     fn new(alloc: Global) -> Option<Hall> {
         let accounts = book(alloc)?;
-        match settings(alloc) {
+        match settings(alloc, LEAST_OUTBOX_LIMIT) {
             Some(settings) => Hall::new(alloc, settings, accounts).ok(),
             None => {
                 drop(accounts);

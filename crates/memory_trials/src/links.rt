@@ -2,19 +2,15 @@
 
 ghost use Rattle.std.specs.Prelude.{◌≡◌, IfSome};
 
-use crate::accounts::{book, lobby_of};
 use crate::notes::Notes;
 use crate::refuser::Refuser;
 use lobby_lock::{Desk, Pass};
 use lobby_machine::OpenError;
 use lobby_turns::{Conn, Gate, Link, TurnState, serve};
-use memory_link::MemoryLink;
 use std::alloc::{AllocError, Global};
 use std::io;
 use std::sync::Wait;
-
-/// A text in parts, each of which stands there so many times over.
-type Text = &'static [(&'static [u8], usize)];
+use test_lobby::{MemoryLink, Text, new_lobby, written};
 
 /// What a client sends, of which a read gives at most `piece` bytes, and what it is told, of which a write takes at most `room`.
 struct Caller {
@@ -149,16 +145,6 @@ fn are_fronts(sides: &(Side, Side)) -> bool {
 fn are_told(sides: &(Side, Side)) -> bool {
     let (anna, bert) = sides;
     anna.told.as_slice() == anna.link.output() && bert.told.as_slice() == bert.link.output()
-}
-
-fn written(alloc: Global, text: Text) -> Result<Vec<u8>, AllocError> {
-    let mut all = Vec::new(alloc);
-    for (part, times) in text {
-        for _ in 0..*times {
-            all.extend_from_slice(*part)?;
-        }
-    }
-    Ok(all)
 }
 
 /// The connection of a client.
@@ -329,7 +315,7 @@ fn try_one<R: Wait>(
 fn new_desk<R: Wait + AllocGlobal>(rt: &R) -> Option<(Desk, Pass)>
     ensures { IfSome result (λ r. r.1.desk ≡ r.0) }
 {
-    let lobby = lobby_of(rt.alloc(), book(rt.alloc()))?;
+    let lobby = new_lobby(rt.alloc())?;
     Desk::open(rt, rt.alloc(), lobby).ok()
 }
 

@@ -1,17 +1,13 @@
 //! A lobby of three users who talk, and gather in a battle.
 
-ghost use Rattle.std.specs.Prelude.{IfOk, IsTrue};
-ghost use Rattle.command_grammar.specs.Kinds.{keeps_kinds};
-
-use crate::accounts::{book, lobby_of};
 use crate::deeds::{Deed, Subject, try_deeds};
 use crate::notes::Notes;
 use crate::refuser::Refuser;
-use command_grammar::{Request, read_request};
 use lobby_machine::{Lobby, OpenError};
 use std::alloc::{AllocError, Global};
 use std::io;
 use std::io::Write;
+use test_lobby::{ANNA_SAYS, BERT_SAYS, new_lobby, read};
 
 /// The worker that serves all clients.
 pub const HOME: u8 = 0;
@@ -24,18 +20,12 @@ const PIECE: usize = 512;
 
 /// They log in, one after another, and talk in two channels; then Anna opens a battle and furnishes it, Cleo joins it, is forced this
 /// and that, and leaves with two bots; Bert goes with his channels, and is shut.
-const DEEDS: [(u64, Deed); 52] = [
+static DEEDS: [(u64, Deed); 52] = [
     (1, Deed::Open),
     (2, Deed::Open),
     (3, Deed::Open),
-    (
-        1,
-        Deed::Send(b"LOGIN Anna X03MO1qnZdYdgyfeuILPmQ== 0 * TestLobby 1.0"),
-    ),
-    (
-        2,
-        Deed::Send(b"LOGIN Bert X03MO1qnZdYdgyfeuILPmQ== 0 * TestLobby 1.0"),
-    ),
+    (1, Deed::Send(ANNA_SAYS)),
+    (2, Deed::Send(BERT_SAYS)),
     (2, Deed::Read(40)),
     (
         3,
@@ -99,7 +89,7 @@ const DEEDS: [(u64, Deed); 52] = [
 /// Five more connect, so that a client 5 is there, however many there were. Dora logs in at it, and is told the users, the battles
 /// and their members; then who is in the channels, and what the members of the battle share. Then the others log out, and she is told
 /// what each was in.
-const LOOKS: [(u64, Deed); 13] = [
+static LOOKS: [(u64, Deed); 13] = [
     (1, Deed::Open),
     (2, Deed::Open),
     (3, Deed::Open),
@@ -117,14 +107,6 @@ const LOOKS: [(u64, Deed); 13] = [
     (3, Deed::Send(b"EXIT")),
     (4, Deed::Send(b"EXIT")),
 ];
-
-/// What a line asks for, with arguments of their kinds.
-#[tactic(auto, using(command_grammar::proofs::Bounds::request_keeps))]
-fn read(alloc: Global, line: &[u8]) -> Result<Request, AllocError>
-    ensures { IfOk result (λ request. IsTrue (keeps_kinds request.command)) }
-{
-    read_request(alloc, line)
-}
 
 /// A client says a line; whether memory sufficed.
 pub fn say(lobby: &mut Lobby, alloc: Global, client: u64, line: &[u8]) -> bool {
@@ -236,7 +218,7 @@ pub fn show_unread<R: Print>(rt: &R, lobby: &Lobby) -> io::Result<()> {
 
 impl Subject for Lobby {
     fn new(alloc: Global) -> Option<Lobby> {
-        lobby_of(alloc, book(alloc))
+        new_lobby(alloc)
     }
 
     fn act(&mut self, alloc: Global, client: u64, deed: Deed) -> bool {

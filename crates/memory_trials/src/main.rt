@@ -4,7 +4,6 @@
 //! tell of one to which nothing was refused. It shows the same then, but for the count of the refusals.
 #![tactic(auto)]
 
-mod accounts;
 mod asking;
 mod counted;
 mod crowd;

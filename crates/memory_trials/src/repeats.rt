@@ -10,7 +10,7 @@ use std::io;
 /// So often that what it tells would fill all memory, if it were kept.
 const TIMES: u32 = 40_000;
 
-const DEEDS: [(u64, Deed); 3] = [
+static DEEDS: [(u64, Deed); 3] = [
     (
         1,
         Deed::Send(

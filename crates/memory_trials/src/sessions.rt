@@ -11,7 +11,7 @@ use std::alloc::{AllocError, Global};
 use std::io;
 use std::io::Write;
 
-const DEEDS: [(u64, Deed); 12] = [
+static DEEDS: [(u64, Deed); 12] = [
     (1, Deed::Send(b"#7 JOIN ma")),
     (1, Deed::Take),
     (
@@ -35,7 +35,7 @@ const DEEDS: [(u64, Deed); 12] = [
 ];
 
 /// An unfinished line is ended, and the lines that are there are taken, one after another.
-const LOOKS: [(u64, Deed); 4] = [
+static LOOKS: [(u64, Deed); 4] = [
     (1, Deed::Send(b"\n")),
     (1, Deed::Take),
     (1, Deed::Take),

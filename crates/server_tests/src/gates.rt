@@ -1,11 +1,12 @@
 //! A gate at which tests look at the workers of a server, and hold them up.
 
 use crate::clients::LOOKS;
-use crate::running::{GREETING, PONG};
+use crate::running::PONG;
 use lobby_workers::Gate;
 use std::sync::atomic::{AtomicBool, AtomicU64, Ordering};
 use std::thread;
 use std::time::{Clock, Duration};
+use test_lobby::GREETING;
 
 /// Whether a flag is set, within so many looks.
 pub fn is_set_soon<C: Clock>(clock: &C, flag: &AtomicBool) -> bool {

@@ -3,9 +3,10 @@
 use crate::gates::Hold;
 use crate::plays::Step::*;
 use crate::plays::{Act, BOTH_LOG_IN, play};
-use crate::running::{ANNA, BERT, BERT_COMES, BERT_IS_IN, BERT_LOGS_IN, PING, PONG, THIRD};
+use crate::running::{ANNA, BERT, PING, PONG, THIRD};
+use test_lobby::{BERT_COMES, BERT_IS_IN, BERT_LOGS_IN};
 
-const BURST: [Act; 2] = [
+static BURST: [Act; 2] = [
     Act {
         times: 100,
         steps: &[JoinsCrowd],
@@ -28,7 +29,7 @@ const PASSER: usize = 0;
 /// Who meets a full inbox.
 const REFUSED: usize = 1;
 
-const FULL_INBOX: [Act; 3] = [
+static FULL_INBOX: [Act; 3] = [
     Act {
         times: 1,
         steps: &[GateShuts],
@@ -57,7 +58,7 @@ fn who_meets_a_full_inbox_is_closed_and_counted(rt: HostRuntime) {
     drop(play(&rt, rt, 2, Hold::Wake, &FULL_INBOX));
 }
 
-const LEFT_OVER: [Act; 1] = [Act {
+static LEFT_OVER: [Act; 1] = [Act {
     times: 1,
     steps: &[
         Enters(0),
@@ -81,7 +82,7 @@ fn all_who_are_left_over_get_their_turns(rt: HostRuntime) {
     drop(play(&rt, rt, 1, Hold::Write, &LEFT_OVER));
 }
 
-const SAME_ROUND: [Act; 2] = [
+static SAME_ROUND: [Act; 2] = [
     BOTH_LOG_IN,
     Act {
         times: 1,
@@ -107,7 +108,7 @@ fn who_had_a_turn_is_told_what_a_later_turn_brings(rt: HostRuntime) {
     drop(play(&rt, rt, 1, Hold::Write, &SAME_ROUND));
 }
 
-const CROWDED: [Act; 4] = [
+static CROWDED: [Act; 4] = [
     Act {
         times: 200,
         steps: &[JoinsCrowd],
@@ -132,7 +133,7 @@ fn a_line_reaches_its_client_among_many_quiet_ones(rt: HostRuntime) {
     drop(play(&rt, rt, 2, Hold::Open, &CROWDED));
 }
 
-const HOMES: [Act; 2] = [
+static HOMES: [Act; 2] = [
     BOTH_LOG_IN,
     Act {
         times: 1,
@@ -156,7 +157,7 @@ fn each_client_is_at_home_at_its_worker(rt: HostRuntime) {
     drop(play(&rt, rt, 2, Hold::Open, &HOMES));
 }
 
-const BYTES: [Act; 2] = [
+static BYTES: [Act; 2] = [
     BOTH_LOG_IN,
     Act {
         times: 1,

@@ -42,7 +42,7 @@ const BERT_GOES_ON: Act = Act {
     steps: &[Ends(ANNA), Sends(BERT, PING), Reads(BERT, PONG)],
 };
 
-const EXITS: [Act; 6] = [
+static EXITS: [Act; 6] = [
     BOTH_LOG_IN,
     BERT_SAYS,
     Act {
@@ -61,7 +61,7 @@ fn who_exits_with_more_behind_it_gets_its_last_lines(rt: HostRuntime) {
     drop(play(&rt, rt, 1, Hold::Open, &EXITS));
 }
 
-const SPOILS: [Act; 6] = [
+static SPOILS: [Act; 6] = [
     BOTH_LOG_IN,
     BERT_SAYS,
     Act {
@@ -79,7 +79,7 @@ fn whose_line_is_too_long_gets_its_last_lines(rt: HostRuntime) {
     drop(play(&rt, rt, 1, Hold::Open, &SPOILS));
 }
 
-const SENDS_ON: [Act; 1] = [Act {
+static SENDS_ON: [Act; 1] = [Act {
     times: 1,
     steps: &[
         Enters(0),
@@ -98,7 +98,7 @@ fn who_sends_on_behind_an_exit_is_broken_off(rt: HostRuntime) {
     drop(play(&rt, rt, 1, Hold::Open, &SENDS_ON));
 }
 
-const OTHERS_LEAVE: [Act; 3] = [
+static OTHERS_LEAVE: [Act; 3] = [
     Act {
         times: 1,
         steps: &[Enters(0), Sends(0, b"EXIT\n"), Ends(0)],

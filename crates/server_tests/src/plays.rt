@@ -4,10 +4,7 @@ ghost use Rattle.std.specs.Prelude.{◌≡◌, ◌≤◌};
 
 use crate::clients::Client;
 use crate::gates::{Hold, Watch, is_set_soon};
-use crate::running::{
-    ANNA, ANNA_IS_IN, ANNA_LOGS_IN, BERT, BERT_COMES, BERT_IS_IN, BERT_LOGS_IN, GREETING, Input,
-    PATIENCE, Told, listen, run, service,
-};
+use crate::running::{ANNA, BERT, Input, PATIENCE, Told, listen, run, service};
 use crate::verdict::{fail, same};
 use lobby_workers::Service;
 use mio::net::TcpListener;
@@ -18,6 +15,7 @@ use std::process::Abort;
 use std::sync::Wait;
 use std::sync::atomic::{AtomicBool, Ordering};
 use std::thread::{self, Threads};
+use test_lobby::{ANNA_IS_IN, ANNA_LOGS_IN, BERT_COMES, BERT_IS_IN, BERT_LOGS_IN, GREETING};
 
 /// A step of a play. The test fails where a step does not come out as it says, or not within so many looks. Numbers are
 /// given to clients in order, from 0, and given again: a number stands for the last client that connected under it.

@@ -1,33 +1,18 @@
-//! A server for Anna and Bert, which runs until its input ends, and what they and it say.
+//! A server, which runs until its input ends, and what clients and it say.
 
 ghost use Rattle.std.specs.Prelude.{◌≡◌, ◌≤◌, IfSome};
 
 use crate::gates::Watch;
-use account_book::AccountBook;
-use line_words::TextBuf;
-use lobby_model::Settings;
 use lobby_workers::{Service, run_server};
 use mio::net::TcpListener;
 use std::alloc::Global;
 use std::io::{self, Read};
 use std::net::{IpAddr, Ipv4Addr, Net, SocketAddr};
-use std::slice;
 use std::sync::Wait;
 use std::sync::atomic::{AtomicBool, Ordering};
 use std::thread::{self, Threads};
 use std::time::Duration;
-
-const ACCOUNTS: &[u8] = b"[[account]]
-name = \"Anna\"
-password = \"X03MO1qnZdYdgyfeuILPmQ==\"
-id = 1
-country = \"DE\"
-[[account]]
-name = \"Bert\"
-password = \"X03MO1qnZdYdgyfeuILPmQ==\"
-id = 2
-rank = 3
-";
+use test_lobby::{book, settings};
 
 /// Anna's number in a play.
 pub const ANNA: usize = 0;
@@ -38,9 +23,6 @@ pub const BERT: usize = 1;
 /// The number of one who comes only to turn the order of workers, or to keep one busy.
 pub const THIRD: usize = 2;
 
-/// What a server says to whom it accepts.
-pub const GREETING: &[u8] = b"TASSERVER 0.38 * 8201 0\n";
-
 /// A line that is answered at any time.
 pub const PING: &[u8] = b"PING\n";
 
@@ -50,26 +32,8 @@ pub const PONG: &[u8] = b"PONG\n";
 /// Sixteen bytes of a long text.
 pub const TEXT: &[u8] = b"0123456789abcdef";
 
-/// What a client says that logs in as Anna.
-pub const ANNA_LOGS_IN: &[u8] = b"LOGIN Anna X03MO1qnZdYdgyfeuILPmQ== 0 * TestLobby 1.0\n";
-
-/// What a client says that logs in as Bert.
-pub const BERT_LOGS_IN: &[u8] = b"LOGIN Bert X03MO1qnZdYdgyfeuILPmQ== 0 * TestLobby 1.0\n";
-
-/// What Anna sees of her login, where nobody else is there.
-pub const ANNA_IS_IN: &[u8] = b"ACCEPTED Anna\nMOTD Welcome\nADDUSER Anna DE 0 1\nLOGININFOEND\n";
-
-/// What Anna is told of Bert's login.
-pub const BERT_COMES: &[u8] = b"ADDUSER Bert ?? 0 2\nCLIENTSTATUS Bert 12\n";
-
-/// What Bert sees of his login, where Anna is there.
-pub const BERT_IS_IN: &[u8] = b"ACCEPTED Bert
-MOTD Welcome
-ADDUSER Anna DE 0 1
-ADDUSER Bert ?? 0 2
-CLIENTSTATUS Bert 12
-LOGININFOEND
-";
+/// The limit of an outbox, in bytes.
+const OUTBOX_LIMIT: usize = 8_388_608;
 
 /// For how many looks, of a millisecond each, an input waits for its end: for longer than any test takes.
 pub const PATIENCE: u32 = 50_000;
@@ -87,21 +51,12 @@ pub fn listen<R: Net>(rt: &R) -> Option<(TcpListener, SocketAddr)> {
     }
 }
 
-/// The default settings, but for a large limit of an outbox and a message of the day.
-fn settings(alloc: Global) -> Option<Settings> {
-    let motd = TextBuf::copy_of(alloc, b"Welcome").ok()?;
-    let lines = slice::from_ref(&motd);
-    let settings = Settings::new(alloc, b"0.38", b"*", 8201, 0, lines, 8_388_608);
-    drop(motd);
-    settings.ok()
-}
-
-/// A service for Anna and Bert, with so many workers. None where memory is refused.
+/// A service for the users, with so many workers and a large limit of an outbox. None where memory is refused.
 pub fn service(alloc: Global, workers: u32) -> Option<Service>
     ensures { IfSome result (λ service. service.workers ≡ workers) }
 {
-    let accounts = AccountBook::from_toml(alloc, ACCOUNTS).ok()?;
-    match settings(alloc) {
+    let accounts = book(alloc)?;
+    match settings(alloc, OUTBOX_LIMIT) {
         Some(settings) => Some(Service {
             settings,
             accounts,

@@ -26,7 +26,7 @@ fn idle_output(alloc: Global, workers: u32) -> Option<Vec<u8>> {
     Some(output)
 }
 
-const AT_ONCE: [Act; 1] = [Act {
+static AT_ONCE: [Act; 1] = [Act {
     times: 1,
     steps: &[InputEnds, IsKept, GoesOn, ServerEnds],
 }];
@@ -78,7 +78,7 @@ fn compare_events(rt: &impl Abort, output: &str) {
     assert!(rt; are_so, "{output}");
 }
 
-const EVENTS: [Act; 2] = [
+static EVENTS: [Act; 2] = [
     Act {
         times: 1,
         steps: &[Enters(ANNA), Enters(BERT)],
@@ -97,7 +97,7 @@ fn each_worker_is_told_with_its_own_events(rt: HostRuntime) {
     drop(output);
 }
 
-const BURST: [Act; 1] = [Act {
+static BURST: [Act; 1] = [Act {
     times: 1,
     steps: &[
         Enters(ANNA),
@@ -151,7 +151,7 @@ const ANNA_HEARS_ON: Act = Act {
     steps: &[Reads(ANNA, b"SAYPRIVATE Bert on\n")],
 };
 
-const LATE: [Act; 30] = [
+static LATE: [Act; 30] = [
     BOTH_LOG_IN,
     ANNA_SAYS,
     BERT_IS_TOLD,
@@ -191,7 +191,7 @@ fn a_client_that_reads_late_gets_all(rt: HostRuntime) {
     drop(play(&rt, rt, 1, Hold::Open, &LATE));
 }
 
-const MUCH: [Act; 2] = [
+static MUCH: [Act; 2] = [
     BOTH_LOG_IN,
     Act {
         times: 1,
@@ -219,7 +219,7 @@ fn who_is_named_and_left_over_gets_both_turns(rt: HostRuntime) {
     drop(play(&rt, rt, 1, Hold::Write, &MUCH));
 }
 
-const NAMED: [Act; 2] = [
+static NAMED: [Act; 2] = [
     BOTH_LOG_IN,
     Act {
         times: 1,
@@ -241,7 +241,7 @@ fn who_is_named_and_stops_at_a_limit_gets_the_next_turn(rt: HostRuntime) {
     drop(play(&rt, rt, 1, Hold::Write, &NAMED));
 }
 
-const NO_MORE: [Act; 1] = [Act {
+static NO_MORE: [Act; 1] = [Act {
     times: 1,
     steps: &[
         Connects(0),
@@ -267,7 +267,7 @@ fn who_sends_no_more_gets_all_answers(rt: HostRuntime) {
     drop(play(&rt, rt, 2, Hold::Open, &NO_MORE));
 }
 
-const ENDS_AT_ONCE: [Act; 1] = [Act {
+static ENDS_AT_ONCE: [Act; 1] = [Act {
     times: 1,
     steps: &[
         Enters(0),

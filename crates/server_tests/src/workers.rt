@@ -3,9 +3,10 @@
 use crate::gates::Hold;
 use crate::plays::Step::*;
 use crate::plays::{Act, BOTH_LOG_IN, play};
-use crate::running::{ANNA, ANNA_IS_IN, ANNA_LOGS_IN, BERT, BERT_COMES, BERT_LOGS_IN, PING, PONG};
+use crate::running::{ANNA, BERT, PING, PONG};
+use test_lobby::{ANNA_IS_IN, ANNA_LOGS_IN, BERT_COMES, BERT_LOGS_IN};
 
-const TWO_CLIENTS: [Act; 1] = [Act {
+static TWO_CLIENTS: [Act; 1] = [Act {
     times: 1,
     steps: &[
         Enters(ANNA),
@@ -32,7 +33,7 @@ fn two_workers_serve_two_clients(rt: HostRuntime) {
     drop(play(&rt, rt, 2, Hold::Takes, &TWO_CLIENTS));
 }
 
-const WRITING: [Act; 1] = [Act {
+static WRITING: [Act; 1] = [Act {
     times: 1,
     steps: &[
         Enters(ANNA),
@@ -51,7 +52,7 @@ fn a_worker_that_writes_keeps_no_other_waiting(rt: HostRuntime) {
     drop(play(&rt, rt, 2, Hold::Write, &WRITING));
 }
 
-const IN_TURN: [Act; 1] = [Act {
+static IN_TURN: [Act; 1] = [Act {
     times: 1,
     steps: &[
         Enters(0),
@@ -80,7 +81,7 @@ fn connections_go_to_the_workers_in_turn(rt: HostRuntime) {
 }
 
 // Bert's connections go to both workers in turn.
-const RESETS: [Act; 3] = [
+static RESETS: [Act; 3] = [
     Act {
         times: 1,
         steps: &[
@@ -114,7 +115,7 @@ fn a_reset_in_mid_line_logs_out_its_own_user_alone(rt: HostRuntime) {
     drop(play(&rt, rt, 2, Hold::Open, &RESETS));
 }
 
-const STOP: [Act; 2] = [
+static STOP: [Act; 2] = [
     BOTH_LOG_IN,
     Act {
         times: 1,

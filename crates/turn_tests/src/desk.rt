@@ -1,37 +1,18 @@
 //! Workers in threads of their own at one desk, how many passes there are, and how a desk is closed.
 
-ghost use Rattle.std.specs.Prelude.{◌≡◌, IfOk, IsTrue};
-ghost use Rattle.command_grammar.specs.Kinds.{keeps_kinds};
+ghost use Rattle.std.specs.Prelude.{◌≡◌};
 
-use crate::desks::{ANNA, BERT, open, open_for_two};
+use crate::desks::{open, open_for_two};
 use crate::verdict::same;
-use command_grammar::{Request, read_request};
 use lobby_lock::{CloseError, Closing, Count, Desk, DeskError, Pass};
 use lobby_machine::Wakes;
-use std::alloc::{AllocError, Global};
+use std::alloc::Global;
 use std::process::Abort;
 use std::sync::Wait;
 use std::sync::atomic::{AtomicBool, Ordering};
 use std::thread::{self, Threads};
 use std::time::{Clock, Duration};
-
-// What Bert, who logs in after Anna, reads.
-const READ_BY_BERT: &[u8] = b"TASSERVER 0.38 * 8201 0
-ACCEPTED Bert
-MOTD Welcome
-ADDUSER Anna DE 0 1
-ADDUSER Bert ?? 0 2
-CLIENTSTATUS Bert 12
-LOGININFOEND
-";
-
-// What a line asks for, with arguments of their kinds.
-#[tactic(auto, using(command_grammar::proofs::Bounds::request_keeps))]
-fn read(alloc: Global, line: &[u8]) -> Result<Request, AllocError>
-    ensures { IfOk result (λ request. IsTrue (keeps_kinds request.command)) }
-{
-    read_request(alloc, line)
-}
+use test_lobby::{ANNA_SAYS, BERT_IS_IN, BERT_SAYS, GREETING, read};
 
 // Opens a client and logs it in by this line, in one hold, and then sets the flag.
 fn log_in<R: Wait>(
@@ -123,7 +104,8 @@ fn compare(rt: &impl Abort, seen: Option<Seen>) {
     same(rt, seen.client, 2);
     same(rt, seen.wakes, Some(Wakes::one(0).union(Wakes::one(1))));
     same(rt, seen.events, 3);
-    same(rt, seen.bytes.get(..seen.count), Some(READ_BY_BERT));
+    let read = seen.bytes.get(..seen.count).unwrap_or(&[]);
+    same(rt, read.strip_prefix(GREETING), Some(BERT_IS_IN));
 }
 
 // Takes back the pass of a worker that has ended, and holds the lobby once more.
@@ -157,11 +139,11 @@ fn give_and_read<R: Threads + Wait + Abort + Sync>(
         move || -> Pass
             requires { (pass.desk ≡ desk.now) × (pass.worker.number ≡ 0) }
             ensures { (result.desk ≡ desk.entry.now) × (result.worker.number ≡ 0) }
-        { log_in(rt, desk, pass, alloc, ANNA, given) },
+        { log_in(rt, desk, pass, alloc, ANNA_SAYS, given) },
         move || -> (Pass, Option<Seen>)
             requires { other.desk ≡ desk.now }
             ensures { result.0.desk ≡ desk.entry.now }
-        { log_in_and_read(rt, desk, other, clock, BERT, given) },
+        { log_in_and_read(rt, desk, other, clock, BERT_SAYS, given) },
     );
     let (other, seen) = answer;
     compare(rt, seen);
@@ -179,7 +161,7 @@ fn what_one_worker_gave_another_reads(rt: HostRuntime) {
     }
 }
 
-// Hands out passes until one is refused, at most 64 times: how many there were, and why no more.
+// Asks for a pass 64 times, of which 63 are one more than the first: how many were handed out, and why one was refused.
 fn hand_out_all(
     desk: &Desk,
     alloc: Global,

@@ -1,37 +1,28 @@
 //! Clients whose device fails, and one that reads nothing, with others logged in beside them.
 
 use crate::plays::Step::{Enters, Reads, Turns};
-use crate::plays::{Caller, End, Step, Text, play};
+use crate::plays::{Caller, End, Step, play};
 use lobby_turns::TurnState;
-
-const ANNA_LOGS_IN: &[u8] = b"LOGIN Anna X03MO1qnZdYdgyfeuILPmQ== 0 * TestLobby 1.0\n";
-
-const BERT_LOGS_IN: &[u8] = b"LOGIN Bert X03MO1qnZdYdgyfeuILPmQ== 0 * TestLobby 1.0\n";
-
-const CLEO_LOGS_IN: &[u8] = b"LOGIN Cleo X03MO1qnZdYdgyfeuILPmQ== 0 * TestLobby 1.0\n";
-
-/// What Anna is told of her login, where nobody else is there.
-const ANNA_IS_IN: &[u8] = b"TASSERVER 0.38 * 8201 0
-ACCEPTED Anna
-MOTD Welcome
-ADDUSER Anna DE 0 1
-LOGININFOEND
-";
-
-/// What anyone is told of Bert's login.
-const BERT_COMES: &[u8] = b"ADDUSER Bert ?? 0 2\nCLIENTSTATUS Bert 12\n";
+use test_lobby::{
+    ANNA_IS_IN, ANNA_LOGS_IN, BERT_COMES, BERT_IS_IN, BERT_LOGS_IN, CLEO_LOGS_IN, GREETING, Text,
+};
 
 /// What Anna is told where Bert was shut before he logged in, where he was shut then, and where he was not shut.
-const NOTHING: Text = &[(ANNA_IS_IN, 1)];
+const NOTHING: Text = &[(GREETING, 1), (ANNA_IS_IN, 1)];
 
-const HE_CAME_AND_WENT: Text = &[(ANNA_IS_IN, 1), (BERT_COMES, 1), (b"REMOVEUSER Bert\n", 1)];
+const HE_CAME_AND_WENT: Text = &[
+    (GREETING, 1),
+    (ANNA_IS_IN, 1),
+    (BERT_COMES, 1),
+    (b"REMOVEUSER Bert\n", 1),
+];
 
-const HE_CAME: Text = &[(ANNA_IS_IN, 1), (BERT_COMES, 1)];
+const HE_CAME: Text = &[(GREETING, 1), (ANNA_IS_IN, 1), (BERT_COMES, 1)];
 
 /// What Bert is told of his login, where Anna is there, and what of it his link takes in no write, one and two.
 const NO_WRITE: Text = &[];
 
-const GREETED: Text = &[(b"TASSERVER 0.38 * 8201 0\n", 1)];
+const GREETED: Text = &[(GREETING, 1)];
 
 const ONE_WRITE: Text = &[(b"TASSERVER 0.38 * 8201 0\nACCEPTED Bert\nMOTD Welcome", 1)];
 
@@ -45,23 +36,13 @@ CLIENTSTA",
     1,
 )];
 
-const ALL: Text = &[(
-    b"TASSERVER 0.38 * 8201 0
-ACCEPTED Bert
-MOTD Welcome
-ADDUSER Anna DE 0 1
-ADDUSER Bert ?? 0 2
-CLIENTSTATUS Bert 12
-LOGININFOEND
-",
-    1,
-)];
+const ALL: Text = &[(GREETING, 1), (BERT_IS_IN, 1)];
 
 /// When Bert's device fails, what his turn comes to, what is written to him, what Anna is told, and how many events there are.
 /// His session reads twice, once more in vain, and then writes three times. He is shut once, and no event of his comes after that:
 /// Anna's are five, and six where she is told of him; his are an open, two drains, his login where it was read, one drain more
 /// where all three writes are over, and one shut.
-const FAILURES: [(End, TurnState, Text, Text, u64); 14] = [
+static FAILURES: [(End, TurnState, Text, Text, u64); 14] = [
     (End::FailsAt(1), TurnState::Closed, GREETED, NOTHING, 9),
     (End::FailsAt(2), TurnState::Closed, GREETED, NOTHING, 9),
     (
@@ -136,23 +117,23 @@ const ANNA: Caller = Caller {
 
 #[test]
 fn a_device_that_fails_at_any_call_shuts_its_client_once(rt: HostRuntime) {
-    for (end, state, told, seen, events) in FAILURES {
+    for (end, state, told, seen, events) in &FAILURES {
         let bert = Caller {
             sends: &[(BERT_LOGS_IN, 1)],
             piece: 32,
             room: 50,
-            end,
+            end: *end,
         };
         let steps = [
             Enters(ANNA),
             Turns(0, 1, TurnState::Idle),
             Enters(bert),
-            Turns(1, 1, state),
-            Reads(1, told),
+            Turns(1, 1, *state),
+            Reads(1, *told),
             Turns(0, 1, TurnState::Idle),
-            Reads(0, seen),
+            Reads(0, *seen),
         ];
-        play(&rt, rt.alloc(), &steps, events);
+        play(&rt, rt.alloc(), &steps, *events);
     }
 }
 
@@ -198,7 +179,7 @@ const BERT: Caller = Caller {
 };
 
 /// A turn says 64 lines of Bert's. Behind five turns of his Anna has place for what she did not read, behind ten she has not.
-const SLOW: [Step; 16] = [
+static SLOW: [Step; 16] = [
     Enters(SLOW_ANNA),
     Turns(READS_NOTHING, 1, TurnState::Idle),
     Enters(CLEO),

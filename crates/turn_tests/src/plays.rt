@@ -8,14 +8,11 @@ use crate::serving::take_turns;
 use crate::verdict::{fail, same};
 use lobby_lock::{Closing, Count, Desk, Pass};
 use lobby_turns::{Conn, Gate, TurnState};
-use memory_link::MemoryLink;
 use std::alloc::{AllocError, Global};
 use std::process::Abort;
 use std::sync::Wait;
 use std::sync::atomic::{AtomicU64, Ordering};
-
-/// A text in parts, each of which stands there so many times over.
-pub type Text = &'static [(&'static [u8], usize)];
+use test_lobby::{MemoryLink, Text, written};
 
 /// How a link ends.
 #[derive(Clone, Copy)]
@@ -92,16 +89,6 @@ struct Cast {
     clients: Vec<Client>,
 }
 
-fn written(alloc: Global, text: Text) -> Result<Vec<u8>, AllocError> {
-    let mut all = Vec::new(alloc);
-    for (part, times) in text {
-        for _ in 0..*times {
-            all.extend_from_slice(*part)?;
-        }
-    }
-    Ok(all)
-}
-
 fn new_link(alloc: Global, caller: &Caller) -> Result<MemoryLink, AllocError> {
     let input = written(alloc, caller.sends)?;
     let link = MemoryLink::new(alloc, input, caller.piece, caller.room);
@@ -113,7 +100,7 @@ fn new_link(alloc: Global, caller: &Caller) -> Result<MemoryLink, AllocError> {
     })
 }
 
-/// A client over this link, which the lobby opens. None where memory is refused.
+/// A client over this link, which the lobby opens for the one worker, of number 0. None where memory is refused.
 fn new_client<R: Wait>(
     rt: &R,
     alloc: Global,

@@ -1,30 +1,30 @@
 //! Turns of a connection over any link and past any gate.
 
-ghost use Rattle.std.specs.Prelude.{◌≡◌};
+ghost use Rattle.std.specs.Prelude.{◌≡◌, ◌≤◌};
 
 use lobby_lock::{Desk, Pass};
 use lobby_turns::{Conn, Gate, Link, Turn, TurnState, serve};
 use std::alloc::Global;
 use std::sync::Wait;
 
-/// Opens a client and serves it over this link and past this gate for so many turns, or until it was
-/// shut: what its last turn came to.
+/// Opens a client whom the worker of this number serves, and gives it a turn over this link and past this gate: what that came to.
 pub fn serve_client<R: Wait, L: Link, G: Gate>(
     rt: &R,
     alloc: Global,
     desk: &Desk,
     pass: Pass,
+    home: u8,
     link: &mut L,
     gate: &G,
-    turns: u64,
 ) -> Option<TurnState>
-    requires { pass.desk ≡ desk.now }
+    requires desk { pass.desk ≡ desk.now }
+    requires home { home ≤ 63 }
 {
     let mut held = desk.take(rt, pass);
-    let client = held.open([10, 0, 0, 1], 0).unwrap_or(0);
+    let client = held.open([10, 0, 0, 1], home).unwrap_or(0);
     let pass = held.give(rt, desk);
     let mut conn = Conn::new(alloc, client);
-    let (pass, state) = take_turns(rt, desk, pass, &mut conn, link, gate, turns);
+    let (pass, state) = take_turns(rt, desk, pass, &mut conn, link, gate, 1);
     drop(pass);
     drop(conn);
     state

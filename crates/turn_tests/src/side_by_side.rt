@@ -9,13 +9,13 @@ use crate::turns::GREETING_AND_PONG;
 use crate::verdict::same;
 use lobby_lock::{Desk, Pass};
 use lobby_turns::{Gate, Got, Link, Sent, TurnState};
-use memory_link::MemoryLink;
 use std::alloc::{AllocError, Global};
 use std::process::Abort;
 use std::sync::Wait;
 use std::sync::atomic::{AtomicBool, Ordering};
 use std::thread::{self, Threads};
 use std::time::Duration;
+use test_lobby::MemoryLink;
 
 // So often a worker looks for the other, with a sleep of a millisecond after each look.
 const LOOKS: u32 = 10_000;
@@ -149,7 +149,7 @@ fn pinging(alloc: Global) -> Result<MemoryLink, AllocError> {
     Ok(MemoryLink::new(alloc, input, 9, 100))
 }
 
-// Serves a client over each of these links, each in a thread of its own: what their turns came to.
+// Serves a client over each of these links, each at its own worker in a thread of its own: what their turns came to.
 fn serve_both<R: Threads + Wait + Sync>(
     rt: &R,
     alloc: Global,
@@ -166,10 +166,10 @@ fn serve_both<R: Threads + Wait + Sync>(
         rt,
         move || -> Option<TurnState>
             requires { pass.desk ≡ desk.now }
-        { serve_client(rt, alloc, desk, pass, first, gate, 1) },
+        { serve_client(rt, alloc, desk, pass, 0, first, gate) },
         move || -> Option<TurnState>
             requires { other.desk ≡ desk.now }
-        { serve_client(rt, alloc, desk, other, second, gate, 1) },
+        { serve_client(rt, alloc, desk, other, 1, second, gate) },
     )
 }
 

@@ -1,13 +1,14 @@
 //! One worker and its client over a link in memory.
 
 use crate::plays::Step::{Enters, Reads, Takes, Turns};
-use crate::plays::{Caller, End, Text, play};
+use crate::plays::{Caller, End, play};
 use lobby_turns::TurnState;
 use std::alloc::Global;
 use std::process::Abort;
 use std::sync::Wait;
+use test_lobby::{GREETING, Text};
 
-const GREETING: Text = &[(b"TASSERVER 0.38 * 8201 0\n", 1)];
+const GREETED: Text = &[(GREETING, 1)];
 
 /// What a client reads that sends `PING` alone.
 pub const GREETING_AND_PONG: &[u8] = b"TASSERVER 0.38 * 8201 0\nPONG\n";
@@ -36,9 +37,9 @@ fn check<R: Wait + Abort>(rt: &R, alloc: Global, cases: &[Case]) {
     }
 }
 
-const LINES: [Case; 3] = [
+static LINES: [Case; 3] = [
     // nothing came yet
-    (&[], 9, 100, End::Open, 1, TurnState::Idle, GREETING, 3),
+    (&[], 9, 100, End::Open, 1, TurnState::Idle, GREETED, 3),
     // byte by byte, more than a turn reads
     (
         LATE_PING,
@@ -47,7 +48,7 @@ const LINES: [Case; 3] = [
         End::Open,
         1,
         TurnState::Again,
-        GREETING,
+        GREETED,
         3,
     ),
     (LATE_PING, 1, 100, End::Open, 2, TurnState::Idle, PONGED, 6),
@@ -60,7 +61,7 @@ fn a_turn_ends_as_its_lines_say(rt: HostRuntime) {
 
 const SIXTEEN_BYTES: Text = &[(b"TASSERVER 0.38 *", 1)];
 
-const LINKS: [Case; 5] = [
+static LINKS: [Case; 5] = [
     // a link that takes nothing, and one that takes little
     (PING, 9, 0, End::Open, 1, TurnState::Idle, &[], 4),
     (PING, 9, 1, End::Open, 1, TurnState::Again, SIXTEEN_BYTES, 4),
@@ -74,7 +75,7 @@ const LINKS: [Case; 5] = [
         End::FailsAt(1),
         1,
         TurnState::Closed,
-        GREETING,
+        GREETED,
         4,
     ),
     (PING, 9, 100, End::FailsAt(3), 1, TurnState::Closed, &[], 5),
@@ -86,7 +87,7 @@ fn a_turn_ends_as_its_link_says(rt: HostRuntime) {
 }
 
 /// A line that does not end within its limit, behind PING and alone.
-const LONG: [Case; 2] = [
+static LONG: [Case; 2] = [
     (
         &[(b"PING\n", 1), (b"A", 8_193)],
         4_096,
@@ -104,7 +105,7 @@ const LONG: [Case; 2] = [
         End::Open,
         1,
         TurnState::Closed,
-        GREETING,
+        GREETED,
         4,
     ),
 ];
@@ -116,7 +117,7 @@ fn a_line_that_is_too_long_shuts_its_client(rt: HostRuntime) {
 
 /// What a client sends at once, how often a turn then takes the lobby, and how many events there are. The greeting alone is
 /// drained in a hold that also sees that nothing is left.
-const TAKES: [(Text, u64, u64); 4] = [
+static TAKES: [(Text, u64, u64); 4] = [
     (&[], 1, 3),
     (PING, 2, 4),
     (&[(b"PING\n", 32)], 2, 35),
@@ -125,15 +126,15 @@ const TAKES: [(Text, u64, u64); 4] = [
 
 #[test]
 fn a_hold_says_up_to_32_lines(rt: HostRuntime) {
-    for (sends, takes, events) in TAKES {
+    for (sends, takes, events) in &TAKES {
         let caller = Caller {
-            sends,
+            sends: *sends,
             piece: 4_096,
             room: 4_096,
             end: End::Open,
         };
-        let steps = [Enters(caller), Turns(0, 1, TurnState::Idle), Takes(takes)];
-        play(&rt, rt.alloc(), &steps, events);
+        let steps = [Enters(caller), Turns(0, 1, TurnState::Idle), Takes(*takes)];
+        play(&rt, rt.alloc(), &steps, *events);
     }
 }
 
@@ -145,7 +146,7 @@ const PING_AND_EXIT: Text = &[(b"PING\nEXIT\n", 1)];
 
 /// What is drained in the turn that hears EXIT is written in it too, also where the link takes little at a time, and what an
 /// earlier turn drained and did not write.
-const EXITS: [Case; 3] = [
+static EXITS: [Case; 3] = [
     (
         PING_AND_EXIT,
         99,
@@ -157,16 +158,7 @@ const EXITS: [Case; 3] = [
         5,
     ),
     // a first turn reads 16 blanks and writes 16 bytes
-    (
-        LATE_EXIT,
-        1,
-        1,
-        End::Open,
-        2,
-        TurnState::Closed,
-        GREETING,
-        6,
-    ),
+    (LATE_EXIT, 1, 1, End::Open, 2, TurnState::Closed, GREETED, 6),
     // a link that takes a byte a write is given 16 of them in its last turn
     (
         EXIT,

@@ -1,5 +1,4 @@
-//! A link in memory, for tests: turns over it need no socket, and what it moves can be compared.
-#![tactic(auto)]
+//! A link in memory: turns over it need no socket, and what it moves can be compared.
 
 ghost use Rattle.std.specs.Prelude.{◌≡◌, ◌≤◌, length, Some};
 ghost use Rattle.lobby_turns.specs.Wire.{untouched};

@@ -1,0 +1,53 @@
+//! The users' book, settings and lobbies of them. Each is `None` where memory is refused.
+
+ghost use Rattle.std.specs.Prelude.{IfOk, IsTrue};
+ghost use Rattle.command_grammar.specs.Kinds.{keeps_kinds};
+
+use crate::users::ACCOUNTS;
+use account_book::AccountBook;
+use command_grammar::{Request, read_request};
+use line_words::TextBuf;
+use lobby_machine::Lobby;
+use lobby_model::Settings;
+use lobby_model::settings::LEAST_OUTBOX_LIMIT;
+use std::alloc::{AllocError, Global};
+use std::slice;
+
+/// The book of the users' accounts.
+pub fn book(alloc: Global) -> Option<AccountBook> {
+    AccountBook::from_toml(alloc, ACCOUNTS).ok()
+}
+
+/// The default settings, but for a message of the day, `Welcome`, and this limit of an outbox, from 65,536 to 67,108,864 bytes; none
+/// where the limit is another.
+pub fn settings(alloc: Global, outbox_limit: usize) -> Option<Settings> {
+    let motd = TextBuf::copy_of(alloc, b"Welcome").ok()?;
+    let lines = slice::from_ref(&motd);
+    let settings = Settings::new(alloc, b"0.38", b"*", 8201, 0, lines, outbox_limit);
+    drop(motd);
+    settings.ok()
+}
+
+/// A lobby of these accounts, with the least limit of an outbox.
+pub fn lobby_of(alloc: Global, accounts: AccountBook) -> Option<Lobby> {
+    match settings(alloc, LEAST_OUTBOX_LIMIT) {
+        Some(settings) => Lobby::new(alloc, settings, accounts).ok(),
+        None => {
+            drop(accounts);
+            None
+        }
+    }
+}
+
+/// A lobby of the users, with the least limit of an outbox.
+pub fn new_lobby(alloc: Global) -> Option<Lobby> {
+    lobby_of(alloc, book(alloc)?)
+}
+
+/// What a line asks for, with arguments of their kinds.
+#[tactic(auto, using(command_grammar::proofs::Bounds::request_keeps))]
+pub fn read(alloc: Global, line: &[u8]) -> Result<Request, AllocError>
+    ensures { IfOk result (λ request. IsTrue (keeps_kinds request.command)) }
+{
+    read_request(alloc, line)
+}
