@@ -6,4 +6,4 @@ set -u
 free=$(awk '/^MemAvailable:/ { print int($2 / 4000000) }' /proc/meminfo)
 lanes=$(nproc)
 if [ "$lanes" -gt "$free" ]; then lanes=$free; fi
-if [ "$lanes" -ge 4 ]; then echo "$lanes"; fi
+if [ "$lanes" -ge 3 ]; then echo "$lanes"; fi
