@@ -182,3 +182,28 @@ fn a_cut_client_gets_nothing_more(rt: HostRuntime) {
     play(&rt, rt.alloc(), 64, &CUT, 1);
     play(&rt, rt.alloc(), 64, &CUT_WITH_A_SHARE, 1);
 }
+
+/// Whether the buffer that one outbox hands over is gone from it, has the room that was made, and is
+/// held by another that had none.
+fn is_handed_on(from: &mut Outbox, to: &mut Outbox) -> bool {
+    if !from.room_for(8) || from.reserve(8).is_err() || to.has_buffer() {
+        return false;
+    }
+    match from.hand_over() {
+        Some(buffer) => {
+            let has_room = buffer.capacity() >= 8;
+            to.adopt(buffer);
+            has_room && !from.has_buffer() && to.has_buffer()
+        }
+        None => false,
+    }
+}
+
+#[test]
+fn a_buffer_that_is_handed_over_serves_another(rt: HostRuntime) {
+    let mut from = Outbox::new(rt.alloc(), 64);
+    let mut to = Outbox::new(rt.alloc(), 64);
+    same_for(&rt, &"handed on", is_handed_on(&mut from, &mut to), true);
+    drop(to);
+    drop(from);
+}
