@@ -67,9 +67,23 @@ impl ByteQueue {
         ensures ok { OnOk result (n ≤ self.new.room) }
         ensures err { OnErr result (self.new.room < n) }
     {
-        if self.buffer.capacity() - self.buffer.len() < n {
-            self.close_up();
+        if n <= self.buffer.capacity() - self.buffer.len() {
+            return Ok(());
         }
+        self.make_room(n)
+    }
+
+    /// What `reserve` does where the room behind is too little. It stands apart, so that the test for that is all
+    /// which an append costs.
+    #[cold]
+    #[inline(never)]
+    fn make_room(&mut self, n: usize) -> Result<(), AllocError>
+        ensures bytes { self.new.bytes ≡ self.old.bytes }
+        ensures room_kept { self.old.room ≤ self.new.room }
+        ensures ok { OnOk result (n ≤ self.new.room) }
+        ensures err { OnErr result (self.new.room < n) }
+    {
+        self.close_up();
         self.buffer.reserve(n)
     }
 

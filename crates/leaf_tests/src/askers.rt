@@ -1,11 +1,9 @@
 //! Those who ask to join a room, with memory at hand.
 
-use crate::rooms::{has_members, join, new_room, word};
-use crate::verdict::{fail, same_for};
+use crate::rooms::{RoomStep, has_members, join, play, word};
 use battle_room::{Room, RoomError};
 use line_words::{NameBuf, WordBuf};
 use std::alloc::Global;
-use std::process::Abort;
 
 type Password = Option<&'static [u8]>;
 
@@ -106,34 +104,19 @@ fn drops_asker(room: &mut Room, user: &[u8]) -> bool {
     }
 }
 
-fn takes(room: &mut Room, alloc: Global, step: &Step) -> bool {
-    match step {
-        Step::Asks(user, password) => asks(room, alloc, user, *password),
-        Step::IsTaken(user, wanted) => gives(room, user, *wanted),
-        Step::IsLetIn(user) => lets_in(room, user),
-        Step::IsDropped(user) => drops_asker(room, user),
-        Step::Joins(user) => join(room, user),
-        Step::Askers(wanted) => has_askers(room, wanted),
-        Step::AsksWith(user, password) => asks_with(room, user, *password),
-        Step::AsksNot(user) => !asks_with(room, user, None),
-        Step::Members(wanted) => has_members(room, wanted),
-    }
-}
-
-fn take_all(rt: &impl Abort, room: &mut Room, alloc: Global, steps: &[Step]) {
-    for (k, step) in steps.iter().enumerate() {
-        same_for(rt, &k, takes(room, alloc, step), true);
-    }
-}
-
-/// Takes these steps in a room of Anna.
-fn play(rt: &impl Abort, alloc: Global, steps: &[Step]) {
-    match new_room(alloc) {
-        Some(mut room) => {
-            take_all(rt, &mut room, alloc, steps);
-            drop(room);
+impl RoomStep for Step {
+    fn is_so(&self, room: &mut Room, alloc: Global) -> bool {
+        match self {
+            Step::Asks(user, password) => asks(room, alloc, user, *password),
+            Step::IsTaken(user, wanted) => gives(room, user, *wanted),
+            Step::IsLetIn(user) => lets_in(room, user),
+            Step::IsDropped(user) => drops_asker(room, user),
+            Step::Joins(user) => join(room, user),
+            Step::Askers(wanted) => has_askers(room, wanted),
+            Step::AsksWith(user, password) => asks_with(room, user, *password),
+            Step::AsksNot(user) => !asks_with(room, user, None),
+            Step::Members(wanted) => has_members(room, wanted),
         }
-        None => fail(rt, "a room of one"),
     }
 }
 
@@ -152,7 +135,7 @@ static TAKEN_ONCE: [Step; 10] = [
 
 #[test]
 fn each_request_is_taken_once(rt: HostRuntime) {
-    play(&rt, rt.alloc(), &TAKEN_ONCE);
+    play(&rt, rt.alloc(), &[], &TAKEN_ONCE);
 }
 
 static LET_IN: [Step; 6] = [
@@ -166,7 +149,7 @@ static LET_IN: [Step; 6] = [
 
 #[test]
 fn one_who_is_let_in_asks_no_more(rt: HostRuntime) {
-    play(&rt, rt.alloc(), &LET_IN);
+    play(&rt, rt.alloc(), &[], &LET_IN);
 }
 
 static DROPPED: [Step; 10] = [
@@ -184,5 +167,5 @@ static DROPPED: [Step; 10] = [
 
 #[test]
 fn one_who_is_dropped_may_ask_again(rt: HostRuntime) {
-    play(&rt, rt.alloc(), &DROPPED);
+    play(&rt, rt.alloc(), &[], &DROPPED);
 }

@@ -48,7 +48,7 @@ fn has_bots(room: &Room, owner: &[u8], wanted: &[&[u8]]) -> bool {
 }
 
 /// A room of Anna alone.
-pub(crate) fn new_room(alloc: Global) -> Option<Room> {
+fn new_room(alloc: Global) -> Option<Room> {
     Room::new(alloc, NameBuf::of(b"Anna")?).ok()
 }
 
@@ -147,31 +147,41 @@ enum Step {
     HasTag(&'static [u8], bool),
 }
 
-/// Whether a step comes out as it says.
-fn takes(room: &mut Room, alloc: Global, step: &Step) -> bool {
-    match step {
-        Step::Joins(member) => join(room, member),
-        Step::AddsBot(owner, bot) => add_bot(room, alloc, owner, bot).is_some(),
-        Step::Members(wanted) => has_members(room, wanted),
-        Step::Bots(owner, wanted) => has_bots(room, owner, wanted),
-        Step::Sets(wanted, told) => sets(room, pairs(alloc, wanted), *told),
-        Step::SetsMost => sets(room, most_pairs(alloc), Ok(())),
-        Step::Removes(keys, gone) => removes(room, words(alloc, keys), gone),
-        Step::Tags(count, key, value) => begins(room, *count, key, value),
-        Step::HasTag(key, is_so) => has_tag(room, key) == *is_so,
+/// What is done to a room, or what it shows then.
+pub(crate) trait RoomStep {
+    /// Whether it comes out as it says.
+    fn is_so(&self, room: &mut Room, alloc: Global) -> bool;
+}
+
+impl RoomStep for Step {
+    fn is_so(&self, room: &mut Room, alloc: Global) -> bool {
+        match self {
+            Step::Joins(member) => join(room, member),
+            Step::AddsBot(owner, bot) => add_bot(room, alloc, owner, bot).is_some(),
+            Step::Members(wanted) => has_members(room, wanted),
+            Step::Bots(owner, wanted) => has_bots(room, owner, wanted),
+            Step::Sets(wanted, told) => sets(room, pairs(alloc, wanted), *told),
+            Step::SetsMost => sets(room, most_pairs(alloc), Ok(())),
+            Step::Removes(keys, gone) => removes(room, words(alloc, keys), gone),
+            Step::Tags(count, key, value) => begins(room, *count, key, value),
+            Step::HasTag(key, is_so) => has_tag(room, key) == *is_so,
+        }
     }
 }
 
-fn take_all(rt: &impl Abort, room: &mut Room, alloc: Global, steps: &[Step]) {
+fn take_all<S: RoomStep>(rt: &impl Abort, room: &mut Room, alloc: Global, steps: &[S]) {
     for (k, step) in steps.iter().enumerate() {
-        same_for(rt, &k, takes(room, alloc, step), true);
+        same_for(rt, &k, step.is_so(room, alloc), true);
     }
 }
 
-/// Takes these steps in a room of Anna.
-fn play(rt: &impl Abort, alloc: Global, steps: &[Step]) {
+/// Takes these steps in a room of Anna and of these who joined it.
+pub(crate) fn play<S: RoomStep>(rt: &impl Abort, alloc: Global, others: &[&[u8]], steps: &[S]) {
     match new_room(alloc) {
         Some(mut room) => {
+            for other in others {
+                same_for(rt, &"join", join(&mut room, other), true);
+            }
             take_all(rt, &mut room, alloc, steps);
             drop(room);
         }
@@ -191,7 +201,7 @@ static MEMBERS: [Step; 6] = [
 
 #[test]
 fn members_and_bots_are_added(rt: HostRuntime) {
-    play(&rt, rt.alloc(), &MEMBERS);
+    play(&rt, rt.alloc(), &[], &MEMBERS);
 }
 
 /// One tag more is refused, and none of the others is set then.
@@ -213,5 +223,5 @@ static TAGS: [Step; 10] = [
 
 #[test]
 fn five_hundred_and_twelve_tags(rt: HostRuntime) {
-    play(&rt, rt.alloc(), &TAGS);
+    play(&rt, rt.alloc(), &[], &TAGS);
 }

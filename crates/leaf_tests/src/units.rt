@@ -1,11 +1,9 @@
 //! The disabled units of a room, with memory at hand, and the most that there are.
 
-use crate::rooms::{has_words, join, new_room, word, words};
-use crate::verdict::{fail, same, same_for};
+use crate::rooms::{RoomStep, has_words, play, word, words};
 use battle_room::{Room, RoomError};
 use line_words::{NameBuf, WordBuf, WordList};
 use std::alloc::Global;
-use std::process::Abort;
 
 /// What one asks of the units of a room.
 #[derive(Clone, Copy)]
@@ -177,38 +175,22 @@ fn make_call(
     }
 }
 
-fn shows(room: &mut Room, alloc: Global, row: &Row) -> bool {
-    let (by, asked, wanted, left) = row;
-    let Some(by) = NameBuf::of(by) else {
-        return false;
-    };
-    match make_call(room, alloc, &by, asked) {
-        Some(told) => tells(told, wanted) && are(room.units(), left),
-        None => false,
-    }
-}
-
-fn show_all(rt: &impl Abort, room: &mut Room, alloc: Global, rows: &[Row]) {
-    same(rt, join(room, b"Bert"), true);
-    for (k, row) in rows.iter().enumerate() {
-        same_for(rt, &k, shows(room, alloc, row), true);
-    }
-}
-
-/// Takes these rows in a room of Anna and Bert.
-fn play(rt: &impl Abort, alloc: Global, rows: &[Row]) {
-    match new_room(alloc) {
-        Some(mut room) => {
-            show_all(rt, &mut room, alloc, rows);
-            drop(room);
+impl RoomStep for Row {
+    fn is_so(&self, room: &mut Room, alloc: Global) -> bool {
+        let (by, asked, wanted, left) = self;
+        let Some(by) = NameBuf::of(by) else {
+            return false;
+        };
+        match make_call(room, alloc, &by, asked) {
+            Some(told) => tells(told, wanted) && are(room.units(), left),
+            None => false,
         }
-        None => fail(rt, "a room of one"),
     }
 }
 
 #[test]
 fn units_are_disabled_and_enabled(rt: HostRuntime) {
-    play(&rt, rt.alloc(), &ROWS);
+    play(&rt, rt.alloc(), &[b"Bert"], &ROWS);
 }
 
 /// One unit more is refused, and none of the others is disabled then.
@@ -241,5 +223,5 @@ static MOST: [Row; 4] = [
 
 #[test]
 fn one_thousand_and_twenty_four_units(rt: HostRuntime) {
-    play(&rt, rt.alloc(), &MOST);
+    play(&rt, rt.alloc(), &[b"Bert"], &MOST);
 }

@@ -1,6 +1,6 @@
 //! A desk that was closed.
 
-ghost use Rattle.std.specs.Prelude.{◌≡◌, ℕ, ◌<◌, ◌≤◌, length, min, Some, None, IfSome, IfNone, slice_get};
+ghost use Rattle.std.specs.Prelude.{◌≡◌, ℕ, ◌<◌, ◌≤◌, length, Some, None, IfSome, IfNone, slice_get};
 ghost use Rattle.lobby_lock.specs.Counts.{last_count};
 ghost use Rattle.lobby_lock.specs.Closing.{IsCount};
 ghost use Rattle.lobby_lock.specs.declared.closing.Count.TheVariants as count;

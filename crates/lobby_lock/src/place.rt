@@ -1,6 +1,6 @@
 //! The steps of the place in which the lobby lies.
 
-ghost use Rattle.std.specs.Prelude.{◌≡◌, ℕ, true, false, []};
+ghost use Rattle.std.specs.Prelude.{◌≡◌, ℕ, true, []};
 ghost use Rattle.crossbeam_queue.specs.Passes.{view, IsSamePass, IsPassOf, ruled_capacity};
 ghost use Rattle.crossbeam_queue.specs.Fifo.{Pops};
 ghost use Rattle.lobby_lock.specs.Rule.{OneHistory, new_worker, opened, gave};

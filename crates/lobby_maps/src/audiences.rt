@@ -184,7 +184,7 @@ impl Seats {
         // Its contract says that the numbers rise, which callers want however this ends.
         let numbers = self.clients.iter();
         for client in numbers {
-            post.address_key(clients.key_of(*client))?;
+            post.address_key(clients.likely_key_of(*client))?;
         }
         Ok(())
     }

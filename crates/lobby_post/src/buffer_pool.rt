@@ -37,6 +37,7 @@ impl BufferPool {
     }
 
     /// An outbox without a buffer gets one, where one is there.
+    #[inline(never)]
     pub fn lend(&mut self, outbox: &mut Outbox)
         ensures unchanged { outbox.new ≡ record outbox.old { spare = outbox.new.spare } }
         ensures spare_kept { outbox.old.spare ≤ outbox.new.spare }

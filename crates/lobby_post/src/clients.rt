@@ -113,6 +113,13 @@ impl Clients {
         self.slots.key_of(client)
     }
 
+    /// The key of a client that knows where it likely is, for one who addresses it at once.
+    pub fn likely_key_of(&self, client: u64) -> ClientKey
+        ensures { result.number ≡ client }
+    {
+        self.slots.likely_key_of(client)
+    }
+
     /// Whether a key's client is logged in under this name, and in the slot in which the key saw it.
     pub fn is_named_at(&self, key: ClientKey, name: &NameBuf) -> bool
         ensures { result ≡ true → name_at (plain self.now.slots) key.number ≡ Some name.now }

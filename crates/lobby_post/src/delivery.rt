@@ -1,6 +1,6 @@
 //! The pieces of an event, and their delivery.
 
-ghost use Rattle.std.specs.Prelude.{◌≡◌, ℕ, ◌-◌, ◌<◌, ◌≤◌, [], ◌&&◌, ◌||◌, true, not, length, if◌then◌else◌, OnOk, OnErr};
+ghost use Rattle.std.specs.Prelude.{◌≡◌, ℕ, ◌-◌, ◌<◌, [], ◌&&◌, ◌||◌, not, length, if◌then◌else◌, OnOk, OnErr};
 ghost use Rattle.std.specs.List.{AllByRecursion};
 ghost use Rattle.lobby_post.specs.Mask.{has_home};
 ghost use Rattle.line_words.specs.Table.{same_number};
@@ -137,12 +137,15 @@ pub fn deliver(
     let mut wakes = Wakes::none();
     for piece in pieces {
         let bytes = &text[piece.from..piece.to];
-        let share = next_share(bytes, shares);
         match clients.get_mut_at(piece.key) {
             Some(slot) => {
+                let share = next_share(bytes, shares);
                 wakes = wakes.union(put(slot, dirty, piece.key.number, bytes, share));
             }
-            None => drop(share),
+            None => {
+                let unused = next_share(bytes, shares);
+                drop(unused);
+            }
         }
     }
     dirty.settle();

@@ -1,6 +1,6 @@
 //! What is still to be put to a client of the event at hand.
 
-ghost use Rattle.std.specs.Prelude.{◌≡◌, IfSome};
+ghost use Rattle.std.specs.Prelude.{◌≡◌, ◌≤◌, IfSome};
 ghost use Rattle.lobby_post.specs.Dues.{nothing_due, due_and, due_but, Covers};
 
 use crate::shares::SHARED_FROM;
@@ -31,13 +31,14 @@ impl Due {
     /// The same with a piece of so many bytes. `None` where they are more than can be counted.
     #[inline(always)]
     pub fn and(self, more: usize) -> Option<Due>
+        requires { self.copied ≤ self.bytes }
         ensures { IfSome result (λ due. due ≡ due_and self more) }
     {
         let bytes = self.bytes.checked_add(more)?;
         if more < SHARED_FROM {
             Some(Due {
                 bytes,
-                copied: self.copied.checked_add(more)?,
+                copied: self.copied + more,
                 shared: self.shared,
             })
         } else {

@@ -1,6 +1,6 @@
 //! Long pieces lie in memory once, and the outboxes that take them share them.
 
-ghost use Rattle.std.specs.Prelude.{◌≡◌, [], ◌++◌, List, ℕ, IfOk, IfSome, OnOk, OnErr};
+ghost use Rattle.std.specs.Prelude.{◌≡◌, ◌≤◌, [], length, ◌++◌, List, ℕ, IfOk, IfSome, OnOk, OnErr};
 ghost use Rattle.lobby_post.specs.Dues.{share_of, with_share};
 
 use bytes::Bytes;
@@ -23,6 +23,8 @@ pub fn share(alloc: Global, bytes: &[u8]) -> Result<Option<Bytes>, AllocError>
 }
 
 /// Puts the share of a piece behind those of the pieces before it, where it has one.
+#[cold]
+#[inline(never)]
 pub fn add_share(
     alloc: Global,
     bytes: &[u8],
@@ -38,6 +40,7 @@ pub fn add_share(
 }
 
 /// The same of a line for several clients. A long one is copied once, and kept for those that follow.
+#[inline(always)]
 pub fn add_share_of_line(
     alloc: Global,
     line: &mut Option<Bytes>,
@@ -52,6 +55,24 @@ pub fn add_share_of_line(
     if bytes.len() < SHARED_FROM {
         return Ok(());
     }
+    add_share_of_long_line(alloc, line, bytes, shares)
+}
+
+/// The same of a long line. It stands apart, so that a short one costs a test and no more.
+#[cold]
+#[inline(never)]
+fn add_share_of_long_line(
+    alloc: Global,
+    line: &mut Option<Bytes>,
+    bytes: &[u8],
+    shares: &mut VecDeque<Bytes>,
+) -> Result<(), AllocError>
+    requires long { 2048 ≤ length bytes.now }
+    requires line { IfSome line.old (λ whole. whole ≡ bytes.now) }
+    ensures line { IfSome line.new (λ whole. whole ≡ bytes.now) }
+    ensures ok { OnOk result (shares.new.items ≡ shares.old.items ++ with_share bytes.now []) }
+    ensures err { OnErr result (shares.new.items ≡ shares.old.items) }
+{
     if line.is_none() {
         *line = Some(Bytes::copy_from_slice(alloc, bytes)?);
     }

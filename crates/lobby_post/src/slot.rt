@@ -1,6 +1,6 @@
 //! A client with its outbox.
 
-ghost use Rattle.std.specs.Prelude.{◌≡◌, ℕ, ◌+◌, ◌-◌, ◌^◌, ◌<◌, ◌≤◌, ◌++◌, length, take, drop, min, OnOk, OnErr, IfOk, IfSome, Some, true, false, not, is_some, option_copied};
+ghost use Rattle.std.specs.Prelude.{◌≡◌, ◌+◌, ◌-◌, ◌^◌, ◌<◌, ◌≤◌, ◌++◌, length, take, drop, min, OnOk, OnErr, IfOk, IfSome, Some, true, false, not, is_some, option_copied};
 ghost use Rattle.lobby_model.specs.declared.event.Phase.TheVariants.{Ended, In};
 ghost use Rattle.lobby_model.specs.State.{is_live, in_phase, name_in};
 ghost use Rattle.lobby_model.specs.Sessions.{greeted, drained};
@@ -100,6 +100,7 @@ impl Slot {
 
     /// A piece of so many bytes more is due, and there is room for all that is due, where it will be
     /// put. What is copied gets a buffer of the pool, where the outbox has none of its own.
+    #[inline(always)]
     pub fn reserve(&mut self, more: usize, pool: &mut BufferPool) -> Result<(), AllocError>
         requires { self.old.due.copied ≤ self.old.due.bytes }
         ensures client { self.new.client ≡ self.old.client }
@@ -113,7 +114,7 @@ impl Slot {
             return Err(AllocError);
         };
         if self.is_live() && self.outbox.room_for(due.bytes) {
-            if due.copied > 0 {
+            if !self.outbox.has_buffer() && due.copied > 0 {
                 pool.lend(&mut self.outbox);
             }
             self.outbox.reserve_shared(due.copied, due.shared)?;
@@ -135,9 +136,29 @@ impl Slot {
 
     /// Puts the next piece of what is due, or its share where it has one, or cuts the client where not
     /// all that is due fits. Tells whether that touched it. It stands in the loop that delivers, since
-    /// the pushes of a call would wait behind the bytes of the calls before it.
+    /// the pushes of a call would wait behind the bytes of the calls before it, and it stands there twice,
+    /// so that a short piece asks nowhere for a share.
     #[inline(always)]
     pub fn put(&mut self, piece: &[u8], share: Option<Bytes>) -> bool
+        requires share { share ≡ share_of piece.now }
+        requires due { Covers self.old.due (length piece.now) }
+        requires ready { IsReady self.old }
+        ensures client { PutsFirst self.old.limit self.old.due.bytes piece.now self.old.client self.new.client }
+        ensures limit { self.new.limit ≡ self.old.limit }
+        ensures listed { self.new.listed ≡ self.old.listed }
+        ensures due { self.new.due ≡ due_but self.old.due (length piece.now) }
+        ensures ready { IsReady self.new }
+        ensures touched { result ≡ is_touched self.old.limit piece.now self.old.client }
+    {
+        match share {
+            None => self.put_piece(piece, None),
+            Some(share) => self.put_piece(piece, Some(share)),
+        }
+    }
+
+    /// What `put` does.
+    #[inline(always)]
+    fn put_piece(&mut self, piece: &[u8], share: Option<Bytes>) -> bool
         requires share { share ≡ share_of piece.now }
         requires due { Covers self.old.due (length piece.now) }
         requires ready { IsReady self.old }

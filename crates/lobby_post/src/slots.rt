@@ -1,6 +1,6 @@
 //! The slots of all clients, by the clients' numbers.
 
-ghost use Rattle.std.specs.Prelude.{◌≡◌, ℕ, [], length, map, Some, None, is_some, OnOk, OnErr, IfSome, option_copied};
+ghost use Rattle.std.specs.Prelude.{◌≡◌, [], length, map, Some, None, is_some, OnOk, OnErr, IfSome, option_copied};
 ghost use Rattle.std.specs.Option.{option_copied_mut, option_map};
 ghost use Rattle.std.specs.Ordering.{nat_cmp};
 ghost use Rattle.std.specs.List.Sorted.{IsStrictlySortedBy};
@@ -193,6 +193,16 @@ impl Slots {
                 slot,
             },
             None => ClientKey::of(client),
+        }
+    }
+
+    /// The key of a client that knows where it likely is.
+    pub fn likely_key_of(&self, client: u64) -> ClientKey
+        ensures { result.number ≡ client }
+    {
+        ClientKey {
+            number: client,
+            slot: self.near.likely(ClientKey::of(client)),
         }
     }
 

@@ -23,7 +23,7 @@ pub struct Player {
 }
 
 impl Player {
-    ghost use Rattle.std.specs.Prelude.{◌≡◌, List, ℕ, [], false, OnOk, Err, IsTrue};
+    ghost use Rattle.std.specs.Prelude.{◌≡◌, List, ℕ, [], false, OnOk, Err};
     ghost use Rattle.std.specs.Io.KnownBytes.{Appends, Keeps};
     ghost use Rattle.lobby_script.specs.Prepared.{nothing_set};
     ghost use Rattle.lobby_script.specs.Scene.{Scene, is_allowed, unopened};

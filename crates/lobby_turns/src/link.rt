@@ -27,7 +27,7 @@ pub enum Sent {
 /// What carries a client's bytes, as a socket that never waits. It counts its reads, its writes and
 /// the failures of its device, knows its last answers, and may tell proofs all bytes that it moved.
 pub trait Link {
-    ghost use Rattle.std.specs.Prelude.{◌≡◌, ℕ, ◌+◌, ◌≤◌, ◌<◌, List, length, take, Some, Option, true};
+    ghost use Rattle.std.specs.Prelude.{◌≡◌, ◌+◌, ◌≤◌, ◌<◌, length, take, Some, Option, true};
     ghost use Rattle.lobby_turns.specs.Wire.{Wire, MayGoOn, IsFresh, got_count, sent_count, and_more};
     ghost use Rattle.lobby_turns.specs.declared.link.Got.{Got};
     ghost use Rattle.lobby_turns.specs.declared.link.Sent.{Sent};

@@ -1,7 +1,7 @@
 //! The half of a turn that sends to the client: what the lobby has for it is drained, as much as one
 //! write carries, and written.
 
-ghost use Rattle.std.specs.Prelude.{◌≡◌, ◌≤◌, [], false};
+ghost use Rattle.std.specs.Prelude.{◌≡◌, ◌≤◌, false};
 ghost use Rattle.lobby_turns.specs.Wire.{MayGoOn};
 ghost use Rattle.lobby_turns.specs.Snapshot.{Snapshot, snapshot};
 ghost use Rattle.lobby_turns.specs.Holds.{Drains};

@@ -163,19 +163,21 @@ impl Outbox {
         ensures err { OnErr result ((self.old.spare < bytes) ⊎ (self.old.spare_pieces < pieces)) }
     {
         self.reserve(bytes)?;
-        self.reserve_pieces(pieces)
+        if pieces > 0 {
+            self.reserve_pieces(pieces)?;
+        }
+        Ok(())
     }
 
     /// Makes places for so many more shared pieces. An `AllocError` comes as `reserve_shared` says.
+    #[inline(never)]
     fn reserve_pieces(&mut self, pieces: usize) -> Result<(), AllocError>
+        requires { 0 < pieces }
         ensures unchanged { self.new ≡ record self.old { spare_pieces = self.new.spare_pieces } }
         ensures pieces_kept { self.old.spare_pieces ≤ self.new.spare_pieces }
         ensures ok { OnOk result (pieces ≤ self.new.spare_pieces) }
         ensures err { OnErr result (self.old.spare_pieces < pieces) }
     {
-        if pieces == 0 {
-            return Ok(());
-        }
         if self.limit > COUNTED {
             return Err(AllocError);
         }
@@ -208,6 +210,8 @@ impl Outbox {
     }
 
     /// Cuts the client: gives up what is unread, for good.
+    #[cold]
+    #[inline(never)]
     pub fn cut(&mut self)
         ensures cut { self.new ≡ record self.old {
           unread = [];

@@ -29,19 +29,19 @@ loop-piece-preserved c =
     let inv = c.loop-piece.invariant in
     let first = subst (λ ps. AreDue ps c.loop-piece.clients)
     (pieces_is c.args.text.now c.args.pieces.now c.loop-piece.piece-index c.loop-piece-test.true) inv.due in
-    let shares = c.next_share-share.ensures _ (inv.shares
-    ∙ ap shares_of (pieces_is c.args.text.now c.args.pieces.now c.loop-piece.piece-index c.loop-piece-test.true)) in
+    let shared = inv.shares
+    ∙ ap shares_of (pieces_is c.args.text.now c.args.pieces.now c.loop-piece.piece-index c.loop-piece-test.true) in
     let begun : (n : ℕ) → AreKnown (marks_of c.args.clients.now) (line_of c.args.dirty.now) n → IsUnderway _ _ _ _ _ _ n = λ n known.
     subst (λ ps. IsUnderway (pieces_of c.args.text.now c.args.pieces.now) ps c.args.clients.now c.loop-piece.clients (line_of c.args.dirty.now) (line_of c.loop-piece.dirty) n)
     (pieces_is c.args.text.now c.args.pieces.now c.loop-piece.piece-index c.loop-piece-test.true) (inv.underway n known) in
     elim c.match-get_mut_at.branch [
       | in-Some w ↦
           let written = written_through _ w.in-Some.slot.now w.put.new.slot c.loop-piece.clients w.in-Some.ensures.value in
-          rw (w.clients-is, w.dirty-is, w.wakes-is) (record {
+          rw (w.clients-is, w.dirty-is, w.wakes-is, w.shares-is) (record {
             inside = inside_next c.args.text.now c.args.pieces.now c.loop-piece.piece-index c.loop-piece-test.true inv.inside;
             due = less_due _ _ _ w.in-Some.slot.now w.put.new.slot c.loop-piece.clients _ written w.in-Some.ensures.value w.put.ensures.due first;
             ready = ready_next _ w.in-Some.slot.now w.put.new.slot c.loop-piece.clients _ written w.in-Some.ensures.value w.put.ensures.ready inv.ready;
-            shares = shares.1;
+            shares = (w.next_share-share.ensures _ shared).1;
             limits = λ limit all. limits_next limit _ w.in-Some.slot.now w.put.new.slot c.loop-piece.clients _ written w.in-Some.ensures.value w.put.ensures.limit (inv.limits limit all);
             clients = λ limit all. clients_next c.args.text.now c.args.pieces.now c.loop-piece.piece-index c.loop-piece-test.true w.in-Some.slot.now w.put.new.slot c.loop-piece.clients _ refl w.in-Some.ensures.value w.put.ensures.client c.get_mut_at.ensures.ordered inv.due limit (inv.limits limit all) ∙ inv.clients limit all;
             wakes = λ limit home. wakes_next c.args.text.now c.args.pieces.now c.loop-piece.piece-index c.loop-piece-test.true w.in-Some.slot.now w.put.new.slot c.loop-piece.clients _ refl w.in-Some.ensures.value w.put.ensures.client c.get_mut_at.ensures.ordered inv.due
@@ -52,11 +52,11 @@ loop-piece-preserved c =
           })
       | in-None w ↦
           let none = sym w.in-None.ensures.value in
-          rw (w.clients-is, w.dirty-is, w.wakes-is) (record {
+          rw (w.clients-is, w.dirty-is, w.wakes-is, w.shares-is) (record {
             inside = inside_next c.args.text.now c.args.pieces.now c.loop-piece.piece-index c.loop-piece-test.true inv.inside;
             due = less_past _ _ _ c.loop-piece.clients none first;
             ready = inv.ready;
-            shares = shares.1;
+            shares = (w.next_share-unused.ensures _ shared).1;
             limits = inv.limits;
             clients = λ limit all. clients_past c.args.text.now c.args.pieces.now c.loop-piece.piece-index c.loop-piece-test.true c.loop-piece.clients none limit ∙ inv.clients limit all;
             wakes = λ limit home. woken_past c.args.text.now c.args.pieces.now c.loop-piece.piece-index c.loop-piece-test.true c.loop-piece.clients none limit c.loop-piece.wakes home ∙ inv.wakes limit home;

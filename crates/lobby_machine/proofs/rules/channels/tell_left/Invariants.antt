@@ -1,4 +1,4 @@
-use Rattle.std.proofs.Common.{◌≡◌, map}
+use Rattle.std.proofs.Common.{map}
 use Rattle.std.specs.Map.Iter.{deref}
 use Rattle.lobby_post.specs.Posted.{Told}
 use Rattle.lobby_machine.proofs.OwnChannels.{letters_of}
