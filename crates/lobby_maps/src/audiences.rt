@@ -205,7 +205,7 @@ impl Seats {
         let numbers = self.clients.iter();
         for client in numbers {
             if !is_number(first, *client) && !is_number(second, *client) {
-                post.address_key(clients.key_of(*client))?;
+                post.address_key(clients.likely_key_of(*client))?;
             }
         }
         Ok(())

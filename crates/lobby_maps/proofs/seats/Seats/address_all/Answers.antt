@@ -12,5 +12,5 @@ pub loop-client-preserved : goal.loop-client-preserved
 loop-client-preserved c =
     addressed_next c.args.post.now c.loop-client.post c.address_key.new.self
     (map deref c.loop-client.yielded) c.in-Some.client.now c.loop-client.invariant
-    (c.in_ok-address_key.ensures ∙ ap (λ client. addressed c.loop-client.post (client ∷ [])) c.key_of.ensures)
+    (c.in_ok-address_key.ensures ∙ ap (λ client. addressed c.loop-client.post (client ∷ [])) c.likely_key_of.ensures)
     ∙ ap (addressed c.args.post.now) (sym (map-append deref c.loop-client.yielded (c.in-Some.client ∷ [])))
