@@ -19,7 +19,7 @@ use Rattle.lobby_model.specs.Configuration.{Configuration}
 use Rattle.lobby_model.specs.State.{State, Client, empty_lobby, is_live, in_phase, set_phase, name_of}
 use Rattle.lobby_model.specs.Sessions.{has_place, disconnects, drained, greeted}
 use Rattle.lobby_model.specs.Events.{effect}
-use Rattle.lobby_model.specs.Next.{next, batch, with_batch, is_empty, has_room_for}
+use Rattle.lobby_model.specs.Next.{next, batch, with_batch, is_empty}
 use Rattle.lobby_model.specs.Touched.{is_touched}
 use Rattle.lobby_model.specs.Outcome.{state_after}
 use Rattle.lobby_model.proofs.Decided.{given_place}

@@ -1,5 +1,5 @@
 -- The counts that a pass keeps, at the history of its close.
-use Rattle.std.proofs.Common.{◌≡◌, ◌≢◌, ℕ, ◌≤◌, ◌<◌, true, false, true≢false, cond, Bool, List, set, [], ◌∷◌, length, Option, Some, None, refl, sym, ap, ◌∙◌, subst, eqb, arith, eq-eqb, ne_eqb}
+use Rattle.std.proofs.Common.{◌≡◌, ◌≢◌, ℕ, ◌≤◌, ◌<◌, true, false, true≢false, cond, List, set, [], ◌∷◌, Option, Some, None, refl, sym, ap, ◌∙◌, subst, eqb, arith, eq-eqb, ne_eqb}
 use Rattle.std.specs.Prelude.{slice_get}
 use lib.ListN.{get_or}
 use Rattle.std.specs.List.{AllByRecursion}

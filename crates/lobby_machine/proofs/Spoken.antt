@@ -1,6 +1,6 @@
 -- What single commands come to.
 use Rattle.std.proofs.Common.{◌≡◌, ℕ, ℤ, List, [], ◌∷◌, refl, sym, ap, subst, ◌∙◌, true, false}
-use Rattle.std.specs.Prelude.{Option, Some, None, Bool, Result, Ok, Err, is_ok, is_some}
+use Rattle.std.specs.Prelude.{None, Bool, Result, Ok, Err, is_ok, is_some}
 use Rattle.account_book.specs.Account.{Account}
 use Rattle.account_book.specs.declared.error.LoginFault.{LoginFault}
 use Rattle.status_bits.specs.Fields.{merge}

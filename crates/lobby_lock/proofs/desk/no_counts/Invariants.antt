@@ -1,4 +1,4 @@
-use Rattle.std.proofs.Common.{◌≡◌, ℕ, ◌<◌, ◌+◌, ◌≤◌, length, Some, None}
+use Rattle.std.proofs.Common.{◌≡◌, ℕ, ◌<◌, ◌≤◌, length, Some, None}
 use Rattle.std.specs.Prelude.{slice_get, vec_capacity}
 use Rattle.lobby_lock.proofs.desk.no_counts.Given as goal
 

@@ -1,4 +1,4 @@
-use Rattle.std.proofs.Common.{rules, ◌≡◌, ℕ, ap, ◌∙◌, subst, arith}
+use Rattle.std.proofs.Common.{rules, ap, ◌∙◌, subst, arith}
 use Rattle.crossbeam_queue.specs.Passes.{view}
 use Rattle.lobby_lock.specs.declared.view.View.{View}
 use Rattle.lobby_lock.specs.Passes.{ShownPass}
