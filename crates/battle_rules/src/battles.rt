@@ -22,8 +22,10 @@ ghost use Rattle.battle_rules.specs.Opening.{game_hash_in, opens_one, password_i
 use battle_room::Room;
 use command_grammar::Command;
 use line_words::{NameBuf, SentenceBuf, Text, WordBuf, write_number};
-use lobby_guards::battle_guards::{founded_by, may_open, next_number, opens_unasked, own_battle};
-use lobby_guards::{Issuer, Stop};
+use lobby_guards::battle_guards::{
+    asks_nowhere, founded_by, in_no_battle, next_number, own_battle,
+};
+use lobby_guards::{Issuer, Refusal, Stop};
 use lobby_maps::{Battle, BattleChange, Change, Maps, NO_PASSWORD, RoomChange};
 use lobby_post::{ClientKey, Post};
 use reply_kinds::{LentReply, OpenedBattle};
@@ -77,8 +79,8 @@ pub fn open_battle(by: &Issuer, command: &Command, post: &mut Post) -> Result<Ch
     requires opens { opens_one command.now ≡ true }
     ensures { Answers by.now.maps.now.plain by.now.client post.old post.new (answer by.now.maps.now.plain by.now.client (Some by.now.me.now) command.now) result }
 {
-    may_open(by.maps, by.me)?;
-    opens_unasked(by.maps, by.me)?;
+    in_no_battle(by.maps, by.me, Refusal::OpensInBattle)?;
+    asks_nowhere(by.maps, by.me, Refusal::OpensAsking)?;
     let number = next_number(by.maps)?;
     let battle = new_battle(by, command)?;
     match tell_opening(by.maps, by.me, number, &battle, post) {

@@ -18,10 +18,10 @@ use crate::battles::{address_of, stop_asking};
 use battle_room::{ALLY_COUNT, Room};
 use line_words::{NameBuf, Text, TextBuf, WordBuf};
 use lobby_guards::battle_guards::{
-    asker_named, battle_numbered, founded_by, joins_unasked, may_join, not_locked, own_battle,
+    asker_named, asks_nowhere, battle_numbered, founded_by, in_no_battle, not_locked, own_battle,
     right_password,
 };
-use lobby_guards::{Issuer, Stop};
+use lobby_guards::{Issuer, Refusal, Stop};
 use lobby_maps::{Battle, BattleChange, Change, Maps};
 use lobby_post::{ClientKey, Post};
 use reply_kinds::LentReply;
@@ -50,8 +50,8 @@ pub fn join_battle(
     requires issuer { post.old.issuer ≡ by.now.client }
     ensures { Answers by.now.maps.now.plain by.now.client post.old post.new (join_battle by.now.maps.now.plain by.now.me.now (address (at_number by.now.maps.now.plain.clients by.now.client)) number (option_copied password.entry) (option_copied script_password.entry)) result }
 {
-    may_join(by.maps, by.me)?;
-    joins_unasked(by.maps, by.me)?;
+    in_no_battle(by.maps, by.me, Refusal::JoinsInBattle)?;
+    asks_nowhere(by.maps, by.me, Refusal::JoinsAsking)?;
     let battle = battle_numbered(by.maps, number)?;
     not_locked(battle)?;
     right_password(battle, password)?;

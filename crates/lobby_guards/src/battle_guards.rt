@@ -10,7 +10,7 @@ ghost use Rattle.lobby_model.specs.State.{asked_by, battle_of};
 ghost use Rattle.lobby_model.specs.Battles.{is_founder, lets_in};
 ghost use Rattle.lobby_guards.specs.Answers.{Refuses};
 ghost use Rattle.lobby_maps.specs.Battles.{AskOutside};
-ghost use Rattle.lobby_guards.specs.declared.refusal.Refusal.TheVariants.{OpensInBattle, OpensAsking, NoNumberLeft, JoinsInBattle, JoinsAsking, NoSuchBattle, BattleIsLocked, WrongPassword, NotInBattle, NotTheFounder, NoSuchRequest, NoSuchMember, CannotKickYourself, NoSuchBot, NotYourBot, BotNameTaken, TooManyBots, TooManyTags, TooManyUnits};
+ghost use Rattle.lobby_guards.specs.declared.refusal.Refusal.TheVariants.{NoNumberLeft, NoSuchBattle, BattleIsLocked, WrongPassword, NotInBattle, NotTheFounder, NoSuchRequest, NoSuchMember, CannotKickYourself, NoSuchBot, NotYourBot, BotNameTaken, TooManyBots, TooManyTags, TooManyUnits};
 
 use crate::{Refusal, Stop, or_refuse, refuse_if};
 use battle_room::{Asker, Bot, Member};
@@ -18,20 +18,20 @@ use line_words::{NameBuf, Pair, WordBuf};
 use lobby_maps::{Battle, LAST_NUMBER, Maps};
 use lobby_post::ClientKey;
 
-/// A user who opens a battle is in none.
-pub fn may_open(maps: &Maps, me: &NameBuf) -> Result<(), Stop>
+/// A user is in no battle. Else its command is refused so.
+pub fn in_no_battle(maps: &Maps, me: &NameBuf, refusal: Refusal) -> Result<(), Stop>
     ensures ok { IfOk result (λ _. battle_of maps.now.plain me.now ≡ None) }
-    ensures err { IfErr result (Refuses OpensInBattle (is_some (battle_of maps.now.plain me.now) ≡ true)) }
+    ensures err { IfErr result (Refuses refusal (is_some (battle_of maps.now.plain me.now) ≡ true)) }
 {
-    refuse_if(maps.battle_of(me).is_some(), Refusal::OpensInBattle)
+    refuse_if(maps.battle_of(me).is_some(), refusal)
 }
 
-/// A user who opens a battle asks to join none.
-pub fn opens_unasked(maps: &Maps, me: &NameBuf) -> Result<(), Stop>
+/// A user asks to join no battle. Else its command is refused so.
+pub fn asks_nowhere(maps: &Maps, me: &NameBuf, refusal: Refusal) -> Result<(), Stop>
     ensures ok { IfOk result (λ _. asked_by maps.now.plain me.now ≡ None) }
-    ensures err { IfErr result (Refuses OpensAsking (is_some (asked_by maps.now.plain me.now) ≡ true)) }
+    ensures err { IfErr result (Refuses refusal (is_some (asked_by maps.now.plain me.now) ≡ true)) }
 {
-    refuse_if(maps.asked_by(me).is_some(), Refusal::OpensAsking)
+    refuse_if(maps.asked_by(me).is_some(), refusal)
 }
 
 /// The number of the battle that is opened next.
@@ -43,22 +43,6 @@ pub fn next_number(maps: &Maps) -> Result<u32, Stop>
 {
     refuse_if(maps.last_battle() >= LAST_NUMBER, Refusal::NoNumberLeft)?;
     Ok(maps.last_battle() + 1)
-}
-
-/// A user who joins a battle is in none.
-pub fn may_join(maps: &Maps, me: &NameBuf) -> Result<(), Stop>
-    ensures ok { IfOk result (λ _. battle_of maps.now.plain me.now ≡ None) }
-    ensures err { IfErr result (Refuses JoinsInBattle (is_some (battle_of maps.now.plain me.now) ≡ true)) }
-{
-    refuse_if(maps.battle_of(me).is_some(), Refusal::JoinsInBattle)
-}
-
-/// A user who joins a battle asks to join none.
-pub fn joins_unasked(maps: &Maps, me: &NameBuf) -> Result<(), Stop>
-    ensures ok { IfOk result (λ _. asked_by maps.now.plain me.now ≡ None) }
-    ensures err { IfErr result (Refuses JoinsAsking (is_some (asked_by maps.now.plain me.now) ≡ true)) }
-{
-    refuse_if(maps.asked_by(me).is_some(), Refusal::JoinsAsking)
 }
 
 /// The battle of a number.
