@@ -1,5 +1,5 @@
 -- Where a list parts at its first such byte.
-use Rattle.std.proofs.Common.{◌≡◌, ℕ, ◌+◌, ◌<◌, ◌^◌, Bool, true, false, ◌||◌, List, [], ◌∷◌, ◌++◌, refl, sym, ap, ◌∙◌, arith, eq-eqb, nat_eq, decimal}
+use Rattle.std.proofs.Common.{◌≡◌, ℕ, ◌+◌, ◌<◌, ◌^◌, true, false, ◌||◌, List, [], ◌∷◌, ◌++◌, refl, sym, ap, ◌∙◌, arith, eq-eqb, nat_eq, decimal}
 use Rattle.std.proofs.Common.{suc, ◌-◌, ◌≤◌, length, get_or, take, drop, take-append-drop, drop-cons, add-one, length-take, length-drop}
 use Rattle.std.proofs.lemmas.Bool.{false≢true, false_from_ne_true, eqb-true, or_parts}
 use Rattle.std.proofs.lemmas.List.{take_all, get_or-take}

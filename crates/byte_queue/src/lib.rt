@@ -73,8 +73,8 @@ impl ByteQueue {
         self.make_room(n)
     }
 
-    /// What `reserve` does where the room behind is too little. It stands apart, so that the test for that is all
-    /// which an append costs.
+    /// What `reserve` does where the room behind is too little. It stands apart, so that an append which finds room pays
+    /// for the test alone.
     #[cold]
     #[inline(never)]
     fn make_room(&mut self, n: usize) -> Result<(), AllocError>

@@ -1,6 +1,6 @@
 -- What further bytes without an LF, and then an LF, make of the frames of a stream.
 use Rattle.std.proofs.Common.{◌≡◌, ℕ, ◌+◌, ◌-◌, ◌<◌, ◌≤◌, List, [], ◌∷◌, ◌++◌, length, get_or, refl, sym, ap, ◌∙◌, true, false, arith, append_assoc, append-nil, length-append}
-use Rattle.std.specs.Prelude.{map, nat_le, nat_lt, if◌then◌else◌, not, ◌||◌}
+use Rattle.std.specs.Prelude.{map, nat_lt, if◌then◌else◌, not, ◌||◌}
 use Rattle.std.specs.List.{list_any}
 use Rattle.std.proofs.lemmas.List.{get_or_append_left, get_or-append-add}
 use Rattle.std.proofs.lemmas.Bool.Decides.{nat_tests}

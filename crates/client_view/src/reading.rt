@@ -9,19 +9,10 @@ ghost use Rattle.lobby_view.specs.Bytes.{one_read};
 ghost use Rattle.client_view.specs.Told.{told};
 
 use crate::known::Known;
+use line_framer::without_cr;
 use reply_kinds::CommandWord;
 use reply_reader::{Head, read_client_status, read_head, read_said};
 use std::alloc::AllocError;
-
-/// The bytes without one CR at their end.
-fn without_cr(line: &[u8]) -> &[u8]
-    ensures { result.now ≡ frames.without_cr line.now }
-{
-    let Some((last, front)) = line.split_last() else {
-        return line;
-    };
-    if *last == b'\r' { front } else { line }
-}
 
 impl Known {
     /// Reads a line, which may have a CR at its end, and folds it. Gives how many lines were folded:

@@ -21,8 +21,10 @@ fn last_end(bytes: &[u8]) -> Option<usize>
     memrchr(LF, bytes)
 }
 
-// A line without one CR at its end.
-pub(crate) fn without_cr(line: &[u8]) -> &[u8]
+/// A line without one CR at its end, if it has one there. The line is lent and nothing is copied.
+///
+/// A client's reader drops the CR of a line that it cut by itself by this call, as `peek` does of a line of a framer.
+pub fn without_cr(line: &[u8]) -> &[u8]
     ensures { result.now ≡ frames.without_cr line.now }
 {
     let Some((last, front)) = line.split_last() else {

@@ -6,10 +6,9 @@ use Rattle.std.specs.FinMap.{nat_cmp-IsAntisymmetric}
 use Rattle.std.specs.Ordering.{nat_cmp}
 use Rattle.std.specs.BTreeMap.{is_at}
 use Rattle.std.specs.Map.{lookup}
-use Rattle.std.specs.Cmp.{nat_cmp_total, eq_by_cmp_equiv}
+use Rattle.std.specs.Cmp.{nat_cmp_total}
 use Rattle.line_words.specs.Table.{ByName, ByNumber, at_number, at_name, put_number, put_name, change_number, without_number, change_name, name_cmp, same_name, same_number}
 use Rattle.lobby_model.specs.State.{Client, is_live, is_live_client, name_in, name_at, name_of_client, in_phase, set_phase, user_with}
-use Rattle.lobby_model.specs.Sessions.{drained}
 use Rattle.lobby_model.specs.Outcome.{is_named}
 use Rattle.lobby_model.specs.Next.{with_batch, has_room_for}
 use Rattle.line_words.proofs.Tables.{lookup_is_find, same_name_is, same_name_itself, name_cmp_same, name_cmp_total, at-change, at-put, at-without, at-map_values, map_values-put, map_values-without}

@@ -2,8 +2,6 @@
 use Rattle.lobby_post.specs.Mask.{has_home}
 use Rattle.std.proofs.Common.{◌≡◌, ℕ, zero, suc, ◌*◌, ◌^◌, ◌%◌, ◌<◌, refl, sym, ap, subst, ◌∙◌, true, false, T, bit_or, w64, arith}
 use Rattle.std.specs.Prelude.{◌||◌, ◌==◌, max}
-use Rattle.std.specs.Ordering.{is_eq}
-use Rattle.std.specs.Cmp.{nat_cmp_total, tied_itself}
 use Rattle.std.proofs.lemmas.Nat.Bits.{bit_at_or, bit_at_set_same, bit_at_set_other, bit_at-zero, bit_at-lt}
 use Rattle.line_words.specs.Table.{same_number}
 use Rattle.lobby_model.proofs.Delivered.{same_number_is, same_itself}
