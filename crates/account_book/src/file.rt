@@ -14,7 +14,7 @@ ghost use Rattle.std.specs.Prelude.{◌≡◌, ◌≢◌, ◌↔◌, ◌++◌, [
 ghost use Rattle.toml.specs.View.{table_view};
 ghost use Rattle.toml_fields.specs.Document.{document};
 ghost use Rattle.account_book.specs.Book.{account_of};
-ghost use Rattle.account_book.specs.File.{entries_in, listed_accounts, Lists, file_accounts, file_entries};
+ghost use Rattle.account_book.specs.File.{entries_in, listed_accounts, Lists, file_accounts, file_entries, table_accounts, table_entries};
 ghost use Rattle.account_book.specs.Fields.{shown_contents};
 
 use crate::book::AccountBook;
@@ -38,14 +38,46 @@ impl AccountBook {
         ensures listed { IfOk result (Lists (file_entries bytes.now)) }
     {
         let table = read_table(alloc, bytes)?;
-        let Ok(contents) = contents_of(&table) else {
-            return Err(AccountsError::BadField(0));
-        };
-        let mut book = AccountBook::new(alloc);
-        let mut disabled = AccountBook::new(alloc);
-        add_entries(alloc, &mut book, &mut disabled, &contents)?;
-        Ok(book)
+        let book = book_of(alloc, &table);
+        drop(table);
+        book
     }
+}
+
+/// The accounts of a table that are not disabled.
+fn book_of(alloc: Global, table: &Table) -> Result<AccountBook, AccountsError>
+    ensures answer { result ≢ Err AccountsError.Memory → result ≡ table_accounts (table_view table.now) }
+    ensures listed { IfOk result (Lists (table_entries (table_view table.now))) }
+{
+    let Ok(contents) = contents_of(table) else {
+        return Err(AccountsError::BadField(0));
+    };
+    let mut book = AccountBook::new(alloc);
+    match add_all(alloc, &mut book, &contents) {
+        Ok(()) => Ok(book),
+        Err(refused) => {
+            drop(book);
+            Err(refused)
+        }
+    }
+}
+
+/// Adds the accounts of a file that are not disabled to an empty book, up to the first entry that is refused.
+fn add_all(
+    alloc: Global,
+    book: &mut AccountBook,
+    contents: &Contents<'_>,
+) -> Result<(), AccountsError>
+    requires { book.old ≡ [] }
+    ensures ok { OnOk result (listed_accounts (entries_in (shown_contents contents.now)) ≡ Ok book.new) }
+    ensures listed { OnOk result (Lists (entries_in (shown_contents contents.now)) book.new) }
+    ensures err { IfErr result (λ e. e ≢ AccountsError.Memory →
+        listed_accounts (entries_in (shown_contents contents.now)) ≡ Err e) }
+{
+    let mut disabled = AccountBook::new(alloc);
+    let added = add_entries(alloc, book, &mut disabled, contents);
+    drop(disabled);
+    added
 }
 
 /// The table of a file.

@@ -65,7 +65,9 @@ impl Known {
         self.me().cmp(name.as_slice()).is_eq()
     }
 
+    // It stands apart, so that a reply is moved as a whole from where it is read to here.
     /// Folds a reply. Where memory is refused, nothing changes.
+    #[inline(never)]
     pub(crate) fn fold(&mut self, reply: Reply) -> Result<(), AllocError>
         ensures ok { OnOk result (self.new ≡ shown self.old reply) }
         ensures err { OnErr result (self.new ≡ self.old) }

@@ -1,7 +1,6 @@
 //! What a line asks for, with its arguments by name and in their order on the line.
 
 use line_words::{NameBuf, PairList, SentenceBuf, TextBuf, WordBuf, WordList};
-use std::fmt;
 
 /// Why a line could not be read as a command. A CR or LF inside the line comes before any other fault;
 /// of the others the first from the left is the one that is told.
@@ -210,52 +209,6 @@ pub enum Command {
     },
 }
 
-impl fmt::Debug for Command {
-    /// Shows which command it is, without its arguments: among those is a password.
-    fn fmt<W: fmt::Write>(&self, f: &mut fmt::Formatter<W>) -> fmt::Result {
-        f.write_str(match self {
-            Command::Blank => "Blank",
-            Command::Unread(_) => "Unread",
-            Command::Login { .. } => "Login",
-            Command::Ping => "Ping",
-            Command::Channels => "Channels",
-            Command::LeaveBattle => "LeaveBattle",
-            Command::Exit => "Exit",
-            Command::MyStatus { .. } => "MyStatus",
-            Command::Join { .. } => "Join",
-            Command::Leave { .. } => "Leave",
-            Command::Say { .. } => "Say",
-            Command::SayEx { .. } => "SayEx",
-            Command::SayPrivate { .. } => "SayPrivate",
-            Command::OpenBattle { .. } => "OpenBattle",
-            Command::JoinBattle { .. } => "JoinBattle",
-            Command::JoinBattleAccept { .. } => "JoinBattleAccept",
-            Command::JoinBattleDeny { .. } => "JoinBattleDeny",
-            Command::UpdateBattleInfo { .. } => "UpdateBattleInfo",
-            Command::MyBattleStatus { .. } => "MyBattleStatus",
-            Command::SayBattle { .. } => "SayBattle",
-            Command::SayBattleEx { .. } => "SayBattleEx",
-            Command::AddBot { .. } => "AddBot",
-            Command::UpdateBot { .. } => "UpdateBot",
-            Command::RemoveBot { .. } => "RemoveBot",
-            Command::AddStartRect { .. } => "AddStartRect",
-            Command::RemoveStartRect { .. } => "RemoveStartRect",
-            Command::SetScriptTags { .. } => "SetScriptTags",
-            Command::RemoveScriptTags { .. } => "RemoveScriptTags",
-            Command::DisableUnits { .. } => "DisableUnits",
-            Command::EnableUnits { .. } => "EnableUnits",
-            Command::EnableAllUnits => "EnableAllUnits",
-            Command::Handicap { .. } => "Handicap",
-            Command::ForceTeamNo { .. } => "ForceTeamNo",
-            Command::ForceAllyNo { .. } => "ForceAllyNo",
-            Command::ForceTeamColor { .. } => "ForceTeamColor",
-            Command::ForceSpectatorMode { .. } => "ForceSpectatorMode",
-            Command::KickFromBattle { .. } => "KickFromBattle",
-            Command::Ring { .. } => "Ring",
-        })
-    }
-}
-
 impl Command {
     /// Lets the command go.
     pub fn discard(self) {
@@ -264,7 +217,7 @@ impl Command {
 }
 
 /// A command with the message id of its line.
-#[derive(Debug, Drop)]
+#[derive(Drop)]
 pub struct Request {
     /// The message id: 0 to 2147483647. None where the line has none.
     pub id: Option<u32>,

@@ -7,7 +7,7 @@ use crate::command::ReadFault;
 use std::alloc::AllocError;
 
 /// The line is not a command, or memory for an argument was refused.
-#[derive(Debug, Drop)]
+#[derive(Drop)]
 pub(crate) enum ReadError {
     Fault(ReadFault),
     Memory(AllocError),

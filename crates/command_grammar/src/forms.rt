@@ -2,12 +2,12 @@
 //! each kind of the row, from left to right. All are read first, and those that are kept are copied
 //! then, so that a fault takes no memory.
 
-ghost use Rattle.std.specs.Prelude.{◌≡◌, ◌∷◌, IfOk, IfSome, IsTrue, OnErr, is_some};
+ghost use Rattle.std.specs.Prelude.{◌≡◌, ◌∷◌, [], IfOk, IfSome, IsTrue, OnErr, is_some};
 ghost use Rattle.std.specs.Option.{option_map};
 ghost use Rattle.line_words.specs.Bytes.{is_sentence, is_text, is_word};
 ghost use Rattle.command_grammar.specs.declared.command.Command.TheVariants as command;
 ghost use Rattle.command_grammar.specs.Reading.{Gives, row_at};
-ghost use Rattle.command_grammar.specs.Table.{Wide, battle_titles, add_bot_row, add_rectangle_row, battle_info_row, battle_status_row, color_row, deny_row, join_battle_row, join_row, login_row, one_word, open_battle_row, remove_rectangle_row, some_pairs, status_row, update_bot_row};
+ghost use Rattle.command_grammar.specs.Table.{Wide, battle_titles, add_bot_row, add_rectangle_row, battle_info_row, battle_status_row, color_row, deny_row, join_battle_row, join_row, login_row, one_word, open_battle_row, remove_rectangle_row, side_number, some_pairs, status_row, update_bot_row};
 
 use crate::arguments::{
     flag_at, login_flags_at, name_at, natural_at, optional_at, optional_text_at, sentence_at,
@@ -316,6 +316,20 @@ pub(crate) fn add_bot(alloc: Global, rest: &[u8]) -> Result<Command, ReadError>
     let (battle_status, rest) = natural_at(rest, 4294967295)?;
     let (team_color, rest) = wide_at(rest)?;
     let (ai, _) = sentence_at(rest)?;
+    Ok(copy_of_bot(alloc, bot, battle_status, team_color, ai)?)
+}
+
+fn copy_of_bot(
+    alloc: Global,
+    bot: &[u8],
+    battle_status: u32,
+    team_color: i64,
+    ai: &[u8],
+) -> Result<Command, AllocError>
+    requires bot { IsTrue (is_word bot.now) }
+    requires ai { IsTrue (is_sentence ai.now) }
+    ensures { IfOk result (λ c. c ≡ command.AddBot bot.now battle_status team_color ai.now) }
+{
     Ok(Command::AddBot {
         bot: WordBuf::copy_of(alloc, bot)?,
         battle_status,
@@ -355,12 +369,20 @@ pub(crate) fn add_start_rect(rest: &[u8]) -> Result<Command, ReadError>
     let (ally_no, rest) = natural_at(rest, 15)?;
     let (left, rest) = natural_at(rest, 200)?;
     let (top, rest) = natural_at(rest, 200)?;
+    lower_right(ally_no as u8, left as u8, top as u8, rest)
+}
+
+// The second corner of ADDSTARTRECT.
+fn lower_right(ally_no: u8, left: u8, top: u8, rest: &[u8]) -> Result<Command, ReadError>
+    requires { IsTrue (is_text rest.now) }
+    ensures { Gives result (row_at (side_number ∷ side_number ∷ []) (command.AddStartRect ally_no left top) rest.now) }
+{
     let (right, rest) = natural_at(rest, 200)?;
     let (bottom, _) = natural_at(rest, 200)?;
     Ok(Command::AddStartRect {
-        ally_no: ally_no as u8,
-        left: left as u8,
-        top: top as u8,
+        ally_no,
+        left,
+        top,
         right: right as u8,
         bottom: bottom as u8,
     })

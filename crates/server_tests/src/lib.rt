@@ -1,11 +1,13 @@
-//! Tests of the server over sockets: clients of this machine connect to a server that runs in a thread of its own. They stand in a
-//! crate of their own, since a crate with tests is proved twice.
+//! Tests of the server's program: of the server over sockets, where clients of this machine connect to a server that runs in a
+//! thread of its own, and of the command `hash`. They stand in a crate of their own, since a crate with tests is proved twice.
 #![tactic(auto)]
 
 #[cfg(test)]
 mod clients;
 #[cfg(test)]
 mod gates;
+#[cfg(test)]
+mod hash;
 #[cfg(test)]
 mod hostile;
 #[cfg(test)]

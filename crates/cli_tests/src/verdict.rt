@@ -1,9 +1,0 @@
-//! A comparison that a test rests on, as a call: what is shown where it fails is proved once, and not in each test.
-
-use std::fmt::Debug;
-use std::process::Abort;
-
-/// Fails the test where the two differ, and shows both.
-pub fn same<T: PartialEq + Debug + Drop>(rt: &impl Abort, told: T, wanted: T) {
-    assert_eq!(rt; told, wanted);
-}

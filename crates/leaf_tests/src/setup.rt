@@ -1,0 +1,5 @@
+//! The file of settings and what reads it.
+
+mod addresses;
+mod fields;
+mod settings;

@@ -1,0 +1,178 @@
+//! One worker and its client over a link in memory.
+
+use crate::turns::plays::Step::{Enters, Reads, Takes, Turns};
+use crate::turns::plays::{Caller, End, play};
+use lobby_turns::TurnState;
+use std::alloc::Global;
+use std::process::Abort;
+use std::sync::Wait;
+use test_lobby::{GREETING, Text};
+
+const GREETED: Text = &[(GREETING, 1)];
+
+/// What a client reads that sends `PING` alone.
+pub const GREETING_AND_PONG: &[u8] = b"TASSERVER 0.38 * 8201 0\nPONG\n";
+
+const PONGED: Text = &[(GREETING_AND_PONG, 1)];
+
+const PING: Text = &[(b"PING\n", 1)];
+
+/// More than a turn reads of a link that gives a byte at a time.
+const LATE_PING: Text = &[(b"                    PING\n", 1)];
+
+/// What a client sends; how many bytes its link gives and takes at a time, and how the link ends; for so many turns, what the
+/// last one comes to; what the client reads; and how many events there are.
+type Case = (Text, usize, usize, End, u64, TurnState, Text, u64);
+
+fn check<R: Wait + Abort>(rt: &R, alloc: Global, cases: &[Case]) {
+    for (sends, piece, room, end, turns, state, output, events) in cases {
+        let caller = Caller {
+            sends: *sends,
+            piece: *piece,
+            room: *room,
+            end: *end,
+        };
+        let steps = [Enters(caller), Turns(0, *turns, *state), Reads(0, *output)];
+        play(rt, alloc, &steps, *events);
+    }
+}
+
+static LINES: [Case; 3] = [
+    // nothing came yet
+    (&[], 9, 100, End::Open, 1, TurnState::Idle, GREETED, 3),
+    // byte by byte, more than a turn reads
+    (
+        LATE_PING,
+        1,
+        100,
+        End::Open,
+        1,
+        TurnState::Again,
+        GREETED,
+        3,
+    ),
+    (LATE_PING, 1, 100, End::Open, 2, TurnState::Idle, PONGED, 6),
+];
+
+#[test]
+fn a_turn_ends_as_its_lines_say(rt: HostRuntime) {
+    check(&rt, rt.alloc(), &LINES);
+}
+
+const SIXTEEN_BYTES: Text = &[(b"TASSERVER 0.38 *", 1)];
+
+static LINKS: [Case; 5] = [
+    // a link that takes nothing, and one that takes little
+    (PING, 9, 0, End::Open, 1, TurnState::Idle, &[], 4),
+    (PING, 9, 1, End::Open, 1, TurnState::Again, SIXTEEN_BYTES, 4),
+    // the other side sends no more
+    (PING, 9, 100, End::Ended, 1, TurnState::Closed, PONGED, 5),
+    // a device that fails at its first read, and at its first write
+    (
+        PING,
+        9,
+        100,
+        End::FailsAt(1),
+        1,
+        TurnState::Closed,
+        GREETED,
+        4,
+    ),
+    (PING, 9, 100, End::FailsAt(3), 1, TurnState::Closed, &[], 5),
+];
+
+#[test]
+fn a_turn_ends_as_its_link_says(rt: HostRuntime) {
+    check(&rt, rt.alloc(), &LINKS);
+}
+
+/// A line that does not end within its limit, behind PING and alone.
+static LONG: [Case; 2] = [
+    (
+        &[(b"PING\n", 1), (b"A", 8_193)],
+        4_096,
+        100,
+        End::Open,
+        1,
+        TurnState::Closed,
+        PONGED,
+        5,
+    ),
+    (
+        &[(b"A", 8_193)],
+        4_096,
+        100,
+        End::Open,
+        1,
+        TurnState::Closed,
+        GREETED,
+        4,
+    ),
+];
+
+#[test]
+fn a_line_that_is_too_long_shuts_its_client(rt: HostRuntime) {
+    check(&rt, rt.alloc(), &LONG);
+}
+
+/// What a client sends at once, how often a turn then takes the lobby, and how many events there are. The greeting alone is
+/// drained in a hold that also sees that nothing is left.
+static TAKES: [(Text, u64, u64); 4] = [
+    (&[], 1, 3),
+    (PING, 2, 4),
+    (&[(b"PING\n", 32)], 2, 35),
+    (&[(b"PING\n", 33)], 3, 36),
+];
+
+#[test]
+fn a_hold_says_up_to_32_lines(rt: HostRuntime) {
+    for (sends, takes, events) in &TAKES {
+        let caller = Caller {
+            sends: *sends,
+            piece: 4_096,
+            room: 4_096,
+            end: End::Open,
+        };
+        let steps = [Enters(caller), Turns(0, 1, TurnState::Idle), Takes(*takes)];
+        play(&rt, rt.alloc(), &steps, *events);
+    }
+}
+
+const EXIT: Text = &[(b"EXIT\n", 1)];
+
+const LATE_EXIT: Text = &[(b"                EXIT\n", 1)];
+
+const PING_AND_EXIT: Text = &[(b"PING\nEXIT\n", 1)];
+
+/// What is drained in the turn that hears EXIT is written in it too, also where the link takes little at a time, and what an
+/// earlier turn drained and did not write.
+static EXITS: [Case; 3] = [
+    (
+        PING_AND_EXIT,
+        99,
+        2,
+        End::Open,
+        1,
+        TurnState::Closed,
+        PONGED,
+        5,
+    ),
+    // a first turn reads 16 blanks and writes 16 bytes
+    (LATE_EXIT, 1, 1, End::Open, 2, TurnState::Closed, GREETED, 6),
+    // a link that takes a byte a write is given 16 of them in its last turn
+    (
+        EXIT,
+        99,
+        1,
+        End::Open,
+        1,
+        TurnState::Closed,
+        SIXTEEN_BYTES,
+        4,
+    ),
+];
+
+#[test]
+fn who_exits_is_told_what_its_link_takes(rt: HostRuntime) {
+    check(&rt, rt.alloc(), &EXITS);
+}

@@ -1,5 +1,0 @@
-use Rattle.std.proofs.Common.{◌≡◌}
-use Rattle.turn_tests.proofs.plays.Cast.takes_all.Given as goal
-
-abbrev pub invariant-loop-step : goal.invariant-loop-step
-invariant-loop-step g l = (l.pass.desk ≡ l.desk) × (l.pass.worker.number ≡ l.fn.pass.worker.number)
