@@ -1,5 +1,4 @@
 pub mod Following
-pub mod Rooms
 pub mod Kept
 pub mod Kinds
 pub mod Told

@@ -2,6 +2,5 @@
 
 mod battles;
 mod channels;
-mod own;
 mod room;
 mod session;

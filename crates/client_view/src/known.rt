@@ -4,14 +4,11 @@ ghost use Rattle.std.specs.Prelude.{◌≡◌, [], OnOk, OnErr};
 ghost use Rattle.line_words.specs.Table.{same_name};
 ghost use Rattle.lobby_view.specs.View.{new_view, shown};
 
-use crate::battles::Battles;
-use crate::channels::Channels;
-use crate::own_room::OwnRoom;
-use crate::users::Users;
 use line_words::NameBuf;
 use reply_kinds::Reply;
 use std::alloc::{AllocError, Global};
 use std::marker::Model;
+use view_lists::{Battles, Channels, OwnRoom, Users};
 
 /// What a client knows.
 #[derive(Drop)]

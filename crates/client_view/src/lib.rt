@@ -31,23 +31,13 @@
 //! battles is asked and answers, and what its view shows of disabled units.
 #![tactic(auto)]
 
-mod battles;
-mod channels;
 mod error;
 mod folding;
 mod known;
-mod members;
-mod names;
-mod own_room;
 mod reading;
-mod users;
 mod view;
 
-pub use battles::{Battle, Battles};
-pub use channels::Channels;
 pub use error::ViewError;
 pub use lobby_view::{line_kinds_law, line_length_law, pieces_law, private_law, view_law};
-pub use members::Member;
-pub use own_room::{Bot, OwnRoom};
-pub use users::{User, Users};
 pub use view::View;
+pub use view_lists::{Battle, Battles, Bot, Channels, Member, OwnRoom, User, Users};

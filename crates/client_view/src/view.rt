@@ -8,15 +8,12 @@ ghost use Rattle.lobby_view.specs.View.{shown_all};
 ghost use Rattle.lobby_view.specs.Bytes.{one_read};
 ghost use Rattle.client_view.specs.Following.{Following, Followed, TookIn, HasNew, Stopped};
 
-use crate::battles::Battles;
-use crate::channels::Channels;
 use crate::error::ViewError;
 use crate::known::Known;
-use crate::own_room::OwnRoom;
-use crate::users::Users;
 use memchr::memchr;
 use std::alloc::{AllocError, Global};
 use std::marker::Model;
+use view_lists::{Battles, Channels, OwnRoom, Users};
 
 /// The most bytes of a line before its LF, a CR that is dropped counted. Without a limit a server
 /// could fill the memory by a line that never ends.

@@ -6,14 +6,11 @@ ghost use Rattle.lobby_view.specs.View.{shown, entered};
 ghost use Rattle.room_lists.specs.Room as room;
 ghost use Rattle.client_view.specs.Kinds.{Battles, Opening, kind_of};
 
-use crate::battles::Battle;
-use crate::folding::own;
 use crate::known::Known;
-use crate::names::Names;
-use crate::own_room::OwnRoom;
 use line_words::{NameBuf, SentenceBuf, WordBuf};
 use reply_kinds::{OpenedBattle, Reply};
 use std::alloc::AllocError;
+use view_lists::{OwnRoom, room_changes};
 
 impl Known {
     // Who is in a battle, or what it is.
@@ -78,7 +75,6 @@ impl Known {
                 title,
                 game_name,
             } => {
-                let members = Names::one(self.alloc, founder.copy())?;
                 let opened = OpenedBattle {
                     battle_type,
                     nat_type,
@@ -95,13 +91,7 @@ impl Known {
                     title,
                     game_name,
                 };
-                let listed = Battle {
-                    opened,
-                    spectators: 0,
-                    locked: false,
-                    members,
-                };
-                self.battles.put(battle, listed)
+                self.battles.open(self.alloc, battle, opened)
             }
             _ => unreachable!(),
         }
@@ -127,11 +117,11 @@ impl Known {
         ensures ok { OnOk result (self.new ≡ shown self.old (reply.JoinedBattle number name _script_password)) }
         ensures err { OnErr result (self.new ≡ self.old) }
     {
-        own::add_member(&mut self.own, number, name.copy())?;
+        room_changes::add_member(&mut self.own, number, name.copy())?;
         match self.battles.add_member(number, name) {
             Ok(()) => Ok(()),
             Err(refused) => {
-                own::drop_last(&mut self.own, number);
+                room_changes::drop_last(&mut self.own, number);
                 Err(refused)
             }
         }
@@ -156,9 +146,9 @@ impl Known {
         ensures { self.new ≡ shown self.old (reply.LeftBattle number name.now) }
     {
         if self.is_me(name) {
-            own::leave(&mut self.own, number);
+            room_changes::leave(&mut self.own, number);
         } else {
-            own::remove_member(&mut self.own, number, name);
+            room_changes::remove_member(&mut self.own, number, name);
         }
         self.battles.remove_member(number, name);
     }
@@ -167,6 +157,6 @@ impl Known {
         ensures { self.new ≡ shown self.old (reply.BattleClosed number) }
     {
         self.battles.remove(number);
-        own::leave(&mut self.own, number);
+        room_changes::leave(&mut self.own, number);
     }
 }

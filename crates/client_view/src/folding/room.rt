@@ -5,13 +5,12 @@ ghost use Rattle.reply_kinds.specs.declared.Reply.TheVariants as reply;
 ghost use Rattle.lobby_view.specs.View.{shown};
 ghost use Rattle.client_view.specs.Kinds.{Members, Bots, Rects, Tags, Units, kind_of};
 
-use crate::folding::own;
 use crate::known::Known;
-use crate::own_room::Bot;
 use line_words::{NameBuf, WordBuf};
 use reply_kinds::Reply;
 use room_lists::Rect;
 use std::alloc::AllocError;
+use view_lists::{Bot, room_changes};
 
 impl Known {
     // The status of a member.
@@ -37,7 +36,7 @@ impl Known {
     fn client_battle_status(&mut self, name: &NameBuf, status: u32, colour: i64)
         ensures { self.new ≡ shown self.old (reply.ClientBattleStatus name.now status colour) }
     {
-        own::put_status(&mut self.own, name, status, colour);
+        room_changes::put_status(&mut self.own, name, status, colour);
     }
 
     // A bot comes, changes or goes.
@@ -80,19 +79,19 @@ impl Known {
         ensures ok { OnOk result (self.new ≡ shown self.old (reply.AddBot number bot.name bot.owner bot.status bot.colour bot.ai)) }
         ensures err { OnErr result (self.new ≡ self.old) }
     {
-        own::add_bot(&mut self.own, number, bot)
+        room_changes::add_bot(&mut self.own, number, bot)
     }
 
     fn update_bot(&mut self, number: u32, name: &WordBuf, status: u32, colour: i64)
         ensures { self.new ≡ shown self.old (reply.UpdateBot number name.now status colour) }
     {
-        own::put_bot_status(&mut self.own, number, name, status, colour);
+        room_changes::put_bot_status(&mut self.own, number, name, status, colour);
     }
 
     fn remove_bot(&mut self, number: u32, name: &WordBuf)
         ensures { self.new ≡ shown self.old (reply.RemoveBot number name.now) }
     {
-        own::remove_bot(&mut self.own, number, name);
+        room_changes::remove_bot(&mut self.own, number, name);
     }
 
     // A start rectangle is set or goes.
@@ -116,10 +115,10 @@ impl Known {
                     right,
                     bottom,
                 };
-                own::put_rect(&mut self.own, ally_no, rect)
+                room_changes::put_rect(&mut self.own, ally_no, rect)
             }
             Reply::RemoveStartRect { ally_no } => {
-                own::remove_rect(&mut self.own, ally_no);
+                room_changes::remove_rect(&mut self.own, ally_no);
                 Ok(())
             }
             _ => unreachable!(),
@@ -134,9 +133,13 @@ impl Known {
         ensures err { OnErr result (self.new ≡ self.old) }
     {
         match reply {
-            Reply::SetScriptTags { pairs } => own::put_tags(&mut self.own, self.alloc, pairs),
+            Reply::SetScriptTags { pairs } => room_changes::put_tags(
+                &mut self.own,
+                self.alloc,
+                pairs,
+            ),
             Reply::RemoveScriptTags { keys } => {
-                own::remove_tags(&mut self.own, &keys);
+                room_changes::remove_tags(&mut self.own, &keys);
                 Ok(())
             }
             _ => unreachable!(),
@@ -151,13 +154,17 @@ impl Known {
         ensures err { OnErr result (self.new ≡ self.old) }
     {
         match reply {
-            Reply::DisableUnits { units } => own::put_units(&mut self.own, self.alloc, units),
+            Reply::DisableUnits { units } => room_changes::put_units(
+                &mut self.own,
+                self.alloc,
+                units,
+            ),
             Reply::EnableUnits { units } => {
-                own::remove_units(&mut self.own, &units);
+                room_changes::remove_units(&mut self.own, &units);
                 Ok(())
             }
             Reply::EnableAllUnits => {
-                own::clear_units(&mut self.own);
+                room_changes::clear_units(&mut self.own);
                 Ok(())
             }
             _ => unreachable!(),

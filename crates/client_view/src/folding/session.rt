@@ -6,10 +6,10 @@ ghost use Rattle.lobby_view.specs.View.{shown};
 ghost use Rattle.client_view.specs.Kinds.{Session, kind_of};
 
 use crate::known::Known;
-use crate::users::User;
 use line_words::{NameBuf, WordBuf};
 use reply_kinds::Reply;
 use std::alloc::AllocError;
+use view_lists::User;
 
 impl Known {
     // A login, or who comes and goes. Not inlined, as the others: what comes most is folded without their moves.
