@@ -67,7 +67,7 @@ fn show_users<W: Write>(users: &Users, out: &mut W) -> io::Result<()> {
     Ok(())
 }
 
-fn show_user<W: Write>(name: &NameBuf, user: &User, out: &mut W) -> io::Result<()> {
+fn show_user<'a, W: Write>(name: &'a NameBuf, user: &'a User, out: &mut W) -> io::Result<()> {
     let words = [
         Text(name.as_slice()),
         Text(user.country.as_slice()),
