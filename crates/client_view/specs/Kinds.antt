@@ -1,4 +1,5 @@
 -- Which replies are folded together.
+use Rattle.std.specs.Prelude.{Bool, true, false}
 use Rattle.reply_kinds.specs.declared.Reply.{Reply}
 use Rattle.reply_kinds.specs.declared.Reply.TheVariants as reply
 
@@ -45,3 +46,12 @@ kind_of (reply.DisableUnits units) = Units
 kind_of (reply.EnableUnits units) = Units
 kind_of reply.EnableAllUnits = Units
 kind_of r = Nothing
+
+-- whether a kind is of the own room
+abbrev pub is_of_room : Kind → Bool
+is_of_room Members = true
+is_of_room Bots = true
+is_of_room Rects = true
+is_of_room Tags = true
+is_of_room Units = true
+is_of_room k = false

@@ -62,7 +62,7 @@ impl Known {
         self.me().cmp(name.as_slice()).is_eq()
     }
 
-    // It stands apart, so that a reply is moved as a whole from where it is read to here.
+    // It stands apart, and its groups are few: for each a place for a whole reply is made on the stack, whatever the reply.
     /// Folds a reply. Where memory is refused, nothing changes.
     #[inline(never)]
     pub(crate) fn fold(&mut self, reply: Reply) -> Result<(), AllocError>
@@ -85,13 +85,17 @@ impl Known {
             | Reply::LeftBattle { .. }
             | Reply::UpdateBattleInfo { .. } => self.fold_battles(reply),
             Reply::BattleOpened { .. } => self.battle_opened(reply),
-            Reply::ClientBattleStatus { .. } => self.fold_members(reply),
-            Reply::AddBot { .. } | Reply::UpdateBot { .. } | Reply::RemoveBot { .. } =>
-                self.fold_bots(reply),
-            Reply::AddStartRect { .. } | Reply::RemoveStartRect { .. } => self.fold_rects(reply),
-            Reply::SetScriptTags { .. } | Reply::RemoveScriptTags { .. } => self.fold_tags(reply),
-            Reply::DisableUnits { .. } | Reply::EnableUnits { .. } | Reply::EnableAllUnits =>
-                self.fold_units(reply),
+            Reply::ClientBattleStatus { .. }
+            | Reply::AddBot { .. }
+            | Reply::UpdateBot { .. }
+            | Reply::RemoveBot { .. }
+            | Reply::AddStartRect { .. }
+            | Reply::RemoveStartRect { .. }
+            | Reply::SetScriptTags { .. }
+            | Reply::RemoveScriptTags { .. }
+            | Reply::DisableUnits { .. }
+            | Reply::EnableUnits { .. }
+            | Reply::EnableAllUnits => self.fold_room(reply),
             // What is said, asked or refused. By the contract it is only what changes nothing.
             _ => {
                 reply.discard();

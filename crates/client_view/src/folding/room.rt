@@ -1,9 +1,9 @@
 //! The lines of the client's own room.
 
-ghost use Rattle.std.specs.Prelude.{◌≡◌, OnOk, OnErr};
+ghost use Rattle.std.specs.Prelude.{◌≡◌, true, OnOk, OnErr};
 ghost use Rattle.reply_kinds.specs.declared.Reply.TheVariants as reply;
 ghost use Rattle.lobby_view.specs.View.{shown};
-ghost use Rattle.client_view.specs.Kinds.{Members, Bots, Rects, Tags, Units, kind_of};
+ghost use Rattle.client_view.specs.Kinds.{Members, Bots, Rects, Tags, Units, is_of_room, kind_of};
 
 use crate::known::Known;
 use line_words::{NameBuf, WordBuf};
@@ -13,9 +13,28 @@ use std::alloc::AllocError;
 use view_lists::{Bot, room_changes};
 
 impl Known {
+    // What changes the own room.
+    #[inline(never)]
+    pub(crate) fn fold_room(&mut self, reply: Reply) -> Result<(), AllocError>
+        requires { is_of_room (kind_of reply) ≡ true }
+        ensures ok { OnOk result (self.new ≡ shown self.old reply) }
+        ensures err { OnErr result (self.new ≡ self.old) }
+    {
+        match reply {
+            Reply::ClientBattleStatus { .. } => self.fold_members(reply),
+            Reply::AddBot { .. } | Reply::UpdateBot { .. } | Reply::RemoveBot { .. } =>
+                self.fold_bots(reply),
+            Reply::AddStartRect { .. } | Reply::RemoveStartRect { .. } => self.fold_rects(reply),
+            Reply::SetScriptTags { .. } | Reply::RemoveScriptTags { .. } => self.fold_tags(reply),
+            Reply::DisableUnits { .. } | Reply::EnableUnits { .. } | Reply::EnableAllUnits =>
+                self.fold_units(reply),
+            _ => unreachable!(),
+        }
+    }
+
     // The status of a member.
     #[inline(never)]
-    pub(crate) fn fold_members(&mut self, reply: Reply) -> Result<(), AllocError>
+    fn fold_members(&mut self, reply: Reply) -> Result<(), AllocError>
         requires { kind_of reply ≡ Members }
         ensures ok { OnOk result (self.new ≡ shown self.old reply) }
         ensures err { OnErr result (self.new ≡ self.old) }
@@ -41,7 +60,7 @@ impl Known {
 
     // A bot comes, changes or goes.
     #[inline(never)]
-    pub(crate) fn fold_bots(&mut self, reply: Reply) -> Result<(), AllocError>
+    fn fold_bots(&mut self, reply: Reply) -> Result<(), AllocError>
         requires { kind_of reply ≡ Bots }
         ensures ok { OnOk result (self.new ≡ shown self.old reply) }
         ensures err { OnErr result (self.new ≡ self.old) }
@@ -96,7 +115,7 @@ impl Known {
 
     // A start rectangle is set or goes.
     #[inline(never)]
-    pub(crate) fn fold_rects(&mut self, reply: Reply) -> Result<(), AllocError>
+    fn fold_rects(&mut self, reply: Reply) -> Result<(), AllocError>
         requires { kind_of reply ≡ Rects }
         ensures ok { OnOk result (self.new ≡ shown self.old reply) }
         ensures err { OnErr result (self.new ≡ self.old) }
@@ -127,7 +146,7 @@ impl Known {
 
     // Script tags are set or go.
     #[inline(never)]
-    pub(crate) fn fold_tags(&mut self, reply: Reply) -> Result<(), AllocError>
+    fn fold_tags(&mut self, reply: Reply) -> Result<(), AllocError>
         requires { kind_of reply ≡ Tags }
         ensures ok { OnOk result (self.new ≡ shown self.old reply) }
         ensures err { OnErr result (self.new ≡ self.old) }
@@ -148,7 +167,7 @@ impl Known {
 
     // Units are disabled or enabled.
     #[inline(never)]
-    pub(crate) fn fold_units(&mut self, reply: Reply) -> Result<(), AllocError>
+    fn fold_units(&mut self, reply: Reply) -> Result<(), AllocError>
         requires { kind_of reply ≡ Units }
         ensures ok { OnOk result (self.new ≡ shown self.old reply) }
         ensures err { OnErr result (self.new ≡ self.old) }

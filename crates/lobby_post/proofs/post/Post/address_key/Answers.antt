@@ -1,3 +1,4 @@
+use Rattle.std.proofs.lemmas.Grind.{common_steps}
 use Rattle.std.proofs.Common.{◌≡◌, ◌≤◌, ◌-◌, ◌++◌, ◌∷◌, [], ◌∙◌, length, take, drop, ap, subst, rules, arith}
 use Rattle.std.specs.Prelude.{IfSome}
 use Rattle.lobby_post.specs.declared.delivery.Piece.{Piece}
@@ -41,3 +42,33 @@ invariant_of-self-2 c =
             c.self.invariant.4,
           )
     ]
+
+pub invariant_of-self : goal.invariant_of-self
+invariant_of-self c = grind (arith, common_steps)
+
+pub returns-in_err-reserve : goal.returns-in_err-reserve
+returns-in_err-reserve c = grind (arith, common_steps)
+
+pub slice_bounds-bytes-count : goal.slice_bounds-bytes-count
+slice_bounds-bytes-count c = grind (arith, common_steps)
+
+pub slice_bounds-bytes-start : goal.slice_bounds-bytes-start
+slice_bounds-bytes-start c = grind (arith, common_steps)
+
+pub slice_bounds-bytes-end : goal.slice_bounds-bytes-end
+slice_bounds-bytes-end c = grind (arith, common_steps)
+
+pub invariant_of-self-in_err-add_share_of_line : goal.invariant_of-self-in_err-add_share_of_line
+invariant_of-self-in_err-add_share_of_line c = grind (arith, common_steps)
+
+pub returns-in_err-add_share_of_line : goal.returns-in_err-add_share_of_line
+returns-in_err-add_share_of_line c = grind (arith, common_steps)
+
+pub invariant_of-self-in_err-add_share : goal.invariant_of-self-in_err-add_share
+invariant_of-self-in_err-add_share c = grind (arith, common_steps)
+
+pub returns-in_err-add_share : goal.returns-in_err-add_share
+returns-in_err-add_share c = grind (arith, common_steps)
+
+pub returns : goal.returns
+returns c = grind (arith, common_steps)
