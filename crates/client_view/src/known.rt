@@ -62,8 +62,8 @@ impl Known {
         self.me().cmp(name.as_slice()).is_eq()
     }
 
-    // It stands apart, and its groups are few: for each a place for a whole reply is made on the stack, whatever the reply.
     /// Folds a reply. Where memory is refused, nothing changes.
+    // It stands apart and has few groups, since each call that takes a reply has a place for a whole one here.
     #[inline(never)]
     pub(crate) fn fold(&mut self, reply: Reply) -> Result<(), AllocError>
         ensures ok { OnOk result (self.new ≡ shown self.old reply) }
@@ -98,9 +98,15 @@ impl Known {
             | Reply::EnableAllUnits => self.fold_room(reply),
             // What is said, asked or refused. By the contract it is only what changes nothing.
             _ => {
-                reply.discard();
+                let_go(reply);
                 Ok(())
             }
         }
     }
+}
+
+// It stands apart, so that a reply that is folded is moved as a whole, and not field by field.
+#[inline(never)]
+fn let_go(reply: Reply) {
+    reply.discard();
 }
