@@ -17,10 +17,10 @@ use Rattle.lobby_post.specs.Posted.{Posted, Told}
 use Rattle.lobby_post.proofs.Telling.{told_then}
 use Rattle.battle_rules.specs.declared.rooms.Force.{Force}
 use Rattle.battle_rules.specs.declared.rooms.Force.TheVariants as force
-use Rattle.lobby_maps.specs.declared.battles.BattleChange.TheVariants.{Leave, LetIn}
+use Rattle.lobby_battles.specs.declared.battles.BattleChange.TheVariants.{Leave, LetIn}
 use Rattle.lobby_maps.specs.declared.change.Change.{Change}
 use Rattle.lobby_maps.specs.declared.change.Change.TheVariants.{InBattles}
-use Rattle.lobby_maps.specs.Battles.{AskOutside, asks_at, left_at, let_in}
+use Rattle.lobby_battles.specs.Battles.{AskOutside, asks_at, left_at, let_in}
 use Rattle.battle_rules.specs.BattleTalk.{forced, forced_status, forced_colour, status_change, stops_asking}
 use Rattle.lobby_guards.specs.Answers.{Obeyed}
 use Rattle.battle_rules.proofs.InBattles.{leaves_effect}

@@ -29,13 +29,13 @@ use Rattle.lobby_post.specs.Posted.{Posted, Reaches, Told, blank, with_own}
 use Rattle.lobby_post.proofs.Telling.{told_nothing, told_own, told_then}
 use Rattle.battle_rules.specs.declared.battles.Leaving.{Leaving}
 use Rattle.battle_rules.specs.declared.battles.Leaving.TheVariants.{Seen, Unseen}
-use Rattle.lobby_maps.specs.declared.battles.BattleChange.TheVariants.{Open, Join, Ask, Leave}
+use Rattle.lobby_battles.specs.declared.battles.BattleChange.TheVariants.{Open, Join, Ask, Leave}
 use Rattle.lobby_maps.specs.declared.change.Change.{Change}
 use Rattle.lobby_maps.specs.declared.change.Change.TheVariants.{Nothing, InBattles}
-use Rattle.lobby_maps.specs.Seats.{IsOwn}
+use Rattle.lobby_maps.specs.Fit.{IsOwn}
 use Rattle.lobby_guards.specs.Answers.{Obeyed}
 use Rattle.lobby_guards.proofs.Obeying.{found_passes}
-use Rattle.lobby_maps.specs.Battles.{CanEnter, IsNew, left_at, room_changed}
+use Rattle.lobby_battles.specs.Battles.{CanEnter, IsNew, left_at, room_changed}
 use Rattle.battle_rules.specs.BattleTalk.{bots_gone, shown, shown_to, status_change, stops_asking}
 
 -- one whose event it is gets its own lines

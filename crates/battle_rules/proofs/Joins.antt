@@ -15,7 +15,7 @@ use Rattle.lobby_post.specs.Posted.{Posted, Sends, Told, blank, with_own, but_is
 use Rattle.lobby_post.proofs.Telling.{told_lines_to_others, with_own_more}
 use Rattle.battle_rules.specs.declared.joining.Recipient.{Recipient}
 use Rattle.battle_rules.specs.declared.joining.Recipient.TheVariants.{Issuer, Other}
-use Rattle.lobby_maps.specs.Seats.{IsOwn}
+use Rattle.lobby_maps.specs.Fit.{IsOwn}
 use Rattle.battle_rules.specs.BattleTalk.{is_issuer, written}
 use Rattle.battle_rules.proofs.InBattles.{told_own_user, told_same}
 use Rattle.lobby_maps.proofs.Rooms.{put_then}

@@ -19,8 +19,8 @@ use Rattle.battle_rules.specs.declared.rooms.Wording.{Wording}
 use Rattle.battle_rules.specs.declared.rooms.Wording.TheVariants.{TagsGone, UnitsDisabled, UnitsEnabled}
 use Rattle.battle_rules.specs.declared.rooms.Force.{Force}
 use Rattle.battle_rules.specs.declared.rooms.Force.TheVariants as force
-use Rattle.lobby_maps.specs.declared.battles.BattleChange.TheVariants.{InRoom, StopAsking}
-use Rattle.lobby_maps.specs.declared.battles.RoomChange.TheVariants as room
+use Rattle.lobby_battles.specs.declared.battles.BattleChange.TheVariants.{InRoom, StopAsking}
+use Rattle.lobby_battles.specs.declared.battles.RoomChange.TheVariants as room
 use Rattle.lobby_maps.specs.declared.change.Change.{Change}
 use Rattle.lobby_maps.specs.declared.change.Change.TheVariants.{InBattles}
 

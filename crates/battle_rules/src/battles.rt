@@ -14,8 +14,8 @@ ghost use Rattle.lobby_model.specs.Commands.{answer};
 ghost use Rattle.lobby_post.specs.Posted.{Told};
 ghost use Rattle.lobby_guards.specs.Answers.{Answers};
 ghost use Rattle.lobby_maps.specs.declared.change.Change.TheVariants.{InBattles};
-ghost use Rattle.lobby_maps.specs.declared.battles.BattleChange.TheVariants.{InRoom};
-ghost use Rattle.lobby_maps.specs.Battles.{IsNew};
+ghost use Rattle.lobby_battles.specs.declared.battles.BattleChange.TheVariants.{InRoom};
+ghost use Rattle.lobby_battles.specs.Battles.{IsNew};
 ghost use Rattle.battle_rules.specs.BattleTalk.{bots_gone, shown, shown_to, status_change, stops_asking};
 ghost use Rattle.battle_rules.specs.Opening.{game_hash_in, opens_one, password_in, started, HasTexts};
 

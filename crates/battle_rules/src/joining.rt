@@ -11,7 +11,7 @@ ghost use Rattle.lobby_model.specs.Battles.{accept, address, asks_to_join, bot_l
 ghost use Rattle.lobby_post.specs.Posted.{Told};
 ghost use Rattle.lobby_guards.specs.Answers.{Answers};
 ghost use Rattle.lobby_maps.specs.declared.change.Change.TheVariants.{InBattles};
-ghost use Rattle.lobby_maps.specs.declared.battles.BattleChange.TheVariants.{Ask};
+ghost use Rattle.lobby_battles.specs.declared.battles.BattleChange.TheVariants.{Ask};
 ghost use Rattle.battle_rules.specs.BattleTalk.{is_issuer, written};
 
 use crate::battles::{address_of, stop_asking};

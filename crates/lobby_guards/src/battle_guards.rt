@@ -9,7 +9,7 @@ ghost use Rattle.room_lists.specs.Units.{with_units};
 ghost use Rattle.lobby_model.specs.State.{asked_by, battle_of};
 ghost use Rattle.lobby_model.specs.Battles.{is_founder, lets_in};
 ghost use Rattle.lobby_guards.specs.Answers.{Refuses};
-ghost use Rattle.lobby_maps.specs.Battles.{AskOutside};
+ghost use Rattle.lobby_battles.specs.Battles.{AskOutside};
 ghost use Rattle.lobby_guards.specs.declared.refusal.Refusal.TheVariants.{NoNumberLeft, NoSuchBattle, BattleIsLocked, WrongPassword, NotInBattle, NotTheFounder, NoSuchRequest, NoSuchMember, CannotKickYourself, NoSuchBot, NotYourBot, BotNameTaken, TooManyBots, TooManyTags, TooManyUnits};
 
 use crate::{Refusal, Stop, or_refuse, refuse_if};

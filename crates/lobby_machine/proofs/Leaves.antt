@@ -19,10 +19,10 @@ use Rattle.lobby_post.specs.Posted.{Posted, Told, but_issuer}
 use Rattle.lobby_post.proofs.Telling.{told_nothing, told_then}
 use Rattle.lobby_maps.specs.declared.change.Change.TheVariants.{LogOut}
 use Rattle.lobby_guards.specs.Answers.{Obeyed}
-use Rattle.lobby_maps.specs.Battles.{IsOnly, left_at, left_battle, room_changed, unasked}
-use Rattle.lobby_maps.specs.Changes.{first_of, left_own, parts, unasked_own}
+use Rattle.lobby_battles.specs.Battles.{IsOnly, left_at, left_battle, room_changed, unasked, left_own, unasked_own}
+use Rattle.lobby_maps.specs.Changes.{first_of, parts}
 use Rattle.battle_rules.specs.BattleTalk.{left_battle_letters}
-use Rattle.lobby_maps.specs.Seats.{without_one}
+use Rattle.lobby_battles.specs.Seats.{without_one}
 use Rattle.lobby_machine.specs.Talk.{left_letters}
 use Rattle.battle_rules.proofs.InBattles.{leaves_effect}
 

@@ -14,12 +14,12 @@ use Rattle.lobby_model.specs.Outcome.{done, refuse_if, Outcome, Refused, tell, i
 use Rattle.lobby_model.specs.Sessions.{status_in, set_user_status, burst, arrival, logs_in, log_in, user_of}
 use Rattle.lobby_post.specs.Posted.{Posted, Told}
 use Rattle.lobby_post.proofs.Telling.{told_then}
-use Rattle.lobby_maps.specs.declared.seats.Seat.{Seat}
+use Rattle.lobby_battles.specs.declared.seats.Seat.{Seat}
 use Rattle.lobby_maps.specs.declared.change.Change.TheVariants.{Nothing, Status, LogIn}
 use Rattle.lobby_guards.specs.declared.refusal.Refusal.{Refusal}
 use Rattle.lobby_guards.specs.declared.refusal.Stop.{Stop}
 use Rattle.lobby_guards.specs.declared.refusal.Stop.TheVariants as stop
-use Rattle.lobby_maps.specs.Seats.{user_in}
+use Rattle.lobby_battles.specs.Seats.{user_in}
 use Rattle.lobby_guards.specs.Answers.{Obeyed, Answers, Refuses, refusal_reply}
 use Rattle.line_words.proofs.Options.{none_from_is_some}
 

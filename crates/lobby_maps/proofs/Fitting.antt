@@ -3,17 +3,19 @@ use Rattle.std.proofs.Common.{◌≡◌, ℕ, ◌≤◌, List, [], sym, subst, �
 use Rattle.line_words.specs.Table.{ByName, ByNumber}
 use Rattle.lobby_model.specs.State.{Client, User, Battle}
 use Rattle.channel_book.specs.Channels.{Channels}
-use Rattle.lobby_maps.specs.declared.seats.Seat.{Seat}
+use Rattle.lobby_battles.specs.declared.seats.Seat.{Seat}
 use Rattle.lobby_maps.specs.declared.change.Change.{Change}
 use Rattle.lobby_maps.specs.declared.change.Change.TheVariants.{Nothing, Status, LogIn, LogOut, Join, Leave, InBattles}
-use Rattle.lobby_maps.specs.declared.battles.BattleChange.TheVariants as battle
-use Rattle.lobby_maps.specs.declared.battles.BattleChange.TheVariants.{Open, Update, InRoom}
+use Rattle.lobby_battles.specs.declared.battles.BattleChange.TheVariants as battle
+use Rattle.lobby_battles.specs.declared.battles.BattleChange.TheVariants.{Open, Update, InRoom}
 use Rattle.lobby_maps.specs.Changes.{CanBe, last_after}
 use Rattle.lobby_post.specs.Dirty.{Known}
 use Rattle.lobby_post.specs.Mail.{Crowd, AreDue, plain, deliver}
-use Rattle.lobby_maps.specs.Seats.{Agree, IsListed, Numbered, Fit}
-use Rattle.lobby_maps.specs.Battles.{AreSeated}
-use Rattle.lobby_maps.proofs.Agreed.{agree_kept, listed_kept, name_delivered, numbered_delivered}
+use Rattle.lobby_battles.specs.Seats.{Agree, IsListed}
+use Rattle.lobby_maps.specs.Fit.{Numbered, Fit}
+use Rattle.lobby_battles.specs.Battles.{AreSeated}
+use Rattle.lobby_battles.proofs.Agreed.{agree_kept, listed_kept}
+use Rattle.lobby_maps.proofs.Numbered.{name_delivered, numbered_delivered}
 
 -- clients that are as they were
 pub fit_same : (limit : ℕ) (es fs : Crowd) (seats : ByName Seat) (numbers : List ℕ) (last : ℕ) (battles : ByNumber Battle) (last_battle : ℕ) → plain fs.slots ≡ plain es.slots

@@ -4,12 +4,10 @@ pub mod Lists
 pub mod Dirtied
 pub mod Walks
 pub mod Applied
-pub mod Agreed
-pub mod Users
 pub mod Fitting
 pub mod Arrivals
 pub mod Newcomer
 pub mod Bursts
-pub mod Seated
-pub mod Base
 pub mod Rooms
+pub mod Numbered
+pub mod AllBut

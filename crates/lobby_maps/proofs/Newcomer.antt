@@ -14,8 +14,8 @@ use Rattle.line_words.proofs.Tables.{name_cmp_same}
 use Rattle.lobby_post.specs.Posted.{Posted, with_own}
 use Rattle.lobby_post.proofs.Telling.{with_own_more}
 use Rattle.lobby_maps.specs.declared.burst.Part.{Part}
-use Rattle.lobby_maps.specs.declared.seats.Seat.{Seat}
-use Rattle.lobby_maps.specs.Seats.{user_in, users_of}
+use Rattle.lobby_battles.specs.declared.seats.Seat.{Seat}
+use Rattle.lobby_battles.specs.Seats.{user_in, users_of}
 use Rattle.lobby_maps.specs.Parts.{part_of, parts_of}
 
 -- a user as a map's iterator lends it, and some

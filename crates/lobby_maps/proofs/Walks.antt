@@ -15,8 +15,9 @@ use Rattle.lobby_model.specs.State.{State, Client, name_at, name_of}
 use Rattle.lobby_model.specs.Outcome.{is_named, everyone, user, users}
 use Rattle.lobby_model.proofs.Delivered.{same_itself, same_number_is}
 use Rattle.lobby_post.specs.Posted.{Posted, copy_to, addressed, has_number, AreApart, Reaches}
-use Rattle.lobby_maps.specs.declared.seats.Seat.{Seat}
-use Rattle.lobby_maps.specs.Seats.{client_in, clients_of, Agree, IsListed, IsOwn}
+use Rattle.lobby_battles.specs.declared.seats.Seat.{Seat}
+use Rattle.lobby_battles.specs.Seats.{client_in, Agree, IsListed}
+use Rattle.lobby_maps.specs.Fit.{clients_of, IsOwn}
 
 pub addressed_none : (post : Posted) → post ≡ addressed post []
 addressed_none post = ap (λ ps. record post { sent = ps }) (sym (append-nil post.sent))

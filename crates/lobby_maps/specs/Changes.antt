@@ -1,7 +1,6 @@
 -- What a change makes of each map, and when what is told is what an event sends.
 use Rattle.std.specs.Prelude.{◌≡◌, ℕ, Bool, true, false, List, Option, Some, None}
 use Rattle.line_words.specs.Table.{ByName, ByNumber, at_number, at_name, put_name, change_name, is_among}
-use Rattle.room_lists.specs.Room.{has_member, has_asker}
 use Rattle.channel_book.specs.Channels.{Channels, names_in, joined, left, all_left}
 use Rattle.lobby_model.specs.declared.event.Event.{Event}
 use Rattle.lobby_model.specs.declared.event.Phase.TheVariants.{In}
@@ -14,9 +13,9 @@ use Rattle.lobby_post.specs.Mail.{bytes_for, parted}
 use Rattle.lobby_post.specs.Posted.{Posted}
 use Rattle.lobby_maps.specs.declared.change.Change.{Change}
 use Rattle.lobby_maps.specs.declared.change.Change.TheVariants.{Nothing, Status, LogIn, LogOut, Join, Leave, InBattles}
-use Rattle.lobby_maps.specs.declared.seats.Seat.{Seat}
-use Rattle.lobby_maps.specs.Seats.{user_in, where_some, without_one}
-use Rattle.lobby_maps.specs.Battles.{battles_after as changed_battles, last_after as last_battle_after, left_battle, unasked, CanChange, IsOnly}
+use Rattle.lobby_battles.specs.declared.seats.Seat.{Seat}
+use Rattle.lobby_battles.specs.Seats.{user_in, where_some, without_one}
+use Rattle.lobby_battles.specs.Battles.{battles_after as changed_battles, last_after as last_battle_after, left_own, unasked_own, CanChange, LeavesAll}
 
 abbrev pub clients_after : ByNumber Client → ℕ → Change → ByNumber Client
 clients_after clients c Nothing = clients
@@ -44,18 +43,6 @@ channels_after channels (Join channel name) = joined channel name channels
 channels_after channels (Leave channel name) = left channel name channels
 channels_after channels (InBattles change) = channels
 channels_after channels (LogOut name asks battle stays) = where_some all_left name channels
-
--- one who may be logged in asks no more at the battle that it may ask to join
-abbrev pub unasked_own : Option (List ℕ) → Option ℕ → ByNumber Battle → ByNumber Battle
-unasked_own None asks battles = battles
-unasked_own (Some name) None battles = battles
-unasked_own (Some name) (Some number) battles = unasked number name battles
-
--- one who may be logged in leaves the battle that it may be in
-abbrev pub left_own : Option (List ℕ) → Option ℕ → ByNumber Battle → ByNumber Battle
-left_own None battle battles = battles
-left_own (Some name) None battles = battles
-left_own (Some name) (Some number) battles = left_battle number name battles
 
 abbrev pub battles_after : ByNumber Battle → Change → ByNumber Battle
 battles_after battles Nothing = battles
@@ -96,11 +83,6 @@ pub record IsFresh (clients : ByNumber Client) (users : ByName User) (c : ℕ) (
 abbrev pub first_of : {A B : Type 0} → Option (A × B) → Option A
 first_of None = None
 first_of (Some e) = Some e.0
-
--- one who may be logged in asks to join no battle of these but that of one number, and is in none but that of another
-abbrev pub LeavesAll : ByNumber Battle → Option ℕ → Option ℕ → Option (List ℕ) → Type 0
-LeavesAll battles asks battle None = Unit {0}
-LeavesAll battles asks battle (Some name) = IsOnly (has_asker name) battles asks × IsOnly (has_member name) battles battle
 
 -- a change that these maps can take; it is the user of the client that logs out, and drops and leaves what is its own
 abbrev pub CanBe : ByNumber Client → ByName User → Channels → ByNumber Battle → ℕ → Change → Type 0

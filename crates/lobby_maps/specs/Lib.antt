@@ -1,7 +1,5 @@
-pub mod Info
-pub mod Battles
-pub mod Seats
 pub mod Parts
+pub mod Fit
 pub mod Shown
 pub mod Dirty
 pub mod Calls

@@ -15,12 +15,13 @@ ghost use Rattle.lobby_model.specs.State.{name_of};
 ghost use Rattle.lobby_model.specs.Outcome.{tell, everyone, everyone_but, others, user, users};
 ghost use Rattle.lobby_post.specs.Mail.{plain};
 ghost use Rattle.lobby_post.specs.Posted.{Sends, Told, addressed, but_issuer, has_number};
-ghost use Rattle.lobby_maps.specs.Seats.{Agree, IsOwn, client_in, clients_of, is_some_number, numbers_but};
+ghost use Rattle.lobby_battles.specs.Seats.{Agree, client_in};
+ghost use Rattle.lobby_maps.specs.Fit.{IsOwn, clients_of, is_some_number, numbers_but};
 
 use crate::maps::Maps;
-use crate::seats::Seats;
 use battle_room::{Asker, Member, Room};
 use line_words::NameBuf;
+use lobby_battles::Seats;
 use lobby_post::{ClientKey, Clients, Post};
 use reply_grammar::LentReply;
 use std::alloc::AllocError;
@@ -31,7 +32,7 @@ impl Maps {
         ensures { OnOk result (Told self.now.plain post.old post.new (tell everyone (reply_of line.entry ∷ []) ∷ [])) }
     {
         post.write(line)?;
-        self.seats.address_all(&self.clients, post)?;
+        address_all(&self.seats, &self.clients, post)?;
         Ok(())
     }
 
@@ -40,7 +41,7 @@ impl Maps {
         ensures { OnOk result (Told self.now.plain post.old post.new (tell others (reply_of line.entry ∷ []) ∷ [])) }
     {
         post.write_for_others(line)?;
-        self.seats.address_all(&self.clients, post)?;
+        address_all(&self.seats, &self.clients, post)?;
         Ok(())
     }
 
@@ -55,8 +56,7 @@ impl Maps {
         ensures { OnOk result (Told self.now.plain post.old post.new (tell (everyone_but (first.now ∷ second.now ∷ [])) (reply_of line.entry ∷ []) ∷ [])) }
     {
         post.write(line)?;
-        self.seats
-            .address_all_but(&self.clients, first, second, post)?;
+        address_all_but(&self.seats, &self.clients, first, second, post)?;
         Ok(())
     }
 
@@ -70,7 +70,7 @@ impl Maps {
         ensures { OnOk result (Told self.now.plain post.old post.new (tell (user name.now) (reply_of line.entry ∷ []) ∷ [])) }
     {
         post.write(line)?;
-        self.seats.address_user(name, post)?;
+        address_user(&self.seats, name, post)?;
         Ok(())
     }
 
@@ -80,7 +80,7 @@ impl Maps {
         ensures sent { OnOk result (Sends self.now.plain post.old post.new (user name.now)) }
         ensures own { OnOk result (name_of self.now.plain post.old.issuer ≡ Some name.now → IsOwn self.now.plain post.old post.new name.now) }
     {
-        self.seats.address_user(name, post)?;
+        address_user(&self.seats, name, post)?;
         Ok(())
     }
 
@@ -96,7 +96,7 @@ impl Maps {
         ensures { OnOk result (Told self.now.plain post.old post.new (tell (users names.now) (reply_of line.entry ∷ []) ∷ [])) }
     {
         post.write(line)?;
-        self.seats.address_names(&self.clients, names, keys, post)?;
+        address_names(&self.seats, &self.clients, names, keys, post)?;
         Ok(())
     }
 
@@ -112,7 +112,7 @@ impl Maps {
         ensures { OnOk result (Told self.now.plain post.old post.new (tell (but_issuer (users names.now)) (reply_of line.entry ∷ []) ∷ [])) }
     {
         post.write_for_others(line)?;
-        self.seats.address_names(&self.clients, names, keys, post)?;
+        address_names(&self.seats, &self.clients, names, keys, post)?;
         Ok(())
     }
 
@@ -126,8 +126,7 @@ impl Maps {
         ensures { OnOk result (Told self.now.plain post.old post.new (tell (users (member_names room.now)) (reply_of line.entry ∷ []) ∷ [])) }
     {
         post.write(line)?;
-        self.seats
-            .address_members(&self.clients, room.members(), post)?;
+        address_members(&self.seats, &self.clients, room.members(), post)?;
         Ok(())
     }
 
@@ -141,8 +140,7 @@ impl Maps {
         ensures { OnOk result (Told self.now.plain post.old post.new (tell (but_issuer (users (member_names room.now))) (reply_of line.entry ∷ []) ∷ [])) }
     {
         post.write_for_others(line)?;
-        self.seats
-            .address_members(&self.clients, room.members(), post)?;
+        address_members(&self.seats, &self.clients, room.members(), post)?;
         Ok(())
     }
 
@@ -156,7 +154,7 @@ impl Maps {
         ensures { OnOk result (Told self.now.plain post.old post.new (tell (users (asker_names room.now)) (reply_of line.entry ∷ []) ∷ [])) }
     {
         post.write(line)?;
-        self.seats.address_askers(room.askers(), post)?;
+        address_askers(&self.seats, room.askers(), post)?;
         Ok(())
     }
 
@@ -170,130 +168,128 @@ impl Maps {
         ensures { OnOk result (Told self.now.plain post.old post.new (tell (but_issuer (users (asker_names room.now))) (reply_of line.entry ∷ []) ∷ [])) }
     {
         post.write_for_others(line)?;
-        self.seats.address_askers(room.askers(), post)?;
+        address_askers(&self.seats, room.askers(), post)?;
         Ok(())
     }
 }
 
-impl Seats {
-    /// All who are logged in get the line that is told.
-    pub fn address_all(&self, clients: &Clients, post: &mut Post) -> Result<(), AllocError>
-        ensures rising { IsStrictlySortedBy nat_cmp self.now.clients.keys }
-        ensures sent { OnOk result (post.new ≡ addressed post.old self.now.clients.keys) }
-    {
-        // Its contract says that the numbers rise, which callers want however this ends.
-        let numbers = self.clients.iter();
-        for client in numbers {
+/// All who are logged in get the line that is told.
+pub fn address_all(seats: &Seats, clients: &Clients, post: &mut Post) -> Result<(), AllocError>
+    ensures rising { IsStrictlySortedBy nat_cmp seats.now.clients.keys }
+    ensures sent { OnOk result (post.new ≡ addressed post.old seats.now.clients.keys) }
+{
+    // Its contract says that the numbers rise, which callers want however this ends.
+    let numbers = seats.clients.iter();
+    for client in numbers {
+        post.address_key(clients.likely_key_of(*client))?;
+    }
+    Ok(())
+}
+
+/// All who are logged in get the line that is told, but the users of two names.
+fn address_all_but(
+    seats: &Seats,
+    clients: &Clients,
+    first: &NameBuf,
+    second: &NameBuf,
+    post: &mut Post,
+) -> Result<(), AllocError>
+    ensures rising { IsStrictlySortedBy nat_cmp seats.now.clients.keys }
+    ensures sent { OnOk result (post.new ≡ addressed post.old (numbers_but (client_in (at_name seats.now.users.entries first.now) ++ client_in (at_name seats.now.users.entries second.now)) seats.now.clients.keys)) }
+{
+    let first = client_of(seats, first);
+    let second = client_of(seats, second);
+    let numbers = seats.clients.iter();
+    for client in numbers {
+        if !is_number(first, *client) && !is_number(second, *client) {
             post.address_key(clients.likely_key_of(*client))?;
         }
-        Ok(())
     }
+    Ok(())
+}
 
-    /// All who are logged in get the line that is told, but the users of two names.
-    pub fn address_all_but(
-        &self,
-        clients: &Clients,
-        first: &NameBuf,
-        second: &NameBuf,
-        post: &mut Post,
-    ) -> Result<(), AllocError>
-        ensures rising { IsStrictlySortedBy nat_cmp self.now.clients.keys }
-        ensures sent { OnOk result (post.new ≡ addressed post.old (numbers_but (client_in (at_name self.now.users.entries first.now) ++ client_in (at_name self.now.users.entries second.now)) self.now.clients.keys)) }
-    {
-        let first = self.client_of(first);
-        let second = self.client_of(second);
-        let numbers = self.clients.iter();
-        for client in numbers {
-            if !is_number(first, *client) && !is_number(second, *client) {
-                post.address_key(clients.likely_key_of(*client))?;
-            }
-        }
-        Ok(())
+/// The user of this name, where there is one, gets the line that is told.
+fn address_user(seats: &Seats, name: &NameBuf, post: &mut Post) -> Result<(), AllocError>
+    ensures { OnOk result (post.new ≡ addressed post.old (client_in (at_name seats.now.users.entries name.now))) }
+{
+    if let Some(seat) = seats.users.get(name) {
+        post.address_key(seat.client)?;
     }
+    Ok(())
+}
 
-    /// The user of this name, where there is one, gets the line that is told.
-    pub fn address_user(&self, name: &NameBuf, post: &mut Post) -> Result<(), AllocError>
-        ensures { OnOk result (post.new ≡ addressed post.old (client_in (at_name self.now.users.entries name.now))) }
-    {
-        if let Some(seat) = self.users.get(name) {
-            post.address_key(seat.client)?;
-        }
-        Ok(())
+/// The user of this name, where there is one, gets the line that is told. The key is likely that of
+/// its client: another one costs searches, and no more.
+fn address_near(
+    seats: &Seats,
+    clients: &Clients,
+    name: &NameBuf,
+    key: ClientKey,
+    post: &mut Post,
+) -> Result<(), AllocError>
+    requires { Agree (plain clients.now.slots) seats.now.users.entries }
+    ensures { OnOk result (post.new ≡ addressed post.old (client_in (at_name seats.now.users.entries name.now))) }
+{
+    if clients.is_named_at(key, name) {
+        post.address_key(key)?;
+    } else {
+        address_user(seats, name, post)?;
     }
+    Ok(())
+}
 
-    /// The user of this name, where there is one, gets the line that is told. The key is likely that of
-    /// its client: another one costs searches, and no more.
-    fn address_near(
-        &self,
-        clients: &Clients,
-        name: &NameBuf,
-        key: ClientKey,
-        post: &mut Post,
-    ) -> Result<(), AllocError>
-        requires { Agree (plain clients.now.slots) self.now.users.entries }
-        ensures { OnOk result (post.new ≡ addressed post.old (client_in (at_name self.now.users.entries name.now))) }
-    {
-        if clients.is_named_at(key, name) {
-            post.address_key(key)?;
-        } else {
-            self.address_user(name, post)?;
-        }
-        Ok(())
+/// The users of these names get the line that is told. The keys are likely those of their clients.
+fn address_names(
+    seats: &Seats,
+    clients: &Clients,
+    names: &[NameBuf],
+    keys: &[ClientKey],
+    post: &mut Post,
+) -> Result<(), AllocError>
+    requires { Agree (plain clients.now.slots) seats.now.users.entries }
+    ensures { OnOk result (post.new ≡ addressed post.old (clients_of seats.now.users.entries names.now)) }
+{
+    for i in 0..names.len() {
+        let key = keys.get(i).copied().unwrap_or(ClientKey::nobody());
+        address_near(seats, clients, &names[i], key, post)?;
     }
+    Ok(())
+}
 
-    /// The users of these names get the line that is told. The keys are likely those of their clients.
-    pub fn address_names(
-        &self,
-        clients: &Clients,
-        names: &[NameBuf],
-        keys: &[ClientKey],
-        post: &mut Post,
-    ) -> Result<(), AllocError>
-        requires { Agree (plain clients.now.slots) self.now.users.entries }
-        ensures { OnOk result (post.new ≡ addressed post.old (clients_of self.now.users.entries names.now)) }
-    {
-        for i in 0..names.len() {
-            let key = keys.get(i).copied().unwrap_or(ClientKey::nobody());
-            self.address_near(clients, &names[i], key, post)?;
-        }
-        Ok(())
+/// The members of a battle get the line that is told. Their marks are likely the keys of their
+/// clients.
+fn address_members(
+    seats: &Seats,
+    clients: &Clients,
+    members: &[Member<ClientKey>],
+    post: &mut Post,
+) -> Result<(), AllocError>
+    requires { Agree (plain clients.now.slots) seats.now.users.entries }
+    ensures { OnOk result (post.new ≡ addressed post.old (clients_of seats.now.users.entries (map (λ m. m.name) members.now))) }
+{
+    for member in members {
+        address_near(seats, clients, member.name(), member.mark(), post)?;
     }
+    Ok(())
+}
 
-    /// The members of a battle get the line that is told. Their marks are likely the keys of their
-    /// clients.
-    pub fn address_members(
-        &self,
-        clients: &Clients,
-        members: &[Member<ClientKey>],
-        post: &mut Post,
-    ) -> Result<(), AllocError>
-        requires { Agree (plain clients.now.slots) self.now.users.entries }
-        ensures { OnOk result (post.new ≡ addressed post.old (clients_of self.now.users.entries (map (λ m. m.name) members.now))) }
-    {
-        for member in members {
-            self.address_near(clients, member.name(), member.mark(), post)?;
-        }
-        Ok(())
+/// Those who ask to join a battle get the line that is told.
+fn address_askers(seats: &Seats, askers: &[Asker], post: &mut Post) -> Result<(), AllocError>
+    ensures { OnOk result (post.new ≡ addressed post.old (clients_of seats.now.users.entries (map (λ a. a.name) askers.now))) }
+{
+    for asker in askers {
+        address_user(seats, asker.name(), post)?;
     }
+    Ok(())
+}
 
-    /// Those who ask to join a battle get the line that is told.
-    pub fn address_askers(&self, askers: &[Asker], post: &mut Post) -> Result<(), AllocError>
-        ensures { OnOk result (post.new ≡ addressed post.old (clients_of self.now.users.entries (map (λ a. a.name) askers.now))) }
-    {
-        for asker in askers {
-            self.address_user(asker.name(), post)?;
-        }
-        Ok(())
-    }
-
-    /// The number of the client at which a user is, where somebody of this name is logged in.
-    fn client_of(&self, name: &NameBuf) -> Option<u64>
-        ensures { (c : ℕ) → is_some_number result c ≡ has_number (client_in (at_name self.now.users.entries name.now)) c }
-    {
-        match self.users.get(name) {
-            Some(seat) => Some(seat.client.number),
-            None => None,
-        }
+/// The number of the client at which a user is, where somebody of this name is logged in.
+fn client_of(seats: &Seats, name: &NameBuf) -> Option<u64>
+    ensures { (c : ℕ) → is_some_number result c ≡ has_number (client_in (at_name seats.now.users.entries name.now)) c }
+{
+    match seats.users.get(name) {
+        Some(seat) => Some(seat.client.number),
+        None => None,
     }
 }
 

@@ -7,13 +7,13 @@ ghost use Rattle.lobby_model.specs.Outcome.{tell, issuer, others};
 ghost use Rattle.lobby_model.specs.Battles.{battle_lines};
 ghost use Rattle.lobby_model.specs.Sessions.{arrival, burst};
 ghost use Rattle.lobby_post.specs.Posted.{Told, with_own};
-ghost use Rattle.lobby_maps.specs.Seats.{user_in, users_of};
+ghost use Rattle.lobby_battles.specs.Seats.{user_in, users_of};
 ghost use Rattle.lobby_maps.specs.Parts.{guest_lines, part_of, parts_of};
 
-use crate::battle::Battle;
+use crate::audiences::address_all;
 use crate::maps::Maps;
-use crate::seats::Seat;
 use line_words::{NameBuf, TextBuf};
+use lobby_battles::{Battle, Seat};
 use lobby_post::Post;
 use reply_grammar::LentReply;
 use std::alloc::AllocError;
@@ -55,7 +55,7 @@ impl Maps {
         if status != 0 {
             post.write_more_for_others(LentReply::ClientStatus { user: name, status })?;
         }
-        self.seats.address_all(&self.clients, post)?;
+        address_all(&self.seats, &self.clients, post)?;
         Ok(())
     }
 

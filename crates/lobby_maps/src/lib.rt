@@ -8,17 +8,12 @@
 #![tactic(auto)]
 
 mod audiences;
-mod battle;
-mod battles;
 mod burst;
 mod change;
 mod greeting;
 mod lookups;
 mod maps;
-mod seats;
 
-pub use battle::{Battle, NO_PASSWORD};
-pub use battles::{BattleChange, LAST_NUMBER, RoomChange};
 pub use change::Change;
+pub use lobby_battles::{Battle, BattleChange, LAST_NUMBER, NO_PASSWORD, RoomChange, Seat};
 pub use maps::{Admission, Maps};
-pub use seats::Seat;

@@ -7,11 +7,11 @@ ghost use Rattle.lobby_model.specs.State.{name_of};
 ghost use Rattle.lobby_model.specs.Sessions.{status_in};
 ghost use Rattle.lobby_model.specs.Battles.{is_authorising};
 
-use crate::battle::Battle;
 use crate::maps::Maps;
 use account_book::AccountBook;
 use channel_book::ChannelBook;
 use line_words::NameBuf;
+use lobby_battles::Battle;
 use lobby_post::ClientKey;
 use status_bits::UserStatus;
 use std::alloc::Global;

@@ -7,20 +7,18 @@ ghost use Rattle.lobby_model.specs.declared.event.Event.TheVariants as event;
 ghost use Rattle.lobby_model.specs.State.{Battle, asked_by, battle_of, empty_lobby, hears, name_of};
 ghost use Rattle.lobby_model.specs.Sessions.{has_place};
 ghost use Rattle.lobby_post.specs.Mail.{IsWakes};
-ghost use Rattle.lobby_maps.specs.Battles.{AskOutside, IsOnly};
+ghost use Rattle.lobby_battles.specs.Battles.{AskOutside, IsOnly};
 ghost use Rattle.lobby_maps.specs.Calls.{Applies, HasNoNumber, IsFull, IsNextNumber, KeepsOthers, ListsTouched, ListsOpened, TakesFirst, count_into, filled};
 ghost use Rattle.lobby_maps.specs.Changes.{CanBe, OfEvent};
 ghost use Rattle.lobby_maps.specs.Dirty.{those_there};
 ghost use Rattle.lobby_maps.specs.Shown.{dirty_at, unread_of, is_finished};
 
-use crate::battle::Battle;
-use crate::battles::Battles;
 use crate::change::{Change, apply};
 use crate::greeting::greeting_of;
-use crate::seats::Seats;
 use account_book::AccountBook;
 use channel_book::ChannelBook;
 use line_words::NameBuf;
+use lobby_battles::{Battle, Battles, Seats};
 use lobby_model::Settings;
 use lobby_post::{ClientKey, Clients, Drained, Post, Wakes};
 use std::alloc::{AllocError, Global};
@@ -62,7 +60,8 @@ impl Model for Maps {
     ghost use Rattle.lobby_model.specs.Sessions.{greeting};
     ghost use Rattle.lobby_post.specs.Mail.{plain};
     ghost use Rattle.lobby_maps.specs.Dirty.{lists_of};
-    ghost use Rattle.lobby_maps.specs.Seats.{users_of, Fit};
+    ghost use Rattle.lobby_battles.specs.Seats.{users_of};
+    ghost use Rattle.lobby_maps.specs.Fit.{Fit};
     ghost use Rattle.lobby_maps.specs.Shown.{lobby_of, Shown};
 
     ghost Value = { Shown };

@@ -11,10 +11,10 @@ ghost use Rattle.lobby_model.specs.Outcome.{done, only_told, tell, issuer};
 ghost use Rattle.lobby_model.specs.Sessions.{departs, log_in, set_user_status, user_of};
 ghost use Rattle.lobby_post.specs.Posted.{Told, begun};
 ghost use Rattle.lobby_guards.specs.Answers.{Answers, Obeyed};
-ghost use Rattle.lobby_maps.specs.Battles.{IsOnly};
+ghost use Rattle.lobby_battles.specs.Battles.{IsOnly};
 ghost use Rattle.lobby_maps.specs.Changes.{first_of, parts};
 ghost use Rattle.battle_rules.specs.BattleTalk.{left_battle_letters};
-ghost use Rattle.lobby_maps.specs.Seats.{user_in};
+ghost use Rattle.lobby_battles.specs.Seats.{user_in};
 
 use super::channels::tell_left;
 use account_book::Account;

@@ -4,7 +4,7 @@ use Rattle.std.specs.Global.{Box}
 use Rattle.room_lists.specs.Room.{Room}
 use Rattle.lobby_model.specs.Battles.{open_battle}
 use Rattle.lobby_model.specs.State.{Battle}
-use Rattle.lobby_maps.specs.Battles.{IsNew}
+use Rattle.lobby_battles.specs.Battles.{IsNew}
 use Rattle.battle_rules.specs.Opening.{started}
 use Rattle.battle_rules.proofs.battles.new_battle.Goals as goal
 

@@ -10,8 +10,8 @@ use Rattle.lobby_model.specs.Rooms.{add_bot, new_bot}
 use Rattle.lobby_post.specs.Posted.{Posted, Told}
 use Rattle.lobby_maps.specs.declared.change.Change.{Change}
 use Rattle.lobby_maps.specs.declared.change.Change.TheVariants.{InBattles}
-use Rattle.lobby_maps.specs.declared.battles.BattleChange.TheVariants.{InRoom}
-use Rattle.lobby_maps.specs.declared.battles.RoomChange.TheVariants.{AddBot}
+use Rattle.lobby_battles.specs.declared.battles.BattleChange.TheVariants.{InRoom}
+use Rattle.lobby_battles.specs.declared.battles.RoomChange.TheVariants.{AddBot}
 use Rattle.lobby_guards.specs.Answers.{Obeyed}
 use Rattle.lobby_maps.specs.Changes.{CanBe, changed}
 use Rattle.battle_rules.proofs.InBattles.{in_battle_so}

@@ -6,7 +6,7 @@ use Rattle.std.specs.declared.cmp.Ordering.TheVariants.{Greater}
 use Rattle.line_words.specs.Table.{name_cmp}
 use Rattle.lobby_post.specs.Posted.{Posted, with_own}
 use Rattle.lobby_post.proofs.Telling.{with_own_none}
-use Rattle.lobby_maps.specs.Seats.{user_in}
+use Rattle.lobby_battles.specs.Seats.{user_in}
 use Rattle.lobby_maps.specs.Parts.{part_of}
 use Rattle.lobby_maps.proofs.Newcomer.{Tells, first_told, other_told, order_at, users_lent, tells_next, tells_all}
 use Rattle.lobby_maps.proofs.burst.write_parts.Goals as goal

@@ -1,4 +1,4 @@
-use Rattle.lobby_maps.specs.Seats.{user_in}
+use Rattle.lobby_battles.specs.Seats.{user_in}
 use Rattle.lobby_maps.proofs.Newcomer.{Tells, users_lent}
 use Rattle.lobby_maps.proofs.burst.write_parts.Given as goal
 

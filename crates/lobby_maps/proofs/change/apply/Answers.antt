@@ -6,13 +6,13 @@ use Rattle.lobby_model.specs.State.{Client, User, Battle, name_at, set_phase}
 use Rattle.lobby_model.specs.declared.event.Phase.TheVariants.{In}
 use Rattle.lobby_maps.specs.declared.change.Change.{Change}
 use Rattle.lobby_maps.specs.declared.change.Change.TheVariants.{LogOut}
-use Rattle.lobby_maps.specs.declared.seats.Seat.{Seat}
-use Rattle.lobby_maps.specs.Battles.{AreSeated}
-use Rattle.lobby_maps.proofs.Seated.{seated_changed, seated_added, seated_gone}
+use Rattle.lobby_battles.specs.declared.seats.Seat.{Seat}
+use Rattle.lobby_battles.specs.Battles.{AreSeated, left_own, unasked_own}
+use Rattle.lobby_battles.proofs.Seated.{seated_changed, seated_added, seated_gone}
 use Rattle.lobby_post.specs.Mail.{plain, parted}
-use Rattle.lobby_maps.specs.Changes.{CanBe, IsFresh, left_own, unasked_own}
-use Rattle.lobby_maps.specs.Seats.{Agree, IsListed, IsSet, seat_with, user_in, users_of, where_some, without_one}
-use Rattle.lobby_maps.proofs.Agreed.{agree_changed, agree_log_in, users_changed, users_added, no_seat, agree_parted, listed_log_in, listed_undone, listed_parted, users_left}
+use Rattle.lobby_maps.specs.Changes.{CanBe, IsFresh}
+use Rattle.lobby_battles.specs.Seats.{Agree, IsListed, IsSet, seat_with, user_in, users_of, where_some, without_one}
+use Rattle.lobby_battles.proofs.Agreed.{agree_changed, agree_log_in, users_changed, users_added, no_seat, agree_parted, listed_log_in, listed_undone, listed_parted, users_left}
 use Rattle.lobby_maps.proofs.Lists.{known_same, left_parted, left_same, waits_same}
 use Rattle.lobby_maps.proofs.change.apply.Goals as goal
 

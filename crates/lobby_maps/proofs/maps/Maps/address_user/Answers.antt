@@ -2,7 +2,7 @@ use Rattle.std.proofs.Common.{◌∙◌, ap, subst}
 use Rattle.lobby_model.specs.State.{State, name_of}
 use Rattle.lobby_model.specs.Outcome.{user}
 use Rattle.lobby_post.specs.Posted.{Sends}
-use Rattle.lobby_maps.specs.Seats.{IsOwn}
+use Rattle.lobby_maps.specs.Fit.{IsOwn}
 use Rattle.lobby_maps.proofs.Walks.{reaches_own, reaches_user}
 use Rattle.lobby_maps.proofs.Plain.{plainly}
 use Rattle.lobby_maps.proofs.maps.Maps.address_user.Goals as goal

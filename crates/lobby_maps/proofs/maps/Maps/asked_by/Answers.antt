@@ -3,9 +3,9 @@ use Rattle.std.specs.Prelude.{Some, None}
 use Rattle.std.proofs.lemmas.Option.{same_Some}
 use Rattle.line_words.specs.Table.{at_number}
 use Rattle.room_lists.specs.Room.{has_asker}
-use Rattle.lobby_maps.specs.Battles.{asks_at}
-use Rattle.lobby_maps.proofs.Base.{asking_there, own_found, own_none, own_nowhere, own_only}
-use Rattle.lobby_maps.proofs.Seated.{as_asker}
+use Rattle.lobby_battles.specs.Battles.{asks_at}
+use Rattle.lobby_battles.proofs.Base.{asking_there, own_found, own_none, own_nowhere, own_only}
+use Rattle.lobby_battles.proofs.Seated.{as_asker}
 use Rattle.lobby_maps.proofs.Sorted.{ordered_is_sorted}
 use Rattle.lobby_maps.proofs.maps.Maps.asked_by.Goals as goal
 

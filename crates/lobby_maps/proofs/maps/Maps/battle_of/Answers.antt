@@ -3,8 +3,8 @@ use Rattle.std.specs.Prelude.{Some, None}
 use Rattle.std.proofs.lemmas.Option.{same_Some}
 use Rattle.line_words.specs.Table.{at_number}
 use Rattle.room_lists.specs.Room.{has_member}
-use Rattle.lobby_maps.proofs.Base.{own_found, own_none, own_only}
-use Rattle.lobby_maps.proofs.Seated.{as_member}
+use Rattle.lobby_battles.proofs.Base.{own_found, own_none, own_only}
+use Rattle.lobby_battles.proofs.Seated.{as_member}
 use Rattle.lobby_maps.proofs.Sorted.{ordered_is_sorted}
 use Rattle.lobby_maps.proofs.maps.Maps.battle_of.Goals as goal
 

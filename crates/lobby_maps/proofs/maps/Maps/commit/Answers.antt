@@ -1,15 +1,16 @@
 use Rattle.std.proofs.Common.{◌≡◌, ◌≤◌, ◌∙◌, ap, sym, subst, arith}
 use Rattle.line_words.specs.Table.{ByName, ByNumber}
 use Rattle.lobby_model.specs.State.{State, Client, Battle}
-use Rattle.lobby_maps.specs.declared.seats.Seat.{Seat}
+use Rattle.lobby_battles.specs.declared.seats.Seat.{Seat}
 use Rattle.lobby_post.specs.Mail.{Crowd, plain, deliver, wakes_home}
 use Rattle.lobby_post.specs.Dirty.{Known, waits}
 use Rattle.lobby_maps.specs.Dirty.{DirtyAfter, lists_of, those_there}
 use Rattle.lobby_maps.specs.Changes.{CanBe, changed, clients_after, users_after}
-use Rattle.lobby_maps.specs.Seats.{Agree, IsListed, Numbered, users_of}
-use Rattle.lobby_maps.specs.Battles.{AreSeated}
+use Rattle.lobby_battles.specs.Seats.{Agree, IsListed, users_of}
+use Rattle.lobby_maps.specs.Fit.{Numbered}
+use Rattle.lobby_battles.specs.Battles.{AreSeated}
 use Rattle.lobby_maps.specs.Shown.{lobby_of}
-use Rattle.lobby_maps.proofs.Agreed.{numbered_after}
+use Rattle.lobby_maps.proofs.Numbered.{numbered_after}
 use Rattle.lobby_maps.proofs.Applied.{sent_so, woken_so}
 use Rattle.lobby_maps.proofs.Fitting.{fit_same, fit_delivered, counted_after}
 use Rattle.lobby_maps.proofs.Plain.{plainly, shown_same}

@@ -4,9 +4,11 @@ use Rattle.lobby_model.specs.State.{State, Client}
 use Rattle.lobby_model.specs.Sessions.{drained}
 use Rattle.lobby_model.proofs.Quiet.{next_drain}
 use Rattle.lobby_post.specs.Mail.{plain}
-use Rattle.lobby_maps.specs.Seats.{Agree, IsListed, Numbered, users_of}
+use Rattle.lobby_battles.specs.Seats.{Agree, IsListed, users_of}
+use Rattle.lobby_maps.specs.Fit.{Numbered}
 use Rattle.lobby_maps.specs.Shown.{lobby_of}
-use Rattle.lobby_maps.proofs.Agreed.{agree_kept, listed_kept, numbered_changed}
+use Rattle.lobby_battles.proofs.Agreed.{agree_kept, listed_kept}
+use Rattle.lobby_maps.proofs.Numbered.{numbered_changed}
 use Rattle.lobby_maps.proofs.Lists.{known_same, lists_same}
 use Rattle.lobby_maps.proofs.maps.Maps.drain.Goals as goal
 use Rattle.lobby_model.proofs.Users.{drain_names}

@@ -1,6 +1,6 @@
 use Rattle.std.proofs.Common.{◌∙◌, refl, sym, ap}
 use Rattle.lobby_model.specs.State.{State}
-use Rattle.lobby_maps.proofs.Users.{is_user_at}
+use Rattle.lobby_battles.proofs.Users.{is_user_at}
 use Rattle.lobby_maps.proofs.Plain.{plainly}
 use Rattle.lobby_maps.proofs.maps.Maps.has_user.Goals as goal
 

@@ -3,7 +3,7 @@ use Rattle.std.specs.Prelude.{IfNone}
 use Rattle.std.specs.Option.{option_to_list}
 use Rattle.line_words.specs.Table.{ByNumber}
 use Rattle.lobby_model.specs.State.{Client}
-use Rattle.lobby_maps.specs.Seats.{users_of}
+use Rattle.lobby_battles.specs.Seats.{users_of}
 use Rattle.lobby_maps.specs.Shown.{lobby_of}
 use Rattle.lobby_maps.proofs.Fitting.{fit_same}
 use Rattle.lobby_maps.proofs.Lists.{listed_as}

@@ -7,9 +7,11 @@ use Rattle.lobby_model.specs.Sessions.{greeted, greeting, has_place}
 use Rattle.lobby_model.specs.Next.{with_batch}
 use Rattle.lobby_model.proofs.Quiet.{next_open}
 use Rattle.lobby_post.specs.Mail.{plain}
-use Rattle.lobby_maps.specs.Seats.{Agree, IsListed, Numbered, users_of}
+use Rattle.lobby_battles.specs.Seats.{Agree, IsListed, users_of}
+use Rattle.lobby_maps.specs.Fit.{Numbered}
 use Rattle.lobby_maps.specs.Shown.{lobby_of}
-use Rattle.lobby_maps.proofs.Agreed.{agree_kept, listed_kept, name_opened, numbered_opened, phase_kept}
+use Rattle.lobby_battles.proofs.Agreed.{agree_kept, listed_kept}
+use Rattle.lobby_maps.proofs.Numbered.{name_opened, numbered_opened, phase_kept}
 use Rattle.lobby_maps.proofs.Sorted.{plain_sorted}
 use Rattle.lobby_maps.proofs.Plain.{plainly}
 use Rattle.lobby_maps.proofs.Lists.{listed_as}

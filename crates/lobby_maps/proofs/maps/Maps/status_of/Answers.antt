@@ -1,8 +1,8 @@
 use Rattle.std.proofs.Common.{◌∙◌, ap, sym}
 use Rattle.lobby_model.specs.State.{State, name_of}
 use Rattle.lobby_model.specs.Sessions.{status_in}
-use Rattle.lobby_maps.proofs.Agreed.{has_seat}
-use Rattle.lobby_maps.proofs.Users.{user_at}
+use Rattle.lobby_battles.proofs.Agreed.{has_seat}
+use Rattle.lobby_battles.proofs.Users.{user_at}
 use Rattle.lobby_maps.proofs.Plain.{plainly}
 use Rattle.lobby_maps.proofs.maps.Maps.status_of.Goals as goal
 

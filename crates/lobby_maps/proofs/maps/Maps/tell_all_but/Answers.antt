@@ -4,7 +4,7 @@ use Rattle.lobby_model.specs.State.{State}
 use Rattle.lobby_model.specs.Outcome.{tell, everyone_but}
 use Rattle.lobby_post.specs.Posted.{Told}
 use Rattle.lobby_post.proofs.Telling.{told_all}
-use Rattle.lobby_maps.proofs.Base.{reaches_all_but}
+use Rattle.lobby_maps.proofs.AllBut.{reaches_all_but}
 use Rattle.lobby_maps.proofs.Plain.{plainly}
 use Rattle.lobby_maps.proofs.maps.Maps.tell_all_but.Goals as goal
 

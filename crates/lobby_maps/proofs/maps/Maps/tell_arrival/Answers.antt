@@ -6,7 +6,7 @@ use Rattle.lobby_model.specs.Sessions.{added, arrival}
 use Rattle.reply_kinds.specs.declared.Reply.TheVariants as reply
 use Rattle.reply_kinds.specs.Replies.{printed_line}
 use Rattle.lobby_post.specs.Posted.{Told, telling, with_others}
-use Rattle.lobby_maps.specs.Seats.{user_in}
+use Rattle.lobby_battles.specs.Seats.{user_in}
 use Rattle.lobby_maps.proofs.Arrivals.{arrival_told, not_zero}
 use Rattle.lobby_maps.proofs.Walks.{reaches_everyone}
 use Rattle.lobby_maps.proofs.Plain.{plainly}

@@ -7,7 +7,7 @@ use Rattle.lobby_model.specs.Battles.{battle_lines}
 use Rattle.lobby_model.specs.Outcome.{tell, issuer}
 use Rattle.lobby_model.specs.Sessions.{burst}
 use Rattle.lobby_post.specs.Posted.{Told, with_own}
-use Rattle.lobby_maps.specs.Seats.{user_in}
+use Rattle.lobby_battles.specs.Seats.{user_in}
 use Rattle.lobby_maps.proofs.Bursts.{burst_told}
 use Rattle.lobby_maps.proofs.Plain.{plainly}
 use Rattle.lobby_maps.proofs.maps.Maps.tell_burst.Goals as goal

@@ -5,7 +5,7 @@ use Rattle.lobby_model.specs.State.{State}
 use Rattle.lobby_model.specs.Outcome.{tell, users}
 use Rattle.lobby_post.specs.Posted.{Told, addressed}
 use Rattle.lobby_post.proofs.Telling.{told_all}
-use Rattle.lobby_maps.specs.Seats.{clients_of}
+use Rattle.lobby_maps.specs.Fit.{clients_of}
 use Rattle.lobby_maps.proofs.Walks.{reaches_users}
 use Rattle.lobby_maps.proofs.Plain.{plainly}
 use Rattle.lobby_maps.proofs.maps.Maps.tell_room.Goals as goal

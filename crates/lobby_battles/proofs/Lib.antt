@@ -1,0 +1,4 @@
+pub mod Agreed
+pub mod Users
+pub mod Seated
+pub mod Base

@@ -1,0 +1,14 @@
+//! The battles of the lobby, and the seats of its users: who is logged in at which client, and in which
+//! battle each sits, or asks to.
+//!
+//! A change of the battles is a value, and is made in one call: what may be refused memory comes first, so
+//! that want of it changes nothing.
+#![tactic(auto)]
+
+mod battle;
+mod battles;
+mod seats;
+
+pub use battle::{Battle, NO_PASSWORD};
+pub use battles::{BattleChange, Battles, LAST_NUMBER, RoomChange};
+pub use seats::{Seat, Seats};

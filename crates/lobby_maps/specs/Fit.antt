@@ -1,0 +1,43 @@
+-- How the seats of users, the clients and the battles fit together, and at which clients users are.
+use Rattle.std.specs.Prelude.{◌≡◌, ℕ, ◌≤◌, Bool, true, false, not, filter, List, [], ◌∷◌, flat_map, Option, Some, None, is_some}
+use Rattle.line_words.specs.Table.{ByName, ByNumber, at_number, at_name, same_number}
+use Rattle.lobby_model.specs.State.{State, Client, Battle}
+use Rattle.lobby_model.specs.Outcome.{user}
+use Rattle.lobby_battles.specs.declared.seats.Seat.{Seat}
+use Rattle.lobby_battles.specs.Battles.{AreSeated}
+use Rattle.lobby_battles.specs.Seats.{Agree, IsListed, client_in}
+use Rattle.lobby_post.specs.Posted.{Posted, Reaches, addressed, has_number}
+use Rattle.lobby_post.specs.Dirty.{Known}
+use Rattle.lobby_post.specs.Mail.{Crowd, AreDue, plain}
+
+-- the clients at which the users of these names are
+abbrev pub clients_of : ByName Seat → List (List ℕ) → List ℕ
+clients_of seats names = flat_map (λ name. client_in (at_name seats name)) names
+
+abbrev pub is_some_number : Option ℕ → ℕ → Bool
+is_some_number None c = false
+is_some_number (Some d) c = same_number c d
+
+-- numbers that are none of these
+abbrev pub numbers_but : List ℕ → List ℕ → List ℕ
+numbers_but these numbers = filter (λ c. not (has_number these c)) numbers
+
+-- no client bears a number beyond the last that was given
+abbrev pub Numbered : ℕ → ByNumber Client → Type 0
+Numbered last clients = (c : ℕ) → is_some (at_number clients c) ≡ true → c ≤ last
+
+-- How the maps fit together: outboxes have one limit and wait for nothing, users and clients agree, numbers are given once, it is
+-- known who waits, and users sit in their battles, or where they ask
+pub record Fit (limit : ℕ) (clients : Crowd) (seats : ByName Seat) (numbers : List ℕ) (last : ℕ) (battles : ByNumber Battle) (last_battle : ℕ) : Type 0 where
+  pub limited : clients.limit ≡ limit
+  pub rest : AreDue [] clients.slots
+  pub agree : Agree (plain clients.slots) seats
+  pub listed : IsListed numbers (plain clients.slots)
+  pub numbered : Numbered last (plain clients.slots)
+  pub known : Known clients last
+  pub seated : AreSeated battles seats
+  pub counted : last_battle ≤ 2147483647
+
+-- the issuer alone, who is the user of a name, got the lines that were being told
+abbrev pub IsOwn : State → Posted → Posted → List ℕ → Type 0
+IsOwn s old new name = Reaches s old.issuer (old.issuer ∷ []) (user name) × (new ≡ addressed old (old.issuer ∷ []))
