@@ -2,7 +2,7 @@
 //! battle each sits, or asks to.
 //!
 //! A change of the battles is a value, and is made in one call: what may be refused memory comes first, so
-//! that want of it changes nothing.
+//! that want of it changes nothing. A log out makes its changes one by one, since they take no memory.
 #![tactic(auto)]
 
 mod battle;
