@@ -1,3 +1,4 @@
+use Rattle.std.proofs.lemmas.Grind.{common_steps}
 use Rattle.std.proofs.Common.{sym, subst, arith}
 use Rattle.lobby_model.specs.declared.schedule.Step.TheVariants as step
 use Rattle.lobby_hall.specs.Copied.{completed}
@@ -26,3 +27,21 @@ invariant_of-self-in-Ok-open c =
     c.max-self-inside.result c.in-Ok-open.field-0 c.open.new.self c.in-Ok-open.ensures.ok.0 c.in-Ok-open.ensures.ok.1
     (omega (arith, c.max-self-inside.ensures)) (omega (arith, c.max-self-inside.ensures)) (omega (arith, c.max-self-inside.ensures, c.self.invariant.few, c.requires))
     c.in-Ok-open.ensures.number c.in-Ok-open.ensures.dirty)
+
+pub returns-in_err-begin-clause-ok : goal.returns-in_err-begin-clause-ok
+returns-in_err-begin-clause-ok c = grind (arith, common_steps)
+
+pub returns-in_err-begin-clause-err : goal.returns-in_err-begin-clause-err
+returns-in_err-begin-clause-err c = grind (arith, common_steps)
+
+pub invariant_of-self-in-Err : goal.invariant_of-self-in-Err
+invariant_of-self-in-Err c = grind (arith, common_steps)
+
+pub returns-in-Err-clause-err : goal.returns-in-Err-clause-err
+returns-in-Err-clause-err c = grind (arith, common_steps)
+
+pub invariant_of-self-in-Err-open : goal.invariant_of-self-in-Err-open
+invariant_of-self-in-Err-open c = grind (arith, common_steps)
+
+pub returns-in-Err-open-clause-err : goal.returns-in-Err-open-clause-err
+returns-in-Err-open-clause-err c = grind (arith, common_steps)
