@@ -1,5 +1,3 @@
-pub mod Account
 pub mod Book
-pub mod Fields
 pub mod File
 pub mod Password

@@ -1,16 +1,12 @@
-//! The accounts of a lobby: their fields, the file that lists them, and the check of a login.
+//! The accounts of a lobby by their names, the file that lists them, and the check of a login.
 #![tactic(auto)]
 
-mod account;
 mod book;
 mod error;
-mod fields;
 mod file;
-mod listing;
 mod password;
-mod profile;
 
-pub use account::Account;
+pub use account_entries::{Account, AccountsError};
 pub use book::AccountBook;
-pub use error::{AccountsError, LoginFault};
+pub use error::LoginFault;
 pub use password::password_word;

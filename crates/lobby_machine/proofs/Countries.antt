@@ -6,7 +6,7 @@ use Rattle.std.specs.Str.{bytes_eq}
 use Rattle.std.specs.Char.{is_ascii_uppercase}
 use Rattle.std.proofs.lemmas.Slice.Eq.{bytes_eq-Decides}
 use Rattle.std.proofs.lemmas.Bool.{and_parts, and_from}
-use Rattle.account_book.specs.Account.{is_country}
+use Rattle.account_entries.specs.Account.{is_country}
 use Rattle.line_words.specs.Bytes.{is_word, is_word_byte}
 use Rattle.line_words.proofs.WordLemmas.{upper_case_in_word}
 

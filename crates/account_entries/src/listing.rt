@@ -5,7 +5,9 @@ use crate::account::Account;
 /// An account of a file, and whether it is disabled: a disabled one is in the file and not in the
 /// book.
 #[derive(Drop)]
-pub(crate) struct Listing {
-    pub(crate) account: Account,
-    pub(crate) disabled: bool,
+pub struct Listing {
+    /// The account, disabled or not.
+    pub account: Account,
+    /// Whether it is disabled.
+    pub disabled: bool,
 }

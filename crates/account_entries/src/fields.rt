@@ -2,8 +2,8 @@
 
 ghost use Rattle.std.specs.Prelude.{◌≡◌, IfOk};
 ghost use Rattle.toml.specs.View.{view, table_view};
-ghost use Rattle.account_book.specs.File.{profile_of, default_of, disabled_of, contents_of, fields_of, described};
-ghost use Rattle.account_book.specs.Fields.{shown, shown_profile, contents_shown, stated_of};
+ghost use Rattle.account_entries.specs.Entries.{profile_of, default_of, disabled_of, contents_of, fields_of, described};
+ghost use Rattle.account_entries.specs.Fields.{shown, shown_profile, contents_shown, stated_of};
 
 use crate::account::{Account, is_country};
 use crate::error::AccountsError;
@@ -61,14 +61,17 @@ fn disabled_of(table: &Table, format: u32) -> Result<bool, FieldFault>
 
 /// What a file says: its format, the profile for what its accounts leave out, and their list.
 #[derive(Drop)]
-pub(crate) struct Contents<'a> {
-    pub(crate) format: u32,
-    pub(crate) default: Profile<'a>,
-    pub(crate) entries: &'a [Value],
+pub struct Contents<'a> {
+    /// The format of the file, 1 or 2.
+    pub format: u32,
+    /// What its accounts have that leave something out.
+    pub default: Profile<'a>,
+    /// The list of its accounts, an entry each.
+    pub entries: &'a [Value],
 }
 
 /// What the table of a file says, where the keys that are for the whole file have good values.
-pub(crate) fn contents_of(table: &Table) -> Result<Contents<'_>, FieldFault>
+pub fn contents_of(table: &Table) -> Result<Contents<'_>, FieldFault>
     ensures { contents_shown result ≡ contents_of (table_view table.now) }
 {
     let format = number_or(table, "format", 1, SECOND_FORMAT, 1)?;
@@ -101,7 +104,7 @@ fn fields_of<'a>(table: &'a Table, default: Profile<'a>) -> Result<Fields<'a>, F
 }
 
 /// What an entry of the list describes, or `None` where it is bad.
-pub(crate) fn described(
+pub fn described(
     alloc: Global,
     format: u32,
     default: Profile<'_>,

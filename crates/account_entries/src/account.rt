@@ -2,7 +2,7 @@
 
 ghost use Rattle.std.specs.Prelude.{◌≡◌, ◌≢◌, ◌↔◌, ◌<◌, true, false, IfOk, IfErr};
 ghost use Rattle.line_words.specs.Bytes.{is_name};
-ghost use Rattle.account_book.specs.Account.{IsHeld, is_password_word, is_country, is_sound, stated};
+ghost use Rattle.account_entries.specs.Account.{IsHeld, is_password_word, is_country, is_sound, stated};
 
 use crate::error::AccountsError;
 use base64::engine::general_purpose::STANDARD;
@@ -27,7 +27,7 @@ pub struct Account {
 
 impl Model for Account {
     ghost use Rattle.std.specs.Prelude.{◌≡◌, true};
-    ghost use Rattle.account_book.specs.Account.{Account as Seen, stated, is_sound};
+    ghost use Rattle.account_entries.specs.Account.{Account as Seen, stated, is_sound};
 
     ghost Value = { Seen };
 
@@ -40,7 +40,7 @@ impl Model for Account {
 
 impl Account {
     /// An account of these fields: a name of 1 to 20 letters, digits, `_`, `[` and `]`; a password
-    /// word, 24 bytes (see [`crate::password_word`]); a number of 32 bits; a rank of 0 to 7; whether its
+    /// word, the base64 text of 16 bytes; a number of 32 bits; a rank of 0 to 7; whether its
     /// owner is a moderator (`access`); whether it is a program's (`bot`); a country of two upper-case
     /// letters, or `??`.
     ///
