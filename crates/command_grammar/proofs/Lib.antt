@@ -1,12 +1,4 @@
-pub mod Cuts
-pub mod Numerals
-pub mod Settles
-pub mod Sequences
-pub mod Tables
 pub mod Lines
 pub mod Whole
-pub mod Slices
-pub mod Checks
 pub mod Examples
-pub mod Taken
 pub mod Bounds

@@ -1,8 +1,2 @@
-pub mod Table
-pub mod Arguments
-pub mod Forms
-pub mod Owning
 pub mod Reads
 pub mod Reading
-pub mod Kinds
-pub mod Sizes

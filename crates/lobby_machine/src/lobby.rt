@@ -1,7 +1,7 @@
 //! The lobby and its events.
 
 ghost use Rattle.std.specs.Prelude.{◌≡◌, ℕ, ◌-◌, ◌^◌, ◌<◌, ◌≤◌, ◌↔◌, [], ◌++◌, length, take, drop, min, OnOk, OnErr, IfNone, IfOk, IsTrue, false, is_some};
-ghost use Rattle.command_grammar.specs.Kinds.{keeps_kinds};
+ghost use Rattle.command_forms.specs.Kinds.{keeps_kinds};
 ghost use Rattle.line_words.specs.Table.{at_number};
 ghost use Rattle.lobby_model.specs.declared.event.Event.TheVariants as event;
 ghost use Rattle.lobby_model.specs.State.{empty_lobby};

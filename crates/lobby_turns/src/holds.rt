@@ -3,7 +3,7 @@
 //! waits for the lobby waits for no more of them.
 
 ghost use Rattle.std.specs.Prelude.{◌≡◌, ◌+◌, ◌<◌, ◌≤◌, [], length, OnErr, IfOk, IfSome, IsTrue, Some, None, false};
-ghost use Rattle.command_grammar.specs.Kinds.{keeps_kinds};
+ghost use Rattle.command_forms.specs.Kinds.{keeps_kinds};
 ghost use Rattle.lobby_model.specs.declared.event.Event.TheVariants as event;
 ghost use Rattle.lobby_lock.specs.Passes.{pass_after};
 ghost use Rattle.client_session.specs.declared.session.Next.TheVariants.{Line};
