@@ -143,24 +143,30 @@ impl<M: Copy> ChannelBook<M> {
         }
     }
 
+    /// The members of a channel in order of joining, and their marks; nobody, where there is none of that
+    /// name. No contract speaks of the marks.
+    pub fn roster(&self, channel: &NameBuf) -> (&[NameBuf], &[M])
+        ensures names { result.0.now ≡ names_in self.now channel.now }
+        ensures distinct { IsDistinct same_name result.0.now }
+    {
+        match self.lists.get(channel) {
+            Some(members) => (members.as_slice(), members.marks()),
+            None => (&[], &[]),
+        }
+    }
+
     /// The members of a channel in order of joining; nobody, where there is none of that name.
     pub fn names_in(&self, channel: &NameBuf) -> &[NameBuf]
         ensures names { result.now ≡ names_in self.now channel.now }
         ensures distinct { IsDistinct same_name result.now }
     {
-        match self.lists.get(channel) {
-            Some(members) => members.as_slice(),
-            None => &[],
-        }
+        self.roster(channel).0
     }
 
     /// The marks of the members of a channel, in the order of joining; none, where there is none of that name.
     /// No contract speaks of them.
     pub fn marks_in(&self, channel: &NameBuf) -> &[M] {
-        match self.lists.get(channel) {
-            Some(members) => members.marks(),
-            None => &[],
-        }
+        self.roster(channel).1
     }
 
     /// The members of a channel; None where there is none of that name.

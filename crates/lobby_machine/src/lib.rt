@@ -10,4 +10,5 @@ mod lobby;
 mod rules;
 
 pub use lobby::{Lobby, OpenError};
-pub use lobby_post::{Drained, Wakes};
+pub use lobby_clients::Drained;
+pub use lobby_post::Wakes;

@@ -8,9 +8,9 @@ use Rattle.lobby_model.specs.State.{State, Client}
 use Rattle.lobby_model.specs.Events.{effect}
 use Rattle.lobby_model.specs.Next.{batch, next}
 use Rattle.lobby_model.specs.Touched.{is_touched}
-use Rattle.lobby_post.specs.Mail.{Crowd}
+use Rattle.lobby_clients.specs.Crowd.{Crowd, for_homes, waits}
 use Rattle.lobby_post.specs.Posted.{has_number}
-use Rattle.lobby_post.specs.Dirty.{for_homes, times, waits}
+use Rattle.lobby_post.specs.Dirty.{times}
 
 -- those of a list that are there
 abbrev pub those_there : ByNumber Client → List ℕ → List ℕ

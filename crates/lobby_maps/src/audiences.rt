@@ -22,7 +22,8 @@ use crate::maps::Maps;
 use battle_room::{Asker, Member, Room};
 use line_words::NameBuf;
 use lobby_battles::Seats;
-use lobby_post::{ClientKey, Clients, Post};
+use lobby_clients::Clients;
+use lobby_post::{ClientKey, Post};
 use reply_grammar::LentReply;
 use std::alloc::AllocError;
 

@@ -19,8 +19,9 @@ use account_book::AccountBook;
 use channel_book::ChannelBook;
 use line_words::NameBuf;
 use lobby_battles::{Battle, Battles, Seats};
+use lobby_clients::{Clients, Drained};
 use lobby_model::Settings;
-use lobby_post::{ClientKey, Clients, Drained, Post, Wakes};
+use lobby_post::{ClientKey, Post, Wakes};
 use std::alloc::{AllocError, Global};
 use std::marker::Model;
 
@@ -147,7 +148,7 @@ impl Maps {
         ensures dirty { OnOk result (OfEvent self.old.plain client change post.old (λ e. ListsTouched self.old self.new e)) }
         ensures err { OnErr result (self.new ≡ self.old) }
     {
-        match post.reserve(&mut self.clients) {
+        match self.clients.reserve(post) {
             Ok(()) => {}
             Err(refused) => {
                 drop(change);
@@ -163,9 +164,9 @@ impl Maps {
             change,
         );
         match done {
-            Ok(()) => Ok(post.deliver(&mut self.clients)),
+            Ok(()) => Ok(self.clients.deliver(post)),
             Err(refused) => {
-                post.cancel(&mut self.clients);
+                self.clients.cancel(post);
                 Err(refused)
             }
         }

@@ -1,6 +1,6 @@
--- The marks of all clients, before and after one of them is written, inserted or removed.
+-- The marks of all clients, before and after one of them is written.
 use Rattle.std.proofs.Common.{◌≡◌, ℕ, List, ◌++◌, [], refl, sym, ap, ◌∙◌, true, false, cond}
-use Rattle.std.specs.Prelude.{Some, None, not, ◌&&◌, if◌then◌else◌}
+use Rattle.std.specs.Prelude.{Some, if◌then◌else◌}
 use Rattle.std.specs.Option.{option_map}
 use Rattle.std.specs.Ordering.{nat_cmp}
 use Rattle.std.specs.BTreeMap.{is_at}
@@ -14,12 +14,9 @@ use Rattle.lobby_post.specs.Mail.{Held}
 use Rattle.lobby_post.specs.Dirty.{Mark, is_of, mark_of, marks_of, stands}
 use Rattle.lobby_post.proofs.Crowds.{IsWritten}
 
--- what look-ups say of marks where one was put at c, and where the one at c was taken
+-- what look-ups say of marks where one was put at c
 abbrev pub IsPut : ℕ → Mark → ByNumber Mark → ByNumber Mark → Type 0
 IsPut c mark old new = (q : ℕ) → lookup (is_at (nat_cmp q)) new ≡ cond (same_number c q) (Some mark) (lookup (is_at (nat_cmp q)) old)
-
-abbrev pub IsTaken : ℕ → ByNumber Mark → ByNumber Mark → Type 0
-IsTaken c old new = (q : ℕ) → lookup (is_at (nat_cmp q)) new ≡ cond (same_number c q) None (lookup (is_at (nat_cmp q)) old)
 
 pub marks_put : (c : ℕ) (w : Held) (es fs : ByNumber Held) → IsWritten c w es fs → IsPut c (mark_of w) (marks_of es) (marks_of fs)
 marks_put c w es fs written = λ q.
@@ -29,36 +26,6 @@ marks_put c w es fs written = λ q.
       | true ↦ refl
       | false ↦ sym (lookup-map_values mark_of (is_at (nat_cmp q)) es)
     ]
-
-pub marks_taken : (c : ℕ) (es fs : ByNumber Held)
-    → ((q : ℕ) → lookup (is_at (nat_cmp q)) fs ≡ cond (is_at (nat_cmp c) q) None (lookup (is_at (nat_cmp q)) es))
-    → IsTaken c (marks_of es) (marks_of fs)
-marks_taken c es fs removed = λ q.
-    lookup-map_values mark_of (is_at (nat_cmp q)) fs ∙ ap (option_map mark_of) (removed q)
-    ∙ elim (same_number c q) as (λ b. option_map mark_of (cond b None (lookup (is_at (nat_cmp q)) es))
-    ≡ cond b None (lookup (is_at (nat_cmp q)) (marks_of es))) [
-      | true ↦ refl
-      | false ↦ sym (lookup-map_values mark_of (is_at (nat_cmp q)) es)
-    ]
-
--- a look-up among the slots, by one among the marks
-pub unmarked : (c : ℕ) (es : ByNumber Held) → lookup (is_at (nat_cmp c)) (marks_of es) ≡ None → lookup (is_at (nat_cmp c)) es ≡ None
-unmarked c es none =
-    elim (lookup (is_at (nat_cmp c)) es) as (λ o. option_map mark_of o ≡ None → o ≡ None) [
-      | None ↦ λ n. refl
-      | Some x ↦ λ n. absurd (cc)
-    ] (sym (lookup-map_values mark_of (is_at (nat_cmp c)) es) ∙ none)
-
-pub marked : (c : ℕ) (es : ByNumber Held) (x : Held) → lookup (is_at (nat_cmp c)) es ≡ Some x → lookup (is_at (nat_cmp c)) (marks_of es) ≡ Some (mark_of x)
-marked c es x found = lookup-map_values mark_of (is_at (nat_cmp c)) es ∙ ap (option_map mark_of) found
-
--- the slot of a client that is there and this worker's
-pub stands_slot : (home c : ℕ) (es : ByNumber Held) → stands (marks_of es) home c ≡ true → (x : Held) × (lookup (is_at (nat_cmp c)) es ≡ Some x)
-stands_slot home c es passes =
-    elim (lookup (is_at (nat_cmp c)) es) as (λ o. is_of home (option_map mark_of o) ≡ true → (x : Held) × (o ≡ Some x)) [
-      | None ↦ λ t. absurd (cc)
-      | Some x ↦ λ t. (x, refl)
-    ] (sym (ap (is_of home) (lookup-map_values mark_of (is_at (nat_cmp c)) es)) ∙ passes)
 
 -- bytes that are put leave the worker as it was
 pub with_batch-home : (limit : ℕ) (bytes : List ℕ) (client : Client) → (with_batch limit bytes client).home ≡ client.home
@@ -76,12 +43,6 @@ module _ (c : ℕ) (old new : ByNumber Mark) (h : ℕ) where
       ap (is_of h) (put q)
       ∙ elim (same_number c q) as (λ b. is_of h (cond b (Some mark) (lookup (is_at (nat_cmp q)) old))
       ≡ cond b (same_number mark.home h) (is_of h (lookup (is_at (nat_cmp q)) old))) [ true ↦ refl | false ↦ refl ]
-
-  pub stands_taken : IsTaken c old new → (q : ℕ) → stands new h q ≡ (not (same_number c q) && stands old h q)
-  stands_taken taken q =
-      ap (is_of h) (taken q)
-      ∙ elim (same_number c q) as (λ b. is_of h (cond b None (lookup (is_at (nat_cmp q)) old))
-      ≡ (not b && is_of h (lookup (is_at (nat_cmp q)) old))) [ true ↦ refl | false ↦ refl ]
 
   -- a mark put in place of one of the same worker
   pub stands_same : (mark put : Mark) → lookup (is_at (nat_cmp c)) old ≡ Some mark → put.home ≡ mark.home → IsPut c put old new

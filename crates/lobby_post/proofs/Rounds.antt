@@ -19,7 +19,7 @@ use Rattle.lobby_post.specs.Dues.{due_and, due_but, shares_of, Covers}
 use Rattle.lobby_post.specs.Pieces.{LiesIn, bytes_of, pieces_of}
 use Rattle.lobby_post.specs.Mail.{Held, plain, bytes_for, due_for, deliver, wakes_one, wakes_home, HaveLimit, PutsFirst, AreDue, IsReady, AreReady}
 use Rattle.lobby_post.proofs.Crowds.{IsWritten, all_written, all_past}
-use Rattle.lobby_post.proofs.Dues.{copied_within, due_covers, due_grown, due_left, due_other, due_same}
+use Rattle.lobby_post.proofs.Dues.{shared_within, due_covers, due_grown, due_left, due_other, due_same}
 use Rattle.lobby_post.proofs.Parcels.{deliver_step, deliver_past, deliver_nil, touched_alike, wakes_step, wakes_past, wakes_nil}
 
 abbrev pub blank : Piece
@@ -70,10 +70,10 @@ module _ (c : ℕ) (bytes : List ℕ) (rest : ByNumber (List ℕ)) where
       → Covers x.due (length bytes)
   due_here x es found due = subst (λ d. Covers d (length bytes)) (sym (due c x (sym found))) (due_covers c bytes rest)
 
--- fewer bytes are copied than are due
-pub copied_few : (pieces : ByNumber (List ℕ)) (c : ℕ) (x : Held) (es : ByNumber Held) → Some x ≡ lookup (is_at (nat_cmp c)) es → AreDue pieces es
-    → x.due.copied ≤ x.due.bytes
-copied_few pieces c x es found due = subst (λ (d : Due). d.copied ≤ d.bytes) (sym (due c x (sym found))) (copied_within pieces c)
+-- no more bytes are shared than are due
+pub shared_few : (pieces : ByNumber (List ℕ)) (c : ℕ) (x : Held) (es : ByNumber Held) → Some x ≡ lookup (is_at (nat_cmp c)) es → AreDue pieces es
+    → x.due.shared_bytes ≤ x.due.bytes
+shared_few pieces c x es found due = subst (λ (d : Due). d.shared_bytes ≤ d.bytes) (sym (due c x (sym found))) (shared_within pieces c)
 
 -- one more piece
 module _ (c : ℕ) (bytes : List ℕ) (done : ByNumber (List ℕ)) where

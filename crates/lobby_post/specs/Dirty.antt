@@ -1,5 +1,5 @@
 -- Which clients were touched and wait to be looked after.
-use Rattle.std.specs.Prelude.{◌≡◌, ℕ, zero, suc, ◌+◌, ◌-◌, ◌≤◌, ◌<◌, Bool, true, false, not, ◌&&◌, nat_le, if◌then◌else◌, List, [], ◌∷◌, ◌++◌, filter, length, slice_index_or, IfSome, IfNone, Option, Some, None}
+use Rattle.std.specs.Prelude.{◌≡◌, ℕ, ◌+◌, ◌-◌, ◌≤◌, ◌<◌, Bool, true, false, not, ◌&&◌, nat_le, if◌then◌else◌, List, [], ◌∷◌, ◌++◌, filter, length, slice_index_or, IfSome, IfNone, Option, Some, None}
 use Rattle.std.specs.List.Sorted.{IsSorted, IsPermutation}
 use Rattle.std.specs.Option.{option_to_list}
 use Rattle.std.specs.Ordering.{nat_cmp}
@@ -7,7 +7,7 @@ use Rattle.std.specs.BTreeMap.{is_at}
 use Rattle.std.specs.Map.{lookup}
 use Rattle.line_words.specs.Table.{ByNumber, map_values, same_number}
 use Rattle.lobby_model.specs.Touched.{is_touched}
-use Rattle.lobby_post.specs.Mail.{Held, Line, Crowd, bytes_for}
+use Rattle.lobby_post.specs.Mail.{Held, Line, bytes_for}
 
 -- a line, and for how many more clients there is room in it
 pub record Roomy : Type 0 where
@@ -109,18 +109,6 @@ pub record AreKnown (marks : ByNumber Mark) (lines : ℕ → Line) (last : ℕ) 
   pub numbered : AllMarks (λ c mark. c ≤ last) marks
   pub past : (home c : ℕ) → home < 64 → 0 < times c (lines home).waiting → c ≤ last
 
--- a thing for each of the first n workers
-abbrev pub for_homes : {X : Type 0} → ℕ → (ℕ → X) → List X
-for_homes zero f = []
-for_homes (suc n) f = for_homes n f ++ f n ∷ []
-
--- the lines of the 64 workers, and the line of one
-unfoldable pub lines_of : List Roomy → List Line
-lines_of lists = for_homes 64 (line_of lists)
-
-abbrev pub line_at : List Line → ℕ → Line
-line_at lines home = slice_index_or lines home none_waits
-
 -- 1 for a client of a worker that these pieces touch and that does not wait yet, else 0
 abbrev pub news_of : ByNumber (List ℕ) → ℕ → ℕ → Option Held → ℕ
 news_of pieces home c None = 0
@@ -135,15 +123,3 @@ pub record IsNewly (pieces : ByNumber (List ℕ)) (slots : ByNumber Held) (home 
   pub waiting : new ≡ old ++ behind
   pub rising : IsSorted nat_cmp behind
   pub exact : (c : ℕ) → times c behind ≡ news pieces slots home c
-
--- the same of all clients
-abbrev pub Known : Crowd → ℕ → Type 0
-Known crowd last = AreKnown (marks_of crowd.slots) (line_at crowd.lines) last
-
--- the clients of a worker that wait and are there
-abbrev pub waits : Crowd → ℕ → List ℕ
-waits crowd home = filter (stands (marks_of crowd.slots) home) (line_at crowd.lines home).waiting
-
--- those of a list but this one
-abbrev pub all_but_client : ℕ → List ℕ → List ℕ
-all_but_client client clients = filter (λ c. not (same_number client c)) clients

@@ -7,26 +7,30 @@ use Rattle.lobby_post.specs.declared.due.Due.{Due}
 abbrev pub is_long : ℕ → Bool
 is_long n = nat_le 2048 n
 
--- how many bytes of it are copied, and how many pieces it is that are shared
-abbrev pub copied_in : ℕ → ℕ
-copied_in n = if is_long n then 0 else n
+-- how many bytes of it are shared, and how many pieces it is that are shared
+abbrev pub shared_bytes_in : ℕ → ℕ
+shared_bytes_in n = if is_long n then n else 0
 
-abbrev pub shared_in : ℕ → ℕ
-shared_in n = if is_long n then 1 else 0
+abbrev pub shared_pieces_in : ℕ → ℕ
+shared_pieces_in n = if is_long n then 1 else 0
 
 abbrev pub nothing_due : Due
-nothing_due = record { bytes = 0; copied = 0; shared = 0 }
+nothing_due = record { bytes = 0; shared_bytes = 0; shared_pieces = 0 }
 
 -- with a piece of so many bytes more, and without it
 abbrev pub due_and : Due → ℕ → Due
-due_and due n = record { bytes = due.bytes + n; copied = due.copied + copied_in n; shared = due.shared + shared_in n }
+due_and due n = record { bytes = due.bytes + n; shared_bytes = due.shared_bytes + shared_bytes_in n; shared_pieces = due.shared_pieces + shared_pieces_in n }
 
 abbrev pub due_but : Due → ℕ → Due
-due_but due n = record { bytes = due.bytes - n; copied = due.copied - copied_in n; shared = due.shared - shared_in n }
+due_but due n = record { bytes = due.bytes - n; shared_bytes = due.shared_bytes - shared_bytes_in n; shared_pieces = due.shared_pieces - shared_pieces_in n }
 
--- a piece of so many bytes is part of what is due
+-- how many bytes of what is due are copied
+abbrev pub copied : Due → ℕ
+copied due = due.bytes - due.shared_bytes
+
+-- a piece of so many bytes is part of what is due, of the bytes that are copied or of the pieces that are shared
 abbrev pub Covers : Due → ℕ → Type 0
-Covers due n = (n ≤ due.bytes) × (copied_in n ≤ due.copied) × (shared_in n ≤ due.shared)
+Covers due n = (n + due.shared_bytes ≤ due.bytes + shared_bytes_in n) × (shared_bytes_in n ≤ due.shared_bytes) × (shared_pieces_in n ≤ due.shared_pieces)
 
 -- of pieces for clients, those of client d: a count of each by its length, in sum
 abbrev pub count_for : (ℕ → ℕ) → ByNumber (List ℕ) → ℕ → ℕ

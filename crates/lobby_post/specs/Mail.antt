@@ -6,7 +6,7 @@ use Rattle.std.specs.Ordering.{nat_cmp}
 use Rattle.std.specs.BTreeMap.{is_at}
 use Rattle.line_words.specs.Table.{ByNumber, map_values, without_number, same_number}
 use Rattle.lobby_post.specs.declared.due.Due.{Due}
-use Rattle.lobby_post.specs.Dues.{copied_in, shared_in, count_for}
+use Rattle.lobby_post.specs.Dues.{copied, shared_bytes_in, shared_pieces_in, count_for}
 use Rattle.lobby_post.specs.Mask.{has_home}
 use Rattle.lobby_model.specs.declared.event.Event.{Event}
 use Rattle.lobby_model.specs.declared.event.Phase.TheVariants.{Ended}
@@ -31,12 +31,6 @@ pub record Line : Type 0 where
   pub fresh : List ℕ
   pub idle : ℕ
 
--- All clients by their numbers, the limit that each outbox has, and the lines of the 64 workers
-pub record Crowd : Type 0 where
-  pub limit : ℕ
-  pub slots : ByNumber Held
-  pub lines : List Line
-
 -- the clients alone
 abbrev pub plain : ByNumber Held → ByNumber Client
 plain m = map_values (λ c held. held.client) m
@@ -53,7 +47,7 @@ bytes_for (p ∷ pieces) d = if same_number d p.0 then p.1 ++ bytes_for pieces d
 
 -- what is due to client d of these pieces
 abbrev pub due_for : ByNumber (List ℕ) → ℕ → Due
-due_for pieces d = record { bytes = length (bytes_for pieces d); copied = count_for copied_in pieces d; shared = count_for shared_in pieces d }
+due_for pieces d = record { bytes = length (bytes_for pieces d); shared_bytes = count_for shared_bytes_in pieces d; shared_pieces = count_for shared_pieces_in pieces d }
 
 -- the clients with all their pieces put, or cut
 abbrev pub deliver : ℕ → ByNumber (List ℕ) → ByNumber Client → ByNumber Client
@@ -93,7 +87,7 @@ AreDue pieces = AllSlots (λ q held. held.due ≡ due_for pieces q)
 -- what is due can be put without memory
 abbrev pub IsReady : Held → Type 0
 IsReady held = is_live held.client ≡ true → length held.client.unread + held.due.bytes ≤ held.limit
-    → (held.due.copied ≤ held.spare) × (held.due.shared ≤ held.spare_pieces)
+    → (copied held.due ≤ held.spare) × (held.due.shared_pieces ≤ held.spare_pieces)
 
 -- the same of all clients
 abbrev pub AreReady : ByNumber Held → Type 0

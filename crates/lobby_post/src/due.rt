@@ -1,19 +1,20 @@
 //! What is still to be put to a client of the event at hand.
 
 ghost use Rattle.std.specs.Prelude.{◌≡◌, ◌≤◌, IfSome};
-ghost use Rattle.lobby_post.specs.Dues.{nothing_due, due_and, due_but, Covers};
+ghost use Rattle.lobby_post.specs.Dues.{nothing_due, due_and, due_but, copied, Covers};
 
 use crate::shares::SHARED_FROM;
 
-/// What is due to a client.
+/// What is due to a client. It is small, since each client has one and a line to many changes it twice
+/// in each of theirs: of a short piece, its first word.
 #[derive(Clone, Copy)]
 pub struct Due {
     /// How many bytes, copied and shared ones.
     pub bytes: usize,
-    /// How many of them are copied.
-    pub copied: usize,
+    /// How many of them are shared.
+    pub shared_bytes: u32,
     /// How many pieces are shared.
-    pub shared: usize,
+    pub shared_pieces: u32,
 }
 
 impl Due {
@@ -23,31 +24,35 @@ impl Due {
     {
         Due {
             bytes: 0,
-            copied: 0,
-            shared: 0,
+            shared_bytes: 0,
+            shared_pieces: 0,
         }
     }
 
-    /// The same with a piece of so many bytes. `None` where they are more than can be counted.
+    /// How many bytes are copied.
+    #[inline(always)]
+    pub fn copied(self) -> usize
+        requires { self.shared_bytes ≤ self.bytes }
+        ensures { result ≡ copied self }
+    {
+        self.bytes - self.shared_bytes as usize
+    }
+
+    /// The same with a piece of so many bytes. `None` where they are more than can be counted: 2^64
+    /// bytes, or 2^32 shared ones.
     #[inline(always)]
     pub fn and(self, more: usize) -> Option<Due>
-        requires { self.copied ≤ self.bytes }
         ensures { IfSome result (λ due. due ≡ due_and self more) }
     {
         let bytes = self.bytes.checked_add(more)?;
         if more < SHARED_FROM {
-            Some(Due {
-                bytes,
-                copied: self.copied + more,
-                shared: self.shared,
-            })
-        } else {
-            Some(Due {
-                bytes,
-                copied: self.copied,
-                shared: self.shared.checked_add(1)?,
-            })
+            return Some(Due { bytes, ..self });
         }
+        Some(Due {
+            bytes,
+            shared_bytes: self.shared_bytes.checked_add(u32::try_from(more).ok()?)?,
+            shared_pieces: self.shared_pieces.checked_add(1)?,
+        })
     }
 
     /// The same without a piece of so many bytes, which is part of it.
@@ -56,18 +61,14 @@ impl Due {
         requires { Covers self less }
         ensures { result ≡ due_but self less }
     {
+        let bytes = self.bytes - less;
         if less < SHARED_FROM {
-            Due {
-                bytes: self.bytes - less,
-                copied: self.copied - less,
-                shared: self.shared,
-            }
-        } else {
-            Due {
-                bytes: self.bytes - less,
-                copied: self.copied,
-                shared: self.shared - 1,
-            }
+            return Due { bytes, ..self };
+        }
+        Due {
+            bytes,
+            shared_bytes: self.shared_bytes - less as u32,
+            shared_pieces: self.shared_pieces - 1,
         }
     }
 }

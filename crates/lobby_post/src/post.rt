@@ -4,17 +4,19 @@ ghost use Rattle.std.specs.Prelude.{◌≡◌, ℕ, ◌<◌, ◌≤◌, [], ◌�
 ghost use Rattle.reply_kinds.specs.Replies.{printed_line};
 ghost use Rattle.reply_kinds.specs.Lent.{reply_of};
 ghost use Rattle.lobby_post.specs.Mask.{has_home};
-ghost use Rattle.lobby_post.specs.Mail.{AreDue, AreReady, plain, deliver, wakes_home};
-ghost use Rattle.lobby_post.specs.Dirty.{marks_of, waits, IsNewly, Known};
+ghost use Rattle.lobby_post.specs.Mail.{AreDue, AreReady, HaveLimit, plain, deliver, wakes_home};
+ghost use Rattle.lobby_post.specs.Dirty.{line_of, marks_of, stands, AreKnown, IsNewly};
 ghost use Rattle.lobby_post.specs.Posted.{begun, blank, telling, with_own, with_others, copy_to, addressed, Told};
 ghost use Rattle.lobby_model.specs.State.{State};
 ghost use Rattle.lobby_model.specs.Outcome.{tell, issuer};
 
-use crate::clients::Clients;
+use crate::buffer_pool::BufferPool;
 use crate::delivery;
 use crate::delivery::Piece;
+use crate::dirty::DirtyLists;
 use crate::key::ClientKey;
-use crate::shares::{add_share, add_share_of_line};
+use crate::shares::{add_share, add_share_of_line, forget_line};
+use crate::slots::Slots;
 use crate::wakes::Wakes;
 use bytes::Bytes;
 use reply_grammar::{LentReply, print_id, print_lent};
@@ -99,7 +101,7 @@ impl Post {
         self.text.shrink_to(KEPT_TEXT);
         self.own = 0;
         self.shared = 0;
-        self.line = None;
+        forget_line(&mut self.line);
     }
 
     /// Prints the line that is told next, in place of those before it. Its issuer gets it behind the id
@@ -107,7 +109,7 @@ impl Post {
     pub fn write(&mut self, line: LentReply) -> Result<(), AllocError>
         ensures { OnOk result (self.new ≡ telling self.old (printed_line self.old.id (reply_of line.entry)) (printed_line None (reply_of line.entry)) (length (printed_line self.old.id (reply_of line.entry)))) }
     {
-        self.line = None;
+        forget_line(&mut self.line);
         let own = self.text.len();
         print_id(self.id, &mut self.text)?;
         let shared = self.text.len();
@@ -122,7 +124,7 @@ impl Post {
     pub fn write_for_others(&mut self, line: LentReply) -> Result<(), AllocError>
         ensures { OnOk result (self.new ≡ telling self.old [] (printed_line None (reply_of line.entry)) (length (printed_line None (reply_of line.entry)))) }
     {
-        self.line = None;
+        forget_line(&mut self.line);
         let shared = self.text.len();
         print_lent(line, None, &mut self.text)?;
         self.own = self.text.len();
@@ -134,7 +136,7 @@ impl Post {
     pub fn write_more_for_others(&mut self, line: LentReply) -> Result<(), AllocError>
         ensures { OnOk result (self.new ≡ with_others self.old (reply_of line.entry ∷ [])) }
     {
-        self.line = None;
+        forget_line(&mut self.line);
         print_lent(line, None, &mut self.text)?;
         self.own = self.text.len();
         Ok(())
@@ -144,7 +146,7 @@ impl Post {
     pub fn begin_own(&mut self)
         ensures { self.new ≡ blank self.old }
     {
-        self.line = None;
+        forget_line(&mut self.line);
         self.own = self.text.len();
         self.shared = self.own;
     }
@@ -153,7 +155,7 @@ impl Post {
     pub fn write_own(&mut self, line: LentReply) -> Result<(), AllocError>
         ensures { OnOk result (self.new ≡ with_own self.old (reply_of line.entry ∷ [])) }
     {
-        self.line = None;
+        forget_line(&mut self.line);
         let id = self.id;
         print_lent(line, id, &mut self.text)?;
         Ok(())
@@ -206,57 +208,46 @@ impl Post {
 
     /// Makes room for all that is told, in each outbox that takes it: all of that is due then, and
     /// `deliver` cannot fail. No client sees a difference. Where memory is refused, nothing is due.
-    pub fn reserve(&self, clients: &mut Clients) -> Result<(), AllocError>
-        requires due { AreDue [] clients.old.slots }
-        ensures limit { clients.new.limit ≡ clients.old.limit }
-        ensures clients { plain clients.new.slots ≡ plain clients.old.slots }
-        ensures due { OnOk result (AreDue self.now.sent clients.new.slots) }
-        ensures ready { OnOk result (AreReady clients.new.slots) }
-        ensures err { OnErr result (AreDue [] clients.new.slots) }
-        ensures same_marks { marks_of clients.new.slots ≡ marks_of clients.old.slots }
-        ensures same_lines { clients.new.lines ≡ clients.old.lines }
+    pub fn reserve(&self, slots: &mut Slots, pool: &mut BufferPool) -> Result<(), AllocError>
+        requires due { AreDue [] slots.old }
+        ensures clients { plain slots.new ≡ plain slots.old }
+        ensures limits { (limit : ℕ) → HaveLimit limit slots.old → HaveLimit limit slots.new }
+        ensures due { OnOk result (AreDue self.now.sent slots.new) }
+        ensures ready { OnOk result (AreReady slots.new) }
+        ensures err { OnErr result (AreDue [] slots.new) }
+        ensures same_marks { marks_of slots.new ≡ marks_of slots.old }
     {
-        delivery::reserve(
-            &mut clients.slots,
-            &mut clients.pool,
-            &self.text,
-            &self.pieces,
-        )
+        delivery::reserve(slots, pool, &self.text, &self.pieces)
     }
 
     /// Gives up what `reserve` promised: nothing is due any more. What was told stays told.
-    pub fn cancel(&self, clients: &mut Clients)
-        requires due { AreDue self.now.sent clients.old.slots }
-        ensures limit { clients.new.limit ≡ clients.old.limit }
-        ensures clients { plain clients.new.slots ≡ plain clients.old.slots }
-        ensures due { AreDue [] clients.new.slots }
-        ensures same_marks { marks_of clients.new.slots ≡ marks_of clients.old.slots }
-        ensures same_lines { clients.new.lines ≡ clients.old.lines }
+    pub fn cancel(&self, slots: &mut Slots)
+        requires due { AreDue self.now.sent slots.old }
+        ensures clients { plain slots.new ≡ plain slots.old }
+        ensures limits { (limit : ℕ) → HaveLimit limit slots.old → HaveLimit limit slots.new }
+        ensures due { AreDue [] slots.new }
+        ensures same_marks { marks_of slots.new ≡ marks_of slots.old }
     {
-        delivery::cancel(&mut clients.slots, &self.text, &self.pieces);
+        delivery::cancel(slots, &self.text, &self.pieces);
     }
 
-    /// Puts all that is told, to each client whole or not at all. Gives the workers of those that it
-    /// touched. Nothing is told any more then, and no share is kept.
-    pub fn deliver(&mut self, clients: &mut Clients) -> Wakes
-        requires due { AreDue self.old.sent clients.old.slots }
-        requires ready { AreReady clients.old.slots }
-        ensures limit { clients.new.limit ≡ clients.old.limit }
-        ensures clients { plain clients.new.slots ≡ deliver clients.old.limit self.old.sent (plain clients.old.slots) }
-        ensures due { AreDue [] clients.new.slots }
-        ensures wakes { (home : ℕ) → has_home result home ≡ wakes_home clients.old.limit self.old.sent (plain clients.old.slots) home }
-        ensures known { (n : ℕ) → Known clients.old n → Known clients.new n }
-        ensures newly { (n home : ℕ) → Known clients.old n → home < 64 → IsNewly self.old.sent clients.old.slots home (waits clients.old home) (waits clients.new home) }
+    /// Puts all that is told, to each client whole or not at all. Those that it touched and that did
+    /// not wait do so from then on. Gives the workers of those that it touched. Nothing is told any more
+    /// then, and no share is kept.
+    pub fn deliver(&mut self, slots: &mut Slots, dirty: &mut DirtyLists) -> Wakes
+        requires due { AreDue self.old.sent slots.old }
+        requires ready { AreReady slots.old }
+        ensures clients { (limit : ℕ) → HaveLimit limit slots.old → plain slots.new ≡ deliver limit self.old.sent (plain slots.old) }
+        ensures limits { (limit : ℕ) → HaveLimit limit slots.old → HaveLimit limit slots.new }
+        ensures due { AreDue [] slots.new }
+        ensures wakes { (limit home : ℕ) → has_home result home ≡ wakes_home limit self.old.sent (plain slots.old) home }
+        ensures homes { (home c : ℕ) → stands (marks_of slots.new) home c ≡ stands (marks_of slots.old) home c }
+        ensures known { (n : ℕ) → AreKnown (marks_of slots.old) (line_of dirty.old) n → AreKnown (marks_of slots.new) (line_of dirty.new) n }
+        ensures newly { (n home : ℕ) → AreKnown (marks_of slots.old) (line_of dirty.old) n → home < 64 → IsNewly self.old.sent slots.old home (line_of dirty.old home).waiting (line_of dirty.new home).waiting }
     {
-        let wakes = delivery::deliver(
-            &mut clients.slots,
-            &mut clients.dirty,
-            &self.text,
-            &self.pieces,
-            &mut self.shares,
-        );
+        let wakes = delivery::deliver(slots, dirty, &self.text, &self.pieces, &mut self.shares);
         self.pieces.clear();
-        self.line = None;
+        forget_line(&mut self.line);
         wakes
     }
 }

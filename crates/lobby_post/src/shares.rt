@@ -1,6 +1,6 @@
 //! Long pieces lie in memory once, and the outboxes that take them share them.
 
-ghost use Rattle.std.specs.Prelude.{◌≡◌, ◌≤◌, [], length, ◌++◌, List, ℕ, IfOk, IfSome, OnOk, OnErr};
+ghost use Rattle.std.specs.Prelude.{◌≡◌, ◌≤◌, [], length, ◌++◌, List, ℕ, IfOk, IfSome, None, OnOk, OnErr};
 ghost use Rattle.lobby_post.specs.Dues.{share_of, with_share};
 
 use bytes::Bytes;
@@ -80,6 +80,25 @@ fn add_share_of_long_line(
         shares.push_back(whole.clone()?)?;
     }
     Ok(())
+}
+
+/// Another line is told: the share that was kept of the one before goes, where there is one.
+#[inline(always)]
+pub fn forget_line(line: &mut Option<Bytes>)
+    ensures { line.new ≡ None }
+{
+    if line.is_some() {
+        let_go(line);
+    }
+}
+
+/// Lets a share go. It stands apart, so that each line which is written pays for a test and no more.
+#[cold]
+#[inline(never)]
+fn let_go(line: &mut Option<Bytes>)
+    ensures { line.new ≡ None }
+{
+    *line = None;
 }
 
 /// Takes the share of a piece out of those of the pieces that are left, where it has one.

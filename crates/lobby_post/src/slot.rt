@@ -1,6 +1,6 @@
 //! A client with its outbox.
 
-ghost use Rattle.std.specs.Prelude.{◌≡◌, ◌+◌, ◌-◌, ◌^◌, ◌<◌, ◌≤◌, ◌++◌, length, take, drop, min, OnOk, OnErr, IfOk, IfSome, Some, true, false, not, is_some, option_copied};
+ghost use Rattle.std.specs.Prelude.{◌≡◌, ◌+◌, ◌-◌, ◌^◌, ◌<◌, ◌≤◌, ◌++◌, length, take, drop, min, [], OnOk, OnErr, IfOk, IfSome, Some, true, false, not, is_some, option_copied};
 ghost use Rattle.lobby_model.specs.declared.event.Phase.TheVariants.{Ended, In};
 ghost use Rattle.lobby_model.specs.State.{is_live, in_phase, name_in};
 ghost use Rattle.lobby_model.specs.Sessions.{greeted, drained};
@@ -102,7 +102,7 @@ impl Slot {
     /// put. What is copied gets a buffer of the pool, where the outbox has none of its own.
     #[inline(always)]
     pub fn reserve(&mut self, more: usize, pool: &mut BufferPool) -> Result<(), AllocError>
-        requires { self.old.due.copied ≤ self.old.due.bytes }
+        requires { self.old.due.shared_bytes ≤ self.old.due.bytes }
         ensures client { self.new.client ≡ self.old.client }
         ensures limit { self.new.limit ≡ self.old.limit }
         ensures listed { self.new.listed ≡ self.old.listed }
@@ -114,10 +114,12 @@ impl Slot {
             return Err(AllocError);
         };
         if self.is_live() && self.outbox.room_for(due.bytes) {
-            if !self.outbox.has_buffer() && due.copied > 0 {
+            let copied = due.copied();
+            if !self.outbox.has_buffer() && copied > 0 {
                 pool.lend(&mut self.outbox);
             }
-            self.outbox.reserve_shared(due.copied, due.shared)?;
+            self.outbox
+                .reserve_shared(copied, due.shared_pieces as usize)?;
         }
         self.due = due;
         Ok(())
@@ -136,8 +138,7 @@ impl Slot {
 
     /// Puts the next piece of what is due, or its share where it has one, or cuts the client where not
     /// all that is due fits. Tells whether that touched it. It stands in the loop that delivers, since
-    /// the pushes of a call would wait behind the bytes of the calls before it, and it stands there twice,
-    /// so that a short piece asks nowhere for a share.
+    /// the pushes of a call would wait behind the bytes of the calls before it.
     #[inline(always)]
     pub fn put(&mut self, piece: &[u8], share: Option<Bytes>) -> bool
         requires share { share ≡ share_of piece.now }
@@ -151,15 +152,15 @@ impl Slot {
         ensures touched { result ≡ is_touched self.old.limit piece.now self.old.client }
     {
         match share {
-            None => self.put_piece(piece, None),
-            Some(share) => self.put_piece(piece, Some(share)),
+            None => self.put_short(piece),
+            Some(share) => self.put_long(share),
         }
     }
 
-    /// What `put` does.
+    /// Puts a short piece, which is copied.
     #[inline(always)]
-    fn put_piece(&mut self, piece: &[u8], share: Option<Bytes>) -> bool
-        requires share { share ≡ share_of piece.now }
+    fn put_short(&mut self, piece: &[u8]) -> bool
+        requires short { length piece.now < 2048 }
         requires due { Covers self.old.due (length piece.now) }
         requires ready { IsReady self.old }
         ensures client { PutsFirst self.old.limit self.old.due.bytes piece.now self.old.client self.new.client }
@@ -169,21 +170,57 @@ impl Slot {
         ensures ready { IsReady self.new }
         ensures touched { result ≡ is_touched self.old.limit piece.now self.old.client }
     {
-        let due = self.due;
-        self.due = due.but(piece.len());
+        let due = self.due.bytes;
+        self.due.bytes = due - piece.len();
         if !self.is_live() || piece.is_empty() {
             return false;
         }
-        if self.outbox.room_for(due.bytes) {
-            match share {
-                Some(share) => self.outbox.put_shared(share),
-                None => self.outbox.put(piece),
-            }
+        if self.outbox.room_for(due) {
+            self.outbox.put(piece);
         } else {
-            self.outbox.cut();
-            self.outbox.release(0);
+            self.cut();
         }
         true
+    }
+
+    /// Puts a long piece by its share. It stands apart, so that the loop that delivers is short.
+    #[cold]
+    #[inline(never)]
+    fn put_long(&mut self, share: Bytes) -> bool
+        requires long { 2048 ≤ length share }
+        requires due { Covers self.old.due (length share) }
+        requires ready { IsReady self.old }
+        ensures client { PutsFirst self.old.limit self.old.due.bytes share self.old.client self.new.client }
+        ensures limit { self.new.limit ≡ self.old.limit }
+        ensures listed { self.new.listed ≡ self.old.listed }
+        ensures due { self.new.due ≡ due_but self.old.due (length share) }
+        ensures ready { IsReady self.new }
+        ensures touched { result ≡ is_touched self.old.limit share self.old.client }
+    {
+        let before = self.due;
+        self.due = before.but(share.len());
+        if !self.is_live() {
+            return false;
+        }
+        if self.outbox.room_for(before.bytes) {
+            self.outbox.put_shared(share);
+        } else {
+            self.cut();
+        }
+        true
+    }
+
+    /// Cuts the client, and gives the memory back in which it had something unread.
+    #[cold]
+    #[inline(never)]
+    fn cut(&mut self)
+        ensures client { self.new.client ≡ record self.old.client { cut = true; unread = [] } }
+        ensures limit { self.new.limit ≡ self.old.limit }
+        ensures listed { self.new.listed ≡ self.old.listed }
+        ensures due { self.new.due ≡ self.old.due }
+    {
+        self.outbox.cut();
+        self.outbox.release(0);
     }
 
     /// The worker that serves it, 0 to 63.

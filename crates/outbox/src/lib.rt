@@ -13,24 +13,16 @@
 ghost use Rattle.std.specs.Prelude.{◌≡◌, ◌≢◌, ◌⊎◌, ◌+◌, ◌-◌, ◌^◌, ◌<◌, ◌≤◌, ◌↔◌, [], ◌++◌, length, take, drop, min, IsTrue, IfSome, IfNone, OnOk, OnErr, true, false};
 ghost use Rattle.outbox.specs.Queue.{room};
 
+mod shares;
+
 use byte_queue::ByteQueue;
 use bytes::Bytes;
+use shares::{Share, Shares};
 use std::alloc::{AllocError, Global};
-use std::collections::VecDeque;
 use std::marker::Model;
 
 /// The greatest limit with which pieces are shared: 2^63 - 1 bytes, all of which can be counted.
 const COUNTED: usize = isize::MAX as usize;
-
-/// How many places for shared pieces an outbox keeps at most when it hands its buffer over.
-const KEPT_PLACES: usize = 4;
-
-/// A shared piece of what waits, and how many own bytes stand between it and the one before.
-#[derive(Drop)]
-struct Share {
-    before: usize,
-    bytes: Bytes,
-}
 
 /// The bytes that wait for a client to read them, at most as many as its limit.
 ///
@@ -41,17 +33,11 @@ pub struct Outbox {
     limit: usize,
     /// The bytes that were copied and wait.
     own: ByteQueue,
-    /// How many of them stand before the last shared piece.
-    ahead: usize,
-    /// How many bytes the shared pieces have.
-    shared: usize,
     cut: bool,
-    shares: VecDeque<Share>,
+    shares: Shares,
 }
 
 impl Model for Outbox {
-    ghost use Rattle.std.specs.Prelude.{◌-◌};
-    ghost use Rattle.std.specs.VecDeque.{deque_len, deque_capacity};
     ghost use Rattle.outbox.specs.Queue.{Queue};
     ghost use Rattle.outbox.specs.Woven.{woven, pieces_for, IsKept};
 
@@ -62,10 +48,10 @@ impl Model for Outbox {
       unread = woven o.shares.items o.own.bytes;
       cut = o.cut;
       spare = o.own.room;
-      spare_pieces = pieces_for o.limit (deque_capacity o.shares - deque_len o.shares);
+      spare_pieces = pieces_for o.limit o.shares.places;
     } };
 
-    ghost invariant = { λ o. IsKept o.limit o.ahead o.shared o.own.bytes o.shares.items o.cut };
+    ghost invariant = { λ o. IsKept o.limit o.own.bytes o.shares.items o.cut };
 }
 
 /// Copies bytes to the front of a slice, as many as there are and fit, and says how many.
@@ -78,6 +64,18 @@ fn copy_front(from: &[u8], into: &mut [u8]) -> usize
     count
 }
 
+/// Moves the first bytes of a queue into a slice, as many as there are and fit, and says how many.
+fn take_front(own: &mut ByteQueue, into: &mut [u8]) -> usize
+    ensures count { result ≡ min (length own.old.bytes) (length into.old) }
+    ensures given { into.new ≡ take result own.old.bytes ++ drop result into.old }
+    ensures left { own.new.bytes ≡ drop result own.old.bytes }
+    ensures room_kept { own.old.room ≤ own.new.room }
+{
+    let count = copy_front(own.as_slice(), into);
+    own.consume(count);
+    count
+}
+
 impl Outbox {
     /// An empty outbox in which at most `limit` bytes may stand unread. It takes no memory yet.
     pub fn new(alloc: Global, limit: usize) -> Outbox
@@ -86,10 +84,8 @@ impl Outbox {
         Outbox {
             limit,
             own: ByteQueue::new(alloc),
-            ahead: 0,
-            shared: 0,
             cut: false,
-            shares: VecDeque::from_vec(Vec::new(alloc)),
+            shares: Shares::new(alloc),
         }
     }
 
@@ -99,7 +95,7 @@ impl Outbox {
         ensures within_limit { result ≤ self.now.limit }
         ensures small { result < 2 ^ 63 }
     {
-        self.own.len() + self.shared
+        self.own.len() + self.shares.bytes()
     }
 
     /// Whether the client was cut. Nothing is unread then.
@@ -200,10 +196,8 @@ impl Outbox {
         if piece.is_empty() {
             return;
         }
-        let before = self.own.len() - self.ahead;
-        self.ahead += before;
-        self.shared += piece.len();
-        self.shares.push_back_reserved(Share {
+        let before = self.own.len() - self.shares.before();
+        self.shares.push_back(Share {
             before,
             bytes: piece,
         });
@@ -223,8 +217,6 @@ impl Outbox {
         ensures pieces_kept { self.old.spare_pieces ≤ self.new.spare_pieces }
     {
         self.cut = true;
-        self.ahead = 0;
-        self.shared = 0;
         self.own.truncate(0);
         self.shares.clear();
     }
@@ -232,6 +224,27 @@ impl Outbox {
     /// Moves the first unread bytes into a slice, as many as fit, and says how many. The rest of
     /// the slice stays as it was.
     pub fn take(&mut self, into: &mut [u8]) -> usize
+        ensures count { result ≡ min (length self.old.unread) (length into.old) }
+        ensures given { into.new ≡ take result self.old.unread ++ drop result into.old }
+        ensures left { self.new ≡ record self.old {
+          unread = drop result self.old.unread;
+          spare = self.new.spare;
+          spare_pieces = self.new.spare_pieces;
+        } }
+        ensures spare_kept { self.old.spare ≤ self.new.spare }
+        ensures pieces_kept { self.old.spare_pieces ≤ self.new.spare_pieces }
+    {
+        if self.shares.is_empty() {
+            return take_front(&mut self.own, into);
+        }
+        self.take_woven(into)
+    }
+
+    /// What `take` does where shared pieces wait. It stands apart, so that a client which has none pays
+    /// for the test alone.
+    #[cold]
+    #[inline(never)]
+    fn take_woven(&mut self, into: &mut [u8]) -> usize
         ensures count { result ≡ min (length self.old.unread) (length into.old) }
         ensures given { into.new ≡ take result self.old.unread ++ drop result into.old }
         ensures left { self.new ≡ record self.old {
@@ -265,15 +278,12 @@ impl Outbox {
         ensures pieces_kept { self.old.spare_pieces ≤ self.new.spare_pieces }
     {
         let Some(Share { before, mut bytes }) = self.shares.pop_front() else {
-            let count = copy_front(self.own.as_slice(), into);
-            self.own.consume(count);
-            return count;
+            return take_front(&mut self.own, into);
         };
         if before > 0 {
             let count = copy_front(&self.own.as_slice()[..before], into);
             self.own.consume(count);
-            self.ahead -= count;
-            self.shares.push_front_reserved(Share {
+            self.shares.push_front(Share {
                 before: before - count,
                 bytes,
             });
@@ -281,9 +291,8 @@ impl Outbox {
         }
         let count = copy_front(bytes.as_slice(), into);
         bytes.advance(count);
-        self.shared -= count;
         if !bytes.is_empty() {
-            self.shares.push_front_reserved(Share { before, bytes });
+            self.shares.push_front(Share { before, bytes });
         }
         count
     }
@@ -309,9 +318,12 @@ impl Outbox {
         ensures some { from < length self.now.unread → 0 < length result.now }
     {
         let mut own = self.own.as_slice();
+        let Some(shares) = self.shares.queue() else {
+            return &own[from.min(own.len())..];
+        };
         let mut left = from;
-        for i in 0..self.shares.len() {
-            let share = &self.shares[i];
+        for i in 0..shares.len() {
+            let share = &shares[i];
             if left < share.before {
                 return &own[left..share.before];
             }
@@ -342,7 +354,7 @@ impl Outbox {
 
     /// Hands its buffer over where nothing is unread, so that another outbox may adopt it. The outbox
     /// is left without a buffer and without `spare`, so what it copies next wants memory or a buffer
-    /// again. It keeps its limit and whether it is cut; many places for shared pieces go.
+    /// again, as do shared pieces. It keeps its limit and whether it is cut.
     pub fn hand_over(&mut self) -> Option<Vec<u8>>
         ensures unchanged { self.new ≡ record self.old {
           spare = self.new.spare;
@@ -352,7 +364,7 @@ impl Outbox {
         ensures none { IfNone result ((self.new ≡ self.old) × (self.old.unread ≢ [])) }
     {
         if self.unread() == 0 {
-            self.shares.shrink_to(KEPT_PLACES);
+            self.shares.let_go();
             Some(self.own.take_buffer())
         } else {
             None

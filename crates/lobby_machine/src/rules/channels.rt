@@ -124,7 +124,7 @@ pub fn tell_left(maps: &Maps, me: &NameBuf, post: &mut Post) -> Result<(), Alloc
     let _ = book.channel_count();
     if let Some(channels) = book.channels_of(me) {
         for channel in channels {
-            let (names, keys) = (book.names_in(channel), book.marks_in(channel));
+            let (names, keys) = book.roster(channel);
             maps.tell_other_users(names, keys, LentReply::Left { channel, user: me }, post)?;
         }
     }

@@ -4,7 +4,7 @@ use Rattle.lobby_post.specs.Mail.{AreDue}
 use Rattle.lobby_post.specs.Pieces.{pieces_of}
 use Rattle.line_words.proofs.Ties.{none_of}
 use Rattle.lobby_post.proofs.Crowds.{written_through, due_kept}
-use Rattle.lobby_post.proofs.Rounds.{inside_next, inside_here, bytes_long, copied_few, pieces_done, due_more, grown_past, ready_next, limits_next, plain_same}
+use Rattle.lobby_post.proofs.Rounds.{inside_next, inside_here, bytes_long, shared_few, pieces_done, due_more, grown_past, ready_next, limits_next, plain_same}
 use Rattle.lobby_post.proofs.Listed.{marks_same}
 use Rattle.lobby_post.proofs.delivery.reserve.Goals as goal
 use Rattle.lobby_post.proofs.delivery.reserve.Goals.{in-Some+in-Ok, in_default}
@@ -33,7 +33,7 @@ cancel-requires-clause-due c =
     c.in-Some.ensures.value c.in-Err.ensures.err c.loop-i.invariant.due
 
 pub reserve-requires : goal.reserve-requires
-reserve-requires c = copied_few _ _ c.in-Some.slot.now c.loop-i.clients c.in-Some.ensures.value c.loop-i.invariant.due
+reserve-requires c = shared_few _ _ c.in-Some.slot.now c.loop-i.clients c.in-Some.ensures.value c.loop-i.invariant.due
 
 pub loop-i-preserved : goal.loop-i-preserved
 loop-i-preserved c =

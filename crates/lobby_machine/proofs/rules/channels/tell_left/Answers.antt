@@ -1,4 +1,5 @@
-use Rattle.std.proofs.Common.{◌≡◌, ◌∙◌, ap, subst, map, rules, List, []}
+use Rattle.std.proofs.lemmas.Grind.{common_steps}
+use Rattle.std.proofs.Common.{◌≡◌, ◌∙◌, ap, subst, map, rules, List, [], arith}
 use Rattle.std.proofs.lemmas.Map.Iter.{iter_end}
 use Rattle.std.specs.List.Sorted.{IsStrictlySortedBy}
 use Rattle.std.specs.Map.{keys_of}
@@ -30,3 +31,6 @@ returns-in_default c =
     subst (λ (letters : List Letter). Told s c.args.post.now c.args.post.now letters)
     (letters_are c.args.me.now s.channels rising [] own)
     (told_nothing s c.args.post.now)
+
+pub returns-in_err-tell_other_users : goal.returns-in_err-tell_other_users
+returns-in_err-tell_other_users c = grind (arith, common_steps)

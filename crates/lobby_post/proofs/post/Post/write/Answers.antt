@@ -23,7 +23,7 @@ invariant_of-self-in_err-print_lent c =
     let grown : c.print_lent.new.out.items ≡ i.text.items ++ id_text i.id = same ∙ c.in_ok-print_id.ensures in
     let long = ap length grown ∙ length-append i.text.items _ in
     let parts = parts_more i.text.items _ _ i.pieces.items i.shares.items grown c.self.invariant.0 c.self.invariant.3 in
-    (parts.0, omega (arith, first, long), omega (arith, within, long), parts.1, tt)
+    (parts.0, omega (arith, first, long), omega (arith, within, long), parts.1, rw c.forget_line.ensures tt)
 
 pub invariant_of-self-2 : goal.invariant_of-self-2
 invariant_of-self-2 c =
@@ -36,4 +36,4 @@ invariant_of-self-2 c =
     let long = ap length grown ∙ length-append i.text.items _ in
     let first = ap length c.in_ok-print_lent.ensures ∙ length-append c.print_id.new.out.items line in
     let parts = parts_more i.text.items _ _ i.pieces.items i.shares.items grown c.self.invariant.0 c.self.invariant.3 in
-    (parts.0, omega (arith, begins, long), omega (arith, starts, first), parts.1, tt)
+    (parts.0, omega (arith, begins, long), omega (arith, starts, first), parts.1, rw c.forget_line.ensures tt)

@@ -18,4 +18,4 @@ invariant_of-self-2 c =
     let ends : c.len-self-inside.result ≡ length c.print_lent.new.out.items = search rules in
     let long = ap length c.in_ok-print_lent.ensures ∙ length-append i.text.items _ in
     let parts = parts_more i.text.items _ _ i.pieces.items i.shares.items c.in_ok-print_lent.ensures c.self.invariant.0 c.self.invariant.3 in
-    (parts.0, omega (arith, ends), omega (arith, within, long), parts.1, tt)
+    (parts.0, omega (arith, ends), omega (arith, within, long), parts.1, rw c.forget_line.ensures tt)

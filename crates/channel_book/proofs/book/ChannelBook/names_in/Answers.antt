@@ -1,6 +1,0 @@
-use Rattle.std.specs.List.{IsDistinct}
-use Rattle.channel_book.proofs.book.ChannelBook.names_in.Goals as goal
-
-pub returns-in-None-clause-distinct : goal.returns-in-None-clause-distinct
-unfolding IsDistinct
-returns-in-None-clause-distinct g c = tt
