@@ -156,7 +156,9 @@ fn write_parts(
     Ok(())
 }
 
-/// Writes one part of what is told of a user.
+/// Writes one part of what is told of a user. It stands in the loop over all users, so that a line is
+/// printed from where its parts lie and is not handed over first.
+#[inline(always)]
 fn write_part(name: &NameBuf, seat: &Seat, part: Part, post: &mut Post) -> Result<(), AllocError>
     ensures { OnOk result (post.new ≡ with_own post.old (part_of part name.now (user_in seat.now))) }
 {

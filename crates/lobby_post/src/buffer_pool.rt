@@ -36,13 +36,14 @@ impl BufferPool {
         Ok(())
     }
 
-    /// An outbox without a buffer gets one, where one is there.
+    /// An outbox without a buffer, in which so many bytes are to be put, gets one, where one is there.
     #[inline(never)]
-    pub fn lend(&mut self, outbox: &mut Outbox)
+    pub fn lend(&mut self, outbox: &mut Outbox, bytes: usize)
         ensures unchanged { outbox.new ≡ record outbox.old { spare = outbox.new.spare } }
         ensures spare_kept { outbox.old.spare ≤ outbox.new.spare }
     {
-        if !outbox.has_buffer()
+        if bytes > 0
+            && !outbox.has_buffer()
             && let Some(buffer) = self.buffers.pop()
         {
             outbox.adopt(buffer);

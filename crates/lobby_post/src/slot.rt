@@ -115,8 +115,8 @@ impl Slot {
         };
         if self.is_live() && self.outbox.room_for(due.bytes) {
             let copied = due.copied();
-            if !self.outbox.has_buffer() && copied > 0 {
-                pool.lend(&mut self.outbox);
+            if !self.outbox.has_buffer() {
+                pool.lend(&mut self.outbox, copied);
             }
             self.outbox
                 .reserve_shared(copied, due.shared_pieces as usize)?;

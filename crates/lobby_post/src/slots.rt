@@ -1,6 +1,6 @@
 //! The slots of all clients, by the clients' numbers.
 
-ghost use Rattle.std.specs.Prelude.{◌≡◌, [], length, map, Some, None, is_some, OnOk, OnErr, IfSome, option_copied};
+ghost use Rattle.std.specs.Prelude.{◌≡◌, [], length, map, Some, None, is_some, true, ◌↔◌, OnOk, OnErr, IfSome, option_copied};
 ghost use Rattle.std.specs.Option.{option_copied_mut, option_map};
 ghost use Rattle.std.specs.Ordering.{nat_cmp};
 ghost use Rattle.std.specs.List.Sorted.{IsStrictlySortedBy};
@@ -52,7 +52,18 @@ impl Model for Slots {
 impl Slots {
     ghost use Rattle.lobby_post.specs.Dirty.{marks_of, stands};
     ghost use Rattle.lobby_post.specs.Lending.{lends_slot};
-    ghost use Rattle.lobby_post.specs.Cells.{AreTied};
+    ghost use Rattle.slab.specs.Slab.{get};
+    ghost use Rattle.lobby_post.specs.Cells.{owner, AreTied};
+
+    /// Whether a client is in this slot.
+    fn is_in(cells: &Slab<Cell>, client: u64, slot: usize) -> bool
+        ensures { (result ≡ true) ↔ (owner (get cells.now slot) ≡ Some client) }
+    {
+        match cells.get(slot) {
+            Some(cell) => cell.client == client,
+            None => false,
+        }
+    }
 
     /// The slot of a client, looked for in a likely one before the index is searched.
     fn slot_near(
@@ -64,10 +75,20 @@ impl Slots {
         requires { AreTied cells.now index.now.entries }
         ensures { result ≡ lookup (is_at (nat_cmp client)) index.now.entries }
     {
-        match cells.get(likely) {
-            Some(cell) if cell.client == client => Some(likely),
-            _ => index.get(&client).copied(),
+        if Slots::is_in(cells, client, likely) {
+            Some(likely)
+        } else {
+            Slots::search(index, client)
         }
+    }
+
+    /// The slot of a client, by the index. It stands apart, since a likely slot is nearly always the one.
+    #[cold]
+    #[inline(never)]
+    fn search(index: &BTreeMap<u64, usize>, client: u64) -> Option<usize>
+        ensures { result ≡ lookup (is_at (nat_cmp client)) index.now.entries }
+    {
+        index.get(&client).copied()
     }
 
     /// No client.
@@ -131,7 +152,11 @@ impl Slots {
         ensures ordered { IsStrictlySortedBy nat_cmp (map (λ e. e.0) self.old) }
     {
         let likely = self.near.likely(key);
-        let slot = Slots::slot_near(&self.cells, &self.index, key.number, likely)?;
+        if Slots::is_in(&self.cells, key.number, likely) {
+            // Lent here, so that no second look is taken at whether the cell is full.
+            return Some(&mut self.cells[likely].slot);
+        }
+        let slot = Slots::search(&self.index, key.number)?;
         Some(&mut self.cells[slot].slot)
     }
 
