@@ -14,10 +14,17 @@ use std::marker::Model;
 /// The accounts of a lobby, in the order in which they were added, with no name twice.
 ///
 /// A look-up by name takes the same time however many accounts there are.
-#[derive(Drop)]
 pub struct AccountBook {
     alloc: Global,
     accounts: IndexMap<Vec<u8>, Account>,
+}
+
+impl Drop for AccountBook {
+    /// Who lets a book go calls this, and need not know what it is made of.
+    fn drop(self) {
+        let AccountBook { alloc: _, accounts } = self;
+        drop(accounts);
+    }
 }
 
 impl Model for AccountBook {

@@ -18,7 +18,7 @@ use Rattle.battle_rules.specs.declared.joining.Recipient.TheVariants.{Issuer, Ot
 use Rattle.lobby_maps.specs.Fit.{IsOwn}
 use Rattle.battle_rules.specs.BattleTalk.{is_issuer, written}
 use Rattle.battle_rules.proofs.InBattles.{told_own_user, told_same}
-use Rattle.lobby_maps.proofs.Rooms.{put_then}
+use Rattle.lobby_burst.proofs.Rooms.{put_then}
 use Rattle.lobby_model.proofs.Named.{named_so}
 
 pub written_more : (r : Recipient) (p : Posted) (xs ys : List Reply) → written r (written r p xs) ys ≡ written r p (xs ++ ys)

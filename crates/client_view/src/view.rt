@@ -28,12 +28,24 @@ fn next_end(piece: &[u8], from: usize) -> Option<usize>
 }
 
 /// What a client knows of the lobby, folded from the bytes that it was sent.
-#[derive(Drop)]
 pub struct View {
     known: Known,
     // the bytes of a line that has not ended yet
     rest: Vec<u8>,
     spoilt: bool,
+}
+
+impl Drop for View {
+    /// Who lets a view go calls this, and need not know what it is made of.
+    fn drop(self) {
+        let View {
+            known,
+            rest,
+            spoilt: _,
+        } = self;
+        drop(known);
+        drop(rest);
+    }
 }
 
 impl Model for View {

@@ -118,7 +118,6 @@ fn base64_test_vectors(rt: HostRuntime) {
 }
 
 /// What an account shows.
-#[derive(Clone, Copy)]
 struct Shown {
     id: u32,
     rank: u8,
@@ -131,7 +130,6 @@ struct Shown {
 type Login = (&'static [u8], &'static [u8], Result<Shown, LoginFault>);
 
 /// A good file, how many accounts it has that can log in, what is answered to logins, and which names have such an account.
-#[derive(Clone, Copy)]
 struct File {
     text: &'static [u8],
     count: usize,
@@ -233,8 +231,10 @@ fn add_two(rt: &impl Abort, book: &mut AccountBook, alloc: Global) {
         add(book, alloc, 5, false),
         Err(AccountsError::DuplicateName),
     );
-    let first = book.check(b"[AI]_1", WORD).ok().map(Account::id);
-    same(rt, first, Some(u32::MAX));
+    match book.check(b"[AI]_1", WORD) {
+        Ok(first) => same(rt, first.id(), u32::MAX),
+        Err(_) => fail(rt, "the first is there"),
+    }
 }
 
 #[test]

@@ -16,7 +16,6 @@ pub const NO_PASSWORD: &[u8] = b"*";
 
 /// A battle: what all know of it, what is told to nobody or to a joiner alone, and what its members
 /// share.
-#[derive(Drop)]
 pub struct Battle {
     /// What all were told of it as it opened; its map is that of now.
     pub opened: OpenedBattle,
@@ -30,6 +29,23 @@ pub struct Battle {
     pub game_hash: i64,
     /// Its members' marks are the keys of their clients.
     pub room: Room<ClientKey>,
+}
+
+impl Drop for Battle {
+    /// Who lets a battle go calls this, and need not know what it is made of.
+    fn drop(self) {
+        let Battle {
+            opened,
+            spectators: _,
+            locked: _,
+            password,
+            game_hash: _,
+            room,
+        } = self;
+        drop(opened);
+        drop(password);
+        drop(room);
+    }
 }
 
 impl Model for Battle {

@@ -5,10 +5,9 @@ ghost use Rattle.lobby_lock.specs.Counts.{last_count};
 ghost use Rattle.lobby_lock.specs.Closing.{IsCount};
 ghost use Rattle.lobby_lock.specs.declared.closing.Count.TheVariants as count;
 
-use crate::boxed::BoxedLobby;
 use crate::pass::Counts;
 use crate::rule::PlacePass;
-use lobby_machine::Lobby;
+use lobby_machine::{BoxedLobby, Lobby};
 use std::marker::Model;
 use thiserror::Error;
 

@@ -9,14 +9,13 @@ ghost use Rattle.lobby_lock.specs.Passes.{first_pass, new_pass};
 ghost use Rattle.lobby_lock.specs.Closing.{IsOut};
 ghost use Rattle.lobby_lock.specs.declared.closing.CloseError.TheVariants.{StillOut};
 
-use crate::boxed::BoxedLobby;
 use crate::closing::{CloseError, Closing, first_out};
 use crate::event_count::EventCount;
 use crate::held::Held;
 use crate::pass::{Counts, Pass};
 use crate::place::{begin, fetch};
 use crate::rule::{HandingOut, LastBack, Place, Taking, TakingBack, TakingForGood};
-use lobby_machine::Lobby;
+use lobby_machine::{BoxedLobby, Lobby};
 use lobby_model::WORKERS;
 use std::alloc::{AllocError, Global};
 use std::marker::Model;
@@ -29,6 +28,11 @@ pub const MOST_HANDED_OUT: u64 = WORKERS as u64 - 1;
 /// How many events a hold has at most. Room for so many is made with each pass, so that no event
 /// needs memory for its entry in the history.
 pub const MOST_EVENTS: usize = 32;
+
+/// How many bytes go from worker to worker when the lobby is handed over: its address alone.
+pub const HANDED_OVER: usize = size_of::<BoxedLobby>();
+
+const _: () = prove!(HANDED_OVER == size_of::<usize>());
 
 /// How many places for counts worker 0's pass has: one for each number, its own among them.
 const PLACES: usize = WORKERS as usize;

@@ -8,13 +8,12 @@ ghost use Rattle.lobby_post.specs.Mail.{IsWakes};
 ghost use Rattle.lobby_machine.specs.Shown.{Applies, HasNoNumber, IsFull, IsNextNumber, KeepsOthers, Opens, TakesFirst, count_into, filled, dirty_at, unread_of, is_finished};
 ghost use Rattle.lobby_lock.specs.Passes.{AddsEvent, lobby_after, pass_after};
 
-use crate::boxed::BoxedLobby;
 use crate::desk::{Desk, MOST_EVENTS};
 use crate::pass::{Counts, Pass};
 use crate::place::put_back;
 use crate::rule::PlacePass;
 use command_grammar::Request;
-use lobby_machine::{Drained, OpenError, Wakes};
+use lobby_machine::{BoxedLobby, Drained, OpenError, Wakes};
 use lobby_model::Event;
 use std::alloc::AllocError;
 use std::marker::{Brand, Model};

@@ -14,7 +14,6 @@
 //! - worker 0 takes the lobby for good (`Desk::close`), once the passes of all others came back.
 #![tactic(auto)]
 
-mod boxed;
 mod closing;
 mod desk;
 mod event_count;
@@ -24,8 +23,7 @@ mod place;
 mod rule;
 mod view;
 
-pub use boxed::HANDED_OVER;
 pub use closing::{CloseError, Closing, Count};
-pub use desk::{Desk, DeskError, MOST_EVENTS, MOST_HANDED_OUT};
+pub use desk::{Desk, DeskError, HANDED_OVER, MOST_EVENTS, MOST_HANDED_OUT};
 pub use held::Held;
 pub use pass::Pass;

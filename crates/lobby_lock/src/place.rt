@@ -6,11 +6,11 @@ ghost use Rattle.crossbeam_queue.specs.Fifo.{Pops};
 ghost use Rattle.lobby_lock.specs.Rule.{OneHistory, new_worker, opened, gave};
 ghost use Rattle.lobby_lock.specs.Passes.{shown_pass, lobby_after};
 
-use crate::boxed::BoxedLobby;
 use crate::event_count::EventCount;
 use crate::rule::{Giving, Happened, Opening, Place, PlacePass};
 use crate::view::View;
 use crossbeam_queue::protocol::Outcome;
+use lobby_machine::BoxedLobby;
 use lobby_model::Event;
 use std::sync::Wait;
 

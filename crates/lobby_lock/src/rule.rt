@@ -1,9 +1,9 @@
 //! The rule of the desk, and what each of its steps tells. These types are for the proofs alone.
 
-use crate::boxed::BoxedLobby;
 use crate::view::View;
 use crossbeam_queue::protocol::{Join, Lesson, Outcome, Protocol, Split};
 use crossbeam_queue::{Pass, RuledArrayQueue};
+use lobby_machine::BoxedLobby;
 use std::marker::{Brand, PhantomData};
 
 /// There is one history.

@@ -37,11 +37,19 @@ pub enum OpenError {
 
 /// The lobby. Contracts see the plain lobby that it stands for, and for each worker which of its clients
 /// changed and wait to be looked after.
-#[derive(Drop)]
 pub struct Lobby {
     maps: Maps,
     // what the event at hand tells; its buffers are kept from event to event
     post: Post,
+}
+
+impl Drop for Lobby {
+    /// Who lets a lobby go calls this, and need not know what it is made of.
+    fn drop(self) {
+        let Lobby { maps, post } = self;
+        drop(maps);
+        drop(post);
+    }
 }
 
 impl Model for Lobby {

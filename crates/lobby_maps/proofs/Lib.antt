@@ -6,8 +6,6 @@ pub mod Walks
 pub mod Applied
 pub mod Fitting
 pub mod Arrivals
-pub mod Newcomer
 pub mod Bursts
-pub mod Rooms
 pub mod Numbered
 pub mod AllBut

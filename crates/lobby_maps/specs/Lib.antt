@@ -1,4 +1,3 @@
-pub mod Parts
 pub mod Fit
 pub mod Shown
 pub mod Dirty

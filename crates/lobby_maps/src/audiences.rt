@@ -75,6 +75,23 @@ impl Maps {
         Ok(())
     }
 
+    /// Tells the user whose event it is. By the number of its client it is found without a search for
+    /// its name.
+    pub fn tell_self(
+        &self,
+        me: &NameBuf,
+        client: u64,
+        line: LentReply,
+        post: &mut Post,
+    ) -> Result<(), AllocError>
+        ensures { OnOk result (Told self.now.plain post.old post.new (tell (user me.now) (reply_of line.entry ∷ []) ∷ [])) }
+    {
+        post.write(line)?;
+        let key = self.clients.likely_key_of(client);
+        address_near(&self.seats, &self.clients, me, key, post)?;
+        Ok(())
+    }
+
     /// The user of this name, where there is one, gets the lines that were written. Where it is the one
     /// whose event it is, its own client alone does.
     pub fn address_user(&self, name: &NameBuf, post: &mut Post) -> Result<(), AllocError>

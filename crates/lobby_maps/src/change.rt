@@ -92,7 +92,7 @@ pub fn apply(
             clients.log_in(client, name);
         }
         Change::Join { channel, name } => {
-            let key = seats.key_of(&name);
+            let key = clients.key_of(client);
             channels.add_member(channel, name, key)?;
         }
         Change::Leave { channel, name } => channels.remove_member(&channel, &name),

@@ -10,7 +10,6 @@
 mod audiences;
 mod burst;
 mod change;
-mod greeting;
 mod lookups;
 mod maps;
 

@@ -23,7 +23,7 @@ use std::marker::Model;
 /// A client, with what waits for it.
 ///
 /// Its fields lie in memory in this order. What delivery reads and writes stands in front, so that a line to
-/// many touches two or three lines of the cache for each client, and not four.
+/// many touches few lines of the cache for each client.
 #[derive(Drop)]
 pub struct Slot {
     home: u8,

@@ -192,6 +192,9 @@ impl Shares {
     pub fn let_go(&mut self)
         ensures { self.new ≡ record { items = []; places = 0 } }
     {
-        self.held = None;
+        // Where there is none, its place is not written either: it lies on a line of its own of the cache.
+        if self.held.is_some() {
+            self.held = None;
+        }
     }
 }

@@ -1,9 +1,8 @@
 //! The lines of battles, as all see them.
 
-ghost use Rattle.std.specs.Prelude.{◌≡◌, Option, OnOk, OnErr};
+ghost use Rattle.std.specs.Prelude.{◌≡◌, OnOk, OnErr};
 ghost use Rattle.reply_kinds.specs.declared.Reply.TheVariants as reply;
-ghost use Rattle.lobby_view.specs.View.{shown, entered};
-ghost use Rattle.room_lists.specs.Room as room;
+ghost use Rattle.lobby_view.specs.View.{shown};
 ghost use Rattle.client_view.specs.Kinds.{Battles, Opening, kind_of};
 
 use crate::known::Known;

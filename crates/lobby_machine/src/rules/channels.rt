@@ -22,8 +22,9 @@ pub fn join(by: &Issuer, channel: &NameBuf, post: &mut Post) -> Result<Change, S
 {
     let names = names_without(by.maps, by.me, channel)?;
     let keys = by.maps.channels().marks_in(channel);
-    by.maps.tell_user(by.me, LentReply::Join { channel }, post)?;
-    tell_members(by.maps, channel, names, by.me, post)?;
+    by.maps
+        .tell_self(by.me, by.client, LentReply::Join { channel }, post)?;
+    tell_members(by.maps, channel, names, by.me, by.client, post)?;
     by.maps.tell_users(
         names,
         keys,
@@ -137,6 +138,7 @@ fn tell_members(
     channel: &NameBuf,
     names: &[NameBuf],
     me: &NameBuf,
+    client: u64,
     post: &mut Post,
 ) -> Result<(), AllocError>
     ensures { OnOk result (Told maps.now.plain post.old post.new (tell (user me.now) (name_lines channel.now (names.now ++ me.now ∷ [])) ∷ [])) }
@@ -147,7 +149,7 @@ fn tell_members(
             channel,
             names: &rest[..32],
         };
-        maps.tell_user(me, line, post)?;
+        maps.tell_self(me, client, line, post)?;
         rest = &rest[32..];
     }
     let line = LentReply::LastClients {
@@ -155,6 +157,6 @@ fn tell_members(
         names: rest,
         last: me,
     };
-    maps.tell_user(me, line, post)?;
+    maps.tell_self(me, client, line, post)?;
     Ok(())
 }

@@ -4,7 +4,7 @@ use Rattle.lobby_model.specs.Battles.{bot_line}
 use Rattle.std.proofs.lemmas.List.{take_all}
 use Rattle.battle_rules.specs.BattleTalk.{written}
 use Rattle.battle_rules.proofs.Joins.{written_more}
-use Rattle.lobby_maps.proofs.Rooms.{put_one_line}
+use Rattle.lobby_burst.proofs.Rooms.{put_one_line}
 use Rattle.battle_rules.proofs.joining.write_bots.Goals as goal
 
 pub loop-bot-init : goal.loop-bot-init

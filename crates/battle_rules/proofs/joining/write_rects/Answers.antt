@@ -5,7 +5,7 @@ use Rattle.room_lists.specs.Room.{Rect}
 use Rattle.lobby_model.specs.Battles.{rect_line}
 use Rattle.battle_rules.specs.BattleTalk.{written}
 use Rattle.battle_rules.proofs.Joins.{settled, written_more}
-use Rattle.lobby_maps.proofs.Rooms.{rect_told, rects_told, placed, same_place}
+use Rattle.lobby_burst.proofs.Rooms.{rect_told, rects_told, placed, same_place}
 use Rattle.battle_rules.proofs.joining.write_rects.Goals as goal
 use Rattle.battle_rules.proofs.joining.write_rects.Goals.{in-Some+in_ok-write, in_default}
 

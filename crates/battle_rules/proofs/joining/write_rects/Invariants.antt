@@ -1,6 +1,6 @@
 use Rattle.std.proofs.Common.{◌≡◌, ◌<◌, length, take}
 use Rattle.battle_rules.specs.BattleTalk.{written}
-use Rattle.lobby_maps.proofs.Rooms.{rects_told}
+use Rattle.lobby_burst.proofs.Rooms.{rects_told}
 use Rattle.battle_rules.proofs.joining.write_rects.Given as goal
 
 abbrev pub invariant-loop-ally : goal.invariant-loop-ally

@@ -3,7 +3,7 @@ use Rattle.reply_kinds.specs.declared.Reply.TheVariants as reply
 use Rattle.std.proofs.lemmas.List.{take_all}
 use Rattle.battle_rules.specs.BattleTalk.{written}
 use Rattle.battle_rules.proofs.Joins.{written_more}
-use Rattle.lobby_maps.proofs.Rooms.{put_one_line}
+use Rattle.lobby_burst.proofs.Rooms.{put_one_line}
 use Rattle.battle_rules.proofs.joining.write_units.Goals as goal
 
 pub loop-unit-init : goal.loop-unit-init

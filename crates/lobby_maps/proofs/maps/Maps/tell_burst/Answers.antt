@@ -1,9 +1,7 @@
-use Rattle.std.proofs.Common.{ℕ, ◌∙◌, ap, sym, subst, map, [], ◌∷◌}
+use Rattle.std.proofs.Common.{◌∙◌, ap, subst, map, [], ◌∷◌}
 use Rattle.reply_kinds.specs.declared.Reply.TheVariants as reply
 use Rattle.line_words.specs.Table.{put_name}
-use Rattle.std.specs.Prelude.{flat_map}
-use Rattle.lobby_model.specs.State.{State, Battle}
-use Rattle.lobby_model.specs.Battles.{battle_lines}
+use Rattle.lobby_model.specs.State.{State}
 use Rattle.lobby_model.specs.Outcome.{tell, issuer}
 use Rattle.lobby_model.specs.Sessions.{burst}
 use Rattle.lobby_post.specs.Posted.{Told, with_own}
@@ -23,4 +21,4 @@ returns c =
     (c.in_ok-write_motd.ensures ∙ ap (λ motd. with_own c.write_own.new.self (map (λ line. reply.Motd line) motd)) (c.as_slice.ensures
     ∙ c.motd.ensures))
     c.in_ok-write_parts.ensures c.in_ok-write_parts-2.ensures
-    (c.in_ok-write_battles.ensures ∙ ap (λ (s : State). with_own c.write_parts-2.new.post (flat_map (λ (e : ℕ × Battle). battle_lines e.0 e.1) s.battles)) (sym (plainly c.self.view_is))) c.in_ok-write_own-2.ensures c.in_ok-address_issuer.ensures)
+    c.in_ok-write_battles.ensures c.in_ok-write_own-2.ensures c.in_ok-address_issuer.ensures)

@@ -19,7 +19,7 @@ use Rattle.lobby_model.specs.Battles.{rect_line, opened_line, updated_line, batt
 use Rattle.lobby_post.specs.Posted.{Posted, with_own}
 use Rattle.lobby_post.proofs.Telling.{with_own_more}
 use Rattle.lobby_model.specs.Opened.{info_of}
-use Rattle.lobby_maps.specs.Parts.{guest_lines}
+use Rattle.lobby_burst.specs.Parts.{guest_lines}
 
 -- lines put behind others
 module _ (put : Posted → List Reply → Posted) (put_more : (p : Posted) (xs ys : List Reply) → put (put p xs) ys ≡ put p (xs ++ ys)) where

@@ -13,10 +13,10 @@ use Rattle.lobby_model.specs.State.{User}
 use Rattle.line_words.proofs.Tables.{name_cmp_same}
 use Rattle.lobby_post.specs.Posted.{Posted, with_own}
 use Rattle.lobby_post.proofs.Telling.{with_own_more}
-use Rattle.lobby_maps.specs.declared.burst.Part.{Part}
+use Rattle.lobby_burst.specs.declared.burst.Part.{Part}
 use Rattle.lobby_battles.specs.declared.seats.Seat.{Seat}
 use Rattle.lobby_battles.specs.Seats.{user_in, users_of}
-use Rattle.lobby_maps.specs.Parts.{part_of, parts_of}
+use Rattle.lobby_burst.specs.Parts.{part_of, parts_of}
 
 -- a user as a map's iterator lends it, and some
 abbrev user_lent : Bor (List ℕ) × Bor Seat → List ℕ × User

@@ -7,10 +7,10 @@ use Rattle.line_words.specs.Table.{name_cmp}
 use Rattle.lobby_post.specs.Posted.{Posted, with_own}
 use Rattle.lobby_post.proofs.Telling.{with_own_none}
 use Rattle.lobby_battles.specs.Seats.{user_in}
-use Rattle.lobby_maps.specs.Parts.{part_of}
-use Rattle.lobby_maps.proofs.Newcomer.{Tells, first_told, other_told, order_at, users_lent, tells_next, tells_all}
-use Rattle.lobby_maps.proofs.burst.write_parts.Goals as goal
-use Rattle.lobby_maps.proofs.burst.write_parts.Goals.{After-is_ne, then-is_told, else-is_told, then-is_le+in_ok-write_part, else-is_le}
+use Rattle.lobby_burst.specs.Parts.{part_of}
+use Rattle.lobby_burst.proofs.Newcomer.{Tells, first_told, other_told, order_at, users_lent, tells_next, tells_all}
+use Rattle.lobby_burst.proofs.burst.write_parts.Goals as goal
+use Rattle.lobby_burst.proofs.burst.write_parts.Goals.{After-is_ne, then-is_told, else-is_told, then-is_le+in_ok-write_part, else-is_le}
 
 pub loop-user-init : goal.loop-user-init
 loop-user-init c = λ rest. refl

@@ -5,17 +5,15 @@ ghost use Rattle.command_forms.specs.Kinds.{keeps_kinds};
 ghost use Rattle.lobby_model.specs.declared.event.Event.TheVariants as event;
 ghost use Rattle.lobby_model.specs.Sessions.{has_place};
 ghost use Rattle.lobby_post.specs.Mail.{IsWakes};
-ghost use Rattle.lobby_machine.specs.Shown.{Applies, HasNoNumber, IsFull, IsNextNumber, KeepsOthers, Opens, TakesFirst, count_into, filled, dirty_at, is_finished};
+ghost use Rattle.lobby_maps.specs.Calls.{Applies, HasNoNumber, IsFull, IsNextNumber, KeepsOthers, Opens, TakesFirst, count_into, filled};
+ghost use Rattle.lobby_maps.specs.Shown.{dirty_at, is_finished};
 
+use crate::lobby::{Lobby, OpenError};
 use command_grammar::Request;
-use lobby_machine::{Drained, Lobby, OpenError, Wakes};
+use lobby_clients::Drained;
+use lobby_post::Wakes;
 use std::alloc::{AllocError, Global};
 use std::marker::Model;
-
-/// How many bytes go from worker to worker when the lobby is handed over: its address alone.
-pub const HANDED_OVER: usize = size_of::<BoxedLobby>();
-
-const _: () = prove!(HANDED_OVER == size_of::<usize>());
 
 /// A lobby that stays where it lies while it is handed from worker to worker. Contracts see it as
 /// the lobby itself, and each of its calls is the lobby's own.
@@ -25,7 +23,7 @@ pub struct BoxedLobby {
 }
 
 impl Model for BoxedLobby {
-    ghost use Rattle.lobby_machine.specs.Shown.{Shown};
+    ghost use Rattle.lobby_maps.specs.Shown.{Shown};
 
     ghost Value = { Shown };
 

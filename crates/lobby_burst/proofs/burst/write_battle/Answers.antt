@@ -2,8 +2,8 @@ use Rattle.std.proofs.Common.{to_z, of_z, ◌≡◌, ◌∙◌, ap, [], ◌∷�
 use Rattle.reply_kinds.specs.declared.Reply.TheVariants as reply
 use Rattle.lobby_model.specs.State.{Battle}
 use Rattle.lobby_post.specs.Posted.{with_own}
-use Rattle.lobby_maps.proofs.Rooms.{battle_told}
-use Rattle.lobby_maps.proofs.burst.write_battle.Goals as goal
+use Rattle.lobby_burst.proofs.Rooms.{battle_told}
+use Rattle.lobby_burst.proofs.burst.write_battle.Goals as goal
 
 pub returns : goal.returns
 returns c =

@@ -6,8 +6,8 @@ use Rattle.line_words.specs.Table.{ByName, all_but}
 use Rattle.room_lists.specs.Room.{member_names}
 use Rattle.lobby_model.specs.State.{User, Battle}
 use Rattle.lobby_model.specs.Sessions.{added, shown_status}
-use Rattle.lobby_maps.specs.declared.burst.Part.{Part}
-use Rattle.lobby_maps.specs.declared.burst.Part.TheVariants.{Presence, Status}
+use Rattle.lobby_burst.specs.declared.burst.Part.{Part}
+use Rattle.lobby_burst.specs.declared.burst.Part.TheVariants.{Presence, Status}
 
 abbrev pub part_of : Part → List ℕ → User → List Reply
 part_of Presence name user = added name user ∷ []

@@ -4,9 +4,9 @@ use Rattle.reply_kinds.specs.declared.Reply.TheVariants as reply
 use Rattle.line_words.specs.Table.{same_name}
 use Rattle.lobby_post.specs.Posted.{with_own}
 use Rattle.lobby_post.proofs.Telling.{with_own_none}
-use Rattle.lobby_maps.proofs.Rooms.{guest_told}
-use Rattle.lobby_maps.proofs.burst.write_guests.Goals as goal
-use Rattle.lobby_maps.proofs.burst.write_guests.Goals.{then-not-is_founder+in_ok-write_own, else-not-is_founder}
+use Rattle.lobby_burst.proofs.Rooms.{guest_told}
+use Rattle.lobby_burst.proofs.burst.write_guests.Goals as goal
+use Rattle.lobby_burst.proofs.burst.write_guests.Goals.{then-not-is_founder+in_ok-write_own, else-not-is_founder}
 
 pub loop-member-preserved : goal.loop-member-preserved
 loop-member-preserved c =

@@ -1,6 +1,6 @@
 use Rattle.std.proofs.lemmas.Grind.{common_steps}
 use Rattle.std.proofs.Common.{arith}
-use Rattle.lobby_maps.proofs.maps.Maps.write_battles.Goals as goal
+use Rattle.lobby_burst.proofs.burst.write_battles.Goals as goal
 
 pub loop-number-init-derived : goal.loop-number-init-derived
 loop-number-init-derived c = grind (arith, common_steps)

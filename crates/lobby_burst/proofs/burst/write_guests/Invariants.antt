@@ -3,7 +3,7 @@ use Rattle.std.specs.Prelude.{None}
 use Rattle.line_words.specs.Table.{all_but}
 use Rattle.reply_kinds.specs.declared.Reply.TheVariants as reply
 use Rattle.lobby_post.specs.Posted.{with_own}
-use Rattle.lobby_maps.proofs.burst.write_guests.Given as goal
+use Rattle.lobby_burst.proofs.burst.write_guests.Given as goal
 
 abbrev pub invariant-loop-member : goal.invariant-loop-member
 invariant-loop-member l = l.post
