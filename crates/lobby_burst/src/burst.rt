@@ -1,6 +1,6 @@
 //! What a login tells the user that logs in, part by part.
 
-ghost use Rattle.std.specs.Prelude.{◌≡◌, [], ◌∷◌, map, flat_map, OnOk};
+ghost use Rattle.std.specs.Prelude.{◌≡◌, map, flat_map, OnOk};
 ghost use Rattle.line_words.specs.Table.{put_name};
 ghost use Rattle.reply_kinds.specs.declared.Reply.TheVariants as reply;
 ghost use Rattle.lobby_model.specs.Battles.{battle_lines};

@@ -1,6 +1,7 @@
 //! A name: 1 to 20 ASCII letters, digits, `_`, `[` and `]`.
 
-ghost use Rattle.std.specs.Prelude.{◌≡◌, ◌↔◌, nat_eq, IfOk, IfSome, IsSome, IsTrue, Some, refl};
+ghost use Rattle.std.specs.Prelude.{◌≡◌, ◌↔◌, ◌+◌, ◌≤◌, take, drop, nat_eq, IfOk, IfSome, IsSome, IsTrue, Some, refl};
+ghost use Rattle.std.specs.Int.{from_be_bytes, w32, w64};
 ghost use Rattle.std.specs.Ordering.{nat_cmp};
 ghost use Rattle.std.specs.Cmp.{partial_equiv_from_equiv};
 ghost use Rattle.std.specs.Cmp.Rules.{hashing};
@@ -69,14 +70,15 @@ pub struct NameBuf {
 }
 
 impl Model for NameBuf {
-    ghost use Rattle.std.specs.Prelude.{List, ℕ, IsTrue, ◌≤◌, take};
+    ghost use Rattle.std.specs.Prelude.{List, ℕ, IsTrue, ◌≡◌, ◌≤◌, ◌-◌, ◌++◌, take, replicate};
     ghost use Rattle.line_words.specs.Bytes.{is_name};
 
     ghost Value = { List ℕ };
 
     ghost view = { λ x. take x.count x.held };
 
-    ghost invariant = { λ x. (x.count ≤ 20) × IsTrue (is_name (take x.count x.held)) };
+    // Zeros fill it up, so that names are compared by words.
+    ghost invariant = { λ x. ((x.count ≤ 20) × IsTrue (is_name (take x.count x.held))) × (x.held ≡ take x.count x.held ++ replicate (20 - x.count) 0) };
 }
 
 impl NameBuf {
@@ -134,6 +136,30 @@ fn made_of(bytes: &[u8]) -> NameBuf
     }
 }
 
+/// Eight bytes from an offset on, as the number by which they are ordered.
+fn word_at(held: &[u8; LIMIT], from: usize) -> u64
+    requires { from + 8 ≤ 20 }
+    ensures { result ≡ from_be_bytes w64 (take 8 (drop from held.now)) }
+{
+    u64::from_be_bytes([
+        held[from],
+        held[from + 1],
+        held[from + 2],
+        held[from + 3],
+        held[from + 4],
+        held[from + 5],
+        held[from + 6],
+        held[from + 7],
+    ])
+}
+
+/// The last four bytes, as the number by which they are ordered.
+fn last_of(held: &[u8; LIMIT]) -> u32
+    ensures { result ≡ from_be_bytes w32 (drop 16 held.now) }
+{
+    u32::from_be_bytes([held[16], held[17], held[18], held[19]])
+}
+
 impl PartialEq for NameBuf {
     ghost eq = { pointwise nat_eq };
 
@@ -168,7 +194,15 @@ impl Ord for NameBuf {
     ghost matches_eq = { texts_ties };
 
     fn cmp(&self, other: &Self) -> Ordering {
-        self.as_slice().cmp(other.as_slice())
+        let first = word_at(&self.held, 0).cmp(&word_at(&other.held, 0));
+        if first.is_ne() {
+            return first;
+        }
+        let second = word_at(&self.held, 8).cmp(&word_at(&other.held, 8));
+        if second.is_ne() {
+            return second;
+        }
+        last_of(&self.held).cmp(&last_of(&other.held))
     }
 }
 
