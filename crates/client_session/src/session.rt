@@ -36,11 +36,22 @@ impl Next {
 }
 
 /// The bytes that came from one client, from the next line on.
-#[derive(Drop)]
 pub struct Session {
     alloc: Global,
     client: u64,
     framer: Framer,
+}
+
+impl Drop for Session {
+    /// Who lets a session go calls this, and need not know what it is made of.
+    fn drop(self) {
+        let Session {
+            alloc: _,
+            client: _,
+            framer,
+        } = self;
+        drop(framer);
+    }
 }
 
 impl Model for Session {

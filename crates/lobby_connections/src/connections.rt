@@ -25,7 +25,6 @@ pub const NAMES_IN_HOLD: usize = 64;
 
 /// The connections of a worker, each under the key that its events bear. A worker goes round again
 /// and again, and gives each connection one turn in a round at most.
-#[derive(Drop)]
 pub struct Connections {
     alloc: Global,
     slab: Slab<Connection>,
@@ -46,6 +45,27 @@ pub struct Connections {
     // those whose clients were shut
     lingering: Lingering,
     timeout: PollTimeout,
+}
+
+impl Drop for Connections {
+    /// Who lets them go calls this, and need not know what they are made of.
+    fn drop(self) {
+        let Connections {
+            slab,
+            keys,
+            named,
+            due,
+            left,
+            lingering,
+            ..
+        } = self;
+        drop(slab);
+        drop(keys);
+        drop(named);
+        drop(due);
+        drop(left);
+        drop(lingering);
+    }
 }
 
 impl Model for Connections {

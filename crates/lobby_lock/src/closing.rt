@@ -33,12 +33,26 @@ pub enum Count {
 
 /// The lobby of a desk that was closed, and how many events each of its workers made. Contracts see
 /// the lobby, and worker 0's pass, which has then seen the whole history.
-#[derive(Drop)]
 pub struct Closing {
     pub(crate) inner: PlacePass,
     pub(crate) handed: u64,
     pub(crate) lobby: BoxedLobby,
     pub(crate) counts: Counts,
+}
+
+impl Drop for Closing {
+    /// Who lets a closed desk go calls this, and need not know what it is made of.
+    fn drop(self) {
+        let Closing {
+            inner,
+            handed: _,
+            lobby,
+            counts,
+        } = self;
+        drop(inner);
+        drop(lobby);
+        drop(counts);
+    }
 }
 
 impl Model for Closing {

@@ -50,10 +50,18 @@ pub enum DeskError {
 
 /// The desk on which a lobby lies for all workers. Each in turn takes it, makes events, and gives it
 /// back. Contracts see a desk as its name, which each of its passes bears.
-#[derive(Drop)]
 pub struct Desk {
     pub(crate) place: Place,
     pub(crate) event_count: EventCount,
+}
+
+impl Drop for Desk {
+    /// Who lets a desk go calls this, and need not know what it is made of.
+    fn drop(self) {
+        let Desk { place, event_count } = self;
+        drop(place);
+        drop(event_count);
+    }
 }
 
 impl Model for Desk {
@@ -227,7 +235,6 @@ impl Desk {
         if let Some(number) = first_out(pass.counts.places.as_slice(), pass.handed) {
             return Err((self, pass, CloseError::StillOut(number)));
         }
-        let Desk { place, event_count } = self;
         let Pass {
             mut inner,
             number: _,
@@ -235,10 +242,9 @@ impl Desk {
             room,
             counts,
         } = pass;
-        let lobby = fetch::<TakingForGood, R>(rt, &place, &event_count, &mut inner);
+        let lobby = fetch::<TakingForGood, R>(rt, &self.place, &self.event_count, &mut inner);
         drop(room);
-        drop(place);
-        drop(event_count);
+        drop(self);
         Ok(Closing {
             inner,
             handed,
