@@ -1,6 +1,7 @@
 //! Those who ask to join a room, with memory at hand.
 
-use crate::rooms::{RoomStep, has_members, join, play, word};
+use crate::lists::{are, is_password};
+use crate::rooms::{RoomStep, join, play, word};
 use battle_room::{Room, RoomError};
 use line_words::{NameBuf, WordBuf};
 use std::alloc::Global;
@@ -33,25 +34,6 @@ fn ask(room: &mut Room, user: &[u8], script_password: Option<WordBuf>) -> bool {
             && room.ask(user, script_password).is_ok(),
         None => false,
     }
-}
-
-fn is_password(password: Option<&WordBuf>, wanted: Option<&[u8]>) -> bool {
-    match (password, wanted) {
-        (Some(password), Some(wanted)) => password.as_slice() == wanted,
-        (None, None) => true,
-        _ => false,
-    }
-}
-
-/// Whether these ask, in this order, each with this script password.
-fn has_askers(room: &Room, wanted: &[(&[u8], Option<&[u8]>)]) -> bool {
-    let mut same = room.askers().len() == wanted.len();
-    for (asker, (name, password)) in room.askers().iter().zip(wanted) {
-        same = same
-            && asker.name().as_slice() == *name
-            && is_password(asker.script_password(), *password);
-    }
-    same
 }
 
 /// Whether one asks, with this script password.
@@ -112,10 +94,10 @@ impl RoomStep for Step {
             Step::IsLetIn(user) => lets_in(room, user),
             Step::IsDropped(user) => drops_asker(room, user),
             Step::Joins(user) => join(room, user),
-            Step::Askers(wanted) => has_askers(room, wanted),
+            Step::Askers(wanted) => are(room.askers(), wanted),
             Step::AsksWith(user, password) => asks_with(room, user, *password),
             Step::AsksNot(user) => !asks_with(room, user, None),
-            Step::Members(wanted) => has_members(room, wanted),
+            Step::Members(wanted) => are(room.members(), wanted),
         }
     }
 }

@@ -12,6 +12,8 @@ mod channels;
 #[cfg(test)]
 mod frames;
 #[cfg(test)]
+mod lists;
+#[cfg(test)]
 mod marks;
 #[cfg(test)]
 mod outboxes;

@@ -1,5 +1,6 @@
 //! Marks, which no contract speaks of: each name has the one that was given with it.
 
+use crate::lists::are;
 use crate::verdict::{fail, same};
 use battle_room::Room;
 use channel_book::ChannelBook;
@@ -23,15 +24,6 @@ fn let_in(room: &mut Room<u8>, user: &[u8], mark: u8) -> bool {
     }
 }
 
-/// Whether these are the marks of the members.
-fn has_marks(room: &Room<u8>, wanted: &[u8]) -> bool {
-    let mut same = room.members().len() == wanted.len();
-    for (member, mark) in room.members().iter().zip(wanted) {
-        same = same && member.mark() == *mark;
-    }
-    same
-}
-
 /// Whether a member was there, who is dropped then.
 fn drops(room: &mut Room<u8>, member: &[u8]) -> bool {
     match NameBuf::of(member) {
@@ -48,9 +40,9 @@ fn drops(room: &mut Room<u8>, member: &[u8]) -> bool {
 fn mark_members(rt: &impl Abort, room: &mut Room<u8>) {
     same(rt, join(room, b"Bert", 2), true);
     same(rt, let_in(room, b"Cleo", 3), true);
-    same(rt, has_marks(room, &[1, 2, 3]), true);
+    same(rt, are(room.members(), &[1, 2, 3]), true);
     same(rt, drops(room, b"Bert"), true);
-    same(rt, has_marks(room, &[1, 3]), true);
+    same(rt, are(room.members(), &[1, 3]), true);
 }
 
 fn new_room(alloc: Global) -> Option<Room<u8>> {

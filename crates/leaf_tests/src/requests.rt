@@ -1,5 +1,6 @@
 //! Lines that are read with memory at hand.
 
+use crate::lists::are;
 use crate::verdict::same_for;
 use command_grammar::{Command, ReadFault, Request, read_request};
 use line_words::{TextBuf, WordBuf};
@@ -293,11 +294,7 @@ fn has_tags(command: &Command, wanted: &[(&[u8], &[u8])]) -> bool {
     let Command::SetScriptTags { pairs } = command else {
         return false;
     };
-    let mut same = pairs.as_slice().len() == wanted.len();
-    for (pair, (key, value)) in pairs.as_slice().iter().zip(wanted) {
-        same = same && pair.key.as_slice() == *key && pair.value.as_slice() == *value;
-    }
-    same
+    are(pairs.as_slice(), wanted)
 }
 
 fn fault_of(command: &Command) -> Option<ReadFault> {

@@ -1,5 +1,6 @@
 //! A room with memory at hand: each of its calls that may be refused it, and the most tags that a room has.
 
+use crate::lists::are;
 use crate::verdict::{fail, same_for};
 use battle_room::{Room, RoomError};
 use line_words::{KeyBuf, NameBuf, Pair, PairList, SentenceBuf, WordBuf};
@@ -28,23 +29,6 @@ fn add_bot(room: &mut Room, alloc: Global, owner: &[u8], bot: &[u8]) -> Option<(
     let bot = word(alloc, bot)?;
     let ai = sentence(alloc, b"NullAI 0.1")?;
     room.add_bot(owner, bot, BattleStatus::zero(), 255, ai).ok()
-}
-
-pub(crate) fn has_members(room: &Room, wanted: &[&[u8]]) -> bool {
-    let mut same = room.members().len() == wanted.len();
-    for (member, bytes) in room.members().iter().zip(wanted) {
-        same = same && member.name().as_slice() == *bytes;
-    }
-    same
-}
-
-/// Whether these are the bots, each of this owner.
-fn has_bots(room: &Room, owner: &[u8], wanted: &[&[u8]]) -> bool {
-    let mut same = room.bots().len() == wanted.len();
-    for (bot, bytes) in room.bots().iter().zip(wanted) {
-        same = same && bot.name().as_slice() == *bytes && bot.owner().as_slice() == owner;
-    }
-    same
 }
 
 /// A room of Anna alone.
@@ -102,19 +86,11 @@ pub(crate) fn words(alloc: Global, wanted: &[&[u8]]) -> Option<Vec<WordBuf>> {
     Some(list)
 }
 
-pub(crate) fn has_words(words: &[WordBuf], wanted: &[&[u8]]) -> bool {
-    let mut same = words.len() == wanted.len();
-    for (word, bytes) in words.iter().zip(wanted) {
-        same = same && word.as_slice() == *bytes;
-    }
-    same
-}
-
 /// Whether the founder is told that of these keys those are gone.
 fn removes(room: &mut Room, keys: Option<Vec<WordBuf>>, gone: &[&[u8]]) -> bool {
     match (NameBuf::of(b"Anna"), keys) {
         (Some(founder), Some(keys)) => match room.remove_tags(&founder, &keys) {
-            Ok(there) => has_words(there.as_slice(), gone),
+            Ok(there) => are(there.as_slice(), gone),
             Err(_) => false,
         },
         _ => false,
@@ -135,8 +111,8 @@ enum Step {
     /// A member adds a bot.
     AddsBot(&'static [u8], &'static [u8]),
     Members(&'static [&'static [u8]]),
-    /// These are the bots, each of this owner.
-    Bots(&'static [u8], &'static [&'static [u8]]),
+    /// These are the bots, of each the owner and the name.
+    Bots(&'static [PairText]),
     Sets(&'static [PairText], Result<(), RoomError>),
     /// The tags k1=1 to k512=1 are set.
     SetsMost,
@@ -158,8 +134,8 @@ impl RoomStep for Step {
         match self {
             Step::Joins(member) => join(room, member),
             Step::AddsBot(owner, bot) => add_bot(room, alloc, owner, bot).is_some(),
-            Step::Members(wanted) => has_members(room, wanted),
-            Step::Bots(owner, wanted) => has_bots(room, owner, wanted),
+            Step::Members(wanted) => are(room.members(), wanted),
+            Step::Bots(wanted) => are(room.bots(), wanted),
             Step::Sets(wanted, told) => sets(room, pairs(alloc, wanted), *told),
             Step::SetsMost => sets(room, most_pairs(alloc), Ok(())),
             Step::Removes(keys, gone) => removes(room, words(alloc, keys), gone),
@@ -196,7 +172,7 @@ static MEMBERS: [Step; 6] = [
     Step::AddsBot(b"Bert", b"Robo"),
     Step::AddsBot(b"Bert", b"Rex"),
     Step::Members(&[b"Anna", b"Bert", b"Cleo"]),
-    Step::Bots(b"Bert", &[b"Robo", b"Rex"]),
+    Step::Bots(&[(b"Bert", b"Robo"), (b"Bert", b"Rex")]),
 ];
 
 #[test]

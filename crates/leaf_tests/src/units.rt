@@ -1,6 +1,7 @@
 //! The disabled units of a room, with memory at hand, and the most that there are.
 
-use crate::rooms::{RoomStep, has_words, play, word, words};
+use crate::lists;
+use crate::rooms::{RoomStep, play, word, words};
 use battle_room::{Room, RoomError};
 use line_words::{NameBuf, WordBuf, WordList};
 use std::alloc::Global;
@@ -116,7 +117,7 @@ static ROWS: [Row; 14] = [
 
 fn are(units: &[WordBuf], wanted: &Units) -> bool {
     match wanted {
-        Units::These(wanted) => has_words(units, wanted),
+        Units::These(wanted) => lists::are(units, wanted),
         Units::Begin(count, first) => units.len() == *count && begins(units, first),
     }
 }

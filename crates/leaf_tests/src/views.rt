@@ -1,5 +1,6 @@
 //! What a client knows from its bytes, whole and byte by byte, and beyond the longest line.
 
+use crate::lists::are;
 use crate::verdict::same_for;
 use client_view::{View, ViewError};
 use line_words::NameBuf;
@@ -191,14 +192,10 @@ fn has_rect(view: &View, right: u8, bottom: u8) -> bool {
 }
 
 fn has_units(view: &View, wanted: &[&[u8]]) -> bool {
-    let Some(room) = view.room() else {
-        return false;
-    };
-    let mut same = room.units().len() == wanted.len();
-    for (unit, bytes) in room.units().iter().zip(wanted) {
-        same = same && unit.as_slice() == *bytes;
+    match view.room() {
+        Some(room) => are(room.units(), wanted),
+        None => false,
     }
-    same
 }
 
 /// Whether a view shows what a step says.

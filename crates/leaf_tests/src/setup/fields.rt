@@ -1,5 +1,6 @@
 //! Fields of a table of each kind, missing ones, and ones that are refused.
 
+use crate::lists::{Is, are};
 use crate::verdict::{fail, same_for};
 use std::alloc::Global;
 use std::process::Abort;
@@ -37,17 +38,16 @@ enum Row {
     List(&'static str, Told<&'static [Told<&'static str>]>),
 }
 
-fn has_texts(values: &[Value], wanted: &[Told<&str>]) -> bool {
-    let mut same = values.len() == wanted.len();
-    for (value, text) in values.iter().zip(wanted) {
-        same = same && text_of(value) == *text;
+/// As a text.
+impl Is<Told<&str>> for Value {
+    fn is(&self, wanted: &Told<&str>) -> bool {
+        text_of(self) == *wanted
     }
-    same
 }
 
 fn is_list(table: &Table, key: &str, wanted: Told<&[Told<&str>]>) -> bool {
     match (list_or_empty(table, key), wanted) {
-        (Ok(values), Ok(wanted)) => has_texts(values, wanted),
+        (Ok(values), Ok(wanted)) => are(values, wanted),
         (Err(told), Err(wanted)) => told == wanted,
         _ => false,
     }

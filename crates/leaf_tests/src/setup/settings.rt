@@ -1,5 +1,6 @@
 //! Files of settings: the smallest one, one that names all keys, and ones with each kind of fault.
 
+use crate::lists::are;
 use crate::verdict::{fail, same, same_for};
 use lobby_model::Settings;
 use lobby_setup::{Key, Refusal, Setup, SetupError, read_setup};
@@ -52,15 +53,6 @@ struct Wanted {
     motd: &'static [&'static [u8]],
 }
 
-fn has_motd(settings: &Settings, wanted: &[&[u8]]) -> bool {
-    let lines = settings.motd().as_slice();
-    let mut same = lines.len() == wanted.len();
-    for (line, bytes) in lines.iter().zip(wanted) {
-        same = same && line.as_slice() == *bytes;
-    }
-    same
-}
-
 fn compare_settings(rt: &impl Abort, settings: &Settings, wanted: &Wanted) {
     same(
         rt,
@@ -76,7 +68,7 @@ fn compare_settings(rt: &impl Abort, settings: &Settings, wanted: &Wanted) {
             settings.udp_port(),
             settings.server_mode(),
             settings.outbox_limit(),
-            has_motd(settings, wanted.motd),
+            are(settings.motd().as_slice(), wanted.motd),
         ),
         (
             wanted.udp_port,
