@@ -1,11 +1,3 @@
-pub mod Moments
-pub mod Joins
-pub mod Lines
-pub mod Parts
-pub mod Drains
-pub mod Talks
-pub mod Sayings
 pub mod Receivings
 pub mod Sendings
 pub mod Turns
-pub mod Kept

@@ -2,22 +2,22 @@
 use Rattle.std.proofs.Common.{◌≡◌, ◌≢◌, ◌⊎◌, ℕ, ◌+◌, ◌-◌, ◌<◌, ◌≤◌, true, false, List, [], ◌++◌, refl, sym, ap, ◌∙◌, subst, inl, inr, arith, append-nil}
 use Rattle.std.specs.Prelude.{◌||◌, Option, Some}
 use Rattle.lobby_post.specs.Mask.{has_home}
-use Rattle.lobby_turns.specs.declared.link.Got.{Got}
-use Rattle.lobby_turns.specs.declared.link.Got.TheVariants as got
-use Rattle.lobby_turns.specs.declared.holds.Said.{Said}
+use Rattle.lobby_holds.specs.declared.link.Got.{Got}
+use Rattle.lobby_holds.specs.declared.link.Got.TheVariants as got
+use Rattle.lobby_holds.specs.declared.holds.Said.{Said}
 use Rattle.lobby_turns.specs.declared.receiving.ReceiveState.{ReceiveState}
 use Rattle.lobby_turns.specs.declared.receiving.ReceiveState.TheVariants as receive
 use Rattle.lobby_turns.specs.declared.receiving.Step.{Step}
 use Rattle.lobby_turns.specs.declared.receiving.Step.TheVariants as step
-use Rattle.lobby_turns.specs.Moments.{Moment}
-use Rattle.lobby_turns.specs.Snapshot.{Carried, Snapshot}
-use Rattle.lobby_turns.specs.Went.{Went}
-use Rattle.lobby_turns.specs.Holds.{AreSaid, SaysLines, IsWithin, StaysNext}
+use Rattle.lobby_holds.specs.Moments.{Moment}
+use Rattle.lobby_holds.specs.Snapshot.{Carried, Snapshot}
+use Rattle.lobby_holds.specs.Went.{Went}
+use Rattle.lobby_holds.specs.Holds.{AreSaid, SaysLines, IsWithin, StaysNext}
 use Rattle.client_session.specs.declared.session.Next.TheVariants.{Nothing, Spoilt}
 use Rattle.client_session.specs.OneSession.{IsNextOf}
 use Rattle.lobby_turns.specs.Receiving.{OnlyReads, IsAllReceived, HasToReceive, has_bytes, has_line, has_more, SaysWithin, StepIs, ReceivesNext, ReceivedIs, Receives}
-use Rattle.lobby_turns.proofs.Parts.{went_then}
-use Rattle.lobby_turns.proofs.Sayings.{says_none, says_then}
+use Rattle.lobby_holds.proofs.Parts.{went_then}
+use Rattle.lobby_holds.proofs.Sayings.{says_none, says_then}
 use Rattle.std.proofs.Math.Nat.{add-zero, zero-add}
 
 -- so many lines were said to the lobby and so many reads were made, and these workers are to be woken

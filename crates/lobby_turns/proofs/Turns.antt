@@ -8,26 +8,26 @@ use Rattle.lobby_post.specs.Mask.{has_home}
 use Rattle.client_session.specs.Serving.{Serving}
 use Rattle.client_session.specs.declared.session.Next.TheVariants.{Nothing, Spoilt}
 use Rattle.client_session.specs.OneSession.{IsNextOf, HasLineNext}
-use Rattle.lobby_turns.specs.declared.link.Got.{Got}
-use Rattle.lobby_turns.specs.declared.link.Got.TheVariants as got
-use Rattle.lobby_turns.specs.declared.link.Sent.TheVariants as sent
+use Rattle.lobby_holds.specs.declared.link.Got.{Got}
+use Rattle.lobby_holds.specs.declared.link.Got.TheVariants as got
+use Rattle.lobby_holds.specs.declared.link.Sent.TheVariants as sent
 use Rattle.lobby_turns.specs.declared.receiving.ReceiveState.{ReceiveState}
 use Rattle.lobby_turns.specs.declared.receiving.ReceiveState.TheVariants as receive
 use Rattle.lobby_turns.specs.declared.sending.SendState.{SendState}
 use Rattle.lobby_turns.specs.declared.sending.SendState.TheVariants as send
 use Rattle.lobby_turns.specs.declared.turn.TurnState.{TurnState}
 use Rattle.lobby_turns.specs.declared.turn.TurnState.TheVariants as state
-use Rattle.lobby_turns.specs.Moments.{Moment, moment, requests, touched, told_end}
-use Rattle.lobby_turns.specs.Wire.{Wire}
-use Rattle.lobby_turns.specs.Snapshot.{Snapshot}
-use Rattle.lobby_turns.specs.Talk.{AreTalk, AreDrains, EndsDry}
+use Rattle.lobby_holds.specs.Moments.{Moment, moment, requests, touched, told_end}
+use Rattle.lobby_holds.specs.Wire.{Wire}
+use Rattle.lobby_holds.specs.Snapshot.{Snapshot}
+use Rattle.lobby_holds.specs.Talk.{AreTalk, AreDrains, EndsDry}
 use Rattle.lobby_turns.specs.Receiving.{IsAllReceived, HasToReceive, has_bytes, has_line, has_more, IsOver, ReceivedIs, Receives}
 use Rattle.lobby_turns.specs.Sending.{OnlyWrites, IsStop, IsWrittenOut, all_written, stopped, spent, IsAllSent, MustWait, SentIs, Sends}
-use Rattle.lobby_turns.specs.Went.{Went}
-use Rattle.lobby_turns.specs.Holds.{Made}
+use Rattle.lobby_holds.specs.Went.{Went}
+use Rattle.lobby_holds.specs.Holds.{Made}
 use Rattle.lobby_turns.specs.Turned.{IsEmptied, MayShut, spoilt, unread, unsent, finished, ended, TakesMemory, for_receiving, for_drain, for_shut, IsIdle, IsAtLimit, Ends, Turned, ClosesTo}
-use Rattle.lobby_turns.proofs.Parts.{requests-append, went_then}
-use Rattle.lobby_turns.proofs.Talks.{are_talk-append, drains_are_talk, drains_ask, touched-append, touched_drained, calm-append, finished-append, dry_behind}
+use Rattle.lobby_holds.proofs.Parts.{requests-append, went_then}
+use Rattle.lobby_holds.proofs.Talks.{are_talk-append, drains_are_talk, drains_ask, touched-append, touched_drained, calm-append, finished-append, dry_behind}
 
 -- what came from a client was received, and then what is for it was sent
 pub record Served (a b c : Snapshot) (how : ReceiveState) (far : SendState) (wakes : ℕ) : Type 0 where

@@ -3,16 +3,16 @@ use Rattle.std.specs.Prelude.{◌≡◌, ◌≢◌, ◌⊎◌, ℕ, ◌+◌, ◌
 use Rattle.lobby_post.specs.Mask.{has_home}
 use Rattle.client_session.specs.declared.session.Next.TheVariants.{Nothing, Spoilt}
 use Rattle.client_session.specs.OneSession.{IsNextOf, HasLineNext}
-use Rattle.lobby_turns.specs.declared.link.Got.TheVariants as got
+use Rattle.lobby_holds.specs.declared.link.Got.TheVariants as got
 use Rattle.lobby_turns.specs.declared.receiving.ReceiveState.{ReceiveState}
 use Rattle.lobby_turns.specs.declared.receiving.ReceiveState.TheVariants as receive
 use Rattle.lobby_turns.specs.declared.receiving.Step.{Step}
 use Rattle.lobby_turns.specs.declared.receiving.Step.TheVariants as step
-use Rattle.lobby_turns.specs.Moments.{Moment, requests, touched, told_end}
-use Rattle.lobby_turns.specs.Snapshot.{Snapshot}
-use Rattle.lobby_turns.specs.Talk.{AreTalk}
-use Rattle.lobby_turns.specs.Went.{Went}
-use Rattle.lobby_turns.specs.Holds.{AreSaid, IsWithin, StaysNext}
+use Rattle.lobby_holds.specs.Moments.{Moment, requests, touched, told_end}
+use Rattle.lobby_holds.specs.Snapshot.{Snapshot}
+use Rattle.lobby_holds.specs.Talk.{AreTalk}
+use Rattle.lobby_holds.specs.Went.{Went}
+use Rattle.lobby_holds.specs.Holds.{AreSaid, IsWithin, StaysNext}
 
 -- So many reads were made and no write, and each failed at most once. Without a read its last answer is as it was
 pub record OnlyReads (old new : Snapshot) (reads : ℕ) : Type 0 where

@@ -2,24 +2,17 @@
 //! the lobby has for the client is written.
 //!
 //! A worker serves a connection in turns ([`serve`]). A turn receives from the client (`receiving`) and then
-//! sends to it (`sending`). A hold says up to 32 lines, or drains up to four pieces (`holds`). It works over any
+//! sends to it (`sending`). A hold says up to 32 lines, or drains up to four pieces (`lobby_holds`). It works over any
 //! [`Link`], and its contract (`specs/Turned.antt`) speaks of all bytes that the link tells: none is
 //! lost, doubled or out of its order, whatever the link does.
 #![tactic(auto)]
 
-mod conn;
-mod gate;
-mod gated_desk;
-mod holds;
-mod link;
 mod receiving;
 mod sending;
 mod serving;
 mod turn;
 
-pub use conn::{Conn, PIECE};
-pub use gate::Gate;
-pub use holds::let_go;
-pub use link::{Got, Link, Sent};
+pub use lobby_holds::holds::let_go;
+pub use lobby_holds::{Conn, Gate, Got, Link, PIECE, Sent};
 pub use serving::{close, serve};
 pub use turn::{Turn, TurnState};

@@ -1,17 +1,15 @@
 //! The half of a turn that sends to the client: what the lobby has for it is drained, as much as one
 //! write carries, and written.
 
-ghost use Rattle.std.specs.Prelude.{◌≡◌, ◌≤◌, false};
-ghost use Rattle.lobby_turns.specs.Wire.{MayGoOn};
-ghost use Rattle.lobby_turns.specs.Snapshot.{Snapshot, snapshot};
-ghost use Rattle.lobby_turns.specs.Holds.{Drains};
+ghost use Rattle.std.specs.Prelude.{◌≡◌, ◌+◌, ◌≤◌, [], Some, false};
+ghost use Rattle.lobby_lock.specs.Passes.{ShownPass};
+ghost use Rattle.lobby_holds.specs.Wire.{MayGoOn};
+ghost use Rattle.lobby_holds.specs.Snapshot.{Snapshot, snapshot};
+ghost use Rattle.lobby_holds.specs.Went.{Went};
+ghost use Rattle.lobby_holds.specs.Holds.{Drains};
 ghost use Rattle.lobby_turns.specs.Sending.{OnlyWrites, SendsNext, Sends, Writes, MaySend};
 
-use crate::conn::Conn;
-use crate::gate::Gate;
-use crate::gated_desk::GatedDesk;
-use crate::holds;
-use crate::link::{Link, Sent};
+use lobby_holds::{Conn, Gate, GatedDesk, Link, Sent, holds};
 use lobby_lock::Pass;
 use std::sync::Wait;
 
@@ -53,6 +51,27 @@ pub(crate) enum Step {
     Memory,
 }
 
+/// Writes what was drained and not yet written, as much of it as the link takes now.
+fn write_rest<L: Link, G: Gate>(conn: &mut Conn, link: &mut L, gate: &G, worker: u64) -> Sent
+    requires { MayGoOn (L.wire link.old) }
+    ensures went { (pass : ShownPass) → Went (snapshot conn.old (L.wire link.old) pass) (snapshot conn.new (L.wire link.new) pass) [] }
+    ensures session { conn.new.session ≡ conn.old.session }
+    ensures unfed { conn.new.unfed ≡ conn.old.unfed }
+    ensures reads { (L.wire link.new).reads ≡ (L.wire link.old).reads }
+    ensures writes { (L.wire link.new).writes ≡ (L.wire link.old).writes + 1 }
+    ensures failures { (L.wire link.new).failures ≤ (L.wire link.old).failures + 1 }
+    ensures last_got { (L.wire link.new).last_got ≡ (L.wire link.old).last_got }
+    ensures last_sent { (L.wire link.new).last_sent ≡ Some result }
+{
+    let rest = conn.rest();
+    let sent = link.write(rest);
+    if let Sent::Took(count) = sent {
+        gate.after_write(worker, &rest[..count]);
+        conn.count_written(count);
+    }
+    sent
+}
+
 /// Writes what was drained, as much of it as the link takes now. Where the last drain was dry, which
 /// gave nothing, the client has been sent everything once all is written.
 fn send_link<L: Link, G: Gate>(
@@ -65,7 +84,7 @@ fn send_link<L: Link, G: Gate>(
     requires { MayGoOn (L.wire link.old) }
     ensures { (before : Snapshot) → Drains before (snapshot conn.old (L.wire link.old) pass) false dry → OnlyWrites before (snapshot conn.old (L.wire link.old) pass) 0 → SendsNext before (snapshot conn.new (L.wire link.new) result.0) result.1 }
 {
-    match conn.write(link, gate, pass.number()) {
+    match write_rest(conn, link, gate, pass.number()) {
         Sent::Took(_) => {
             if dry && conn.is_written() {
                 return (pass, Step::All);
@@ -117,7 +136,7 @@ fn write_out<L: Link, G: Gate>(conn: &mut Conn, link: &mut L, pass: &Pass, gate:
         if conn.is_written() {
             return;
         }
-        let Sent::Took(_) = conn.write(link, gate, pass.number()) else {
+        let Sent::Took(_) = write_rest(conn, link, gate, pass.number()) else {
             return;
         };
     }

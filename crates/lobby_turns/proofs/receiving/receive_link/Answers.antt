@@ -1,5 +1,5 @@
 use Rattle.std.proofs.Common.{ap, ◌∙◌, Some}
-use Rattle.lobby_turns.specs.Wire.{got_count}
+use Rattle.lobby_holds.specs.Wire.{got_count}
 use Rattle.lobby_turns.proofs.Receivings.{only_one, bytes_came, link_read, link_later, link_end, link_fault}
 use Rattle.lobby_turns.proofs.receiving.receive_link.Goals as goal
 

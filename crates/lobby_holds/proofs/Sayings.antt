@@ -1,0 +1,75 @@
+-- How lines are said to the lobby in a hold, one after another.
+use Rattle.std.proofs.Common.{◌≡◌, ℕ, ◌+◌, false, List, [], ◌∷◌, ◌++◌, length, refl, sym, ap, ◌∙◌, subst, length-append}
+use Rattle.std.proofs.Math.Bool.{or-false}
+use Rattle.std.specs.Prelude.{◌||◌, Option, Some, IfSome}
+use Rattle.command_forms.specs.declared.command.Request.{Request}
+use Rattle.lobby_model.specs.declared.event.Event.TheVariants as event
+use Rattle.lobby_model.specs.Touched.{touches}
+use Rattle.lobby_post.specs.Mask.{has_home}
+use Rattle.lobby_lock.specs.Passes.{ShownPass, ShownHold, pass_after}
+use Rattle.lobby_holds.specs.Wire.{Wire}
+use Rattle.lobby_holds.specs.Moments.{Moment, moment, requests, touched}
+use Rattle.lobby_holds.specs.Snapshot.{Carried, Snapshot, snapshot}
+use Rattle.lobby_holds.specs.Holds.{IsTaken, Made, AreSaid, SaysLines}
+use Rattle.lobby_holds.proofs.Joins.{held_none}
+use Rattle.lobby_holds.proofs.Parts.{requests-append, went_none, went_then, went_held}
+use Rattle.lobby_holds.proofs.Talks.{are_talk-append, touched-append, calm-append}
+
+pub says_none : (a : Snapshot) (wakes : ℕ) → ((home : ℕ) → has_home wakes home ≡ false) → SaysLines a a 0 wakes
+says_none a wakes none = record {
+  talk = [];
+  went = went_none a;
+  said = record { own = tt; calm = refl; lines_are = refl; wakes_are = none };
+}
+
+pub says_one : (a b : Snapshot) (request : Request) (wakes : ℕ) → Made a b (event.Say a.conn.session.client request) wakes → SaysLines a b 1 wakes
+says_one a b request wakes m = record {
+  talk = moment m.met (event.Say a.conn.session.client request) ∷ [];
+  went = m.went;
+  said = record {
+    own = (refl, tt);
+    calm = refl;
+    lines_are = refl;
+    wakes_are = λ home. m.wakes_are home ∙ sym (or-false (touches m.met (event.Say a.conn.session.client request) home));
+  };
+}
+
+said_then : (c : ℕ) (t u : List Moment) (m n wakes more all : ℕ) → AreSaid c t m wakes → AreSaid c u n more
+    → ((home : ℕ) → has_home all home ≡ (has_home wakes home || has_home more home)) → AreSaid c (t ++ u) (m + n) all
+said_then c t u m n wakes more all h k both = record {
+  own = are_talk-append c t u h.own k.own;
+  calm = calm-append t u h.calm k.calm;
+  lines_are = ap length (requests-append t u) ∙ length-append (requests t) (requests u) ∙ ap (λ x. x + length (requests u)) h.lines_are ∙ ap (λ x. m + x) k.lines_are;
+  wakes_are = λ home.
+      both home
+      ∙ ap (λ x. x || has_home more home) (h.wakes_are home)
+      ∙ ap (λ x. touched t home || x) (k.wakes_are home)
+      ∙ sym (touched-append t u home);
+}
+
+pub says_then : (a b c : Snapshot) (m n wakes more all : ℕ) → SaysLines a b m wakes → SaysLines b c n more → ((home : ℕ) → has_home all home ≡ (has_home wakes home || has_home more home)) → SaysLines a c (m + n) all
+says_then a b c m n wakes more all h k both = record {
+  talk = h.talk ++ k.talk;
+  went = went_then a b c h.talk k.talk h.went k.went;
+  said = said_then a.conn.session.client h.talk k.talk m n wakes more all h.said (subst (λ (x : ℕ). AreSaid x k.talk n more) h.went.client k.said) both;
+}
+
+-- a refused line leaves what there was
+pub says_still : (a : Snapshot) (x y : Carried) (wire : Wire) (h k : ShownHold) (lines wakes : ℕ) → (y ≡ x) × (k ≡ h) → SaysLines a (snapshot x wire (pass_after h)) lines wakes
+    → SaysLines a (snapshot y wire (pass_after k)) lines wakes
+says_still a x y wire h k lines wakes same s =
+    subst (λ (z : Carried × ShownHold). SaysLines a (snapshot z.0 wire (pass_after z.1)) lines wakes) (λ i. (sym same.0 i, sym same.1 i)) s
+
+-- the whole hold, from the take to the give
+pub says_held : (old new : Carried) (wire : Wire) (p q : ShownPass) (h k : ShownHold) (lines wakes : ℕ) → IsTaken p h → q ≡ pass_after k
+    → SaysLines (snapshot old wire (pass_after h)) (snapshot new wire (pass_after k)) lines wakes → SaysLines (snapshot old wire p) (snapshot new wire q) lines wakes
+says_held old new wire p q h k lines wakes taken is s =
+    subst (λ (x : ShownPass). SaysLines (snapshot old wire p) (snapshot new wire x) lines wakes) (sym is) (record {
+      talk = s.talk;
+      went = went_then (snapshot old wire p) (snapshot old wire (pass_after h)) (snapshot new wire (pass_after k)) [] s.talk (went_held old wire p (pass_after h) (held_none p (pass_after h) h h taken refl refl)) s.went;
+      said = s.said;
+    })
+
+-- what a clause says of a value that is known
+pub from_some : {A : Type 0} (o : Option A) (x : A) (P : A → Type 0) → o ≡ Some x → IfSome o P → P x
+from_some o x P e h = subst (λ (s : Option _). IfSome s P) e h

@@ -1,0 +1,168 @@
+//! The connection of a client.
+
+ghost use Rattle.std.specs.Prelude.{◌≡◌, ◌≢◌, ◌↔◌, ◌+◌, ◌≤◌, ℕ, List, [], ◌++◌, length, drop, OnOk, OnErr, IfOk, IsTrue, Some};
+ghost use Rattle.lobby_lock.specs.Passes.{ShownPass};
+ghost use Rattle.client_session.specs.OneSession.{Accepted, HasLineNext, IsNextOf};
+ghost use Rattle.client_session.specs.Sessions.{Heard, KeepsKinds};
+ghost use Rattle.lobby_holds.specs.Wire.{Wire, MayGoOn, got_count};
+ghost use Rattle.lobby_holds.specs.Snapshot.{snapshot, Carries};
+ghost use Rattle.lobby_holds.specs.Went.{Went};
+
+use crate::link::{Got, Link};
+use byte_queue::ByteQueue;
+use client_session::{Next, Session};
+use line_framer::FeedError;
+use std::alloc::{AllocError, Global};
+use std::marker::Model;
+
+/// The most bytes that one read or one drain moves: a page. A buffer of so many is made for each, so it is small enough to be had
+/// where memory is short, and nearly all that a client sends at once fits.
+pub const PIECE: usize = 4_096;
+
+/// The connection of one client: its session, and the bytes that are on their way. Contracts see
+/// those that were read and not yet fed, and those that were drained and not yet written. While none
+/// are to be written, it holds no buffer for them.
+#[derive(Drop)]
+pub struct Conn {
+    pub(crate) alloc: Global,
+    pub(crate) session: Session,
+    pub(crate) unfed: Vec<u8>,
+    pub(crate) unwritten: ByteQueue,
+}
+
+impl Model for Conn {
+    ghost use Rattle.std.specs.Prelude.{◌≡◌, []};
+    ghost use Rattle.lobby_holds.specs.Snapshot.{Carried};
+
+    ghost Value = { Carried };
+
+    ghost view = { λ c. record { session = c.session; unfed = c.unfed.items; unwritten = c.unwritten.bytes } };
+
+    ghost invariant = { λ c. c.unwritten.bytes ≡ [] → c.unwritten.room ≡ 0 };
+}
+
+impl Conn {
+    /// The connection of a client from which nothing came yet. It takes no memory.
+    pub fn new(alloc: Global, client: u64) -> Conn
+        ensures client { result.session.client ≡ client }
+        ensures nothing { (wire : Wire) (pass : ShownPass) → wire.read ≡ Some [] → wire.written ≡ Some [] → Carries (snapshot result wire pass) [] 0 [] }
+        ensures unfed { result.unfed ≡ [] }
+        ensures unwritten { result.unwritten ≡ [] }
+    {
+        Conn {
+            alloc,
+            session: Session::new(alloc, client),
+            unfed: Vec::new(alloc),
+            unwritten: ByteQueue::new(alloc),
+        }
+    }
+
+    /// The number of its client.
+    pub fn client(&self) -> u64
+        ensures { result ≡ self.now.session.client }
+    {
+        self.session.client()
+    }
+
+    /// What its client asks next, as `Session::next_request` says.
+    pub fn next_request(&self) -> Result<Next, AllocError>
+        ensures ok { IfOk result (λ next. IsNextOf (Some self.now.session) next) }
+        ensures kinds { IfOk result KeepsKinds }
+        ensures line { OnErr result (HasLineNext self.now.session) }
+    {
+        self.session.next_request()
+    }
+
+    /// What was drained and not yet written.
+    pub fn rest(&self) -> &[u8]
+        ensures { result.now ≡ self.now.unwritten }
+    {
+        self.unwritten.as_slice()
+    }
+
+    /// Whether all that was drained was written.
+    pub fn is_written(&self) -> bool
+        ensures { IsTrue result ↔ (self.now.unwritten ≡ []) }
+    {
+        self.rest().is_empty()
+    }
+
+    /// Has these bytes wait to be written, and no others.
+    pub(crate) fn set_drained(&mut self, mut drained: ByteQueue)
+        ensures { self.new ≡ record self.old { unwritten = drained.bytes } }
+    {
+        drained.release(0);
+        self.unwritten = drained;
+    }
+
+    /// So many bytes more were written.
+    pub fn count_written(&mut self, count: usize)
+        requires { count ≤ length self.old.unwritten }
+        ensures { self.new ≡ record self.old { unwritten = drop count self.old.unwritten } }
+    {
+        self.unwritten.consume(count);
+        self.unwritten.release(0);
+    }
+
+    /// Feeds what was read and not yet fed. Where memory is refused, nothing changes.
+    pub fn feed(&mut self) -> Result<(), AllocError>
+        ensures went { OnOk result ((wire : Wire) (pass : ShownPass) → Went (snapshot self.old wire pass) (snapshot self.new wire pass) []) }
+        ensures fed { OnOk result (self.new.unfed ≡ []) }
+        ensures unwritten { self.new.unwritten ≡ self.old.unwritten }
+        ensures err { OnErr result ((self.new ≡ self.old) × (self.old.unfed ≢ [])) }
+    {
+        if self.unfed.is_empty() {
+            return Ok(());
+        }
+        feed_session(&mut self.session, &self.unfed)?;
+        self.unfed = Vec::new(self.alloc);
+        Ok(())
+    }
+
+    /// Reads a piece. All that was read before was fed.
+    pub fn read<L: Link>(&mut self, link: &mut L) -> Result<Got, AllocError>
+        requires fed { self.old.unfed ≡ [] }
+        requires wire { MayGoOn (L.wire link.old) }
+        ensures went { (pass : ShownPass) → Went (snapshot self.old (L.wire link.old) pass) (snapshot self.new (L.wire link.new) pass) [] }
+        ensures session { self.new.session ≡ self.old.session }
+        ensures unwritten { self.new.unwritten ≡ self.old.unwritten }
+        ensures none { IfOk result (λ got. got_count got ≡ 0 → self.new ≡ self.old) }
+        ensures reads { OnOk result ((L.wire link.new).reads ≡ (L.wire link.old).reads + 1) }
+        ensures writes { (L.wire link.new).writes ≡ (L.wire link.old).writes }
+        ensures failures { (L.wire link.new).failures ≤ (L.wire link.old).failures + 1 }
+        ensures last_got { IfOk result (λ got. (L.wire link.new).last_got ≡ Some got) }
+        ensures last_sent { (L.wire link.new).last_sent ≡ (L.wire link.old).last_sent }
+        ensures err { OnErr result ((self.new ≡ self.old) × (L.wire link.new ≡ L.wire link.old)) }
+    {
+        let mut unfed = Vec::with_capacity(self.alloc, PIECE)?;
+        let mut piece = [0u8; PIECE];
+        let got = link.read(&mut piece);
+        if let Got::Bytes(count) = got {
+            let _ = unfed.extend_from_slice(&piece[..count]);
+            self.unfed = unfed;
+        }
+        Ok(got)
+    }
+
+    /// Accepts the next line, where one is there; else nothing changes.
+    pub(crate) fn accept(&mut self)
+        ensures session { Accepted (Some self.old.session) (Some self.new.session) }
+        ensures client { self.new.session.client ≡ self.old.session.client }
+        ensures unfed { self.new.unfed ≡ self.old.unfed }
+        ensures unwritten { self.new.unwritten ≡ self.old.unwritten }
+    {
+        self.session.accept_next();
+    }
+}
+
+/// Feeds a piece to a session. Where memory is refused, nothing changes.
+fn feed_session(session: &mut Session, piece: &[u8]) -> Result<(), AllocError>
+    ensures client { OnOk result (session.new.client ≡ session.old.client) }
+    ensures heard { OnOk result ((bytes : List ℕ) (accepted : ℕ) → Heard session.old.framed bytes accepted → Heard session.new.framed (bytes ++ piece.now) accepted) }
+    ensures err { OnErr result (session.new ≡ session.old) }
+{
+    match session.feed(piece) {
+        Err(FeedError::Memory) => Err(AllocError),
+        Ok(()) | Err(FeedError::Spoilt) => Ok(()),
+    }
+}
