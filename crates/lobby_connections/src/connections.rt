@@ -51,13 +51,18 @@ impl Drop for Connections {
     /// Who lets them go calls this, and need not know what they are made of.
     fn drop(self) {
         let Connections {
+            alloc: _,
             slab,
             keys,
+            round: _,
             named,
+            is_marked: _,
             due,
+            is_each_due: _,
             left,
+            is_each_left: _,
             lingering,
-            ..
+            timeout: _,
         } = self;
         drop(slab);
         drop(keys);
