@@ -30,6 +30,12 @@ pub type Bot = room_lists::Bot<BattleStatus>;
 pub struct Room<M: Copy = ()> {
     pub(crate) alloc: Global,
     members: Members<M>,
+    rest: Box<Rest>,
+}
+
+/// What lies apart: a login is told of every battle and reads none of this.
+#[derive(Drop)]
+struct Rest {
     bots: Bots<BattleStatus>,
     rects: Rects,
     tags: Tags,
@@ -42,7 +48,7 @@ impl<M: Copy> Model for Room<M> {
 
     ghost Value = { room.Room };
 
-    ghost view = { λ r. record { members = r.members; bots = r.bots; rects = r.rects; tags = r.tags; units = r.units; askers = r.askers } };
+    ghost view = { λ r. record { members = r.members; bots = r.rest.value.bots; rects = r.rest.value.rects; tags = r.rest.value.tags; units = r.rest.value.units; askers = r.rest.value.askers } };
 }
 
 impl Room {
@@ -81,15 +87,25 @@ impl<M: Copy> Room<M> {
     pub fn with_mark(alloc: Global, founder: NameBuf, mark: M) -> Result<Room<M>, AllocError>
         ensures { IfOk result (λ r. r ≡ room.new_room founder) }
     {
-        Ok(Room {
-            alloc,
-            members: Members::one(alloc, founder, mark)?,
+        let members = Members::one(alloc, founder, mark)?;
+        let rest = Rest {
             bots: Bots::new(alloc),
             rects: Rects::new(),
             tags: Tags::new(alloc),
             units: Units::new(alloc),
             askers: Askers::new(alloc),
-        })
+        };
+        match Box::new(alloc, rest) {
+            Ok(rest) => Ok(Room {
+                alloc,
+                members,
+                rest,
+            }),
+            Err(failed) => {
+                drop(failed);
+                Err(AllocError)
+            }
+        }
     }
 
     /// The members in order of joining, none of them twice.
@@ -104,7 +120,7 @@ impl<M: Copy> Room<M> {
     pub fn bots(&self) -> &[Bot]
         ensures { result.now ≡ self.now.bots }
     {
-        self.bots.as_slice()
+        self.rest.bots.as_slice()
     }
 
     /// Not run by the server, which uses `rects`: the start rectangle of an ally number, 0 to 15, if it
@@ -113,28 +129,28 @@ impl<M: Copy> Room<M> {
         requires { ally < 16 }
         ensures { result ≡ at_number self.now.rects ally }
     {
-        self.rects.at(ally)
+        self.rest.rects.at(ally)
     }
 
     /// The start rectangles of the ally numbers 0 to 15, in their order; None for one that has none.
     pub fn rects(&self) -> &[Option<Rect>; ALLY_COUNT]
         ensures { self.now.rects ≡ numbered 0 result.now }
     {
-        self.rects.places()
+        self.rest.rects.places()
     }
 
     /// The script tags in order of first setting.
     pub fn tags(&self) -> &[Pair]
         ensures { result.now ≡ self.now.tags }
     {
-        self.tags.as_slice()
+        self.rest.tags.as_slice()
     }
 
     /// The disabled units in order of first disabling.
     pub fn units(&self) -> &[WordBuf]
         ensures { result.now ≡ self.now.units }
     {
-        self.units.as_slice()
+        self.rest.units.as_slice()
     }
 
     /// Those who ask to join, in order of asking, none of them twice.
@@ -142,21 +158,21 @@ impl<M: Copy> Room<M> {
         ensures askers { result.now ≡ self.now.askers }
         ensures distinct { IsDistinct same_name (room.asker_names self.now) }
     {
-        self.askers.as_slice()
+        self.rest.askers.as_slice()
     }
 
     /// Whether one of this name asks to join.
     pub fn has_asker(&self, name: &NameBuf) -> bool
         ensures { result ≡ room.has_asker name.now self.now }
     {
-        self.askers.has(name)
+        self.rest.askers.has(name)
     }
 
     /// The one of a name who asks to join; None where nobody of it does.
     pub fn asker(&self, name: &NameBuf) -> Option<&Asker>
         ensures { option_copied result ≡ room.asker_of name.now self.now }
     {
-        self.askers.asker(name)
+        self.rest.askers.asker(name)
     }
 
     /// Whether one of this name is a member.
@@ -177,7 +193,7 @@ impl<M: Copy> Room<M> {
     pub fn bot(&self, name: &WordBuf) -> Option<&Bot>
         ensures { option_copied result ≡ room.bot_of name.now self.now }
     {
-        self.bots.bot(name)
+        self.rest.bots.bot(name)
     }
 
     /// Not run by the server, which keeps each battle's founder beside its room: whether the first member
@@ -192,14 +208,14 @@ impl<M: Copy> Room<M> {
     pub fn is_full_of_bots(&self) -> bool
         ensures { result ≡ room.is_full_of_bots self.now }
     {
-        self.bots.is_full()
+        self.rest.bots.is_full()
     }
 
     /// Whether there would be at most 512 tags (`TAG_LIMIT`), if these were set.
     pub fn has_room_for(&self, pairs: &[Pair]) -> bool
         ensures { result ≡ not (room.has_too_many_tags (tags.with_tags self.now.tags pairs.now)) }
     {
-        self.tags.has_room_for(pairs)
+        self.rest.tags.has_room_for(pairs)
     }
 
     /// Those of the keys that are set, each once, in the order of the list of keys. Fails only where memory
@@ -207,14 +223,14 @@ impl<M: Copy> Room<M> {
     pub fn keys_there(&self, alloc: Global, keys: &[WordBuf]) -> Result<WordList, AllocError>
         ensures { IfOk result (λ there. there ≡ tags.keys_there self.now.tags keys.now) }
     {
-        self.tags.keys_there(alloc, keys)
+        self.rest.tags.keys_there(alloc, keys)
     }
 
     /// Whether there would be at most 1,024 disabled units (`UNIT_LIMIT`), if these were disabled.
     pub fn has_room_for_units(&self, words: &[WordBuf]) -> bool
         ensures { result ≡ not (room.has_too_many_units (units.with_units self.now.units words.now)) }
     {
-        self.units.has_room_for(words)
+        self.rest.units.has_room_for(words)
     }
 
     /// Those of the words that are no disabled units, each once, in the order of the list of words. Fails
@@ -222,7 +238,7 @@ impl<M: Copy> Room<M> {
     pub fn units_new(&self, alloc: Global, words: &[WordBuf]) -> Result<WordList, AllocError>
         ensures { IfOk result (λ new. new ≡ units.words_new self.now.units words.now) }
     {
-        self.units.words_new(alloc, words)
+        self.rest.units.words_new(alloc, words)
     }
 
     /// Those of the words that are disabled units, each once, in the order of the list of words. Fails only
@@ -230,7 +246,7 @@ impl<M: Copy> Room<M> {
     pub fn units_there(&self, alloc: Global, words: &[WordBuf]) -> Result<WordList, AllocError>
         ensures { IfOk result (λ there. there ≡ units.words_there self.now.units words.now) }
     {
-        self.units.words_there(alloc, words)
+        self.rest.units.words_there(alloc, words)
     }
 
     /// One who is no member joins under a mark, behind the others. Where memory is refused, nothing
@@ -248,7 +264,7 @@ impl<M: Copy> Room<M> {
         ensures { self.new ≡ room.without_member name.now self.old }
     {
         self.members.remove(name);
-        self.bots.remove_owned(name);
+        self.rest.bots.remove_owned(name);
     }
 
     /// A status and a colour for a member. Where there is none of the name, nothing changes.
@@ -264,21 +280,21 @@ impl<M: Copy> Room<M> {
         ensures ok { OnOk result (self.new ≡ room.with_bot bot self.old) }
         ensures err { OnErr result (self.new ≡ self.old) }
     {
-        self.bots.add(bot)
+        self.rest.bots.add(bot)
     }
 
     /// A status and a colour for a bot. Where there is none of the name, nothing changes.
     pub fn put_bot_status(&mut self, name: &WordBuf, status: BattleStatus, colour: i64)
         ensures { self.new ≡ room.with_bot_status name.now status colour self.old }
     {
-        self.bots.put_status(name, status, colour);
+        self.rest.bots.put_status(name, status, colour);
     }
 
     /// A bot goes. Where there is none of the name, nothing changes.
     pub fn drop_bot(&mut self, name: &WordBuf)
         ensures { self.new ≡ room.without_bot name.now self.old }
     {
-        self.bots.remove(name);
+        self.rest.bots.remove(name);
     }
 
     /// A start rectangle for an ally number, 0 to 15, in the place of an earlier one.
@@ -286,7 +302,7 @@ impl<M: Copy> Room<M> {
         requires { ally < 16 }
         ensures { self.new ≡ room.with_rect ally rect self.old }
     {
-        self.rects.put(ally, rect);
+        self.rest.rects.put(ally, rect);
     }
 
     /// No start rectangle any more for an ally number, 0 to 15. Where it has none, nothing changes.
@@ -294,7 +310,7 @@ impl<M: Copy> Room<M> {
         requires { ally < 16 }
         ensures { self.new ≡ room.without_rect ally self.old }
     {
-        self.rects.remove(ally);
+        self.rest.rects.remove(ally);
     }
 
     /// Sets tags, however many there are then: a key that is set keeps its place, another comes last, and of
@@ -303,14 +319,14 @@ impl<M: Copy> Room<M> {
         ensures ok { OnOk result (self.new ≡ room.set_tags pairs self.old) }
         ensures err { OnErr result (self.new ≡ self.old) }
     {
-        self.tags.put(self.alloc, pairs)
+        self.rest.tags.put(self.alloc, pairs)
     }
 
     /// Tags of these keys go. Keys that are not set change nothing.
     pub fn drop_tags(&mut self, keys: &[WordBuf])
         ensures { self.new ≡ room.remove_tags keys.now self.old }
     {
-        self.tags.remove(keys);
+        self.rest.tags.remove(keys);
     }
 
     /// Units are disabled, however many there are then: one that is keeps its place, another comes last.
@@ -319,21 +335,21 @@ impl<M: Copy> Room<M> {
         ensures ok { OnOk result (self.new ≡ room.disable_units words self.old) }
         ensures err { OnErr result (self.new ≡ self.old) }
     {
-        self.units.put(self.alloc, words)
+        self.rest.units.put(self.alloc, words)
     }
 
     /// Units are enabled again. Words that are no disabled units change nothing.
     pub fn drop_units(&mut self, words: &[WordBuf])
         ensures { self.new ≡ room.enable_units words.now self.old }
     {
-        self.units.remove(words);
+        self.rest.units.remove(words);
     }
 
     /// No unit is disabled any more.
     pub fn clear_units(&mut self)
         ensures { self.new ≡ room.enable_all self.old }
     {
-        self.units.clear();
+        self.rest.units.clear();
     }
 
     /// One who is neither a member nor asks asks to join, behind the others. Where memory is refused,
@@ -344,7 +360,7 @@ impl<M: Copy> Room<M> {
         ensures ok { OnOk result (self.new ≡ room.with_asker name script_password self.old) }
         ensures err { OnErr result (self.new ≡ self.old) }
     {
-        self.askers.add(name, script_password)
+        self.rest.askers.add(name, script_password)
     }
 
     /// One who asks to join asks no more. Where nobody of the name asks, nothing changes.
@@ -359,7 +375,7 @@ impl<M: Copy> Room<M> {
         ensures given { result ≡ room.asker_of name.now self.old }
         ensures rest { self.new ≡ room.without_asker name.now self.old }
     {
-        self.askers.remove(name)
+        self.rest.askers.remove(name)
     }
 
     /// One who is no member, and may ask to join, asks no more and joins under a mark, behind the others.

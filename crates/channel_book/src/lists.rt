@@ -5,7 +5,7 @@ ghost use Rattle.std.specs.List.Sorted.{IsStrictlySortedBy};
 ghost use Rattle.std.specs.Map.{keys_of};
 ghost use Rattle.std.specs.Map.Iter.{ShowsInOrder, deref_pair};
 ghost use Rattle.line_words.specs.Table.{name_cmp, is_among};
-ghost use Rattle.channel_book.specs.Channels.{names_in, names_of, joined, left};
+ghost use Rattle.channel_book.specs.Channels.{names_in, names_of, joined, left, all_left};
 ghost use Rattle.channel_book.specs.Book.{AreLively};
 ghost use Rattle.channel_book.specs.Places.{left_each};
 
@@ -70,6 +70,13 @@ impl<M: Copy> Lists<M> {
                 let _ = self.channels.remove(channel);
             }
         }
+    }
+
+    /// A user leaves every channel, by a walk over all.
+    pub fn remove_from_all(&mut self, user: &NameBuf)
+        ensures { self.new ≡ all_left user.now self.old }
+    {
+        self.channels.retain(|_, members| members.remove(user));
     }
 
     /// A user leaves those of the channels that are named.

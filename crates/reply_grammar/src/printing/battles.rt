@@ -1,7 +1,8 @@
 //! Printing the replies on battles as all see them.
-#![tactic(auto, using(crate::proofs::Kept::kept_then, crate::proofs::Kept::kept_more))]
+#![tactic(auto, using(crate::proofs::Kept::front_more, crate::proofs::Kept::front_all))]
 
-ghost use Rattle.std.specs.Prelude.{◌≡◌, [], ◌∷◌, ◌++◌, IfOk, decimal, if◌then◌else◌, length, option_copied, take};
+ghost use Rattle.std.specs.Prelude.{◌≡◌, [], ◌∷◌, ◌++◌, IfOk, decimal, if◌then◌else◌, option_copied};
+ghost use Rattle.reply_grammar.specs.Fronts.{Keeps};
 ghost use Rattle.std.specs.Fmt.{signed_decimal};
 ghost use Rattle.reply_kinds.specs.declared.Reply.TheVariants as reply;
 ghost use Rattle.reply_kinds.specs.declared.command_word.CommandWord.TheVariants as command;
@@ -66,7 +67,7 @@ pub(super) fn lend(reply: &Reply) -> LentReply
 pub(super) fn put(out: &mut Vec<u8>, id: Option<u32>, reply: LentReply) -> Result<(), AllocError>
     requires { group_of (command_of (reply_of reply)) ≡ Battles }
     ensures ok { IfOk result (λ _. out.new.items ≡ out.old.items ++ printed_line id (reply_of reply.entry)) }
-    ensures kept { take (length out.old.items) out.new.items ≡ out.old.items }
+    ensures kept { Keeps out.old.items out.new.items }
 {
     match reply {
         LentReply::OpenBattle { battle } => {
@@ -103,7 +104,7 @@ pub(super) fn put_battle_opened(
 ) -> Result<(), AllocError>
     requires { command_of reply.now ≡ command.BattleOpened }
     ensures ok { IfOk result (λ _. out.new.items ≡ out.old.items ++ printed_line id reply.now) }
-    ensures kept { take (length out.old.items) out.new.items ≡ out.old.items }
+    ensures kept { Keeps out.old.items out.new.items }
 {
     let Reply::BattleOpened {
         battle,
@@ -140,7 +141,7 @@ pub(super) fn put_opened_battle(
     opened: &OpenedBattle,
 ) -> Result<(), AllocError>
     ensures ok { IfOk result (λ _. out.new.items ≡ out.old.items ++ printed_line id (battle_opened battle opened.now)) }
-    ensures kept { take (length out.old.items) out.new.items ≡ out.old.items }
+    ensures kept { Keeps out.old.items out.new.items }
 {
     put_command(out, id, CommandWord::BattleOpened)?;
     put_host(
@@ -182,7 +183,7 @@ fn put_host(
     port: u16,
 ) -> Result<(), AllocError>
     ensures ok { IfOk result (λ _. out.new.items ≡ out.old.items ++ ((32 ∷ decimal battle) ++ ((32 ∷ decimal battle_type) ++ ((32 ∷ decimal nat_type) ++ ((32 ∷ founder.now) ++ ((32 ∷ ip.now) ++ (32 ∷ decimal port))))))) }
-    ensures kept { take (length out.old.items) out.new.items ≡ out.old.items }
+    ensures kept { Keeps out.old.items out.new.items }
 {
     put_number(out, battle)?;
     put_number(out, u32::from(battle_type))?;
@@ -202,7 +203,7 @@ fn put_entry(
     map_hash: &i64,
 ) -> Result<(), AllocError>
     ensures ok { IfOk result (λ _. out.new.items ≡ out.old.items ++ ((32 ∷ decimal max_players) ++ ((32 ∷ (if passworded then 49 else 48) ∷ []) ++ ((32 ∷ signed_decimal rank.now) ++ (32 ∷ signed_decimal map_hash.now))))) }
-    ensures kept { take (length out.old.items) out.new.items ≡ out.old.items }
+    ensures kept { Keeps out.old.items out.new.items }
 {
     put_number(out, u32::from(max_players))?;
     put_flag(out, passworded)?;
@@ -220,7 +221,7 @@ fn put_titles(
     game_name: &SentenceBuf,
 ) -> Result<(), AllocError>
     ensures ok { IfOk result (λ _. out.new.items ≡ out.old.items ++ ((32 ∷ engine_name.now) ++ ((9 ∷ engine_version.now) ++ ((9 ∷ map.now) ++ ((9 ∷ title.now) ++ (9 ∷ game_name.now)))))) }
-    ensures kept { take (length out.old.items) out.new.items ≡ out.old.items }
+    ensures kept { Keeps out.old.items out.new.items }
 {
     put_sentence(out, engine_name)?;
     put_next_sentence(out, engine_version)?;
@@ -237,12 +238,13 @@ fn put_join_battle(
     game_hash: &i64,
 ) -> Result<(), AllocError>
     ensures ok { IfOk result (λ _. out.new.items ≡ out.old.items ++ printed_line id (reply.JoinBattle battle game_hash.now)) }
-    ensures kept { take (length out.old.items) out.new.items ≡ out.old.items }
+    ensures kept { Keeps out.old.items out.new.items }
 {
     put_command(out, id, CommandWord::JoinBattle)?;
     put_number(out, battle)?;
     put_wide(out, game_hash)?;
-    put_end(out)
+    put_end(out)?;
+    Ok(())
 }
 
 fn put_joined_battle(
@@ -253,7 +255,7 @@ fn put_joined_battle(
     script_password: Option<&WordBuf>,
 ) -> Result<(), AllocError>
     ensures ok { IfOk result (λ _. out.new.items ≡ out.old.items ++ printed_line id (reply.JoinedBattle battle user.now (option_copied script_password.entry))) }
-    ensures kept { take (length out.old.items) out.new.items ≡ out.old.items }
+    ensures kept { Keeps out.old.items out.new.items }
 {
     put_command(out, id, CommandWord::JoinedBattle)?;
     put_number(out, battle)?;
@@ -270,12 +272,13 @@ fn put_left_battle(
     user: &NameBuf,
 ) -> Result<(), AllocError>
     ensures ok { IfOk result (λ _. out.new.items ≡ out.old.items ++ printed_line id (reply.LeftBattle battle user.now)) }
-    ensures kept { take (length out.old.items) out.new.items ≡ out.old.items }
+    ensures kept { Keeps out.old.items out.new.items }
 {
     put_command(out, id, CommandWord::LeftBattle)?;
     put_number(out, battle)?;
     put_name(out, user)?;
-    put_end(out)
+    put_end(out)?;
+    Ok(())
 }
 
 fn put_update_battle_info(
@@ -288,7 +291,7 @@ fn put_update_battle_info(
     map: &SentenceBuf,
 ) -> Result<(), AllocError>
     ensures ok { IfOk result (λ _. out.new.items ≡ out.old.items ++ printed_line id (reply.UpdateBattleInfo battle spectator_count locked map_hash.now map.now)) }
-    ensures kept { take (length out.old.items) out.new.items ≡ out.old.items }
+    ensures kept { Keeps out.old.items out.new.items }
 {
     put_command(out, id, CommandWord::UpdateBattleInfo)?;
     put_number(out, battle)?;

@@ -1,7 +1,8 @@
 //! Printing the replies on the bots of a battle.
-#![tactic(auto, using(crate::proofs::Kept::kept_then, crate::proofs::Kept::kept_more))]
+#![tactic(auto, using(crate::proofs::Kept::front_more, crate::proofs::Kept::front_all))]
 
-ghost use Rattle.std.specs.Prelude.{◌≡◌, ◌++◌, IfOk, length, take};
+ghost use Rattle.std.specs.Prelude.{◌≡◌, ◌++◌, IfOk};
+ghost use Rattle.reply_grammar.specs.Fronts.{Keeps};
 ghost use Rattle.reply_kinds.specs.declared.Reply.TheVariants as reply;
 ghost use Rattle.reply_grammar.specs.Groups.{Bots, group_of};
 ghost use Rattle.reply_kinds.specs.Lent.{reply_of};
@@ -56,7 +57,7 @@ pub(super) fn lend(reply: &Reply) -> LentReply
 pub(super) fn put(out: &mut Vec<u8>, id: Option<u32>, reply: LentReply) -> Result<(), AllocError>
     requires { group_of (command_of (reply_of reply)) ≡ Bots }
     ensures ok { IfOk result (λ _. out.new.items ≡ out.old.items ++ printed_line id (reply_of reply.entry)) }
-    ensures kept { take (length out.old.items) out.new.items ≡ out.old.items }
+    ensures kept { Keeps out.old.items out.new.items }
 {
     match reply {
         LentReply::AddBot {
@@ -89,7 +90,7 @@ fn put_add_bot(
     ai: &SentenceBuf,
 ) -> Result<(), AllocError>
     ensures ok { IfOk result (λ _. out.new.items ≡ out.old.items ++ printed_line id (reply.AddBot battle bot.now owner.now battle_status team_color.now ai.now)) }
-    ensures kept { take (length out.old.items) out.new.items ≡ out.old.items }
+    ensures kept { Keeps out.old.items out.new.items }
 {
     put_command(out, id, CommandWord::AddBot)?;
     put_number(out, battle)?;
@@ -111,7 +112,7 @@ fn put_update_bot(
     team_color: &i64,
 ) -> Result<(), AllocError>
     ensures ok { IfOk result (λ _. out.new.items ≡ out.old.items ++ printed_line id (reply.UpdateBot battle bot.now battle_status team_color.now)) }
-    ensures kept { take (length out.old.items) out.new.items ≡ out.old.items }
+    ensures kept { Keeps out.old.items out.new.items }
 {
     put_command(out, id, CommandWord::UpdateBot)?;
     put_number(out, battle)?;
@@ -129,10 +130,11 @@ fn put_remove_bot(
     bot: &WordBuf,
 ) -> Result<(), AllocError>
     ensures ok { IfOk result (λ _. out.new.items ≡ out.old.items ++ printed_line id (reply.RemoveBot battle bot.now)) }
-    ensures kept { take (length out.old.items) out.new.items ≡ out.old.items }
+    ensures kept { Keeps out.old.items out.new.items }
 {
     put_command(out, id, CommandWord::RemoveBot)?;
     put_number(out, battle)?;
     put_word(out, bot)?;
-    put_end(out)
+    put_end(out)?;
+    Ok(())
 }

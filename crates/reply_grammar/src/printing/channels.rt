@@ -1,7 +1,8 @@
 //! Printing the replies on channels and private speech.
-#![tactic(auto, using(crate::proofs::Kept::kept_then, crate::proofs::Kept::kept_more))]
+#![tactic(auto, using(crate::proofs::Kept::front_more, crate::proofs::Kept::front_all))]
 
-ghost use Rattle.std.specs.Prelude.{◌≡◌, [], ◌∷◌, ◌++◌, IfOk, length, take};
+ghost use Rattle.std.specs.Prelude.{◌≡◌, [], ◌∷◌, ◌++◌, IfOk};
+ghost use Rattle.reply_grammar.specs.Fronts.{Keeps};
 ghost use Rattle.reply_kinds.specs.declared.Reply.TheVariants as reply;
 ghost use Rattle.reply_grammar.specs.Groups.{Channels, group_of};
 ghost use Rattle.reply_kinds.specs.Lent.{reply_of};
@@ -64,7 +65,7 @@ pub(super) fn lend(reply: &Reply) -> LentReply
 pub(super) fn put(out: &mut Vec<u8>, id: Option<u32>, reply: LentReply) -> Result<(), AllocError>
     requires { group_of (command_of (reply_of reply)) ≡ Channels }
     ensures ok { IfOk result (λ _. out.new.items ≡ out.old.items ++ printed_line id (reply_of reply.entry)) }
-    ensures kept { take (length out.old.items) out.new.items ≡ out.old.items }
+    ensures kept { Keeps out.old.items out.new.items }
 {
     match reply {
         LentReply::Join { channel } => put_only_name(out, id, CommandWord::Join, channel),
@@ -114,12 +115,13 @@ fn put_channel(
     user_count: usize,
 ) -> Result<(), AllocError>
     ensures ok { IfOk result (λ _. out.new.items ≡ out.old.items ++ printed_line id (reply.Channel channel.now user_count)) }
-    ensures kept { take (length out.old.items) out.new.items ≡ out.old.items }
+    ensures kept { Keeps out.old.items out.new.items }
 {
     put_command(out, id, CommandWord::Channel)?;
     put_name(out, channel)?;
     put_count(out, user_count)?;
-    put_end(out)
+    put_end(out)?;
+    Ok(())
 }
 
 fn put_clients(
@@ -129,12 +131,13 @@ fn put_clients(
     names: &[NameBuf],
 ) -> Result<(), AllocError>
     ensures ok { IfOk result (λ _. out.new.items ≡ out.old.items ++ printed_line id (reply.Clients channel.now names.now)) }
-    ensures kept { take (length out.old.items) out.new.items ≡ out.old.items }
+    ensures kept { Keeps out.old.items out.new.items }
 {
     put_command(out, id, CommandWord::Clients)?;
     put_name(out, channel)?;
     put_names(out, names)?;
-    put_end(out)
+    put_end(out)?;
+    Ok(())
 }
 
 // The names and one more.
@@ -146,7 +149,7 @@ fn put_last_clients(
     last: &NameBuf,
 ) -> Result<(), AllocError>
     ensures ok { IfOk result (λ _. out.new.items ≡ out.old.items ++ printed_line id (reply.Clients channel.now (names.now ++ last.now ∷ []))) }
-    ensures kept { take (length out.old.items) out.new.items ≡ out.old.items }
+    ensures kept { Keeps out.old.items out.new.items }
 {
     put_command(out, id, CommandWord::Clients)?;
     put_name(out, channel)?;

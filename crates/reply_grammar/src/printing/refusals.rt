@@ -1,8 +1,9 @@
 //! Printing the replies that a client is refused with. Their texts are lent as `Text`s, which a `Reply` does
 //! not hold.
-#![tactic(auto, using(crate::proofs::Kept::kept_then, crate::proofs::Kept::kept_more))]
+#![tactic(auto, using(crate::proofs::Kept::front_more, crate::proofs::Kept::front_all))]
 
-ghost use Rattle.std.specs.Prelude.{◌≡◌, ◌++◌, IfOk, length, take};
+ghost use Rattle.std.specs.Prelude.{◌≡◌, ◌++◌, IfOk};
+ghost use Rattle.reply_grammar.specs.Fronts.{Keeps};
 ghost use Rattle.reply_grammar.specs.Groups.{Refusals, group_of};
 ghost use Rattle.reply_kinds.specs.Lent.{reply_of};
 ghost use Rattle.reply_kinds.specs.Replies.{command_of, printed_line};
@@ -15,7 +16,7 @@ use std::alloc::AllocError;
 pub(super) fn put_reply(out: &mut Vec<u8>, id: Option<u32>, reply: &Reply) -> Result<(), AllocError>
     requires { group_of (command_of reply.now) ≡ Refusals }
     ensures ok { IfOk result (λ _. out.new.items ≡ out.old.items ++ printed_line id reply.now) }
-    ensures kept { take (length out.old.items) out.new.items ≡ out.old.items }
+    ensures kept { Keeps out.old.items out.new.items }
 {
     match reply {
         Reply::Denied { text } => put(
@@ -62,7 +63,7 @@ pub(super) fn put_reply(out: &mut Vec<u8>, id: Option<u32>, reply: &Reply) -> Re
 pub(super) fn put(out: &mut Vec<u8>, id: Option<u32>, reply: LentReply) -> Result<(), AllocError>
     requires { group_of (command_of (reply_of reply)) ≡ Refusals }
     ensures ok { IfOk result (λ _. out.new.items ≡ out.old.items ++ printed_line id (reply_of reply.entry)) }
-    ensures kept { take (length out.old.items) out.new.items ≡ out.old.items }
+    ensures kept { Keeps out.old.items out.new.items }
 {
     match reply {
         LentReply::Denied { text } => put_only_text(out, id, CommandWord::Denied, text),

@@ -1,7 +1,8 @@
 //! Printing the replies on the greeting, logins and users.
-#![tactic(auto, using(crate::proofs::Kept::kept_then, crate::proofs::Kept::kept_more))]
+#![tactic(auto, using(crate::proofs::Kept::front_more, crate::proofs::Kept::front_all))]
 
-ghost use Rattle.std.specs.Prelude.{◌≡◌, ◌++◌, IfOk, length, take};
+ghost use Rattle.std.specs.Prelude.{◌≡◌, ◌++◌, IfOk};
+ghost use Rattle.reply_grammar.specs.Fronts.{Keeps};
 ghost use Rattle.reply_kinds.specs.declared.Reply.TheVariants as reply;
 ghost use Rattle.reply_grammar.specs.Groups.{Session, group_of};
 ghost use Rattle.reply_kinds.specs.Lent.{reply_of};
@@ -58,7 +59,7 @@ pub(super) fn lend(reply: &Reply) -> LentReply
 pub(super) fn put(out: &mut Vec<u8>, id: Option<u32>, reply: LentReply) -> Result<(), AllocError>
     requires { group_of (command_of (reply_of reply)) ≡ Session }
     ensures ok { IfOk result (λ _. out.new.items ≡ out.old.items ++ printed_line id (reply_of reply.entry)) }
-    ensures kept { take (length out.old.items) out.new.items ≡ out.old.items }
+    ensures kept { Keeps out.old.items out.new.items }
 {
     match reply {
         LentReply::TasServer {
@@ -101,7 +102,7 @@ fn put_tas_server(
     server_mode: u8,
 ) -> Result<(), AllocError>
     ensures ok { IfOk result (λ _. out.new.items ≡ out.old.items ++ printed_line id (reply.TasServer protocol_version.now spring_version.now udp_port server_mode)) }
-    ensures kept { take (length out.old.items) out.new.items ≡ out.old.items }
+    ensures kept { Keeps out.old.items out.new.items }
 {
     put_command(out, id, CommandWord::TasServer)?;
     put_word(out, protocol_version)?;
@@ -121,7 +122,7 @@ fn put_add_user(
     account: u32,
 ) -> Result<(), AllocError>
     ensures ok { IfOk result (λ _. out.new.items ≡ out.old.items ++ printed_line id (reply.AddUser user.now country.now cpu.now account)) }
-    ensures kept { take (length out.old.items) out.new.items ≡ out.old.items }
+    ensures kept { Keeps out.old.items out.new.items }
 {
     put_command(out, id, CommandWord::AddUser)?;
     put_name(out, user)?;
@@ -139,10 +140,11 @@ fn put_client_status(
     status: u32,
 ) -> Result<(), AllocError>
     ensures ok { IfOk result (λ _. out.new.items ≡ out.old.items ++ printed_line id (reply.ClientStatus user.now status)) }
-    ensures kept { take (length out.old.items) out.new.items ≡ out.old.items }
+    ensures kept { Keeps out.old.items out.new.items }
 {
     put_command(out, id, CommandWord::ClientStatus)?;
     put_name(out, user)?;
     put_number(out, status)?;
-    put_end(out)
+    put_end(out)?;
+    Ok(())
 }

@@ -1,7 +1,8 @@
 //! Printing the replies on what a founder sets up for the game.
-#![tactic(auto, using(crate::proofs::Kept::kept_then, crate::proofs::Kept::kept_more))]
+#![tactic(auto, using(crate::proofs::Kept::front_more, crate::proofs::Kept::front_all))]
 
-ghost use Rattle.std.specs.Prelude.{◌≡◌, ◌++◌, IfOk, length, take};
+ghost use Rattle.std.specs.Prelude.{◌≡◌, ◌++◌, IfOk};
+ghost use Rattle.reply_grammar.specs.Fronts.{Keeps};
 ghost use Rattle.reply_kinds.specs.declared.Reply.TheVariants as reply;
 ghost use Rattle.reply_grammar.specs.Groups.{Setup, group_of};
 ghost use Rattle.reply_kinds.specs.Lent.{reply_of};
@@ -54,7 +55,7 @@ pub(super) fn lend(reply: &Reply) -> LentReply
 pub(super) fn put(out: &mut Vec<u8>, id: Option<u32>, reply: LentReply) -> Result<(), AllocError>
     requires { group_of (command_of (reply_of reply)) ≡ Setup }
     ensures ok { IfOk result (λ _. out.new.items ≡ out.old.items ++ printed_line id (reply_of reply.entry)) }
-    ensures kept { take (length out.old.items) out.new.items ≡ out.old.items }
+    ensures kept { Keeps out.old.items out.new.items }
 {
     match reply {
         LentReply::AddStartRect {
@@ -104,7 +105,7 @@ fn put_add_start_rect(
     bottom: u8,
 ) -> Result<(), AllocError>
     ensures ok { IfOk result (λ _. out.new.items ≡ out.old.items ++ printed_line id (reply.AddStartRect ally_no left top right bottom)) }
-    ensures kept { take (length out.old.items) out.new.items ≡ out.old.items }
+    ensures kept { Keeps out.old.items out.new.items }
 {
     put_command(out, id, CommandWord::AddStartRect)?;
     put_number(out, u32::from(ally_no))?;
@@ -118,9 +119,10 @@ fn put_add_start_rect(
 
 fn put_set_script_tags(out: &mut Vec<u8>, id: Option<u32>, pairs: &[Pair]) -> Result<(), AllocError>
     ensures ok { IfOk result (λ _. out.new.items ≡ out.old.items ++ printed_line id (reply.SetScriptTags pairs.now)) }
-    ensures kept { take (length out.old.items) out.new.items ≡ out.old.items }
+    ensures kept { Keeps out.old.items out.new.items }
 {
     put_command(out, id, CommandWord::SetScriptTags)?;
     put_pairs(out, pairs)?;
-    put_end(out)
+    put_end(out)?;
+    Ok(())
 }

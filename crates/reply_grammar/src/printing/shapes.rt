@@ -1,8 +1,9 @@
 //! Printing the lines of the arguments that several replies share. They are inlined, so that the
 //! command word is a constant where they are called.
-#![tactic(auto, using(crate::proofs::Kept::kept_then, crate::proofs::Kept::kept_more))]
+#![tactic(auto, using(crate::proofs::Kept::front_more, crate::proofs::Kept::front_all))]
 
-ghost use Rattle.std.specs.Prelude.{◌≡◌, [], ◌∷◌, ◌++◌, IfOk, length, take};
+ghost use Rattle.std.specs.Prelude.{◌≡◌, [], ◌∷◌, ◌++◌, IfOk};
+ghost use Rattle.reply_grammar.specs.Fronts.{Keeps};
 ghost use Rattle.reply_kinds.specs.Kinds as kind;
 ghost use Rattle.reply_kinds.specs.Replies.{line_with, status_word};
 
@@ -18,7 +19,7 @@ pub(super) fn put_bare(
     command: CommandWord,
 ) -> Result<(), AllocError>
     ensures ok { IfOk result (λ _. out.new.items ≡ out.old.items ++ line_with id command [] tt) }
-    ensures kept { take (length out.old.items) out.new.items ≡ out.old.items }
+    ensures kept { Keeps out.old.items out.new.items }
 {
     put_command(out, id, command)?;
     put_end(out)
@@ -32,11 +33,12 @@ pub(super) fn put_only_number(
     number: u32,
 ) -> Result<(), AllocError>
     ensures ok { IfOk result (λ _. out.new.items ≡ out.old.items ++ line_with id command (status_word ∷ []) (number, tt)) }
-    ensures kept { take (length out.old.items) out.new.items ≡ out.old.items }
+    ensures kept { Keeps out.old.items out.new.items }
 {
     put_command(out, id, command)?;
     put_number(out, number)?;
-    put_end(out)
+    put_end(out)?;
+    Ok(())
 }
 
 #[inline(always)]
@@ -47,11 +49,12 @@ pub(super) fn put_only_name(
     name: &NameBuf,
 ) -> Result<(), AllocError>
     ensures ok { IfOk result (λ _. out.new.items ≡ out.old.items ++ line_with id command (kind.Name ∷ []) (name.now, tt)) }
-    ensures kept { take (length out.old.items) out.new.items ≡ out.old.items }
+    ensures kept { Keeps out.old.items out.new.items }
 {
     put_command(out, id, command)?;
     put_name(out, name)?;
-    put_end(out)
+    put_end(out)?;
+    Ok(())
 }
 
 #[inline(always)]
@@ -62,11 +65,12 @@ pub(super) fn put_only_text(
     text: &Text,
 ) -> Result<(), AllocError>
     ensures ok { IfOk result (λ _. out.new.items ≡ out.old.items ++ line_with id command (kind.Text ∷ []) (text.now, tt)) }
-    ensures kept { take (length out.old.items) out.new.items ≡ out.old.items }
+    ensures kept { Keeps out.old.items out.new.items }
 {
     put_command(out, id, command)?;
     put_text(out, text)?;
-    put_end(out)
+    put_end(out)?;
+    Ok(())
 }
 
 #[inline(always)]
@@ -77,11 +81,12 @@ pub(super) fn put_only_words(
     words: &[WordBuf],
 ) -> Result<(), AllocError>
     ensures ok { IfOk result (λ _. out.new.items ≡ out.old.items ++ line_with id command (kind.Words ∷ []) (words.now, tt)) }
-    ensures kept { take (length out.old.items) out.new.items ≡ out.old.items }
+    ensures kept { Keeps out.old.items out.new.items }
 {
     put_command(out, id, command)?;
     put_words(out, words)?;
-    put_end(out)
+    put_end(out)?;
+    Ok(())
 }
 
 #[inline(always)]
@@ -93,12 +98,13 @@ pub(super) fn put_two_names(
     second: &NameBuf,
 ) -> Result<(), AllocError>
     ensures ok { IfOk result (λ _. out.new.items ≡ out.old.items ++ line_with id command (kind.Name ∷ kind.Name ∷ []) (first.now, (second.now, tt))) }
-    ensures kept { take (length out.old.items) out.new.items ≡ out.old.items }
+    ensures kept { Keeps out.old.items out.new.items }
 {
     put_command(out, id, command)?;
     put_name(out, first)?;
     put_name(out, second)?;
-    put_end(out)
+    put_end(out)?;
+    Ok(())
 }
 
 #[inline(always)]
@@ -110,7 +116,7 @@ pub(super) fn put_name_and_text(
     text: &Text,
 ) -> Result<(), AllocError>
     ensures ok { IfOk result (λ _. out.new.items ≡ out.old.items ++ line_with id command (kind.Name ∷ kind.Text ∷ []) (name.now, (text.now, tt))) }
-    ensures kept { take (length out.old.items) out.new.items ≡ out.old.items }
+    ensures kept { Keeps out.old.items out.new.items }
 {
     put_command(out, id, command)?;
     put_name(out, name)?;
@@ -129,7 +135,7 @@ pub(super) fn put_two_names_and_text(
     text: &Text,
 ) -> Result<(), AllocError>
     ensures ok { IfOk result (λ _. out.new.items ≡ out.old.items ++ line_with id command (kind.Name ∷ kind.Name ∷ kind.Text ∷ []) (first.now, (second.now, (text.now, tt)))) }
-    ensures kept { take (length out.old.items) out.new.items ≡ out.old.items }
+    ensures kept { Keeps out.old.items out.new.items }
 {
     put_command(out, id, command)?;
     put_name(out, first)?;
