@@ -52,14 +52,15 @@ impl<M: Copy> Model for ChannelBook<M> {
 }
 
 impl ChannelBook {
-    /// A book without channels and without marks. It takes no memory yet.
+    /// Not run by the server, which uses `with_marks`: a book without channels and without marks. It takes no memory yet.
     pub fn new(alloc: Global) -> ChannelBook
         ensures { result ≡ [] }
     {
         ChannelBook::with_marks(alloc)
     }
 
-    /// A user joins a channel, behind those who are in it. The first who joins makes the channel.
+    /// Not run by the server, which uses `add_member`: a user joins a channel, behind those who are in it. The first
+    /// who joins makes the channel.
     ///
     /// `AlreadyIn` where the user is in it, else `Memory` where memory for one more is refused.
     /// The names of a refused call are let go, and the book stays as it was.
@@ -108,7 +109,8 @@ impl<M: Copy> ChannelBook<M> {
         Ok(())
     }
 
-    /// A user leaves a channel, which goes with the last of its members.
+    /// Not run by the server, which uses `remove_member`: a user leaves a channel, which goes with the last of its
+    /// members.
     ///
     /// `NotIn` where the user is not in it: the book stays as it was.
     pub fn leave(&mut self, channel: &NameBuf, user: &NameBuf) -> Result<(), ChannelError>
@@ -200,15 +202,15 @@ impl<M: Copy> ChannelBook<M> {
         }
     }
 
-    /// How many are in a channel; 0 where there is none of that name.
+    /// Not run by the server, which uses `roster`: how many are in a channel; 0 where there is none of that name.
     pub fn member_count(&self, channel: &NameBuf) -> usize
         ensures { result ≡ length (names_in self.now channel.now) }
     {
         self.names_in(channel).len()
     }
 
-    /// The member with `k` of the members of a channel before it, in order of joining; None where there are
-    /// no more than `k`.
+    /// Not run by the server, which uses `roster`: the member with `k` of the members of a channel before it, in
+    /// order of joining; None where there are no more than `k`.
     pub fn member_at(&self, channel: &NameBuf, k: usize) -> Option<&NameBuf>
         ensures { option_copied result ≡ slice_get (names_in self.now channel.now) k }
     {
@@ -224,8 +226,8 @@ impl<M: Copy> ChannelBook<M> {
         self.lists.len()
     }
 
-    /// The name of the channel with `k` channels before it, in the order of the bytes of names; None where
-    /// there are no more than `k`.
+    /// Not run by the server, which uses `iter`: the name of the channel with `k` channels before it, where
+    /// `channel_count` says in which order names stand; None where there are no more than `k`.
     pub fn channel_at(&self, k: usize) -> Option<&NameBuf>
         ensures { option_copied result ≡ slice_get (keys_of self.now) k }
     {

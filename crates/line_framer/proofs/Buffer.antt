@@ -45,7 +45,7 @@ widened a whole rest (Some n) e =
       before = λ k lt is. e.before k lt (get_or-take whole a k 0 (omega arith) ∙ is);
     }
 
-without_cr_shorter : (line : List ℕ) → length (without_cr line) ≤ length line
+pub without_cr_shorter : (line : List ℕ) → length (without_cr line) ≤ length line
 without_cr_shorter [] = omega arith
 without_cr_shorter (x ∷ []) = elim (x == 13) as (λ t. length (if t then [] else x ∷ []) ≤ 1) [ true ↦ omega arith | false ↦ omega arith ]
 without_cr_shorter (x ∷ y ∷ line) = omega (arith, without_cr_shorter (y ∷ line))

@@ -17,11 +17,11 @@ use std::thread::Threads;
 struct OpenGate;
 
 impl Gate for OpenGate {
-    fn before_take(&self, _worker: u64) {}
+    fn before_take(&self, _worker: u8) {}
 
-    fn after_write(&self, _worker: u64, _bytes: &[u8]) {}
+    fn after_write(&self, _worker: u8, _bytes: &[u8]) {}
 
-    fn woken(&self, _worker: u64) {}
+    fn woken(&self, _worker: u8) {}
 }
 
 /// What a server is set up to by its file of settings.

@@ -1,5 +1,5 @@
 -- What a read adds to the record.
-use Rattle.std.proofs.Common.{◌≡◌, ◌≢◌, ℕ, zero, suc, ◌+◌, ◌-◌, ◌≤◌, List, [], ◌∷◌, ◌++◌, length, take, drop, min, refl, sym, ap, ◌∙◌, true, false, arith, append-nil, length-append, length-drop, length-take, T}
+use Rattle.std.proofs.Common.{◌≡◌, ◌≢◌, ℕ, suc, ◌+◌, ◌-◌, ◌≤◌, List, [], ◌∷◌, ◌++◌, length, take, drop, min, refl, sym, ap, ◌∙◌, true, false, arith, append-nil, length-append, length-drop, length-take, T}
 use Rattle.std.specs.Prelude.{Some, None, if◌then◌else◌}
 use Rattle.std.specs.Option.{option_map}
 use Rattle.std.specs.Ordering.{nat_cmp}
@@ -7,7 +7,7 @@ use Rattle.std.specs.Cmp.{nat_cmp_total}
 use Rattle.std.specs.FinMap.{nat_cmp-IsAntisymmetric}
 use Rattle.std.specs.FinMap.Entries.{is_sorted}
 use Rattle.std.proofs.lemmas.Iterator.Adapters.{option_map_id}
-use Rattle.std.proofs.lemmas.List.{drop_all, take_all}
+use Rattle.std.proofs.lemmas.List.{drop_all, take_all, take_min, drop_min}
 use Rattle.account_entries.specs.Account.{Account}
 use Rattle.lobby_model.specs.declared.event.Event.{Event}
 use Rattle.lobby_model.specs.declared.event.Event.TheVariants as event
@@ -31,17 +31,6 @@ use Rattle.lobby_hall.proofs.Each.{at_each, not_same}
 use Rattle.lobby_hall.proofs.Unread.{unread_there, unread_same}
 use Rattle.lobby_hall.proofs.Changed.{of-changed_same, of-changed_other}
 use Rattle.lobby_hall.proofs.Recorded.{of-completed, put_in-snoc, taken_in-snoc, nobody}
-use Rattle.std.proofs.Math.Nat.{zero-min, min-zero, suc-min-suc}
-
-pub take_min : (n : ℕ) (u : List ℕ) → take (min n (length u)) u ≡ take n u
-take_min zero u = ap (λ k. take k u) (zero-min (length u))
-take_min (suc n) [] = ap (λ (k : ℕ). take {A = ℕ} k []) (min-zero (suc n))
-take_min (suc n) (x ∷ u) = ap (λ k. take k (x ∷ u)) (suc-min-suc n (length u)) ∙ ap (λ v. x ∷ v) (take_min n u)
-
-pub drop_min : (n : ℕ) (u : List ℕ) → drop (min n (length u)) u ≡ drop n u
-drop_min zero u = ap (λ k. drop k u) (zero-min (length u))
-drop_min (suc n) [] = ap (λ (k : ℕ). drop {A = ℕ} k []) (min-zero (suc n))
-drop_min (suc n) (x ∷ u) = ap (λ k. drop k (x ∷ u)) (suc-min-suc n (length u)) ∙ drop_min n u
 
 -- taking as many bytes as there are is taking as many as were asked for
 pub same_drain : (s : State) (c n : ℕ) → T (is_sorted nat_cmp s.clients)

@@ -3,7 +3,7 @@ use Rattle.std.proofs.Common.{◌≡◌, ℕ, zero, suc, ◌+◌, ◌-◌, ◌*�
 use Rattle.std.specs.Prelude.{◌||◌, Option, Some, None, if◌then◌else◌}
 use Rattle.std.proofs.Math.Bool.{or-false}
 use Rattle.std.proofs.Math.Seq.{take-append-add}
-use Rattle.std.proofs.lemmas.List.{length-drop, take_at, take-append-le, length-take-le, drop_all}
+use Rattle.std.proofs.lemmas.List.{length-drop, take_at, take-append-le, length-take-le, drop_all, take_min}
 use Rattle.std.specs.FinMap.{nat_cmp-IsAntisymmetric}
 use Rattle.std.specs.Ordering.{nat_cmp}
 use Rattle.std.specs.Option.{option_map}
@@ -27,7 +27,6 @@ use Rattle.lobby_holds.specs.Holds.{IsTaken, Stands, Drains, DrainedInto, Draine
 use Rattle.lobby_holds.proofs.Joins.{held_none, joined_none, joined_then, joined_more, stands_more}
 use Rattle.lobby_holds.proofs.Parts.{drained-append, went_drains}
 use Rattle.lobby_holds.proofs.Talks.{are_drains-append, told_end-append, dry_behind}
-use Rattle.std.proofs.Math.Nat.{zero-min, min-zero, suc-min-suc}
 
 from_one : (n : ℕ) (o : Option Client) → taken_from n o ≡ take n (unread_in o)
 from_one zero None = refl
@@ -37,18 +36,14 @@ from_one n (Some client) = refl
 pub taken_is : (s : State) (c n : ℕ) → taken_by s (event.Drain c n) c ≡ take n (unread_of s c)
 taken_is s c n = ap (λ b. if b then taken_from n (at_number s.clients c) else []) (same_itself c) ∙ from_one n (at_number s.clients c)
 
-take_min : (n : ℕ) (u : List ℕ) → take (min (length u) n) u ≡ take n u
-take_min zero u = ap (λ k. take k u) (min-zero (length u))
-take_min (suc n) [] = ap (λ (k : ℕ). take {A = ℕ} k []) (zero-min (suc n))
-take_min (suc n) (x ∷ u) = ap (λ k. take k (x ∷ u)) (suc-min-suc (length u) n) ∙ ap (λ v. x ∷ v) (take_min n u)
-
 -- the bytes that came stand at the front of the slice
 pub at_front : (s : State) (c n count : ℕ) (into rest : List ℕ) → count ≡ min (length (unread_of s c)) n → into ≡ take count (unread_of s c) ++ rest
     → take count into ≡ taken_by s (event.Drain c n) c
 at_front s c n count into rest count_is given =
     let u : List ℕ = unread_of s c in
     let few : count ≤ length u = omega (arith, count_is) in
-    ap (take count) given ∙ take_at (take count u) rest count (length-take-le count u few) ∙ ap (λ k. take k u) count_is ∙ take_min n u ∙ sym (taken_is s c n)
+    let as_many : count ≡ min n (length u) = omega (arith, count_is) in
+    ap (take count) given ∙ take_at (take count u) rest count (length-take-le count u few) ∙ ap (λ k. take k u) as_many ∙ take_min n u ∙ sym (taken_is s c n)
 
 pub few_came : (s : State) (c n count : ℕ) (into rest : List ℕ) → count ≡ min (length (unread_of s c)) n → into ≡ take count (unread_of s c) ++ rest → count ≤ length into
 few_came s c n count into rest count_is given =

@@ -1,7 +1,6 @@
 -- Laws of moments.
-use Rattle.std.proofs.Common.{◌≡◌, ℕ, Bool, true, false, cond, List, [], ◌∷◌, ◌++◌, refl, sym, ap, ◌∙◌, append_assoc, eq-eqb}
-use Rattle.std.specs.Prelude.{filter, flat_map, ◌==◌, ◌||◌, if◌then◌else◌}
-use Rattle.std.specs.List.{list_any}
+use Rattle.std.proofs.Common.{◌≡◌, ℕ, true, false, cond, List, [], ◌∷◌, ◌++◌, refl, ap, eq-eqb}
+use Rattle.std.specs.Prelude.{filter, ◌==◌, if◌then◌else◌}
 use Rattle.lobby_model.specs.declared.event.Event.{Event}
 use Rattle.lobby_model.specs.State.{State}
 use Rattle.lobby_model.specs.Next.{next}
@@ -29,12 +28,3 @@ moments-none n s (x ∷ xs) e =
 
 pub moments-own : (n : ℕ) (s : State) (e : Event) → moments n s (under n (e ∷ [])) ≡ moment s e ∷ []
 moments-own n s e = ap (λ b. if b then moment s e ∷ [] else []) (eq-eqb n n refl)
-
-pub flat_map-append : {A B : Type 0} (f : A → List B) (xs ys : List A) → flat_map f (xs ++ ys) ≡ flat_map f xs ++ flat_map f ys
-flat_map-append f [] ys = refl
-flat_map-append f (x ∷ xs) ys = ap (λ l. f x ++ l) (flat_map-append f xs ys) ∙ sym (append_assoc (f x) (flat_map f xs) (flat_map f ys))
-
-pub any-append : {A : Type 0} (f : A → Bool) (xs ys : List A) → list_any f (xs ++ ys) ≡ (list_any f xs || list_any f ys)
-any-append f [] ys = refl
-any-append f (x ∷ xs) ys =
-    elim (f x) as (λ b. (b || list_any f (xs ++ ys)) ≡ ((b || list_any f xs) || list_any f ys)) [ true ↦ refl | false ↦ any-append f xs ys ]

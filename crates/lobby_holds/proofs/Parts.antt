@@ -1,6 +1,7 @@
 -- How one part of a turn follows another, and what the smallest parts do.
 use Rattle.std.proofs.Common.{◌≡◌, ℕ, ◌+◌, List, [], ◌∷◌, ◌++◌, length, refl, sym, ap, ◌∙◌, subst, arith, append_assoc, append-nil, length-append}
 use Rattle.std.specs.Prelude.{Option, Some, None}
+use Rattle.std.proofs.lemmas.Grind.{flat_map-append}
 use Rattle.command_forms.specs.declared.command.Request.{Request}
 use Rattle.lobby_model.specs.declared.event.Event.TheVariants as event
 use Rattle.lobby_model.specs.State.{State}
@@ -17,7 +18,6 @@ use Rattle.lobby_holds.specs.Moments.{Moment, moment, asked, requests, drained_f
 use Rattle.lobby_holds.specs.Snapshot.{Carried, Snapshot, snapshot, Carries}
 use Rattle.lobby_holds.specs.Talk.{AreDrains}
 use Rattle.lobby_holds.specs.Went.{Joined, Went, AreNext}
-use Rattle.lobby_holds.proofs.Moments.{flat_map-append}
 use Rattle.lobby_holds.proofs.Joins.{joined_none, joined_then}
 use Rattle.lobby_holds.proofs.Lines.{are_next-more, are_next-append}
 use Rattle.lobby_holds.proofs.Talks.{drains_ask}

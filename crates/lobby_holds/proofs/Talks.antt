@@ -1,6 +1,7 @@
 -- Laws of what a worker does for one client.
 use Rattle.std.proofs.Common.{◌≡◌, ℕ, true, false, List, [], ◌∷◌, ◌++◌, refl, sym, ap, ◌∙◌, subst, append_assoc}
 use Rattle.std.proofs.Math.Bool.{or-false, or-true}
+use Rattle.std.proofs.lemmas.List.Folds.{list_any-append}
 use Rattle.std.specs.Prelude.{◌||◌, Result, Ok, Err, IfOk, OnErr}
 use Rattle.lobby_model.specs.declared.event.Event.{Event}
 use Rattle.lobby_model.specs.declared.event.Event.TheVariants as event
@@ -9,7 +10,6 @@ use Rattle.lobby_model.specs.Touched.{touches}
 use Rattle.lobby_model.proofs.Quiet.{quiet_touches}
 use Rattle.lobby_holds.specs.Moments.{Moment, moment, asked, requests, touched, tells_end, told_end}
 use Rattle.lobby_holds.specs.Talk.{IsDrain, IsTalk, AreDrains, AreTalk, EndsDry}
-use Rattle.lobby_holds.proofs.Moments.{any-append}
 
 pub are_talk-append : (c : ℕ) (t u : List Moment) → AreTalk c t → AreTalk c u → AreTalk c (t ++ u)
 are_talk-append c [] u h k = k
@@ -52,10 +52,10 @@ drains_touch c [] home h = refl
 drains_touch c (m ∷ t) home h = ap (λ b. b || touched t home) (drain_touches c m.met m.event home h.0) ∙ drains_touch c t home h.1
 
 pub touched-append : (t u : List Moment) (home : ℕ) → touched (t ++ u) home ≡ (touched t home || touched u home)
-touched-append t u home = any-append (λ (m : Moment). touches m.met m.event home) t u
+touched-append t u home = list_any-append (λ (m : Moment). touches m.met m.event home) t u
 
 pub told_end-append : (t u : List Moment) → told_end (t ++ u) ≡ (told_end t || told_end u)
-told_end-append t u = any-append (λ (m : Moment). tells_end m.met m.event) t u
+told_end-append t u = list_any-append (λ (m : Moment). tells_end m.met m.event) t u
 
 -- what was calm stays calm
 pub calm-append : (t u : List Moment) → told_end t ≡ false → told_end u ≡ false → told_end (t ++ u) ≡ false

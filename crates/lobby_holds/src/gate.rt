@@ -4,11 +4,11 @@
 /// a worker at a gate, or look whether it came by.
 pub trait Gate {
     /// The worker of this number is about to take the lobby.
-    fn before_take(&self, worker: u64);
+    fn before_take(&self, worker: u8);
 
     /// The worker wrote these bytes to a link.
-    fn after_write(&self, worker: u64, bytes: &[u8]);
+    fn after_write(&self, worker: u8, bytes: &[u8]);
 
     /// The worker was woken.
-    fn woken(&self, worker: u64);
+    fn woken(&self, worker: u8);
 }

@@ -18,7 +18,7 @@ pub struct GatedDesk<'a, G> {
 
 impl<G: Gate> GatedDesk<'_, G> {
     /// Passes the gate and takes the lobby.
-    pub(crate) fn take<R: Wait>(&self, rt: &R, pass: Pass) -> Held
+    pub fn take<R: Wait>(&self, rt: &R, pass: Pass) -> Held
         requires { pass.desk ≡ self.now.desk.now }
         ensures taken { IsTaken pass result }
         ensures stands { Stands result }

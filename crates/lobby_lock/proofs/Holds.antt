@@ -15,6 +15,7 @@ more inner number handed made places old es room h now e items room' step added 
   alive = h.alive;
   holds = h.holds;
   numbered = h.numbered;
+  below = h.below;
   counts = h.counts;
   counted = h.counted;
   stands = step ∙ ap (λ s. next s e) h.stands ∙ sym (after_history-more (view inner).start.plain (view inner).worker.seen (view inner).worker.number es e)
@@ -30,6 +31,7 @@ same inner number handed made places old es room h now step = record {
   alive = h.alive;
   holds = h.holds;
   numbered = h.numbered;
+  below = h.below;
   counts = h.counts;
   counted = h.counted;
   stands = step ∙ h.stands;

@@ -61,6 +61,7 @@ pub record IsReady (inner : Pass Shown View) (number handed made : ℕ) (places 
   pub alive : (view inner).alive ≡ true
   pub holds : (view inner).holds ≡ false
   pub numbered : number ≡ (view inner).worker.number
+  pub below : number ≤ 63
   pub counts : handed ≡ (view inner).handed
   pub counted : Counts (view inner) handed made places
   pub empty : room ≡ []
@@ -72,6 +73,7 @@ pub record IsHolding (inner : Pass Shown View) (number handed made : ℕ) (place
   pub alive : (view inner).alive ≡ true
   pub holds : (view inner).holds ≡ true
   pub numbered : number ≡ (view inner).worker.number
+  pub below : number ≤ 63
   pub counts : handed ≡ (view inner).handed
   pub counted : Counts (view inner) handed made places
   pub stands : lobby.plain ≡ lobby_after (shown_pass inner) events

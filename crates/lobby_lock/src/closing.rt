@@ -17,7 +17,7 @@ pub enum CloseError {
     /// The pass of the worker of this number was handed out, and not taken back. It is the least such
     /// number, from 1 to 63.
     #[error("worker {0} has its pass still")]
-    StillOut(u64),
+    StillOut(u8),
 }
 
 /// How many events a worker made at a desk.
@@ -35,7 +35,7 @@ pub enum Count {
 /// the lobby, and worker 0's pass, which has then seen the whole history.
 pub struct Closing {
     pub(crate) inner: PlacePass,
-    pub(crate) handed: u64,
+    pub(crate) handed: u8,
     pub(crate) lobby: BoxedLobby,
     pub(crate) counts: Counts,
 }
@@ -68,7 +68,7 @@ impl Model for Closing {
 
 impl Closing {
     /// How many events the worker of this number made.
-    pub fn events(&self, worker: u64) -> Count
+    pub fn events(&self, worker: u8) -> Count
         ensures { IsCount self.now.pass worker result }
     {
         if worker == 0 {
@@ -104,7 +104,7 @@ fn count_from(made: u64) -> Count
 }
 
 /// The least number from 1 on that was handed out and has no count in its place.
-pub(crate) fn first_out(places: &[Option<u64>], handed: u64) -> Option<u64>
+pub(crate) fn first_out(places: &[Option<u64>], handed: u8) -> Option<u8>
     requires { (length places.now ≡ 64) × (handed ≤ 63) }
     ensures out { IfSome result (λ number. (1 ≤ number) × (number ≤ handed) × (slice_get places.now number ≡ Some None)) }
     ensures least { IfSome result (λ number. (k : ℕ) → 1 ≤ k → k < number → slice_get places.now k ≡ Some None → ⊥) }

@@ -23,7 +23,7 @@ use std::sync::Wait;
 use thiserror::Error;
 
 /// How many passes are handed out at most: one for each worker but worker 0.
-pub const MOST_HANDED_OUT: u64 = WORKERS as u64 - 1;
+pub const MOST_HANDED_OUT: u8 = WORKERS - 1;
 
 /// How many events a hold has at most. Room for so many is made with each pass, so that no event
 /// needs memory for its entry in the history.

@@ -23,8 +23,8 @@ use std::sync::Wait;
 /// It has no `Drop`, so it must be given back.
 pub struct Held {
     pub(crate) inner: PlacePass,
-    pub(crate) number: u64,
-    pub(crate) handed: u64,
+    pub(crate) number: u8,
+    pub(crate) handed: u8,
     pub(crate) lobby: BoxedLobby,
     pub(crate) events: Vec<Event>,
     pub(crate) counts: Counts,

@@ -1,9 +1,9 @@
 //! A worker's pass.
 
-ghost use Rattle.std.specs.Prelude.{◌≡◌};
+ghost use Rattle.std.specs.Prelude.{◌≡◌, ◌<◌};
 
 use crate::rule::PlacePass;
-use lobby_model::Event;
+use lobby_model::{Event, WORKERS};
 use std::marker::Model;
 
 /// How many events were made. A count stays at the last value of its type.
@@ -21,9 +21,9 @@ pub(crate) struct Counts {
 #[derive(Drop)]
 pub struct Pass {
     pub(crate) inner: PlacePass,
-    pub(crate) number: u64,
+    pub(crate) number: u8,
     // how many numbers were handed out; worker 0's pass alone counts them
-    pub(crate) handed: u64,
+    pub(crate) handed: u8,
     // empty, with room for the events of a hold
     pub(crate) room: Vec<Event>,
     pub(crate) counts: Counts,
@@ -41,9 +41,10 @@ impl Model for Pass {
 }
 
 impl Pass {
-    /// The number of its worker.
-    pub fn number(&self) -> u64
-        ensures { result ≡ self.now.worker.number }
+    /// The number of its worker, the home of that worker's clients.
+    pub fn number(&self) -> u8
+        ensures number { result ≡ self.now.worker.number }
+        ensures below { result < WORKERS }
     {
         self.number
     }

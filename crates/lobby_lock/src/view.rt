@@ -7,9 +7,9 @@ use std::collections::LinkedList;
 /// What is known of a worker.
 pub struct Worker {
     /// 0 of the worker that opened the desk, else its number among those handed out.
-    pub number: u64,
+    pub number: u8,
     /// The beginning of the history that it has seen.
-    pub seen: LinkedList<(u64, Event)>,
+    pub seen: LinkedList<(u8, Event)>,
     /// The events that it made.
     pub mine: LinkedList<Event>,
 }
@@ -25,7 +25,7 @@ pub struct View {
     /// What is known of its worker.
     pub worker: Worker,
     /// How many numbers were handed out; worker 0 alone counts them.
-    pub handed: u64,
+    pub handed: u8,
     /// The workers whose passes it took back, the last one first.
     pub taken_back: LinkedList<Worker>,
 }

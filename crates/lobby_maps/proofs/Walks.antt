@@ -1,19 +1,20 @@
 -- Walks: client after client is addressed.
 use Rattle.std.proofs.Common.{◌≡◌, ℕ, ◌+◌, ◌<◌, List, [], ◌∷◌, ◌++◌, length, take, refl, sym, ap, ◌∙◌, true, false, append_assoc, append-nil, slice_index_or, add-one, subst}
-use Rattle.std.specs.Prelude.{Option, Some, None, ◌||◌}
+use Rattle.std.specs.Prelude.{Some, None, ◌||◌}
 use Rattle.std.specs.List.{AllByRecursion, IsDistinct}
 use Rattle.std.specs.List.Sorted.{IsStrictlySortedBy}
 use Rattle.std.specs.Ordering.{nat_cmp, is_eq}
 use Rattle.std.specs.declared.cmp.Ordering.TheVariants.{Less}
 use Rattle.std.proofs.lemmas.List.{map-append}
 use Rattle.std.proofs.lemmas.Grind.{flat_map-append}
+use Rattle.std.proofs.lemmas.List.Folds.{list_any-append}
 use Rattle.std.proofs.Math.Seq.{take-suc}
 use Rattle.line_words.specs.Table.{ByName, ByNumber, at_name, same_name, same_number, is_among}
-use Rattle.line_words.proofs.Tables.{same_name_is}
 use Rattle.line_words.proofs.Once.{same_name_equiv}
 use Rattle.lobby_model.specs.State.{State, Client, name_at, name_of}
 use Rattle.lobby_model.specs.Outcome.{is_named, everyone, user, users}
 use Rattle.lobby_model.proofs.Delivered.{same_itself, same_number_is}
+use Rattle.lobby_model.proofs.Named.{named_so}
 use Rattle.lobby_post.specs.Posted.{Posted, copy_to, addressed, has_number, AreApart, Reaches}
 use Rattle.lobby_battles.specs.declared.seats.Seat.{Seat}
 use Rattle.lobby_battles.specs.Seats.{client_in, Agree, IsListed}
@@ -65,22 +66,11 @@ module _ (seats : ByName Seat) where
         is ∙ ap (λ p. addressed p (client_in (at_name seats name))) before ∙ addressed_more post (clients_of seats (take i names)) (client_in (at_name seats name))
         ∙ ap (addressed post) (sym taken)
 
-any-append : (c : ℕ) (xs ys : List ℕ) → has_number (xs ++ ys) c ≡ (has_number xs c || has_number ys c)
-any-append c [] ys = refl
-any-append c (x ∷ xs) ys = elim (same_number c x) as (λ b. (b || has_number (xs ++ ys) c) ≡ ((b || has_number xs c) || has_number ys c)) [
-  | true ↦ refl
-  | false ↦ any-append c xs ys
-]
-
 out_of : (me : List ℕ) (names : List (List ℕ)) → AllByRecursion (λ n. same_name me n ≡ false) names → is_among me names ≡ false
 out_of me [] h = refl
 out_of me (n ∷ names) h = (λ i. h.0 i || is_among me names) ∙ out_of me names h.1
 
 module _ (clients : ByNumber Client) (seats : ByName Seat) (agree : Agree clients seats) where
-  named_so : (name : List ℕ) (o : Option (List ℕ)) → is_named (same_name name) o ≡ true → o ≡ Some name
-  named_so name None h = absurd (cc)
-  named_so name (Some n) h = ap (λ x. Some x) (sym (same_name_is name n h))
-
   seated : (name : List ℕ) (seat : Seat) → at_name seats name ≡ Some seat → name_at clients seat.client.number ≡ Some name
   seated name seat e = named_so name _ (sym (agree name seat.client.number)
       ∙ ap (λ o. has_number (client_in o) seat.client.number) e ∙ ap (λ b. b || false) (same_itself seat.client.number))
@@ -99,7 +89,7 @@ module _ (clients : ByNumber Client) (seats : ByName Seat) (agree : Agree client
   named_exact : (names : List (List ℕ)) (d : ℕ) → has_number (clients_of seats names) d ≡ is_named (λ n. is_among n names) (name_at clients d)
   named_exact [] d = elim (name_at clients d) as (λ o. false ≡ is_named (λ n. is_among n []) o) [ None ↦ refl | Some n ↦ refl ]
   named_exact (name ∷ names) d =
-      any-append d (client_in (at_name seats name)) (clients_of seats names)
+      list_any-append (same_number d) (client_in (at_name seats name)) (clients_of seats names)
       ∙ (λ i. agree name d i || named_exact names d i)
       ∙ elim (name_at clients d) as (λ o. (is_named (same_name name) o || is_named (λ n. is_among n names) o)
       ≡ is_named (λ n. is_among n (name ∷ names)) o) [

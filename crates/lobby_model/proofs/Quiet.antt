@@ -23,6 +23,7 @@ use Rattle.lobby_model.proofs.Delivered.{with_batch_nil, map_values_none, map_va
 use Rattle.line_words.proofs.Tables.{at-without}
 use Rattle.lobby_model.proofs.Decided.{saying, given_place, unheard}
 use Rattle.lobby_model.proofs.Inside.{departed}
+use Rattle.lobby_model.proofs.Versions.{and_first}
 
 pub quiet : (s : State) (e : Event) (t : State) → ((d : ℕ) → batch s e d ≡ []) → delivered s e t ≡ t
 quiet s e t none = ap (λ m. record t { clients = m }) (map_values_none _ t.clients (λ d x. ap (λ b. with_batch s.settings.outbox_limit b x) (none d) ∙ with_batch_nil s.settings.outbox_limit x))
@@ -68,15 +69,11 @@ touched_is limit bytes x =
       | true ↦ λ live. elim (has_room_for limit x bytes) as (λ r. has_room_for limit x bytes ≡ r → (not (is_empty (if r then bytes else []))
           || (not x.cut && (if r then record x { unread = x.unread ++ bytes } else record x { cut = true; unread = [] }).cut)) ≡ not (is_empty bytes)) [
             | true ↦ λ room. ap (λ b. not (is_empty bytes) || b) (not_both x.cut) ∙ elim (is_empty bytes) as (λ b. (not b || false) ≡ not b) [ true ↦ refl | false ↦ refl ]
-            | false ↦ λ room. and_true (not x.cut) ∙ first _ _ live ∙ sym (ap not (empty_has_room bytes room))
+            | false ↦ λ room. and_true (not x.cut) ∙ and_first _ _ live ∙ sym (ap not (empty_has_room bytes room))
           ] refl
       | false ↦ λ live. not_both x.cut
     ] refl
   where
-    first : (a b : Bool) → (a && b) ≡ true → a ≡ true
-    first true b e = refl
-    first false b e = e
-
     empty_has_room : (bytes : List ℕ) → has_room_for limit x bytes ≡ false → is_empty bytes ≡ false
     empty_has_room [] e = absurd (subst T e tt)
     empty_has_room (b ∷ bytes) e = refl

@@ -72,10 +72,6 @@ module _ {X : Type 0} where
   any_apart p q c same [] h = refl
   any_apart p q c same (e ∷ m) h = λ i. same e h.0 i || any_apart p q c same m h.1 i
 
-  pub any-append : (p : ℕ × X → Bool) (m n : ByNumber X) → list_any p (m ++ n) ≡ (list_any p m || list_any p n)
-  any-append p [] n = refl
-  any-append p (e ∷ m) n = ap (λ b. p e || b) (any-append p m n) ∙ elim (p e) as (λ b. (b || (list_any p m || list_any p n)) ≡ ((b || list_any p m) || list_any p n)) [ true ↦ refl | false ↦ refl ]
-
 module _ {X Y : Type 0} where
   pub values_apart : (f g : ℕ → X → Y) (c : ℕ) → ((d : ℕ) (x : X) → same_number d c ≡ false → f d x ≡ g d x) → (m : ByNumber X) → Apart c m → map_values f m ≡ map_values g m
   values_apart f g c same [] h = refl

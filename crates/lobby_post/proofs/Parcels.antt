@@ -6,13 +6,14 @@ use Rattle.std.specs.List.{list_any}
 use Rattle.std.specs.List.Sorted.{IsStrictlySortedBy}
 use Rattle.std.specs.BTreeMap.{is_at}
 use Rattle.std.specs.Map.{lookup, set_value}
+use Rattle.std.proofs.lemmas.List.Folds.{list_any-append}
 use Rattle.line_words.specs.Table.{ByNumber, same_number}
 use Rattle.lobby_model.specs.State.{Client, is_live}
 use Rattle.lobby_model.specs.Next.{with_batch, has_room_for, is_empty}
 use Rattle.lobby_model.specs.Touched.{is_touched}
 use Rattle.lobby_model.proofs.Quiet.{touched_is}
 use Rattle.lobby_model.proofs.Delivered.{with_batch_nil, map_values_none, same_itself}
-use Rattle.lobby_model.proofs.Splits.{apart_of_none, Split, split, any_apart, any-append, values_apart, values-append}
+use Rattle.lobby_model.proofs.Splits.{apart_of_none, Split, split, any_apart, values_apart, values-append}
 use Rattle.lobby_post.specs.Mail.{PutsFirst, bytes_for, deliver, wakes_one, wakes_home}
 
 pub other_piece : (c : ℕ) (bytes : List ℕ) (rest : ByNumber (List ℕ)) (d : ℕ) → same_number d c ≡ false → bytes_for rest d
@@ -196,14 +197,14 @@ module _ (c : ℕ) (bytes : List ℕ) (rest : ByNumber (List ℕ)) where
         ≡ wakes_one limit home (bytes_for ((c, bytes) ∷ rest) c) x = wake_first limit due home bytes (bytes_for rest c) x w put
         ∙ ap (λ b. wakes_one limit home b x) (sym (own_piece c bytes rest)) in
         ap (λ es. wakes_one limit home bytes x || wakes_home limit rest es home) (parts.written w)
-        ∙ ap (λ b. wakes_one limit home bytes x || b) (any-append _ parts.before _)
+        ∙ ap (λ b. wakes_one limit home bytes x || b) (list_any-append _ parts.before _)
         ∙ (λ i. wakes_one limit home bytes x || (any_apart _ _ c same parts.before parts.apart_before i
         || (wakes_one limit home (bytes_for rest c) w || any_apart _ _ c same parts.after parts.apart_after i)))
         ∙ turned (wakes_one limit home bytes x) _ _
         ∙ ap (λ b. list_any (λ e. wakes_one limit home (bytes_for ((c, bytes) ∷ rest) e.0) e.1) parts.before || b) (grouped (wakes_one limit home bytes x) _ _)
         ∙ ap (λ b. list_any (λ e. wakes_one limit home (bytes_for ((c, bytes) ∷ rest) e.0) e.1) parts.before
         || (b || list_any (λ e. wakes_one limit home (bytes_for ((c, bytes) ∷ rest) e.0) e.1) parts.after)) own
-        ∙ sym (any-append _ parts.before _)
+        ∙ sym (list_any-append _ parts.before _)
         ∙ ap (λ es. wakes_home limit ((c, bytes) ∷ rest) es home) (sym parts.whole)
 
 pub deliver_nil : (limit : ℕ) (m : ByNumber Client) → deliver limit [] m ≡ m

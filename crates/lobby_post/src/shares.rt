@@ -7,9 +7,8 @@ use bytes::Bytes;
 use std::alloc::{AllocError, Global};
 use std::collections::VecDeque;
 
-/// From so many bytes on a piece is shared. A shorter one is copied sooner than it is shared: the two
-/// cost the same somewhere between 1,000 and 2,800 bytes, by how many clients get it
-/// (docs/DECISIONS.md).
+/// From so many bytes on a piece is shared, which is then cheaper than a copy at any pace. Where many lines wait it is so from some
+/// 600 bytes on (docs/DECISIONS.md).
 pub const SHARED_FROM: usize = 2_048;
 
 /// The share that a piece has: a long one is copied for it, a short one has none.

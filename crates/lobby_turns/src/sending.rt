@@ -52,7 +52,7 @@ pub(crate) enum Step {
 }
 
 /// Writes what was drained and not yet written, as much of it as the link takes now.
-fn write_rest<L: Link, G: Gate>(conn: &mut Conn, link: &mut L, gate: &G, worker: u64) -> Sent
+fn write_rest<L: Link, G: Gate>(conn: &mut Conn, link: &mut L, gate: &G, worker: u8) -> Sent
     requires { MayGoOn (L.wire link.old) }
     ensures went { (pass : ShownPass) → Went (snapshot conn.old (L.wire link.old) pass) (snapshot conn.new (L.wire link.new) pass) [] }
     ensures session { conn.new.session ≡ conn.old.session }

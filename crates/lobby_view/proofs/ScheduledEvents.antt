@@ -1,9 +1,10 @@
 -- A schedule whose addresses are addresses gives a legal history.
 use Rattle.std.proofs.Common.{◌≡◌, ℕ, zero, suc, ◌≤◌, List, [], ◌∷◌, refl, sym, ap, subst, ◌∙◌, Bool, true, false, length, arith}
-use Rattle.std.specs.Prelude.{Option, Some, None, map, slice_get, MatchBool, if◌then◌else◌, ◌==◌}
+use Rattle.std.specs.Prelude.{Option, Some, None, map, slice_get, MatchBool, if◌then◌else◌}
 use Rattle.std.proofs.lemmas.Bool.{leb-true}
 use Rattle.std.proofs.lemmas.Option.{same_Some}
 use Rattle.line_framer.specs.Frames.{frames, lines_in, sound_lines, without_cr, fits, is_spoilt}
+use Rattle.line_framer.proofs.Buffer.{without_cr_shorter}
 use Rattle.lobby_model.specs.declared.event.Event.{Event}
 use Rattle.lobby_model.specs.declared.event.Event.TheVariants as event
 use Rattle.lobby_model.specs.declared.schedule.Step.{Step}
@@ -18,16 +19,11 @@ use Rattle.lobby_view.specs.Legal.{IsLegal, IsLegalHistory, IsLegalStep, IsLegal
 use Rattle.lobby_view.proofs.Everywhere.{Each, each_append}
 
 -- frames are no longer than the limit
-no_longer : (line : List ℕ) → length (without_cr line) ≤ length line
-no_longer [] = omega arith
-no_longer (b ∷ []) = elim (b == 13) as (λ t. length (if t then [] else b ∷ []) ≤ 1) [ true ↦ omega arith | false ↦ omega arith ]
-no_longer (b ∷ c ∷ line) = let rest = no_longer (c ∷ line) in omega arith
-
 all_short : (limit : ℕ) (ls : List (List ℕ)) → Each (λ l. length l ≤ limit) (map without_cr (sound_lines limit ls))
 all_short limit [] = tt
 all_short limit (l ∷ ls) =
     elim (fits limit l) as (λ t. fits limit l ≡ t → Each (λ l. length l ≤ limit) (map without_cr (if t then l ∷ sound_lines limit ls else []))) [
-      | true ↦ λ e. let short = leb-true (length l) limit e in let less = no_longer l in ((omega arith), all_short limit ls)
+      | true ↦ λ e. let short = leb-true (length l) limit e in let less = without_cr_shorter l in ((omega arith), all_short limit ls)
       | false ↦ λ e. tt
     ] refl
 

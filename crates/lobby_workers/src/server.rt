@@ -171,7 +171,7 @@ fn close<R: Wait, O: Write>(
 
 /// Says how many events each worker made, in rising order. A print that fails is ignored.
 fn tell_counts<O: Write>(closing: &Closing, output: &mut O) {
-    for worker in 0..WORKERS as u64 {
+    for worker in 0..WORKERS {
         match closing.events(worker) {
             Count::Made(events) => {
                 let _ = writeln!(output, "worker {worker}: {events} events");

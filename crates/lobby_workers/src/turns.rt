@@ -1,11 +1,13 @@
 //! The turns of a worker's connections. A worker takes the lobby for them, which may wait.
 
-ghost use Rattle.std.specs.Prelude.{◌≡◌, ◌<◌, [], ◌∷◌, ◌++◌, min, OnOk, OnErr};
+ghost use Rattle.std.specs.Prelude.{◌≡◌, ◌<◌, [], ◌∷◌, ◌++◌, OnOk, OnErr};
 ghost use Rattle.lobby_model.specs.declared.event.Event.TheVariants as event;
+ghost use Rattle.lobby_holds.specs.Holds.{IsTaken, Stands};
 
 use crate::worker_handles::{Arrival, WorkerHandles};
 use lobby_connections::{Connection, Connections, NAMES_IN_HOLD, PollTimeout};
-use lobby_lock::{Desk, Pass};
+use lobby_holds::GatedDesk;
+use lobby_lock::{Desk, Held, Pass};
 use lobby_machine::{OpenError, Wakes};
 use lobby_model::WORKERS;
 use lobby_turns::{Conn, Gate, Link, Turn, TurnState, close, serve};
@@ -65,7 +67,7 @@ pub fn turn<R: Wait, G: Gate>(
     };
     let (pass, turn) = serve_or_shut(rt, shared, pass, connection);
     connections.end_turn(registry, key, turn.state);
-    pass_on(shared, connections, home_of(&pass), turn.wakes);
+    pass_on(shared, connections, pass.number(), turn.wakes);
     pass
 }
 
@@ -189,18 +191,24 @@ pub fn shut_all<R: Wait, G: Gate>(
         if let Some(conn) = connections.conn_at(key) {
             let (after, turn) = shut(rt, shared, pass, conn);
             pass = after;
-            shared.handles.wake_others(home_of(&pass), turn.wakes);
+            shared.handles.wake_others(pass.number(), turn.wakes);
         }
     }
     pass
 }
 
-/// A worker as the home of its clients. No desk hands out a number of `WORKERS` and more.
-pub fn home_of(pass: &Pass) -> u8
-    ensures number { result ≡ min pass.now.worker.number 63 }
-    ensures below { result < WORKERS }
+/// Passes the gate and takes the lobby.
+fn take<R: Wait, G: Gate>(rt: &R, shared: &Shared<'_, G>, pass: Pass) -> Held
+    requires { pass.desk ≡ shared.now.desk.now }
+    ensures taken { IsTaken pass result }
+    ensures stands { Stands result }
+    ensures desk { result.pass.desk ≡ shared.now.desk.now }
 {
-    pass.number().min(WORKERS as u64 - 1) as u8
+    let gated = GatedDesk {
+        desk: shared.desk,
+        gate: shared.gate,
+    };
+    gated.take(rt, pass)
 }
 
 /// Takes names of changed clients in one hold. Whether these are all.
@@ -214,9 +222,8 @@ fn take_some_names<R: Wait, G: Gate>(
     ensures desk { result.0.desk ≡ pass.desk }
     ensures number { result.0.worker.number ≡ pass.worker.number }
 {
-    shared.gate.before_take(pass.number());
-    let home = home_of(&pass);
-    let mut held = shared.desk.take(rt, pass);
+    let home = pass.number();
+    let mut held = take(rt, shared, pass);
     let are_all = connections.take_names(&mut held, home);
     (held.give(rt, shared.desk), are_all)
 }
@@ -231,12 +238,11 @@ fn open<R: Wait, G: Gate>(
     requires { pass.desk ≡ shared.now.desk.now }
     ensures desk { result.0.desk ≡ pass.desk }
     ensures number { result.0.worker.number ≡ pass.worker.number }
-    ensures home { OnOk result.1 (result.0.worker.mine ≡ pass.worker.mine ++ event.Open ip (min pass.worker.number 63) ∷ []) }
+    ensures home { OnOk result.1 (result.0.worker.mine ≡ pass.worker.mine ++ event.Open ip pass.worker.number ∷ []) }
     ensures refused { OnErr result.1 (result.0.worker.mine ≡ pass.worker.mine) }
 {
-    shared.gate.before_take(pass.number());
-    let home = home_of(&pass);
-    let mut held = shared.desk.take(rt, pass);
+    let home = pass.number();
+    let mut held = take(rt, shared, pass);
     let opened = held.open(ip, home);
     (held.give(rt, shared.desk), opened)
 }

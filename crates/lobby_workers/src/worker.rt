@@ -137,7 +137,7 @@ impl WorkerLoop {
         ensures desk { result.desk ≡ pass.desk }
         ensures number { result.worker.number ≡ pass.worker.number }
     {
-        let worker = turns::home_of(&pass);
+        let worker = pass.number();
         let mut pass = pass;
         for _ in 0..EVENTS {
             let Some(arrival) = shared.handles.next_arrival(rt, worker) else {

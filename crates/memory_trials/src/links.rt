@@ -114,15 +114,15 @@ enum Came {
 struct Open;
 
 impl Gate for Open {
-    fn before_take(&self, worker: u64) {
+    fn before_take(&self, worker: u8) {
         let _ = worker;
     }
 
-    fn after_write(&self, worker: u64, bytes: &[u8]) {
+    fn after_write(&self, worker: u8, bytes: &[u8]) {
         let _ = (worker, bytes.len());
     }
 
-    fn woken(&self, worker: u64) {
+    fn woken(&self, worker: u8) {
         let _ = worker;
     }
 }

@@ -3,7 +3,7 @@
 use crate::clients::LOOKS;
 use crate::running::PONG;
 use lobby_workers::Gate;
-use std::sync::atomic::{AtomicBool, AtomicU64, Ordering};
+use std::sync::atomic::{AtomicBool, AtomicU8, AtomicU64, Ordering};
 use std::thread;
 use std::time::{Clock, Duration};
 use test_lobby::GREETING;
@@ -48,7 +48,7 @@ pub struct Watch {
     // worker 1 was woken
     is_woken: AtomicBool,
     greetings: AtomicU64,
-    last_greeter: AtomicU64,
+    last_greeter: AtomicU8,
 }
 
 impl Watch {
@@ -62,7 +62,7 @@ impl Watch {
             is_missed: AtomicBool::new(false),
             is_woken: AtomicBool::new(false),
             greetings: AtomicU64::new(0),
-            last_greeter: AtomicU64::new(0),
+            last_greeter: AtomicU8::new(0),
         }
     }
 
@@ -103,7 +103,7 @@ impl Watch {
     }
 
     /// Whether the last greeting is this worker's, once there were so many. False where there are not, within so many looks.
-    pub fn is_greeter(&self, greetings: u64, worker: u64) -> bool {
+    pub fn is_greeter(&self, greetings: u64, worker: u8) -> bool {
         for _ in 0..LOOKS {
             if self.greetings.load(Ordering::SeqCst) == greetings {
                 return self.last_greeter.load(Ordering::SeqCst) == worker;
@@ -122,7 +122,7 @@ impl Watch {
 }
 
 impl Gate for Watch {
-    fn before_take(&self, worker: u64) {
+    fn before_take(&self, worker: u8) {
         if !matches!(self.hold, Hold::Takes) || !self.is_shut.load(Ordering::SeqCst) {
             return;
         }
@@ -133,7 +133,7 @@ impl Gate for Watch {
         }
     }
 
-    fn after_write(&self, worker: u64, bytes: &[u8]) {
+    fn after_write(&self, worker: u8, bytes: &[u8]) {
         if bytes == GREETING {
             self.last_greeter.store(worker, Ordering::SeqCst);
             self.greetings.fetch_add(1, Ordering::SeqCst);
@@ -143,7 +143,7 @@ impl Gate for Watch {
         }
     }
 
-    fn woken(&self, worker: u64) {
+    fn woken(&self, worker: u8) {
         if worker != 1 {
             return;
         }

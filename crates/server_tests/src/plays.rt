@@ -60,7 +60,7 @@ pub enum Step {
     /// Worker 1 was woken.
     SecondWasWoken,
     /// There were so many greetings, and the last one is this worker's.
-    Greeted(u64, u64),
+    Greeted(u64, u8),
     /// The server's input ends.
     InputEnds,
     /// The server has ended.

@@ -59,16 +59,16 @@ struct Counting {
 }
 
 impl Gate for Counting {
-    fn before_take(&self, worker: u64) {
+    fn before_take(&self, worker: u8) {
         let _ = worker;
         self.takes.fetch_add(1, Ordering::SeqCst);
     }
 
-    fn after_write(&self, worker: u64, bytes: &[u8]) {
+    fn after_write(&self, worker: u8, bytes: &[u8]) {
         let _ = (worker, bytes.len());
     }
 
-    fn woken(&self, worker: u64) {
+    fn woken(&self, worker: u8) {
         let _ = worker;
     }
 }

@@ -79,7 +79,7 @@ impl Meeting {
 }
 
 impl Gate for Meeting {
-    fn before_take(&self, worker: u64) {
+    fn before_take(&self, worker: u8) {
         if worker != 0 {
             self.come(&self.second_came, &self.first_came);
         } else if matches!(self.stop, Stop::Desk) {
@@ -87,13 +87,13 @@ impl Gate for Meeting {
         }
     }
 
-    fn after_write(&self, worker: u64, bytes: &[u8]) {
+    fn after_write(&self, worker: u8, bytes: &[u8]) {
         if worker != 0 && bytes.ends_with(b"PONG\n") {
             self.is_answered.store(true, Ordering::SeqCst);
         }
     }
 
-    fn woken(&self, worker: u64) {
+    fn woken(&self, worker: u8) {
         let _ = worker;
     }
 }
