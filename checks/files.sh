@@ -53,7 +53,7 @@ of_settings 'line 2 of `motd` is not allowed: expected a list of at most 100 tex
 of_accounts 'the file is not TOML: expected UTF-8 and TOML, as in examples/accounts.toml' '[[account\n'
 of_accounts "a key of the file is not allowed: $whole" 'format = 3\n'
 of_accounts "a key of account 2 is missing or not allowed: $fields" "$one\n[[account]]\nname = \"Bert\"\n"
-of_accounts "two accounts have one name: expected a name of its own for each, disabled ones too" "$one\n$one\ndisabled = true\n"
+of_accounts "account 2 has the name of an earlier one: expected a name of its own for each, disabled ones too" "$one\n$one\ndisabled = true\n"
 : > "$room/empty"
 expect 2 'settings: the file cannot be read: entity not found
 accounts: 0 can log in' "$room/none" "$room/empty"

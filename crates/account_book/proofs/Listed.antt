@@ -1,5 +1,5 @@
 -- What the entries of a list come to.
-use Rattle.std.proofs.Common.{◌≡◌, ℕ, ◌+◌, Bool, true, false, ◌||◌, List, [], ◌∷◌, ◌++◌, map, filter, Option, Some, None, Result, Ok, Err, is_some, refl, ap, sym, ◌∙◌, append_assoc, append-nil, arith, if◌then◌else◌, subst}
+use Rattle.std.proofs.Common.{◌≡◌, ℕ, ◌+◌, Bool, true, false, ◌||◌, List, [], ◌∷◌, ◌++◌, map, filter, Option, Some, None, Result, Ok, Err, is_some, refl, ap, sym, ◌∙◌, append_assoc, append-nil, arith, if◌then◌else◌, subst, length, length-append}
 use Rattle.std.specs.List.{IsDistinct}
 use Rattle.std.proofs.lemmas.List.{map-append}
 use Rattle.toml_fields.specs.Fields.{◌>>=◌}
@@ -8,7 +8,7 @@ use Rattle.account_entries.specs.declared.listing.Listing.{Listing}
 use Rattle.account_entries.specs.declared.error.AccountsError.{AccountsError}
 use Rattle.account_entries.specs.declared.error.AccountsError.TheVariants.{BadField, DuplicateName}
 use Rattle.account_book.specs.Book.{account_of, HasDistinctNames}
-use Rattle.account_book.specs.File.{accounts_in, enabled, with_entries, listed_accounts, Lists}
+use Rattle.account_book.specs.File.{accounts_in, enabled, with_entries, listed_accounts, IsTwin, Lists}
 use Rattle.account_book.proofs.Entries.{HasDistinctNames-push}
 use Rattle.line_words.proofs.Options.{none_from_is_some}
 
@@ -45,22 +45,6 @@ disabled_in-push (l ∷ ls) listing =
     let rest = disabled_in-push ls listing in
     grind (arith, rest)
 
--- the listings are those before and then one for each entry, and all names are distinct
-abbrev pub Joins : List Listing → List (Option Listing) → List Listing → Type 0
-Joins before entries after =
-    (map Some before ++ entries ≡ map Some after) × HasDistinctNames (accounts_in after)
-
--- one more listing in front of the rest
-joins_next : (before : List Listing) (listing : Listing) (entries : List (Option Listing))
-    (after : List Listing) → Joins (before ++ listing ∷ []) entries after
-    → Joins before (Some listing ∷ entries) after
-joins_next before listing entries after joins = (
-  sym (ap (λ front. front ++ entries) (map-append Some before (listing ∷ []))
-      ∙ append_assoc (map Some before) (Some listing ∷ []) entries)
-      ∙ joins.0,
-  joins.1,
-)
-
 -- names stay distinct where the new one is not known
 distinct-push : (listings : List Listing) (listing : Listing)
     → HasDistinctNames (accounts_in listings)
@@ -70,39 +54,22 @@ distinct-push listings listing distinct new =
     subst HasDistinctNames (sym (map-append (λ (l : Listing). l.account) listings (listing ∷ [])))
     (HasDistinctNames-push (accounts_in listings) listing.account distinct (none_from_is_some _ new))
 
-pub with_entries-ok : (place : ℕ) (before : List Listing) (entries : List (Option Listing))
-    (after : List Listing) → with_entries place before entries ≡ Ok after
-    → HasDistinctNames (accounts_in before) → Joins before entries after
-with_entries-ok place before [] after ok distinct =
-    let same : before ≡ after = cc in (
-      append-nil (map Some before) ∙ ap (map Some) same,
-      subst (λ listings. HasDistinctNames (accounts_in listings)) same distinct,
-    )
-with_entries-ok place before (None ∷ entries) after refused distinct = absurd cc
-with_entries-ok place before (Some listing ∷ entries) after ok distinct =
-    let rest = with_entries (place + 1) (before ++ listing ∷ []) entries in
-    elim (is_some (account_of listing.account.name (accounts_in before))) as (λ b.
-    is_some (account_of listing.account.name (accounts_in before)) ≡ b
-    → (if b then Err DuplicateName else rest) ≡ Ok after
-    → Joins before (Some listing ∷ entries) after) [
-      | true ↦ λ known refused. absurd cc
-      | false ↦ λ new goes_on. joins_next before listing entries after
-          (with_entries-ok (place + 1) (before ++ listing ∷ []) entries after goes_on
-          (distinct-push before listing distinct new))
-    ] refl ok
-
--- what a reader has done so far: listings stand in its two books, and the whole list comes to what
--- the entries that are left come to behind them
+-- what a reader has done so far: the entries before this place describe listings of distinct names, which stand in its two books, and
+-- the whole list comes to what the entries that are left come to behind them
 pub record SoFar (entries left : List (Option Listing)) (place : ℕ) (book disabled : List Account) : Type 0 where
   pub listings : List Listing
+  pub stands : entries ≡ map Some listings ++ left
+  pub counts : place ≡ length listings + 1
+  pub distinct : HasDistinctNames (accounts_in listings)
   pub in_book : book ≡ enabled listings
   pub in_disabled : disabled ≡ disabled_in listings
   pub goes_on : with_entries 1 [] entries ≡ with_entries place listings left
 
 pub SoFar-start : (entries : List (Option Listing)) (book disabled : List Account) → book ≡ []
     → disabled ≡ [] → SoFar entries entries 1 book disabled
+unfolding IsDistinct
 SoFar-start entries book disabled no_book no_disabled =
-    record { listings = []; in_book = no_book; in_disabled = no_disabled; goes_on = refl }
+    record { listings = []; stands = refl; counts = refl; distinct = tt; in_book = no_book; in_disabled = no_disabled; goes_on = refl }
 
 -- what is known to the books is known to the listings
 known : (entries left : List (Option Listing)) (place : ℕ) (book disabled : List Account)
@@ -124,6 +91,10 @@ SoFar-next entries left place book disabled book_after disabled_after listing so
     let unknown = known entries (Some listing ∷ left) place book disabled listing.account.name so_far ∙ new in
     record {
       listings = so_far.listings ++ listing ∷ [];
+      stands = so_far.stands ∙ sym (ap (λ front. front ++ left) (map-append Some so_far.listings (listing ∷ []))
+          ∙ append_assoc (map Some so_far.listings) (Some listing ∷ []) left);
+      counts = omega (arith, so_far.counts, length-append so_far.listings (listing ∷ []));
+      distinct = distinct-push so_far.listings listing so_far.distinct unknown;
       in_book = to_book
           ∙ ap (λ b. if listing.disabled then b else b ++ listing.account ∷ []) so_far.in_book
           ∙ sym (enabled-push so_far.listings listing);
@@ -157,6 +128,13 @@ SoFar-duplicate entries left place book disabled listing so_far old =
     ∙ ap (λ b. if b then Err DuplicateName else with_entries (place + 1)
     (so_far.listings ++ listing ∷ []) left) again)
 
+pub SoFar-twin : (entries left : List (Option Listing)) (place : ℕ) (book disabled : List Account)
+    (listing : Listing) → SoFar entries (Some listing ∷ left) place book disabled
+    → is_known listing.account.name book disabled ≡ true → IsTwin entries place
+SoFar-twin entries left place book disabled listing so_far old =
+    (so_far.listings, listing, left, so_far.stands, so_far.counts, so_far.distinct,
+    known entries (Some listing ∷ left) place book disabled listing.account.name so_far ∙ old)
+
 pub SoFar-whole : (entries : List (Option Listing)) (place : ℕ) (book disabled : List Account)
     → SoFar entries [] place book disabled → listed_accounts entries ≡ Ok book
 SoFar-whole entries place book disabled so_far =
@@ -164,7 +142,5 @@ SoFar-whole entries place book disabled so_far =
 
 pub SoFar-lists : (entries : List (Option Listing)) (place : ℕ) (book disabled : List Account)
     → SoFar entries [] place book disabled → Lists entries book
-unfolding IsDistinct
 SoFar-lists entries place book disabled so_far =
-    let joins = with_entries-ok 1 [] entries so_far.listings so_far.goes_on tt in
-    (so_far.listings, joins.0, joins.1, so_far.in_book)
+    (so_far.listings, so_far.stands ∙ append-nil (map Some so_far.listings), so_far.distinct, so_far.in_book)

@@ -1,5 +1,5 @@
 -- The accounts of a file, over what the tables in it say.
-use Rattle.std.specs.Prelude.{◌≡◌, ℕ, ◌+◌, not, List, [], ◌∷◌, ◌++◌, map, filter, Option, Some, None, is_some, Result, Ok, Err, if◌then◌else◌}
+use Rattle.std.specs.Prelude.{◌≡◌, ℕ, ◌+◌, true, not, List, [], ◌∷◌, ◌++◌, length, map, filter, Option, Some, None, is_some, Result, Ok, Err, if◌then◌else◌}
 use Rattle.std.specs.Option.{option_map_or}
 use Rattle.std.specs.Result.{result_ok}
 use Rattle.toml.specs.Data.{Members}
@@ -63,6 +63,13 @@ abbrev pub Lists : List (Option Listing) → List Account → Type 0
 Lists entries accounts =
     (listings : List Listing) × (entries ≡ map Some listings)
     × HasDistinctNames (accounts_in listings) × (accounts ≡ enabled listings)
+
+-- The account of this number, counted from 1, has the name of an earlier one, and before it no two have one name
+abbrev pub IsTwin : List (Option Listing) → ℕ → Type 0
+IsTwin entries number =
+    (before : List Listing) × (twin : Listing) × (after : List (Option Listing))
+    × (entries ≡ map Some before ++ Some twin ∷ after) × (number ≡ length before + 1)
+    × HasDistinctNames (accounts_in before) × (is_some (account_of twin.account.name (accounts_in before)) ≡ true)
 
 -- The accounts of a file, or its first refusal
 abbrev pub file_accounts : List ℕ → Result (List Account) AccountsError

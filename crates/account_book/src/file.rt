@@ -15,7 +15,7 @@ ghost use Rattle.toml.specs.View.{table_view};
 ghost use Rattle.toml_fields.specs.Document.{document};
 ghost use Rattle.account_entries.specs.Fields.{shown_contents};
 ghost use Rattle.account_book.specs.Book.{account_of};
-ghost use Rattle.account_book.specs.File.{entries_in, listed_accounts, Lists, file_accounts, file_entries, table_accounts, table_entries};
+ghost use Rattle.account_book.specs.File.{entries_in, listed_accounts, IsTwin, Lists, file_accounts, file_entries, table_accounts, table_entries};
 
 use crate::book::AccountBook;
 use account_entries::{AccountsError, Contents, Listing, contents_of, described};
@@ -23,8 +23,17 @@ use std::alloc::Global;
 use toml::Table;
 use toml_fields::{DocumentError, read_document};
 
+/// Why a file of accounts is refused, and at which account.
+#[derive(Clone, Copy, PartialEq, Eq, Debug)]
+pub struct FileRefusal {
+    /// The number of the account that is refused, counted from 1; 0 where the file as a whole is. Of `Memory` it says nothing.
+    pub account: usize,
+    /// What is wrong.
+    pub error: AccountsError,
+}
+
 impl AccountBook {
-    /// The accounts of a file that are not disabled, in its order.
+    /// Not run by the server, which uses `read`: the accounts of a file that are not disabled, in its order.
     ///
     /// `NotToml` where it is not TOML or not UTF-8, then `BadField(0)` where `format` is not 1 or 2,
     /// `account` is no list, or `default`, in format 2, is no table or has a bad value. Then comes
@@ -35,7 +44,24 @@ impl AccountBook {
         ensures answer { result ≢ Err AccountsError.Memory → result ≡ file_accounts bytes.now }
         ensures listed { IfOk result (Lists (file_entries bytes.now)) }
     {
-        let table = read_table(alloc, bytes)?;
+        match AccountBook::read(alloc, bytes) {
+            Ok(book) => Ok(book),
+            Err(refusal) => Err(refusal.error),
+        }
+    }
+
+    /// The accounts of a file that are not disabled, in its order. It is refused as by `from_toml`, and of a name that an earlier
+    /// account has it is known whose it is.
+    pub fn read(alloc: Global, bytes: &[u8]) -> Result<AccountBook, FileRefusal>
+        ensures ok { IfOk result (λ book. file_accounts bytes.now ≡ Ok book) }
+        ensures listed { IfOk result (Lists (file_entries bytes.now)) }
+        ensures err { IfErr result (λ refusal. refusal.error ≢ AccountsError.Memory → file_accounts bytes.now ≡ Err refusal.error) }
+        ensures twin { IfErr result (λ refusal. refusal.error ≡ AccountsError.DuplicateName → IsTwin (file_entries bytes.now) refusal.account) }
+    {
+        let table = match read_table(alloc, bytes) {
+            Ok(table) => table,
+            Err(error) => return Err(FileRefusal { account: 0, error }),
+        };
         let book = book_of(alloc, &table);
         drop(table);
         book
@@ -43,12 +69,17 @@ impl AccountBook {
 }
 
 /// The accounts of a table that are not disabled.
-fn book_of(alloc: Global, table: &Table) -> Result<AccountBook, AccountsError>
-    ensures answer { result ≢ Err AccountsError.Memory → result ≡ table_accounts (table_view table.now) }
+fn book_of(alloc: Global, table: &Table) -> Result<AccountBook, FileRefusal>
+    ensures ok { IfOk result (λ book. table_accounts (table_view table.now) ≡ Ok book) }
     ensures listed { IfOk result (Lists (table_entries (table_view table.now))) }
+    ensures err { IfErr result (λ refusal. refusal.error ≢ AccountsError.Memory → table_accounts (table_view table.now) ≡ Err refusal.error) }
+    ensures twin { IfErr result (λ refusal. refusal.error ≡ AccountsError.DuplicateName → IsTwin (table_entries (table_view table.now)) refusal.account) }
 {
     let Ok(contents) = contents_of(table) else {
-        return Err(AccountsError::BadField(0));
+        return Err(FileRefusal {
+            account: 0,
+            error: AccountsError::BadField(0),
+        });
     };
     let mut book = AccountBook::new(alloc);
     match add_all(alloc, &mut book, &contents) {
@@ -65,12 +96,12 @@ fn add_all(
     alloc: Global,
     book: &mut AccountBook,
     contents: &Contents<'_>,
-) -> Result<(), AccountsError>
+) -> Result<(), FileRefusal>
     requires { book.old ≡ [] }
     ensures ok { OnOk result (listed_accounts (entries_in (shown_contents contents.now)) ≡ Ok book.new) }
     ensures listed { OnOk result (Lists (entries_in (shown_contents contents.now)) book.new) }
-    ensures err { IfErr result (λ e. e ≢ AccountsError.Memory →
-        listed_accounts (entries_in (shown_contents contents.now)) ≡ Err e) }
+    ensures err { IfErr result (λ refusal. refusal.error ≢ AccountsError.Memory → listed_accounts (entries_in (shown_contents contents.now)) ≡ Err refusal.error) }
+    ensures twin { IfErr result (λ refusal. refusal.error ≡ AccountsError.DuplicateName → IsTwin (entries_in (shown_contents contents.now)) refusal.account) }
 {
     let mut disabled = AccountBook::new(alloc);
     let added = add_entries(alloc, book, &mut disabled, contents);
@@ -129,22 +160,27 @@ fn add_entries(
     book: &mut AccountBook,
     disabled: &mut AccountBook,
     contents: &Contents<'_>,
-) -> Result<(), AccountsError>
+) -> Result<(), FileRefusal>
     requires book { book.old ≡ [] }
     requires disabled { disabled.old ≡ [] }
     ensures ok { OnOk result (listed_accounts (entries_in (shown_contents contents.now)) ≡ Ok book.new) }
     ensures listed { OnOk result (Lists (entries_in (shown_contents contents.now)) book.new) }
-    ensures err { IfErr result (λ e. e ≢ AccountsError.Memory →
-        listed_accounts (entries_in (shown_contents contents.now)) ≡ Err e) }
+    ensures err { IfErr result (λ refusal. refusal.error ≢ AccountsError.Memory → listed_accounts (entries_in (shown_contents contents.now)) ≡ Err refusal.error) }
+    ensures twin { IfErr result (λ refusal. refusal.error ≡ AccountsError.DuplicateName → IsTwin (entries_in (shown_contents contents.now)) refusal.account) }
 {
     for (k, entry) in contents.entries.iter().enumerate() {
+        let account = k + 1;
         let Ok(listing) = described(alloc, contents.format, contents.default, entry) else {
-            return Err(AccountsError::Memory);
+            let error = AccountsError::Memory;
+            return Err(FileRefusal { account, error });
         };
         let Some(listing) = listing else {
-            return Err(AccountsError::BadField(k + 1));
+            let error = AccountsError::BadField(account);
+            return Err(FileRefusal { account, error });
         };
-        add_listing(book, disabled, listing)?;
+        if let Err(error) = add_listing(book, disabled, listing) {
+            return Err(FileRefusal { account, error });
+        }
     }
     Ok(())
 }

@@ -9,4 +9,5 @@ mod password;
 pub use account_entries::{Account, AccountsError};
 pub use book::AccountBook;
 pub use error::LoginFault;
+pub use file::FileRefusal;
 pub use password::password_word;

@@ -2,7 +2,7 @@
 
 ghost use Rattle.std.specs.Prelude.{◌≡◌, ◌↔◌};
 
-use account_book::AccountsError;
+use account_book::{AccountsError, FileRefusal};
 use lobby_setup::Refusal;
 use std::io::ErrorKind;
 use thiserror::Error;
@@ -22,9 +22,9 @@ pub enum AccountsFault {
          a word as `make hash` prints it, `id` a whole number from 0 to 4294967295, and, if they are there, `rank` a whole \
          number from 0 to 7, `access`, `bot` and for `format` 2 `disabled` true or false, `country` two upper-case letters or `??`")]
     Account(usize),
-    /// An account has the name of an earlier one.
-    #[error("two accounts have one name: expected a name of its own for each, disabled ones too")]
-    DuplicateName,
+    /// This account, counted from 1, has the name of an earlier one.
+    #[error("account {0} has the name of an earlier one: expected a name of its own for each, disabled ones too")]
+    SameName(usize),
 }
 
 /// Why a file of settings or of accounts cannot be used.
@@ -45,14 +45,14 @@ pub enum FileError {
 }
 
 /// Why a file whose accounts are refused cannot be used.
-pub(crate) fn refused(error: AccountsError) -> FileError
-    ensures { (result ≡ FileError.Memory) ↔ (error ≡ AccountsError.Memory) }
+pub(crate) fn refused(refusal: FileRefusal) -> FileError
+    ensures { (result ≡ FileError.Memory) ↔ (refusal.error ≡ AccountsError.Memory) }
 {
-    let fault = match error {
+    let fault = match refusal.error {
         AccountsError::NotToml => AccountsFault::NotToml,
         AccountsError::BadField(0) => AccountsFault::Whole,
         AccountsError::BadField(place) => AccountsFault::Account(place),
-        AccountsError::DuplicateName => AccountsFault::DuplicateName,
+        AccountsError::DuplicateName => AccountsFault::SameName(refusal.account),
         AccountsError::Memory => return FileError::Memory,
     };
     FileError::Accounts(fault)

@@ -30,12 +30,12 @@ pub fn settings_at<R: Files + AllocGlobal>(rt: &R, path: &str) -> Result<Setup, 
     }
 }
 
-/// The accounts of the file of accounts at a path: as [`AccountBook::from_toml`] says of its bytes, of which there is no contract here.
+/// The accounts of the file of accounts at a path: as [`AccountBook::read`] says of its bytes, of which there is no contract here.
 /// `Unreadable` where the file cannot be read, `Accounts` where it is no good, `Memory` where memory was refused.
 pub fn accounts_at<R: Files + AllocGlobal>(rt: &R, path: &str) -> Result<AccountBook, FileError> {
     let bytes = read_file(rt, path)?;
-    match AccountBook::from_toml(rt.alloc(), &bytes) {
+    match AccountBook::read(rt.alloc(), &bytes) {
         Ok(accounts) => Ok(accounts),
-        Err(error) => Err(refused(error)),
+        Err(refusal) => Err(refused(refusal)),
     }
 }

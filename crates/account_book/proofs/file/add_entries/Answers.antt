@@ -1,4 +1,4 @@
-use Rattle.std.proofs.Common.{◌≡◌, ◌↔◌, ℕ, ◌+◌, ◌<◌, Bool, true, false, IsTrue, List, [], ◌∷◌, Option, drop, get_or, length, Some, Result, Ok, Err, IfErr, IsErrAnd, ap, sym, ◌∙◌, subst, arith}
+use Rattle.std.proofs.Common.{◌≡◌, ◌↔◌, ℕ, ◌+◌, ◌<◌, Bool, true, false, IsTrue, List, [], ◌∷◌, Option, drop, get_or, length, Some, Result, Ok, Err, ap, sym, ◌∙◌, subst, arith}
 use Rattle.std.proofs.lemmas.Grind.{common_steps}
 use Rattle.std.proofs.lemmas.List.{at_drop_more}
 use Rattle.toml.specs.View.{view, items_view}
@@ -10,7 +10,7 @@ use Rattle.account_entries.specs.declared.error.AccountsError.{AccountsError}
 use Rattle.account_entries.specs.declared.error.AccountsError.TheVariants.{DuplicateName}
 use Rattle.account_entries.specs.declared.listing.Listing.{Listing}
 use Rattle.account_book.specs.File.{entries_in}
-use Rattle.account_book.proofs.Listed.{SoFar, SoFar-next, SoFar-duplicate, SoFar-lists}
+use Rattle.account_book.proofs.Listed.{SoFar, SoFar-start, SoFar-next, SoFar-duplicate, SoFar-twin, SoFar-lists}
 use Rattle.account_book.proofs.file.add_entries.Goals as goal
 
 -- what the entries from one on describe, where that one describes a listing
@@ -35,12 +35,6 @@ known_then : (answer : Result Unit AccountsError) (known : Bool)
     → ((answer ≡ Err DuplicateName) ↔ IsTrue known) → answer ≡ Err DuplicateName → known ≡ true
 known_then answer known refused told = refused.0 told
 
--- what holds of the fault that an answer is
-told : (answer : Result Unit AccountsError) (fault : AccountsError)
-    (P : AccountsError → Type 0) → IsErrAnd answer (λ e. e ≡ fault) → P fault → IfErr answer P
-told (Err e) fault P is holds = subst P (sym is) holds
-told (Ok x) fault P is holds = absurd is
-
 -- what was done so far, with the entry at hand as what it describes
 at_hand : (all : List (Option Listing)) (format : ℕ) (default : Profile) (entries : List Value)
     (k place : ℕ) (entry : Value) (listing : Listing) (book disabled : List Account)
@@ -53,25 +47,33 @@ at_hand all format default entries k place entry listing book disabled so_far wi
     subst (λ left. SoFar all left place book disabled)
     (described_next format default entries k entry listing within is describes) so_far
 
+pub loop-k-init : goal.loop-k-init
+loop-k-init c = SoFar-start _ _ _ c.requires.book c.requires.disabled
+
 pub loop-k-preserved : goal.loop-k-preserved
 loop-k-preserved c =
     SoFar-next _ _ _ _ _ _ _ c.in-Some.listing
     (at_hand _ c.args.contents.now.format (shown c.args.contents.now.default)
     c.args.contents.now.entries.now c.loop-k.k _ c.entry-item.result c.in-Some.listing _ _
     c.loop-k.invariant (omega arith) c.entry-item.is (sym c.in-Ok.ensures ∙ c.in-Some.is))
-    (not_known _ _ c.add_listing.ensures.duplicate c.in_ok-add_listing.was)
-    c.in_ok-add_listing.ensures.book c.in_ok-add_listing.ensures.disabled
+    (not_known _ _ c.add_listing.ensures.duplicate c.in_default-add_listing.is)
+    c.in_default-add_listing.ensures.book c.in_default-add_listing.ensures.disabled
 
-pub returns-in_err-add_listing-clause-err : goal.returns-in_err-add_listing-clause-err
-returns-in_err-add_listing-clause-err c =
+pub returns-in-Err-clause-err : goal.returns-in-Err-clause-err
+returns-in-Err-clause-err c not_memory =
     let so_far = at_hand _ c.args.contents.now.format (shown c.args.contents.now.default)
     c.args.contents.now.entries.now c.loop-k.k _ c.entry-item.result c.in-Some.listing _ _
     c.loop-k.invariant (omega arith) c.entry-item.is (sym c.in-Ok.ensures ∙ c.in-Some.is) in
-    let fault = c.in_err-add_listing.field-0.0 in
-    told c.from_residual.result fault _ c.from_residual.ensures.1 (λ not_memory.
-    let is : fault ≡ DuplicateName = c.in_err-add_listing.ensures.errors not_memory in
+    let is : c.in-Err.error ≡ DuplicateName = c.in-Err.ensures.errors not_memory in
     SoFar-duplicate _ _ _ _ _ c.in-Some.listing so_far
-    (known_then _ _ c.in_err-add_listing.ensures.duplicate (ap Err is)) ∙ sym (ap Err is))
+    (known_then _ _ c.in-Err.ensures.duplicate (ap Err is)) ∙ sym (ap Err is)
+
+pub returns-in-Err-clause-twin : goal.returns-in-Err-clause-twin
+returns-in-Err-clause-twin c is =
+    let so_far = at_hand _ c.args.contents.now.format (shown c.args.contents.now.default)
+    c.args.contents.now.entries.now c.loop-k.k _ c.entry-item.result c.in-Some.listing _ _
+    c.loop-k.invariant (omega arith) c.entry-item.is (sym c.in-Ok.ensures ∙ c.in-Some.is) in
+    SoFar-twin _ _ _ _ _ c.in-Some.listing so_far (known_then _ _ c.in-Err.ensures.duplicate (ap Err is))
 
 pub returns-clause-listed : goal.returns-clause-listed
 returns-clause-listed c =
