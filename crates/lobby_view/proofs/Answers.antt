@@ -14,7 +14,7 @@ use Rattle.room_lists.specs.Tags.{with_tags}
 use Rattle.room_lists.specs.Units.{with_units}
 use Rattle.room_lists.specs.Room.{has_member, with_asker, without_asker, status_of, bot_of, is_full_of_bots, has_too_many_tags, has_too_many_units}
 use Rattle.lobby_model.specs.State.{State, Battle, asked_by, battle_of}
-use Rattle.lobby_model.specs.Texts.{already_in_channel, not_in_channel, no_such_user, already_in_battle, already_asking, no_number_left, battle_is_locked, wrong_password, not_the_founder, no_such_member, cannot_kick_yourself, not_your_bot, bot_name_taken, too_many_bots, too_many_tags, too_many_units}
+use Rattle.lobby_model.specs.Texts.{already_in_channel, no_such_user, already_in_battle, already_asking, no_number_left, battle_is_locked, wrong_password, no_such_member, cannot_kick_yourself, bot_name_taken, too_many_bots, too_many_tags, too_many_units}
 use Rattle.lobby_model.specs.Outcome.{Outcome, Letter, done, message, only_told, tell, issuer, user, users}
 use Rattle.lobby_model.specs.Channels.{in_channel, leaves}
 use Rattle.lobby_model.specs.Battles.{in_battle, in_room, lets_in, no_password, is_authorising, joins_or_asks, let_into, turned_away, reason_or_default, leave_or_drop, address}
