@@ -131,9 +131,15 @@ SoFar-duplicate entries left place book disabled listing so_far old =
 pub SoFar-twin : (entries left : List (Option Listing)) (place : ℕ) (book disabled : List Account)
     (listing : Listing) → SoFar entries (Some listing ∷ left) place book disabled
     → is_known listing.account.name book disabled ≡ true → IsTwin entries place
-SoFar-twin entries left place book disabled listing so_far old =
-    (so_far.listings, listing, left, so_far.stands, so_far.counts, so_far.distinct,
-    known entries (Some listing ∷ left) place book disabled listing.account.name so_far ∙ old)
+SoFar-twin entries left place book disabled listing so_far old = (
+  so_far.listings,
+  listing,
+  left,
+  so_far.stands,
+  so_far.counts,
+  so_far.distinct,
+  known entries (Some listing ∷ left) place book disabled listing.account.name so_far ∙ old,
+)
 
 pub SoFar-whole : (entries : List (Option Listing)) (place : ℕ) (book disabled : List Account)
     → SoFar entries [] place book disabled → listed_accounts entries ≡ Ok book
