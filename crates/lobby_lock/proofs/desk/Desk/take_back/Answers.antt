@@ -31,6 +31,7 @@ invariant_of-result c =
       alive = search rules;
       holds = search rules;
       numbered = search rules;
+      below = p.below;
       counts = search rules;
       counted = rw now (rw e.numbered counted);
       empty = p.empty;
