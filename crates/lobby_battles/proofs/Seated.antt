@@ -1,12 +1,12 @@
 -- The seats of the members of battles and of those who ask to be, after seats or battles changed.
-use Rattle.std.proofs.Common.{◌≡◌, ◌∙◌, ℕ, List, [], ◌∷◌, ◌++◌, map, filter, Bool, sym, ap, subst, refl, true, false, cond, not, inl, inr}
+use Rattle.std.proofs.Common.{◌≡◌, ◌∙◌, ℕ, List, [], ◌∷◌, ◌++◌, map, Bool, sym, ap, subst, refl, true, false, cond, not, inl, inr}
 use Rattle.std.specs.Prelude.{◌⊎◌, ◌||◌, Option, Some, None, if◌then◌else◌}
 use Rattle.std.proofs.lemmas.List.{map-append}
 use Rattle.std.specs.Option.{option_map}
 use Rattle.std.specs.Ordering.{nat_cmp}
 use Rattle.std.specs.Cmp.{nat_cmp_total}
 use Rattle.std.specs.FinMap.{nat_cmp-IsAntisymmetric}
-use Rattle.line_words.specs.Table.{ByName, ByNumber, at_number, at_name, put_name, change_name, without_name, put_number, without_number, change_number, name_cmp, same_name, same_number, is_among, all_but}
+use Rattle.line_words.specs.Table.{ByName, ByNumber, at_number, at_name, put_name, change_name, without_name, put_number, without_number, change_number, name_cmp, same_name, same_number, is_among}
 use Rattle.line_words.proofs.Tables.{Equal_of, at-put, at-without, at-change, name_cmp_total, name_cmp_same, same_name_is, same_name_itself}
 use Rattle.line_words.proofs.Once.{contradiction, among_with_is, among_of_but, out_of_but}
 use Rattle.room_lists.specs.Room.{Asker, Room, asker_names, has_asker, has_member, member_names, with_asker, with_member, without_asker, without_member}
@@ -16,6 +16,7 @@ use Rattle.lobby_model.specs.Battles.{is_founder}
 use Rattle.lobby_model.proofs.Delivered.{same_itself}
 use Rattle.lobby_model.proofs.Finding.{of_change, of_changed, of_put, of_without, none_at}
 use Rattle.lobby_model.proofs.RoomsKept.{names_with, names_without}
+use Rattle.lobby_model.proofs.AskersKept.{asks_without}
 use Rattle.lobby_post.specs.Posted.{has_number}
 use Rattle.lobby_battles.specs.declared.seats.Seat.{Seat}
 use Rattle.lobby_battles.specs.Seats.{Agree, client_in, seat_in, where_some, without_one}
@@ -62,23 +63,11 @@ keeps_of was now shrinks = record {
 pub shrinks_same : (rm : Room) → Shrinks rm rm
 shrinks_same rm = record { members = λ q h. h; askers = λ q h. h }
 
--- those who ask, but one
-names_but : (name : List ℕ) (askers : List Asker) → map (λ a. a.name) (filter (λ a. not (same_name name a.name)) askers)
-    ≡ all_but name (map (λ a. a.name) askers)
-names_but name [] = refl
-names_but name (a ∷ askers) =
-    elim (same_name name a.name) as (λ b. map (λ (x : Asker). x.name)
-    (if not b then a ∷ filter (λ x. not (same_name name x.name)) askers else filter (λ x. not (same_name name x.name)) askers)
-    ≡ (if not b then a.name ∷ all_but name (map (λ x. x.name) askers) else all_but name (map (λ x. x.name) askers))) [
-      | true ↦ names_but name askers
-      | false ↦ ap (λ ns. a.name ∷ ns) (names_but name askers)
-    ]
-
 still_asks : (name q : List ℕ) (rm : Room) → has_asker q (without_asker name rm) ≡ true → has_asker q rm ≡ true
-still_asks name q rm h = among_of_but name q (asker_names rm) (ap (is_among q) (sym (names_but name rm.askers)) ∙ h)
+still_asks name q rm h = among_of_but name q (asker_names rm) (ap (is_among q) (sym (asks_without name rm)) ∙ h)
 
 stops : (name : List ℕ) (rm : Room) → has_asker name (without_asker name rm) ≡ false
-stops name rm = ap (is_among name) (names_but name rm.askers) ∙ out_of_but name (asker_names rm)
+stops name rm = ap (is_among name) (asks_without name rm) ∙ out_of_but name (asker_names rm)
 
 -- those who are left were there
 still : (name q : List ℕ) (room : Room) → has_member q (without_member name room) ≡ true → has_member q room ≡ true

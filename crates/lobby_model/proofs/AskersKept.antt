@@ -1,6 +1,6 @@
 -- What happens to battles and users keeps those who ask to join battles sound.
 use Rattle.std.proofs.Common.{◌≡◌, ℕ, List, [], ◌∷◌, ◌++◌, refl, sym, ap, subst, ◌∙◌, Bool, true, false, not, inl, inr}
-use Rattle.std.specs.Prelude.{◌⊎◌, ◌||◌, Option, Some, IsSome, map, filter, find, if◌then◌else◌}
+use Rattle.std.specs.Prelude.{◌⊎◌, ◌||◌, Option, Some, IsSome, map, find, if◌then◌else◌}
 use Rattle.std.specs.List.{IsDistinct}
 use Rattle.std.specs.Ordering.{nat_cmp}
 use Rattle.std.specs.Cmp.{nat_cmp_total}
@@ -14,6 +14,7 @@ use Rattle.lobby_model.specs.Sound.{SoundAskers}
 use Rattle.line_words.proofs.Tables.{same_name_itself}
 use Rattle.line_words.proofs.Once.{contradiction}
 use Rattle.lobby_model.proofs.Finding.{of_changed, of_put, of_without}
+use Rattle.lobby_model.proofs.Named.{names_but}
 
 -- in no battle
 abbrev pub IsNowhere : ByNumber Battle → List ℕ → Type 0
@@ -58,18 +59,7 @@ pub asks_with : (name : List ℕ) (script_password : Option (List ℕ)) (room : 
 asks_with name script_password room = map-append (λ (a : Asker). a.name) room.askers _
 
 pub asks_without : (name : List ℕ) (room : Room) → asker_names (without_asker name room) ≡ all_but name (asker_names room)
-asks_without name room = left room.askers
-  where
-    left : (askers : List Asker) → map (λ a. a.name) (filter (λ a. not (same_name name a.name)) askers) ≡ all_but name (map (λ a. a.name) askers)
-    left [] = refl
-    left (a ∷ askers) =
-        elim (not (same_name name a.name)) as
-        (λ stays. map (λ a. a.name) (if stays then a ∷ filter (λ a. not (same_name name a.name)) askers else filter
-        (λ a. not (same_name name a.name)) askers)
-        ≡ (if stays then a.name ∷ all_but name (map (λ a. a.name) askers) else all_but name (map (λ a. a.name) askers))) [
-          | true ↦ ap (λ names. a.name ∷ names) (left askers)
-          | false ↦ left askers
-        ]
+asks_without name room = names_but (λ a. a.name) name room.askers
 
 module _ (users : ByName User) (battles : ByNumber Battle) (sound : SoundAskers users battles) where
   -- one battle changes: who asks there asked before or is free, and who is a member was one or asks no more
