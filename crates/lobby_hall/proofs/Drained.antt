@@ -31,6 +31,7 @@ use Rattle.lobby_hall.proofs.Each.{at_each, not_same}
 use Rattle.lobby_hall.proofs.Unread.{unread_there, unread_same}
 use Rattle.lobby_hall.proofs.Changed.{of-changed_same, of-changed_other}
 use Rattle.lobby_hall.proofs.Recorded.{of-completed, put_in-snoc, taken_in-snoc, nobody}
+use Rattle.std.proofs.Math.Nat.{min-zero}
 
 -- taking as many bytes as there are is taking as many as were asked for
 pub same_drain : (s : State) (c n : ℕ) → T (is_sorted nat_cmp s.clients)
