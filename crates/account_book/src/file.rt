@@ -10,7 +10,7 @@
 //! account is read as any other, and its name counts among the names; then it is left out. In
 //! format 1 these two keys are not known.
 
-ghost use Rattle.std.specs.Prelude.{◌≡◌, ◌≢◌, ◌↔◌, ◌++◌, [], ◌∷◌, ◌||◌, IsTrue, is_some, IfOk, IfErr, OnOk, OnErr, Some, None, Result, Ok, Err, if◌then◌else◌};
+ghost use Rattle.std.specs.Prelude.{◌≡◌, ℕ, ◌≢◌, ◌↔◌, ◌++◌, [], ◌∷◌, ◌||◌, IsTrue, is_some, IfOk, IfErr, OnOk, OnErr, Some, None, Result, Ok, Err, if◌then◌else◌};
 ghost use Rattle.toml.specs.View.{table_view};
 ghost use Rattle.toml_fields.specs.Document.{document};
 ghost use Rattle.account_entries.specs.Fields.{shown_contents};
@@ -26,7 +26,7 @@ use toml_fields::{DocumentError, read_document};
 /// Why a file of accounts is refused, and at which account.
 #[derive(Clone, Copy, PartialEq, Eq, Debug)]
 pub struct FileRefusal {
-    /// The number of the account that is refused, counted from 1; 0 where the file as a whole is. Of `Memory` it says nothing.
+    /// With `BadField` its place, with `DuplicateName` the number of the account that has the name again, counted from 1. Else it says nothing.
     pub account: usize,
     /// What is wrong.
     pub error: AccountsError,
@@ -57,6 +57,7 @@ impl AccountBook {
         ensures listed { IfOk result (Lists (file_entries bytes.now)) }
         ensures err { IfErr result (λ refusal. refusal.error ≢ AccountsError.Memory → file_accounts bytes.now ≡ Err refusal.error) }
         ensures twin { IfErr result (λ refusal. refusal.error ≡ AccountsError.DuplicateName → IsTwin (file_entries bytes.now) refusal.account) }
+        ensures place { IfErr result (λ refusal. (place : ℕ) → refusal.error ≡ AccountsError.BadField place → refusal.account ≡ place) }
     {
         let table = match read_table(alloc, bytes) {
             Ok(table) => table,
@@ -74,6 +75,7 @@ fn book_of(alloc: Global, table: &Table) -> Result<AccountBook, FileRefusal>
     ensures listed { IfOk result (Lists (table_entries (table_view table.now))) }
     ensures err { IfErr result (λ refusal. refusal.error ≢ AccountsError.Memory → table_accounts (table_view table.now) ≡ Err refusal.error) }
     ensures twin { IfErr result (λ refusal. refusal.error ≡ AccountsError.DuplicateName → IsTwin (table_entries (table_view table.now)) refusal.account) }
+    ensures place { IfErr result (λ refusal. (place : ℕ) → refusal.error ≡ AccountsError.BadField place → refusal.account ≡ place) }
 {
     let Ok(contents) = contents_of(table) else {
         return Err(FileRefusal {
@@ -102,6 +104,7 @@ fn add_all(
     ensures listed { OnOk result (Lists (entries_in (shown_contents contents.now)) book.new) }
     ensures err { IfErr result (λ refusal. refusal.error ≢ AccountsError.Memory → listed_accounts (entries_in (shown_contents contents.now)) ≡ Err refusal.error) }
     ensures twin { IfErr result (λ refusal. refusal.error ≡ AccountsError.DuplicateName → IsTwin (entries_in (shown_contents contents.now)) refusal.account) }
+    ensures place { IfErr result (λ refusal. (place : ℕ) → refusal.error ≡ AccountsError.BadField place → refusal.account ≡ place) }
 {
     let mut disabled = AccountBook::new(alloc);
     let added = add_entries(alloc, book, &mut disabled, contents);
@@ -167,6 +170,7 @@ fn add_entries(
     ensures listed { OnOk result (Lists (entries_in (shown_contents contents.now)) book.new) }
     ensures err { IfErr result (λ refusal. refusal.error ≢ AccountsError.Memory → listed_accounts (entries_in (shown_contents contents.now)) ≡ Err refusal.error) }
     ensures twin { IfErr result (λ refusal. refusal.error ≡ AccountsError.DuplicateName → IsTwin (entries_in (shown_contents contents.now)) refusal.account) }
+    ensures place { IfErr result (λ refusal. (place : ℕ) → refusal.error ≡ AccountsError.BadField place → refusal.account ≡ place) }
 {
     for (k, entry) in contents.entries.iter().enumerate() {
         let account = k + 1;

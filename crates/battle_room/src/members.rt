@@ -123,6 +123,13 @@ impl<M: Copy> Members<M> {
         self.by_name.as_slice().values().as_slice()
     }
 
+    /// The names of the members.
+    pub(crate) fn names(&self) -> &[NameBuf]
+        ensures { result.now ≡ map (λ m. m.name) self.now }
+    {
+        self.by_name.keys().as_slice()
+    }
+
     /// The member of a name.
     pub(crate) fn member(&self, name: &NameBuf) -> Option<&Member<M>>
         ensures { option_copied result ≡ find (λ m. same_name name.now m.name) self.now }

@@ -116,6 +116,13 @@ impl<M: Copy> Room<M> {
         self.members.as_slice()
     }
 
+    /// The names of the members, in order of joining. Who wants no more of them reads half as much memory as over `members`.
+    pub fn names(&self) -> &[NameBuf]
+        ensures { result.now ≡ room.member_names self.now }
+    {
+        self.members.names()
+    }
+
     /// The bots in order of adding.
     pub fn bots(&self) -> &[Bot]
         ensures { result.now ≡ self.now.bots }

@@ -13,7 +13,7 @@ use Rattle.reply_kinds.specs.declared.Reply.TheVariants as reply
 use Rattle.line_words.specs.Table.{ByNumber, all_but, same_name}
 use Rattle.line_words.proofs.Tables.{name_cmp_total}
 use Rattle.battle_room.specs.Places.{numbered}
-use Rattle.room_lists.specs.Room.{Member, Rect}
+use Rattle.room_lists.specs.Room.{Rect}
 use Rattle.lobby_model.specs.State.{Battle, Info}
 use Rattle.lobby_model.specs.Battles.{rect_line, opened_line, updated_line, battle_lines}
 use Rattle.lobby_post.specs.Posted.{Posted, with_own}
@@ -52,27 +52,25 @@ told_one_line line = told_one_more (map line) (map-append line)
 
 -- the members but one, each in one line
 module _ (line : List ℕ → Reply) (founder : List ℕ) where
-  abbrev pub guests_told : List Member → List Reply
-  guests_told ms = map line (all_but founder (map (λ m. m.name) ms))
+  abbrev pub guests_told : List (List ℕ) → List Reply
+  guests_told names = map line (all_but founder names)
 
-  guests_split : (xs ys : List Member) → guests_told (xs ++ ys) ≡ guests_told xs ++ guests_told ys
+  guests_split : (xs ys : List (List ℕ)) → guests_told (xs ++ ys) ≡ guests_told xs ++ guests_told ys
   guests_split xs ys =
-      ap (λ ns. map line (all_but founder ns)) (map-append (λ (m : Member). m.name) xs ys)
-      ∙ ap (map line) (filter-append (λ n. not (same_name founder n)) (map (λ m. m.name) xs) (map (λ m. m.name) ys))
-      ∙ map-append line (all_but founder (map (λ m. m.name) xs)) (all_but founder (map (λ m. m.name) ys))
+      ap (map line) (filter-append (λ n. not (same_name founder n)) xs ys) ∙ map-append line (all_but founder xs) (all_but founder ys)
 
-  one_guest : (m : Member) (is_founder : Bool) → is_founder ≡ same_name m.name founder → guests_told (m ∷ []) ≡ (if not is_founder then line m.name ∷ [] else [])
-  one_guest m is_founder is =
-      let other_way : same_name founder m.name ≡ is_founder = (eq_by_cmp_equiv name_cmp_total).symm founder m.name ∙ sym is in
-      ap (λ b. map line (if not b then m.name ∷ [] else [])) other_way
-      ∙ elim is_founder as (λ b. map line (if not b then m.name ∷ [] else []) ≡ (if not b then line m.name ∷ [] else [])) [ true ↦ refl | false ↦ refl ]
+  one_guest : (name : List ℕ) (is_founder : Bool) → is_founder ≡ same_name name founder → guests_told (name ∷ []) ≡ (if not is_founder then line name ∷ [] else [])
+  one_guest name is_founder is =
+      let other_way : same_name founder name ≡ is_founder = (eq_by_cmp_equiv name_cmp_total).symm founder name ∙ sym is in
+      ap (λ b. map line (if not b then name ∷ [] else [])) other_way
+      ∙ elim is_founder as (λ b. map line (if not b then name ∷ [] else []) ≡ (if not b then line name ∷ [] else [])) [ true ↦ refl | false ↦ refl ]
 
-  pub guest_told : (start now next : Posted) (ms : List Member) (i : ℕ) (m : Member) (is_founder : Bool) → i < length ms → m ≡ get_or ms i m
-      → is_founder ≡ same_name m.name founder
-      → now ≡ with_own start (guests_told (take i ms)) → next ≡ with_own now (if not is_founder then line m.name ∷ [] else [])
-      → next ≡ with_own start (guests_told (take (i + 1) ms))
-  guest_told start now next ms i m is_founder within is founder_is before more =
-      told_one_more guests_told guests_split start now next ms i m within is before (more ∙ ap (with_own now) (sym (one_guest m is_founder founder_is)))
+  pub guest_told : (start now next : Posted) (names : List (List ℕ)) (i : ℕ) (name : List ℕ) (is_founder : Bool) → i < length names → name ≡ get_or names i name
+      → is_founder ≡ same_name name founder
+      → now ≡ with_own start (guests_told (take i names)) → next ≡ with_own now (if not is_founder then line name ∷ [] else [])
+      → next ≡ with_own start (guests_told (take (i + 1) names))
+  guest_told start now next names i name is_founder within is founder_is before more =
+      told_one_more guests_told guests_split start now next names i name within is before (more ∙ ap (with_own now) (sym (one_guest name is_founder founder_is)))
 
 -- what stands in one place more
 module _ {X : Type 0} where

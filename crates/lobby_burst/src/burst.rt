@@ -49,11 +49,11 @@ fn write_battle(number: u32, battle: &Battle, post: &mut Post) -> Result<(), All
 fn write_guests(number: u32, battle: &Battle, post: &mut Post) -> Result<(), AllocError>
     ensures { OnOk result (post.new ≡ with_own post.old (guest_lines number battle.now)) }
 {
-    for member in battle.room.members() {
-        if !battle.is_founder(member.name()) {
+    for name in battle.room.names() {
+        if !battle.is_founder(name) {
             post.write_own(LentReply::JoinedBattle {
                 battle: number,
-                user: member.name(),
+                user: name,
                 script_password: None,
             })?;
         }

@@ -5,6 +5,6 @@ use Rattle.reply_kinds.specs.declared.Reply.TheVariants as reply
 use Rattle.lobby_post.specs.Posted.{with_own}
 use Rattle.lobby_burst.proofs.burst.write_guests.Given as goal
 
-abbrev pub invariant-loop-member : goal.invariant-loop-member
-invariant-loop-member l = l.post
-    ≡ with_own l.initial.post (map (λ name. reply.JoinedBattle l.number name None) (all_but l.battle.info.founder (map (λ m. m.name) (take l.member-index l.member-items))))
+abbrev pub invariant-loop-name : goal.invariant-loop-name
+invariant-loop-name l = l.post
+    ≡ with_own l.initial.post (map (λ name. reply.JoinedBattle l.number name None) (all_but l.battle.info.founder (take l.name-index l.name-items)))
