@@ -3,7 +3,7 @@
 # arguments with its file stdout, and tells where it is.
 # The gate proves each crate of crates.txt, and rt takes no .rt or .antt file beside those. So what only measures is none of them:
 # its files end in .bench, and get a root of their own, in .git, with copies of the crates below. What `make build` proved of
-# these is linked in, and not proved again.
+# these is linked in, and not proved again, and what this built of the same sources is built no more.
 set -euo pipefail
 cd "$(dirname "$0")/.."
 program=${1:?a program of bench/programs}
@@ -49,9 +49,16 @@ cat crates.txt bench/programs.txt | awk -v names="${names//$'\n'/ }" '
 without_ending "$program"
 from=bench/programs/$program
 to=$root/crates/$program
+sources=$(cd "$root" && for name in $names; do find "crates/$name" -name out -prune -o \( -name '*.rt' -o -name '*.antt' \) -print; done \
+    | sort | xargs sha256sum crates.txt | sha256sum)
+if [ -x "$to/out/$program" ] && [ "$(cat "$to/built" 2> /dev/null)" = "$sources" ]; then
+    echo "$to/out/$program"
+    exit
+fi
 if ! (cd "$to" && rt run < /dev/null > out.shown 2> out.log); then
     tail -n 20 "$to/out.log" >&2
     exit 1
 fi
 cmp "$to/out.shown" "$from/stdout" >&2
+echo "$sources" > "$to/built"
 echo "$to/out/$program"

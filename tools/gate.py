@@ -20,7 +20,7 @@ BUDGET, LIMIT = 300, 400
 KINDS = ["proof", "tests", "programs", "edits"]
 TICK = os.sysconf("SC_CLK_TCK")
 # Seconds between two looks. What a process takes between the last look and its end is told apart.
-PAUSE = 0.25
+PAUSE = 1.0
 
 
 def edited(edit, texts):
