@@ -8,7 +8,8 @@ use line_words::NameBuf;
 use reply_kinds::Reply;
 use std::alloc::{AllocError, Global};
 use std::marker::Model;
-use view_lists::{Battles, Channels, OwnRoom, Users};
+use view_lists::{Battles, Channels, Users};
+use view_room::OwnRoom;
 
 /// What a client knows.
 #[derive(Drop)]

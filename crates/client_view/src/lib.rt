@@ -40,4 +40,5 @@ mod view;
 pub use error::ViewError;
 pub use lobby_view::{line_kinds_law, line_length_law, pieces_law, private_law, view_law};
 pub use view::View;
-pub use view_lists::{Battle, Battles, Bot, Channels, Member, OwnRoom, User, Users};
+pub use view_lists::{Battle, Battles, Channels, User, Users};
+pub use view_room::{Bot, Member, OwnRoom};

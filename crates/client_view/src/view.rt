@@ -13,7 +13,8 @@ use crate::known::Known;
 use memchr::memchr;
 use std::alloc::{AllocError, Global};
 use std::marker::Model;
-use view_lists::{Battles, Channels, OwnRoom, Users};
+use view_lists::{Battles, Channels, Users};
+use view_room::OwnRoom;
 
 /// The most bytes of a line before its LF, a CR that is dropped counted. Without a limit a server
 /// could fill the memory by a line that never ends.

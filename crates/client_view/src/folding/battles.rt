@@ -9,7 +9,7 @@ use crate::known::Known;
 use line_words::{NameBuf, SentenceBuf, WordBuf};
 use reply_kinds::{OpenedBattle, Reply};
 use std::alloc::AllocError;
-use view_lists::{OwnRoom, room_changes};
+use view_room::{OwnRoom, room_changes};
 
 impl Known {
     // Who is in a battle, or what it is.

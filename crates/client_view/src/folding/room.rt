@@ -10,7 +10,7 @@ use line_words::{NameBuf, WordBuf};
 use reply_kinds::Reply;
 use room_lists::Rect;
 use std::alloc::AllocError;
-use view_lists::{Bot, room_changes};
+use view_room::{Bot, room_changes};
 
 impl Known {
     // What changes the own room.

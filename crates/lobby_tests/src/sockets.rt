@@ -1,0 +1,10 @@
+//! The server over sockets: clients of this machine connect to a server that runs in a thread of its own.
+
+mod clients;
+mod gates;
+mod hostile;
+mod leavers;
+mod plays;
+mod running;
+mod server;
+mod workers;

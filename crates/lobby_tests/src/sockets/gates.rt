@@ -1,0 +1,155 @@
+//! A gate at which tests look at the workers of a server, and hold them up.
+
+use crate::sockets::clients::LOOKS;
+use crate::sockets::running::PONG;
+use lobby_workers::Gate;
+use std::sync::atomic::{AtomicBool, AtomicU8, AtomicU64, Ordering};
+use std::thread;
+use std::time::{Clock, Duration};
+use test_lobby::GREETING;
+
+/// Whether a flag is set, within so many looks.
+pub fn is_set_soon<C: Clock>(clock: &C, flag: &AtomicBool) -> bool {
+    for _ in 0..LOOKS {
+        if flag.load(Ordering::SeqCst) {
+            return true;
+        }
+        thread::sleep(clock, Duration::from_millis(1));
+    }
+    false
+}
+
+/// Where a gate keeps workers, or the server.
+#[derive(Clone, Copy)]
+pub enum Hold {
+    /// Nowhere.
+    Open,
+    /// The server before it starts, until it may go on.
+    Start,
+    /// Each of two workers, once the gate is shut, at its next take, until the other comes there too.
+    Takes,
+    /// Worker 0 where it has written an answer to PING, until it may go on.
+    Write,
+    /// Worker 1, once the gate is shut, where it was woken and before it looks into its inbox, until it may go on.
+    Wake,
+}
+
+/// A gate that keeps workers at one place, and sees who greets and who is woken.
+#[derive(Drop)]
+pub struct Watch {
+    clock: HostRuntime,
+    hold: Hold,
+    is_shut: AtomicBool,
+    // who is kept came, or worker 0 did
+    is_there: AtomicBool,
+    // it may go on, or worker 1 came
+    may_go: AtomicBool,
+    is_missed: AtomicBool,
+    // worker 1 was woken
+    is_woken: AtomicBool,
+    greetings: AtomicU64,
+    last_greeter: AtomicU8,
+}
+
+impl Watch {
+    pub fn new(clock: HostRuntime, hold: Hold) -> Watch {
+        Watch {
+            clock,
+            hold,
+            is_shut: AtomicBool::new(false),
+            is_there: AtomicBool::new(false),
+            may_go: AtomicBool::new(false),
+            is_missed: AtomicBool::new(false),
+            is_woken: AtomicBool::new(false),
+            greetings: AtomicU64::new(0),
+            last_greeter: AtomicU8::new(0),
+        }
+    }
+
+    /// A server is about to start.
+    pub fn before_start(&self) {
+        if matches!(self.hold, Hold::Start) {
+            self.keep(&self.is_there, &self.may_go);
+        }
+    }
+
+    /// Keeps workers from now on, and answers that it does.
+    pub fn shut(&self) -> bool {
+        self.is_shut.store(true, Ordering::SeqCst);
+        true
+    }
+
+    /// Whether who is kept comes there, within so many looks.
+    pub fn is_reached(&self) -> bool {
+        is_set_soon(&self.clock, &self.is_there)
+    }
+
+    /// Lets who is kept go on. Whether it was kept until now.
+    pub fn lets_go(&self) -> bool {
+        self.may_go.store(true, Ordering::SeqCst);
+        !self.is_missed.load(Ordering::SeqCst)
+    }
+
+    /// Whether each worker found the other there.
+    pub fn did_meet(&self) -> bool {
+        self.is_there.load(Ordering::SeqCst)
+            && self.may_go.load(Ordering::SeqCst)
+            && !self.is_missed.load(Ordering::SeqCst)
+    }
+
+    /// Whether worker 1 was ever woken.
+    pub fn was_woken(&self) -> bool {
+        self.is_woken.load(Ordering::SeqCst)
+    }
+
+    /// Whether the last greeting is this worker's, once there were so many. False where there are not, within so many looks.
+    pub fn is_greeter(&self, greetings: u64, worker: u8) -> bool {
+        for _ in 0..LOOKS {
+            if self.greetings.load(Ordering::SeqCst) == greetings {
+                return self.last_greeter.load(Ordering::SeqCst) == worker;
+            }
+            thread::sleep(&self.clock, Duration::from_millis(1));
+        }
+        false
+    }
+
+    /// At its first call, says that someone came, and looks for what it waits for.
+    fn keep(&self, own: &AtomicBool, other: &AtomicBool) {
+        if !own.swap(true, Ordering::SeqCst) && !is_set_soon(&self.clock, other) {
+            self.is_missed.store(true, Ordering::SeqCst);
+        }
+    }
+}
+
+impl Gate for Watch {
+    fn before_take(&self, worker: u8) {
+        if !matches!(self.hold, Hold::Takes) || !self.is_shut.load(Ordering::SeqCst) {
+            return;
+        }
+        if worker == 0 {
+            self.keep(&self.is_there, &self.may_go);
+        } else {
+            self.keep(&self.may_go, &self.is_there);
+        }
+    }
+
+    fn after_write(&self, worker: u8, bytes: &[u8]) {
+        if bytes == GREETING {
+            self.last_greeter.store(worker, Ordering::SeqCst);
+            self.greetings.fetch_add(1, Ordering::SeqCst);
+        }
+        if matches!(self.hold, Hold::Write) && worker == 0 && bytes == PONG {
+            self.keep(&self.is_there, &self.may_go);
+        }
+    }
+
+    fn woken(&self, worker: u8) {
+        if worker != 1 {
+            return;
+        }
+        self.is_woken.store(true, Ordering::SeqCst);
+        if matches!(self.hold, Hold::Wake) && self.is_shut.load(Ordering::SeqCst) {
+            self.keep(&self.is_there, &self.may_go);
+        }
+    }
+}

@@ -1,0 +1,116 @@
+//! A server, which runs until its input ends, and what clients and it say.
+
+ghost use Rattle.std.specs.Prelude.{◌≡◌, ◌≤◌, IfSome};
+
+use crate::sockets::gates::Watch;
+use lobby_workers::{Service, run_server};
+use mio::net::TcpListener;
+use std::alloc::Global;
+use std::io::{self, Read};
+use std::net::{IpAddr, Ipv4Addr, Net, SocketAddr};
+use std::sync::Wait;
+use std::sync::atomic::{AtomicBool, Ordering};
+use std::thread::{self, Threads};
+use std::time::Duration;
+use test_lobby::{book, settings};
+
+/// Anna's number in a play.
+pub const ANNA: usize = 0;
+
+/// Bert's number in a play.
+pub const BERT: usize = 1;
+
+/// The number of one who comes only to turn the order of workers, or to keep one busy.
+pub const THIRD: usize = 2;
+
+/// A line that is answered at any time.
+pub const PING: &[u8] = b"PING\n";
+
+/// The answer to it.
+pub const PONG: &[u8] = b"PONG\n";
+
+/// Sixteen bytes of a long text.
+pub const TEXT: &[u8] = b"0123456789abcdef";
+
+/// The limit of an outbox, in bytes.
+const OUTBOX_LIMIT: usize = 8_388_608;
+
+/// For how many looks, of a millisecond each, an input waits for its end: for longer than any test takes.
+pub const PATIENCE: u32 = 50_000;
+
+/// A listener at a free port of this machine, and its address. None where the system gives none.
+pub fn listen<R: Net>(rt: &R) -> Option<(TcpListener, SocketAddr)> {
+    let any = SocketAddr::new(IpAddr::V4(Ipv4Addr::new(127, 0, 0, 1)), 0);
+    let listener = TcpListener::bind(rt, any).ok()?;
+    match listener.local_addr() {
+        Ok(address) => Some((listener, address)),
+        Err(_) => {
+            drop(listener);
+            None
+        }
+    }
+}
+
+/// A service for the users, with so many workers and a large limit of an outbox. None where memory is refused.
+pub fn service(alloc: Global, workers: u32) -> Option<Service>
+    ensures { IfSome result (λ service. service.workers ≡ workers) }
+{
+    let accounts = book(alloc)?;
+    match settings(alloc, OUTBOX_LIMIT) {
+        Some(settings) => Some(Service {
+            settings,
+            accounts,
+            workers,
+            stop_at_input_end: true,
+        }),
+        None => {
+            drop(accounts);
+            None
+        }
+    }
+}
+
+/// An input that ends once its flag is set. One whose flag is not set within so many looks fails, so that no test passes because
+/// its server ended by itself.
+#[derive(Drop)]
+pub struct Input<'a> {
+    pub clock: HostRuntime,
+    pub flag: &'a AtomicBool,
+    pub looks: u32,
+}
+
+impl Read for Input<'_> {
+    fn read(&mut self, _into: &mut [u8]) -> io::Result<usize> {
+        for _ in 0..self.looks {
+            if self.flag.load(Ordering::SeqCst) {
+                return Ok(0);
+            }
+            thread::sleep(&self.clock, Duration::from_millis(1));
+        }
+        Err(io::Error::from(io::ErrorKind::Other))
+    }
+}
+
+/// What a server ended with.
+#[derive(Drop)]
+pub struct Told {
+    pub status: u8,
+    pub output: Vec<u8>,
+}
+
+/// Runs a server until its input ends.
+pub fn run<R: Threads + Wait + Net + Sync>(
+    rt: &R,
+    service: Service,
+    listener: TcpListener,
+    input: Input<'_>,
+    gate: &Watch,
+) -> Told
+    requires { (1 ≤ service.workers) × (service.workers ≤ 64) }
+{
+    let alloc = input.clock.alloc();
+    let mut input = input;
+    let mut output = Vec::new(alloc);
+    let status = run_server(rt, alloc, service, listener, &mut input, &mut output, gate);
+    Told { status, output }
+}

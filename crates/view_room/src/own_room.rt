@@ -1,0 +1,152 @@
+//! The room of the battle that the client is in.
+
+ghost use Rattle.std.specs.Prelude.{◌≡◌, ℕ, List, OnOk, OnErr, IfOk, length, option_copied};
+ghost use Rattle.line_words.specs.Table.{at_number, same_number};
+ghost use Rattle.room_lists.specs.Room as room;
+ghost use Rattle.lobby_view.specs.View.{OwnRoom, entered};
+ghost use Rattle.view_room.specs.Rooms.{changed_room};
+
+use crate::members::{Member, Members};
+use line_words::{NameBuf, Pair, WordBuf};
+use room_lists::{Bots, Rect, Tags, Units};
+use std::alloc::{AllocError, Global};
+use std::collections::BTreeMap;
+use std::marker::Model;
+use view_lists::Battle;
+
+/// A bot of the client's room. Its status is a word, of which `status_bits` tells the fields.
+pub type Bot = room_lists::Bot<u32>;
+
+/// The room of the battle that the client is in: what its members share.
+#[derive(Drop)]
+pub struct OwnRoom {
+    battle: u32,
+    pub(crate) members: Members,
+    pub(crate) bots: Bots<u32>,
+    rects: BTreeMap<u8, Rect>,
+    pub(crate) tags: Tags,
+    pub(crate) units: Units,
+}
+
+impl Model for OwnRoom {
+    ghost use Rattle.std.specs.Prelude.{[]};
+    ghost use Rattle.lobby_view.specs.View.{OwnRoom};
+
+    ghost Value = { OwnRoom };
+
+    ghost view = { λ o. record { battle = o.battle; room = record { members = o.members; bots = o.bots; rects = o.rects.entries; tags = o.tags; units = o.units; askers = [] } } };
+}
+
+impl OwnRoom {
+    /// The room of a battle that the client enters. Nothing is told yet of the members that the battle
+    /// is known to have.
+    pub fn entered(
+        alloc: Global,
+        number: u32,
+        battle: Option<&Battle>,
+    ) -> Result<OwnRoom, AllocError>
+        ensures { IfOk result (λ own. own ≡ entered number (option_copied battle.entry)) }
+    {
+        let members = match battle {
+            Some(battle) => Members::of(alloc, battle.members())?,
+            None => Members::new(alloc),
+        };
+        Ok(OwnRoom {
+            battle: number,
+            members,
+            bots: Bots::new(alloc),
+            rects: BTreeMap::new(alloc),
+            tags: Tags::new(alloc),
+            units: Units::new(alloc),
+        })
+    }
+
+    /// The number of the battle, 1 to 2147483647.
+    pub fn battle(&self) -> u32
+        ensures { result ≡ self.now.battle }
+    {
+        self.battle
+    }
+
+    /// Whether it is the room of this battle.
+    pub(crate) fn is_of(&self, number: u32) -> bool
+        ensures { result ≡ same_number number self.now.battle }
+    {
+        number.cmp(&self.battle).is_eq()
+    }
+
+    /// The members in order of joining.
+    pub fn members(&self) -> &[Member]
+        ensures { result.now ≡ self.now.room.members }
+    {
+        self.members.as_slice()
+    }
+
+    /// The bots in order of adding.
+    pub fn bots(&self) -> &[Bot]
+        ensures { result.now ≡ self.now.room.bots }
+    {
+        self.bots.as_slice()
+    }
+
+    /// The start rectangle of an ally number, 0 to 15, if it has one.
+    pub fn rect_at(&self, ally: u8) -> Option<Rect>
+        ensures { result ≡ at_number self.now.room.rects ally }
+    {
+        self.rects.get(&ally).copied()
+    }
+
+    /// How many ally numbers have a start rectangle.
+    pub fn rect_count(&self) -> usize
+        ensures { result ≡ length self.now.room.rects }
+    {
+        self.rects.len()
+    }
+
+    /// The script tags in order of first setting.
+    pub fn tags(&self) -> &[Pair]
+        ensures { result.now ≡ self.now.room.tags }
+    {
+        self.tags.as_slice()
+    }
+
+    /// The disabled units in order of first disabling.
+    pub fn units(&self) -> &[WordBuf]
+        ensures { result.now ≡ self.now.room.units }
+    {
+        self.units.as_slice()
+    }
+
+    /// One joins. Where memory is refused, nothing changes.
+    pub(crate) fn add_member(&mut self, name: NameBuf) -> Result<(), AllocError>
+        ensures ok { OnOk result (self.new ≡ changed_room (room.with_member name) self.old) }
+        ensures err { OnErr result (self.new ≡ self.old) }
+    {
+        self.members.add(name)
+    }
+
+    /// Without the last member, who has just been added.
+    pub(crate) fn drop_last(&mut self)
+        ensures { (before : OwnRoom) (name : List ℕ) → self.old ≡ changed_room (room.with_member name) before → self.new ≡ before }
+    {
+        self.members.drop_last();
+    }
+
+    /// A start rectangle. Where memory is refused, nothing changes.
+    pub(crate) fn put_rect(&mut self, ally: u8, rect: Rect) -> Result<(), AllocError>
+        ensures ok { OnOk result (self.new ≡ changed_room (room.with_rect ally rect) self.old) }
+        ensures err { OnErr result (self.new ≡ self.old) }
+    {
+        self.rects.insert(ally, rect)?;
+        Ok(())
+    }
+
+    /// No start rectangle for an ally number.
+    pub(crate) fn remove_rect(&mut self, ally: u8)
+        ensures { self.new ≡ changed_room (room.without_rect ally) self.old }
+    {
+        // Its contract says that the numbers rise, which the proof wants of the map as it was.
+        let _ = self.rects.len();
+        let _ = self.rects.remove(&ally);
+    }
+}
