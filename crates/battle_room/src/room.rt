@@ -116,7 +116,7 @@ impl<M: Copy> Room<M> {
         self.members.as_slice()
     }
 
-    /// The names of the members, in order of joining. Who wants no more of them reads half as much memory as over `members`.
+    /// The names of the members, in order of joining. Who wants no more of them reads three eighths of the memory that `members` takes.
     pub fn names(&self) -> &[NameBuf]
         ensures { result.now ≡ room.member_names self.now }
     {

@@ -10,7 +10,7 @@ use crate::shares::SHARED_FROM;
 #[derive(Clone, Copy)]
 pub struct Due {
     /// How many bytes, copied and shared ones.
-    pub bytes: usize,
+    pub bytes: u32,
     /// How many of them are shared.
     pub shared_bytes: u32,
     /// How many pieces are shared.
@@ -35,22 +35,23 @@ impl Due {
         requires { self.shared_bytes ≤ self.bytes }
         ensures { result ≡ copied self }
     {
-        self.bytes - self.shared_bytes as usize
+        (self.bytes - self.shared_bytes) as usize
     }
 
-    /// The same with a piece of so many bytes. `None` where they are more than can be counted: 2^64
-    /// bytes, or 2^32 shared ones.
+    /// The same with a piece of so many bytes. `None` where they are more than can be counted: 2^32
+    /// bytes.
     #[inline(always)]
     pub fn and(self, more: usize) -> Option<Due>
         ensures { IfSome result (λ due. due ≡ due_and self more) }
     {
-        let bytes = self.bytes.checked_add(more)?;
+        let counted = u32::try_from(more).ok()?;
+        let bytes = self.bytes.checked_add(counted)?;
         if more < SHARED_FROM {
             return Some(Due { bytes, ..self });
         }
         Some(Due {
             bytes,
-            shared_bytes: self.shared_bytes.checked_add(u32::try_from(more).ok()?)?,
+            shared_bytes: self.shared_bytes.checked_add(counted)?,
             shared_pieces: self.shared_pieces.checked_add(1)?,
         })
     }
@@ -61,7 +62,7 @@ impl Due {
         requires { Covers self less }
         ensures { result ≡ due_but self less }
     {
-        let bytes = self.bytes - less;
+        let bytes = self.bytes - less as u32;
         if less < SHARED_FROM {
             return Due { bytes, ..self };
         }

@@ -32,8 +32,8 @@ pub struct Slot {
     phase: Phase,
     /// What of the event at hand is still to be put.
     due: Due,
-    outbox: Outbox,
     ip: [u8; 4],
+    outbox: Outbox,
 }
 
 impl Model for Slot {
@@ -113,7 +113,7 @@ impl Slot {
         let Some(due) = self.due.and(more) else {
             return Err(AllocError);
         };
-        if self.is_live() && self.outbox.room_for(due.bytes) {
+        if self.is_live() && self.outbox.room_for(due.bytes as usize) {
             let copied = due.copied();
             if !self.outbox.has_buffer() {
                 pool.lend(&mut self.outbox, copied);
@@ -170,8 +170,8 @@ impl Slot {
         ensures ready { IsReady self.new }
         ensures touched { result ≡ is_touched self.old.limit piece.now self.old.client }
     {
-        let due = self.due.bytes;
-        self.due.bytes = due - piece.len();
+        let due = self.due.bytes as usize;
+        self.due.bytes -= piece.len() as u32;
         if !self.is_live() || piece.is_empty() {
             return false;
         }
@@ -202,7 +202,7 @@ impl Slot {
         if !self.is_live() {
             return false;
         }
-        if self.outbox.room_for(before.bytes) {
+        if self.outbox.room_for(before.bytes as usize) {
             self.outbox.put_shared(share);
         } else {
             self.cut();

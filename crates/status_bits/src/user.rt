@@ -22,7 +22,8 @@ const BOT: Field = Field { first: 6, width: 1 };
 /// to set; the others come from its account.
 #[derive(Clone, Copy, PartialEq, Eq, Debug)]
 pub struct UserStatus {
-    word: u32,
+    /// A byte holds all fields, and each user has one of these.
+    word: u8,
 }
 
 impl Model for UserStatus {
@@ -53,7 +54,7 @@ impl UserStatus {
         let access = if access { 1 << ACCESS.first } else { 0 };
         let bot = if bot { 1 << BOT.first } else { 0 };
         UserStatus {
-            word: (u32::from(rank) << RANK.first) + access + bot,
+            word: (rank << RANK.first) + access + bot,
         }
     }
 
@@ -61,35 +62,35 @@ impl UserStatus {
     pub fn in_game(self) -> bool
         ensures { result ≡ is_set user.in_game self }
     {
-        IN_GAME.number_in(self.word) == 1
+        IN_GAME.number_in(self.word()) == 1
     }
 
     /// Whether the user is away.
     pub fn away(self) -> bool
         ensures { result ≡ is_set user.away self }
     {
-        AWAY.number_in(self.word) == 1
+        AWAY.number_in(self.word()) == 1
     }
 
     /// The user's rank, 0 to 7.
     pub fn rank(self) -> u8
         ensures { result ≡ number_in user.rank self }
     {
-        RANK.number_in(self.word) as u8
+        RANK.number_in(self.word()) as u8
     }
 
     /// Whether the user is a moderator.
     pub fn access(self) -> bool
         ensures { result ≡ is_set user.access self }
     {
-        ACCESS.number_in(self.word) == 1
+        ACCESS.number_in(self.word()) == 1
     }
 
     /// Whether the user is a program.
     pub fn bot(self) -> bool
         ensures { result ≡ is_set user.bot self }
     {
-        BOT.number_in(self.word) == 1
+        BOT.number_in(self.word()) == 1
     }
 
     /// The word that CLIENTSTATUS carries. Bits outside the fields are clear.
@@ -97,7 +98,7 @@ impl UserStatus {
         ensures same { result ≡ self }
         ensures clean { user.IsUserStatus result }
     {
-        self.word
+        u32::from(self.word)
     }
 }
 
@@ -108,6 +109,9 @@ pub fn merge_user(old: UserStatus, asked: u32) -> UserStatus
     ensures fields { Merges user.user_table old asked result }
 {
     let own = IN_GAME.part_of(asked) + AWAY.part_of(asked);
-    let given = RANK.part_of(old.word) + ACCESS.part_of(old.word) + BOT.part_of(old.word);
-    UserStatus { word: own + given }
+    let word = old.word();
+    let given = RANK.part_of(word) + ACCESS.part_of(word) + BOT.part_of(word);
+    UserStatus {
+        word: (own + given) as u8,
+    }
 }
