@@ -4,6 +4,7 @@ ghost use Rattle.std.specs.Prelude.{◌≡◌, ◌≢◌, ◌↔◌, ◌<◌, tr
 ghost use Rattle.line_words.specs.Bytes.{is_name};
 ghost use Rattle.account_entries.specs.Account.{IsHeld, is_password_word, is_country, is_sound, stated};
 
+use crate::country::Country;
 use crate::error::AccountsError;
 use base64::engine::general_purpose::STANDARD;
 use line_words::is_name;
@@ -141,11 +142,10 @@ impl Account {
     }
 
     /// The country that ADDUSER tells: two upper-case letters, or `??`.
-    pub fn country(&self) -> &[u8]
-        ensures value { result.now ≡ self.now.country }
-        ensures is_country { is_country result.now ≡ true }
+    pub fn country(&self) -> Country
+        ensures { result ≡ self.now.country }
     {
-        &self.country
+        Country::of(self.country)
     }
 }
 

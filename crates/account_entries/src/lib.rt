@@ -2,12 +2,14 @@
 #![tactic(auto)]
 
 mod account;
+mod country;
 mod error;
 mod fields;
 mod listing;
 mod profile;
 
 pub use account::Account;
+pub use country::Country;
 pub use error::AccountsError;
 pub use fields::{Contents, contents_of, described};
 pub use listing::Listing;

@@ -1,4 +1,5 @@
 pub mod Lively
 pub mod Found
+pub mod First
 pub mod Placed
 pub mod Sets

@@ -7,7 +7,9 @@
 
 mod book;
 mod error;
+mod few;
 mod lists;
+mod many;
 mod members;
 mod places;
 

@@ -144,7 +144,7 @@ fn is_shown(account: &Account, name: &[u8], word: &[u8], shown: &Shown) -> bool 
         && account.rank() == shown.rank
         && account.access() == shown.access
         && account.bot() == shown.bot
-        && account.country() == shown.country
+        && account.country().as_slice() == shown.country
 }
 
 fn answers(book: &AccountBook, login: &Login) -> bool {

@@ -209,3 +209,29 @@ static LAST_CHANNEL: [Step; 11] = [
 fn who_left_the_last_channel_has_none(rt: HostRuntime) {
     play(&rt, rt.alloc(), &LAST_CHANNEL);
 }
+
+static MANY: [Step; 18] = [
+    Step::Joins(b"main", b"u0", Ok(())),
+    Step::Joins(b"main", b"u1", Ok(())),
+    Step::Joins(b"main", b"u2", Ok(())),
+    Step::Joins(b"main", b"u3", Ok(())),
+    Step::Joins(b"main", b"u4", Ok(())),
+    Step::Joins(b"main", b"u5", Ok(())),
+    Step::Joins(b"main", b"u6", Ok(())),
+    Step::Joins(b"main", b"u7", Ok(())),
+    Step::Joins(b"main", b"u3", Err(ChannelError::AlreadyIn)),
+    Step::Joins(b"main", b"u8", Ok(())),
+    Step::Joins(b"main", b"u3", Err(ChannelError::AlreadyIn)),
+    Step::Joins(b"main", b"u9", Ok(())),
+    Step::Leaves(b"main", b"u0"),
+    Step::Leaves(b"main", b"u4"),
+    Step::LeavesAll(b"u9"),
+    Step::Leaves(b"main", b"u6"),
+    Step::Joins(b"main", b"u4", Ok(())),
+    Step::Members(b"main", &[b"u1", b"u2", b"u3", b"u5", b"u7", b"u8", b"u4"]),
+];
+
+#[test]
+fn many_members_stand_in_order_of_joining(rt: HostRuntime) {
+    play(&rt, rt.alloc(), &MANY);
+}

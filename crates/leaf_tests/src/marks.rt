@@ -1,7 +1,7 @@
 //! Marks, which no contract speaks of: each name has the one that was given with it.
 
 use crate::lists::are;
-use crate::verdict::{fail, same};
+use crate::verdict::{fail, same, same_for};
 use battle_room::Room;
 use channel_book::ChannelBook;
 use line_words::NameBuf;
@@ -78,6 +78,48 @@ fn mark_names(rt: &impl Abort, book: &mut ChannelBook<u8>, channel: &NameBuf, an
     same(rt, book.marks_in(channel), [1, 2, 3].as_slice());
     book.remove_member(channel, anna);
     same(rt, book.marks_in(channel), [2, 3].as_slice());
+}
+
+fn leave_channel(book: &mut ChannelBook<u8>, channel: &NameBuf, user: &[u8]) {
+    if let Some(user) = NameBuf::of(user) {
+        book.remove_member(channel, &user);
+    }
+}
+
+/// Ten join under 0 to 9, and then the first and one in the middle leave.
+fn mark_many(rt: &impl Abort, book: &mut ChannelBook<u8>, channel: &NameBuf) {
+    for mark in 0..10u8 {
+        same_for(
+            rt,
+            &mark,
+            join_channel(book, channel, &[b'a' + mark], mark),
+            true,
+        );
+    }
+    same(
+        rt,
+        book.marks_in(channel),
+        [0, 1, 2, 3, 4, 5, 6, 7, 8, 9].as_slice(),
+    );
+    leave_channel(book, channel, b"a");
+    leave_channel(book, channel, b"e");
+    same(
+        rt,
+        book.marks_in(channel),
+        [1, 2, 3, 5, 6, 7, 8, 9].as_slice(),
+    );
+}
+
+#[test]
+fn many_names_in_a_channel_have_their_marks(rt: HostRuntime) {
+    match NameBuf::of(b"main") {
+        Some(channel) => {
+            let mut book = ChannelBook::with_marks(rt.alloc());
+            mark_many(&rt, &mut book, &channel);
+            drop(book);
+        }
+        None => fail(&rt, "a name"),
+    }
 }
 
 #[test]

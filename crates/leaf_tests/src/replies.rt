@@ -1,7 +1,7 @@
 //! A line for each reply, read and printed again, and lines that no reply prints.
 
 use crate::verdict::{same, same_for};
-use line_words::{NameBuf, Text, TextBuf, WordBuf};
+use line_words::{NameBuf, Text, TextBuf};
 use reply_grammar::{LentReply, Reply, print, print_id, print_lent};
 use reply_reader::read_reply;
 use std::alloc::{AllocError, Global};
@@ -175,11 +175,10 @@ fn print_refusal(out: &mut Vec<u8>) -> Result<(), AllocError> {
 // Numbers at their ends.
 fn print_user(alloc: Global, out: &mut Vec<u8>) -> Result<(), AllocError> {
     let user = NameBuf::copy_of(alloc, b"Bert")?;
-    let country = WordBuf::copy_of(alloc, b"??")?;
     print_lent(
         LentReply::AddUser {
             user: &user,
-            country: &country,
+            country: b"??",
             cpu: -1,
             account: 4294967295,
         },

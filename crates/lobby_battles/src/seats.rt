@@ -6,7 +6,8 @@ ghost use Rattle.lobby_model.specs.Battles.{is_authorising};
 ghost use Rattle.lobby_battles.specs.Battles.{battle_at};
 ghost use Rattle.lobby_battles.specs.Seats.{IsSet, client_number, seat_in, seat_with, users_of, where_some, without_one};
 
-use line_words::{NameBuf, WordBuf};
+use account_entries::Country;
+use line_words::NameBuf;
 use lobby_post::ClientKey;
 use status_bits::UserStatus;
 use std::alloc::{AllocError, Global};
@@ -17,7 +18,7 @@ use std::collections::{BTreeMap, BTreeSet};
 pub struct Seat {
     pub client: ClientKey,
     /// Its account's country.
-    pub country: WordBuf,
+    pub country: Country,
     /// What its login said of its processor, -2147483648 to 4294967295.
     pub cpu: i64,
     /// The number of its account.

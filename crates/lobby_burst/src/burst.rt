@@ -122,7 +122,7 @@ fn write_part(name: &NameBuf, seat: &Seat, part: Part, post: &mut Post) -> Resul
         Part::Presence => {
             post.write_own(LentReply::AddUser {
                 user: name,
-                country: &seat.country,
+                country: seat.country.as_slice(),
                 cpu: seat.cpu,
                 account: seat.account,
             })

@@ -43,7 +43,7 @@ impl Maps {
     {
         post.write_for_others(LentReply::AddUser {
             user: name,
-            country: &seat.country,
+            country: seat.country.as_slice(),
             cpu: seat.cpu,
             account: seat.account,
         })?;

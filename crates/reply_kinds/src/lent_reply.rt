@@ -34,10 +34,10 @@ pub enum LentReply<'a> {
     ServerMsg {
         text: &'a Text<'a>,
     },
-    /// `ADDUSER`.
+    /// `ADDUSER`. The country is lent as the bytes of a word.
     AddUser {
         user: &'a NameBuf,
-        country: &'a WordBuf,
+        country: &'a [u8],
         cpu: i64,
         account: u32,
     },

@@ -26,7 +26,7 @@ use lobby_maps::{Change, Maps, Seat};
 use lobby_post::{ClientKey, Post};
 use reply_kinds::LentReply;
 use status_bits::{UserStatus, merge_user};
-use std::alloc::{AllocError, Global};
+use std::alloc::AllocError;
 
 /// `PING`.
 pub fn ping(maps: &Maps, client: u64, post: &mut Post) -> Result<Change, Stop>
@@ -53,7 +53,7 @@ pub fn log_in(
     let account = account_for(maps, user_name, password)?;
     let name = free_name(maps, account)?;
     let key = maps.client_key(client);
-    let seat = seat_of(maps.alloc(), key, account, cpu, authorises)?;
+    let seat = seat_of(key, account, cpu, authorises);
     maps.tell_burst(&name, &seat, post)?;
     maps.tell_arrival(&name, &seat, post)?;
     Ok(Change::LogIn { name, seat })
@@ -136,24 +136,18 @@ pub fn close(maps: &Maps, client: u64, post: &mut Post) -> Result<Change, AllocE
 }
 
 /// Where a user of an account sits, by the key of its client.
-fn seat_of(
-    alloc: Global,
-    client: ClientKey,
-    account: &Account,
-    cpu: i64,
-    authorises: bool,
-) -> Result<Seat, AllocError>
-    ensures here { IfOk result (λ seat. seat.client.number ≡ client.number) }
-    ensures outside { IfOk result (λ seat. seat.battle ≡ None) }
-    ensures user { IfOk result (λ seat. user_in seat ≡ user_of account.now cpu authorises) }
+fn seat_of(client: ClientKey, account: &Account, cpu: i64, authorises: bool) -> Seat
+    ensures here { result.client.number ≡ client.number }
+    ensures outside { result.battle ≡ None }
+    ensures user { user_in result ≡ user_of account.now cpu authorises }
 {
-    Ok(Seat {
+    Seat {
         client,
-        country: WordBuf::copy_of(alloc, account.country())?,
+        country: account.country(),
         cpu,
         account: account.id(),
         status: UserStatus::of_account(account.rank(), account.access(), account.bot()),
         authorises,
         battle: None,
-    })
+    }
 }

@@ -13,7 +13,7 @@ use line_words::{NameBuf, Pair, SentenceBuf, Text, WordBuf, write_number};
 use reply_kinds::CommandWord;
 use std::alloc::AllocError;
 
-fn put_behind(out: &mut Vec<u8>, mark: u8, bytes: &[u8]) -> Result<(), AllocError>
+pub(super) fn put_behind(out: &mut Vec<u8>, mark: u8, bytes: &[u8]) -> Result<(), AllocError>
     ensures ok { IfOk result (λ _. out.new.items ≡ out.old.items ++ (mark ∷ bytes.now)) }
     ensures kept { Keeps out.old.items out.new.items }
 {

@@ -8,7 +8,7 @@ ghost use Rattle.reply_grammar.specs.Groups.{Session, group_of};
 ghost use Rattle.reply_kinds.specs.Lent.{reply_of};
 ghost use Rattle.reply_kinds.specs.Replies.{command_of, printed_line};
 
-use super::pieces::{put_command, put_end, put_name, put_number, put_wide, put_word};
+use super::pieces::{put_behind, put_command, put_end, put_name, put_number, put_wide, put_word};
 use super::shapes::{put_bare, put_only_name, put_only_text};
 use line_words::{NameBuf, WordBuf};
 use reply_kinds::{CommandWord, LentReply, Reply};
@@ -40,7 +40,7 @@ pub(super) fn lend(reply: &Reply) -> LentReply
             account,
         } => LentReply::AddUser {
             user,
-            country,
+            country: country.as_slice(),
             cpu: *cpu,
             account: *account,
         },
@@ -117,7 +117,7 @@ fn put_add_user(
     out: &mut Vec<u8>,
     id: Option<u32>,
     user: &NameBuf,
-    country: &WordBuf,
+    country: &[u8],
     cpu: &i64,
     account: u32,
 ) -> Result<(), AllocError>
@@ -126,7 +126,7 @@ fn put_add_user(
 {
     put_command(out, id, CommandWord::AddUser)?;
     put_name(out, user)?;
-    put_word(out, country)?;
+    put_behind(out, b' ', country)?;
     put_wide(out, cpu)?;
     put_number(out, account)?;
     put_end(out)?;

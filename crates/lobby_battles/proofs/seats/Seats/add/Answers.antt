@@ -11,8 +11,8 @@ returns-in-Ok-clause-users c = c.in-Ok.ensures.entries ∙ insert_is_put name_cm
 pub returns-in-Ok-clause-clients : goal.returns-in-Ok-clause-clients
 returns-in-Ok-clause-clients c = c.in_ok-insert.ensures.updates.0
 
-pub returns-clause-err_clients : goal.returns-clause-err_clients
-returns-clause-err_clients c = λ d.
+pub returns-in-Err-clause-err_clients : goal.returns-in-Err-clause-err_clients
+returns-in-Err-clause-err_clients c = λ d.
     c.remove.ensures.updates.0 d
     ∙ elim (same_number c.args.seat.client.number d) as (λ b. same_number c.args.seat.client.number d ≡ b
     → (if b then false else has_number c.insert.new.self.keys d) ≡ (if b then false else has_number c.args.self.now.clients.keys d)) [
