@@ -86,37 +86,51 @@ fn leave_channel(book: &mut ChannelBook<u8>, channel: &NameBuf, user: &[u8]) {
     }
 }
 
-/// Ten join under 0 to 9, and then the first and one in the middle leave.
-fn mark_many(rt: &impl Abort, book: &mut ChannelBook<u8>, channel: &NameBuf) {
-    for mark in 0..10u8 {
+/// So many join under 0 and so on, some of them leave, and these marks stay.
+struct Leaving {
+    joins: u8,
+    leaves: &'static [&'static [u8]],
+    left: &'static [u8],
+}
+
+static FEW_AND_MANY: [Leaving; 2] = [
+    Leaving {
+        joins: 5,
+        leaves: &[b"c", b"e", b"a"],
+        left: &[1, 3],
+    },
+    Leaving {
+        joins: 10,
+        leaves: &[b"a", b"e", b"j"],
+        left: &[1, 2, 3, 5, 6, 7, 8],
+    },
+];
+
+fn leaves_marks(rt: &impl Abort, alloc: Global, channel: &NameBuf, row: &Leaving) {
+    let mut book = ChannelBook::with_marks(alloc);
+    for mark in 0..row.joins {
+        let user = [b'a'.wrapping_add(mark)];
         same_for(
             rt,
             &mark,
-            join_channel(book, channel, &[b'a' + mark], mark),
+            join_channel(&mut book, channel, &user, mark),
             true,
         );
     }
-    same(
-        rt,
-        book.marks_in(channel),
-        [0, 1, 2, 3, 4, 5, 6, 7, 8, 9].as_slice(),
-    );
-    leave_channel(book, channel, b"a");
-    leave_channel(book, channel, b"e");
-    same(
-        rt,
-        book.marks_in(channel),
-        [1, 2, 3, 5, 6, 7, 8, 9].as_slice(),
-    );
+    for user in row.leaves {
+        leave_channel(&mut book, channel, user);
+    }
+    same(rt, book.marks_in(channel), row.left);
+    drop(book);
 }
 
 #[test]
-fn many_names_in_a_channel_have_their_marks(rt: HostRuntime) {
+fn those_who_stay_in_a_channel_keep_their_marks(rt: HostRuntime) {
     match NameBuf::of(b"main") {
         Some(channel) => {
-            let mut book = ChannelBook::with_marks(rt.alloc());
-            mark_many(&rt, &mut book, &channel);
-            drop(book);
+            for row in &FEW_AND_MANY {
+                leaves_marks(&rt, rt.alloc(), &channel, row);
+            }
         }
         None => fail(&rt, "a name"),
     }
