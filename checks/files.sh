@@ -12,7 +12,7 @@ trap 'rm -rf "$room"' EXIT
 
 settings='settings: address 127.0.0.1:8200, workers 4
 memory: some 2863 bytes a client, and up to 4194304 more for one that does not read
-memory: at most 41971 MB for 10000 clients, of whom none reads'
+memory: some 41971 MB if 10000 clients read nothing, and more where buffers have room to spare'
 accounts='accounts: 3 can log in'
 name='name = "Anna"'
 word='password = "X03MO1qnZdYdgyfeuILPmQ=="'

@@ -15,8 +15,8 @@ const CLIENTS: usize = 10_000;
 /// What a client takes that is logged in, in a channel of 1,000, and reads, in bytes, as it was measured (docs/OPERATING.md).
 const CLIENT_BYTES: usize = 2_863;
 
-/// What as many clients as a lobby takes take in memory if none of them reads, in megabytes.
-fn most_megabytes(outbox_limit: usize) -> usize
+/// What as many clients as a lobby takes have waiting if none of them reads, with what each takes besides, in megabytes.
+fn waiting_megabytes(outbox_limit: usize) -> usize
     requires { outbox_limit ≤ 67108864 }
     ensures { result ≡ 10000 * (2863 + outbox_limit) / 1000000 }
 {
@@ -34,7 +34,7 @@ fn check_settings<R: Files + Print + AllocGlobal>(rt: &R, path: &str) -> bool {
     };
     setup.settings.keep_their_bounds();
     let unread = setup.settings.outbox_limit();
-    let most = most_megabytes(unread);
+    let most = waiting_megabytes(unread);
     let _ = println!(rt;
         "settings: address {}, workers {}",
         setup.address, setup.workers
@@ -42,7 +42,7 @@ fn check_settings<R: Files + Print + AllocGlobal>(rt: &R, path: &str) -> bool {
     let _ = println!(rt;
         "memory: some {CLIENT_BYTES} bytes a client, and up to {unread} more for one that does not read"
     );
-    let _ = println!(rt; "memory: at most {most} MB for {CLIENTS} clients, of whom none reads");
+    let _ = println!(rt; "memory: some {most} MB if {CLIENTS} clients read nothing, and more where buffers have room to spare");
     true
 }
 
