@@ -1,39 +1,30 @@
 #!/usr/bin/env bash
-# run.sh PROGRAM ARGUMENT.. : runs the program that `make build` proved and built, in bin/, where no source is newer.
-# Otherwise it builds one on the spot, in a minute or two, without any proof, and says so. Such a build shows at most
-# 1 MiB, when it has ended, and runs for at most a minute, a server for at most an hour and without an input.
+# run.sh PROGRAM ARGUMENT.. : runs a program of bin/ than which no source is newer: the one that `make build` proved and built; else
+# one that is not proved and says so, which this builds where there is none yet, and keeps.
 set -euo pipefail
 root=$(cd "$(dirname "$0")/.." && pwd)
 name=$1
 shift
-program=$root/bin/$name
+proved=$root/bin/$name
+unproved=$root/bin/$name.not-proved
+
+# is_new PROGRAM : whether it is there, and no source is newer.
+is_new() {
+    [ -x "$1" ] && [ -z "$(find "$root/crates.txt" "$root/crates" \( -name out -prune \) -o \
+        \( -name '*.rt' -o -name '*.antt' -o -name crates.txt \) -newer "$1" -print -quit)" ]
+}
+
 # The C library is to return large blocks at once, so that what a storm of logins took is given back.
 if [ "${1:-}" = serve ]; then export MALLOC_MMAP_THRESHOLD_=${MALLOC_MMAP_THRESHOLD_:-16384}; fi
-if [ -x "$program" ] && [ -z "$(find "$root/crates.txt" "$root/crates" \( -name out -prune \) -o \
-    \( -name '*.rt' -o -name '*.antt' -o -name crates.txt \) -newer "$program" -print -quit)" ]; then
-    exec "$program" "$@"
+if is_new "$proved"; then exec "$proved" "$@"; fi
+if ! is_new "$unproved"; then
+    echo "$name: builds a program that is not proved, which takes two to three minutes and is kept in bin/" >&2
+    if ! "$root/tools/quick.sh" "$name" "$unproved"; then
+        # Without what quick.sh leans on, rt runs the program itself: it shows what that prints once it has ended.
+        echo "$name: this toolchain builds no program without a proof; rt try runs it, and shows at its end what it printed" >&2
+        cd "$root/crates/$name"
+        exec rt try --seconds 31536000 -- "$@"
+    fi
 fi
-echo "$name: this build is not the proved one, which 'make build' makes; it takes a minute or two" >&2
-room=$(mktemp -d)
-trap 'rm -rf "$room"' EXIT
-# rt try reads no terminal, and does not wait for a pipe: the input is taken first, of a terminal one line.
-limit=()
-if [ "${1:-}" = serve ]; then
-    : > "$room/input"
-    limit=(--seconds 3600)
-    echo "$name: the server does not say when it listens; it serves for an hour, or until Ctrl-C" >&2
-elif [ -t 0 ]; then
-    head -n 1 > "$room/input"
-else
-    cat > "$room/input"
-fi
-cd "$root/crates/$name"
-status=0
-rt try "${limit[@]}" -- "$@" < "$room/input" 2> "$room/told" || status=$?
-# Of a program that came to its end, only what it told itself.
-if grep -q '^run=ended ' "$room/told"; then
-    grep -v -E '^(checked: |interpreted: |races: |run=)' "$room/told" >&2 || true
-else
-    cat "$room/told" >&2
-fi
-exit "$status"
+echo "$name: this is not the proved program, which 'make build' makes" >&2
+exec "$unproved" "$@"
