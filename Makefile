@@ -1,48 +1,58 @@
-# The recipes of this repository, one line each.
+# The recipes of this repository, one line each; `make help` lists them.
 SCRIPT ?= examples/ping.play
 SETTINGS ?= examples/lobby.toml
 ACCOUNTS ?= examples/accounts.toml
 
-.PHONY: play serve setup hash view build test check bench memory soak connections counts hostile
+.DEFAULT_GOAL := help
+.PHONY: help play serve setup hash view build test unit fmt check bench memory soak connections counts hostile
 
-play:
-	@tools/run.sh lobby_play < $(SCRIPT)
+help: ## lists the targets
+	@awk -F ':.*## ' '/^[a-z]+:.*## / { printf "  make %-12s %s\n", $$1, $$2 }' Makefile
 
-serve:
+serve: ## runs the server (SETTINGS=FILE ACCOUNTS=FILE), until Ctrl-C
 	@tools/run.sh lobby_main serve $(abspath $(SETTINGS)) $(abspath $(ACCOUNTS))
 
-setup:
+play: ## plays a script of a lobby (SCRIPT=FILE) and shows what each client gets
+	@tools/run.sh lobby_play < $(SCRIPT)
+
+setup: ## looks at the files of settings and accounts, and says what is wrong
 	@tools/run.sh lobby_check $(abspath $(SETTINGS)) $(abspath $(ACCOUNTS))
 
-hash:
+hash: ## reads a password and prints the word that stands for it in a file of accounts
 	@tools/run.sh lobby_main hash
 
-view:
+view: ## reads the bytes that a client was sent, and shows what it knows then
 	@tools/run.sh view_show
 
-build:
+build: ## proves and builds the programs, optimised, into bin/
 	@tools/build.sh
 
-test:
+test: ## the gate: proves everything from nothing, tries wrong bodies, runs all tests
 	@tools/gate.py
 
-check:
+unit: ## runs the tests that stand on what you changed, without a proof
+	@tools/unit.sh
+
+fmt: ## lays out the crates that you changed
+	@for crate in $$(tools/changed.sh); do (cd crates/$$crate && rt fmt) || exit 1; done
+
+check: ## proves one crate over what earlier runs kept (CRATE=line_words)
 	@cd crates/$(or $(CRATE),$(error give a crate, as make check CRATE=line_words)) && rt check
 
-bench:
+bench: ## runs the benchmarks
 	@for figures in bench/*.sh; do echo "== $$figures"; $$figures || exit 1; done
 
-memory:
+memory: ## refuses each growth in turn to the programs that make test built
 	@checks/memory.sh && checks/refused_memory.sh
 
-soak:
+soak: ## many threads at one desk, at full size
 	@checks/soak.sh
 
-counts:
+counts: ## compares the events that the server tells at its end with those of its clients
 	@checks/counts.py
 
-connections:
+connections: ## real connections: slow readers, resets, 10,000 at once
 	@for workers in 1 4; do checks/connections.py $$workers && checks/played.py $$workers && checks/mixed.py $$workers && checks/crowd.py $$workers || exit 1; done
 
-hostile:
+hostile: ## 2,000 connections send what no client should, for five minutes with 1 and with 4 workers
 	@for workers in 1 4; do checks/hostile.py $$workers || exit 1; done

@@ -1,0 +1,65 @@
+#!/usr/bin/env python3
+"""Compares docs/DEFINITIONS.md with the files that it lists: each file of definitions with what its first comment says.
+
+`checks/definitions.py --mend` writes the page anew."""
+import re
+import sys
+from pathlib import Path
+
+ROOT = Path(__file__).resolve().parent.parent
+PAGE = ROOT / "docs/DEFINITIONS.md"
+HEAD = """# Definitions
+
+A contract speaks of values: numbers, lists of bytes, records. What a contract sees of a type stands at the type, as `Value` and `view`. The definitions that contracts cite stand in `specs/` of the lowest crate that needs them, each with a comment that says what it means. This page lists their files, by crate from the lowest up. `checks/definitions.py --mend` writes it.
+
+The definitions build on one another. A stream of bytes has *frames*. A frame *reads as* a request. A request of a client is an *event* of the *plain lobby*. An event comes to an *outcome*: a refusal, or things that *happen*. Each thing that happens says what it changes and who is *told* what. A client's lines of one event are *put* as one batch, or the client is *cut*. A list of events is a *history*; a *schedule* of connects, pieces, takes, reads and disconnects gives one, and a *record* is what a history put for each client. From the other side, the bytes of a client give its *view*, and the plain lobby gives the *observation* of a user, which the view is to equal.
+"""
+
+
+def files_of(crate):
+    """The files of definitions of a crate, but for those that only name others."""
+    return sorted(it for it in (ROOT / "crates" / crate / "specs").glob("**/*.antt") if it.name != "Lib.antt")
+
+
+def said(file):
+    """The comment at the head of a file, up to its first full stop, or what is missing."""
+    lines = []
+    for line in file.read_text(encoding="utf-8").split("\n"):
+        if not line.startswith("-- "):
+            break
+        lines.append(line[3:])
+    text = " ".join(lines)
+    found = re.match(r".*?\.(?= |$)", text)
+    return found[0].rstrip(".") if found else text or "**no comment**"
+
+
+def page():
+    lines = [HEAD]
+    for row in (ROOT / "crates.txt").read_text(encoding="utf-8").split("\n"):
+        crate = re.match(r"(\w+)[ :]", row)
+        files = files_of(crate[1]) if crate else []
+        if files:
+            lines += [f"**{crate[1]}**", ""]
+            for file in files:
+                lines.append(f"- [{file.stem}](../{file.relative_to(ROOT)}): {said(file)}")
+            lines.append("")
+    return "\n".join(lines).rstrip("\n") + "\n"
+
+
+def main():
+    if sys.argv[1:] == ["--mend"]:
+        PAGE.write_text(page(), encoding="utf-8")
+        return 0
+    missing = [str(it.relative_to(ROOT)) for it in sorted((ROOT / "crates").glob("*/specs/**/*.antt"))
+               if it.name != "Lib.antt" and said(it).startswith("**")]
+    same = PAGE.read_text(encoding="utf-8") == page()
+    for it in missing:
+        print(f"{it} says nothing at its head")
+    if not same:
+        print("docs/DEFINITIONS.md is not what the definitions say: checks/definitions.py --mend writes it anew")
+    print(f"definitions: {int(same and not missing)} passed, {int(not same or bool(missing))} failed")
+    return 0 if same and not missing else 1
+
+
+if __name__ == "__main__":
+    sys.exit(main())
