@@ -25,7 +25,7 @@ view: ## reads the bytes that a client was sent, and shows what it knows then
 	@tools/run.sh view_show
 
 build: ## proves and builds the programs, optimised, into bin/
-	@tools/build.sh
+	@tools/build.py
 
 test: ## the gate: proves everything from nothing, tries wrong bodies, runs all tests
 	@tools/gate.py
