@@ -7,9 +7,7 @@
 
 mod book;
 mod error;
-mod few;
 mod lists;
-mod many;
 mod members;
 mod places;
 

@@ -53,7 +53,7 @@ impl<M: Copy> Lists<M> {
         ensures err { OnErr result (self.new ≡ self.old) }
     {
         if let Some(members) = self.channels.get_mut(&channel) {
-            members.add(self.alloc, user, mark)?;
+            members.add(user, mark)?;
             return Ok(());
         }
         let members = Members::one(self.alloc, user, mark)?;
@@ -67,7 +67,7 @@ impl<M: Copy> Lists<M> {
     {
         if let Some(members) = self.channels.get_mut(channel) {
             if !members.remove(user) {
-                drop(self.channels.remove(channel));
+                let _ = self.channels.remove(channel);
             }
         }
     }

@@ -93,7 +93,7 @@ struct Leaving {
     left: &'static [u8],
 }
 
-static FEW_AND_MANY: [Leaving; 2] = [
+static LEAVINGS: [Leaving; 2] = [
     Leaving {
         joins: 5,
         leaves: &[b"c", b"e", b"a"],
@@ -128,7 +128,7 @@ fn leaves_marks(rt: &impl Abort, alloc: Global, channel: &NameBuf, row: &Leaving
 fn those_who_stay_in_a_channel_keep_their_marks(rt: HostRuntime) {
     match NameBuf::of(b"main") {
         Some(channel) => {
-            for row in &FEW_AND_MANY {
+            for row in &LEAVINGS {
                 leaves_marks(&rt, rt.alloc(), &channel, row);
             }
         }

@@ -1,4 +1,4 @@
-use Rattle.std.proofs.Common.{◌∙◌, ap, sym, subst}
+use Rattle.std.proofs.Common.{◌≡◌, ◌∙◌, ap, sym, subst, rules}
 use Rattle.std.specs.BTreeMap.{is_at}
 use Rattle.std.specs.Map.{remove_entry}
 use Rattle.line_words.specs.Table.{name_cmp}
@@ -25,7 +25,8 @@ invariant_of-self-else-not-remove g c = subst AreLively (sym (
 
 pub returns-then-not-remove : goal.returns-then-not-remove
 returns-then-not-remove g c =
-    c.remove-then-not-remove.ensures.entries
+    let same : c.match-remove.self ≡ c.remove-then-not-remove.new.self.entries = search rules in
+    same ∙ c.remove-then-not-remove.ensures.entries
     ∙ ap (remove_entry (is_at (name_cmp c.args.channel.now))) (c.get_mut.follows.holds c.remove.new.self).0
     ∙ left_empty c.self.inside.channels.entries c.args.channel.now c.args.user.now c.self.invariant c.in-Some.members.now c.remove.new.self
     c.get_mut.ensures.ordered c.in-Some.ensures.value c.remove.ensures.names (sym c.remove.ensures.rest ∙ c.if-not-remove.true)

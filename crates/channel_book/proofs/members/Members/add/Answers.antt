@@ -4,7 +4,7 @@ use Rattle.std.proofs.lemmas.List.{map-id, map-append}
 use Rattle.indexmap.proofs.CallerLemmas.{insert_entry-new}
 use Rattle.line_words.specs.Table.{is_among}
 use Rattle.line_words.proofs.Keyed.{not_there}
-use Rattle.channel_book.proofs.many.Many.add.Goals as goal
+use Rattle.channel_book.proofs.members.Members.add.Goals as goal
 
 pub returns-clause-ok : goal.returns-clause-ok
 returns-clause-ok g c =

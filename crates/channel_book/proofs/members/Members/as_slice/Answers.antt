@@ -3,7 +3,7 @@ use Rattle.std.specs.List.{IsDistinct}
 use Rattle.std.proofs.lemmas.List.{map-id}
 use Rattle.line_words.specs.Table.{same_name}
 use Rattle.line_words.proofs.Keyed.{distinct_names}
-use Rattle.channel_book.proofs.many.Many.as_slice.Goals as goal
+use Rattle.channel_book.proofs.members.Members.as_slice.Goals as goal
 
 pub returns-clause-distinct : goal.returns-clause-distinct
 returns-clause-distinct g c =

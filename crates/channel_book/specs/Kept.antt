@@ -1,9 +1,0 @@
--- How the members of a channel are kept: a few in lists, many with an index.
-use Rattle.std.specs.Prelude.{ℕ, List}
-use Rattle.channel_book.specs.declared.members.Kept.{Kept}
-use Rattle.channel_book.specs.declared.members.Kept.TheVariants.{Few, Many}
-
-module _ {M : Type 0} where
-  abbrev pub names_kept : Kept M → List (List ℕ)
-  names_kept (Few names) = names
-  names_kept (Many box) = box.value
