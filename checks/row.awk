@@ -2,22 +2,31 @@
 # the line that stands in the place of `@`.
 # rows/README.md says what the lines of a row are.
 
+# A sum of numbers.
+function sum(text,    parts, k, out) {
+    for (k = split(text, parts, /\+/); k > 0; k--) out += parts[k]
+    return out
+}
+
+# A number in the place of % in a text, and with two digits in the place of %02.
+function numbered(text, number) {
+    gsub(/%02/, sprintf("%02d", number), text)
+    gsub(/%/, number, text)
+    return text
+}
+
 # {N TEXT} and {A..B TEXT} written out, and bytes that would not be seen.
-function written(text,    start, width, inner, at, bounds, number, each, out) {
-    while (match(text, /\{[0-9]+(\.\.[0-9]+)? [^}]*\}/)) {
+function written(text,    start, width, inner, at, bounds, number, out) {
+    while (match(text, /\{[0-9]+(\+[0-9]+)?(\.\.[0-9]+)? [^}]*\}/)) {
         start = RSTART
         width = RLENGTH
         inner = substr(text, start + 1, width - 2)
         at = index(inner, " ")
         out = ""
         if (split(substr(inner, 1, at - 1), bounds, /\.\./) == 1) {
-            for (number = bounds[1]; number > 0; number--) out = out substr(inner, at + 1)
+            for (number = sum(bounds[1]); number > 0; number--) out = out substr(inner, at + 1)
         } else {
-            for (number = bounds[1] + 0; number <= bounds[2] + 0; number++) {
-                each = substr(inner, at + 1)
-                gsub(/%/, number, each)
-                out = out each
-            }
+            for (number = sum(bounds[1]); number <= bounds[2] + 0; number++) out = out numbered(substr(inner, at + 1), number)
         }
         text = substr(text, 1, start - 1) out substr(text, start + width)
     }
@@ -47,6 +56,8 @@ function line(text,    label) {
     shown = shown text "\n"
 }
 
+# With VIEW the file is what a client knows, and is written out as it stands.
+VIEW { print written($0); next }
 /^# / { next }
 /^! / {
     if (error != "") refuse("a second end")
@@ -59,17 +70,21 @@ function line(text,    label) {
 /^repeat [0-9]+ [0-9]+ / {
     text = $0
     sub(/^repeat [0-9]+ [0-9]+ /, "", text)
-    text = written(text)
     for (number = $2; number <= $3; number++) {
         each = text
-        gsub(/%/, number, each)
-        line(each)
+        gsub(/%%02/, sprintf("%02d", number), each)
+        gsub(/%%/, number, each)
+        each = numbered(written(each), number)
+        sub(/<lf>$/, "", each)
+        lines = split(each, parts, /<lf>/)
+        for (k = 1; k <= lines; k++) line(parts[k])
     }
     next
 }
 { line(written($0)) }
 
 END {
+    if (VIEW) exit 0
     if (refused) exit 2
     sub(/<end>\n$/, "", script)
     at = index("\n" script, "\n@\n")

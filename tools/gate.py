@@ -3,7 +3,7 @@
 
 Says for each crate the seconds of a processor of its proof, its tests, its programs and its edits, for each edit its own, and
 which crates take more than they may. The same goes to out/gate.txt. Behind it stands again what passed and failed. The status is
-that of the first part that failed."""
+that of the first part that failed, or 1 where nothing else did and a proof takes far more than any may."""
 import collections
 import os
 import re
@@ -15,8 +15,10 @@ from pathlib import Path
 
 ROOT = Path(__file__).resolve().parent.parent
 CHECKS = ["rows.sh", "programs.sh", "serve.sh", "scarce.sh", "files.sh", "links.py", "definitions.py", "views.sh", "memory.sh", "refused_memory.sh"]
-# What the proof of a crate may take from nothing, in seconds of a processor: most crates, and any.
+# What the proof of a crate may take from nothing, in seconds of a processor: most crates, and any. The table names each that takes more.
+# One that takes half as much again as any may fails the gate.
 BUDGET, LIMIT = 300, 400
+FAR = 1.5 * LIMIT
 KINDS = ["proof", "tests", "programs", "edits"]
 TICK = os.sysconf("SC_CLK_TCK")
 # Seconds between two looks. What a process takes between the last look and its end is told apart.
@@ -112,16 +114,28 @@ class Watch:
         return sums
 
 
+def seconds_of(sums, crate, kind):
+    """The seconds of a crate that went to this."""
+    return sum(seconds for key, seconds in sums.items() if key[0] == crate and key[1] == kind)
+
+
+def far_over(sums):
+    """A line for each crate whose proof takes far more than any may."""
+    for crate in sorted({crate for crate, _, _ in sums if crate}):
+        proof = seconds_of(sums, crate, "proof")
+        if proof > FAR:
+            yield f"the proof of {crate} takes {proof:.0f} seconds of a processor, and none may take more than {LIMIT}: FAILED"
+
+
 def table(sums, whole, minutes):
     """The lines of the table."""
     crates = sorted({crate for crate, _, _ in sums if crate}, key=lambda it: -sum(s for k, s in sums.items() if k[0] == it))
-    of = lambda crate, kind: sum(s for k, s in sums.items() if k[0] == crate and k[1] == kind)
     yield f"{'seconds of a processor':24}" + "".join(f"{it:>10}" for it in [*KINDS, "sum"])
     for crate in crates:
-        each = [of(crate, it) for it in KINDS]
+        each = [seconds_of(sums, crate, it) for it in KINDS]
         note = "  over its limit" if each[0] > LIMIT else "  over its budget" if each[0] > BUDGET else ""
         yield f"{crate:24}" + "".join(f"{it:10.0f}" for it in [*each, sum(each)]) + note
-    each = [sum(of(crate, it) for crate in crates) for it in KINDS]
+    each = [sum(seconds_of(sums, crate, it) for crate in crates) for it in KINDS]
     yield f"{'all crates':24}" + "".join(f"{it:10.0f}" for it in [*each, sum(each)])
     yield f"{'rt, runs and checks':24}" + " " * 40 + f"{sums['', '', '']:10.0f}"
     yield f"{'between looks':24}" + " " * 40 + f"{whole - sum(sums.values()):10.0f}"
@@ -161,7 +175,11 @@ def main():
         watch.over.set()
         looking.join()
     times = os.times()
-    lines = [*table(watch.sums(), times.children_user + times.children_system, (time.monotonic() - begun) / 60)]
+    sums = watch.sums()
+    far = [*far_over(sums)]
+    told += far
+    status = status or (1 if far else 0)
+    lines = [*table(sums, times.children_user + times.children_system, (time.monotonic() - begun) / 60)]
     (ROOT / "out").mkdir(exist_ok=True)
     (ROOT / "out/gate.txt").write_text("\n".join(lines) + "\n")
     # What failed stands last, where whoever sees only the end finds it.

@@ -3,7 +3,7 @@
 use crate::verdict::{fail, same, same_for};
 use account_book::{Account, AccountBook, AccountsError, LoginFault, password_word};
 use base64::engine::general_purpose::STANDARD;
-use std::alloc::Global;
+use std::alloc::{AllocError, Global};
 use std::process::Abort;
 
 const WORD: &[u8] = b"X03MO1qnZdYdgyfeuILPmQ==";
@@ -368,6 +368,36 @@ static SECOND: File = File {
 #[test]
 fn reads_the_second_format(rt: HostRuntime) {
     read(&rt, rt.alloc(), &SECOND);
+}
+
+/// One account more behind the file of the second format, of a name that is there.
+static MORE_OF_A_NAME: [&str; 3] = [
+    "[[account]]\nname = 'Emil'\npassword = 'X03MO1qnZdYdgyfeuILPmQ=='\nid = 7\n",
+    "[[account]]\nname = 'Emil'\npassword = 'X03MO1qnZdYdgyfeuILPmQ=='\nid = 7\ndisabled = true\n",
+    "[[account]]\nname = 'Dora'\npassword = 'X03MO1qnZdYdgyfeuILPmQ=='\nid = 7\ndisabled = true\n",
+];
+
+/// The file of the second format with these lines behind it.
+fn second_format_with(alloc: Global, lines: &str) -> Result<Vec<u8>, AllocError> {
+    let mut file = Vec::from_slice(alloc, SECOND_FORMAT)?;
+    file.extend_from_slice(lines.as_bytes())?;
+    Ok(file)
+}
+
+/// Why the file of the second format is refused with these lines behind it; `Memory` too where there is none to write it in.
+fn refusal_behind(alloc: Global, lines: &str) -> Option<AccountsError> {
+    match second_format_with(alloc, lines) {
+        Ok(file) => refusal(alloc, &file),
+        Err(_) => Some(AccountsError::Memory),
+    }
+}
+
+#[test]
+fn refuses_a_second_account_of_a_disabled_name(rt: HostRuntime) {
+    for lines in &MORE_OF_A_NAME {
+        let told = refusal_behind(rt.alloc(), lines);
+        same_for(&rt, lines, told, Some(AccountsError::DuplicateName));
+    }
 }
 
 /// Lines behind those of a good account, and why the file is refused in the first format and in the second.

@@ -23,6 +23,7 @@ enum Step {
     Askers(&'static [(&'static [u8], Password)]),
     /// One who asks has this script password.
     AsksWith(&'static [u8], Password),
+    /// One does not ask, with any script password or none.
     AsksNot(&'static [u8]),
     Members(&'static [&'static [u8]]),
 }
@@ -43,6 +44,13 @@ fn asks_with(room: &Room, user: &[u8], password: Option<&[u8]>) -> bool {
             Some(asker) => is_password(asker.script_password(), password),
             None => false,
         },
+        None => false,
+    }
+}
+
+fn asks_not(room: &Room, user: &[u8]) -> bool {
+    match NameBuf::of(user) {
+        Some(user) => !room.has_asker(&user) && room.asker(&user).is_none(),
         None => false,
     }
 }
@@ -96,7 +104,7 @@ impl RoomStep for Step {
             Step::Joins(user) => join(room, user),
             Step::Askers(wanted) => are(room.askers(), wanted),
             Step::AsksWith(user, password) => asks_with(room, user, *password),
-            Step::AsksNot(user) => !asks_with(room, user, None),
+            Step::AsksNot(user) => asks_not(room, user),
             Step::Members(wanted) => are(room.members(), wanted),
         }
     }
@@ -134,11 +142,12 @@ fn one_who_is_let_in_asks_no_more(rt: HostRuntime) {
     play(&rt, rt.alloc(), &[], &LET_IN);
 }
 
-static DROPPED: [Step; 10] = [
+static DROPPED: [Step; 11] = [
     Step::Asks(b"Bert", Some(b"pw9")),
     Step::Asks(b"Cleo", None),
     Step::IsDropped(b"Bert"),
     Step::IsDropped(b"Bert"),
+    Step::AsksNot(b"Bert"),
     Step::Joins(b"Emil"),
     Step::Askers(&[(b"Cleo", None)]),
     Step::Asks(b"Bert", None),

@@ -52,7 +52,7 @@ fn each_command_is_read(rt: HostRuntime) {
         same_for(
             &rt,
             line,
-            is_read_as(rt.alloc(), line, &Expected::Good),
+            is_read_as(rt.alloc(), line, &Expected::Named(*line)),
             true,
         );
     }
@@ -110,8 +110,8 @@ fn ids_are_read(rt: HostRuntime) {
 // What a line must be read as.
 #[derive(Clone, Copy)]
 enum Expected {
-    // any command
-    Good,
+    // the command that this line names
+    Named(&'static [u8]),
     // no command
     Unread(ReadFault),
     // anything under this id
@@ -297,6 +297,66 @@ fn has_tags(command: &Command, wanted: &[(&[u8], &[u8])]) -> bool {
     are(pairs.as_slice(), wanted)
 }
 
+// The word of a command; none of one that is blank or not read.
+fn word_of(command: &Command) -> &'static [u8] {
+    match command {
+        Command::Blank | Command::Unread(_) => b"",
+        Command::Ping => b"PING",
+        Command::Channels => b"CHANNELS",
+        Command::Exit => b"EXIT",
+        Command::Login { .. } => b"LOGIN",
+        Command::MyStatus { .. } => b"MYSTATUS",
+        Command::Join { .. } => b"JOIN",
+        Command::Leave { .. } => b"LEAVE",
+        Command::Say { .. } => b"SAY",
+        Command::SayEx { .. } => b"SAYEX",
+        Command::SayPrivate { .. } => b"SAYPRIVATE",
+        Command::OpenBattle { .. } => b"OPENBATTLE",
+        Command::JoinBattle { .. } => b"JOINBATTLE",
+        Command::LeaveBattle => b"LEAVEBATTLE",
+        Command::SayBattle { .. } => b"SAYBATTLE",
+        Command::SayBattleEx { .. } => b"SAYBATTLEEX",
+        Command::Ring { .. } => b"RING",
+        _ => word_in_a_battle(command),
+    }
+}
+
+// The word of a command that changes a battle; none of another.
+fn word_in_a_battle(command: &Command) -> &'static [u8] {
+    match command {
+        Command::JoinBattleAccept { .. } => b"JOINBATTLEACCEPT",
+        Command::JoinBattleDeny { .. } => b"JOINBATTLEDENY",
+        Command::UpdateBattleInfo { .. } => b"UPDATEBATTLEINFO",
+        Command::MyBattleStatus { .. } => b"MYBATTLESTATUS",
+        Command::AddBot { .. } => b"ADDBOT",
+        Command::UpdateBot { .. } => b"UPDATEBOT",
+        Command::RemoveBot { .. } => b"REMOVEBOT",
+        Command::AddStartRect { .. } => b"ADDSTARTRECT",
+        Command::RemoveStartRect { .. } => b"REMOVESTARTRECT",
+        Command::SetScriptTags { .. } => b"SETSCRIPTTAGS",
+        Command::RemoveScriptTags { .. } => b"REMOVESCRIPTTAGS",
+        Command::DisableUnits { .. } => b"DISABLEUNITS",
+        Command::EnableUnits { .. } => b"ENABLEUNITS",
+        Command::EnableAllUnits => b"ENABLEALLUNITS",
+        Command::Handicap { .. } => b"HANDICAP",
+        Command::ForceTeamNo { .. } => b"FORCETEAMNO",
+        Command::ForceAllyNo { .. } => b"FORCEALLYNO",
+        Command::ForceTeamColor { .. } => b"FORCETEAMCOLOR",
+        Command::ForceSpectatorMode { .. } => b"FORCESPECTATORMODE",
+        Command::KickFromBattle { .. } => b"KICKFROMBATTLE",
+        _ => b"",
+    }
+}
+
+// Whether the first word of a line is that of the command.
+fn is_named_in(command: &Command, line: &[u8]) -> bool {
+    let word = word_of(command);
+    match line.strip_prefix(word) {
+        Some(rest) => !word.is_empty() && (rest.is_empty() || rest.starts_with(b" ")),
+        None => false,
+    }
+}
+
 fn fault_of(command: &Command) -> Option<ReadFault> {
     match command {
         Command::Unread(fault) => Some(*fault),
@@ -307,7 +367,7 @@ fn fault_of(command: &Command) -> Option<ReadFault> {
 fn is_as(request: &Request, expected: &Expected) -> bool {
     let command = &request.command;
     match expected {
-        Expected::Good => fault_of(command).is_none(),
+        Expected::Named(line) => is_named_in(command, line),
         Expected::Unread(fault) => fault_of(command) == Some(*fault),
         Expected::Id(id) => request.id == *id,
         Expected::Join { channel, key } => is_join(command, channel, *key),

@@ -62,8 +62,6 @@ enum Step {
     Feeds(&'static [u8], Result<usize, ViewError>),
     /// These bytes one by one, of which so many lines are folded.
     FeedsEach(&'static [u8], usize),
-    /// These bytes, and after each refusal of memory what was not taken in; so many lines are folded.
-    FeedsOn(&'static [u8], usize),
     Me(&'static [u8]),
     /// There are so many users, channels and battles.
     Counts(usize, usize, usize),
@@ -88,33 +86,6 @@ fn feed_each(view: &mut View, bytes: &[u8]) -> Option<usize> {
         folded = folded.saturating_add(view.feed(&bytes[k..k + 1]).ok()?);
     }
     Some(folded)
-}
-
-/// What is left of a piece where memory was refused behind so many bytes: that is at its start or behind an LF, and before the end.
-fn left_of(piece: &[u8], taken: usize) -> Option<&[u8]> {
-    let (taken_in, left) = piece.split_at_checked(taken)?;
-    if (taken_in.is_empty() || taken_in.ends_with(b"\n")) && !left.is_empty() {
-        Some(left)
-    } else {
-        None
-    }
-}
-
-/// Feeds a piece, and after each refusal of memory what was not taken in. Gives how many lines were folded.
-fn feed_on(view: &mut View, piece: &[u8]) -> Option<usize> {
-    let mut rest = piece;
-    let mut before: usize = 0;
-    for _ in 0..piece.len() {
-        match view.feed(rest) {
-            Ok(count) => return Some(before.saturating_add(count)),
-            Err(ViewError::Memory { taken, folded }) => {
-                rest = left_of(rest, taken)?;
-                before = before.saturating_add(folded);
-            }
-            Err(ViewError::LineTooLong) => return None,
-        }
-    }
-    None
 }
 
 fn has_counts(view: &View, users: usize, channels: usize, battles: usize) -> bool {
@@ -222,7 +193,6 @@ fn takes(view: &mut View, step: &Step) -> bool {
     match step {
         Step::Feeds(bytes, told) => view.feed(bytes) == *told,
         Step::FeedsEach(bytes, folded) => feed_each(view, bytes) == Some(*folded),
-        Step::FeedsOn(bytes, folded) => feed_on(view, bytes) == Some(*folded),
         _ => shows(view, step),
     }
 }
@@ -354,22 +324,4 @@ static LONGEST: [Step; 5] = [
 #[test]
 fn a_line_of_20479_bytes_is_a_line_and_a_longer_one_ends_all(rt: HostRuntime) {
     play(&rt, rt.alloc(), &LONGEST);
-}
-
-static FED_ON: [Step; 5] = [
-    Step::FeedsOn(SENT, 24),
-    Step::FeedsOn(b"ADDBOT 1 Rex", 0),
-    Step::FeedsOn(b" Bert 0 0 E323\n", 1),
-    Step::Counts(2, 1, 1),
-    Step::Holds(Held {
-        battle: 1,
-        members: 2,
-        bots: 2,
-        tags: 1,
-    }),
-];
-
-#[test]
-fn a_feed_that_memory_refused_goes_on_where_it_stopped(rt: HostRuntime) {
-    play(&rt, rt.alloc(), &FED_ON);
 }
