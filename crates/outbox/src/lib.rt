@@ -21,7 +21,7 @@ use shares::{Share, Shares};
 use std::alloc::{AllocError, Global};
 use std::marker::Model;
 
-/// The greatest limit with which pieces are shared: 2^63 - 1 bytes, all of which can be counted.
+/// The greatest limit: 2^63 - 1 bytes, all of which can be counted also where they are shared.
 const COUNTED: usize = isize::MAX as usize;
 
 /// The bytes that wait for a client to read them, at most as many as its limit.
@@ -39,7 +39,7 @@ pub struct Outbox {
 
 impl Model for Outbox {
     ghost use Rattle.outbox.specs.Queue.{Queue};
-    ghost use Rattle.outbox.specs.Woven.{woven, pieces_for, IsKept};
+    ghost use Rattle.outbox.specs.Woven.{woven, IsKept};
 
     ghost Value = { Queue };
 
@@ -48,7 +48,7 @@ impl Model for Outbox {
       unread = woven o.shares.items o.own.bytes;
       cut = o.cut;
       spare = o.own.room;
-      spare_pieces = pieces_for o.limit o.shares.places;
+      spare_pieces = o.shares.places;
     } };
 
     ghost invariant = { λ o. IsKept o.limit o.own.bytes o.shares.items o.cut };
@@ -77,12 +77,13 @@ fn take_front(own: &mut ByteQueue, into: &mut [u8]) -> usize
 }
 
 impl Outbox {
-    /// An empty outbox in which at most `limit` bytes may stand unread. It takes no memory yet.
+    /// An empty outbox in which at most `limit` bytes may stand unread, and never more than can be counted.
+    /// It takes no memory yet.
     pub fn new(alloc: Global, limit: usize) -> Outbox
-        ensures { result ≡ record { limit = limit; unread = []; cut = false; spare = 0; spare_pieces = 0 } }
+        ensures { result ≡ record { limit = min limit (2 ^ 63 - 1); unread = []; cut = false; spare = 0; spare_pieces = 0 } }
     {
         Outbox {
-            limit,
+            limit: limit.min(COUNTED),
             own: ByteQueue::new(alloc),
             cut: false,
             shares: Shares::new(alloc),
@@ -144,9 +145,8 @@ impl Outbox {
     /// Makes room in memory for `bytes` more bytes that are put by copying, and places for `pieces`
     /// more shared pieces, after which they can be put without fail.
     ///
-    /// An `AllocError` comes only where memory was asked for and refused, or where a piece is asked
-    /// for and the limit is 2^63 or more, so that the bytes of shared pieces could not be counted.
-    /// The client sees no difference, whatever the answer.
+    /// An `AllocError` comes only where memory was asked for and refused. The client sees no
+    /// difference, whatever the answer.
     pub fn reserve_shared(&mut self, bytes: usize, pieces: usize) -> Result<(), AllocError>
         requires { bytes ≤ room self.old }
         ensures unchanged { self.new ≡ record self.old {
@@ -160,24 +160,9 @@ impl Outbox {
     {
         self.reserve(bytes)?;
         if pieces > 0 {
-            self.reserve_pieces(pieces)?;
+            self.shares.reserve(pieces)?;
         }
         Ok(())
-    }
-
-    /// Makes places for so many more shared pieces. An `AllocError` comes as `reserve_shared` says.
-    #[inline(never)]
-    fn reserve_pieces(&mut self, pieces: usize) -> Result<(), AllocError>
-        requires { 0 < pieces }
-        ensures unchanged { self.new ≡ record self.old { spare_pieces = self.new.spare_pieces } }
-        ensures pieces_kept { self.old.spare_pieces ≤ self.new.spare_pieces }
-        ensures ok { OnOk result (pieces ≤ self.new.spare_pieces) }
-        ensures err { OnErr result (self.old.spare_pieces < pieces) }
-    {
-        if self.limit > COUNTED {
-            return Err(AllocError);
-        }
-        self.shares.reserve(pieces)
     }
 
     /// Appends a shared piece for which there is room under the limit, and a place. It takes no
@@ -360,7 +345,7 @@ impl Outbox {
           spare = self.new.spare;
           spare_pieces = self.new.spare_pieces;
         } }
-        ensures handed { IfSome result (λ _. (self.old.unread ≡ []) × (self.new.spare ≡ 0)) }
+        ensures handed { IfSome result (λ _. (self.old.unread ≡ []) × (self.new.spare ≡ 0) × (self.new.spare_pieces ≡ 0)) }
         ensures none { IfNone result ((self.new ≡ self.old) × (self.old.unread ≢ [])) }
     {
         if self.unread() == 0 {
