@@ -10,11 +10,13 @@ import contextlib
 import errno
 import os
 import re
+import resource
 import select
 import signal
 import socket
 import subprocess
 import sys
+import tempfile
 import threading
 import time
 from pathlib import Path
@@ -634,6 +636,74 @@ def all_gone(workers):
         expect_in_any_order(bert, removed([ANNA, *CROWD]))
 
 
+@contextlib.contextmanager
+def refusing(workers):
+    """A server with Anna, to which all memory is refused while a file is there: it, the file, and one that gets a line for each refusal."""
+    with tempfile.TemporaryDirectory(prefix="lobby-check-") as folder:
+        library, switch, told = (Path(folder) / it for it in ("refuse.so", "switch", "told"))
+        subprocess.run([Path(__file__).parent / "refuse_allocation.sh", str(library)], check=True)
+        told.touch()
+        words = {"LD_PRELOAD": str(library), "REFUSED_WHILE": str(switch), "REFUSED_TOLD": str(told)}
+        with Server(workers, [ANNA, BERT], **words) as server:
+            yield server, switch, told
+
+
+def refused_open(workers):
+    """While all memory is refused some connect, until one is closed without a byte. Who was there before is told nothing of that, and is
+    served. Where there is memory again the next ones are served too, at each worker."""
+    with refusing(workers) as (server, switch, told):
+        anna = logged_in(server, ANNA, [])
+        switch.touch()
+        greeted_ones = []
+        for _ in range(100):
+            client = Client(server)
+            if not client.receive():
+                break
+            client.expect(GREETING)
+            greeted_ones.append(client)
+        else:
+            raise Difference("memory is refused, and a hundred are greeted")
+        refusals = len(told.read_text().splitlines())
+        if refusals == 0:
+            raise Difference("one who connects is closed, and no memory was refused")
+        switch.unlink()
+        for _ in range(workers):
+            client = Client(server)
+            client.expect(GREETING)
+            client.expect_nothing_more()
+        for client in greeted_ones:
+            client.expect_nothing_more()
+        anna.expect_nothing_more()
+        bert = logged_in(server, BERT, [ANNA])
+        anna.expect(BERT.arrival())
+        both([anna, bert], "")
+        print(f"  {len(greeted_ones)} were greeted, and one was closed behind {refusals} refusals")
+
+
+def full(workers):
+    """Ten thousand are connected: one more is closed without a byte, and nobody is told of it; the next is served once one has left."""
+    files = 10_100
+    allowed = resource.getrlimit(resource.RLIMIT_NOFILE)[1]
+    if allowed < files:
+        print(f"  the system lets one open {allowed} files and not {files}: a server that is full is not seen here")
+        return
+    resource.setrlimit(resource.RLIMIT_NOFILE, (files, allowed))
+    with Server(workers, [ANNA], files=files) as server:
+        anna = logged_in(server, ANNA, [])
+        others = [greeted(server) for _ in range(9_999)]
+        for _ in range(2):
+            Client(server).expect_end()
+        anna.expect_nothing_more()
+        others.pop().close()
+        wait_for_sockets(server, 10_000)
+        client = Client(server)
+        client.expect(GREETING)
+        client.expect_nothing_more()
+        Client(server).expect_end()
+        others[0].expect_nothing_more()
+        print("  10,000 were connected, and three more were closed")
+
+
 def urgent_bytes(workers):
     """What a client sends behind an urgent byte is read too, though a poll tells of all of it at once, since the server stands still
     meanwhile, and a read ends at that byte. The byte itself is no part of the stream."""
@@ -648,7 +718,7 @@ def urgent_bytes(workers):
 
 
 CHECKS = [slow_reader, slow_readers, half_closed, late_readers, resets, resets_at_once, hasty_logins, one_by_one, line_limits, flood, burst]
-CHECKS += [urgent_bytes, restarts, open_files, short_memory, all_gone]
+CHECKS += [urgent_bytes, restarts, open_files, refused_open, full, short_memory, all_gone]
 
 
 def check(workers="4", *names):

@@ -363,7 +363,7 @@ def shown_to_all(said, common, battles):
     lines = [f"user {it} {accounts[it].country} 0 {accounts[it].number} {statuses[it]}" for it in sorted(statuses)]
     for number, members in sorted(battles.items()):
         founder = said.founders[number]
-        lines.append(f"battle {number} {founder} {ADDRESS} 8452 8 0")
+        lines.append(f"battle {number} 0 0 {founder} {ADDRESS} 8452 8 0 123 0")
         lines += [f"  title Of {founder}", "  map Comet Catcher", "  game BA 9.46", "  engine Spring", "  version 104.0"]
         lines += [f"  member {it}" for it in members]
     return lines

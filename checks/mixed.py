@@ -188,7 +188,7 @@ class Mixed:
 def view(heard):
     """What a client knows: of all, and by channel and room."""
     shower = program("VIEW_SHOW", "view_show")
-    texts = [subprocess.run([shower, *how], input=bytes(heard), stdout=subprocess.PIPE, timeout=120, check=True).stdout for how in ([], ["one-by-one"])]
+    texts = [subprocess.run([shower, how], input=bytes(heard), stdout=subprocess.PIPE, timeout=120, check=True).stdout for how in ("whole", "1")]
     if texts[0] != texts[1]:
         raise Difference("a view folds bytes one by one to something else")
     parts, key = collections.defaultdict(list), "me"

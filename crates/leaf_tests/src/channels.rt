@@ -1,4 +1,4 @@
-//! Who is in which channel after joins. What memory refuses is tried once more, since nothing has changed then.
+//! Who is in which channel after joins.
 
 use crate::verdict::same_for;
 use channel_book::{ChannelBook, ChannelError};
@@ -19,20 +19,6 @@ enum Step {
     IsIn(&'static [u8], &'static [&'static [u8]]),
 }
 
-/// Joins, once more where memory was refused: then there are as many channels as before, and the user is in none of them anew.
-fn join(book: &mut ChannelBook, channel: &NameBuf, user: &NameBuf) -> Result<(), ChannelError> {
-    let channels = book.channel_count();
-    match book.join(channel.copy(), user.copy()) {
-        Err(ChannelError::Memory) => {
-            if book.channel_count() != channels || book.has_member(channel, user) {
-                return Err(ChannelError::Memory);
-            }
-            book.join(channel.copy(), user.copy())
-        }
-        answer => answer,
-    }
-}
-
 fn joins(
     book: &mut ChannelBook,
     channel: &[u8],
@@ -40,7 +26,7 @@ fn joins(
     wanted: Result<(), ChannelError>,
 ) -> bool {
     match (NameBuf::of(channel), NameBuf::of(user)) {
-        (Some(channel), Some(user)) => join(book, &channel, &user) == wanted,
+        (Some(channel), Some(user)) => book.join(channel, user) == wanted,
         _ => false,
     }
 }

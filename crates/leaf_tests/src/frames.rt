@@ -38,18 +38,10 @@ fn takes_off(framer: &mut Framer, want: &[u8]) -> bool {
     is_wanted
 }
 
-// Feeds once more where memory was refused, since that took nothing in.
-fn fed(framer: &mut Framer, piece: &[u8]) -> Result<(), FeedError> {
-    match framer.feed(piece) {
-        Err(FeedError::Memory) => framer.feed(piece),
-        answer => answer,
-    }
-}
-
 // What comes is fed in pieces of this size; a size of nothing counts as one byte.
 fn fed_in_pieces(framer: &mut Framer, stream: &[u8], size: usize) -> Result<(), FeedError> {
     for piece in stream.chunks(size.max(1)) {
-        fed(framer, piece)?;
+        framer.feed(piece)?;
     }
     Ok(())
 }

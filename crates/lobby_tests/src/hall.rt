@@ -1,4 +1,4 @@
-//! Halls and sessions with memory at hand, and a step that memory refused.
+//! Halls and sessions with memory at hand.
 
 ghost use Rattle.std.specs.Prelude.{◌≤◌};
 ghost use Rattle.std.specs.List.{AllByRecursion};
@@ -78,39 +78,26 @@ fn new_hall(alloc: Global) -> Result<Hall, Fail> {
     Ok(Hall::new(alloc, settings, AccountBook::new(alloc))?)
 }
 
-// Takes the step, once more where memory was refused, since that changed nothing.
-fn takes(hall: &mut Hall, step: &Step) -> Result<(), HallError>
-    requires { HasHome step.now }
-{
-    match hall.step(step) {
-        Err(HallError::Memory) => hall.step(step),
-        Ok(()) => Ok(()),
-    }
-}
-
 // A client connects, says PING, and is answered.
 fn serve_ping(hall: &mut Hall, alloc: Global) -> Result<(), HallError> {
-    takes(
-        hall,
-        &Step::Open {
-            ip: [192, 168, 0, 1],
-            home: 0,
-        },
-    )?;
+    hall.step(&Step::Open {
+        ip: [192, 168, 0, 1],
+        home: 0,
+    })?;
     let bytes = piece(alloc, b"PING\n")?;
-    takes(hall, &Step::Arrive { client: 1, bytes })?;
-    takes(hall, &Step::Take { client: 1 })
+    hall.step(&Step::Arrive { client: 1, bytes })?;
+    hall.step(&Step::Take { client: 1 })
 }
 
-// The first call for the record takes all memory that it needs, unless that is refused.
+// The record is asked for twice: what the first call caught up stays.
 fn read_on(rt: &impl Abort, hall: &mut Hall) -> Result<(), HallError> {
     let step = Step::Read {
         client: 1,
         count: 5,
     };
-    same(rt, takes(hall, &step), Ok(()));
+    same(rt, hall.step(&step), Ok(()));
     same(rt, hall.last_client(), 1);
-    let _ = hall.record().is_err();
+    same(rt, hall.record()?.put(1), GREETING_AND_PONG);
     same(rt, hall.record()?.put(1), GREETING_AND_PONG);
     Ok(())
 }
@@ -125,7 +112,7 @@ fn go_on(rt: &impl Abort, alloc: Global, hall: &mut Hall) {
 }
 
 #[test]
-fn a_step_that_memory_refused_leaves_no_trace(rt: HostRuntime) -> Result<(), Fail> {
+fn a_record_that_is_asked_for_again_is_the_same(rt: HostRuntime) -> Result<(), Fail> {
     let mut hall = new_hall(rt.alloc())?;
     go_on(&rt, rt.alloc(), &mut hall);
     same(&rt, has_read(hall), Ok(true));
@@ -137,19 +124,16 @@ const GREETING_AND_PONGS: &[u8] = b"TASSERVER 0.38 * 8201 0\nPONG\nPONG\n";
 fn open_at(hall: &mut Hall, home: u8) -> Result<(), HallError>
     requires { home ≤ 63 }
 {
-    takes(
-        hall,
-        &Step::Open {
-            ip: [192, 168, 0, 1],
-            home,
-        },
-    )
+    hall.step(&Step::Open {
+        ip: [192, 168, 0, 1],
+        home,
+    })
 }
 
 fn ping(hall: &mut Hall, alloc: Global, client: u64) -> Result<(), HallError> {
     let bytes = piece(alloc, b"PING\n")?;
-    takes(hall, &Step::Arrive { client, bytes })?;
-    takes(hall, &Step::Take { client })
+    hall.step(&Step::Arrive { client, bytes })?;
+    hall.step(&Step::Take { client })
 }
 
 // The first client is closed before it reads, and the second reads in between.
@@ -158,14 +142,11 @@ fn serve_workers(hall: &mut Hall, alloc: Global) -> Result<(), HallError> {
     open_at(hall, 5)?;
     ping(hall, alloc, 1)?;
     ping(hall, alloc, 2)?;
-    takes(
-        hall,
-        &Step::Read {
-            client: 2,
-            count: 26,
-        },
-    )?;
-    takes(hall, &Step::Shut { client: 1 })?;
+    hall.step(&Step::Read {
+        client: 2,
+        count: 26,
+    })?;
+    hall.step(&Step::Shut { client: 1 })?;
     ping(hall, alloc, 2)
 }
 

@@ -8,9 +8,7 @@ use account_book::{Account, AccountBook};
 use lobby_machine::Lobby;
 use std::alloc::Global;
 use std::io;
-use test_lobby::lobby_of;
-
-const WORD: &[u8] = b"X03MO1qnZdYdgyfeuILPmQ==";
+use test_lobby::{WORD, lobby_of};
 
 static DEEDS: [(u64, Deed); 2] = [
     (33, Deed::Send(b"JOIN main")),

@@ -140,13 +140,45 @@ impl<S: Subject> Pair<S> {
     }
 }
 
+/// What is done behind a refusal.
+#[derive(Clone, Copy, PartialEq, Eq)]
+enum Then {
+    /// The looks.
+    Looks,
+    /// The deed once more, with all memory, and then the looks.
+    NextTry,
+}
+
+impl<S: Subject> Pair<S> {
+    /// Whether both tell the same behind a deed that was refused to one of them, or was done without what was refused. The other one
+    /// has not done it yet.
+    fn is_alike_behind(
+        &mut self,
+        alloc: Global,
+        (client, deed): (u64, Deed),
+        is_done: bool,
+        then: Then,
+        looks: &[(u64, Deed)],
+    ) -> bool {
+        if is_done {
+            return self.other.act(alloc, client, deed) && self.is_alike_after(alloc, looks);
+        }
+        match then {
+            Then::Looks => self.is_alike_after(alloc, looks),
+            Then::NextTry => {
+                self.is_alike_after(alloc, &[(client, deed)]) && self.is_alike_after(alloc, looks)
+            }
+        }
+    }
+}
+
 /// Whether memory is refused to the last of these deeds, which one of a new pair does as at this step, and both did the others before.
-/// Then the two are compared, and again after each look; the other one has done the deed as well where that was done without.
+/// Then the two are compared, and again after what is done behind the refusal.
 fn is_refused<S: Subject>(
     alloc: Global,
     (before, client, deed): (&[(u64, Deed)], u64, Deed),
+    (step, then): (usize, Then),
     looks: &[(u64, Deed)],
-    step: usize,
     refuser: &mut Refuser,
     notes: &mut Notes,
 ) -> bool {
@@ -159,15 +191,14 @@ fn is_refused<S: Subject>(
     let was_refused = refuser.end() || !is_done;
     refuser.release();
     if was_refused {
-        let are_even = !is_done || pair.other.act(alloc, client, deed);
-        notes.refuse(are_even && pair.is_alike_after(alloc, looks));
+        notes.refuse(pair.is_alike_behind(alloc, (client, deed), is_done, then, looks));
     }
     drop(pair);
     was_refused
 }
 
-/// Tries each deed on new pairs, step by step until no memory is refused. Each refusal has a pair of its own, so that looks, which are
-/// deeds that make more be told, find what the refused deed left and a later one would hide.
+/// Tries each deed on new pairs, step by step until no memory is refused. Each refusal has a pair of its own for the looks, which are
+/// deeds that make more be told and find what the refused deed left and a later one would hide, and one for the next try.
 fn try_anew<S: Subject>(
     alloc: Global,
     deeds: &[(u64, Deed)],
@@ -179,9 +210,10 @@ fn try_anew<S: Subject>(
         let (client, deed) = deeds[number];
         let tried = (&deeds[..number], client, deed);
         for step in 0..=refuser.last_step() {
-            if !is_refused::<S>(alloc, tried, looks, step, refuser, notes) {
+            if !is_refused::<S>(alloc, tried, (step, Then::Looks), looks, refuser, notes) {
                 break;
             }
+            is_refused::<S>(alloc, tried, (step, Then::NextTry), looks, refuser, notes);
         }
     }
 }

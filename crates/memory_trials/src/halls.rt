@@ -1,4 +1,4 @@
-//! A hall that takes steps of every kind, and is asked for its record in between.
+//! A hall that takes steps of every kind, in channels and a battle, and is asked for its record in between.
 
 ghost use Rattle.std.specs.Prelude.{IfOk, IfSome};
 ghost use Rattle.lobby_hall.specs.Standing.{HasHome};
@@ -13,9 +13,14 @@ use lobby_model::settings::LEAST_OUTBOX_LIMIT;
 use std::alloc::{AllocError, Global};
 use std::io;
 use std::io::Write;
-use test_lobby::{book, settings};
+use test_lobby::{book_with_onlookers, settings};
 
-static DEEDS: [(u64, Deed); 27] = [
+/// More bytes than a buffer has that is kept, 4,096.
+const LONG: usize = 5_000;
+
+const DORA_LOGS_IN: &[u8] = b"LOGIN Dora X03MO1qnZdYdgyfeuILPmQ== 0 * TestLobby 1.0\n";
+
+static DEEDS: [(u64, Deed); 32] = [
     (1, Deed::Open),
     (
         1,
@@ -47,6 +52,16 @@ static DEEDS: [(u64, Deed); 27] = [
     (3, Deed::Take),
     (2, Deed::Take),
     (3, Deed::Read(1000)),
+    (
+        1,
+        Deed::Send(
+            b"OPENBATTLE 0 0 * 8452 8 -1 0 123 Spring\t104.0\tComet Catcher\tAnna's game\tBA 9.46\nADDBOT Robo 1024 255 KAIK\n",
+        ),
+    ),
+    (1, Deed::Take),
+    (1, Deed::Take),
+    (2, Deed::Send(b"JOINBATTLE 1 * pw9\n")),
+    (2, Deed::Take),
     (1, Deed::Shut),
     (2, Deed::Record),
     (3, Deed::Send(b"EXIT\n")),
@@ -54,8 +69,10 @@ static DEEDS: [(u64, Deed); 27] = [
     (4, Deed::Send(b"PING\n")),
 ];
 
-/// An unfinished line of each is ended, and its next lines are taken.
-static LOOKS: [(u64, Deed); 7] = [
+/// An unfinished line of each is ended, and its next lines are taken. Then so many connect that a client 6 is there, however many there
+/// were. Emil logs in at it, and is told the users, the battle and its members; then who is in the channels, and what the members of
+/// the battle share. Then the others go, and he is told what each was in.
+static LOOKS: [(u64, Deed); 22] = [
     (1, Deed::Send(b"\n")),
     (1, Deed::Take),
     (2, Deed::Send(b"\n")),
@@ -63,6 +80,26 @@ static LOOKS: [(u64, Deed); 7] = [
     (2, Deed::Take),
     (3, Deed::Send(b"CHANNELS\n")),
     (3, Deed::Take),
+    (1, Deed::Open),
+    (2, Deed::Open),
+    (3, Deed::Open),
+    (4, Deed::Open),
+    (5, Deed::Open),
+    (
+        6,
+        Deed::Send(
+            b"LOGIN Emil X03MO1qnZdYdgyfeuILPmQ== 0 * TestLobby 1.0\nCHANNELS\nJOIN main\nJOINBATTLE 1\n",
+        ),
+    ),
+    (6, Deed::Take),
+    (6, Deed::Take),
+    (6, Deed::Take),
+    (6, Deed::Take),
+    (1, Deed::Shut),
+    (2, Deed::Shut),
+    (3, Deed::Shut),
+    (4, Deed::Shut),
+    (5, Deed::Shut),
 ];
 
 /// The step of a deed, where it is one.
@@ -106,9 +143,46 @@ fn show_log<R: Print>(rt: &R, record: &Record, client: u64) -> io::Result<()> {
     io::writer(rt).write_all(record.put(client))
 }
 
+/// A client sends this, and its next line is taken.
+fn say(hall: &mut Hall, client: u64, line: Vec<u8>) -> Result<(), HallError> {
+    let bytes = Piece::of(line);
+    hall.step(&Step::Arrive { client, bytes })?;
+    hall.step(&Step::Take { client })
+}
+
+/// A line to this user, of which more is told than a buffer has that is kept.
+fn long_line(alloc: Global, user: &[u8]) -> Result<Vec<u8>, AllocError> {
+    let mut line = Vec::from_slice(alloc, b"SAYPRIVATE ")?;
+    line.extend_from_slice(user)?;
+    line.push(b' ')?;
+    let end = line.len().saturating_add(LONG);
+    line.resize(end, b'x')?;
+    line.push(b'\n')?;
+    Ok(line)
+}
+
+/// Dora connects under this number, logs in, and says a long line to each user.
+fn say_all(hall: &mut Hall, alloc: Global, dora: u64) -> Result<(), HallError> {
+    hall.step(&Step::Open {
+        ip: [10, 0, 0, 4],
+        home: 0,
+    })?;
+    say(hall, dora, Vec::from_slice(alloc, DORA_LOGS_IN)?)?;
+    for user in [b"Anna", b"Bert", b"Cleo"] {
+        say(hall, dora, long_line(alloc, user)?)?;
+    }
+    Ok(())
+}
+
+/// A client reads all that waits for it.
+fn reads_all(hall: &mut Hall, client: u64) -> bool {
+    let count = LEAST_OUTBOX_LIMIT;
+    hall.step(&Step::Read { client, count }).is_ok()
+}
+
 impl Subject for Hall {
     fn new(alloc: Global) -> Option<Hall> {
-        let accounts = book(alloc)?;
+        let accounts = book_with_onlookers(alloc)?;
         match settings(alloc, LEAST_OUTBOX_LIMIT) {
             Some(settings) => Hall::new(alloc, settings, accounts).ok(),
             None => {
@@ -127,8 +201,9 @@ impl Subject for Hall {
     }
 
     fn use_up(&mut self, alloc: Global) -> bool {
-        let _ = alloc;
-        true
+        let dora = self.last_client().saturating_add(1);
+        let is_said = say_all(self, alloc, dora).is_ok();
+        is_said && (1..=dora).all(|client| reads_all(self, client))
     }
 
     fn is_as(&mut self, other: &mut Hall) -> bool {

@@ -13,11 +13,11 @@ use std::sync::Wait;
 use test_lobby::{MemoryLink, Text, new_lobby, written};
 
 /// What a client sends, of which a read gives at most `piece` bytes, and what it is told, of which a write takes at most `room`.
-struct Caller {
-    sends: Text,
-    piece: usize,
-    told: Text,
-    room: usize,
+pub struct Caller {
+    pub sends: Text,
+    pub piece: usize,
+    pub told: Text,
+    pub room: usize,
 }
 
 /// So often Bert says a long line: for each of the two more waits then than two pieces that a hold drains, 8,192 bytes.
@@ -101,7 +101,7 @@ const CONNECTS: usize = 2;
 
 /// What a call came to.
 #[derive(Clone, Copy, PartialEq, Eq)]
-enum Came {
+pub enum Came {
     Done,
     /// Memory was refused.
     Short,
@@ -129,10 +129,10 @@ impl Gate for Open {
 
 /// A client's connection, the link over which it comes, and all that is told over that in the end.
 #[derive(Drop)]
-struct Side {
-    conn: Conn,
-    link: MemoryLink,
-    told: Vec<u8>,
+pub struct Side {
+    pub conn: Conn,
+    pub link: MemoryLink,
+    pub told: Vec<u8>,
 }
 
 /// Whether each link has been told a front of what it is to be told.
@@ -148,14 +148,21 @@ fn are_told(sides: &(Side, Side)) -> bool {
 }
 
 /// The connection of a client.
-fn new_side(alloc: Global, client: u64, caller: &Caller) -> Result<Side, AllocError> {
+pub fn new_side(alloc: Global, client: u64, caller: &Caller) -> Result<Side, AllocError> {
     let told = written(alloc, caller.told)?;
     let sent = written(alloc, caller.sends)?;
-    Ok(Side {
-        conn: Conn::new(alloc, client),
-        link: MemoryLink::new(alloc, sent, caller.piece, caller.room),
-        told,
-    })
+    let link = MemoryLink::new(alloc, sent, caller.piece, caller.room);
+    match link.with_place(told.len()) {
+        Ok(link) => Ok(Side {
+            conn: Conn::new(alloc, client),
+            link,
+            told,
+        }),
+        Err(refused) => {
+            drop(told);
+            Err(refused)
+        }
+    }
 }
 
 /// The client of this number connects.
@@ -183,14 +190,16 @@ fn turn<R: Wait>(rt: &R, desk: &Desk, pass: Pass, side: &mut Side) -> (Pass, Cam
     }
     let (pass, turn) = serve(rt, &mut side.conn, &mut side.link, desk, pass, &Open);
     let came = match turn.state {
+        TurnState::Idle | TurnState::Again => Came::Done,
         TurnState::Memory => Came::Short,
-        _ => Came::Done,
+        // nobody exits, and no link ends
+        TurnState::Closed => Came::Wrong,
     };
     (pass, came)
 }
 
 /// Makes the call of this number.
-fn make<R: Wait>(
+pub fn make<R: Wait>(
     rt: &R,
     desk: &Desk,
     pass: Pass,
@@ -210,7 +219,7 @@ fn make<R: Wait>(
 }
 
 /// Makes the calls from one number up to another.
-fn make_all<R: Wait>(
+pub fn make_all<R: Wait>(
     rt: &R,
     desk: &Desk,
     pass: Pass,
@@ -257,7 +266,7 @@ fn try_call<R: Wait>(
     pass
 }
 
-/// Makes all calls, each step by step, and then the turns with all memory, for what a link lacked the memory to keep.
+/// Makes all calls, each step by step, and then the turns with all memory, for what a refused drain left.
 fn try_in_turn<R: Wait>(
     rt: &R,
     desk: &Desk,
@@ -312,7 +321,7 @@ fn try_one<R: Wait>(
 }
 
 /// A desk with a new lobby.
-fn new_desk<R: Wait + AllocGlobal>(rt: &R) -> Option<(Desk, Pass)>
+pub fn new_desk<R: Wait + AllocGlobal>(rt: &R) -> Option<(Desk, Pass)>
     ensures { IfSome result (λ r. r.1.desk ≡ r.0) }
 {
     let lobby = new_lobby(rt.alloc())?;
@@ -373,7 +382,7 @@ fn show_both<R: Print>(rt: &R, sides: &(Side, Side)) -> io::Result<()> {
     show(rt, &sides.1)
 }
 
-fn new_sides(alloc: Global) -> Result<(Side, Side), AllocError> {
+pub fn new_sides(alloc: Global) -> Result<(Side, Side), AllocError> {
     let anna = new_side(alloc, 1, &ANNA)?;
     match new_side(alloc, 2, &BERT) {
         Ok(bert) => Ok((anna, bert)),

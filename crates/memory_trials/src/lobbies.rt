@@ -7,7 +7,7 @@ use lobby_machine::{Lobby, OpenError};
 use std::alloc::{AllocError, Global};
 use std::io;
 use std::io::Write;
-use test_lobby::{ANNA_SAYS, BERT_SAYS, new_lobby, read};
+use test_lobby::{ANNA_SAYS, BERT_SAYS, book_with_onlookers, lobby_of, read};
 
 /// The worker that serves all clients.
 pub const HOME: u8 = 0;
@@ -218,7 +218,7 @@ pub fn show_unread<R: Print>(rt: &R, lobby: &Lobby) -> io::Result<()> {
 
 impl Subject for Lobby {
     fn new(alloc: Global) -> Option<Lobby> {
-        new_lobby(alloc)
+        lobby_of(alloc, book_with_onlookers(alloc)?)
     }
 
     fn act(&mut self, alloc: Global, client: u64, deed: Deed) -> bool {

@@ -13,6 +13,7 @@ mod hog;
 mod links;
 mod lobbies;
 mod notes;
+mod pings;
 mod refuser;
 mod repeats;
 mod scripts;
@@ -46,7 +47,8 @@ fn try_all<R: Wait + Print + AllocGlobal>(
     scripts::try_out(rt, refuser, notes)?;
     repeats::try_out(rt, refuser, notes)?;
     refuser.release();
-    links::try_out(rt, refuser, notes)
+    links::try_out(rt, refuser, notes)?;
+    pings::try_out(rt, refuser, notes)
 }
 
 fn main(rt: HostRuntime) -> io::Result<()> {

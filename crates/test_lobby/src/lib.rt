@@ -1,4 +1,4 @@
-//! What crates of tests share: four users, what they say and are told, lobbies of them, and a link in memory.
+//! What crates of tests share: three users and two who look on, what they say and are told, lobbies of them, and a link in memory.
 #![tactic(auto)]
 
 mod link;
@@ -7,9 +7,9 @@ mod texts;
 mod users;
 
 pub use link::MemoryLink;
-pub use lobbies::{book, lobby_of, new_lobby, read, settings};
+pub use lobbies::{book, book_with_onlookers, lobby_of, new_lobby, read, settings};
 pub use texts::{Text, written};
 pub use users::{
     ANNA_IS_IN, ANNA_LOGS_IN, ANNA_SAYS, BERT_COMES, BERT_IS_IN, BERT_LOGS_IN, BERT_SAYS,
-    CLEO_LOGS_IN, GREETING,
+    CLEO_LOGS_IN, GREETING, WORD,
 };

@@ -1,10 +1,10 @@
 //! A link in memory: turns over it need no socket, and what it moves can be compared.
 
-ghost use Rattle.std.specs.Prelude.{◌≡◌, ◌≤◌, length, Some};
+ghost use Rattle.std.specs.Prelude.{◌≡◌, ◌≤◌, length, IfOk, Some};
 ghost use Rattle.lobby_holds.specs.Wire.{untouched};
 
 use lobby_holds::{Got, Link, Sent};
-use std::alloc::Global;
+use std::alloc::{AllocError, Global};
 
 /// The largest count with which a turn may still begin.
 const MOST_CALLS: u64 = u64::MAX - 32;
@@ -88,6 +88,20 @@ impl MemoryLink {
         let mut link = self;
         link.device = Device::FailsFrom(call);
         link
+    }
+
+    /// The same link, with place for so many bytes that are written, so that they take no memory then.
+    pub fn with_place(self, bytes: usize) -> Result<MemoryLink, AllocError>
+        ensures { IfOk result (λ link. ⟦<MemoryLink as Link>⟧.wire link ≡ ⟦<MemoryLink as Link>⟧.wire self) }
+    {
+        let mut link = self;
+        match link.output.reserve(bytes) {
+            Ok(()) => Ok(link),
+            Err(_) => {
+                drop(link);
+                Err(AllocError)
+            }
+        }
     }
 
     /// All that was written.

@@ -1,10 +1,10 @@
-//! The users' book, settings and lobbies of them. Each is `None` where memory is refused.
+//! The users' books, settings and lobbies of them. Each is `None` where memory is refused.
 
 ghost use Rattle.std.specs.Prelude.{IfOk, IsTrue};
 ghost use Rattle.command_forms.specs.Kinds.{keeps_kinds};
 
-use crate::users::ACCOUNTS;
-use account_book::AccountBook;
+use crate::users::{ACCOUNTS, WORD};
+use account_book::{Account, AccountBook};
 use command_grammar::{Request, read_request};
 use line_words::TextBuf;
 use lobby_machine::Lobby;
@@ -16,6 +16,24 @@ use std::slice;
 /// The book of the users' accounts.
 pub fn book(alloc: Global) -> Option<AccountBook> {
     AccountBook::from_toml(alloc, ACCOUNTS).ok()
+}
+
+fn add_user(accounts: &mut AccountBook, alloc: Global, name: &[u8], id: u32) -> bool {
+    match Account::new(alloc, name, WORD, id, 0, false, false, b"??") {
+        Ok(account) => accounts.add(account).is_ok(),
+        Err(_) => false,
+    }
+}
+
+/// The book of the users' accounts and of two more, Dora's and Emil's, who come where others are to look on.
+pub fn book_with_onlookers(alloc: Global) -> Option<AccountBook> {
+    let mut accounts = book(alloc)?;
+    if add_user(&mut accounts, alloc, b"Dora", 4) && add_user(&mut accounts, alloc, b"Emil", 5) {
+        Some(accounts)
+    } else {
+        drop(accounts);
+        None
+    }
 }
 
 /// The default settings, but for a message of the day, `Welcome`, and this limit of an outbox, from 65,536 to 67,108,864 bytes; none

@@ -1,4 +1,4 @@
-//! Anna, Bert, Cleo and Dora: their accounts, the lines with which they log in, and what is told of that.
+//! Anna, Bert and Cleo: their accounts, the lines with which they log in, and what is told of that.
 
 /// The file of their accounts. All of them have one password.
 pub const ACCOUNTS: &[u8] = b"[[account]]
@@ -16,11 +16,10 @@ name = \"Cleo\"
 password = \"X03MO1qnZdYdgyfeuILPmQ==\"
 id = 3
 country = \"FR\"
-[[account]]
-name = \"Dora\"
-password = \"X03MO1qnZdYdgyfeuILPmQ==\"
-id = 4
 ";
+
+/// The word of that password.
+pub const WORD: &[u8] = b"X03MO1qnZdYdgyfeuILPmQ==";
 
 /// The line with which Anna logs in, without its end.
 pub const ANNA_SAYS: &[u8] = b"LOGIN Anna X03MO1qnZdYdgyfeuILPmQ== 0 * TestLobby 1.0";

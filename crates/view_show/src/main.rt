@@ -1,6 +1,6 @@
 //! Shows what a client knows of the lobby. The bytes that it was sent come on standard input, and
-//! what it knows behind the last of them goes to standard output. With the argument `one-by-one`
-//! each byte is folded by itself, which shows the same.
+//! what it knows behind the last of them goes to standard output. With a number as argument at most
+//! so many bytes are folded at once, and with `whole` all of them, which shows the same.
 #![tactic(auto)]
 
 mod show;
@@ -8,12 +8,22 @@ mod show;
 use anyhow::{Error, anyhow};
 use client_view::{View, ViewError};
 use show::show;
+use std::alloc::Global;
 use std::io::{BufWriter, ErrorKind, Read, Write};
 use std::rt::Env;
 use std::{env, io};
 
 /// How many bytes are read at once, at most.
 const PIECE: usize = 4_096;
+
+/// How the bytes are cut where they are folded.
+#[derive(Clone, Copy)]
+enum Cut {
+    /// Into pieces of at most so many.
+    Pieces(usize),
+    /// Not at all.
+    Whole,
+}
 
 /// Folds the input, to its end or to a line that is too long. As many bytes are read at once as
 /// `piece` has room for.
@@ -33,22 +43,35 @@ fn fold<R: Read>(input: &mut R, piece: &mut [u8], view: &mut View) -> Result<(),
     Ok(())
 }
 
-/// Whether each byte is to be folded by itself.
-fn is_one_by_one<R: Env + AllocGlobal>(rt: &R) -> Result<bool, Error> {
-    match env::args(rt)?.nth(1) {
-        Some(word) if word.as_str() == "one-by-one" => Ok(true),
-        Some(_) => Err(anyhow!("usage: view_show [one-by-one]")),
-        None => Ok(false),
+/// Folds the whole input at once.
+fn fold_whole<R: Read>(alloc: Global, input: &mut R, view: &mut View) -> Result<(), Error> {
+    let mut bytes = Vec::new(alloc);
+    input.read_to_end(&mut bytes)?;
+    match view.feed(&bytes) {
+        Ok(_) | Err(ViewError::LineTooLong) => Ok(()),
+        Err(refused) => Err(refused.into()),
+    }
+}
+
+/// How the argument has the bytes cut.
+fn chosen_cut<R: Env + AllocGlobal>(rt: &R) -> Result<Cut, Error> {
+    let Some(word) = env::args(rt)?.nth(1) else {
+        return Ok(Cut::Pieces(PIECE));
+    };
+    if word.as_str() == "whole" {
+        return Ok(Cut::Whole);
+    }
+    match word.as_str().parse::<usize>() {
+        Ok(most) if 1 <= most && most <= PIECE => Ok(Cut::Pieces(most)),
+        _ => Err(anyhow!("usage: view_show [whole|BYTES], BYTES from 1 to {PIECE}")),
     }
 }
 
 /// Folds the input, and prints what is known behind it.
 fn follow<R: Env + Input + Print + AllocGlobal>(rt: &R, view: &mut View) -> Result<(), Error> {
-    let mut piece = [0; PIECE];
-    if is_one_by_one(rt)? {
-        fold(&mut rt.reader(), &mut piece[..1], view)?;
-    } else {
-        fold(&mut rt.reader(), &mut piece, view)?;
+    match chosen_cut(rt)? {
+        Cut::Pieces(most) => fold(&mut rt.reader(), &mut [0; PIECE][..most], view)?,
+        Cut::Whole => fold_whole(rt.alloc(), &mut rt.reader(), view)?,
     }
     print(rt, view)
 }

@@ -87,14 +87,19 @@ fn show_battles<W: Write>(battles: &Battles, out: &mut W) -> io::Result<()> {
     Ok(())
 }
 
+/// The line of a battle: what opened it, in the order of that line, then how many spectators are told, and what else is so.
 fn show_battle<W: Write>(number: u32, battle: &Battle, out: &mut W) -> io::Result<()> {
     let opened = &battle.opened;
     let words = [
         Number(i64::from(number)),
+        Number(i64::from(opened.battle_type)),
+        Number(i64::from(opened.nat_type)),
         Text(opened.founder.as_slice()),
         Text(opened.ip.as_slice()),
         Number(i64::from(opened.port)),
         Number(i64::from(opened.max_players)),
+        Number(opened.rank),
+        Number(opened.map_hash),
         Number(i64::from(battle.spectators)),
         Flag(opened.passworded, b"passworded"),
         Flag(battle.locked, b"locked"),

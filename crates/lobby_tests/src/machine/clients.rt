@@ -138,26 +138,24 @@ fn a_client_that_exits_may_read_on(rt: HostRuntime) {
 
 fn ping_often(lobby: &mut Lobby, alloc: Global, client: u64, times: u32) -> bool {
     for _ in 0..times {
-        if say(lobby, alloc, client, b"#2147483647 PING").is_none() {
+        if say(lobby, alloc, client, b"#1 PING").is_none() {
             return false;
         }
     }
     true
 }
 
-// A greeting takes 24 bytes, and each answer 17.
+// A greeting has 24 bytes, and each answer 8: together just as many as an outbox takes, so nobody is cut.
 pub fn fill(rt: &impl Abort, alloc: Global, lobby: &mut Lobby) {
     same(rt, lobby.open([10, 0, 0, 1], 0), Ok(1));
-    same(rt, ping_often(lobby, alloc, 1, 3853), true);
-    same(rt, lobby.unread(1), 65_525);
+    same(rt, lobby.unread(1), 24);
+    same(rt, ping_often(lobby, alloc, 1, 8_189), true);
+    same(rt, lobby.unread(1), 65_536);
 }
 
+// One more answer finds no room: it puts no byte, and nothing will ever come of its client.
 pub fn cut(rt: &impl Abort, alloc: Global, lobby: &mut Lobby) {
-    same(
-        rt,
-        wakes_alone(lobby, alloc, 1, b"#2147483647 PING", 0),
-        true,
-    );
+    same(rt, wakes_alone(lobby, alloc, 1, b"PING", 0), true);
     same(rt, lobby.unread(1), 0);
     same(rt, drains(lobby, 1, &mut [0; 8], b"", true), true);
 }
@@ -165,11 +163,42 @@ pub fn cut(rt: &impl Abort, alloc: Global, lobby: &mut Lobby) {
 pub fn fill_and_cut(rt: &impl Abort, alloc: Global, lobby: &mut Lobby) {
     fill(rt, alloc, lobby);
     cut(rt, alloc, lobby);
+    same(rt, wakes_nobody(lobby, alloc, 1, b"PING"), true);
+    same(rt, lobby.unread(1), 0);
+    leave(rt, lobby);
 }
 
 #[test]
 fn a_client_that_reads_nothing_is_cut_at_the_limit(rt: HostRuntime) {
     play(&rt, rt.alloc(), new_lobby(rt.alloc()), Part::Cutting);
+}
+
+// The answer has 5 bytes: just so many are read before.
+pub fn read_enough(rt: &impl Abort, alloc: Global, lobby: &mut Lobby) {
+    fill(rt, alloc, lobby);
+    same(rt, drains(lobby, 1, &mut [0; 5], b"TASSE", false), true);
+    same(rt, wakes_alone(lobby, alloc, 1, b"PING", 0), true);
+    same(rt, lobby.unread(1), 65_536);
+    let mut last = [0; 13];
+    same(rt, lobby.copy_unread(1, 65_523, &mut last), 13);
+    same(rt, last, *b"#1 PONG\nPONG\n");
+}
+
+#[test]
+fn who_reads_as_much_as_an_answer_has_gets_it(rt: HostRuntime) {
+    play(&rt, rt.alloc(), new_lobby(rt.alloc()), Part::ReadingEnough);
+}
+
+// A byte fewer is read before.
+pub fn read_too_little(rt: &impl Abort, alloc: Global, lobby: &mut Lobby) {
+    fill(rt, alloc, lobby);
+    same(rt, drains(lobby, 1, &mut [0; 4], b"TASS", false), true);
+    cut(rt, alloc, lobby);
+}
+
+#[test]
+fn who_reads_a_byte_fewer_is_cut(rt: HostRuntime) {
+    play(&rt, rt.alloc(), new_lobby(rt.alloc()), Part::ReadingTooLittle);
 }
 
 fn read_all(lobby: &mut Lobby, client: u64) {

@@ -33,6 +33,23 @@ fn outcome(counted: io::Result<usize>) -> Moved {
     }
 }
 
+/// Whether a text is one line so many times over, and another one once among these.
+fn are_among(text: &[u8], line: &[u8], times: usize, other: &[u8]) -> bool {
+    let mut rest = text;
+    let mut others = 0u32;
+    for _ in 0..=times {
+        if let Some(behind) = rest.strip_prefix(line) {
+            rest = behind;
+        } else if let Some(behind) = rest.strip_prefix(other) {
+            rest = behind;
+            others = others.saturating_add(1);
+        } else {
+            return false;
+        }
+    }
+    rest.is_empty() && others == 1
+}
+
 /// A client that reads what it expects and nothing else.
 #[derive(Drop)]
 pub struct Client {
@@ -87,22 +104,39 @@ impl Client {
         false
     }
 
-    /// Whether so many bytes come, whatever they are, within so many looks.
-    pub fn reads_any<C: Clock>(&mut self, clock: &C, count: usize) -> bool {
-        let mut left = count;
-        let mut piece = [0u8; PIECE];
+    /// Fills a slice with the bytes that come next. False where so many do not come within so many looks.
+    fn fills<C: Clock>(&mut self, clock: &C, into: &mut [u8]) -> bool {
+        let mut done = 0usize;
         for _ in 0..LOOKS {
-            if left == 0 {
+            let Some(room) = into.get_mut(done..) else {
+                return false;
+            };
+            if room.is_empty() {
                 return true;
             }
-            let room = left.min(PIECE);
-            match outcome(self.stream.read(&mut piece[..room])) {
-                Moved::Some(more) => left = left.saturating_sub(more),
+            match outcome(self.stream.read(room)) {
+                Moved::Some(count) => done = done.saturating_add(count),
                 Moved::Nothing => thread::sleep(clock, Duration::from_millis(1)),
                 Moved::Ended | Moved::Broken => return false,
             }
         }
         false
+    }
+
+    /// Whether one line comes so many times next, and another one once, before, between or behind these. Both fit into a piece.
+    pub fn reads_among<C: Clock>(
+        &mut self,
+        clock: &C,
+        line: &[u8],
+        times: usize,
+        other: &[u8],
+    ) -> bool {
+        let mut piece = [0u8; PIECE];
+        let count = line.len().saturating_mul(times).saturating_add(other.len());
+        match piece.get_mut(..count) {
+            Some(came) => self.fills(clock, came) && are_among(came, line, times, other),
+            None => false,
+        }
     }
 
     /// Ends what is sent, and goes on reading. Whether the system allowed it.

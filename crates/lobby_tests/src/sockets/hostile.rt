@@ -93,16 +93,13 @@ static SAME_ROUND: [Act; 2] = [
             Sends(ANNA, PING),
             Sends(BERT, b"SAYPRIVATE Anna on\n"),
             GoesOn,
-            ReadsAny(ANNA, BOTH_LINES),
+            ReadsAmong(ANNA, PONG, 1, b"SAIDPRIVATE Bert on\n"),
         ],
     },
 ];
 
-/// The bytes of `PONG` and of `SAIDPRIVATE Bert on`, which come in the order of the turns.
-const BOTH_LINES: usize = 25;
-
 /// Anna and Bert send while their worker stands still, so both get their turns in one round, mostly Anna first. What Bert's turn then
-/// has for her comes without another byte from anyone.
+/// has for her comes without another byte from anyone, before her answer or behind it.
 #[test]
 fn who_had_a_turn_is_told_what_a_later_turn_brings(rt: HostRuntime) {
     drop(play(&rt, rt, 1, Hold::Write, &SAME_ROUND));

@@ -33,8 +33,8 @@ pub enum Step {
     Reads(usize, &'static [u8]),
     /// Exactly these bytes come next, so many times over.
     ReadsOften(usize, &'static [u8], usize),
-    /// So many bytes come next, whatever they are.
-    ReadsAny(usize, usize),
+    /// One line comes so many times next, and another one once among them.
+    ReadsAmong(usize, &'static [u8], usize, &'static [u8]),
     /// A client ends what it sends, and goes on reading.
     Finishes(usize),
     /// A client is gone. What came and was not read makes the system send a reset and no end.
@@ -161,9 +161,9 @@ impl Cast<'_> {
         }
     }
 
-    fn reads_any(&mut self, who: usize, count: usize) -> bool {
+    fn reads_among(&mut self, who: usize, line: &[u8], times: usize, other: &[u8]) -> bool {
         match self.clients.get_mut(who) {
-            Some(Some(client)) => client.reads_any(&self.clock, count),
+            Some(Some(client)) => client.reads_among(&self.clock, line, times, other),
             _ => false,
         }
     }
@@ -231,7 +231,7 @@ impl Cast<'_> {
             Step::SendsOften(who, bytes, times) => self.sends_often(who, bytes, times),
             Step::Reads(who, bytes) => self.reads(who, bytes),
             Step::ReadsOften(who, bytes, times) => self.reads_often(who, bytes, times),
-            Step::ReadsAny(who, count) => self.reads_any(who, count),
+            Step::ReadsAmong(who, line, times, other) => self.reads_among(who, line, times, other),
             Step::Finishes(who) => self.finishes(who),
             Step::BreaksOff(who) => self.breaks_off(who),
             Step::Ends(who) => matches!(self.ends(who), Some(0)),

@@ -191,7 +191,7 @@ fn a_client_that_reads_late_gets_all(rt: HostRuntime) {
     drop(play(&rt, rt, 1, Hold::Open, &LATE));
 }
 
-static MUCH: [Act; 2] = [
+static NAMED_AND_LEFT_OVER: [Act; 2] = [
     BOTH_LOG_IN,
     Act {
         times: 1,
@@ -202,13 +202,10 @@ static MUCH: [Act; 2] = [
             SendsOften(ANNA, PING, 200),
             Sends(BERT, b"SAYPRIVATE Anna on\n"),
             GoesOn,
-            ReadsAny(ANNA, MUCH_IN_ALL),
+            ReadsAmong(ANNA, PONG, 200, b"SAIDPRIVATE Bert on\n"),
         ],
     },
 ];
-
-/// What Anna is told: 200 times `PONG`, and somewhere among these `SAIDPRIVATE Bert on`.
-const MUCH_IN_ALL: usize = 200 * 5 + 20;
 
 /// Anna sends 200 lines while their worker stands still, of which a turn hears 64, and Bert says something to her. So her first turn
 /// stops at its limit, and she gets the second both since that left her over and since Bert's turn had her named as changed. It stops
@@ -216,7 +213,7 @@ const MUCH_IN_ALL: usize = 200 * 5 + 20;
 /// poll tells no more of her.
 #[test]
 fn who_is_named_and_left_over_gets_both_turns(rt: HostRuntime) {
-    drop(play(&rt, rt, 1, Hold::Write, &MUCH));
+    drop(play(&rt, rt, 1, Hold::Write, &NAMED_AND_LEFT_OVER));
 }
 
 static NAMED: [Act; 2] = [
