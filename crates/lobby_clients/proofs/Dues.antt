@@ -2,7 +2,7 @@
 use Rattle.std.proofs.Common.{◌≡◌, ℕ, ◌+◌, List, [], ◌∷◌, ◌++◌, length, refl, sym, ap, ◌∙◌, true, false, arith, length-append}
 use Rattle.std.specs.Prelude.{if◌then◌else◌}
 use Rattle.line_words.specs.Table.{ByNumber, same_number}
-use Rattle.lobby_post.specs.Dues.{shared_bytes_in, count_for, nothing_due, shared_pieces_in}
+use Rattle.lobby_post.specs.Dues.{counted, shared_bytes_in, count_for, nothing_due, shared_pieces_in}
 use Rattle.lobby_post.specs.Mail.{bytes_for, due_for}
 
 module _ (count : ℕ → ℕ) where
@@ -24,7 +24,7 @@ module _ (count : ℕ → ℕ) where
 -- no bytes, nothing due
 pub none_due : (pieces : ByNumber (List ℕ)) (d : ℕ) → bytes_for pieces d ≡ [] → nothing_due ≡ due_for pieces d
 none_due pieces d none = λ i. record {
-  bytes = length (sym none i);
-  shared_bytes = sym (count_none shared_bytes_in refl pieces d (ap length none)) i;
-  shared_pieces = sym (count_none shared_pieces_in refl pieces d (ap length none)) i;
+  bytes = counted (length (sym none i));
+  shared_bytes = counted (sym (count_none shared_bytes_in refl pieces d (ap length none)) i);
+  shared_pieces = counted (sym (count_none shared_pieces_in refl pieces d (ap length none)) i);
 }

@@ -1,5 +1,8 @@
 -- All clients, and those of each worker that changed and wait.
-use Rattle.std.specs.Prelude.{ℕ, zero, suc, not, List, [], ◌∷◌, ◌++◌, filter, slice_index_or}
+use Rattle.std.specs.Prelude.{◌≡◌, ℕ, zero, suc, not, List, [], ◌∷◌, ◌++◌, filter, slice_index_or, Some}
+use Rattle.std.specs.Ordering.{nat_cmp}
+use Rattle.std.specs.BTreeMap.{is_at}
+use Rattle.std.specs.Map.{lookup}
 use Rattle.line_words.specs.Table.{ByNumber, same_number}
 use Rattle.lobby_post.specs.Mail.{Held, Line}
 use Rattle.lobby_post.specs.Dirty.{Roomy, AreKnown, line_of, marks_of, none_waits, stands}
@@ -33,3 +36,7 @@ waits crowd home = filter (stands (marks_of crowd.slots) home) (line_at crowd.li
 -- those of a list but this one
 abbrev pub all_but_client : ℕ → List ℕ → List ℕ
 all_but_client client clients = filter (λ c. not (same_number client c)) clients
+
+-- where a client has read all, no memory is kept for it
+abbrev pub KeepsNothing : ℕ → ByNumber Held → Type 0
+KeepsNothing client slots = (held : Held) → lookup (is_at (nat_cmp client)) slots ≡ Some held → held.client.unread ≡ [] → (held.spare ≡ 0) × (held.spare_pieces ≡ 0)

@@ -11,8 +11,8 @@ ghost use Rattle.lobby_model.specs.Sessions.{greeted, drained};
 ghost use Rattle.lobby_model.specs.Next.{with_batch};
 ghost use Rattle.lobby_post.specs.Dirty.{marks_of, IsNewly};
 ghost use Rattle.lobby_post.specs.Mask.{has_home};
-ghost use Rattle.lobby_clients.specs.Crowd.{all_but_client, waits, Known};
-ghost use Rattle.lobby_post.specs.Mail.{AreDue, AreReady, bytes_for, deliver, parted, plain, wakes_home};
+ghost use Rattle.lobby_clients.specs.Crowd.{all_but_client, waits, Known, KeepsNothing};
+ghost use Rattle.lobby_post.specs.Mail.{AreDue, AreReady, WantsMemory, bytes_for, deliver, parted, plain, wakes_home};
 ghost use Rattle.lobby_post.specs.Unread.{is_over, unread_in};
 
 use line_words::NameBuf;
@@ -43,6 +43,7 @@ pub struct Clients {
 }
 
 impl Model for Clients {
+    ghost use Rattle.std.specs.Prelude.{◌-◌, ◌^◌, ◌<◌};
     ghost use Rattle.lobby_post.specs.Mail.{HaveLimit};
     ghost use Rattle.lobby_clients.specs.Crowd.{Crowd, lines_of};
 
@@ -50,12 +51,13 @@ impl Model for Clients {
 
     ghost view = { λ c. record { limit = c.limit; slots = c.slots; lines = lines_of c.dirty } };
 
-    ghost invariant = { λ c. HaveLimit c.limit c.slots };
+    ghost invariant = { λ c. HaveLimit c.limit c.slots × (c.limit < 2 ^ 32 - 1) };
 }
 
 impl Clients {
     /// No client. Each outbox will hold at most `limit` bytes.
     pub fn new(alloc: Global, limit: usize) -> Clients
+        requires { limit < 2 ^ 32 - 1 }
         ensures limit { result.limit ≡ limit }
         ensures nobody { result.slots ≡ [] }
         ensures known { Known result 0 }
@@ -243,7 +245,8 @@ impl Clients {
     }
 
     /// Makes room for all that an event tells, in each outbox that takes it: all of that is due then, and
-    /// `deliver` cannot fail. No client sees a difference. Where memory is refused, nothing is due.
+    /// `deliver` cannot fail. No client sees a difference. Where memory is refused that a client which
+    /// hears wants, nothing is due.
     pub fn reserve(&mut self, post: &Post) -> Result<(), AllocError>
         requires due { AreDue [] self.old.slots }
         ensures limit { self.new.limit ≡ self.old.limit }
@@ -251,6 +254,7 @@ impl Clients {
         ensures due { OnOk result (AreDue post.now.sent self.new.slots) }
         ensures ready { OnOk result (AreReady self.new.slots) }
         ensures err { OnErr result (AreDue [] self.new.slots) }
+        ensures wanted { OnErr result (WantsMemory post.now.sent self.old.slots) }
         ensures same_marks { marks_of self.new.slots ≡ marks_of self.old.slots }
         ensures same_lines { self.new.lines ≡ self.old.lines }
     {
@@ -305,12 +309,13 @@ impl Clients {
     }
 
     /// Takes bytes that a client has not read into a slice, as many as fit, and tells whether nothing
-    /// will ever come of the client again. It takes no memory. A client that is not there has nothing,
-    /// and is finished.
+    /// will ever come of the client again. It takes no memory, and of one who has read all no memory is
+    /// kept. A client that is not there has nothing, and is finished.
     pub fn drain(&mut self, client: u64, into: &mut [u8]) -> Drained
         ensures count { result.count ≡ min (length (unread_in (at_number (plain self.old.slots) client))) (length into.old) }
         ensures given { into.new ≡ take result.count (unread_in (at_number (plain self.old.slots) client)) ++ drop result.count into.old }
         ensures finished { result.finished ≡ is_over (at_number (plain self.new.slots) client) }
+        ensures given_back { KeepsNothing client self.new.slots }
         ensures limit { self.new.limit ≡ self.old.limit }
         ensures clients { plain self.new.slots ≡ change_number (plain self.old.slots) client (drained (length into.old)) }
         ensures due { (pieces : ByNumber (List ℕ)) → AreDue pieces self.old.slots → AreDue pieces self.new.slots }

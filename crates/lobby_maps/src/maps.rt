@@ -82,6 +82,7 @@ impl Maps {
         ensures dirty { IfOk result (λ maps. (home : ℕ) → home ≤ 63 → dirty_at maps home ≡ []) }
     {
         let greeting_line = greeting_of(alloc, &settings)?;
+        settings.keep_their_bounds();
         Ok(Maps {
             alloc,
             clients: Clients::new(alloc, settings.outbox_limit()),

@@ -7,9 +7,10 @@ use Rattle.std.specs.Ordering.{nat_cmp}
 use Rattle.std.specs.BTreeMap.{is_at}
 use Rattle.std.specs.Map.{lookup, set_value}
 use Rattle.line_words.specs.Table.{ByNumber, same_number}
+use Rattle.lobby_model.specs.State.{is_live}
 use Rattle.lobby_model.proofs.Delivered.{same_number_is}
 use Rattle.lobby_model.proofs.Splits.{same_either_way}
-use Rattle.lobby_post.specs.Mail.{Held, AllSlots, AreDue, due_for}
+use Rattle.lobby_post.specs.Mail.{Held, AllSlots, AreDue, IsDue, due_for}
 
 -- What look-ups say of a map in which w was written at c
 abbrev pub IsWritten : (c : ℕ) (w : Held) → ByNumber Held → ByNumber Held → Type 0
@@ -43,7 +44,7 @@ module _ (P Q : ℕ → Held → Type 0) (c : ℕ) (others : (q : ℕ) (held : H
 
 -- a slot written to which as much is due as before
 pub due_kept : (pieces : ByNumber (List ℕ)) (c : ℕ) (x w : Held) (es fs : ByNumber Held) → IsWritten c w es fs → Some x
-    ≡ lookup (is_at (nat_cmp c)) es → w.due ≡ x.due → AreDue pieces es → AreDue pieces fs
-due_kept pieces c x w es fs written found same =
-    all_written (λ q held. held.due ≡ due_for pieces q) (λ q held. held.due ≡ due_for pieces q) c
-    (λ q held e h. h) x w es fs written found (λ h. same ∙ h)
+    ≡ lookup (is_at (nat_cmp c)) es → (is_live w.client ≡ true → is_live x.client ≡ true) → w.due ≡ x.due → AreDue pieces es → AreDue pieces fs
+due_kept pieces c x w es fs written found heard same =
+    all_written (λ q held. IsDue (due_for pieces q) held) (λ q held. IsDue (due_for pieces q) held) c
+    (λ q held e h. h) x w es fs written found (λ h hears. same ∙ h (heard hears))

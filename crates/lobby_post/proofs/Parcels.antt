@@ -1,6 +1,7 @@
 -- Piece by piece is all at once: one piece put, and the rest delivered, is the whole delivered.
-use Rattle.std.proofs.Common.{◌≡◌, ℕ, ◌+◌, List, [], ◌∷◌, ◌++◌, length, refl, sym, ap, subst, ◌∙◌, Bool, true, false, not, map, arith, append_assoc, append-nil, length-append}
+use Rattle.std.proofs.Common.{◌≡◌, ℕ, ◌+◌, ◌-◌, ◌^◌, ◌<◌, List, [], ◌∷◌, ◌++◌, length, refl, sym, ap, subst, ◌∙◌, Bool, true, false, not, map, arith, append_assoc, append-nil, length-append}
 use Rattle.std.specs.Prelude.{Some, None, ◌&&◌, ◌||◌, nat_le, if◌then◌else◌}
+use Rattle.std.proofs.lemmas.Bool.{leb-true, leb-false, le-leb, lt-leb}
 use Rattle.std.specs.Ordering.{nat_cmp}
 use Rattle.std.specs.List.{list_any}
 use Rattle.std.specs.List.Sorted.{IsStrictlySortedBy}
@@ -14,6 +15,7 @@ use Rattle.lobby_model.specs.Touched.{is_touched}
 use Rattle.lobby_model.proofs.Quiet.{touched_is}
 use Rattle.lobby_model.proofs.Delivered.{with_batch_nil, map_values_none, same_itself}
 use Rattle.lobby_model.proofs.Splits.{apart_of_none, Split, split, any_apart, values_apart, values-append}
+use Rattle.lobby_post.specs.Dues.{counted}
 use Rattle.lobby_post.specs.Mail.{PutsFirst, bytes_for, deliver, wakes_one, wakes_home}
 
 pub other_piece : (c : ℕ) (bytes : List ℕ) (rest : ByNumber (List ℕ)) (d : ℕ) → same_number d c ≡ false → bytes_for rest d
@@ -87,21 +89,41 @@ module _ (limit : ℕ) (client : Client) (live : is_live client ≡ true) (b : �
         | false ↦ λ t. refl
       ] refl
 
-first_rest : (limit : ℕ) (client : Client) (due : ℕ) (bytes rest : List ℕ) → due ≡ length (bytes ++ rest)
+-- whether bytes fit is the same of their count, which at its most is past the limit
+counted_fits : (limit unread all : ℕ) → limit < 2 ^ 32 - 1 → nat_le (unread + counted all) limit ≡ nat_le (unread + all) limit
+counted_fits limit unread all small =
+    elim (nat_le (unread + all) limit) as (λ b. nat_le (unread + all) limit ≡ b → nat_le (unread + counted all) limit ≡ b) [
+      | true ↦ λ t. let few = leb-true (unread + all) limit t in le-leb (unread + counted all) limit (omega (arith, few))
+      | false ↦ λ t. let many = leb-false (unread + all) limit t in lt-leb (unread + counted all) limit (omega (arith, many, small))
+    ] refl
+
+first_rest : (limit : ℕ) (client : Client) (due : ℕ) (bytes rest : List ℕ) → limit < 2 ^ 32 - 1
+    → (is_live client ≡ true → counted (length (bytes ++ rest)) ≡ due)
     → with_batch limit rest (with_piece limit due bytes client) ≡ with_batch limit (bytes ++ rest) client
-first_rest limit client due [] rest is =
+first_rest limit client due [] rest small is =
     ap (λ l. with_batch limit rest (if l then (if nat_le (length client.unread + due) limit then longer client [] else cut_off client) else client))
     (and_false (is_live client))
-first_rest limit client due (b ∷ bytes) rest is =
+first_rest limit client due (b ∷ bytes) rest small is =
     elim (is_live client) as (λ l. is_live client ≡ l
     → with_batch limit rest (if l && true then (if nat_le (length client.unread + due) limit then longer client
     (b ∷ bytes) else cut_off client) else client)
     ≡ (if l then (if nat_le (length client.unread + length ((b ∷ bytes) ++ rest)) limit then longer client
     ((b ∷ bytes) ++ rest) else cut_off client) else client)) [
-      | true ↦ λ t. ap (λ n. with_batch limit rest
-          (if nat_le (length client.unread + n) limit then longer client (b ∷ bytes) else cut_off client)) is
+      | true ↦ λ t. ap (λ f. with_batch limit rest (if f then longer client (b ∷ bytes) else cut_off client))
+          (ap (λ n. nat_le (length client.unread + n) limit) (sym (is t))
+          ∙ counted_fits limit (length client.unread) (length ((b ∷ bytes) ++ rest)) small)
           ∙ first_rest_live limit client t b bytes rest
       | false ↦ λ t. Rattle.lobby_model.proofs.Delivered.dead limit rest client t
+    ] refl
+
+-- who does not hear does not hear after
+piece_heard : (limit due : ℕ) (bytes : List ℕ) (client : Client) → is_live (with_piece limit due bytes client) ≡ true → is_live client ≡ true
+piece_heard limit due bytes client =
+    elim (is_live client) as (λ l. is_live client ≡ l
+    → is_live (if l && not (is_empty bytes) then (if nat_le (length client.unread + due) limit then longer client bytes else cut_off client) else client) ≡ true
+    → l ≡ true) [
+      | true ↦ λ t h. refl
+      | false ↦ λ t h. sym t ∙ h
     ] refl
 
 -- Whom bytes touch does not depend on the limit: a client that hears gains them, or is cut
@@ -133,10 +155,12 @@ piece-home limit due bytes client =
       | false ↦ refl
     ]
 
-pub puts_first : (limit due : ℕ) (bytes : List ℕ) (old new : Client) → new ≡ with_piece limit due bytes old → PutsFirst limit due bytes old new
-puts_first limit due bytes old new is = subst (PutsFirst limit due bytes old) (sym is) (record {
+pub puts_first : (limit due : ℕ) (bytes : List ℕ) (old new : Client) → limit < 2 ^ 32 - 1 → new ≡ with_piece limit due bytes old
+    → PutsFirst limit due bytes old new
+puts_first limit due bytes old new small is = subst (PutsFirst limit due bytes old) (sym is) (record {
   home = piece-home limit due bytes old;
-  whole = λ rest long. first_rest limit old due bytes rest (sym long);
+  heard = piece_heard limit due bytes old;
+  whole = λ rest long. first_rest limit old due bytes rest small long;
   touched = λ rest.
       (λ i. touched_is limit bytes old i || touched_is limit rest (with_piece limit due bytes old) i)
       ∙ touched_first_live limit due old bytes rest
@@ -144,9 +168,9 @@ puts_first limit due bytes old new is = subst (PutsFirst limit due bytes old) (s
 })
 
 -- what is due is this piece alone
-pub puts_all : (limit : ℕ) (bytes : List ℕ) (old new : Client) → PutsFirst limit (length bytes) bytes old new → new ≡ with_batch limit bytes old
+pub puts_all : (limit : ℕ) (bytes : List ℕ) (old new : Client) → PutsFirst limit (counted (length bytes)) bytes old new → new ≡ with_batch limit bytes old
 puts_all limit bytes old new put =
-    sym (with_batch_nil limit new) ∙ put.whole [] (ap length (append-nil bytes)) ∙ ap (λ b. with_batch limit b old) (append-nil bytes)
+    sym (with_batch_nil limit new) ∙ put.whole [] (λ hears. ap (λ bs. counted (length bs)) (append-nil bytes)) ∙ ap (λ b. with_batch limit b old) (append-nil bytes)
 
 -- what one piece and then the rest wake, all at once wakes
 pub wake_first : (limit due home : ℕ) (bytes rest : List ℕ) (old new : Client) → PutsFirst limit due bytes old new
@@ -168,12 +192,12 @@ module _ (c : ℕ) (bytes : List ℕ) (rest : ByNumber (List ℕ)) where
     wakes_past limit home = any_apart _ _ c (λ e apart. ap (λ b. wakes_one limit home b e.1) (other_piece c bytes rest e.0 apart)) m (apart_of_none c m none)
 
   module _ (limit due : ℕ) (x w : Client) (put : PutsFirst limit due bytes x w) (m : ByNumber Client) (ordered : IsStrictlySortedBy nat_cmp (map (λ e. e.0) m))
-      (found : lookup (is_at (nat_cmp c)) m ≡ Some x) (is : due ≡ length (bytes_for ((c, bytes) ∷ rest) c)) where
+      (found : lookup (is_at (nat_cmp c)) m ≡ Some x) (is : is_live x ≡ true → due ≡ counted (length (bytes_for ((c, bytes) ∷ rest) c))) where
     parts : Split c x m
     parts = split c x m ordered found
 
-    is_due : length (bytes ++ bytes_for rest c) ≡ due
-    is_due = sym (is ∙ ap length (own_piece c bytes rest))
+    is_due : is_live x ≡ true → counted (length (bytes ++ bytes_for rest c)) ≡ due
+    is_due hears = sym (is hears ∙ ap (λ bs. counted (length bs)) (own_piece c bytes rest))
 
     pub deliver_step : deliver limit rest (set_value (is_at (nat_cmp c)) m w) ≡ deliver limit ((c, bytes) ∷ rest) m
     deliver_step =

@@ -1,5 +1,5 @@
 -- One round of the loops over the pieces.
-use Rattle.std.proofs.Common.{◌≡◌, ℕ, ◌+◌, ◌-◌, ◌<◌, ◌≤◌, List, [], ◌∷◌, ◌++◌, length, take, drop, refl, sym, ap, subst, ◌∙◌, Bool, true, false, map, slice_index_or, drop-cons, add-one, arith}
+use Rattle.std.proofs.Common.{◌≡◌, ◌⊎◌, inl, inr, ℕ, ◌+◌, ◌-◌, ◌^◌, ◌<◌, ◌≤◌, List, [], ◌∷◌, ◌++◌, length, take, drop, refl, sym, ap, subst, ◌∙◌, Bool, true, false, map, slice_index_or, drop-cons, add-one, arith}
 use Rattle.std.specs.Prelude.{Some, None, ◌&&◌, ◌||◌}
 use Rattle.std.specs.Ordering.{nat_cmp}
 use Rattle.std.specs.List.{AllByRecursion, list_any}
@@ -7,19 +7,20 @@ use Rattle.std.specs.List.Sorted.{IsStrictlySortedBy}
 use Rattle.std.specs.BTreeMap.{is_at}
 use Rattle.std.specs.Map.{lookup, set_value}
 use Rattle.std.proofs.Math.Seq.{take-suc}
-use Rattle.std.proofs.lemmas.List.{map-append, drop_all, take_all, length-take-le, length-drop}
+use Rattle.std.proofs.lemmas.List.{map-append, drop_all, take_all, take-append-drop, length-take-le, length-drop}
 use Rattle.std.proofs.lemmas.Map.Steps.{set_value_same}
+use Rattle.std.proofs.lemmas.Bool.{cases_lt}
 use Rattle.line_words.specs.Table.{ByNumber, same_number}
-use Rattle.lobby_model.specs.State.{Client}
+use Rattle.lobby_model.specs.State.{Client, is_live}
 use Rattle.lobby_model.proofs.Splits.{keys-values, lookup-values, lookup-values-none, set_value-values}
 use Rattle.lobby_post.specs.Mask.{has_home}
 use Rattle.lobby_post.specs.declared.delivery.Piece.{Piece}
 use Rattle.lobby_post.specs.declared.due.Due.{Due}
-use Rattle.lobby_post.specs.Dues.{due_and, due_but, shares_of, Covers}
+use Rattle.lobby_post.specs.Dues.{counted, due_and, due_but, count_for, nothing_due, shares_of, shared_pieces_in, Covers}
 use Rattle.lobby_post.specs.Pieces.{LiesIn, bytes_of, pieces_of}
-use Rattle.lobby_post.specs.Mail.{Held, plain, bytes_for, due_for, deliver, wakes_one, wakes_home, HaveLimit, PutsFirst, AreDue, IsReady, AreReady}
+use Rattle.lobby_post.specs.Mail.{Held, plain, bytes_for, due_for, deliver, wakes_one, wakes_home, AllSlots, AwaitsPiece, HaveLimit, PutsFirst, AreDue, IsDue, IsReady, AreReady, IsShort, WantsMemory}
 use Rattle.lobby_post.proofs.Crowds.{IsWritten, all_written, all_past}
-use Rattle.lobby_post.proofs.Dues.{shared_within, due_covers, due_grown, due_left, due_other, due_same}
+use Rattle.lobby_post.proofs.Dues.{bytes_front, copied_within, count_front, counted_less, due_covers, due_grown, due_left, due_other, due_same}
 use Rattle.lobby_post.proofs.Parcels.{deliver_step, deliver_past, deliver_nil, touched_alike, wakes_step, wakes_past, wakes_nil}
 
 abbrev pub blank : Piece
@@ -54,40 +55,133 @@ ready_next c x w es fs written found ready = all_written (λ q held. IsReady hel
 
 -- the piece begins a list of pieces: it is put or given up
 module _ (c : ℕ) (bytes : List ℕ) (rest : ByNumber (List ℕ)) where
+  few_or_none : (2 ^ 32 - 1 ≤ (due_for ((c, bytes) ∷ rest) c).bytes → length bytes ≡ 0)
+      → ((due_for ((c, bytes) ∷ rest) c).bytes < 2 ^ 32 - 1) ⊎ (length bytes ≡ 0)
+  few_or_none uncounted = elim (cases_lt (due_for ((c, bytes) ∷ rest) c).bytes (2 ^ 32 - 1)) [
+    | inl few ↦ inl few
+    | inr many ↦ inr (uncounted many)
+  ]
+
   pub less_due : (x w : Held) (es fs : ByNumber Held) → IsWritten c w es fs → Some x ≡ lookup (is_at (nat_cmp c)) es
-      → w.due ≡ due_but x.due (length bytes) → AreDue ((c, bytes) ∷ rest) es → AreDue rest fs
-  less_due x w es fs written found less =
-      all_written (λ q held. held.due ≡ due_for ((c, bytes) ∷ rest) q) (λ q held. held.due ≡ due_for rest q) c
-      (λ q held e h. h ∙ due_other c bytes rest q e) x w es fs written found
-      (λ h. less ∙ ap (λ d. due_but d (length bytes)) h ∙ due_left c bytes rest)
+      → (is_live w.client ≡ true → is_live x.client ≡ true)
+      → (is_live w.client ≡ true → w.due ≡ due_but x.due (length bytes))
+      → (is_live w.client ≡ true → 2 ^ 32 - 1 ≤ x.due.bytes → length bytes ≡ 0)
+      → AreDue ((c, bytes) ∷ rest) es → AreDue rest fs
+  less_due x w es fs written found heard less uncounted =
+      all_written (λ q held. IsDue (due_for ((c, bytes) ∷ rest) q) held) (λ q held. IsDue (due_for rest q) held) c
+      (λ q held e h hears. h hears ∙ due_other c bytes rest q e) x w es fs written found
+      (λ h hears.
+      let was : x.due ≡ due_for ((c, bytes) ∷ rest) c = h (heard hears) in
+      less hears ∙ ap (λ d. due_but d (length bytes)) was
+      ∙ due_left c bytes rest (few_or_none (λ many. uncounted hears (subst (λ (d : Due). 2 ^ 32 - 1 ≤ d.bytes) (sym was) many))))
 
   pub less_past : (es : ByNumber Held) → lookup (is_at (nat_cmp c)) es ≡ None → AreDue ((c, bytes) ∷ rest) es → AreDue rest es
   less_past es none =
-      all_past (λ q held. held.due ≡ due_for ((c, bytes) ∷ rest) q) (λ q held. held.due ≡ due_for rest q) c
-      (λ q held e h. h ∙ due_other c bytes rest q e) es none
+      all_past (λ q held. IsDue (due_for ((c, bytes) ∷ rest) q) held) (λ q held. IsDue (due_for rest q) held) c
+      (λ q held e h hears. h hears ∙ due_other c bytes rest q e) es none
 
   pub due_here : (x : Held) (es : ByNumber Held) → Some x ≡ lookup (is_at (nat_cmp c)) es → AreDue ((c, bytes) ∷ rest) es
-      → Covers x.due (length bytes)
-  due_here x es found due = subst (λ d. Covers d (length bytes)) (sym (due c x (sym found))) (due_covers c bytes rest)
+      → AwaitsPiece x (length bytes)
+  due_here x es found due = λ hears few.
+      let is = due c x (sym found) hears in
+      subst (λ d. Covers d (length bytes)) (sym is) (due_covers c bytes rest (subst (λ (d : Due). d.bytes < 2 ^ 32 - 1) is few))
 
--- no more bytes are shared than are due
-pub shared_few : (pieces : ByNumber (List ℕ)) (c : ℕ) (x : Held) (es : ByNumber Held) → Some x ≡ lookup (is_at (nat_cmp c)) es → AreDue pieces es
-    → x.due.shared_bytes ≤ x.due.bytes
-shared_few pieces c x es found due = subst (λ (d : Due). d.shared_bytes ≤ d.bytes) (sym (due c x (sym found))) (shared_within pieces c)
+-- what is due is forgotten, client by client: to each that hears nothing is due, or what was
+abbrev pub AreLeft : ByNumber (List ℕ) → ByNumber Held → Type 0
+AreLeft rest = AllSlots (λ q held. is_live held.client ≡ true → (held.due ≡ nothing_due) ⊎ (held.due ≡ due_for rest q))
+
+module _ (c : ℕ) (bytes : List ℕ) (rest : ByNumber (List ℕ)) where
+  left_other : (q : ℕ) (held : Held) → same_number q c ≡ false
+      → (is_live held.client ≡ true → (held.due ≡ nothing_due) ⊎ (held.due ≡ due_for ((c, bytes) ∷ rest) q))
+      → is_live held.client ≡ true → (held.due ≡ nothing_due) ⊎ (held.due ≡ due_for rest q)
+  left_other q held e h hears = elim (h hears) [
+    | inl none ↦ inl none
+    | inr due ↦ inr (due ∙ due_other c bytes rest q e)
+  ]
+
+  pub forgets : (x w : Held) (es fs : ByNumber Held) → IsWritten c w es fs → Some x ≡ lookup (is_at (nat_cmp c)) es → w.due ≡ nothing_due
+      → AreLeft ((c, bytes) ∷ rest) es → AreLeft rest fs
+  forgets x w es fs written found none =
+      all_written (λ q held. is_live held.client ≡ true → (held.due ≡ nothing_due) ⊎ (held.due ≡ due_for ((c, bytes) ∷ rest) q))
+      (λ q held. is_live held.client ≡ true → (held.due ≡ nothing_due) ⊎ (held.due ≡ due_for rest q)) c left_other
+      x w es fs written found (λ h hears. inl none)
+
+  pub forgets_past : (es : ByNumber Held) → lookup (is_at (nat_cmp c)) es ≡ None → AreLeft ((c, bytes) ∷ rest) es → AreLeft rest es
+  forgets_past es none =
+      all_past (λ q held. is_live held.client ≡ true → (held.due ≡ nothing_due) ⊎ (held.due ≡ due_for ((c, bytes) ∷ rest) q))
+      (λ q held. is_live held.client ≡ true → (held.due ≡ nothing_due) ⊎ (held.due ≡ due_for rest q)) c left_other es none
+
+pub all_left : (pieces : ByNumber (List ℕ)) (es : ByNumber Held) → AreDue pieces es → AreLeft pieces es
+all_left pieces es due = λ q held f hears. inr (due q held f hears)
+
+pub all_forgotten : (es : ByNumber Held) → AreLeft [] es → AreDue [] es
+all_forgotten es left = λ q held f hears. elim (left q held f hears) [
+  | inl none ↦ none
+  | inr due ↦ due
+]
+
+-- the slot of a client before room was made: the same client, with no more room than now
+pub record CameFrom (first : ByNumber Held) (q : ℕ) (held : Held) : Type 0 where
+  pub was : Held
+  pub found : lookup (is_at (nat_cmp q)) first ≡ Some was
+  pub client : held.client ≡ was.client
+  pub spare : was.spare ≤ held.spare
+  pub pieces : was.spare_pieces ≤ held.spare_pieces
+
+pub came_first : (es : ByNumber Held) → AllSlots (CameFrom es) es
+came_first es = λ q held f. record { was = held; found = f; client = refl; spare = omega arith; pieces = omega arith }
+
+pub came_next : (first : ByNumber Held) (c : ℕ) (x w : Held) (es fs : ByNumber Held) → IsWritten c w es fs → Some x ≡ lookup (is_at (nat_cmp c)) es
+    → w.client ≡ x.client → x.spare ≤ w.spare → x.spare_pieces ≤ w.spare_pieces → AllSlots (CameFrom first) es → AllSlots (CameFrom first) fs
+came_next first c x w es fs written found same spare pieces =
+    all_written (CameFrom first) (CameFrom first) c (λ q held e h. h) x w es fs written found
+    (λ h.
+    let a = h.spare in
+    let b = h.pieces in
+    record { was = h.was; found = h.found; client = same ∙ h.client; spare = omega (arith, a, spare); pieces = omega (arith, b, pieces) })
 
 -- one more piece
 module _ (c : ℕ) (bytes : List ℕ) (done : ByNumber (List ℕ)) where
-  pub grown_due : (x w : Held) (es fs : ByNumber Held) → IsWritten c w es fs → Some x ≡ lookup (is_at (nat_cmp c)) es
-      → w.due ≡ due_and x.due (length bytes) → AreDue done es → AreDue (done ++ (c, bytes) ∷ []) fs
-  grown_due x w es fs written found more =
-      all_written (λ q held. held.due ≡ due_for done q) (λ q held. held.due ≡ due_for (done ++ (c, bytes) ∷ []) q) c
-      (λ q held e h. h ∙ due_same c bytes done q e) x w es fs written found
-      (λ h. more ∙ ap (λ d. due_and d (length bytes)) h ∙ due_grown c bytes done)
+  pub grown_due : (x w : Held) (es fs : ByNumber Held) → IsWritten c w es fs → Some x ≡ lookup (is_at (nat_cmp c)) es → w.client ≡ x.client
+      → (is_live x.client ≡ true → w.due ≡ due_and x.due (length bytes)) → AreDue done es → AreDue (done ++ (c, bytes) ∷ []) fs
+  grown_due x w es fs written found same more =
+      all_written (λ q held. IsDue (due_for done q) held) (λ q held. IsDue (due_for (done ++ (c, bytes) ∷ []) q) held) c
+      (λ q held e h hears. h hears ∙ due_same c bytes done q e) x w es fs written found
+      (λ h hears.
+      let heard : is_live x.client ≡ true = ap is_live (sym same) ∙ hears in
+      more heard ∙ ap (λ d. due_and d (length bytes)) (h heard) ∙ due_grown c bytes done)
 
   pub grown_past : (es : ByNumber Held) → lookup (is_at (nat_cmp c)) es ≡ None → AreDue done es → AreDue (done ++ (c, bytes) ∷ []) es
   grown_past es none =
-      all_past (λ q held. held.due ≡ due_for done q) (λ q held. held.due ≡ due_for (done ++ (c, bytes) ∷ []) q) c
-      (λ q held e h. h ∙ due_same c bytes done q e) es none
+      all_past (λ q held. IsDue (due_for done q) held) (λ q held. IsDue (due_for (done ++ (c, bytes) ∷ []) q) held) c
+      (λ q held e h hears. h hears ∙ due_same c bytes done q e) es none
+
+  -- who has too little room for this piece and those before it has too little for all
+  pub wants : (back : ByNumber (List ℕ)) (x : Held) (first es : ByNumber Held) → Some x ≡ lookup (is_at (nat_cmp c)) es → AllSlots (CameFrom first) es
+      → AreDue done es → IsShort x (due_and x.due (length bytes)) → WantsMemory ((done ++ (c, bytes) ∷ []) ++ back) first
+  wants back x first es found came due short =
+      let origin = came c x (sym found) in
+      let front : ByNumber (List ℕ) = done ++ (c, bytes) ∷ [] in
+      let is : due_and x.due (length bytes) ≡ due_for front c = ap (λ d. due_and d (length bytes)) (due c x (sym found) short.0) ∙ due_grown c bytes done in
+      let now = subst (IsShort x) is short in
+      record {
+        client = c;
+        held = origin.was;
+        found = origin.found;
+        hears = ap is_live (sym origin.client) ∙ short.0;
+        short = elim now.1 [
+          | inl few ↦
+              let a = origin.spare in
+              let b = copied_within front c in
+              let d = bytes_front front back c in
+              inl (omega (arith, few, a, b, d))
+          | inr few ↦
+              let a = origin.pieces in
+              let b = counted_less (count_for shared_pieces_in front c) in
+              let d = count_front shared_pieces_in front back c in
+              inr (omega (arith, few, a, b, d))
+        ];
+      }
 
 module _ (text : List ℕ) (pieces : List Piece) (i : ℕ) (within : i < length pieces) where
   abbrev piece : Piece
@@ -110,10 +204,19 @@ module _ (text : List ℕ) (pieces : List Piece) (i : ℕ) (within : i < length 
       let taken : take (i + 1) pieces ≡ take i pieces ++ (piece ∷ []) = rw add-one (take-suc pieces i blank within) in
       ap (pieces_of text) taken ∙ map-append _ (take i pieces) _
 
-  pub due_more : (x w : Held) (es fs : ByNumber Held) → IsWritten piece.key.number w es fs → Some x ≡ lookup (is_at (nat_cmp piece.key.number)) es → w.due
-      ≡ due_and x.due (length bytes) → AreDue (pieces_of text (take i pieces)) es → AreDue (pieces_of text (take (i + 1) pieces)) fs
-  due_more x w es fs written found more due = subst (λ ps. AreDue ps fs) (sym pieces_done)
-      (grown_due piece.key.number bytes (pieces_of text (take i pieces)) x w es fs written found more due)
+  pub due_more : (x w : Held) (es fs : ByNumber Held) → IsWritten piece.key.number w es fs → Some x ≡ lookup (is_at (nat_cmp piece.key.number)) es
+      → w.client ≡ x.client → (is_live x.client ≡ true → w.due ≡ due_and x.due (length bytes)) → AreDue (pieces_of text (take i pieces)) es
+      → AreDue (pieces_of text (take (i + 1) pieces)) fs
+  due_more x w es fs written found same more due = subst (λ ps. AreDue ps fs) (sym pieces_done)
+      (grown_due piece.key.number bytes (pieces_of text (take i pieces)) x w es fs written found same more due)
+
+  pieces_whole : (pieces_of text (take i pieces) ++ (piece.key.number, bytes) ∷ []) ++ rest ≡ pieces_of text pieces
+  pieces_whole = ap (λ ps. ps ++ rest) (sym pieces_done) ∙ sym (map-append _ (take (i + 1) pieces) _) ∙ ap (pieces_of text) (take-append-drop (i + 1) pieces)
+
+  pub wants_here : (x : Held) (first es : ByNumber Held) → Some x ≡ lookup (is_at (nat_cmp piece.key.number)) es → AllSlots (CameFrom first) es
+      → AreDue (pieces_of text (take i pieces)) es → IsShort x (due_and x.due (length bytes)) → WantsMemory (pieces_of text pieces) first
+  wants_here x first es found came due short = subst (λ ps. WantsMemory ps first) pieces_whole
+      (wants piece.key.number bytes (pieces_of text (take i pieces)) rest x first es found came due short)
 
   pub inside_next : AllByRecursion (LiesIn text) (drop i pieces) → AllByRecursion (LiesIn text) (drop (i + 1) pieces)
   inside_next h = (subst (AllByRecursion (LiesIn text)) drop_is h).1
@@ -131,8 +234,8 @@ module _ (text : List ℕ) (pieces : List Piece) (i : ℕ) (within : i < length 
   module _ (x w : Held) (es fs : ByNumber Held) (is : fs ≡ set_value (is_at (nat_cmp piece.key.number)) es w)
       (found : Some x ≡ lookup (is_at (nat_cmp piece.key.number)) es) (made : PutsFirst x.limit x.due.bytes bytes x.client w.client)
       (ordered : IsStrictlySortedBy nat_cmp (map (λ e. e.0) es)) (due : AreDue (pieces_of text (drop i pieces)) es) where
-    due_now : x.due.bytes ≡ length (bytes_for ((piece.key.number, bytes) ∷ rest) piece.key.number)
-    due_now = ap (λ (d : Due). d.bytes) (subst (λ ps. AreDue ps es) pieces_is due piece.key.number x (sym found))
+    due_now : is_live x.client ≡ true → x.due.bytes ≡ counted (length (bytes_for ((piece.key.number, bytes) ∷ rest) piece.key.number))
+    due_now hears = ap (λ (d : Due). d.bytes) (subst (λ ps. AreDue ps es) pieces_is due piece.key.number x (sym found) hears)
 
     ordered_plain : IsStrictlySortedBy nat_cmp (map (λ e. e.0) (plain es))
     ordered_plain = subst (IsStrictlySortedBy nat_cmp) (sym (keys-values (λ held. held.client) es)) ordered

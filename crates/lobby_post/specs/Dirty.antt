@@ -1,5 +1,5 @@
 -- Which clients were touched and wait to be looked after.
-use Rattle.std.specs.Prelude.{◌≡◌, ℕ, ◌+◌, ◌-◌, ◌≤◌, ◌<◌, Bool, true, false, not, ◌&&◌, nat_le, if◌then◌else◌, List, [], ◌∷◌, ◌++◌, filter, length, slice_index_or, IfSome, IfNone, Option, Some, None}
+use Rattle.std.specs.Prelude.{◌≡◌, ◌⊎◌, ℕ, ◌+◌, ◌-◌, ◌*◌, ◌^◌, ◌≤◌, ◌<◌, min, Bool, true, false, not, ◌&&◌, nat_le, if◌then◌else◌, List, [], ◌∷◌, ◌++◌, filter, length, slice_index_or, IfSome, IfNone, Option, Some, None}
 use Rattle.std.specs.List.Sorted.{IsSorted, IsPermutation}
 use Rattle.std.specs.Option.{option_to_list}
 use Rattle.std.specs.Ordering.{nat_cmp}
@@ -9,16 +9,17 @@ use Rattle.line_words.specs.Table.{ByNumber, map_values, same_number}
 use Rattle.lobby_model.specs.Touched.{is_touched}
 use Rattle.lobby_post.specs.Mail.{Held, Line, bytes_for}
 
--- a line, and for how many more clients there is room in it
+-- a line, for how many more clients there is room in it, and how many that wait in it are known to be gone
 pub record Roomy : Type 0 where
   pub line : Line
   pub room : ℕ
+  pub gone : ℕ
 
 abbrev pub none_waits : Line
 none_waits = record { waiting = []; fresh = []; idle = 0 }
 
 abbrev pub no_list : Roomy
-no_list = record { line = none_waits; room = 0 }
+no_list = record { line = none_waits; room = 0; gone = 0 }
 
 -- the list of a worker, and its line
 abbrev pub list_of : List Roomy → ℕ → Roomy
@@ -60,6 +61,11 @@ pub record IsLeft (listed : Bool) (p : ℕ → Bool) (old new : Line) : Type 0 w
   pub waiting : IsTrimmed p old.waiting new.waiting
   pub fresh : new.fresh ≡ old.fresh
   pub idle : new.idle ≡ (if listed then old.idle else old.idle - 1)
+
+-- one more that waits is gone, or those that do not pass a test were swept out; at most half of those that wait are gone then
+pub record IsSwept (p : ℕ → Bool) (old new : Roomy) : Type 0 where
+  pub few : 2 * new.gone ≤ length new.line.waiting
+  pub swept : (new.gone ≡ min (old.gone + 1) (2 ^ 64 - 1)) ⊎ ((new.gone ≡ 0) × (new.line.waiting ≡ filter p old.line.waiting))
 
 -- the first that passes a test is taken out, and does not wait any more; there is none only where nobody is left
 pub record IsServed (p : ℕ → Bool) (result : Option ℕ) (old new : Line) : Type 0 where

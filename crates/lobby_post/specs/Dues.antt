@@ -1,5 +1,5 @@
 -- What is due to a client: short pieces are copied, long ones shared.
-use Rattle.std.specs.Prelude.{ℕ, ◌+◌, ◌-◌, ◌≤◌, Bool, nat_le, if◌then◌else◌, List, [], ◌∷◌, length, Option, Some, None}
+use Rattle.std.specs.Prelude.{ℕ, ◌+◌, ◌-◌, ◌^◌, ◌≤◌, min, Bool, nat_le, if◌then◌else◌, List, [], ◌∷◌, length, Option, Some, None}
 use Rattle.line_words.specs.Table.{ByNumber, same_number}
 use Rattle.lobby_post.specs.declared.due.Due.{Due}
 
@@ -17,9 +17,17 @@ shared_pieces_in n = if is_long n then 1 else 0
 abbrev pub nothing_due : Due
 nothing_due = record { bytes = 0; shared_bytes = 0; shared_pieces = 0 }
 
+-- a count, which stays at its most: that is past the limit of each outbox
+abbrev pub counted : ℕ → ℕ
+counted n = min n (2 ^ 32 - 1)
+
 -- with a piece of so many bytes more, and without it
 abbrev pub due_and : Due → ℕ → Due
-due_and due n = record { bytes = due.bytes + n; shared_bytes = due.shared_bytes + shared_bytes_in n; shared_pieces = due.shared_pieces + shared_pieces_in n }
+due_and due n = record {
+  bytes = counted (due.bytes + n);
+  shared_bytes = counted (due.shared_bytes + shared_bytes_in n);
+  shared_pieces = counted (due.shared_pieces + shared_pieces_in n);
+}
 
 abbrev pub due_but : Due → ℕ → Due
 due_but due n = record { bytes = due.bytes - n; shared_bytes = due.shared_bytes - shared_bytes_in n; shared_pieces = due.shared_pieces - shared_pieces_in n }

@@ -1,12 +1,12 @@
 -- What an event sends, piece by piece, and what its delivery makes of the clients.
-use Rattle.std.specs.Prelude.{◌≡◌, ℕ, ◌+◌, ◌≤◌, Bool, true, false, ◌&&◌, ◌||◌, if◌then◌else◌, List, [], ◌∷◌, ◌++◌, length, Some}
+use Rattle.std.specs.Prelude.{◌≡◌, ◌⊎◌, ℕ, ◌+◌, ◌-◌, ◌^◌, ◌≤◌, ◌<◌, Bool, true, false, ◌&&◌, ◌||◌, if◌then◌else◌, List, [], ◌∷◌, ◌++◌, length, Some}
 use Rattle.std.specs.List.{list_any}
 use Rattle.std.specs.Map.{lookup}
 use Rattle.std.specs.Ordering.{nat_cmp}
 use Rattle.std.specs.BTreeMap.{is_at}
 use Rattle.line_words.specs.Table.{ByNumber, map_values, without_number, same_number}
 use Rattle.lobby_post.specs.declared.due.Due.{Due}
-use Rattle.lobby_post.specs.Dues.{copied, shared_bytes_in, shared_pieces_in, count_for}
+use Rattle.lobby_post.specs.Dues.{copied, counted, shared_bytes_in, shared_pieces_in, count_for, Covers}
 use Rattle.lobby_post.specs.Mask.{has_home}
 use Rattle.lobby_model.specs.declared.event.Event.{Event}
 use Rattle.lobby_model.specs.declared.event.Phase.TheVariants.{Ended}
@@ -47,7 +47,11 @@ bytes_for (p ∷ pieces) d = if same_number d p.0 then p.1 ++ bytes_for pieces d
 
 -- what is due to client d of these pieces
 abbrev pub due_for : ByNumber (List ℕ) → ℕ → Due
-due_for pieces d = record { bytes = length (bytes_for pieces d); shared_bytes = count_for shared_bytes_in pieces d; shared_pieces = count_for shared_pieces_in pieces d }
+due_for pieces d = record {
+  bytes = counted (length (bytes_for pieces d));
+  shared_bytes = counted (count_for shared_bytes_in pieces d);
+  shared_pieces = counted (count_for shared_pieces_in pieces d);
+}
 
 -- the clients with all their pieces put, or cut
 abbrev pub deliver : ℕ → ByNumber (List ℕ) → ByNumber Client → ByNumber Client
@@ -69,7 +73,8 @@ IsWakes s e wakes = (home : ℕ) → has_home wakes home ≡ touches s e home
 -- batch, and was touched where that would have touched it
 pub record PutsFirst (limit due : ℕ) (piece : List ℕ) (old new : Client) : Type 0 where
   pub home : new.home ≡ old.home
-  pub whole : (rest : List ℕ) → length (piece ++ rest) ≡ due → with_batch limit rest new ≡ with_batch limit (piece ++ rest) old
+  pub heard : is_live new ≡ true → is_live old ≡ true
+  pub whole : (rest : List ℕ) → (is_live old ≡ true → counted (length (piece ++ rest)) ≡ due) → with_batch limit rest new ≡ with_batch limit (piece ++ rest) old
   pub touched : (rest : List ℕ) → (is_touched limit piece old || is_touched limit rest new) ≡ is_touched limit (piece ++ rest) old
 
 -- something holds of each slot
@@ -80,9 +85,17 @@ AllSlots P clients = (q : ℕ) (held : Held) → lookup (is_at (nat_cmp q)) clie
 abbrev pub HaveLimit : ℕ → ByNumber Held → Type 0
 HaveLimit limit = AllSlots (λ q held. held.limit ≡ limit)
 
+-- so much is still due to a client that hears. One that does not gets nothing, whatever was counted for it
+abbrev pub IsDue : Due → Held → Type 0
+IsDue due held = is_live held.client ≡ true → held.due ≡ due
+
 -- these pieces, and no others, are still due
 abbrev pub AreDue : ByNumber (List ℕ) → ByNumber Held → Type 0
-AreDue pieces = AllSlots (λ q held. held.due ≡ due_for pieces q)
+AreDue pieces = AllSlots (λ q held. IsDue (due_for pieces q) held)
+
+-- a piece of so many bytes is part of what is due, where all of that was counted
+abbrev pub AwaitsPiece : Held → ℕ → Type 0
+AwaitsPiece held n = is_live held.client ≡ true → held.due.bytes < 2 ^ 32 - 1 → Covers held.due n
 
 -- what is due can be put without memory
 abbrev pub IsReady : Held → Type 0
@@ -92,3 +105,15 @@ IsReady held = is_live held.client ≡ true → length held.client.unread + held
 -- the same of all clients
 abbrev pub AreReady : ByNumber Held → Type 0
 AreReady = AllSlots (λ q held. IsReady held)
+
+-- a client hears, and of so much that is due more is copied, or more is shared, than it has room for
+abbrev pub IsShort : Held → Due → Type 0
+IsShort held due = (is_live held.client ≡ true) × ((held.spare < copied due) ⊎ (held.spare_pieces < due.shared_pieces))
+
+-- Memory is wanted for these pieces: some client that hears gets more bytes of them, or more that are shared, than it has room for
+pub record WantsMemory (pieces : ByNumber (List ℕ)) (clients : ByNumber Held) : Type 0 where
+  pub client : ℕ
+  pub held : Held
+  pub found : lookup (is_at (nat_cmp client)) clients ≡ Some held
+  pub hears : is_live held.client ≡ true
+  pub short : (held.spare < length (bytes_for pieces client)) ⊎ (held.spare_pieces < count_for shared_pieces_in pieces client)

@@ -1,6 +1,6 @@
 //! The buffers that no outbox needs now.
 
-ghost use Rattle.std.specs.Prelude.{◌≡◌, ◌≤◌};
+ghost use Rattle.std.specs.Prelude.{◌≡◌, ◌≤◌, []};
 
 use outbox::Outbox;
 use std::alloc::{AllocError, Global};
@@ -53,7 +53,8 @@ impl BufferPool {
     /// Takes the buffer of an outbox in which nothing is unread, if it has one. One that is large, or for
     /// which there is no room, goes.
     pub fn take_back(&mut self, outbox: &mut Outbox)
-        ensures { outbox.new ≡ record outbox.old { spare = outbox.new.spare; spare_pieces = outbox.new.spare_pieces } }
+        ensures unchanged { outbox.new ≡ record outbox.old { spare = outbox.new.spare; spare_pieces = outbox.new.spare_pieces } }
+        ensures taken { outbox.old.unread ≡ [] → (outbox.new.spare ≡ 0) × (outbox.new.spare_pieces ≡ 0) }
     {
         if let Some(buffer) = outbox.hand_over()
             && buffer.capacity() > 0

@@ -1,13 +1,14 @@
 //! The pieces of an event, and their delivery.
 
-ghost use Rattle.std.specs.Prelude.{◌≡◌, ℕ, ◌-◌, ◌<◌, [], ◌&&◌, ◌||◌, not, length, if◌then◌else◌, OnOk, OnErr};
+ghost use Rattle.std.specs.Prelude.{◌≡◌, ℕ, ◌-◌, ◌^◌, ◌<◌, ◌≤◌, [], ◌&&◌, ◌||◌, not, true, length, if◌then◌else◌, OnOk, OnErr};
 ghost use Rattle.std.specs.List.{AllByRecursion};
 ghost use Rattle.lobby_post.specs.Mask.{has_home};
 ghost use Rattle.line_words.specs.Table.{same_number};
+ghost use Rattle.lobby_model.specs.State.{is_live};
 ghost use Rattle.lobby_model.specs.Touched.{is_touched};
-ghost use Rattle.lobby_post.specs.Mail.{AreDue, AreReady, HaveLimit, IsReady, PutsFirst, plain, deliver, wakes_home, wakes_one};
+ghost use Rattle.lobby_post.specs.Mail.{AreDue, AreReady, AwaitsPiece, HaveLimit, IsReady, PutsFirst, WantsMemory, plain, deliver, wakes_home, wakes_one};
 ghost use Rattle.lobby_post.specs.Dirty.{line_of, marks_of, pushed, stands, AreKnown, IsNewly};
-ghost use Rattle.lobby_post.specs.Dues.{due_but, share_of, shares_of, Covers};
+ghost use Rattle.lobby_post.specs.Dues.{due_but, share_of, shares_of};
 ghost use Rattle.lobby_post.specs.Pieces.{LiesIn, pieces_of};
 
 use crate::buffer_pool::BufferPool;
@@ -33,7 +34,7 @@ pub struct Piece {
 }
 
 /// Makes room for all pieces, and changes nothing that anyone sees: all of them are due then. Where
-/// memory is refused, nothing is due.
+/// memory is refused that a client which hears wants, nothing is due.
 pub fn reserve(
     clients: &mut Slots,
     pool: &mut BufferPool,
@@ -48,6 +49,7 @@ pub fn reserve(
     ensures ready { OnOk result (AreReady clients.new) }
     ensures same_marks { marks_of clients.new ≡ marks_of clients.old }
     ensures err { OnErr result (AreDue [] clients.new) }
+    ensures wanted { OnErr result (WantsMemory (pieces_of text.now pieces.now) clients.old) }
 {
     for i in 0..pieces.len() {
         let piece = pieces[i];
@@ -75,7 +77,7 @@ pub fn cancel(clients: &mut Slots, text: &[u8], pieces: &[Piece])
 {
     for piece in pieces {
         if let Some(slot) = clients.get_mut_at(piece.key) {
-            slot.cancel(piece.to - piece.from);
+            slot.cancel();
         }
     }
 }
@@ -91,11 +93,12 @@ fn put(
     share: Option<Bytes>,
 ) -> Wakes
     requires share { share ≡ share_of bytes.now }
-    requires due { Covers slot.old.due (length bytes.now) }
+    requires due { AwaitsPiece slot.old (length bytes.now) }
     requires ready { IsReady slot.old }
     ensures client { PutsFirst slot.old.limit slot.old.due.bytes bytes.now slot.old.client slot.new.client }
     ensures limit { slot.new.limit ≡ slot.old.limit }
-    ensures due { slot.new.due ≡ due_but slot.old.due (length bytes.now) }
+    ensures due { is_live slot.new.client ≡ true → slot.new.due ≡ due_but slot.old.due (length bytes.now) }
+    ensures uncounted { is_live slot.new.client ≡ true → 2 ^ 32 - 1 ≤ slot.old.due.bytes → length bytes.now ≡ 0 }
     ensures ready { IsReady slot.new }
     ensures home { (home : ℕ) → has_home result home ≡ wakes_one slot.old.limit home bytes.now slot.old.client }
     ensures listed { slot.new.listed ≡ (slot.old.listed || is_touched slot.old.limit bytes.now slot.old.client) }

@@ -1,6 +1,6 @@
 //! Which clients of a worker were touched and wait to be looked after.
 
-ghost use Rattle.std.specs.Prelude.{◌≡◌, ℕ, ◌<◌, [], true, false, OnOk};
+ghost use Rattle.std.specs.Prelude.{◌≡◌, ◌⊎◌, ℕ, ◌*◌, ◌<◌, ◌≤◌, [], true, false, filter, length, OnOk};
 
 use crate::slots::Slots;
 use std::alloc::{AllocError, Global};
@@ -19,7 +19,7 @@ pub struct DirtyList {
     fresh: Vec<u64>,
     /// How many clients of the worker do not stand here.
     idle: usize,
-    /// How many that stand here are gone. No contract speaks of it.
+    /// How many that stand here are known to be gone.
     gone: usize,
 }
 
@@ -33,6 +33,7 @@ impl Model for DirtyList {
     ghost view = { λ l. record {
       line = record { waiting = l.waiting.items; fresh = l.fresh.items; idle = l.idle };
       room = min (deque_capacity l.waiting) (vec_capacity l.fresh) - (l.idle + deque_len l.waiting + vec_len l.fresh);
+      gone = l.gone;
     } };
 
     ghost invariant = { λ l. (l.idle + deque_len l.waiting + vec_len l.fresh ≤ deque_capacity l.waiting)
@@ -40,7 +41,7 @@ impl Model for DirtyList {
 }
 
 impl DirtyList {
-    ghost use Rattle.lobby_post.specs.Dirty.{added, marks_of, none_waits, pushed, stands, IsLeft, IsServed, IsSettled};
+    ghost use Rattle.lobby_post.specs.Dirty.{added, marks_of, none_waits, pushed, stands, IsLeft, IsServed, IsSettled, IsSwept};
 
     /// There is no client.
     pub fn new(alloc: Global) -> DirtyList
@@ -110,7 +111,8 @@ impl DirtyList {
     /// A client is gone that stood here, or did not. It leaves its number behind, until they are over
     /// half of the list: so each that is moved then is paid for by one that went.
     pub fn leave(&mut self, home: u8, listed: bool, slots: &Slots)
-        ensures { IsLeft listed (stands (marks_of slots.now) home) self.old.line self.new.line }
+        ensures left { IsLeft listed (stands (marks_of slots.now) home) self.old.line self.new.line }
+        ensures swept { listed ≡ true → IsSwept (stands (marks_of slots.now) home) self.old self.new }
     {
         if !listed {
             self.idle = self.idle.saturating_sub(1);
@@ -122,7 +124,9 @@ impl DirtyList {
 
     /// Leaves out the numbers of those that are gone, where they are over half of the list.
     fn sweep(&mut self, home: u8, slots: &Slots)
-        ensures { IsLeft true (stands (marks_of slots.now) home) self.old.line self.new.line }
+        ensures left { IsLeft true (stands (marks_of slots.now) home) self.old.line self.new.line }
+        ensures few { 2 * self.new.gone ≤ length self.new.line.waiting }
+        ensures swept { (self.new.gone ≡ self.old.gone) ⊎ ((self.new.gone ≡ 0) × (self.new.line.waiting ≡ filter (stands (marks_of slots.now) home) self.old.line.waiting)) }
     {
         if self.gone <= self.waiting.len() / 2 {
             return;
@@ -151,7 +155,7 @@ impl Model for DirtyLists {
 impl DirtyLists {
     ghost use Rattle.std.specs.Prelude.{if◌then◌else◌};
     ghost use Rattle.line_words.specs.Table.{same_number};
-    ghost use Rattle.lobby_post.specs.Dirty.{added, line_of, list_of, marks_of, pushed, stands, IsLeft, IsServed, IsSettled};
+    ghost use Rattle.lobby_post.specs.Dirty.{added, line_of, list_of, marks_of, pushed, stands, IsLeft, IsServed, IsSettled, IsSwept};
 
     /// There is no client. It takes no memory yet.
     pub fn new(alloc: Global) -> DirtyLists
@@ -213,6 +217,7 @@ impl DirtyLists {
     /// A client of a worker is gone, which stood in its list or did not.
     pub fn leave(&mut self, home: u8, listed: bool, slots: &Slots)
         ensures own { IsLeft listed (stands (marks_of slots.now) home) (line_of self.old home) (line_of self.new home) }
+        ensures swept { listed ≡ true → IsSwept (stands (marks_of slots.now) home) (list_of self.old home) (list_of self.new home) }
         ensures others { (h : ℕ) → same_number home h ≡ false → line_of self.new h ≡ line_of self.old h }
     {
         if let Some(list) = self.lists.get_mut(usize::from(home)) {

@@ -1,12 +1,13 @@
 //! What is still to be put to a client of the event at hand.
 
-ghost use Rattle.std.specs.Prelude.{◌≡◌, ◌≤◌, IfSome};
+ghost use Rattle.std.specs.Prelude.{◌≡◌, ◌≤◌};
 ghost use Rattle.lobby_post.specs.Dues.{nothing_due, due_and, due_but, copied, Covers};
 
 use crate::shares::SHARED_FROM;
 
 /// What is due to a client. It is small, since each client has one and a line to many changes it twice
-/// in each of theirs: of a short piece, its first word.
+/// in each of theirs: of a short piece, its first word. Its counts stay at their most, which is past the limit
+/// of each outbox: to whom so much is due is cut.
 #[derive(Clone, Copy)]
 pub struct Due {
     /// How many bytes, copied and shared ones.
@@ -32,28 +33,26 @@ impl Due {
     /// How many bytes are copied.
     #[inline(always)]
     pub fn copied(self) -> usize
-        requires { self.shared_bytes ≤ self.bytes }
         ensures { result ≡ copied self }
     {
-        (self.bytes - self.shared_bytes) as usize
+        self.bytes.saturating_sub(self.shared_bytes) as usize
     }
 
-    /// The same with a piece of so many bytes. `None` where they are more than can be counted: 2^32
-    /// bytes.
+    /// The same with a piece of so many bytes.
     #[inline(always)]
-    pub fn and(self, more: usize) -> Option<Due>
-        ensures { IfSome result (λ due. due ≡ due_and self more) }
+    pub fn and(self, more: usize) -> Due
+        ensures { result ≡ due_and self more }
     {
-        let counted = u32::try_from(more).ok()?;
-        let bytes = self.bytes.checked_add(counted)?;
+        let counted = more.min(u32::MAX as usize) as u32;
+        let bytes = self.bytes.saturating_add(counted);
         if more < SHARED_FROM {
-            return Some(Due { bytes, ..self });
+            return Due { bytes, ..self };
         }
-        Some(Due {
+        Due {
             bytes,
-            shared_bytes: self.shared_bytes.checked_add(counted)?,
-            shared_pieces: self.shared_pieces.checked_add(1)?,
-        })
+            shared_bytes: self.shared_bytes.saturating_add(counted),
+            shared_pieces: self.shared_pieces.saturating_add(1),
+        }
     }
 
     /// The same without a piece of so many bytes, which is part of it.

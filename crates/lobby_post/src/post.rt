@@ -4,7 +4,7 @@ ghost use Rattle.std.specs.Prelude.{◌≡◌, ℕ, ◌<◌, ◌≤◌, [], ◌�
 ghost use Rattle.reply_kinds.specs.Replies.{printed_line};
 ghost use Rattle.reply_kinds.specs.Lent.{reply_of};
 ghost use Rattle.lobby_post.specs.Mask.{has_home};
-ghost use Rattle.lobby_post.specs.Mail.{AreDue, AreReady, HaveLimit, plain, deliver, wakes_home};
+ghost use Rattle.lobby_post.specs.Mail.{AreDue, AreReady, HaveLimit, WantsMemory, plain, deliver, wakes_home};
 ghost use Rattle.lobby_post.specs.Dirty.{line_of, marks_of, stands, AreKnown, IsNewly};
 ghost use Rattle.lobby_post.specs.Posted.{begun, blank, telling, with_own, with_others, copy_to, addressed, Told};
 ghost use Rattle.lobby_model.specs.State.{State};
@@ -215,6 +215,7 @@ impl Post {
         ensures due { OnOk result (AreDue self.now.sent slots.new) }
         ensures ready { OnOk result (AreReady slots.new) }
         ensures err { OnErr result (AreDue [] slots.new) }
+        ensures wanted { OnErr result (WantsMemory self.now.sent slots.old) }
         ensures same_marks { marks_of slots.new ≡ marks_of slots.old }
     {
         delivery::reserve(slots, pool, &self.text, &self.pieces)

@@ -5,9 +5,9 @@ ghost use Rattle.lobby_model.specs.declared.event.Phase.TheVariants.{Ended, In};
 ghost use Rattle.lobby_model.specs.State.{is_live, in_phase, name_in};
 ghost use Rattle.lobby_model.specs.Sessions.{greeted, drained};
 ghost use Rattle.lobby_model.specs.Next.{with_batch};
-ghost use Rattle.lobby_post.specs.Dues.{nothing_due, due_and, due_but, share_of, Covers};
+ghost use Rattle.lobby_post.specs.Dues.{nothing_due, due_and, due_but, share_of};
 ghost use Rattle.lobby_model.specs.Touched.{is_touched};
-ghost use Rattle.lobby_post.specs.Mail.{IsReady, PutsFirst};
+ghost use Rattle.lobby_post.specs.Mail.{AwaitsPiece, IsReady, IsShort, PutsFirst};
 ghost use Rattle.lobby_post.specs.Unread.{is_over};
 
 use crate::buffer_pool::BufferPool;
@@ -37,20 +37,22 @@ pub struct Slot {
 }
 
 impl Model for Slot {
-    ghost use Rattle.std.specs.Prelude.{◌<◌};
+    ghost use Rattle.std.specs.Prelude.{◌≡◌, ◌-◌, ◌^◌, ◌<◌, true, []};
     ghost use Rattle.lobby_post.specs.Mail.{Held};
 
     ghost Value = { Held };
 
     ghost view = { λ s. record { client = record { ip = s.ip; home = s.home; phase = s.phase; cut = s.outbox.cut; unread = s.outbox.unread }; limit = s.outbox.limit; spare = s.outbox.spare; spare_pieces = s.outbox.spare_pieces; due = s.due; listed = s.listed } };
 
-    ghost invariant = { λ s. s.home < 64 };
+    ghost invariant = { λ s. (s.home < 64) × (s.outbox.limit < 2 ^ 32 - 1)
+        × (s.outbox.cut ≡ true → (s.outbox.unread ≡ []) × (s.outbox.spare ≡ 0) × (s.outbox.spare_pieces ≡ 0)) };
 }
 
 impl Slot {
     /// A client that has just connected, whose outbox holds at most `limit` bytes.
     pub fn new(alloc: Global, limit: usize, ip: [u8; 4], home: u8) -> Slot
-        requires { home < 64 }
+        requires home { home < 64 }
+        requires limit { limit < 2 ^ 32 - 1 }
         ensures client { result.client ≡ greeted ip home }
         ensures limit { result.limit ≡ limit }
         ensures due { result.due ≡ nothing_due }
@@ -75,7 +77,8 @@ impl Slot {
         greeting: &[u8],
         pool: &mut BufferPool,
     ) -> Result<Slot, AllocError>
-        requires { home < 64 }
+        requires home { home < 64 }
+        requires limit { limit < 2 ^ 32 - 1 }
         ensures client { IfOk result (λ slot. slot.client ≡ with_batch limit greeting.now (greeted ip home)) }
         ensures limit { IfOk result (λ slot. slot.limit ≡ limit) }
         ensures due { IfOk result (λ slot. slot.due ≡ nothing_due) }
@@ -85,6 +88,8 @@ impl Slot {
         slot.reserve(greeting.len(), pool)?;
         let share = share(alloc, greeting)?;
         let _ = slot.put(greeting, share);
+        // To one who is cut at once nothing is due any more either.
+        slot.cancel();
         Ok(slot)
     }
 
@@ -99,21 +104,25 @@ impl Slot {
     }
 
     /// A piece of so many bytes more is due, and there is room for all that is due, where it will be
-    /// put. What is copied gets a buffer of the pool, where the outbox has none of its own.
+    /// put. What is copied gets a buffer of the pool, where the outbox has none of its own. Fails only
+    /// where memory that it wants is refused: one who does not hear wants none.
     #[inline(always)]
     pub fn reserve(&mut self, more: usize, pool: &mut BufferPool) -> Result<(), AllocError>
-        requires { self.old.due.shared_bytes ≤ self.old.due.bytes }
         ensures client { self.new.client ≡ self.old.client }
         ensures limit { self.new.limit ≡ self.old.limit }
         ensures listed { self.new.listed ≡ self.old.listed }
-        ensures due { OnOk result (self.new.due ≡ due_and self.old.due more) }
+        ensures spare_kept { self.old.spare ≤ self.new.spare }
+        ensures pieces_kept { self.old.spare_pieces ≤ self.new.spare_pieces }
+        ensures due { OnOk result (is_live self.old.client ≡ true → self.new.due ≡ due_and self.old.due more) }
         ensures ready { OnOk result (IsReady self.new) }
         ensures err { OnErr result (self.new.due ≡ self.old.due) }
+        ensures wanted { OnErr result (IsShort self.old (due_and self.old.due more)) }
     {
-        let Some(due) = self.due.and(more) else {
-            return Err(AllocError);
-        };
-        if self.is_live() && self.outbox.room_for(due.bytes as usize) {
+        if !self.is_live() {
+            return Ok(());
+        }
+        let due = self.due.and(more);
+        if self.outbox.room_for(due.bytes as usize) {
             let copied = due.copied();
             if !self.outbox.has_buffer() {
                 pool.lend(&mut self.outbox, copied);
@@ -125,15 +134,14 @@ impl Slot {
         Ok(())
     }
 
-    /// A piece of so many bytes is no longer due.
-    pub fn cancel(&mut self, less: usize)
-        requires { Covers self.old.due less }
+    /// Nothing is due any more.
+    pub fn cancel(&mut self)
         ensures client { self.new.client ≡ self.old.client }
         ensures limit { self.new.limit ≡ self.old.limit }
         ensures listed { self.new.listed ≡ self.old.listed }
-        ensures due { self.new.due ≡ due_but self.old.due less }
+        ensures due { self.new.due ≡ nothing_due }
     {
-        self.due = self.due.but(less);
+        self.due = Due::nothing();
     }
 
     /// Puts the next piece of what is due, or its share where it has one, or cuts the client where not
@@ -142,12 +150,13 @@ impl Slot {
     #[inline(always)]
     pub fn put(&mut self, piece: &[u8], share: Option<Bytes>) -> bool
         requires share { share ≡ share_of piece.now }
-        requires due { Covers self.old.due (length piece.now) }
+        requires due { AwaitsPiece self.old (length piece.now) }
         requires ready { IsReady self.old }
         ensures client { PutsFirst self.old.limit self.old.due.bytes piece.now self.old.client self.new.client }
         ensures limit { self.new.limit ≡ self.old.limit }
         ensures listed { self.new.listed ≡ self.old.listed }
-        ensures due { self.new.due ≡ due_but self.old.due (length piece.now) }
+        ensures due { is_live self.new.client ≡ true → self.new.due ≡ due_but self.old.due (length piece.now) }
+        ensures uncounted { is_live self.new.client ≡ true → 2 ^ 32 - 1 ≤ self.old.due.bytes → length piece.now ≡ 0 }
         ensures ready { IsReady self.new }
         ensures touched { result ≡ is_touched self.old.limit piece.now self.old.client }
     {
@@ -161,21 +170,22 @@ impl Slot {
     #[inline(always)]
     fn put_short(&mut self, piece: &[u8]) -> bool
         requires short { length piece.now < 2048 }
-        requires due { Covers self.old.due (length piece.now) }
+        requires due { AwaitsPiece self.old (length piece.now) }
         requires ready { IsReady self.old }
         ensures client { PutsFirst self.old.limit self.old.due.bytes piece.now self.old.client self.new.client }
         ensures limit { self.new.limit ≡ self.old.limit }
         ensures listed { self.new.listed ≡ self.old.listed }
-        ensures due { self.new.due ≡ due_but self.old.due (length piece.now) }
+        ensures due { is_live self.new.client ≡ true → self.new.due ≡ due_but self.old.due (length piece.now) }
+        ensures uncounted { is_live self.new.client ≡ true → 2 ^ 32 - 1 ≤ self.old.due.bytes → length piece.now ≡ 0 }
         ensures ready { IsReady self.new }
         ensures touched { result ≡ is_touched self.old.limit piece.now self.old.client }
     {
-        let due = self.due.bytes as usize;
-        self.due.bytes -= piece.len() as u32;
         if !self.is_live() || piece.is_empty() {
             return false;
         }
+        let due = self.due.bytes as usize;
         if self.outbox.room_for(due) {
+            self.due.bytes -= piece.len() as u32;
             self.outbox.put(piece);
         } else {
             self.cut();
@@ -188,21 +198,21 @@ impl Slot {
     #[inline(never)]
     fn put_long(&mut self, share: Bytes) -> bool
         requires long { 2048 ≤ length share }
-        requires due { Covers self.old.due (length share) }
+        requires due { AwaitsPiece self.old (length share) }
         requires ready { IsReady self.old }
         ensures client { PutsFirst self.old.limit self.old.due.bytes share self.old.client self.new.client }
         ensures limit { self.new.limit ≡ self.old.limit }
         ensures listed { self.new.listed ≡ self.old.listed }
-        ensures due { self.new.due ≡ due_but self.old.due (length share) }
+        ensures due { is_live self.new.client ≡ true → self.new.due ≡ due_but self.old.due (length share) }
+        ensures uncounted { is_live self.new.client ≡ true → 2 ^ 32 - 1 ≤ self.old.due.bytes → length share ≡ 0 }
         ensures ready { IsReady self.new }
         ensures touched { result ≡ is_touched self.old.limit share self.old.client }
     {
-        let before = self.due;
-        self.due = before.but(share.len());
         if !self.is_live() {
             return false;
         }
-        if self.outbox.room_for(before.bytes as usize) {
+        if self.outbox.room_for(self.due.bytes as usize) {
+            self.due = self.due.but(share.len());
             self.outbox.put_shared(share);
         } else {
             self.cut();
@@ -210,17 +220,17 @@ impl Slot {
         true
     }
 
-    /// Cuts the client, and gives the memory back in which it had something unread.
+    /// Cuts the client, and gives back all memory that its outbox has.
     #[cold]
     #[inline(never)]
     fn cut(&mut self)
         ensures client { self.new.client ≡ record self.old.client { cut = true; unread = [] } }
         ensures limit { self.new.limit ≡ self.old.limit }
         ensures listed { self.new.listed ≡ self.old.listed }
-        ensures due { self.new.due ≡ self.old.due }
+        ensures given_back { (self.new.spare ≡ 0) × (self.new.spare_pieces ≡ 0) }
     {
         self.outbox.cut();
-        self.outbox.release(0);
+        drop(self.outbox.hand_over());
     }
 
     /// The worker that serves it, 0 to 63.
@@ -315,6 +325,7 @@ impl Slot {
         ensures limit { self.new.limit ≡ self.old.limit }
         ensures listed { self.new.listed ≡ self.old.listed }
         ensures due { self.new.due ≡ self.old.due }
+        ensures given_back { self.new.client.unread ≡ [] → (self.new.spare ≡ 0) × (self.new.spare_pieces ≡ 0) }
     {
         let count = self.outbox.take(into);
         pool.take_back(&mut self.outbox);

@@ -1,35 +1,22 @@
 use Rattle.std.proofs.Common.{◌∙◌, ap, sym, refl, subst}
-use Rattle.lobby_post.specs.Dues.{due_but, Covers}
-use Rattle.lobby_post.specs.Mail.{AreDue}
 use Rattle.line_words.proofs.Ties.{none_of}
 use Rattle.lobby_post.proofs.Crowds.{written_through}
-use Rattle.lobby_post.proofs.Rounds.{inside_next, inside_here, bytes_long, pieces_is, less_due, less_past, due_here, limits_next, plain_same, none_left}
+use Rattle.lobby_post.proofs.Rounds.{AreLeft, all_forgotten, all_left, forgets, forgets_past, inside_next, pieces_is, limits_next, plain_same, none_left}
 use Rattle.lobby_post.proofs.Listed.{marks_same}
 use Rattle.lobby_post.proofs.delivery.cancel.Goals as goal
 use Rattle.lobby_post.proofs.delivery.cancel.Goals.{in-Some, in_default}
 
-pub cancel-requires : goal.cancel-requires
-cancel-requires c =
-    let first = subst (λ ps. AreDue ps c.loop-piece.clients)
-    (pieces_is c.args.text.now c.args.pieces.now c.loop-piece.piece-index c.loop-piece-test.true) c.loop-piece.invariant.due in
-    subst (λ n. Covers c.in-Some.slot.now.due n) (bytes_long c.args.text.now c.args.pieces.now c.loop-piece.piece-index c.loop-piece-test.true
-    (inside_here c.args.text.now c.args.pieces.now c.loop-piece.piece-index c.loop-piece-test.true c.loop-piece.invariant.inside))
-    (due_here _ _ _ c.in-Some.slot.now c.loop-piece.clients c.in-Some.ensures.value first)
-
 pub loop-piece-preserved : goal.loop-piece-preserved
 loop-piece-preserved c =
     let inv = c.loop-piece.invariant in
-    let first = subst (λ ps. AreDue ps c.loop-piece.clients)
+    let first = subst (λ ps. AreLeft ps c.loop-piece.clients)
     (pieces_is c.args.text.now c.args.pieces.now c.loop-piece.piece-index c.loop-piece-test.true) inv.due in
-    let long = bytes_long c.args.text.now c.args.pieces.now c.loop-piece.piece-index c.loop-piece-test.true
-    (inside_here c.args.text.now c.args.pieces.now c.loop-piece.piece-index c.loop-piece-test.true inv.inside) in
     elim c.match-get_mut_at.branch [
       | in-Some w ↦
           let written = written_through _ w.in-Some.slot.now w.cancel.new.self c.loop-piece.clients w.in-Some.ensures.value in
           rw w.clients-is (record {
             inside = inside_next c.args.text.now c.args.pieces.now c.loop-piece.piece-index c.loop-piece-test.true inv.inside;
-            due = less_due _ _ _ w.in-Some.slot.now w.cancel.new.self c.loop-piece.clients _ written w.in-Some.ensures.value
-                (w.cancel.ensures.due ∙ ap (λ n. due_but w.in-Some.slot.now.due n) (sym long)) first;
+            due = forgets _ _ _ w.in-Some.slot.now w.cancel.new.self c.loop-piece.clients _ written w.in-Some.ensures.value w.cancel.ensures.due first;
             limits = λ limit all. limits_next limit _ w.in-Some.slot.now w.cancel.new.self c.loop-piece.clients _ written w.in-Some.ensures.value w.cancel.ensures.limit (inv.limits limit all);
             clients = plain_same _ w.in-Some.slot.now w.cancel.new.self c.loop-piece.clients _ refl w.in-Some.ensures.value w.cancel.ensures.client ∙ inv.clients;
             marks = marks_same _ w.in-Some.slot.now w.cancel.new.self c.loop-piece.clients _ refl w.in-Some.ensures.value w.cancel.ensures.client w.cancel.ensures.listed ∙ inv.marks;
@@ -38,7 +25,7 @@ loop-piece-preserved c =
           let none = sym (none_of c.get_mut_at.result w.in_default.not-Some ∙ c.get_mut_at.ensures.value) in
           rw w.clients-is (record {
             inside = inside_next c.args.text.now c.args.pieces.now c.loop-piece.piece-index c.loop-piece-test.true inv.inside;
-            due = less_past _ _ _ c.loop-piece.clients none first;
+            due = forgets_past _ _ _ c.loop-piece.clients none first;
             limits = inv.limits;
             clients = inv.clients;
             marks = inv.marks;
@@ -46,5 +33,14 @@ loop-piece-preserved c =
     ]
 
 pub returns-clause-due : goal.returns-clause-due
-returns-clause-due c = subst (λ ps. AreDue ps c.loop-piece.clients)
-    (none_left c.args.text.now c.args.pieces.now c.loop-piece.piece-index c.loop-piece-test.false) c.loop-piece.invariant.due
+returns-clause-due c = all_forgotten _ (subst (λ ps. AreLeft ps c.loop-piece.clients)
+    (none_left c.args.text.now c.args.pieces.now c.loop-piece.piece-index c.loop-piece-test.false) c.loop-piece.invariant.due)
+
+pub loop-piece-init : goal.loop-piece-init
+loop-piece-init c = record {
+  inside = c.requires.inside;
+  due = all_left _ _ c.requires.due;
+  limits = λ limit all. all;
+  clients = refl;
+  marks = refl;
+}

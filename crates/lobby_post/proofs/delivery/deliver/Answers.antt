@@ -39,7 +39,7 @@ loop-piece-preserved c =
           let written = written_through _ w.in-Some.slot.now w.put.new.slot c.loop-piece.clients w.in-Some.ensures.value in
           rw (w.clients-is, w.dirty-is, w.wakes-is, w.shares-is) (record {
             inside = inside_next c.args.text.now c.args.pieces.now c.loop-piece.piece-index c.loop-piece-test.true inv.inside;
-            due = less_due _ _ _ w.in-Some.slot.now w.put.new.slot c.loop-piece.clients _ written w.in-Some.ensures.value w.put.ensures.due first;
+            due = less_due _ _ _ w.in-Some.slot.now w.put.new.slot c.loop-piece.clients _ written w.in-Some.ensures.value w.put.ensures.client.heard w.put.ensures.due w.put.ensures.uncounted first;
             ready = ready_next _ w.in-Some.slot.now w.put.new.slot c.loop-piece.clients _ written w.in-Some.ensures.value w.put.ensures.ready inv.ready;
             shares = (w.next_share-share.ensures _ shared).1;
             limits = λ limit all. limits_next limit _ w.in-Some.slot.now w.put.new.slot c.loop-piece.clients _ written w.in-Some.ensures.value w.put.ensures.limit (inv.limits limit all);

@@ -7,4 +7,4 @@ pub cancel-requires : goal.cancel-requires
 cancel-requires c = record { due = subst (λ (m : Crowd). AreDue c.args.post.now.sent m.slots) (sym c.self.view_is) c.requires.due }
 
 pub invariant_of-self : goal.invariant_of-self
-invariant_of-self c = c.cancel.ensures.limits c.self.inside.limit c.self.invariant
+invariant_of-self c = (c.cancel.ensures.limits c.self.inside.limit c.self.invariant.0, c.self.invariant.1)

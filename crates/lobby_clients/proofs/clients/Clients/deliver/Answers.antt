@@ -14,11 +14,11 @@ deliver-requires-clause-ready c = subst (λ (m : Crowd). AreReady m.slots) (sym 
 
 pub returns-clause-clients : goal.returns-clause-clients
 returns-clause-clients c =
-    c.deliver.ensures.clients c.self.inside.limit c.self.invariant
+    c.deliver.ensures.clients c.self.inside.limit c.self.invariant.0
     ∙ ap (λ (m : Crowd). deliver m.limit c.args.post.now.sent (plain m.slots)) c.self.view_is
 
 pub invariant_of-self : goal.invariant_of-self
-invariant_of-self c = c.deliver.ensures.limits c.self.inside.limit c.self.invariant
+invariant_of-self c = (c.deliver.ensures.limits c.self.inside.limit c.self.invariant.0, c.self.invariant.1)
 
 pub returns-clause-known : goal.returns-clause-known
 returns-clause-known c = λ n known.

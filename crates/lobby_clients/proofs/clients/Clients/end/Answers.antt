@@ -1,11 +1,17 @@
-use Rattle.std.proofs.Common.{◌∙◌, ap, refl}
+use Rattle.std.proofs.Common.{◌≡◌, ◌∙◌, ◌-◌, ◌^◌, ◌<◌, Bool, true, false, not, true≢false, ap, sym, subst, refl}
+use Rattle.std.specs.Prelude.{◌&&◌}
 use Rattle.lobby_model.specs.declared.event.Phase.TheVariants.{Ended}
-use Rattle.lobby_model.specs.State.{in_phase}
+use Rattle.lobby_model.specs.State.{in_phase, is_live}
 use Rattle.line_words.proofs.Ties.{none_of}
 use Rattle.lobby_clients.specs.Crowd.{lines_of}
 use Rattle.lobby_clients.proofs.Changed.{IsChanged, absent, written}
 use Rattle.lobby_clients.proofs.clients.Clients.end.Goals as goal
 use Rattle.lobby_clients.proofs.clients.Clients.end.Goals.{in-Some, in_default}
+
+-- who has ended does not hear
+ended : (b : Bool) → (b && false) ≡ false
+ended true = refl
+ended false = refl
 
 changed : (c : goal.Joined-get_mut) → IsChanged c.args.client (in_phase Ended) c.self.inside c.match-get_mut.self-inside
 changed c =
@@ -13,6 +19,7 @@ changed c =
       | in-Some w ↦ rw w.self-inside-is
           (written c.args.client (in_phase Ended) c.self.inside (λ client. refl) w.in-Some.slot.now w.end.new.self
           c.get_mut.ensures.ordered w.in-Some.ensures.value w.end.ensures.client w.end.ensures.limit w.end.ensures.listed
+          (λ hears. absurd (true≢false (sym hears ∙ ap is_live w.end.ensures.client ∙ ended (not w.in-Some.slot.now.client.cut))))
           w.end.ensures.due (λ was. w.end.ensures.ready))
       | in_default w ↦ rw w.self-inside-is
           (absent c.args.client (in_phase Ended) c.self.inside
@@ -35,4 +42,4 @@ pub returns-clause-lines : goal.returns-clause-lines
 returns-clause-lines c = rw (← c.self.view_is) (ap lines_of (changed c).dirty)
 
 pub invariant_of-self : goal.invariant_of-self
-invariant_of-self c = (changed c).limits c.self.invariant
+invariant_of-self c = ((changed c).limits c.self.invariant.0, subst (λ n. n < 2 ^ 32 - 1) (sym (changed c).limit) c.self.invariant.1)

@@ -7,7 +7,7 @@ use Rattle.std.specs.Map.{lookup}
 use Rattle.line_words.specs.Table.{ByNumber, put_number, same_number}
 use Rattle.lobby_model.specs.State.{Client}
 use Rattle.lobby_model.specs.Sessions.{greeted}
-use Rattle.lobby_post.specs.Mail.{Held, Line, due_for, plain}
+use Rattle.lobby_post.specs.Mail.{Held, IsDue, Line, due_for, plain}
 use Rattle.lobby_post.specs.Dirty.{Mark, added, idle_of, line_of, marks_of, stands}
 use Rattle.lobby_clients.proofs.Crowds.{plain-insert, all_inserted, written_in}
 use Rattle.lobby_clients.proofs.Homes.{known_of_lines, known_of_lists, line-at, same_lines}
@@ -44,14 +44,16 @@ returns-clause-ok c =
 pub returns-clause-due : goal.returns-clause-due
 returns-clause-due c =
     rw (← c.self.view_is)
-    (λ pieces none all. all_inserted (λ q held. held.due ≡ due_for pieces q) c.args.client c.self.inside.slots _ c.in_ok-slot.slot
+    (λ pieces none all. all_inserted (λ q held. IsDue (due_for pieces q) held) c.args.client c.self.inside.slots _ c.in_ok-slot.slot
     (written_in c.args.client c.in_ok-slot.slot c.self.inside.slots _ c.in_ok-insert.ensures.entries)
-    (c.in_ok-slot.ensures.due ∙ none_due pieces c.args.client none) all)
+    (λ hears. c.in_ok-slot.ensures.due ∙ none_due pieces c.args.client none) all)
 
 pub invariant_of-self-2 : goal.invariant_of-self-2
-invariant_of-self-2 c =
-    all_inserted (λ q held. held.limit ≡ c.self.inside.limit) c.args.client c.self.inside.slots _ c.in_ok-slot.slot
-    (written_in c.args.client c.in_ok-slot.slot c.self.inside.slots _ c.in_ok-insert.ensures.entries) c.in_ok-slot.ensures.limit c.self.invariant
+invariant_of-self-2 c = (
+  all_inserted (λ q held. held.limit ≡ c.self.inside.limit) c.args.client c.self.inside.slots _ c.in_ok-slot.slot
+      (written_in c.args.client c.in_ok-slot.slot c.self.inside.slots _ c.in_ok-insert.ensures.entries) c.in_ok-slot.ensures.limit c.self.invariant.0,
+  c.self.invariant.1,
+)
 
 pub returns-clause-known : goal.returns-clause-known
 returns-clause-known c =

@@ -1,4 +1,4 @@
-use Rattle.std.proofs.Common.{◌∙◌, ap, sym, refl}
+use Rattle.std.proofs.Common.{◌∙◌, ◌-◌, ◌^◌, ◌<◌, ap, sym, subst, refl}
 use Rattle.line_words.specs.Table.{at_number}
 use Rattle.lobby_model.specs.declared.event.Phase.TheVariants.{In}
 use Rattle.lobby_model.specs.State.{in_phase, is_live_client}
@@ -21,6 +21,8 @@ changed c =
       | in-Some w ↦ rw w.self-inside-is
           (written c.args.client (in_phase (In c.args.name)) c.self.inside (λ client. refl) w.in-Some.slot.now w.log_in.new.self
           c.get_mut.ensures.ordered w.in-Some.ensures.value w.log_in.ensures.client w.log_in.ensures.limit w.log_in.ensures.listed
+          (λ hears. ap is_live_client (sym (plain-at c.args.client w.in-Some.slot.now c.self.inside.slots w.in-Some.ensures.value))
+          ∙ ap (λ (m : Crowd). is_live_client (at_number (plain m.slots) c.args.client)) c.self.view_is ∙ c.requires)
           w.log_in.ensures.due w.log_in.ensures.ready)
       | in_default w ↦ rw w.self-inside-is
           (absent c.args.client (in_phase (In c.args.name)) c.self.inside
@@ -43,4 +45,4 @@ pub returns-clause-lines : goal.returns-clause-lines
 returns-clause-lines c = rw (← c.self.view_is) (ap lines_of (changed c).dirty)
 
 pub invariant_of-self : goal.invariant_of-self
-invariant_of-self c = (changed c).limits c.self.invariant
+invariant_of-self c = ((changed c).limits c.self.invariant.0, subst (λ n. n < 2 ^ 32 - 1) (sym (changed c).limit) c.self.invariant.1)

@@ -7,6 +7,7 @@ use Rattle.line_words.specs.Table.{ByNumber}
 use Rattle.line_words.proofs.Ties.{none_of}
 use Rattle.lobby_post.specs.Mail.{Held, IsReady, Line}
 use Rattle.lobby_post.specs.Dirty.{idle_of, is_idle, line_of, mark_of, marks_of, stands}
+use Rattle.lobby_model.specs.State.{is_live}
 use Rattle.lobby_post.proofs.Crowds.{written_through, due_kept}
 use Rattle.lobby_clients.proofs.Homes.{known_of_lines, known_of_lists, line-at}
 use Rattle.lobby_post.proofs.Idle.{idle_written}
@@ -34,10 +35,12 @@ returns-in_err-client-clause-due c = rw (← c.self.view_is) (λ pieces all. all
 pub invariant_of-self-2 : goal.invariant_of-self-2
 invariant_of-self-2 c =
     elim c.match-get_mut.branch [
-      | in-Some w ↦ rw w.self-inside-is
-          (limits_next c.self.inside.limit c.in_ok-client.client w.in-Some.slot.now w.unlist.new.self c.self.inside.slots _
-          (written_through c.in_ok-client.client w.in-Some.slot.now w.unlist.new.self c.self.inside.slots w.in-Some.ensures.value)
-          w.in-Some.ensures.value (ap (λ (h : Held). h.limit) w.unlist.ensures) c.self.invariant)
+      | in-Some w ↦ rw w.self-inside-is (
+        (limits_next c.self.inside.limit c.in_ok-client.client w.in-Some.slot.now w.unlist.new.self c.self.inside.slots _
+            (written_through c.in_ok-client.client w.in-Some.slot.now w.unlist.new.self c.self.inside.slots w.in-Some.ensures.value)
+            w.in-Some.ensures.value (ap (λ (h : Held). h.limit) w.unlist.ensures) c.self.invariant.0),
+        c.self.invariant.1,
+      )
       | in_default w ↦ rw w.self-inside-is c.self.invariant
     ]
 
@@ -56,7 +59,8 @@ returns-clause-due c =
       | in-Some w ↦ rw w.self-inside-is
           (due_kept pieces c.in_ok-client.client w.in-Some.slot.now w.unlist.new.self c.self.inside.slots _
           (written_through c.in_ok-client.client w.in-Some.slot.now w.unlist.new.self c.self.inside.slots w.in-Some.ensures.value)
-          w.in-Some.ensures.value (ap (λ (h : Held). h.due) w.unlist.ensures) all)
+          w.in-Some.ensures.value (λ hears. ap (λ (h : Held). is_live h.client) (sym w.unlist.ensures) ∙ hears)
+          (ap (λ (h : Held). h.due) w.unlist.ensures) all)
       | in_default w ↦ rw w.self-inside-is all
     ])
 

@@ -4,7 +4,7 @@ use Rattle.std.specs.Option.{option_map}
 use Rattle.std.specs.Ordering.{nat_cmp}
 use Rattle.std.specs.BTreeMap.{is_at}
 use Rattle.std.specs.Map.{lookup}
-use Rattle.lobby_post.specs.Mail.{Held, Line, IsReady, due_for}
+use Rattle.lobby_post.specs.Mail.{Held, IsDue, Line, IsReady, due_for}
 use Rattle.lobby_post.specs.Dirty.{Mark, idle_of, is_idle, line_of, mark_of, marks_of, stands}
 use Rattle.lobby_clients.specs.Crowd.{all_but_client, line_at, lines_of}
 use Rattle.lobby_clients.proofs.Crowds.{plain_removed, all_removed, removed_from}
@@ -32,16 +32,18 @@ returns-in-Some-clause-clients c = rw (← c.self.view_is) (plain_removed c.args
 pub returns-in-Some-clause-due : goal.returns-in-Some-clause-due
 returns-in-Some-clause-due c =
     rw (← c.self.view_is) (λ pieces all. all_removed
-    (λ q held. held.due ≡ due_for pieces q) c.args.client c.self.inside.slots c.remove.new.self (removed_from c.args.client c.self.inside.slots c.remove.new.self c.remove.ensures.was_ordered c.remove.ensures.entries) all)
+    (λ q held. IsDue (due_for pieces q) held) c.args.client c.self.inside.slots c.remove.new.self (removed_from c.args.client c.self.inside.slots c.remove.new.self c.remove.ensures.was_ordered c.remove.ensures.entries) all)
 
 pub returns-in-Some-clause-ready : goal.returns-in-Some-clause-ready
 returns-in-Some-clause-ready c =
     rw (← c.self.view_is) (λ all. all_removed (λ q held. IsReady held) c.args.client c.self.inside.slots c.remove.new.self (removed_from c.args.client c.self.inside.slots c.remove.new.self c.remove.ensures.was_ordered c.remove.ensures.entries) all)
 
 pub invariant_of-self : goal.invariant_of-self
-invariant_of-self c =
-    all_removed (λ q held. held.limit ≡ c.self.inside.limit) c.args.client c.self.inside.slots c.remove.new.self
-    (removed_from c.args.client c.self.inside.slots c.remove.new.self c.remove.ensures.was_ordered c.remove.ensures.entries) c.self.invariant
+invariant_of-self c = (
+  all_removed (λ q held. held.limit ≡ c.self.inside.limit) c.args.client c.self.inside.slots c.remove.new.self
+      (removed_from c.args.client c.self.inside.slots c.remove.new.self c.remove.ensures.was_ordered c.remove.ensures.entries) c.self.invariant.0,
+  c.self.invariant.1,
+)
 
 pub returns-in_default-clause-clients : goal.returns-in_default-clause-clients
 returns-in_default-clause-clients c = rw (← c.self.view_is) (plain_removed c.args.client c.self.inside.slots c.remove.new.self c.remove.ensures.was_ordered c.remove.ensures.entries)
@@ -49,16 +51,18 @@ returns-in_default-clause-clients c = rw (← c.self.view_is) (plain_removed c.a
 pub returns-in_default-clause-due : goal.returns-in_default-clause-due
 returns-in_default-clause-due c =
     rw (← c.self.view_is) (λ pieces all. all_removed
-    (λ q held. held.due ≡ due_for pieces q) c.args.client c.self.inside.slots c.remove.new.self (removed_from c.args.client c.self.inside.slots c.remove.new.self c.remove.ensures.was_ordered c.remove.ensures.entries) all)
+    (λ q held. IsDue (due_for pieces q) held) c.args.client c.self.inside.slots c.remove.new.self (removed_from c.args.client c.self.inside.slots c.remove.new.self c.remove.ensures.was_ordered c.remove.ensures.entries) all)
 
 pub returns-in_default-clause-ready : goal.returns-in_default-clause-ready
 returns-in_default-clause-ready c =
     rw (← c.self.view_is) (λ all. all_removed (λ q held. IsReady held) c.args.client c.self.inside.slots c.remove.new.self (removed_from c.args.client c.self.inside.slots c.remove.new.self c.remove.ensures.was_ordered c.remove.ensures.entries) all)
 
 pub invariant_of-self-in_default : goal.invariant_of-self-in_default
-invariant_of-self-in_default c =
-    all_removed (λ q held. held.limit ≡ c.self.inside.limit) c.args.client c.self.inside.slots c.remove.new.self
-    (removed_from c.args.client c.self.inside.slots c.remove.new.self c.remove.ensures.was_ordered c.remove.ensures.entries) c.self.invariant
+invariant_of-self-in_default c = (
+  all_removed (λ q held. held.limit ≡ c.self.inside.limit) c.args.client c.self.inside.slots c.remove.new.self
+      (removed_from c.args.client c.self.inside.slots c.remove.new.self c.remove.ensures.was_ordered c.remove.ensures.entries) c.self.invariant.0,
+  c.self.invariant.1,
+)
 
 pub returns-in-Some-clause-known : goal.returns-in-Some-clause-known
 returns-in-Some-clause-known c =

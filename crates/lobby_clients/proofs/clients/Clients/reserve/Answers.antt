@@ -7,4 +7,4 @@ pub reserve-requires : goal.reserve-requires
 reserve-requires c = record { due = subst (λ (m : Crowd). AreDue [] m.slots) (sym c.self.view_is) c.requires.due }
 
 pub invariant_of-self : goal.invariant_of-self
-invariant_of-self c = c.reserve.ensures.limits c.self.inside.limit c.self.invariant
+invariant_of-self c = (c.reserve.ensures.limits c.self.inside.limit c.self.invariant.0, c.self.invariant.1)
