@@ -2,8 +2,7 @@
 
 use crate::verdict::{same, same_for};
 use line_words::{NameBuf, Text, TextBuf};
-use reply_grammar::{LentReply, Reply, print, print_id, print_lent};
-use reply_reader::read_reply;
+use reply_grammar::{LentReply, Reply, print, print_id, print_lent, read_reply};
 use std::alloc::{AllocError, Global};
 
 static LINES: [&[u8]; 59] = [

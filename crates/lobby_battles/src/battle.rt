@@ -8,7 +8,7 @@ ghost use Rattle.lobby_battles.specs.Info.{info_changed};
 use battle_room::Room;
 use line_words::{NameBuf, SentenceBuf, WordBuf};
 use lobby_post::ClientKey;
-use reply_grammar::OpenedBattle;
+use reply_kinds::OpenedBattle;
 use std::marker::Model;
 
 /// The password of a battle that lets everyone in.

@@ -11,7 +11,7 @@ ghost use Rattle.lobby_burst.specs.Parts.{guest_lines, part_of, parts_of};
 use line_words::{NameBuf, TextBuf};
 use lobby_battles::{Battle, Battles, Seat};
 use lobby_post::Post;
-use reply_grammar::LentReply;
+use reply_kinds::LentReply;
 use std::alloc::AllocError;
 use std::cmp::Ordering;
 use std::collections::BTreeMap;

@@ -6,7 +6,8 @@ ghost use Rattle.lobby_model.specs.Sessions.{greeting};
 
 use line_words::WordBuf;
 use lobby_model::Settings;
-use reply_grammar::{Reply, print};
+use reply_kinds::Reply;
+use reply_printer::print;
 use std::alloc::{AllocError, Global};
 
 /// The line that a client is greeted with, printed.

@@ -4,7 +4,7 @@ ghost use Rattle.std.specs.Prelude.{◌≤◌, IfOk};
 
 use crate::error::{FileError, refused};
 use account_book::AccountBook;
-use lobby_setup::{Setup, SetupError, read_setup};
+use lobby_setup::{Setup, SetupFault};
 use std::rt::Files;
 use std::{fs, io};
 
@@ -17,16 +17,16 @@ fn read_file<R: Files + AllocGlobal>(rt: &R, path: &str) -> Result<Vec<u8>, File
     }
 }
 
-/// What the file of settings at a path sets the server up to: as [`read_setup`] says of its bytes, of which the contract has the range of
+/// What the file of settings at a path sets the server up to: as [`Setup::read`] says of its bytes, of which the contract has the range of
 /// workers alone. `Unreadable` where the file cannot be read, `Settings` where it is no good, `Memory` where memory was refused.
 pub fn settings_at<R: Files + AllocGlobal>(rt: &R, path: &str) -> Result<Setup, FileError>
     ensures { IfOk result (λ setup. (1 ≤ setup.workers) × (setup.workers ≤ 64)) }
 {
     let bytes = read_file(rt, path)?;
-    match read_setup(rt.alloc(), &bytes) {
+    match Setup::read(rt.alloc(), &bytes) {
         Ok(setup) => Ok(setup),
-        Err(SetupError::Unusable(refusal)) => Err(FileError::Settings(refusal)),
-        Err(SetupError::Memory) => Err(FileError::Memory),
+        Err(SetupFault::Unusable(refusal)) => Err(FileError::Settings(refusal)),
+        Err(SetupFault::Memory) => Err(FileError::Memory),
     }
 }
 

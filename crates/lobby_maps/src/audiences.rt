@@ -24,7 +24,7 @@ use line_words::NameBuf;
 use lobby_battles::Seats;
 use lobby_clients::Clients;
 use lobby_post::{ClientKey, Post};
-use reply_grammar::LentReply;
+use reply_kinds::LentReply;
 use std::alloc::AllocError;
 
 impl Maps {

@@ -13,7 +13,7 @@ use line_words::NameBuf;
 use lobby_battles::Seat;
 use lobby_burst::{Part, write_battles, write_motd, write_parts};
 use lobby_post::Post;
-use reply_grammar::LentReply;
+use reply_kinds::LentReply;
 use std::alloc::AllocError;
 
 impl Maps {

@@ -7,7 +7,9 @@ use Rattle.lobby_setup.specs.Choices.{Choices, chosen, Says}
 use Rattle.lobby_setup.specs.declared.error.Refusal.{Refusal}
 use Rattle.lobby_setup.specs.declared.error.Refusal.TheVariants.{NotToml}
 use Rattle.lobby_setup.specs.declared.error.SetupError.{SetupError}
-use Rattle.lobby_setup.specs.declared.error.SetupError.TheVariants.{Unusable, Memory}
+use Rattle.lobby_setup.specs.declared.error.SetupError.TheVariants as error
+use Rattle.lobby_setup.specs.declared.error.SetupFault.{SetupFault}
+use Rattle.lobby_setup.specs.declared.error.SetupFault.TheVariants as fault
 use Rattle.lobby_setup.specs.declared.setup.Setup.{Setup}
 
 -- what a setup holds
@@ -21,7 +23,13 @@ Tells bytes answer =
     MatchOption (document bytes) ((line : ℕ) × IsLine bytes line × (answer ≡ Err (NotToml line))) (λ table. Says table answer)
 
 -- What the reading of a file answers: what the file says, or that memory was refused
-abbrev pub IsAnswer : List ℕ → Result Setup SetupError → Type 0
+abbrev pub IsAnswer : List ℕ → Result Setup SetupFault → Type 0
 IsAnswer bytes (Ok setup) = Tells bytes (Ok (held setup))
-IsAnswer bytes (Err (Unusable refusal)) = Tells bytes (Err refusal)
-IsAnswer bytes (Err Memory) = ⊤
+IsAnswer bytes (Err (fault.Unusable refusal)) = Tells bytes (Err refusal)
+IsAnswer bytes (Err fault.Memory) = ⊤
+
+-- the same where of a refusal no more is answered than that the file cannot be used
+abbrev pub IsShortAnswer : List ℕ → Result Setup SetupError → Type 0
+IsShortAnswer bytes (Ok setup) = Tells bytes (Ok (held setup))
+IsShortAnswer bytes (Err error.Unusable) = (refusal : Refusal) × Tells bytes (Err refusal)
+IsShortAnswer bytes (Err error.Memory) = ⊤

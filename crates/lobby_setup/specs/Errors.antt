@@ -2,9 +2,9 @@
 use Rattle.toml_fields.specs.declared.document.DocumentError.{DocumentError}
 use Rattle.toml_fields.specs.declared.document.DocumentError.TheVariants as unread
 use Rattle.lobby_setup.specs.declared.error.Refusal.TheVariants.{NotToml}
-use Rattle.lobby_setup.specs.declared.error.SetupError.{SetupError}
-use Rattle.lobby_setup.specs.declared.error.SetupError.TheVariants.{Unusable, Memory}
+use Rattle.lobby_setup.specs.declared.error.SetupFault.{SetupFault}
+use Rattle.lobby_setup.specs.declared.error.SetupFault.TheVariants.{Unusable, Memory}
 
-abbrev pub error_of : DocumentError → SetupError
+abbrev pub error_of : DocumentError → SetupFault
 error_of (unread.NotToml line) = Unusable (NotToml line)
 error_of unread.Memory = Memory

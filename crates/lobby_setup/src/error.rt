@@ -1,7 +1,6 @@
 //! Why a file of settings cannot be used.
 
 use crate::key::Key;
-use std::alloc::AllocError;
 use thiserror::Error;
 use toml_fields::{DocumentError, FieldFault};
 
@@ -24,6 +23,17 @@ pub enum Refusal {
 #[derive(Clone, Copy, PartialEq, Eq, Debug, Error)]
 pub enum SetupError {
     /// The file cannot be used.
+    #[error("the file cannot be used")]
+    Unusable,
+    /// Memory was refused. The file may be good.
+    #[error("no memory")]
+    Memory,
+}
+
+/// Why there are no settings, with what is wrong in the file.
+#[derive(Clone, Copy, PartialEq, Eq, Debug, Error)]
+pub enum SetupFault {
+    /// The file cannot be used.
     #[error("{0}")]
     Unusable(Refusal),
     /// Memory was refused. The file may be good.
@@ -31,38 +41,16 @@ pub enum SetupError {
     Memory,
 }
 
-impl From<Refusal> for SetupError {
-    ghost use Rattle.std.specs.Prelude.{◌≡◌};
-    ghost use Rattle.lobby_setup.specs.declared.error.SetupError.TheVariants.{Unusable};
-
-    ghost from_gives = { λ refusal e. e ≡ Unusable refusal };
-
-    fn from(refusal: Refusal) -> SetupError {
-        SetupError::Unusable(refusal)
-    }
-}
-
-impl From<AllocError> for SetupError {
-    ghost use Rattle.std.specs.Prelude.{◌≡◌};
-    ghost use Rattle.lobby_setup.specs.declared.error.SetupError.TheVariants.{Memory};
-
-    ghost from_gives = { λ _ e. e ≡ Memory };
-
-    fn from(_: AllocError) -> SetupError {
-        SetupError::Memory
-    }
-}
-
-impl From<DocumentError> for SetupError {
+impl From<DocumentError> for SetupFault {
     ghost use Rattle.std.specs.Prelude.{◌≡◌};
     ghost use Rattle.lobby_setup.specs.Errors.{error_of};
 
     ghost from_gives = { λ error e. e ≡ error_of error };
 
-    fn from(error: DocumentError) -> SetupError {
+    fn from(error: DocumentError) -> SetupFault {
         match error {
-            DocumentError::NotToml { line } => SetupError::Unusable(Refusal::NotToml { line }),
-            DocumentError::Memory => SetupError::Memory,
+            DocumentError::NotToml { line } => SetupFault::Unusable(Refusal::NotToml { line }),
+            DocumentError::Memory => SetupFault::Memory,
         }
     }
 }

@@ -10,6 +10,6 @@ mod key;
 mod motd;
 mod setup;
 
-pub use error::{Refusal, SetupError};
+pub use error::{Refusal, SetupError, SetupFault};
 pub use key::Key;
 pub use setup::{Setup, read_setup};

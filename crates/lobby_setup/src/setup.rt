@@ -3,11 +3,11 @@
 ghost use Rattle.std.specs.Prelude.{◌≡◌, ◌≤◌, IfOk, IsTrue, None};
 ghost use Rattle.toml.specs.View.{items_view};
 ghost use Rattle.lobby_model.specs.Configuration.{is_configuration};
-ghost use Rattle.lobby_setup.specs.Answers.{held, IsAnswer};
+ghost use Rattle.lobby_setup.specs.Answers.{held, IsAnswer, IsShortAnswer};
 ghost use Rattle.lobby_setup.specs.Gathered.{gathered};
 ghost use Rattle.lobby_setup.specs.Motd.{motd_fault};
 
-use crate::error::SetupError;
+use crate::error::{SetupError, SetupFault};
 use crate::fields::{Fields, fields_of, listening_address};
 use crate::motd::copy_motd;
 use lobby_model::{Settings, SettingsError};
@@ -28,26 +28,42 @@ pub struct Setup {
     pub stop_at_input_end: bool,
 }
 
-/// What a file of settings sets the server up to.
-///
-/// `Unusable` where the file is not TOML or not UTF-8, else with the first key that is refused, in the order of [`crate::Key`]: it is
-/// missing though it has to be there, or its value is of another kind or not allowed. In a message of the day it is the first line
-/// that is refused. `Memory` where it was refused for the file, or, once no key is refused, for the settings.
+impl Setup {
+    /// What a file of settings sets the server up to.
+    ///
+    /// `Unusable` where the file is not TOML or not UTF-8, else with the first key that is refused, in the
+    /// order of [`crate::Key`]: it is missing though it has to be there, or its value is of another kind or not
+    /// allowed. In a message of the day it is the first line that is refused. `Memory` where it was refused for
+    /// the file, or, once no key is refused, for the settings.
+    pub fn read(alloc: Global, bytes: &[u8]) -> Result<Setup, SetupFault>
+        ensures answer { IsAnswer bytes.now result }
+        ensures workers { IfOk result (λ setup. (1 ≤ setup.workers) × (setup.workers ≤ 64)) }
+    {
+        let table = match read_document(alloc, bytes) {
+            Ok(table) => table,
+            Err(error) => return Err(SetupFault::from(error)),
+        };
+        let fields = match fields_of(listening_address(&table), &table) {
+            Ok(fields) => fields,
+            Err(refusal) => return Err(SetupFault::Unusable(refusal)),
+        };
+        match setup_of(alloc, &fields) {
+            Ok(setup) => Ok(setup),
+            Err(_) => Err(SetupFault::Memory),
+        }
+    }
+}
+
+/// What a file of settings sets the server up to. `Unusable` where [`Setup::read`] refuses the file, and says
+/// what is wrong in it.
 pub fn read_setup(alloc: Global, bytes: &[u8]) -> Result<Setup, SetupError>
-    ensures answer { IsAnswer bytes.now result }
+    ensures answer { IsShortAnswer bytes.now result }
     ensures workers { IfOk result (λ setup. (1 ≤ setup.workers) × (setup.workers ≤ 64)) }
 {
-    let table = match read_document(alloc, bytes) {
-        Ok(table) => table,
-        Err(error) => return Err(SetupError::from(error)),
-    };
-    let fields = match fields_of(listening_address(&table), &table) {
-        Ok(fields) => fields,
-        Err(refusal) => return Err(SetupError::Unusable(refusal)),
-    };
-    match setup_of(alloc, &fields) {
+    match Setup::read(alloc, bytes) {
         Ok(setup) => Ok(setup),
-        Err(_) => Err(SetupError::Memory),
+        Err(SetupFault::Unusable(_)) => Err(SetupError::Unusable),
+        Err(SetupFault::Memory) => Err(SetupError::Memory),
     }
 }
 

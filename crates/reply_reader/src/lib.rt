@@ -1,4 +1,4 @@
-//! The lobby's replies, read back from their lines: the inverse of `reply_grammar::print`.
+//! The lobby's replies, read back from their lines: the inverse of `reply_printer::print`.
 //!
 //! Servers print; bots, clients and tests read.
 #![tactic(auto)]
@@ -7,12 +7,10 @@ mod battles;
 mod channels;
 mod command_words;
 mod heads;
-mod laws;
 mod reading;
 mod room;
 mod session;
 mod shapes;
 
 pub use heads::{Head, read_client_status, read_head, read_said};
-pub use laws::{each_reads_alone, no_two_alike};
 pub use reading::read_reply;

@@ -3,7 +3,7 @@
 use crate::lists::are;
 use crate::verdict::{fail, same, same_for};
 use lobby_model::Settings;
-use lobby_setup::{Key, Refusal, Setup, SetupError, read_setup};
+use lobby_setup::{Key, Refusal, Setup, SetupError, SetupFault, read_setup};
 use std::alloc::{AllocError, Global};
 use std::net::{Ipv4Addr, SocketAddrV4};
 use std::process::Abort;
@@ -23,20 +23,20 @@ colour = 'a key that is not known'
 ";
 
 /// Why a file is refused, or `None` if it is a good one.
-fn refusal(alloc: Global, file: &[u8]) -> Option<SetupError> {
-    read_setup(alloc, file).err()
+fn refusal(alloc: Global, file: &[u8]) -> Option<SetupFault> {
+    Setup::read(alloc, file).err()
 }
 
 /// Why a file that has an address and this line is refused; `Memory` too where there is none to write the file in.
-fn refusal_with(alloc: Global, line: &str) -> Option<SetupError> {
+fn refusal_with(alloc: Global, line: &str) -> Option<SetupFault> {
     match format!(in alloc; "address = '127.0.0.1:0'\n{line}\n") {
         Ok(file) => refusal(alloc, file.as_bytes()),
-        Err(_) => Some(SetupError::Memory),
+        Err(_) => Some(SetupFault::Memory),
     }
 }
 
-fn refused(key: Key, fault: FieldFault) -> Option<SetupError> {
-    Some(SetupError::Unusable(Refusal::Field { key, fault }))
+fn refused(key: Key, fault: FieldFault) -> Option<SetupFault> {
+    Some(SetupFault::Unusable(Refusal::Field { key, fault }))
 }
 
 /// A file, and what the server is set up to by it.
@@ -214,15 +214,15 @@ fn motd_of(alloc: Global, count: u32) -> Result<String, AllocError> {
     Ok(line)
 }
 
-fn refusal_of_lines(alloc: Global, count: u32) -> Option<SetupError> {
+fn refusal_of_lines(alloc: Global, count: u32) -> Option<SetupFault> {
     match motd_of(alloc, count) {
         Ok(line) => refusal_with(alloc, line.as_str()),
-        Err(AllocError) => Some(SetupError::Memory),
+        Err(AllocError) => Some(SetupFault::Memory),
     }
 }
 
-fn bad_line(place: usize, fault: FieldFault) -> Option<SetupError> {
-    Some(SetupError::Unusable(Refusal::MotdLine { place, fault }))
+fn bad_line(place: usize, fault: FieldFault) -> Option<SetupFault> {
+    Some(SetupFault::Unusable(Refusal::MotdLine { place, fault }))
 }
 
 static BAD_LINES: [(&str, FieldFault); 2] = [
@@ -249,7 +249,7 @@ fn the_first_bad_line_of_the_day_is_named(rt: HostRuntime) {
 }
 
 /// Whether an error shows itself by this text.
-fn shows(alloc: Global, error: Option<SetupError>, wanted: &str) -> bool {
+fn shows(alloc: Global, error: Option<SetupFault>, wanted: &str) -> bool {
     match error {
         Some(error) => match format!(in alloc; "{error}") {
             Ok(text) => text.as_str() == wanted,
@@ -286,10 +286,21 @@ fn a_refusal_says_what_is_wrong_and_where(rt: HostRuntime) {
     }
 }
 
+/// What the short reading answers for a file that the long one refuses so.
+fn without_cause(fault: SetupFault) -> SetupError {
+    match fault {
+        SetupFault::Unusable(_) => SetupError::Unusable,
+        SetupFault::Memory => SetupError::Memory,
+    }
+}
+
 #[test]
 fn each_front_of_a_file_has_an_answer(rt: HostRuntime) {
     for len in 0..ALL.len() {
-        let told = refusal(rt.alloc(), &ALL[..len]);
-        same_for(&rt, &len, told == Some(SetupError::Memory), false);
+        let front = &ALL[..len];
+        let told = refusal(rt.alloc(), front);
+        same_for(&rt, &len, told == Some(SetupFault::Memory), false);
+        let told_shortly = read_setup(rt.alloc(), front).err();
+        same_for(&rt, &len, told_shortly, told.map(without_cause));
     }
 }

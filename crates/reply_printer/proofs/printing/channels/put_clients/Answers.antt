@@ -1,0 +1,5 @@
+use Rattle.std.proofs.Common.{append_assoc}
+use Rattle.reply_printer.proofs.printing.channels.put_clients.Goals as goal
+
+pub returns-clause-ok : goal.returns-clause-ok
+returns-clause-ok c = rw (c.in_ok-put_end.ensures.ok, c.in_ok-put_names.ensures.ok, append_assoc, c.in_ok-put_name.ensures.ok, append_assoc, c.in_ok-put_command.ensures.ok, append_assoc) (simp append_assoc)

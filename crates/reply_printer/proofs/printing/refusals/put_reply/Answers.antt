@@ -1,0 +1,16 @@
+use Rattle.reply_printer.proofs.printing.refusals.put_reply.Goals as goal
+
+pub returns-in-Denied-clause-ok : goal.returns-in-Denied-clause-ok
+returns-in-Denied-clause-ok c = rw (c.in-Denied.is, ← c.as_text.ensures) c.put.ensures.ok
+
+pub returns-in-ServerMsg-clause-ok : goal.returns-in-ServerMsg-clause-ok
+returns-in-ServerMsg-clause-ok c = rw (c.in-ServerMsg.is, ← c.as_text-in-ServerMsg.ensures) c.put-in-ServerMsg.ensures.ok
+
+pub returns-in-JoinFailed-clause-ok : goal.returns-in-JoinFailed-clause-ok
+returns-in-JoinFailed-clause-ok c = rw (c.in-JoinFailed.is, ← c.as_text-in-JoinFailed.ensures) c.put-in-JoinFailed.ensures.ok
+
+pub returns-in-OpenBattleFailed-clause-ok : goal.returns-in-OpenBattleFailed-clause-ok
+returns-in-OpenBattleFailed-clause-ok c = rw (c.in-OpenBattleFailed.is, ← c.as_text-in-OpenBattleFailed.ensures) c.put-in-OpenBattleFailed.ensures.ok
+
+pub returns-in-JoinBattleFailed-clause-ok : goal.returns-in-JoinBattleFailed-clause-ok
+returns-in-JoinBattleFailed-clause-ok c = rw (c.in-JoinBattleFailed.is, ← c.as_text-in-JoinBattleFailed.ensures) c.put-in-JoinBattleFailed.ensures.ok

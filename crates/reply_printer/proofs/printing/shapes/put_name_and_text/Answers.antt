@@ -1,0 +1,5 @@
+use Rattle.std.proofs.Common.{append_assoc}
+use Rattle.reply_printer.proofs.printing.shapes.put_name_and_text.Goals as goal
+
+pub returns-clause-ok : goal.returns-clause-ok
+returns-clause-ok c = rw (c.in_ok-put_end.ensures.ok, c.in_ok-put_text.ensures.ok, append_assoc, c.in_ok-put_name.ensures.ok, append_assoc, c.in_ok-put_command.ensures.ok, append_assoc) (simp append_assoc)
