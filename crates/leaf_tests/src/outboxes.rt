@@ -160,6 +160,11 @@ fn shared_pieces_come_out_among_copied_bytes(rt: HostRuntime) {
     play(&rt, rt.alloc(), 64, &SHARED, 3);
 }
 
+#[test]
+fn no_limit_is_too_great_for_shared_pieces(rt: HostRuntime) {
+    play(&rt, rt.alloc(), usize::MAX, &SHARED, 1);
+}
+
 static CUT: [Step; 6] = [
     Step::Puts(b"PONG\n"),
     Step::IsCut(false),
