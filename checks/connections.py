@@ -649,35 +649,31 @@ def refusing(workers):
 
 
 def refused_open(workers):
-    """While all memory is refused some connect, until one is closed without a byte. Who was there before is told nothing of that, and is
-    served. Where there is memory again the next ones are served too, at each worker."""
+    """While all memory is refused some connect, until one is closed without a byte. Nobody else is told of that. Where there is memory
+    again, who is connected is greeted and served, and the next ones are, at each worker."""
     with refusing(workers) as (server, switch, told):
         anna = logged_in(server, ANNA, [])
         switch.touch()
-        greeted_ones = []
+        late = []
         for _ in range(100):
             client = Client(server)
-            if not client.receive():
+            if select.select([client.socket], [], [], 0.5)[0] and not client.receive():
                 break
-            client.expect(GREETING)
-            greeted_ones.append(client)
+            late.append(client)
         else:
-            raise Difference("memory is refused, and a hundred are greeted")
+            raise Difference("memory is refused, and of a hundred who connect none is closed")
         refusals = len(told.read_text().splitlines())
         if refusals == 0:
             raise Difference("one who connects is closed, and no memory was refused")
         switch.unlink()
-        for _ in range(workers):
-            client = Client(server)
+        for client in [*late, *(Client(server) for _ in range(workers))]:
             client.expect(GREETING)
-            client.expect_nothing_more()
-        for client in greeted_ones:
             client.expect_nothing_more()
         anna.expect_nothing_more()
         bert = logged_in(server, BERT, [ANNA])
         anna.expect(BERT.arrival())
-        both([anna, bert], "")
-        print(f"  {len(greeted_ones)} were greeted, and one was closed behind {refusals} refusals")
+        bert.expect_nothing_more()
+        print(f"  {len(late)} had to wait, and one was closed behind {refusals} refusals")
 
 
 def full(workers):

@@ -7,4 +7,4 @@ set -euo pipefail
 cd "$(dirname "$0")/.."
 export LOBBY_MAIN=${1:-$PWD/crates/lobby_main/out/lobby_main}
 checks/connections.py 2 open_files refused_open full short_memory
-checks/connections.py 1 all_gone
+checks/connections.py 1 refused_open all_gone

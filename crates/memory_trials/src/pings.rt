@@ -41,16 +41,14 @@ enum Place {
     Served,
 }
 
-/// How far the client of this number, 0 or 1, has come where the call of this number was refused.
+/// How far the client of this number, 0 or 1, has come where the call of this number was refused. Its turn comes two calls behind that
+/// by which it connects.
 fn place_of(client: usize, refused: usize) -> Place {
-    if refused <= client {
-        Place::Away
-    } else if refused < client + CONNECTS {
-        Place::Greeted
-    } else if refused == client + CONNECTS {
-        Place::Refused
-    } else {
-        Place::Served
+    match refused.saturating_sub(client) {
+        0 => Place::Away,
+        1 => Place::Greeted,
+        CONNECTS => Place::Refused,
+        _ => Place::Served,
     }
 }
 
@@ -138,7 +136,7 @@ fn try_one<R: Wait>(
     refuser.release();
     let (is_right, next) = match came {
         Came::Short => (true, number),
-        Came::Done => (!was_refused, number + 1),
+        Came::Done => (!was_refused, number.saturating_add(1)),
         Came::Wrong => (false, number),
     };
     let (pass, is_exact) = if was_refused {
@@ -213,14 +211,12 @@ pub fn try_out<R: Wait + Print + AllocGlobal>(
     refuser: &mut Refuser,
     notes: &mut Notes,
 ) -> io::Result<()> {
-    let mut tried = 0u32;
     for number in 0..CALLS {
         for step in 0..=refuser.last_step() {
             if !try_anew(rt, (number, step), refuser, notes) {
                 break;
             }
         }
-        tried += 1;
     }
-    println!(rt; "{tried} calls for two clients that send PING")
+    println!(rt; "{CALLS} calls for two clients that send PING")
 }

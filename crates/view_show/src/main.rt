@@ -70,7 +70,10 @@ fn chosen_cut<R: Env + AllocGlobal>(rt: &R) -> Result<Cut, Error> {
 /// Folds the input, and prints what is known behind it.
 fn follow<R: Env + Input + Print + AllocGlobal>(rt: &R, view: &mut View) -> Result<(), Error> {
     match chosen_cut(rt)? {
-        Cut::Pieces(most) => fold(&mut rt.reader(), &mut [0; PIECE][..most], view)?,
+        Cut::Pieces(most) => {
+            let mut piece = [0; PIECE];
+            fold(&mut rt.reader(), &mut piece[..most.min(PIECE)], view)?;
+        }
         Cut::Whole => fold_whole(rt.alloc(), &mut rt.reader(), view)?,
     }
     print(rt, view)
