@@ -3,7 +3,7 @@
 //! The server runs none of this: its rules decide, and what they decide it does by the calls of `Room` that
 //! check nothing. These calls are for a caller that has no rules of its own.
 
-ghost use Rattle.std.specs.Prelude.{◌≡◌, ◌<◌, OnOk, OnErr, IfOk, IfSome, IfNone, IfErr, Err};
+ghost use Rattle.std.specs.Prelude.{◌≡◌, ◌<◌, OnOk, OnErr, IfOk, IfSome, IfNone, IfErr, Err, false};
 ghost use Rattle.std.specs.Result.{result_err};
 ghost use Rattle.room_lists.specs.Room as room;
 ghost use Rattle.room_lists.specs.Tags as tags;
@@ -258,7 +258,7 @@ impl<M: Copy> Room<M> {
         ensures err { OnErr result (self.new ≡ self.old) }
     {
         self.check_founder(by)?;
-        let there = self.keys_there(self.alloc, keys)?;
+        let there = self.keys_there(keys)?;
         self.drop_tags(keys);
         Ok(there)
     }
@@ -276,7 +276,7 @@ impl<M: Copy> Room<M> {
         ensures err { OnErr result (self.new ≡ self.old) }
     {
         self.check_units(by, &words)?;
-        let new = self.units_new(self.alloc, words.as_slice())?;
+        let new = self.units_new(words.as_slice())?;
         self.put_units(words)?;
         Ok(new)
     }
@@ -294,7 +294,7 @@ impl<M: Copy> Room<M> {
         ensures err { OnErr result (self.new ≡ self.old) }
     {
         self.check_founder(by)?;
-        let there = self.units_there(self.alloc, words)?;
+        let there = self.units_there(words)?;
         self.drop_units(words);
         Ok(there)
     }
@@ -308,6 +308,19 @@ impl<M: Copy> Room<M> {
     {
         self.check_founder(by)?;
         self.clear_units();
+        Ok(())
+    }
+
+    /// Not run by the server, which uses `put_asker`: one who is neither a member nor asks asks to join,
+    /// behind the others. `Memory` where memory is refused; then nothing changes.
+    pub fn ask(&mut self, name: NameBuf, script_password: Option<WordBuf>) -> Result<(), RoomError>
+        requires member { room.has_member name self.old ≡ false }
+        requires asker { room.has_asker name self.old ≡ false }
+        ensures memory { IfErr result (λ e. e ≡ RoomError.Memory) }
+        ensures ok { OnOk result (self.new ≡ room.with_asker name script_password self.old) }
+        ensures err { OnErr result (self.new ≡ self.old) }
+    {
+        self.put_asker(name, script_password)?;
         Ok(())
     }
 

@@ -1,6 +1,6 @@
 //! A room: what the members of a battle share.
 
-ghost use Rattle.std.specs.Prelude.{◌≡◌, ◌<◌, not, OnOk, OnErr, IfOk, option_copied, false};
+ghost use Rattle.std.specs.Prelude.{◌≡◌, ◌<◌, not, OnOk, OnErr, IfOk, IfErr, option_copied, false};
 ghost use Rattle.std.specs.List.{IsDistinct};
 ghost use Rattle.line_words.specs.Table.{same_name, at_number};
 ghost use Rattle.room_lists.specs.Room as room;
@@ -10,6 +10,7 @@ ghost use Rattle.battle_room.specs.Places.{numbered};
 ghost use Rattle.battle_room.specs.Refusals.{is_first_member};
 
 use crate::askers::{Asker, Askers};
+use crate::error::RoomError;
 use crate::members::{Member, Members};
 use crate::rects::{ALLY_COUNT, Rects};
 use line_words::{NameBuf, Pair, PairList, WordBuf, WordList};
@@ -28,7 +29,7 @@ pub type Bot = room_lists::Bot<BattleStatus>;
 /// its contracts say nothing of it. A room whose callers have no use for marks keeps none: `M` is `()`.
 #[derive(Drop)]
 pub struct Room<M: Copy = ()> {
-    pub(crate) alloc: Global,
+    alloc: Global,
     members: Members<M>,
     rest: Box<Rest>,
 }
@@ -53,31 +54,36 @@ impl<M: Copy> Model for Room<M> {
 
 impl Room {
     /// Not run by the server, which uses `with_mark`: a room with its founder alone, and all its lists
-    /// empty. Fails only where memory is refused.
-    pub fn new(alloc: Global, founder: NameBuf) -> Result<Room, AllocError>
-        ensures { IfOk result (λ r. r ≡ room.new_room founder) }
+    /// empty. `Memory` where memory is refused.
+    pub fn new(alloc: Global, founder: NameBuf) -> Result<Room, RoomError>
+        ensures ok { IfOk result (λ r. r ≡ room.new_room founder) }
+        ensures memory { IfErr result (λ e. e ≡ RoomError.Memory) }
     {
-        Room::with_mark(alloc, founder, ())
+        Ok(Room::with_mark(alloc, founder, ())?)
     }
 
     /// Not run by the server, which uses `add_marked`: one who is no member joins, behind the others.
-    /// Where memory is refused, nothing changes.
-    pub fn add_member(&mut self, name: NameBuf) -> Result<(), AllocError>
+    /// `Memory` where memory is refused; then nothing changes.
+    pub fn add_member(&mut self, name: NameBuf) -> Result<(), RoomError>
         requires { room.has_member name self.old ≡ false }
+        ensures memory { IfErr result (λ e. e ≡ RoomError.Memory) }
         ensures ok { OnOk result (self.new ≡ room.with_member name self.old) }
         ensures err { OnErr result (self.new ≡ self.old) }
     {
-        self.add_marked(name, ())
+        self.add_marked(name, ())?;
+        Ok(())
     }
 
     /// Not run by the server, which uses `let_in_marked`: one who is no member, and may ask to join, asks
-    /// no more and joins, behind the others. Where memory is refused, nothing changes.
-    pub fn let_in(&mut self, name: &NameBuf) -> Result<(), AllocError>
+    /// no more and joins, behind the others. `Memory` where memory is refused; then nothing changes.
+    pub fn let_in(&mut self, name: &NameBuf) -> Result<(), RoomError>
         requires { room.has_member name.now self.old ≡ false }
+        ensures memory { IfErr result (λ e. e ≡ RoomError.Memory) }
         ensures ok { OnOk result (self.new ≡ room.with_member name.now (room.without_asker name.now self.old)) }
         ensures err { OnErr result (self.new ≡ self.old) }
     {
-        self.let_in_marked(name, ())
+        self.let_in_marked(name, ())?;
+        Ok(())
     }
 }
 
@@ -227,10 +233,10 @@ impl<M: Copy> Room<M> {
 
     /// Those of the keys that are set, each once, in the order of the list of keys. Fails only where memory
     /// is refused.
-    pub fn keys_there(&self, alloc: Global, keys: &[WordBuf]) -> Result<WordList, AllocError>
+    pub fn keys_there(&self, keys: &[WordBuf]) -> Result<WordList, AllocError>
         ensures { IfOk result (λ there. there ≡ tags.keys_there self.now.tags keys.now) }
     {
-        self.rest.tags.keys_there(alloc, keys)
+        self.rest.tags.keys_there(self.alloc, keys)
     }
 
     /// Whether there would be at most 1,024 disabled units (`UNIT_LIMIT`), if these were disabled.
@@ -242,18 +248,18 @@ impl<M: Copy> Room<M> {
 
     /// Those of the words that are no disabled units, each once, in the order of the list of words. Fails
     /// only where memory is refused.
-    pub fn units_new(&self, alloc: Global, words: &[WordBuf]) -> Result<WordList, AllocError>
+    pub fn units_new(&self, words: &[WordBuf]) -> Result<WordList, AllocError>
         ensures { IfOk result (λ new. new ≡ units.words_new self.now.units words.now) }
     {
-        self.rest.units.words_new(alloc, words)
+        self.rest.units.words_new(self.alloc, words)
     }
 
     /// Those of the words that are disabled units, each once, in the order of the list of words. Fails only
     /// where memory is refused.
-    pub fn units_there(&self, alloc: Global, words: &[WordBuf]) -> Result<WordList, AllocError>
+    pub fn units_there(&self, words: &[WordBuf]) -> Result<WordList, AllocError>
         ensures { IfOk result (λ there. there ≡ units.words_there self.now.units words.now) }
     {
-        self.rest.units.words_there(alloc, words)
+        self.rest.units.words_there(self.alloc, words)
     }
 
     /// One who is no member joins under a mark, behind the others. Where memory is refused, nothing
@@ -361,7 +367,11 @@ impl<M: Copy> Room<M> {
 
     /// One who is neither a member nor asks asks to join, behind the others. Where memory is refused,
     /// nothing changes.
-    pub fn ask(&mut self, name: NameBuf, script_password: Option<WordBuf>) -> Result<(), AllocError>
+    pub fn put_asker(
+        &mut self,
+        name: NameBuf,
+        script_password: Option<WordBuf>,
+    ) -> Result<(), AllocError>
         requires member { room.has_member name self.old ≡ false }
         requires asker { room.has_asker name self.old ≡ false }
         ensures ok { OnOk result (self.new ≡ room.with_asker name script_password self.old) }

@@ -221,7 +221,7 @@ pub fn remove_script_tags(by: &Issuer, keys: &WordList, post: &mut Post) -> Resu
 {
     let (number, battle) = own_battle(by.maps, by.me)?;
     founded_by(battle, by.me)?;
-    let there = battle.room.keys_there(by.maps.alloc(), keys.as_slice())?;
+    let there = battle.room.keys_there(keys.as_slice())?;
     tell_words(by.maps, &battle.room, Wording::TagsGone, there, post)?;
     let keys = copy_words(by.maps.alloc(), keys.as_slice())?;
     Ok(in_room(number, RoomChange::RemoveTags { keys }))
@@ -235,7 +235,7 @@ pub fn disable_units(by: &Issuer, units: &WordList, post: &mut Post) -> Result<C
     let (number, battle) = own_battle(by.maps, by.me)?;
     founded_by(battle, by.me)?;
     room_for_units(battle, units.as_slice())?;
-    let new = battle.room.units_new(by.maps.alloc(), units.as_slice())?;
+    let new = battle.room.units_new(units.as_slice())?;
     tell_words(by.maps, &battle.room, Wording::UnitsDisabled, new, post)?;
     let words = copy_words(by.maps.alloc(), units.as_slice())?;
     Ok(in_room(number, RoomChange::DisableUnits { words }))
@@ -247,7 +247,7 @@ pub fn enable_units(by: &Issuer, units: &WordList, post: &mut Post) -> Result<Ch
 {
     let (number, battle) = own_battle(by.maps, by.me)?;
     founded_by(battle, by.me)?;
-    let there = battle.room.units_there(by.maps.alloc(), units.as_slice())?;
+    let there = battle.room.units_there(units.as_slice())?;
     tell_words(by.maps, &battle.room, Wording::UnitsEnabled, there, post)?;
     let words = copy_words(by.maps.alloc(), units.as_slice())?;
     Ok(in_room(number, RoomChange::EnableUnits { words }))

@@ -364,7 +364,7 @@ impl Battle {
         ensures ok { OnOk result (self.new ≡ room_changed (with_asker name script_password) self.old) }
         ensures err { OnErr result (self.new ≡ self.old) }
     {
-        self.room.ask(name, script_password)
+        self.room.put_asker(name, script_password)
     }
 
     /// One who asks, and is no member, enters, behind the others, with the key of its client as a mark.
