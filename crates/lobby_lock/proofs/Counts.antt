@@ -32,10 +32,10 @@ counted : (k : ℕ) (workers : List Worker) → option_map (λ (worker : Worker)
 counted k workers = elim (worker_of k workers) as (λ o. option_map (λ (worker : Worker). count_of worker.mine) o ≡ option_map count_of (option_map (λ (worker : Worker). worker.mine) o)) [ None ↦ refl | Some w ↦ refl ]
 
 -- none is out, so each number that was handed out has its count
-pub closes_with : (old : ShownPass) (history : List Entry) (handed made : ℕ) (places : List (Option ℕ)) → old.worker.number ≡ 0 → handed ≡ old.handed → handed ≤ 63 → made ≡ count_of old.worker.mine → PlacesAre places old.taken_back
+pub closes_with : (old : ShownPass) (x : Shown) (history : List Entry) (handed made : ℕ) (places : List (Option ℕ)) → old.worker.number ≡ 0 → handed ≡ old.handed → handed ≤ 63 → made ≡ count_of old.worker.mine → PlacesAre places old.taken_back
     → made_by 0 history ≡ old.worker.mine → AllByRecursion (λ worker. made_by worker.number history ≡ worker.mine) old.taken_back → AllByRecursion (λ (e : Entry). e.0 ≤ old.handed) history
-    → ((k : ℕ) → 1 ≤ k → k ≤ handed → slice_get places k ≡ Some None → ⊥) → IsClosed (record old { worker = seen_by old.worker history }) handed made places
-closes_with old history handed made places zero_is counts few made_is p own back numbers all = record {
+    → ((k : ℕ) → 1 ≤ k → k ≤ handed → slice_get places k ≡ Some None → ⊥) → IsClosed (record old { on_desk = x; worker = seen_by old.worker history }) handed made places
+closes_with old x history handed made places zero_is counts few made_is p own back numbers all = record {
   few = few;
   counts = counts;
   all = p.all;
@@ -57,7 +57,7 @@ pub closed : (v : View) (x : Shown) (w : View) (desk : TableId) (handed made : �
     → ((k : ℕ) → 1 ≤ k → k ≤ handed → slice_get places k ≡ Some None → ⊥) → IsClosed (shown_view desk w) handed made places
 closed v x w desk handed made places c zero_is counts k all =
     let own = ap (λ n. made_by n w.worker.seen) (sym zero_is) ∙ c.took.own in
-    let is = closes_with (shown_view desk v) w.worker.seen handed made places zero_is counts k.few k.made_is (k.places_are zero_is) own c.taken_back (c.numbers zero_is) all in
+    let is = closes_with (shown_view desk v) x w.worker.seen handed made places zero_is counts k.few k.made_is (k.places_are zero_is) own c.taken_back (c.numbers zero_is) all in
     subst (λ (u : View). IsClosed (shown_view desk u) handed made places) (sym c.took.same) is
 
 -- the place of the one whose pass came back gets its count

@@ -139,7 +139,7 @@ opens n k v x live holds fresh none items views room h at =
 
 pub takes : (k : ℕ) (v : View) → v.alive ≡ true → Pops OneHistory k v (Took v)
 takes k v live x items views h at =
-    let w : View = record v { worker = seen_by v.worker h.history; holds = true } in
+    let w : View = record v { on_desk = x; worker = seen_by v.worker h.history; holds = true } in
     let a : IsAlive views k v = (at, live) in
     let f = h.fits k v a in
     let full : IsFull h.start h.history (x ∷ items) × NobodyHolds views = ⊎_elim (λ (t : (x ∷ items ≡ []) × SomeoneHolds views). absurd (cc (t.0))) (λ t. t) h.place in
@@ -183,9 +183,9 @@ closes k v live x items views h at =
 
 -- ---- the lobby is given back
 
-pub gives : (n k : ℕ) (v : View) (x : Shown) (es : List Event) → v.alive ≡ true → v.holds ≡ true → x.plain ≡ after_history v.start.plain (v.worker.seen ++ under v.worker.number es) → Pushes OneHistory n k v x (λ w. w ≡ gave v es)
+pub gives : (n k : ℕ) (v : View) (x : Shown) (es : List Event) → v.alive ≡ true → v.holds ≡ true → x.plain ≡ after_history v.start.plain (v.worker.seen ++ under v.worker.number es) → Pushes OneHistory n k v x (λ w. w ≡ gave v x es)
 gives n k v x es live holds stands items views room h at =
-    let w : View = gave v es in
+    let w : View = gave v x es in
     let a : IsAlive views k v = (at, live) in
     let f = h.fits k v a in
     let number : ℕ = v.worker.number in

@@ -11,11 +11,13 @@ use Rattle.lobby_lock.specs.History.{after_history, under}
 use Rattle.lobby_lock.specs.Counts.{Counts}
 use Rattle.lobby_lock.specs.Rule.{new_worker, with_events}
 
--- The desk that the pass belongs to; the plain lobby with which that was opened; what the pass's worker has seen and made; how many
--- numbers were handed out, which worker 0 alone counts; and whose passes it took back, the last first
+-- The desk that the pass belongs to; the plain lobby with which that was opened; the lobby, with its lists of changed clients, as the
+-- pass's worker last took it from the desk or left it there, or as its giver did; what the worker has seen and made; how many numbers were
+-- handed out, which worker 0 alone counts; and whose passes it took back, the last first
 pub record ShownPass : Type 0 where
   pub desk : TableId
   pub start : State
+  pub on_desk : Shown
   pub worker : Worker
   pub handed : ℕ
   pub taken_back : List Worker
@@ -27,7 +29,7 @@ pub record ShownHold : Type 0 where
   pub events : List Event
 
 abbrev pub shown_view : TableId → View → ShownPass
-shown_view desk v = record { desk = desk; start = v.start.plain; worker = v.worker; handed = v.handed; taken_back = v.taken_back }
+shown_view desk v = record { desk = desk; start = v.start.plain; on_desk = v.on_desk; worker = v.worker; handed = v.handed; taken_back = v.taken_back }
 
 abbrev pub shown_pass : Pass Shown View → ShownPass
 shown_pass inner = shown_view inner.table_id (view inner)
@@ -39,17 +41,17 @@ shown_hold inner lobby events = record { pass = shown_pass inner; lobby = lobby;
 abbrev pub AddsEvent : ShownHold → ShownHold → Event → Type 0
 AddsEvent old new e = new ≡ record old { lobby = new.lobby; events = old.events ++ e ∷ [] }
 
--- worker 0's pass of a desk that was opened with this plain lobby
-abbrev pub first_pass : TableId → State → ShownPass
-first_pass desk start = record { desk = desk; start = start; worker = new_worker 0 []; handed = 0; taken_back = [] }
+-- worker 0's pass of a desk that was opened with this lobby
+abbrev pub first_pass : TableId → Shown → ShownPass
+first_pass desk lobby = record { desk = desk; start = lobby.plain; on_desk = lobby; worker = new_worker 0 []; handed = 0; taken_back = [] }
 
 -- the pass of a worker more: it has seen what the giver has, and made nothing
 abbrev pub new_pass : ShownPass → ShownPass
-new_pass pass = record { desk = pass.desk; start = pass.start; worker = new_worker (pass.handed + 1) pass.worker.seen; handed = 0; taken_back = [] }
+new_pass pass = record { desk = pass.desk; start = pass.start; on_desk = pass.on_desk; worker = new_worker (pass.handed + 1) pass.worker.seen; handed = 0; taken_back = [] }
 
--- a pass after a hold of these events
+-- a pass after a hold of these events, which leaves its lobby as it has it
 abbrev pub pass_after : ShownHold → ShownPass
-pass_after held = record held.pass { worker = with_events held.pass.worker held.events }
+pass_after held = record held.pass { on_desk = held.lobby; worker = with_events held.pass.worker held.events }
 
 -- The plain lobby after all that the pass has seen, and then these events of its own
 abbrev pub lobby_after : ShownPass → List Event → State

@@ -75,28 +75,28 @@ new_worker number seen = record { number = number; seen = seen; mine = [] }
 
 -- who made the place holds what is to be put into it
 abbrev pub first_view : View
-first_view = record { alive = true; holds = true; start = no_lobby; worker = new_worker 0 []; handed = 0; taken_back = [] }
+first_view = record { alive = true; holds = true; start = no_lobby; on_desk = no_lobby; worker = new_worker 0 []; handed = 0; taken_back = [] }
 
 abbrev pub spent_view : View
-spent_view = record { alive = false; holds = false; start = no_lobby; worker = new_worker 0 []; handed = 0; taken_back = [] }
+spent_view = record { alive = false; holds = false; start = no_lobby; on_desk = no_lobby; worker = new_worker 0 []; handed = 0; taken_back = [] }
 
 -- the lobby is first put in
 abbrev pub opened : View → Shown → View
-opened v x = record v { start = x; holds = false }
+opened v x = record v { start = x; on_desk = x; holds = false }
 
 -- the worker made these events, after all that it had seen
 abbrev pub with_events : Worker → List Event → Worker
 with_events worker events = record worker { seen = worker.seen ++ under worker.number events; mine = worker.mine ++ events }
 
--- a hold of these events ends
-abbrev pub gave : View → List Event → View
-gave v events = record v { worker = with_events v.worker events; holds = false }
+-- a hold of these events ends, and leaves this lobby
+abbrev pub gave : View → Shown → List Event → View
+gave v x events = record v { on_desk = x; worker = with_events v.worker events; holds = false }
 
 abbrev pub giver : View → View
 giver v = record v { handed = v.handed + 1 }
 
 abbrev pub newcomer : View → View
-newcomer v = record { alive = true; holds = false; start = v.start; worker = new_worker (v.handed + 1) v.worker.seen; handed = 0; taken_back = [] }
+newcomer v = record { alive = true; holds = false; start = v.start; on_desk = v.on_desk; worker = new_worker (v.handed + 1) v.worker.seen; handed = 0; taken_back = [] }
 
 abbrev pub with_taken_back : View → View → View
 with_taken_back v w = record v { taken_back = w.worker ∷ v.taken_back }
@@ -109,7 +109,7 @@ seen_by worker seen = record worker { seen = seen }
 
 -- a take: the whole history was seen, the worker's events in it are its own, as they were in what it had seen, and the lobby found is the one after it
 pub record Took (v : View) (x : Shown) (w : View) : Type 0 where
-  pub same : w ≡ record v { worker = seen_by v.worker w.worker.seen; holds = true }
+  pub same : w ≡ record v { on_desk = x; worker = seen_by v.worker w.worker.seen; holds = true }
   pub later : Begins v.worker.seen w.worker.seen
   pub own : made_by v.worker.number w.worker.seen ≡ v.worker.mine
   pub known : made_by v.worker.number v.worker.seen ≡ v.worker.mine

@@ -7,7 +7,7 @@ ghost use Rattle.lobby_lock.specs.declared.closing.Count.TheVariants as count;
 
 use crate::pass::Counts;
 use crate::rule::PlacePass;
-use lobby_machine::{BoxedLobby, Lobby};
+use lobby_machine::Lobby;
 use std::marker::Model;
 use thiserror::Error;
 
@@ -36,7 +36,7 @@ pub enum Count {
 pub struct Closing {
     pub(crate) inner: PlacePass,
     pub(crate) handed: u8,
-    pub(crate) lobby: BoxedLobby,
+    pub(crate) lobby: Lobby,
     pub(crate) counts: Counts,
 }
 
@@ -87,7 +87,7 @@ impl Closing {
     pub fn lobby(&self) -> &Lobby
         ensures { result.now ≡ self.now.lobby }
     {
-        self.lobby.as_lobby()
+        &self.lobby
     }
 }
 

@@ -15,7 +15,7 @@ use crate::held::Held;
 use crate::pass::{Counts, Pass};
 use crate::place::{begin, fetch};
 use crate::rule::{HandingOut, LastBack, Place, Taking, TakingBack, TakingForGood};
-use lobby_machine::{BoxedLobby, Lobby};
+use lobby_machine::Lobby;
 use lobby_model::WORKERS;
 use std::alloc::{AllocError, Global};
 use std::marker::Model;
@@ -30,7 +30,7 @@ pub const MOST_HANDED_OUT: u8 = WORKERS - 1;
 pub const MOST_EVENTS: usize = 32;
 
 /// How many bytes go from worker to worker when the lobby is handed over: its address alone.
-pub const HANDED_OVER: usize = size_of::<BoxedLobby>();
+pub const HANDED_OVER: usize = size_of::<Lobby>();
 
 const _: () = prove!(HANDED_OVER == size_of::<usize>());
 
@@ -79,12 +79,9 @@ impl Model for Desk {
 impl Desk {
     /// Lays a lobby on a new desk. The pass is worker 0's. Fails only where memory is refused.
     pub fn open<R: Wait>(rt: &R, alloc: Global, lobby: Lobby) -> Result<(Desk, Pass), DeskError>
-        ensures pass { IfOk result (λ r. r.1 ≡ first_pass r.0 lobby.plain) }
+        ensures pass { IfOk result (λ r. r.1 ≡ first_pass r.0 lobby) }
         ensures refused { IfErr result (λ error. error ≡ DeskError.Memory) }
     {
-        let Ok(lobby) = BoxedLobby::new(alloc, lobby) else {
-            return Err(DeskError::Memory);
-        };
         let Ok(room) = Vec::with_capacity(alloc, MOST_EVENTS) else {
             return Err(DeskError::Memory);
         };
@@ -188,10 +185,11 @@ impl Desk {
     }
 
     /// Takes the lobby, and waits while another worker holds it. It is then the plain lobby after the
-    /// history so far, all of which the worker has now seen.
+    /// history so far, all of which the worker has now seen. Its lists of changed clients are those that lay
+    /// on the desk.
     pub fn take<R: Wait>(&self, rt: &R, pass: Pass) -> Held
         requires { pass.desk ≡ self.now }
-        ensures pass { result.pass ≡ record pass { worker = seen_by pass.worker result.pass.worker.seen } }
+        ensures pass { result.pass ≡ record pass { on_desk = result.lobby; worker = seen_by pass.worker result.pass.worker.seen } }
         ensures later { Begins pass.worker.seen result.pass.worker.seen }
         ensures own { made_by pass.worker.number result.pass.worker.seen ≡ pass.worker.mine }
         ensures known { made_by pass.worker.number pass.worker.seen ≡ pass.worker.mine }
@@ -223,7 +221,7 @@ impl Desk {
     pub fn close<R: Wait>(self, rt: &R, pass: Pass) -> Result<Closing, (Desk, Pass, CloseError)>
         requires desk { pass.desk ≡ self }
         requires first { pass.worker.number ≡ 0 }
-        ensures pass { IfOk result (λ closing. closing.pass ≡ record pass { worker = seen_by pass.worker closing.pass.worker.seen }) }
+        ensures pass { IfOk result (λ closing. closing.pass ≡ record pass { on_desk = closing.lobby; worker = seen_by pass.worker closing.pass.worker.seen }) }
         ensures later { IfOk result (λ closing. Begins pass.worker.seen closing.pass.worker.seen) }
         ensures stands { IfOk result (λ closing. closing.lobby.plain ≡ after_history pass.start closing.pass.worker.seen) }
         ensures own { IfOk result (λ closing. made_by 0 closing.pass.worker.seen ≡ pass.worker.mine) }

@@ -5,7 +5,7 @@ ghost use Rattle.command_forms.specs.Kinds.{keeps_kinds};
 ghost use Rattle.lobby_model.specs.declared.event.Event.TheVariants as event;
 ghost use Rattle.lobby_model.specs.Sessions.{has_place};
 ghost use Rattle.lobby_post.specs.Mail.{IsWakes};
-ghost use Rattle.lobby_machine.specs.Shown.{Applies, HasNoNumber, IsFull, IsNextNumber, KeepsOthers, Opens, TakesFirst, count_into, filled, dirty_at, unread_of, is_finished};
+ghost use Rattle.lobby_machine.specs.Shown.{Applies, HasNoNumber, IsFull, IsNextNumber, KeepsOthers, ListsOpened, ListsTouched, Opens, TakesFirst, count_into, filled, dirty_at, unread_of, is_finished};
 ghost use Rattle.lobby_lock.specs.Passes.{AddsEvent, lobby_after, pass_after};
 
 use crate::desk::{Desk, MOST_EVENTS};
@@ -13,19 +13,20 @@ use crate::pass::{Counts, Pass};
 use crate::place::put_back;
 use crate::rule::PlacePass;
 use command_grammar::Request;
-use lobby_machine::{BoxedLobby, Drained, OpenError, Wakes};
+use lobby_machine::{Drained, Lobby, OpenError, Wakes};
 use lobby_model::Event;
 use std::alloc::AllocError;
 use std::marker::{Brand, Model};
 use std::sync::Wait;
 
-/// A hold of the lobby: nobody else has it. Contracts see its pass, the lobby, and its events so far.
+/// A hold of the lobby: nobody else has it. Contracts see its pass, the lobby with its lists of changed
+/// clients, and its events so far.
 /// It has no `Drop`, so it must be given back.
 pub struct Held {
     pub(crate) inner: PlacePass,
     pub(crate) number: u8,
     pub(crate) handed: u8,
-    pub(crate) lobby: BoxedLobby,
+    pub(crate) lobby: Lobby,
     pub(crate) events: Vec<Event>,
     pub(crate) counts: Counts,
 }
@@ -57,6 +58,7 @@ impl Held {
         requires home { home ≤ 63 }
         ensures number { IfOk result (λ number. IsNextNumber self.old.lobby number) }
         ensures ok { OnOk result (Opens self.old.lobby self.new.lobby ip home) }
+        ensures dirty { IfOk result (λ number. ListsOpened self.old.lobby self.new.lobby home number) }
         ensures event { OnOk result (AddsEvent self.old self.new (event.Open ip home)) }
         ensures full { (result ≡ Err OpenError.Full) ↔ IsFull self.old.lobby }
         ensures no_number { result ≡ Err OpenError.NoNumber → HasNoNumber self.old.lobby }
@@ -80,6 +82,7 @@ impl Held {
         requires kinds { IsTrue (keeps_kinds request.command) }
         ensures ok { OnOk result (Applies self.old.lobby self.new.lobby (event.Say client request)) }
         ensures wakes { IfOk result (λ wakes. IsWakes self.old.lobby.plain (event.Say client request) wakes) }
+        ensures dirty { OnOk result (ListsTouched self.old.lobby self.new.lobby (event.Say client request)) }
         ensures event { OnOk result (AddsEvent self.old self.new (event.Say client request)) }
         ensures err { OnErr result (self.new ≡ self.old) }
     {
@@ -101,6 +104,7 @@ impl Held {
         requires few { length self.old.events < MOST_EVENTS }
         ensures ok { OnOk result (Applies self.old.lobby self.new.lobby (event.Shut client)) }
         ensures wakes { IfOk result (λ wakes. IsWakes self.old.lobby.plain (event.Shut client) wakes) }
+        ensures dirty { OnOk result (ListsTouched self.old.lobby self.new.lobby (event.Shut client)) }
         ensures event { OnOk result (AddsEvent self.old self.new (event.Shut client)) }
         ensures err { OnErr result (self.new ≡ self.old) }
     {
@@ -121,6 +125,7 @@ impl Held {
         ensures given { into.new ≡ filled self.old.lobby.plain client result.count into.old }
         ensures finished { result.finished ≡ is_finished self.new.lobby.plain client }
         ensures next { Applies self.old.lobby self.new.lobby (event.Drain client (length into.old)) }
+        ensures dirty { self.new.lobby.dirty ≡ self.old.lobby.dirty }
         ensures event { AddsEvent self.old self.new (event.Drain client (length into.old)) }
     {
         let count = into.len();
@@ -147,11 +152,12 @@ impl Held {
     pub fn unread(&self, client: u64) -> usize
         ensures { result ≡ length (unread_of self.now.lobby.plain client) }
     {
-        self.lobby.as_lobby().unread(client)
+        self.lobby.unread(client)
     }
 
-    /// Gives the lobby back and ends the hold: its events join the history under its worker's number,
-    /// behind all that the worker has seen. Another worker may then take the lobby.
+    /// Gives the lobby back as the hold has it, with its lists of changed clients, and ends the hold: its
+    /// events join the history under its worker's number, behind all that the worker has seen. Another
+    /// worker may then take the lobby.
     pub fn give<R: Wait>(self, rt: &R, desk: &Desk) -> Pass
         requires { self.pass.desk ≡ desk.now }
         ensures { result ≡ pass_after self }

@@ -10,12 +10,12 @@ use crate::event_count::EventCount;
 use crate::rule::{Giving, Happened, Opening, Place, PlacePass};
 use crate::view::View;
 use crossbeam_queue::protocol::Outcome;
-use lobby_machine::BoxedLobby;
+use lobby_machine::Lobby;
 use lobby_model::Event;
 use std::sync::Wait;
 
 /// The lobby is first put in, by the one pass that there is.
-pub fn begin<R: Wait>(rt: &R, place: &Place, pass: &mut PlacePass, lobby: BoxedLobby)
+pub fn begin<R: Wait>(rt: &R, place: &Place, pass: &mut PlacePass, lobby: Lobby)
     requires queue { IsPassOf place.now pass.old × (ruled_capacity place.now ≡ 1) }
     requires alone { ((view pass.old).alive ≡ true) × ((view pass.old).holds ≡ true) × ((view pass.old).worker ≡ new_worker 0 []) × ((view pass.old).handed ≡ 0) }
     ensures queue { IsSamePass pass.old pass.new }
@@ -32,7 +32,7 @@ pub fn put_back<E: Happened, R: Wait>(
     rt: &R,
     place: &Place,
     pass: &mut PlacePass,
-    lobby: BoxedLobby,
+    lobby: Lobby,
     events: &[Event],
 )
     requires queue { IsPassOf place.now pass.old × (ruled_capacity place.now ≡ 1) }
@@ -40,7 +40,7 @@ pub fn put_back<E: Happened, R: Wait>(
     requires holds { ((view pass.old).alive ≡ true) × ((view pass.old).holds ≡ true) }
     requires stands { lobby.plain ≡ lobby_after (shown_pass pass.old) events.now }
     ensures queue { IsSamePass pass.old pass.new }
-    ensures gave { view pass.new ≡ gave (view pass.old) events.now }
+    ensures gave { view pass.new ≡ gave (view pass.old) lobby events.now }
 {
     match place.push_as::<Giving<E>, R>(rt, pass, lobby) {
         Ok(()) => {}
@@ -49,12 +49,12 @@ pub fn put_back<E: Happened, R: Wait>(
 }
 
 /// Waits for the lobby, and takes it by a step of this kind.
-pub fn fetch<M: Outcome<BoxedLobby, View>, R: Wait>(
+pub fn fetch<M: Outcome<Lobby, View>, R: Wait>(
     rt: &R,
     place: &Place,
     event_count: &EventCount,
     pass: &mut PlacePass,
-) -> BoxedLobby
+) -> Lobby
     requires queue { IsPassOf place.now pass.old }
     requires rule { (place : ℕ) → Pops OneHistory place (view pass.old) (M.then (view pass.old)) }
     ensures queue { IsSamePass pass.old pass.new }

@@ -3,13 +3,13 @@
 use crate::view::View;
 use crossbeam_queue::protocol::{Join, Lesson, Outcome, Protocol, Split};
 use crossbeam_queue::{Pass, RuledArrayQueue};
-use lobby_machine::BoxedLobby;
+use lobby_machine::Lobby;
 use std::marker::{Brand, PhantomData};
 
 /// There is one history.
 pub struct OneHistory;
 
-impl Protocol<BoxedLobby, View> for OneHistory {
+impl Protocol<Lobby, View> for OneHistory {
     ghost use Rattle.lobby_lock.specs.Rule.{OneHistory as one_history, first_view};
 
     ghost holds = { one_history };
@@ -34,14 +34,14 @@ impl Happened for Brand {
 /// The lobby is first put into its place.
 pub struct Opening;
 
-impl Outcome<BoxedLobby, View> for Opening {
+impl Outcome<Lobby, View> for Opening {
     ghost use Rattle.std.specs.Prelude.{◌≡◌};
     ghost use Rattle.lobby_lock.specs.Rule.{opened};
 
     ghost then = { λ v x w. w ≡ opened v x };
 }
 
-impl Lesson<BoxedLobby, View> for Opening {
+impl Lesson<Lobby, View> for Opening {
     ghost use Rattle.std.specs.Prelude.{◌≡◌, []};
 
     ghost fact = { λ v items. items ≡ [] };
@@ -52,14 +52,14 @@ pub struct Giving<E> {
     marker: PhantomData<E>,
 }
 
-impl<E: Happened> Outcome<BoxedLobby, View> for Giving<E> {
+impl<E: Happened> Outcome<Lobby, View> for Giving<E> {
     ghost use Rattle.std.specs.Prelude.{◌≡◌};
     ghost use Rattle.lobby_lock.specs.Rule.{gave};
 
-    ghost then = { λ v x w. w ≡ gave v E.events };
+    ghost then = { λ v x w. w ≡ gave v x E.events };
 }
 
-impl<E> Lesson<BoxedLobby, View> for Giving<E> {
+impl<E> Lesson<Lobby, View> for Giving<E> {
     ghost use Rattle.std.specs.Prelude.{◌≡◌, []};
 
     ghost fact = { λ v items. items ≡ [] };
@@ -68,7 +68,7 @@ impl<E> Lesson<BoxedLobby, View> for Giving<E> {
 /// The lobby is taken.
 pub struct Taking;
 
-impl Outcome<BoxedLobby, View> for Taking {
+impl Outcome<Lobby, View> for Taking {
     ghost use Rattle.lobby_lock.specs.Rule.{Took};
 
     ghost then = { Took };
@@ -77,7 +77,7 @@ impl Outcome<BoxedLobby, View> for Taking {
 /// The lobby is taken for good.
 pub struct TakingForGood;
 
-impl Outcome<BoxedLobby, View> for TakingForGood {
+impl Outcome<Lobby, View> for TakingForGood {
     ghost use Rattle.lobby_lock.specs.Rule.{Closed};
 
     ghost then = { Closed };
@@ -108,14 +108,14 @@ impl Join<View> for TakingBack {
 /// What is known of the worker whose pass came back last.
 pub struct LastBack;
 
-impl Lesson<BoxedLobby, View> for LastBack {
+impl Lesson<Lobby, View> for LastBack {
     ghost use Rattle.lobby_lock.specs.Rule.{LastEnded};
 
     ghost fact = { λ v items. LastEnded v v.taken_back };
 }
 
 /// Where the lobby lies.
-pub type Place = RuledArrayQueue<BoxedLobby, View, OneHistory>;
+pub type Place = RuledArrayQueue<Lobby, View, OneHistory>;
 
 /// A pass of that place.
-pub type PlacePass = Pass<BoxedLobby, View>;
+pub type PlacePass = Pass<Lobby, View>;

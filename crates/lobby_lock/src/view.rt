@@ -22,6 +22,9 @@ pub struct View {
     pub holds: bool,
     /// The lobby with which the desk was opened.
     pub start: Lobby,
+    /// The lobby as its worker last took it from the desk or left it there. A new pass knows what its
+    /// giver does.
+    pub on_desk: Lobby,
     /// What is known of its worker.
     pub worker: Worker,
     /// How many numbers were handed out; worker 0 alone counts them.

@@ -6,11 +6,9 @@
 //! before the first change alone, so that want of it changes nothing.
 #![tactic(auto)]
 
-mod boxed;
 mod lobby;
 mod rules;
 
-pub use boxed::BoxedLobby;
 pub use lobby::{Lobby, OpenError};
 pub use lobby_clients::Drained;
 pub use lobby_post::Wakes;

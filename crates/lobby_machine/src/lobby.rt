@@ -36,8 +36,14 @@ pub enum OpenError {
 }
 
 /// The lobby. Contracts see the plain lobby that it stands for, and for each worker which of its clients
-/// changed and wait to be looked after.
+/// changed and wait to be looked after. It stays where it lies, and who hands it over hands its address.
 pub struct Lobby {
+    parts: Box<Parts>,
+}
+
+/// What the lobby is made of.
+#[derive(Drop)]
+struct Parts {
     maps: Maps,
     // what the event at hand tells; its buffers are kept from event to event
     post: Post,
@@ -46,9 +52,8 @@ pub struct Lobby {
 impl Drop for Lobby {
     /// Who lets a lobby go calls this, and need not know what it is made of.
     fn drop(self) {
-        let Lobby { maps, post } = self;
-        drop(maps);
-        drop(post);
+        let Lobby { parts } = self;
+        drop(parts);
     }
 }
 
@@ -57,7 +62,7 @@ impl Model for Lobby {
 
     ghost Value = { Shown };
 
-    ghost view = { λ l. l.maps };
+    ghost view = { λ l. l.parts.value.maps };
 }
 
 impl Lobby {
@@ -70,10 +75,15 @@ impl Lobby {
         ensures plain { IfOk result (λ lobby. lobby.plain ≡ empty_lobby settings accounts) }
         ensures dirty { IfOk result (λ lobby. (home : ℕ) → home ≤ 63 → dirty_at lobby home ≡ []) }
     {
-        Ok(Lobby {
-            maps: Maps::new(alloc, settings, accounts)?,
-            post: Post::new(alloc),
-        })
+        let maps = Maps::new(alloc, settings, accounts)?;
+        let post = Post::new(alloc);
+        match Box::new(alloc, Parts { maps, post }) {
+            Ok(parts) => Ok(Lobby { parts }),
+            Err(failed) => {
+                drop(failed);
+                Err(AllocError)
+            }
+        }
     }
 
     /// A client connects from an IPv4 address, served by the worker `home`, 0 to 63. It gets the
@@ -88,10 +98,14 @@ impl Lobby {
         ensures no_place { has_place self.old.plain ≡ false → result ≡ Err OpenError.Memory → ⊥ }
         ensures err { OnErr result (self.new ≡ self.old) }
     {
-        match self.maps.admission() {
+        match self.parts.maps.admission() {
             Admission::Full => Err(OpenError::Full),
             Admission::NoNumber => Err(OpenError::NoNumber),
-            Admission::Free => self.maps.open(ip, home).map_err(|_| OpenError::Memory),
+            Admission::Free => self
+                .parts
+                .maps
+                .open(ip, home)
+                .map_err(|_| OpenError::Memory),
         }
     }
 
@@ -106,18 +120,12 @@ impl Lobby {
         ensures dirty { OnOk result (ListsTouched self.old self.new (event.Say client request.now)) }
         ensures err { OnErr result (self.new ≡ self.old) }
     {
-        let Some(me) = self.maps.issuer(client) else {
+        let Parts { maps, post } = &mut *self.parts;
+        let Some(me) = maps.issuer(client) else {
             return Ok(Wakes::none());
         };
-        let change = rules::decide(
-            &self.maps,
-            client,
-            me,
-            request.id,
-            &request.command,
-            &mut self.post,
-        )?;
-        self.maps.commit(client, change, &mut self.post)
+        let change = rules::decide(maps, client, me, request.id, &request.command, post)?;
+        maps.commit(client, change, post)
     }
 
     /// A client's connection is closed: it is removed, and its user, if it was logged in, is logged
@@ -129,8 +137,9 @@ impl Lobby {
         ensures dirty { OnOk result (ListsTouched self.old self.new (event.Shut client)) }
         ensures err { OnErr result (self.new ≡ self.old) }
     {
-        let change = rules::close(&self.maps, client, &mut self.post)?;
-        self.maps.commit(client, change, &mut self.post)
+        let Parts { maps, post } = &mut *self.parts;
+        let change = rules::close(maps, client, post)?;
+        maps.commit(client, change, post)
     }
 
     /// Takes bytes that a client has not read into a slice, as many as fit, and tells whether
@@ -142,7 +151,7 @@ impl Lobby {
         ensures next { Applies self.old self.new (event.Drain client (length into.old)) }
         ensures dirty { self.new.dirty ≡ self.old.dirty }
     {
-        self.maps.drain(client, into)
+        self.parts.maps.drain(client, into)
     }
 
     /// Takes the first client out of the list of those clients of a worker that changed: that were
@@ -155,28 +164,28 @@ impl Lobby {
         ensures nobody { IfNone result (dirty_at self.old home ≡ []) }
         ensures others { KeepsOthers self.old self.new home }
     {
-        self.maps.next_dirty(home)
+        self.parts.maps.next_dirty(home)
     }
 
     /// Whether an open would get a number.
     pub fn has_place(&self) -> bool
         ensures { result ≡ has_place self.now.plain }
     {
-        self.maps.admission() == Admission::Free
+        self.parts.maps.admission() == Admission::Free
     }
 
     /// The last client number given, 0 before the first.
     pub fn last_client(&self) -> u64
         ensures { result ≡ self.now.plain.last_client }
     {
-        self.maps.last_client()
+        self.parts.maps.last_client()
     }
 
     /// Whether a client is there: opened and not yet removed.
     pub fn has_client(&self, client: u64) -> bool
         ensures { result ≡ is_some (at_number self.now.plain.clients client) }
     {
-        self.maps.has_client(client)
+        self.parts.maps.has_client(client)
     }
 
     /// How many bytes a client has not read; 0 where it is not there.
@@ -184,7 +193,7 @@ impl Lobby {
         ensures count { result ≡ length (unread_of self.now.plain client) }
         ensures small { result < 2 ^ 63 }
     {
-        self.maps.unread(client)
+        self.parts.maps.unread(client)
     }
 
     /// Copies bytes that a client has not read into a slice, beginning `from` bytes behind the
@@ -193,6 +202,6 @@ impl Lobby {
         ensures count { result ≡ min (length (unread_of self.now.plain client) - from) (length into.old) }
         ensures given { into.new ≡ take result (drop from (unread_of self.now.plain client)) ++ drop result into.old }
     {
-        self.maps.copy_unread(client, from, into)
+        self.parts.maps.copy_unread(client, from, into)
     }
 }

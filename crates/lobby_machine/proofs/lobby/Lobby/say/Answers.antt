@@ -7,27 +7,28 @@ use Rattle.lobby_maps.specs.Changes.{changed}
 use Rattle.lobby_maps.specs.Dirty.{DirtyAfter}
 use Rattle.lobby_maps.specs.Shown.{Shown, dirty_at}
 use Rattle.lobby_maps.proofs.Dirtied.{dirty_quiet}
+use Rattle.lobby_machine.specs.declared.lobby.Parts.{Parts}
 use Rattle.lobby_machine.proofs.Events.{on_dirty, on_ok, on_wakes, said_effect, said_matches}
 use Rattle.lobby_machine.proofs.lobby.Lobby.say.Goals as goal
 
 pub returns-in_default-clause-ok : goal.returns-in_default-clause-ok
 returns-in_default-clause-ok c =
-    let deaf : hears c.self.inside.maps.plain c.args.client ≡ false = sym c.issuer.ensures.hears ∙ ap is_some c.in_default.is in
-    rw (← c.self.view_is) (sym (next_unheard c.self.inside.maps.plain c.args.client c.args.request.now deaf))
+    let deaf : hears c.deref_mut.result.now.maps.plain c.args.client ≡ false = sym c.issuer.ensures.hears ∙ ap is_some c.in_default.is in
+    rw (← ap (λ (p : Parts). p.maps) c.deref_mut.ensures.value ∙ c.self.view_is) (sym (next_unheard c.deref_mut.result.now.maps.plain c.args.client c.args.request.now deaf))
 
 pub returns-in_default-clause-wakes : goal.returns-in_default-clause-wakes
 returns-in_default-clause-wakes c = λ home.
     let s : State = c.args.self.now.plain in
-    let deaf : hears s c.args.client ≡ false = ap (λ (l : Shown). hears l.plain c.args.client) (sym c.self.view_is) ∙ sym c.issuer.ensures.hears
+    let deaf : hears s c.args.client ≡ false = ap (λ (l : Shown). hears l.plain c.args.client) (sym (ap (λ (p : Parts). p.maps) c.deref_mut.ensures.value ∙ c.self.view_is)) ∙ sym c.issuer.ensures.hears
     ∙ ap is_some c.in_default.is in
     c.none.ensures home ∙ sym (quiet_touches s (event.Say c.args.client c.args.request.now) home
     (λ d. unheard_sends s c.args.client c.args.request.now d deaf))
 
 pub returns-clause-ok : goal.returns-clause-ok
 returns-clause-ok c =
-    let s : State = c.self.inside.maps.plain in
+    let s : State = c.deref_mut.result.now.maps.plain in
     let live : hears s c.args.client ≡ true = sym c.issuer.ensures.hears ∙ ap is_some c.in-Some.is in
-    rw (← c.self.view_is)
+    rw (← ap (λ (p : Parts). p.maps) c.deref_mut.ensures.value ∙ c.self.view_is)
     (on_ok c.commit.result s (changed s c.args.client c.in_ok-change.change) c.commit.new.self.plain
     (event.Say c.args.client c.args.request.now) c.decide.new.post
     (said_effect s c.args.client c.args.request.now live _ _ c.in_ok-change.ensures)
@@ -35,9 +36,9 @@ returns-clause-ok c =
 
 pub returns-clause-wakes : goal.returns-clause-wakes
 returns-clause-wakes c =
-    let s : State = c.self.inside.maps.plain in
+    let s : State = c.deref_mut.result.now.maps.plain in
     let live : hears s c.args.client ≡ true = sym c.issuer.ensures.hears ∙ ap is_some c.in-Some.is in
-    rw (← c.self.view_is)
+    rw (← ap (λ (p : Parts). p.maps) c.deref_mut.ensures.value ∙ c.self.view_is)
     (on_wakes c.commit.result s (changed s c.args.client c.in_ok-change.change) c.commit.new.self.plain
     (event.Say c.args.client c.args.request.now) c.decide.new.post
     (said_effect s c.args.client c.args.request.now live _ _ c.in_ok-change.ensures)
@@ -45,19 +46,19 @@ returns-clause-wakes c =
 
 pub returns-in_default-clause-dirty : goal.returns-in_default-clause-dirty
 returns-in_default-clause-dirty c = λ home within.
-    let s : State = c.self.inside.maps.plain in
+    let s : State = c.deref_mut.result.now.maps.plain in
     let deaf : hears s c.args.client ≡ false = sym c.issuer.ensures.hears ∙ ap is_some c.in_default.is in
-    rw (← c.self.view_is)
+    rw (← ap (λ (p : Parts). p.maps) c.deref_mut.ensures.value ∙ c.self.view_is)
     (dirty_quiet s (event.Say c.args.client c.args.request.now) (λ d. unheard_sends s c.args.client c.args.request.now d deaf) home
-    (dirty_at c.self.inside.maps home) (effect_unheard s c.args.client c.args.request.now deaf) (c.issuer.ensures.waiting home within))
+    (dirty_at c.deref_mut.result.now.maps home) (effect_unheard s c.args.client c.args.request.now deaf) (c.issuer.ensures.waiting home within))
 
 pub returns-clause-dirty : goal.returns-clause-dirty
 returns-clause-dirty c =
-    let s : State = c.self.inside.maps.plain in
+    let s : State = c.deref_mut.result.now.maps.plain in
     let live : hears s c.args.client ≡ true = sym c.issuer.ensures.hears ∙ ap is_some c.in-Some.is in
-    rw (← c.self.view_is)
+    rw (← ap (λ (p : Parts). p.maps) c.deref_mut.ensures.value ∙ c.self.view_is)
     (on_dirty c.commit.result s (changed s c.args.client c.in_ok-change.change)
     (event.Say c.args.client c.args.request.now) c.decide.new.post
-    (λ e. (home : ℕ) → home ≤ 63 → DirtyAfter s e home (dirty_at c.self.inside.maps home) (dirty_at c.commit.new.self home))
+    (λ e. (home : ℕ) → home ≤ 63 → DirtyAfter s e home (dirty_at c.deref_mut.result.now.maps home) (dirty_at c.commit.new.self home))
     (said_effect s c.args.client c.args.request.now live _ _ c.in_ok-change.ensures)
     (said_matches s c.args.client c.args.request.now live _ _ c.in_ok-change.ensures) c.commit.ensures.dirty)
