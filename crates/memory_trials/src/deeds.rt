@@ -197,8 +197,9 @@ fn is_refused<S: Subject>(
     was_refused
 }
 
-/// Tries each deed on new pairs, step by step until no memory is refused. Each refusal has a pair of its own for the looks, which are
-/// deeds that make more be told and find what the refused deed left and a later one would hide, and one for the next try.
+/// Tries each deed on new pairs, step by step until no memory is refused. Looks, which are deeds that make more be told, find what the
+/// refused deed left and the next try would hide. So a growth that is refused has a pair for them, and one for the next try; where
+/// memory is scarce, they take turns.
 fn try_anew<S: Subject>(
     alloc: Global,
     deeds: &[(u64, Deed)],
@@ -210,10 +211,17 @@ fn try_anew<S: Subject>(
         let (client, deed) = deeds[number];
         let tried = (&deeds[..number], client, deed);
         for step in 0..=refuser.last_step() {
-            if !is_refused::<S>(alloc, tried, (step, Then::Looks), looks, refuser, notes) {
+            let then = if refuser.is_counted() || step % 2 == 0 {
+                Then::Looks
+            } else {
+                Then::NextTry
+            };
+            if !is_refused::<S>(alloc, tried, (step, then), looks, refuser, notes) {
                 break;
             }
-            is_refused::<S>(alloc, tried, (step, Then::NextTry), looks, refuser, notes);
+            if refuser.is_counted() {
+                is_refused::<S>(alloc, tried, (step, Then::NextTry), looks, refuser, notes);
+            }
         }
     }
 }

@@ -37,6 +37,11 @@ impl Refuser {
         }
     }
 
+    /// Whether each step refuses a growth of its own; where memory is scarce, many steps refuse the same one.
+    pub fn is_counted(&self) -> bool {
+        matches!(self, Refuser::Counted(_))
+    }
+
     /// From here on memory is refused as at this step.
     pub fn begin(&mut self, step: usize) {
         match self {
