@@ -5,7 +5,7 @@ ghost use Rattle.std.specs.Prelude.{◌≤◌, IfOk};
 use account_book::AccountBook;
 use lobby_files::{FileError, accounts_at, settings_at};
 use lobby_setup::Setup;
-use lobby_workers::{Gate, ServerError, Service, run_server};
+use lobby_workers::{Gate, ServerError, run_server};
 use mio::net::TcpListener;
 use std::io;
 use std::net::{Net, SocketAddr};
@@ -56,12 +56,7 @@ where
         workers,
         stop_at_input_end,
     } = setup_at(rt, settings)?;
-    let service = Service {
-        settings,
-        accounts: book_at(rt, accounts)?,
-        workers,
-        stop_at_input_end,
-    };
+    let accounts = book_at(rt, accounts)?;
     let Ok(listener) = TcpListener::bind(rt, SocketAddr::V4(address)) else {
         return Err(ServerError::Listener);
     };
@@ -70,7 +65,10 @@ where
     let status = run_server(
         rt,
         rt.alloc(),
-        service,
+        settings,
+        workers,
+        stop_at_input_end,
+        accounts,
         listener,
         &mut input,
         &mut output,

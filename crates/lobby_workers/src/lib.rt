@@ -5,11 +5,15 @@
 #![tactic(auto)]
 
 mod error;
+mod inboxes;
 mod server;
 mod turns;
+mod wakers;
 mod worker;
-mod worker_handles;
 
 pub use error::ServerError;
+pub use inboxes::{Arrival, Inboxes};
 pub use lobby_turns::{Conn, Gate, Got, Link, Sent, Turn, TurnState, serve};
-pub use server::{Service, run_server};
+pub use server::run_server;
+pub use wakers::Wakers;
+pub use worker::{WorkerListener, run_worker};

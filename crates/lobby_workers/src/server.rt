@@ -5,39 +5,63 @@ ghost use Rattle.std.specs.List.{All};
 ghost use Rattle.lobby_workers.specs.Statuses.{IsEnd};
 
 use crate::error::ServerError;
+use crate::inboxes::Inboxes;
 use crate::turns::Shared;
-use crate::worker::{WorkerLoop, run_worker};
-use crate::worker_handles::WorkerHandles;
+use crate::wakers::Wakers;
+use crate::worker::{WorkerListener, run_worker};
 use account_book::AccountBook;
 use lobby_lock::{Closing, Count, Desk, DeskError, Pass};
 use lobby_machine::Lobby;
 use lobby_model::{Settings, WORKERS};
 use lobby_turns::Gate;
+use mio::Waker;
 use mio::net::TcpListener;
 use std::alloc::{AllocError, Global};
 use std::io::{ErrorKind, Read, Write};
 use std::net::Net;
 use std::snapshot::Snapshot;
 use std::sync::Wait;
+use std::sync::atomic::AtomicBool;
 use std::thread::{self, Promise, PromisedHandle, Scope, Threads};
 
 /// What a server serves, and how.
 #[derive(Drop)]
-pub struct Service {
-    /// What the lobby is told.
-    pub settings: Settings,
-    /// Who may log in.
-    pub accounts: AccountBook,
-    /// How many threads serve clients, 1 to 64.
-    pub workers: u32,
-    /// Whether the server ends where its input does. Else it runs until it is killed.
-    pub stop_at_input_end: bool,
+struct Service {
+    settings: Settings,
+    workers: u32,
+    stop_at_input_end: bool,
+    accounts: AccountBook,
+}
+
+/// How the workers of a server are reached, and whether they are to end.
+#[derive(Drop)]
+struct Handles {
+    inboxes: Inboxes,
+    wakers: Wakers,
+    stop: AtomicBool,
+}
+
+impl Handles {
+    /// No worker yet.
+    fn new(alloc: Global) -> Handles {
+        Handles {
+            inboxes: Inboxes::new(alloc),
+            wakers: Wakers::new(alloc),
+            stop: AtomicBool::new(false),
+        }
+    }
+
+    /// The next worker gets its inbox, and is woken by this waker. Fails only where memory is refused.
+    fn join(&mut self, alloc: Global, waker: Waker) -> Result<(), AllocError> {
+        self.inboxes.add(alloc)?;
+        self.wakers.add(waker)
+    }
 }
 
 /// A worker before it starts.
 #[derive(Drop)]
 struct NewWorker {
-    worker_loop: WorkerLoop,
+    listener: WorkerListener,
     pass: Pass,
 }
 
@@ -80,19 +104,29 @@ struct Ended {
 /// where a read failed. A worker that is stopped shuts its clients, and its pass is taken back. Then
 /// the desk is closed, and for each worker a line is printed: `worker W: N events`, or `worker W: full`
 /// for 18446744073709551615 and more. Without `stop_at_input_end` the workers run until the program is killed. A print that fails
-/// is ignored. The gate is told what the workers do, for tests. The contract says of all this no more than which statuses there are.
+/// is ignored. The gate is told what the workers do, for tests. There are 1 to 64 workers. The contract
+/// says of all this no more than which statuses there are.
 pub fn run_server<R: Threads + Wait + Net + Sync, I: Read, O: Write, G: Gate + Sync>(
     rt: &R,
     alloc: Global,
-    service: Service,
+    settings: Settings,
+    workers: u32,
+    stop_at_input_end: bool,
+    accounts: AccountBook,
     listener: TcpListener,
     input: &mut I,
     output: &mut O,
     gate: &G,
 ) -> u8
-    requires { (1 ≤ service.workers) × (service.workers ≤ WORKERS) }
+    requires { (1 ≤ workers) × (workers ≤ WORKERS) }
     ensures { IsEnd result }
 {
+    let service = Service {
+        settings,
+        workers,
+        stop_at_input_end,
+        accounts,
+    };
     match serve_until_end(rt, alloc, service, listener, input, output, gate) {
         Ok(()) => 0,
         Err(error) => error.status(),
@@ -110,17 +144,19 @@ fn serve_until_end<R: Threads + Wait + Net + Sync, I: Read, O: Write, G: Gate + 
 ) -> Result<(), ServerError> {
     let Service {
         settings,
-        accounts,
         workers,
         stop_at_input_end,
+        accounts,
     } = service;
     let (desk, pass) = open_desk(rt, alloc, settings, accounts)?;
-    let mut handles = WorkerHandles::new(alloc);
+    let mut handles = Handles::new(alloc);
     let ended = match new_workers(rt, alloc, &desk, pass, workers, listener, &mut handles) {
         Ok((first, others)) => {
             let shared = Shared {
                 desk: &desk,
-                handles: &handles,
+                inboxes: &handles.inboxes,
+                wakers: &handles.wakers,
+                stop: &handles.stop,
                 gate,
             };
             let streams = Streams {
@@ -207,18 +243,18 @@ fn open_desk<R: Wait>(
     }
 }
 
-/// The loop of the next worker, which joins those that are reached by their handles.
-fn new_worker_loop<R: Net>(
+/// What the next worker listens with. It joins those that are reached by their handles.
+fn new_listener<R: Net>(
     rt: &R,
     alloc: Global,
-    handles: &mut WorkerHandles,
+    handles: &mut Handles,
     listener: Option<TcpListener>,
-) -> Result<WorkerLoop, ServerError> {
-    match WorkerLoop::new(rt, alloc, listener) {
-        Ok((worker_loop, waker)) => match handles.join(alloc, waker) {
-            Ok(()) => Ok(worker_loop),
+) -> Result<WorkerListener, ServerError> {
+    match WorkerListener::new(rt, alloc, listener) {
+        Ok((listener, waker)) => match handles.join(alloc, waker) {
+            Ok(()) => Ok(listener),
             Err(_) => {
-                drop(worker_loop);
+                drop(listener);
                 Err(ServerError::Memory)
             }
         },
@@ -234,14 +270,14 @@ fn new_workers<R: Net>(
     pass: Pass,
     count: u32,
     listener: TcpListener,
-    handles: &mut WorkerHandles,
+    handles: &mut Handles,
 ) -> Result<(NewWorker, Vec<NewWorker>), ServerError>
     requires { (pass.desk ≡ desk.now) × (pass.worker.number ≡ 0) }
     ensures first { IfOk result (λ r. (r.0.pass.desk ≡ desk.now) × (r.0.pass.worker.number ≡ 0)) }
     ensures others { IfOk result (λ r. All (λ worker. worker.pass.desk ≡ desk.now) r.1.items) }
 {
-    let worker_loop = match new_worker_loop(rt, alloc, handles, Some(listener)) {
-        Ok(worker_loop) => worker_loop,
+    let listener = match new_listener(rt, alloc, handles, Some(listener)) {
+        Ok(listener) => listener,
         Err(error) => {
             drop(pass);
             return Err(error);
@@ -249,9 +285,9 @@ fn new_workers<R: Net>(
     };
     let mut others = Vec::new(alloc);
     match add_workers(rt, alloc, desk, pass, count, handles, &mut others) {
-        Ok(pass) => Ok((NewWorker { worker_loop, pass }, others)),
+        Ok(pass) => Ok((NewWorker { listener, pass }, others)),
         Err(error) => {
-            drop(worker_loop);
+            drop(listener);
             drop(others);
             Err(error)
         }
@@ -265,7 +301,7 @@ fn add_workers<R: Net>(
     desk: &Desk,
     pass: Pass,
     count: u32,
-    handles: &mut WorkerHandles,
+    handles: &mut Handles,
     workers: &mut Vec<NewWorker>,
 ) -> Result<Pass, ServerError>
     requires pass { (pass.desk ≡ desk.now) × (pass.worker.number ≡ 0) }
@@ -295,14 +331,14 @@ fn next_worker<R: Net>(
     alloc: Global,
     desk: &Desk,
     pass: Pass,
-    handles: &mut WorkerHandles,
+    handles: &mut Handles,
 ) -> Result<(Pass, NewWorker), ServerError>
     requires { (pass.desk ≡ desk.now) × (pass.worker.number ≡ 0) }
     ensures mine { IfOk result (λ r. (r.0.desk ≡ desk.now) × (r.0.worker.number ≡ 0)) }
     ensures worker { IfOk result (λ r. r.1.pass.desk ≡ desk.now) }
 {
-    let worker_loop = match new_worker_loop(rt, alloc, handles, None) {
-        Ok(worker_loop) => worker_loop,
+    let listener = match new_listener(rt, alloc, handles, None) {
+        Ok(listener) => listener,
         Err(error) => {
             drop(pass);
             return Err(error);
@@ -311,13 +347,13 @@ fn next_worker<R: Net>(
     match hand_out(desk, alloc, pass) {
         Ok((mine, other)) => {
             let worker = NewWorker {
-                worker_loop,
+                listener,
                 pass: other,
             };
             Ok((mine, worker))
         }
         Err(error) => {
-            drop(worker_loop);
+            drop(listener);
             Err(error)
         }
     }
@@ -366,7 +402,7 @@ fn run_workers<R: Threads + Wait + Sync, I: Read, O: Write, G: Gate + Sync>(
         move |scope| -> Ended
             requires { (first.pass.desk ≡ shared.now.desk.now) × (first.pass.worker.number ≡ 0) × All (λ worker. worker.pass.desk ≡ shared.now.desk.now) others.items × (threads.items ≡ []) × (vec_len others ≤ vec_capacity threads) }
             ensures { (result.pass.desk ≡ shared.entry.now.desk.now) × (result.pass.worker.number ≡ 0) }
-        { run_threads(scope, rt, shared, first, others, threads, streams) },
+        { run_threads(scope, rt, alloc, shared, first, others, threads, streams) },
     );
     Ok(ended)
 }
@@ -375,6 +411,7 @@ fn run_workers<R: Threads + Wait + Sync, I: Read, O: Write, G: Gate + Sync>(
 fn run_threads<'s, 'e, R: Threads + Wait + Sync, I: Read, O: Write, G: Gate + Sync>(
     scope: &Scope<'s, &'e ()>,
     rt: &'e R,
+    alloc: Global,
     shared: &'e Shared<'e, G>,
     first: NewWorker,
     others: Vec<NewWorker>,
@@ -392,10 +429,10 @@ fn run_threads<'s, 'e, R: Threads + Wait + Sync, I: Read, O: Write, G: Gate + Sy
         stop_at_input_end,
         output,
     } = streams;
-    let NewWorker { worker_loop, pass } = first;
-    let (pass, threads) = start_all(scope, rt, shared, pass, others, threads);
-    let first = start(scope, rt, shared, NewWorker { worker_loop, pass });
-    let reason = announce_until_end(shared.handles, input, stop_at_input_end, output);
+    let NewWorker { listener, pass } = first;
+    let (pass, threads) = start_all(scope, rt, alloc, shared, pass, others, threads);
+    let first = start(scope, rt, alloc, shared, NewWorker { listener, pass });
+    let reason = announce_until_end(shared, input, stop_at_input_end, output);
     let pass = match first {
         Ok(thread) => thread.join(rt),
         Err(pass) => pass,
@@ -406,13 +443,13 @@ fn run_threads<'s, 'e, R: Threads + Wait + Sync, I: Read, O: Write, G: Gate + Sy
 
 /// Says that the server listens, waits until the input ends, where that stops the server, and then stops the workers. Says nothing
 /// and does not wait where a worker got no thread.
-fn announce_until_end<I: Read, O: Write>(
-    handles: &WorkerHandles,
+fn announce_until_end<I: Read, O: Write, G>(
+    shared: &Shared<'_, G>,
     input: &mut I,
     stop_at_input_end: bool,
     output: &mut O,
 ) -> Result<(), ServerError> {
-    if handles.is_stopped() {
+    if shared.is_stopped() {
         return Err(ServerError::Listener);
     }
     announce(output);
@@ -421,15 +458,17 @@ fn announce_until_end<I: Read, O: Write>(
         return Ok(());
     }
     let reason = read_to_end(input);
-    handles.stop();
+    shared.stop_all();
     reason
 }
 
 /// Starts a worker's thread. Where none can be made all workers are stopped, and what the thread would
-/// do is done here, which then ends at once and gives the pass back.
+/// do is done here, which then ends at once and gives the pass back. The thread captures references and no `Shared`:
+/// of a captured struct that holds references nothing is known in a promise.
 fn start<'s, 'e, R: Wait + Sync, G: Gate + Sync>(
     scope: &Scope<'s, &'e ()>,
     rt: &'e R,
+    alloc: Global,
     shared: &Shared<'e, G>,
     worker: NewWorker,
 ) -> Result<WorkerThread, Pass>
@@ -439,48 +478,24 @@ fn start<'s, 'e, R: Wait + Sync, G: Gate + Sync>(
     ensures back { IfErr result (λ pass. (pass.desk ≡ shared.now.desk.now) × (pass.worker.number ≡ worker.pass.worker.number)) }
 {
     let promise = SamePass(Snapshot::of(&worker.pass));
-    let desk = shared.desk;
-    let handles = shared.handles;
-    let gate = shared.gate;
-    match scope.spawn_with(promise, move || work(rt, desk, handles, gate, worker)) {
+    let NewWorker { listener, pass } = worker;
+    let (desk, inboxes, wakers) = (shared.desk, shared.inboxes, shared.wakers);
+    let (stop, gate) = (shared.stop, shared.gate);
+    let work = move || run_worker(rt, alloc, desk, pass, listener, inboxes, wakers, stop, gate);
+    match scope.spawn_with(promise, work) {
         Ok(thread) => Ok(thread),
         Err(refused) => {
-            handles.stop();
+            shared.stop_all();
             Err((refused.value)())
         }
     }
-}
-
-/// What a worker's thread does. It captures references and no `Shared`: of a captured struct that holds references nothing
-/// is known in a promise.
-fn work<R: Wait, G: Gate>(
-    rt: &R,
-    desk: &Desk,
-    handles: &WorkerHandles,
-    gate: &G,
-    worker: NewWorker,
-) -> Pass
-    requires { worker.pass.desk ≡ desk.now }
-    ensures desk { result.desk ≡ worker.pass.desk }
-    ensures number { result.worker.number ≡ worker.pass.worker.number }
-{
-    let NewWorker { worker_loop, pass } = worker;
-    run_worker(
-        rt,
-        &Shared {
-            desk,
-            handles,
-            gate,
-        },
-        worker_loop,
-        pass,
-    )
 }
 
 /// Starts the workers' threads one after another. The passes of those that got none are taken back.
 fn start_all<'s, 'e, R: Wait + Sync, G: Gate + Sync>(
     scope: &Scope<'s, &'e ()>,
     rt: &'e R,
+    alloc: Global,
     shared: &'e Shared<'e, G>,
     pass: Pass,
     workers: Vec<NewWorker>,
@@ -497,7 +512,7 @@ fn start_all<'s, 'e, R: Wait + Sync, G: Gate + Sync>(
     let mut workers = workers;
     let mut threads = threads;
     while let Some(worker) = workers.pop() {
-        match start(scope, rt, shared, worker) {
+        match start(scope, rt, alloc, shared, worker) {
             Ok(thread) => threads.push_reserved(thread),
             Err(ended) => pass = shared.desk.take_back(pass, ended),
         }

@@ -4,7 +4,8 @@ ghost use Rattle.std.specs.Prelude.{◌≡◌, ◌<◌, [], ◌∷◌, ◌++◌,
 ghost use Rattle.lobby_model.specs.declared.event.Event.TheVariants as event;
 ghost use Rattle.lobby_holds.specs.Holds.{IsTaken, Stands};
 
-use crate::worker_handles::{Arrival, WorkerHandles};
+use crate::inboxes::{Arrival, Inboxes};
+use crate::wakers::Wakers;
 use lobby_connections::{Connection, Connections, NAMES_IN_HOLD, PollTimeout};
 use lobby_holds::GatedDesk;
 use lobby_lock::{Desk, Held, Pass};
@@ -13,14 +14,34 @@ use lobby_model::WORKERS;
 use lobby_turns::{Conn, Gate, Link, Turn, TurnState, close, serve};
 use mio::Registry;
 use std::sync::Wait;
+use std::sync::atomic::{AtomicBool, Ordering};
 
 /// What all workers of a server use.
 #[derive(Drop)]
 pub struct Shared<'a, G> {
     /// Where the lobby lies.
     pub desk: &'a Desk,
-    pub handles: &'a WorkerHandles,
+    /// Where connections wait for their workers.
+    pub inboxes: &'a Inboxes,
+    /// How the workers are woken.
+    pub wakers: &'a Wakers,
+    /// Whether all workers are to end.
+    pub stop: &'a AtomicBool,
+    /// What is told what the workers do.
     pub gate: &'a G,
+}
+
+impl<G> Shared<'_, G> {
+    /// Tells all workers to end.
+    pub fn stop_all(&self) {
+        self.stop.store(true, Ordering::SeqCst);
+        self.wakers.wake_all();
+    }
+
+    /// Whether all workers are to end.
+    pub fn is_stopped(&self) -> bool {
+        self.stop.load(Ordering::SeqCst)
+    }
 }
 
 /// A connection begins: its client is opened, with its worker's number as home. It is closed
@@ -76,7 +97,7 @@ fn pass_on<G: Gate>(shared: &Shared<'_, G>, connections: &mut Connections, home:
     requires { home < WORKERS }
 {
     connections.mark(home, wakes);
-    shared.handles.wake_others(home, wakes);
+    shared.wakers.wake_others(home, wakes);
 }
 
 /// Those get their turn that were left in the round before. Whom these and later turns leave over stands in another
@@ -191,7 +212,7 @@ pub fn shut_all<R: Wait, G: Gate>(
         if let Some(conn) = connections.conn_at(key) {
             let (after, turn) = shut(rt, shared, pass, conn);
             pass = after;
-            shared.handles.wake_others(pass.number(), turn.wakes);
+            shared.wakers.wake_others(pass.number(), turn.wakes);
         }
     }
     pass

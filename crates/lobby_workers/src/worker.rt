@@ -3,10 +3,11 @@
 ghost use Rattle.std.specs.Prelude.{◌≡◌};
 
 use crate::error::ServerError;
+use crate::inboxes::{Arrival, Inboxes};
 use crate::turns::{self, Shared};
-use crate::worker_handles::{Arrival, WorkerHandles};
+use crate::wakers::Wakers;
 use lobby_connections::{Connections, PollTimeout};
-use lobby_lock::Pass;
+use lobby_lock::{Desk, Pass};
 use lobby_turns::Gate;
 use mio::net::TcpListener;
 use mio::{Events, Interest, Poll, Token, Waker};
@@ -14,6 +15,7 @@ use std::alloc::Global;
 use std::io::ErrorKind;
 use std::net::{Net, SocketAddr};
 use std::sync::Wait;
+use std::sync::atomic::AtomicBool;
 
 /// The token of a worker's waker. Connections have the keys of their table, far below.
 const WAKER: Token = Token(usize::MAX);
@@ -29,9 +31,17 @@ const EVENTS: usize = 1_024;
 /// the worker from its connections.
 const ACCEPTS: u32 = 64;
 
-/// What a worker works with: its poll, its connections, and at one worker the listener.
+/// What a worker listens with: its poll, with room for what one poll tells, and at one worker the server's listener.
 #[derive(Drop)]
-pub struct WorkerLoop {
+pub struct WorkerListener {
+    poll: Poll,
+    events: Events,
+    listener: Option<TcpListener>,
+}
+
+/// What a worker works with: what it listens with, and its connections.
+#[derive(Drop)]
+struct WorkerLoop {
     poll: Poll,
     events: Events,
     listener: Option<TcpListener>,
@@ -49,14 +59,14 @@ struct Readiness {
     listener: bool,
 }
 
-impl WorkerLoop {
-    /// A worker's loop with its waker. Fails where memory is refused, or the system makes no poll or waker
-    /// or does not register the listener.
+impl WorkerListener {
+    /// What the next worker listens with, and its waker. Fails where memory is refused, or the system makes no poll or
+    /// waker or does not register the listener.
     pub fn new<R: Net>(
         rt: &R,
         alloc: Global,
         listener: Option<TcpListener>,
-    ) -> Result<(WorkerLoop, Waker), ServerError> {
+    ) -> Result<(WorkerListener, Waker), ServerError> {
         let Ok(events) = Events::with_capacity(alloc, EVENTS) else {
             drop(listener);
             return Err(ServerError::Memory);
@@ -64,21 +74,37 @@ impl WorkerLoop {
         let mut listener = listener;
         match new_poll(rt, &mut listener) {
             Ok((poll, waker)) => {
-                let worker_loop = WorkerLoop {
+                let listener = WorkerListener {
                     poll,
                     events,
                     listener,
-                    accepted: 0,
-                    goes_on: false,
-                    connections: Connections::new(alloc),
                 };
-                Ok((worker_loop, waker))
+                Ok((listener, waker))
             }
             Err(error) => {
                 drop(events);
                 drop(listener);
                 Err(error)
             }
+        }
+    }
+}
+
+impl WorkerLoop {
+    /// Without a connection yet.
+    fn new(alloc: Global, listener: WorkerListener) -> WorkerLoop {
+        let WorkerListener {
+            poll,
+            events,
+            listener,
+        } = listener;
+        WorkerLoop {
+            poll,
+            events,
+            listener,
+            accepted: 0,
+            goes_on: false,
+            connections: Connections::new(alloc),
         }
     }
 
@@ -97,8 +123,8 @@ impl WorkerLoop {
         readiness
     }
 
-    /// Accepts connections and hands them over to their workers.
-    fn accept<R: Wait>(&mut self, rt: &R, handles: &WorkerHandles) {
+    /// Accepts connections, puts them into the inboxes of their workers, and wakes these.
+    fn accept<R: Wait>(&mut self, rt: &R, inboxes: &Inboxes, wakers: &Wakers) {
         let Some(listener) = &self.listener else {
             return;
         };
@@ -107,7 +133,9 @@ impl WorkerLoop {
             match listener.accept() {
                 Ok((stream, address)) => {
                     let ip = ip_of(address);
-                    handles.hand_over(rt, self.accepted, Arrival { stream, ip });
+                    if let Some(worker) = inboxes.put(rt, self.accepted, Arrival { stream, ip }) {
+                        wakers.wake(worker);
+                    }
                     self.accepted = self.accepted.wrapping_add(1);
                 }
                 Err(error) => match error.kind() {
@@ -140,7 +168,7 @@ impl WorkerLoop {
         let worker = pass.number();
         let mut pass = pass;
         for _ in 0..EVENTS {
-            let Some(arrival) = shared.handles.next_arrival(rt, worker) else {
+            let Some(arrival) = shared.inboxes.next_arrival(rt, worker) else {
                 return pass;
             };
             let registry = self.poll.registry();
@@ -186,7 +214,7 @@ impl WorkerLoop {
             self.connections.hurry(PollTimeout::Short);
         }
         if readiness.listener || self.goes_on {
-            self.accept(rt, shared.handles);
+            self.accept(rt, shared.inboxes, shared.wakers);
         }
         let pass = if readiness.woken {
             let pass = self.look_into_inbox(rt, shared, pass);
@@ -247,7 +275,35 @@ fn ip_of(address: SocketAddr) -> [u8; 4] {
 
 /// Serves connections until the workers are told to stop, then shuts their clients, and gives the pass
 /// back. It waits for news, at the desk, and else nowhere.
+///
+/// What it listens with is made before, since its waker belongs to its poll. `inboxes` and `wakers` are
+/// those of all workers.
 pub fn run_worker<R: Wait, G: Gate>(
+    rt: &R,
+    alloc: Global,
+    desk: &Desk,
+    pass: Pass,
+    listener: WorkerListener,
+    inboxes: &Inboxes,
+    wakers: &Wakers,
+    stop: &AtomicBool,
+    gate: &G,
+) -> Pass
+    requires { pass.desk ≡ desk.now }
+    ensures desk { result.desk ≡ pass.desk }
+    ensures number { result.worker.number ≡ pass.worker.number }
+{
+    let shared = Shared {
+        desk,
+        inboxes,
+        wakers,
+        stop,
+        gate,
+    };
+    go_round_until_stopped(rt, &shared, WorkerLoop::new(alloc, listener), pass)
+}
+
+fn go_round_until_stopped<R: Wait, G: Gate>(
     rt: &R,
     shared: &Shared<'_, G>,
     worker_loop: WorkerLoop,
@@ -260,7 +316,7 @@ pub fn run_worker<R: Wait, G: Gate>(
     let mut worker_loop = worker_loop;
     let mut pass = pass;
     for _ in rt.forever() {
-        if shared.handles.is_stopped() {
+        if shared.is_stopped() {
             break;
         }
         pass = worker_loop.go_round(rt, shared, pass);

@@ -4,9 +4,8 @@ ghost use Rattle.std.specs.Prelude.{◌≡◌, ◌≤◌};
 
 use crate::sockets::clients::Client;
 use crate::sockets::gates::{Hold, Watch, is_set_soon};
-use crate::sockets::running::{ANNA, BERT, Input, PATIENCE, Told, listen, run, service};
+use crate::sockets::running::{ANNA, BERT, Input, PATIENCE, Service, Told, listen, run, service};
 use crate::verdict::{fail, same};
-use lobby_workers::Service;
 use mio::net::TcpListener;
 use std::alloc::{AllocError, Global};
 use std::mem;

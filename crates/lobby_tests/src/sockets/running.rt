@@ -3,7 +3,9 @@
 ghost use Rattle.std.specs.Prelude.{◌≡◌, ◌≤◌, IfSome};
 
 use crate::sockets::gates::Watch;
-use lobby_workers::{Service, run_server};
+use account_book::AccountBook;
+use lobby_model::Settings;
+use lobby_workers::run_server;
 use mio::net::TcpListener;
 use std::alloc::Global;
 use std::io::{self, Read};
@@ -51,6 +53,14 @@ pub fn listen<R: Net>(rt: &R) -> Option<(TcpListener, SocketAddr)> {
     }
 }
 
+/// What a server serves, until its input ends.
+#[derive(Drop)]
+pub struct Service {
+    pub settings: Settings,
+    pub workers: u32,
+    pub accounts: AccountBook,
+}
+
 /// A service for the users, with so many workers and a large limit of an outbox. None where memory is refused.
 pub fn service(alloc: Global, workers: u32) -> Option<Service>
     ensures { IfSome result (λ service. service.workers ≡ workers) }
@@ -59,9 +69,8 @@ pub fn service(alloc: Global, workers: u32) -> Option<Service>
     match settings(alloc, OUTBOX_LIMIT) {
         Some(settings) => Some(Service {
             settings,
-            accounts,
             workers,
-            stop_at_input_end: true,
+            accounts,
         }),
         None => {
             drop(accounts);
@@ -111,6 +120,22 @@ pub fn run<R: Threads + Wait + Net + Sync>(
     let alloc = input.clock.alloc();
     let mut input = input;
     let mut output = Vec::new(alloc);
-    let status = run_server(rt, alloc, service, listener, &mut input, &mut output, gate);
+    let Service {
+        settings,
+        workers,
+        accounts,
+    } = service;
+    let status = run_server(
+        rt,
+        alloc,
+        settings,
+        workers,
+        true,
+        accounts,
+        listener,
+        &mut input,
+        &mut output,
+        gate,
+    );
     Told { status, output }
 }
