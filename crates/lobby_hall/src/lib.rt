@@ -10,4 +10,6 @@ mod sessions;
 pub use client_session::{Next, Session};
 pub use hall::{Hall, HallError, run};
 pub use lobby_model::Step;
+pub use lobby_model::schedule::Piece;
+pub use lobby_view::{line_length_law, private_law, view_law};
 pub use record::Record;
