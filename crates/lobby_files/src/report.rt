@@ -42,7 +42,9 @@ fn check_settings<R: Files + Print + AllocGlobal>(rt: &R, path: &str) -> bool {
     let _ = println!(rt;
         "memory: some {CLIENT_BYTES} bytes a client, and up to {unread} more for one that does not read"
     );
-    let _ = println!(rt; "memory: some {most} MB if {CLIENTS} clients read nothing, and more where buffers have room to spare");
+    let _ = println!(rt;
+        "memory: some {most} MB if {CLIENTS} clients read nothing, and more where buffers have room to spare"
+    );
     true
 }
 

@@ -198,7 +198,12 @@ pub fn read_too_little(rt: &impl Abort, alloc: Global, lobby: &mut Lobby) {
 
 #[test]
 fn who_reads_a_byte_fewer_is_cut(rt: HostRuntime) {
-    play(&rt, rt.alloc(), new_lobby(rt.alloc()), Part::ReadingTooLittle);
+    play(
+        &rt,
+        rt.alloc(),
+        new_lobby(rt.alloc()),
+        Part::ReadingTooLittle,
+    );
 }
 
 fn read_all(lobby: &mut Lobby, client: u64) {
