@@ -1,9 +1,9 @@
 -- What a drain takes.
-use Rattle.std.proofs.Common.{◌≡◌, ℕ, zero, suc, ◌+◌, ◌-◌, ◌*◌, ◌<◌, ◌≤◌, true, false, List, [], ◌∷◌, ◌++◌, length, take, drop, min, refl, sym, ap, ◌∙◌, arith, append_assoc, append-nil, length-append, subst, true≢false, inl, inr}
-use Rattle.std.specs.Prelude.{◌||◌, Option, Some, None, if◌then◌else◌}
+use Rattle.std.proofs.Common.{◌≡◌, ◌≢◌, ℕ, zero, suc, ◌+◌, ◌-◌, ◌*◌, ◌<◌, ◌≤◌, true, false, List, [], ◌∷◌, ◌++◌, length, take, drop, min, refl, sym, ap, ◌∙◌, arith, append_assoc, append-nil, length-append, subst, true≢false, inl, inr}
+use Rattle.std.specs.Prelude.{◌||◌, Option, Some, None, if◌then◌else◌, map}
 use Rattle.std.proofs.Math.Bool.{or-false}
 use Rattle.std.proofs.Math.Seq.{take-append-add}
-use Rattle.std.proofs.lemmas.List.{length-drop, take_at, take-append-le, length-take-le, drop_all, take_min}
+use Rattle.std.proofs.lemmas.List.{length-drop, length-map, take_at, take-append-le, length-take-le, drop_all, take_min}
 use Rattle.std.specs.FinMap.{nat_cmp-IsAntisymmetric}
 use Rattle.std.specs.Ordering.{nat_cmp}
 use Rattle.std.specs.Option.{option_map}
@@ -21,9 +21,9 @@ use Rattle.lobby_holds.specs.declared.holds.Piece.{Piece}
 use Rattle.lobby_holds.specs.Wire.{Wire}
 use Rattle.lobby_holds.specs.Moments.{Moment, moment, drained_for, tells_end, told_end}
 use Rattle.lobby_holds.specs.Snapshot.{Carried, snapshot}
-use Rattle.lobby_holds.specs.Talk.{AreDrains}
+use Rattle.lobby_holds.specs.Talk.{AreDrains, BeginsWith}
 use Rattle.lobby_holds.specs.Went.{Joined}
-use Rattle.lobby_holds.specs.Holds.{IsTaken, Stands, Drains, DrainedInto, DrainedBehind, LetsGo}
+use Rattle.lobby_holds.specs.Holds.{IsTaken, Stands, Drains, Asks, DrainedInto, DrainedBehind, LetsGo}
 use Rattle.lobby_holds.proofs.Joins.{held_none, joined_none, joined_then, joined_more, stands_more}
 use Rattle.lobby_holds.proofs.Parts.{drained-append, went_drains}
 use Rattle.lobby_holds.proofs.Talks.{are_drains-append, told_end-append, dry_behind}
@@ -61,6 +61,7 @@ drained_behind p q c n into before after piece some d is = record {
   bytes = is ∙ ap (λ l. before ++ l) d.bytes;
   finished_is = d.finished_is;
   dry_is = λ dry. d.dry_is dry some;
+  came = λ some. omega (arith, d.came some, ap length is, length-append before (take piece.count into), length-take-le piece.count into d.few);
 }
 
 -- and more behind it
@@ -73,13 +74,32 @@ drained_further p q r c before between after first rest goes_on h k = record {
   bytes = k.bytes ∙ ap (λ l. l ++ drained_for c k.talk) h.bytes ∙ append_assoc before _ _ ∙ ap (λ l. before ++ l) (sym (drained-append c h.talk k.talk));
   finished_is = told_end-append h.talk k.talk ∙ ap (λ b. b || told_end k.talk) (h.finished_is ∙ goes_on) ∙ k.finished_is;
   dry_is = λ e. dry_behind c h.talk k.talk (k.dry_is e);
+  came = λ some. omega (arith, k.came some, ap length h.bytes, length-append before (drained_for c h.talk));
 }
+
+-- a pass has made as many events more as there are moments
+talk_length : (p q : ShownPass) (t : List Moment) → Joined p q t → length q.worker.mine ≡ length p.worker.mine + length t
+talk_length p q t joined =
+    ap (λ (x : ShownPass). length x.worker.mine) joined.pass
+    ∙ length-append p.worker.mine (map (λ (m : Moment). m.event) t)
+    ∙ ap (λ n. length p.worker.mine + n) (length-map t (λ (m : Moment). m.event))
+
+-- and as the hold has that it came from
+hold_length : (k : ShownHold) (q : ShownPass) → q ≡ pass_after k → length q.worker.mine ≡ length k.pass.worker.mine + length k.events
+hold_length k q is = ap (λ (x : ShownPass). length x.worker.mine) is ∙ length-append k.pass.worker.mine k.events
+
+-- the whole hold, from the take to the give, makes as many events as it has
+pub made_few : (p q : ShownPass) (h k : ShownHold) (n : ℕ) → IsTaken p h → h.events ≡ [] → k.pass ≡ h.pass → length k.events ≤ length h.events + n → q ≡ pass_after k
+    → length q.worker.mine ≤ length p.worker.mine + n
+made_few p q h k n taken fresh still few is =
+    omega (arith, hold_length k q is, ap (λ (x : ShownPass). length x.worker.mine) still, ap (λ (x : ShownPass). length x.worker.mine) taken.pass_is, ap length fresh, few)
 
 -- the whole hold, from the take to the give, for a connection that had nothing to write
 pub drains_held : (old new : Carried) (wire : Wire) (p q : ShownPass) (h k : ShownHold) (c : ℕ) (before after : List ℕ) (piece : Piece) → IsTaken p h → q ≡ pass_after k
+    → h.events ≡ [] → k.pass ≡ h.pass → length k.events ≤ 8
     → c ≡ old.session.client → DrainedBehind (pass_after h) (pass_after k) c before after piece → new.session ≡ old.session → new.unfed ≡ old.unfed
     → old.unwritten ≡ before → new.unwritten ≡ after → Drains (snapshot old wire p) (snapshot new wire q) piece.finished piece.dry
-drains_held old new wire p q h k c before after piece taken is same d session unfed none unwritten =
+drains_held old new wire p q h k c before after piece taken is fresh still few same d session unfed none unwritten =
     let e : DrainedBehind (pass_after h) q old.session.client before after piece =
     subst (λ (x : ShownPass). DrainedBehind (pass_after h) x old.session.client before after piece) (sym is) (subst (λ (x : ℕ). DrainedBehind (pass_after h) (pass_after k) x before after piece) same d) in
     record {
@@ -87,9 +107,14 @@ drains_held old new wire p q h k c before after piece taken is same d session un
       went = went_drains old new wire p q e.talk e.own session unfed (unwritten ∙ e.bytes ∙ ap (λ l. l ++ drained_for old.session.client e.talk) (sym none))
           (joined_then p (pass_after h) q [] e.talk (held_none p (pass_after h) h h taken refl refl) e.joined);
       own = e.own;
+      few = omega (arith, talk_length (pass_after h) q e.talk e.joined, hold_length k q is, length-append h.pass.worker.mine h.events, ap length fresh, ap (λ (x : ShownPass). length x.worker.mine) still, few);
       finished_is = e.finished_is;
       dry_is = e.dry_is;
     }
+
+-- more bytes stand there than none did
+pub grew : (before after : List ℕ) → length before < length after → after ≢ []
+grew before after longer none = absurd (omega (arith, longer, ap length none))
 
 take_none : (n : ℕ) (xs : List ℕ) → n ≤ 0 → take n xs ≡ []
 take_none n xs few =
@@ -97,17 +122,21 @@ take_none n xs few =
     ap (λ k. take k xs) none
 
 -- asked with an empty slice
-pub drained_none : (conn : Carried) (wire : Wire) (p q : ShownPass) (c : ℕ) (into : List ℕ) (piece : Piece) → c ≡ conn.session.client
-    → DrainedInto p q c 0 into piece → Drains (snapshot conn wire p) (snapshot conn wire q) piece.finished false
-drained_none conn wire p q c into piece same d =
+pub asks : (conn : Carried) (wire : Wire) (p q : ShownPass) (c : ℕ) (into : List ℕ) (piece : Piece) → c ≡ conn.session.client
+    → DrainedInto p q c 0 into piece → length q.worker.mine ≤ length p.worker.mine + 2 → Asks (snapshot conn wire p) (snapshot conn wire q) piece.finished
+asks conn wire p q c into piece same d few =
     let e : DrainedInto p q conn.session.client 0 into piece = subst (λ (x : ℕ). DrainedInto p q x 0 into piece) same d in
     let nothing : drained_for conn.session.client e.talk ≡ [] = sym e.bytes ∙ take_none piece.count into e.within in
     record {
-      talk = e.talk;
-      went = went_drains conn conn wire p q e.talk e.own refl refl (sym (append-nil conn.unwritten) ∙ ap (λ l. conn.unwritten ++ l) (sym nothing)) e.joined;
-      own = e.own;
-      finished_is = e.finished_is;
-      dry_is = λ e. absurd (true≢false (sym e));
+      drains = record {
+        talk = e.talk;
+        went = went_drains conn conn wire p q e.talk e.own refl refl (sym (append-nil conn.unwritten) ∙ ap (λ l. conn.unwritten ++ l) (sym nothing)) e.joined;
+        own = e.own;
+        few = omega (arith, talk_length p q e.talk e.joined, few);
+        finished_is = e.finished_is;
+        dry_is = λ e. absurd (true≢false (sym e));
+      };
+      begins = e.begins;
     }
 
 drained_all : (n : ℕ) (o : Option Client) → length (unread_in o) ≤ n → unread_in (option_map (drained n) o) ≡ []
@@ -123,20 +152,25 @@ none_left s c n count count_is less =
     ∙ ap (λ b. unread_in (option_map (λ x. if b then drained n x else x) (at_number s.clients c))) (same_itself c)
     ∙ drained_all n (at_number s.clients c) few
 
+pub some_came : (count : ℕ) → count ≢ 0 → 0 < count
+some_came count some = omega (arith, some)
+
 -- a drain of a hold that goes on
 pub drained_once : (h k : ShownHold) (c n : ℕ) (into rest : List ℕ) (piece : Piece) → Stands h → k ≡ record h { lobby = k.lobby; events = h.events ++ event.Drain c n ∷ [] }
     → k.lobby.plain ≡ next h.lobby.plain (event.Drain c n) → piece.count ≡ min (length (unread_of h.lobby.plain c)) n
-    → into ≡ take piece.count (unread_of h.lobby.plain c) ++ rest → piece.finished ≡ is_finished k.lobby.plain c → (piece.dry ≡ true → piece.count ≡ 0)
+    → into ≡ take piece.count (unread_of h.lobby.plain c) ++ rest → piece.finished ≡ is_finished k.lobby.plain c → (piece.dry ≡ true → piece.count ≡ 0) → (piece.dry ≡ false → 0 < piece.count)
     → DrainedInto (pass_after h) (pass_after k) c n into piece
-drained_once h k c n into rest piece stands one goes count given finished dry = record {
+drained_once h k c n into rest piece stands one goes count given finished dry came = record {
   talk = moment h.lobby.plain (event.Drain c n) ∷ [];
   joined = joined_more h k (event.Drain c n) stands one;
   own = (refl, tt);
+  begins = (h.lobby.plain, [], refl);
   within = omega (arith, count);
   few = few_came h.lobby.plain c n piece.count into rest count given;
   bytes = bytes ∙ sym (append-nil (taken_by h.lobby.plain (event.Drain c n) c));
   finished_is = or-false (tells_end h.lobby.plain (event.Drain c n)) ∙ ap (λ s. is_finished s c) (sym goes) ∙ sym finished;
   dry_is = λ e some. ([], h.lobby.plain, n, refl, some, sym bytes ∙ ap (λ x. take x into) (dry e));
+  came = came;
   all = λ less. ap (λ s. unread_of s c) (sym (stands_more h k (event.Drain c n) stands one goes) ∙ goes) ∙ none_left h.lobby.plain c n piece.count count less;
 }
   where
@@ -158,6 +192,7 @@ drained_twice p q r c n m front back tail first rest both h k goes_on some lengt
   talk = h.talk ++ k.talk;
   joined = joined_then p q r h.talk k.talk h.joined k.joined;
   own = are_drains-append c h.talk k.talk h.own k.own;
+  begins = (h.begins.0, h.begins.1 ++ k.talk, ap (λ l. l ++ k.talk) h.begins.2);
   within = omega (arith, count, k.within, lengths);
   few = omega (arith, count, k.few, length-append (take first.count front) (back ++ tail), length-append back tail, long);
   bytes = ap (λ x. take x (take first.count front ++ (back ++ tail))) count
@@ -167,6 +202,7 @@ drained_twice p q r c n m front back tail first rest both h k goes_on some lengt
       ∙ sym (drained-append c h.talk k.talk);
   finished_is = told_end-append h.talk k.talk ∙ ap (λ b. b || told_end k.talk) (h.finished_is ∙ goes_on) ∙ k.finished_is ∙ sym finished;
   dry_is = λ e _. dry_behind c h.talk k.talk (k.dry_is (sym dry ∙ e) some);
+  came = λ e. omega (arith, count, k.came (sym dry ∙ e));
   all = λ less. k.all (omega (arith, count, lengths, less));
 }
   where
@@ -181,11 +217,13 @@ drained_held p q h k c n into piece taken is d =
       talk = d.talk;
       joined = joined_then p (pass_after h) (pass_after k) [] d.talk (held_none p (pass_after h) h h taken refl refl) d.joined;
       own = d.own;
+      begins = d.begins;
       within = d.within;
       few = d.few;
       bytes = d.bytes;
       finished_is = d.finished_is;
       dry_is = d.dry_is;
+      came = d.came;
       all = d.all;
     })
 

@@ -1,16 +1,22 @@
 -- How lines are said to the lobby in a hold, one after another.
-use Rattle.std.proofs.Common.{◌≡◌, ℕ, ◌+◌, false, List, [], ◌∷◌, ◌++◌, length, refl, sym, ap, ◌∙◌, subst, length-append}
+use Rattle.std.proofs.Common.{◌≡◌, ◌⊎◌, ℕ, ◌+◌, ◌≤◌, true, false, List, [], ◌∷◌, ◌++◌, length, refl, sym, ap, ◌∙◌, subst, inl, inr, arith, length-append, true≢false}
 use Rattle.std.proofs.Math.Bool.{or-false}
 use Rattle.std.specs.Prelude.{◌||◌, Option, Some, IfSome}
 use Rattle.command_forms.specs.declared.command.Request.{Request}
+use Rattle.lobby_model.specs.declared.event.Event.{Event}
 use Rattle.lobby_model.specs.declared.event.Event.TheVariants as event
 use Rattle.lobby_model.specs.Touched.{touches}
 use Rattle.lobby_post.specs.Mask.{has_home}
 use Rattle.lobby_lock.specs.Passes.{ShownPass, ShownHold, pass_after}
+use Rattle.client_session.specs.Serving.{Serving}
+use Rattle.client_session.specs.declared.session.Next.TheVariants.{Line}
+use Rattle.client_session.specs.OneSession.{HasLineNext, IsNextOf}
+use Rattle.client_session.proofs.Lines.{asks_line}
+use Rattle.lobby_holds.specs.declared.holds.Said.{Said}
 use Rattle.lobby_holds.specs.Wire.{Wire}
 use Rattle.lobby_holds.specs.Moments.{Moment, moment, requests, touched}
 use Rattle.lobby_holds.specs.Snapshot.{Carried, Snapshot, snapshot}
-use Rattle.lobby_holds.specs.Holds.{IsTaken, Made, AreSaid, SaysLines}
+use Rattle.lobby_holds.specs.Holds.{IsTaken, Made, AreSaid, SaysLines, HasNoLineNext, StopsAt, short, all_said, none_left, full}
 use Rattle.lobby_holds.proofs.Joins.{held_none}
 use Rattle.lobby_holds.proofs.Parts.{requests-append, went_none, went_then, went_held}
 use Rattle.lobby_holds.proofs.Talks.{are_talk-append, touched-append, calm-append}
@@ -19,19 +25,22 @@ pub says_none : (a : Snapshot) (wakes : ℕ) → ((home : ℕ) → has_home wake
 says_none a wakes none = record {
   talk = [];
   went = went_none a;
-  said = record { own = tt; calm = refl; lines_are = refl; wakes_are = none };
+  said = record { own = tt; calm = refl; lines_are = refl; only = refl; wakes_are = none };
+  unwritten = refl;
 }
 
-pub says_one : (a b : Snapshot) (request : Request) (wakes : ℕ) → Made a b (event.Say a.conn.session.client request) wakes → SaysLines a b 1 wakes
-says_one a b request wakes m = record {
+pub says_one : (a b : Snapshot) (request : Request) (wakes : ℕ) → Made a b (event.Say a.conn.session.client request) wakes → b.conn.unwritten ≡ a.conn.unwritten → SaysLines a b 1 wakes
+says_one a b request wakes m unwritten = record {
   talk = moment m.met (event.Say a.conn.session.client request) ∷ [];
   went = m.went;
   said = record {
     own = (refl, tt);
     calm = refl;
     lines_are = refl;
+    only = refl;
     wakes_are = λ home. m.wakes_are home ∙ sym (or-false (touches m.met (event.Say a.conn.session.client request) home));
   };
+  unwritten = unwritten;
 }
 
 said_then : (c : ℕ) (t u : List Moment) (m n wakes more all : ℕ) → AreSaid c t m wakes → AreSaid c u n more
@@ -40,6 +49,7 @@ said_then c t u m n wakes more all h k both = record {
   own = are_talk-append c t u h.own k.own;
   calm = calm-append t u h.calm k.calm;
   lines_are = ap length (requests-append t u) ∙ length-append (requests t) (requests u) ∙ ap (λ x. x + length (requests u)) h.lines_are ∙ ap (λ x. m + x) k.lines_are;
+  only = omega (arith, length-append t u, h.only, k.only);
   wakes_are = λ home.
       both home
       ∙ ap (λ x. x || has_home more home) (h.wakes_are home)
@@ -52,6 +62,7 @@ says_then a b c m n wakes more all h k both = record {
   talk = h.talk ++ k.talk;
   went = went_then a b c h.talk k.talk h.went k.went;
   said = said_then a.conn.session.client h.talk k.talk m n wakes more all h.said (subst (λ (x : ℕ). AreSaid x k.talk n more) h.went.client k.said) both;
+  unwritten = k.unwritten ∙ h.unwritten;
 }
 
 -- a refused line leaves what there was
@@ -68,7 +79,26 @@ says_held old new wire p q h k lines wakes taken is s =
       talk = s.talk;
       went = went_then (snapshot old wire p) (snapshot old wire (pass_after h)) (snapshot new wire (pass_after k)) [] s.talk (went_held old wire p (pass_after h) (held_none p (pass_after h) h h taken refl refl)) s.went;
       said = s.said;
+      unwritten = s.unwritten;
     })
+
+-- ---- why no more is said
+
+-- the line that was refused is still next
+pub refused_line : (x y : Carried) (request : Request) → y ≡ x → IsNextOf (Some x.session) (Line request) → HasLineNext y.session
+refused_line x y request same next = subst (λ (z : Carried). HasLineNext z.session) (sym same) (asks_line x.session request next)
+
+pub stops_none : (most : ℕ) (session : Serving) (said : Said) (events : List Event) → said.refused ≡ false → length events ≡ said.lines → said.lines ≤ 32
+    → (32 ≤ length events) ⊎ HasNoLineNext session → StopsAt most session said
+stops_none most session said events accepted lines few (inl many) = full accepted (omega (arith, lines, few, many))
+stops_none most session said events accepted lines few (inr none) = none_left accepted none
+
+-- what a hold stopped at refused tells what is next
+pub stays_next : (most : ℕ) (session : Serving) (said : Said) → StopsAt most session said → said.refused ≡ true → HasLineNext session
+stays_next most session said (short refused next) is = next
+stays_next most session said (all_said accepted e) is = absurd (true≢false (sym is ∙ accepted))
+stays_next most session said (none_left accepted e) is = absurd (true≢false (sym is ∙ accepted))
+stays_next most session said (full accepted e) is = absurd (true≢false (sym is ∙ accepted))
 
 -- what a clause says of a value that is known
 pub from_some : {A : Type 0} (o : Option A) (x : A) (P : A → Type 0) → o ≡ Some x → IfSome o P → P x

@@ -1,5 +1,5 @@
 -- What a hold of a turn did.
-use Rattle.std.specs.Prelude.{◌≡◌, ◌⊎◌, ℕ, ◌<◌, ◌≤◌, Bool, true, false, List, [], ◌∷◌, ◌++◌, length, take}
+use Rattle.std.specs.Prelude.{◌≡◌, ◌⊎◌, ℕ, ◌<◌, ◌≤◌, Bool, true, false, List, [], ◌∷◌, ◌++◌, length, take, Some}
 use Rattle.lobby_model.specs.declared.event.Event.{Event}
 use Rattle.lobby_model.specs.State.{State}
 use Rattle.lobby_post.specs.Mask.{has_home}
@@ -9,12 +9,13 @@ use Rattle.lobby_lock.specs.History.{after_history, made_by, Begins}
 use Rattle.lobby_lock.specs.Rule.{seen_by}
 use Rattle.lobby_lock.specs.Passes.{ShownPass, ShownHold, lobby_after}
 use Rattle.client_session.specs.Serving.{Serving}
-use Rattle.client_session.specs.OneSession.{HasLineNext}
+use Rattle.client_session.specs.declared.session.Next.TheVariants.{Nothing, Spoilt}
+use Rattle.client_session.specs.OneSession.{HasLineNext, IsNextOf}
 use Rattle.lobby_holds.specs.declared.holds.Said.{Said}
 use Rattle.lobby_holds.specs.declared.holds.Piece.{Piece}
 use Rattle.lobby_holds.specs.Moments.{Moment, moment, requests, drained_for, touched, told_end}
 use Rattle.lobby_holds.specs.Snapshot.{Snapshot}
-use Rattle.lobby_holds.specs.Talk.{AreDrains, AreTalk, EndsDry}
+use Rattle.lobby_holds.specs.Talk.{AreDrains, AreTalk, BeginsWith, EndsDry}
 use Rattle.lobby_holds.specs.Went.{Joined, Went}
 
 -- What it is where it begins: its worker has seen a longer history, in which the events under the worker's number are those that it made,
@@ -42,6 +43,7 @@ pub record AreSaid (c : ℕ) (talk : List Moment) (lines wakes : ℕ) : Type 0 w
   pub own : AreTalk c talk
   pub calm : told_end talk ≡ false
   pub lines_are : length (requests talk) ≡ lines
+  pub only : length talk ≡ lines
   pub wakes_are : (home : ℕ) → has_home wakes home ≡ touched talk home
 
 -- it said so many of the next lines to the lobby
@@ -49,22 +51,38 @@ pub record SaysLines (old new : Snapshot) (lines wakes : ℕ) : Type 0 where
   pub talk : List Moment
   pub went : Went old new talk
   pub said : AreSaid old.conn.session.client talk lines wakes
+  pub unwritten : new.conn.unwritten ≡ old.conn.unwritten
 
--- at most so many lines, and one at least unless memory was refused
+-- at most so many lines, and no more than one hold has place for; and one at least unless memory was refused
 abbrev pub IsWithin : ℕ → Said → Type 0
-IsWithin most said = (said.lines ≤ most) × (said.refused ≡ false → 1 ≤ said.lines)
+IsWithin most said = (said.lines ≤ most) × (said.lines ≤ 32) × (said.refused ≡ false → 1 ≤ said.lines)
 
--- where memory was refused behind them, the line that it was refused for is next
-abbrev pub StaysNext : Serving → Said → Type 0
-StaysNext session said = said.refused ≡ true → HasLineNext session
+-- no whole line is next
+abbrev pub HasNoLineNext : Serving → Type 0
+HasNoLineNext session = IsNextOf (Some session) Nothing ⊎ IsNextOf (Some session) Spoilt
 
--- it drained for its client: whether nothing will ever come of it; where it is dry, the last drain asked for some bytes and gave none
+-- Why it said no line more: memory was refused for the line that is next, or nothing was refused, and all that were asked for were
+-- said, no whole line is next, or the hold is full
+pub data StopsAt (most : ℕ) (session : Serving) (said : Said) : Type 0 where
+  short : said.refused ≡ true → HasLineNext session → StopsAt most session said
+  all_said : said.refused ≡ false → said.lines ≡ most → StopsAt most session said
+  none_left : said.refused ≡ false → HasNoLineNext session → StopsAt most session said
+  full : said.refused ≡ false → said.lines ≡ 32 → StopsAt most session said
+
+-- it drained for its client, eight times at most: whether nothing will ever come of it; where it is dry, the last drain asked for some
+-- bytes and gave none
 pub record Drains (old new : Snapshot) (finished dry : Bool) : Type 0 where
   pub talk : List Moment
   pub went : Went old new talk
   pub own : AreDrains old.conn.session.client talk
+  pub few : length talk ≤ 8
   pub finished_is : told_end talk ≡ finished
   pub dry_is : dry ≡ true → EndsDry old.conn.session.client talk
+
+-- it drained into an empty slice, which tells whether nothing will ever come of its client
+pub record Asks (old new : Snapshot) (finished : Bool) : Type 0 where
+  pub drains : Drains old new finished false
+  pub begins : BeginsWith old.conn.session.client 0 drains.talk
 
 -- nothing waits unread for client c, in the plain lobby after all that the pass has seen
 abbrev pub HasNoneFor : ℕ → ShownPass → Type 0
@@ -75,11 +93,13 @@ pub record DrainedInto (old new : ShownPass) (c n : ℕ) (into : List ℕ) (piec
   pub talk : List Moment
   pub joined : Joined old new talk
   pub own : AreDrains c talk
+  pub begins : BeginsWith c n talk
   pub within : piece.count ≤ n
   pub few : piece.count ≤ length into
   pub bytes : take piece.count into ≡ drained_for c talk
   pub finished_is : told_end talk ≡ piece.finished
   pub dry_is : piece.dry ≡ true → 0 < n → EndsDry c talk
+  pub came : piece.dry ≡ false → 0 < piece.count
   pub all : piece.count < n → HasNoneFor c new
 
 -- the same behind what stands in a buffer
@@ -90,6 +110,7 @@ pub record DrainedBehind (old new : ShownPass) (c : ℕ) (before after : List �
   pub bytes : after ≡ before ++ drained_for c talk
   pub finished_is : told_end talk ≡ piece.finished
   pub dry_is : piece.dry ≡ true → EndsDry c talk
+  pub came : piece.dry ≡ false → length before < length after
 
 -- it drained for client c, and did nothing else, until nothing was left unread for that client, or 4 MiB were drained
 pub record LetsGo (old new : ShownPass) (c : ℕ) : Type 0 where

@@ -28,6 +28,10 @@ abbrev pub AreTalk : ℕ → List Moment → Type 0
 AreTalk c [] = Unit {0}
 AreTalk c (m ∷ talk) = IsTalk c m.event × AreTalk c talk
 
+-- the first of it drained for client c into a slice of n bytes
+abbrev pub BeginsWith : ℕ → ℕ → List Moment → Type 0
+BeginsWith c n talk = (met : State) × (rest : List Moment) × (talk ≡ moment met (event.Drain c n) ∷ rest)
+
 -- the last of it drained a piece for client c, and nothing came
 abbrev pub EndsDry : ℕ → List Moment → Type 0
 EndsDry c talk =

@@ -2,7 +2,7 @@
 //! or written in it. A hold has place for 32 events (`MOST_EVENTS`): so many lines of a burst cost one take and one give, and who
 //! waits for the lobby waits for no more of them.
 
-ghost use Rattle.std.specs.Prelude.{◌≡◌, ◌+◌, ◌<◌, ◌≤◌, [], length, OnErr, IfOk, IfSome, IsTrue, Some, None, false};
+ghost use Rattle.std.specs.Prelude.{◌≡◌, ◌≢◌, ◌⊎◌, ◌+◌, ◌<◌, ◌≤◌, [], length, OnOk, OnErr, IfOk, IfSome, IsTrue, Some, None, false};
 ghost use Rattle.command_forms.specs.Kinds.{keeps_kinds};
 ghost use Rattle.lobby_model.specs.declared.event.Event.TheVariants as event;
 ghost use Rattle.lobby_lock.specs.Passes.{pass_after};
@@ -11,7 +11,7 @@ ghost use Rattle.client_session.specs.OneSession.{IsNextOf, HasLineNext};
 ghost use Rattle.lobby_holds.specs.Wire.{Wire};
 ghost use Rattle.lobby_holds.specs.Snapshot.{snapshot};
 ghost use Rattle.lobby_holds.specs.Went.{Went};
-ghost use Rattle.lobby_holds.specs.Holds.{Stands, Made, SaysLines, IsWithin, StaysNext, Drains, DrainedInto, DrainedBehind, LetsGo};
+ghost use Rattle.lobby_holds.specs.Holds.{Stands, Made, SaysLines, IsWithin, HasNoLineNext, StopsAt, Drains, Asks, DrainedInto, DrainedBehind, LetsGo};
 
 use crate::conn::{Conn, PIECE};
 use crate::gate::Gate;
@@ -58,6 +58,8 @@ fn say_line(conn: &mut Conn, held: &mut Held, request: Request) -> Result<Wakes,
     requires kinds { IsTrue (keeps_kinds request.command) }
     requires next { IsNextOf (Some conn.old.session) (Line request) }
     ensures ok { IfOk result (λ wakes. (wire : Wire) → Made (snapshot conn.old wire (pass_after held.old)) (snapshot conn.new wire (pass_after held.new)) (event.Say conn.old.session.client request) wakes) }
+    ensures unwritten { conn.new.unwritten ≡ conn.old.unwritten }
+    ensures count { OnOk result (length held.new.events ≡ length held.old.events + 1) }
     ensures err { OnErr result ((conn.new ≡ conn.old) × (held.new ≡ held.old)) }
     ensures pass { held.new.pass ≡ held.old.pass }
 {
@@ -73,7 +75,9 @@ fn say_line(conn: &mut Conn, held: &mut Held, request: Request) -> Result<Wakes,
 /// Reads the next line and says it to the lobby, where one is there and the hold has place for it.
 fn say_next(conn: &mut Conn, held: &mut Held) -> Result<Option<Wakes>, AllocError>
     ensures says { IfOk result (λ said. IfSome said (λ wakes. (wire : Wire) → SaysLines (snapshot conn.old wire (pass_after held.old)) (snapshot conn.new wire (pass_after held.new)) 1 wakes)) }
+    ensures count { IfOk result (λ said. IfSome said (λ wakes. (length held.new.events ≡ length held.old.events + 1) × (length held.new.events ≤ MOST_EVENTS))) }
     ensures none { IfOk result (λ said. said ≡ None → (conn.new ≡ conn.old) × (held.new ≡ held.old)) }
+    ensures stops { IfOk result (λ said. said ≡ None → (MOST_EVENTS ≤ length held.old.events) ⊎ HasNoLineNext conn.new.session) }
     ensures err { OnErr result ((conn.new ≡ conn.old) × (held.new ≡ held.old)) }
     ensures line { OnErr result (HasLineNext conn.new.session) }
     ensures pass { held.new.pass ≡ held.old.pass }
@@ -91,16 +95,16 @@ fn say_next(conn: &mut Conn, held: &mut Held) -> Result<Option<Wakes>, AllocErro
     }
 }
 
-/// Says the next lines to the lobby in a hold that goes on, of which the first was read as this request.
+/// Says the next lines to the lobby in a new hold, of which the first was read as this request.
 fn say_lines(conn: &mut Conn, held: &mut Held, request: Request, most: usize) -> Said
-    requires few { length held.old.events < MOST_EVENTS }
+    requires new { held.old.events ≡ [] }
     requires stands { Stands held.old }
     requires kinds { IsTrue (keeps_kinds request.command) }
     requires next { IsNextOf (Some conn.old.session) (Line request) }
     requires some { 1 ≤ most }
     ensures says { (wire : Wire) → SaysLines (snapshot conn.old wire (pass_after held.old)) (snapshot conn.new wire (pass_after held.new)) result.lines result.wakes }
     ensures within { IsWithin most result }
-    ensures stays { StaysNext conn.new.session result }
+    ensures stops { StopsAt most conn.new.session result }
     ensures pass { held.new.pass ≡ held.old.pass }
 {
     let mut wakes = match say_line(conn, held, request) {
@@ -155,7 +159,7 @@ pub fn say<R: Wait, G: Gate>(
     requires some { 1 ≤ most }
     ensures says { (wire : Wire) → SaysLines (snapshot conn.old wire pass) (snapshot conn.new wire result.0) result.1.lines result.1.wakes }
     ensures within { IsWithin most result.1 }
-    ensures stays { StaysNext conn.new.session result.1 }
+    ensures stops { StopsAt most conn.new.session result.1 }
 {
     let mut held = desk.take(rt, pass);
     let said = say_lines(conn, &mut held, request, most);
@@ -225,6 +229,7 @@ fn drain_pieces(held: &mut Held, client: u64, unwritten: &mut ByteQueue) -> Piec
     requires stands { Stands held.old }
     requires room { PIECE ≤ unwritten.old.room }
     ensures drained { DrainedBehind (pass_after held.old) (pass_after held.new) client unwritten.old.bytes unwritten.new.bytes result }
+    ensures count { length held.new.events ≤ 8 }
     ensures pass { held.new.pass ≡ held.old.pass }
 {
     let mut bytes = [0u8; PIECE];
@@ -247,7 +252,8 @@ fn drain_into<R: Wait, G: Gate>(
     into: &mut [u8],
 ) -> (Pass, Piece)
     requires { pass.desk ≡ desk.now.desk.now }
-    ensures { DrainedInto pass result.0 client (length into.old) into.new result.1 }
+    ensures drained { DrainedInto pass result.0 client (length into.old) into.new result.1 }
+    ensures few { length result.0.worker.mine ≤ length pass.worker.mine + 2 }
 {
     let mut held = desk.take(rt, pass);
     let piece = drain_all(&mut held, client, into);
@@ -266,6 +272,7 @@ pub fn drain<R: Wait, G: Gate>(
     ensures ok { IfOk result.1 (λ piece. (wire : Wire) → Drains (snapshot conn.old wire pass) (snapshot conn.new wire result.0) piece.finished piece.dry) }
     ensures session { conn.new.session ≡ conn.old.session }
     ensures unfed { conn.new.unfed ≡ conn.old.unfed }
+    ensures came { IfOk result.1 (λ piece. piece.dry ≡ false → conn.new.unwritten ≢ []) }
     ensures err { OnErr result.1 ((conn.new ≡ conn.old) × (result.0 ≡ pass)) }
 {
     let mut unwritten = ByteQueue::new(conn.alloc);
@@ -287,7 +294,7 @@ pub fn is_finished<R: Wait, G: Gate>(
     pass: Pass,
 ) -> (Pass, bool)
     requires { pass.desk ≡ desk.now.desk.now }
-    ensures { (wire : Wire) → Drains (snapshot conn.now wire pass) (snapshot conn.now wire result.0) result.1 false }
+    ensures { (wire : Wire) → Asks (snapshot conn.now wire pass) (snapshot conn.now wire result.0) result.1 }
 {
     let (pass, piece) = drain_into(rt, conn.client(), desk, pass, &mut []);
     (pass, piece.finished)

@@ -27,7 +27,7 @@ pub enum Sent {
 /// What carries a client's bytes, as a socket that never waits. It counts its reads, its writes and
 /// the failures of its device, knows its last answers, and may tell proofs all bytes that it moved.
 pub trait Link {
-    ghost use Rattle.std.specs.Prelude.{◌≡◌, ◌+◌, ◌≤◌, ◌<◌, length, take, Some, Option, true};
+    ghost use Rattle.std.specs.Prelude.{◌≡◌, ◌≢◌, ◌+◌, ◌≤◌, ◌<◌, [], length, take, Some, Option, true};
     ghost use Rattle.lobby_holds.specs.Wire.{Wire, MayGoOn, IsFresh, got_count, sent_count, and_more};
     ghost use Rattle.lobby_holds.specs.declared.link.Got.{Got};
     ghost use Rattle.lobby_holds.specs.declared.link.Sent.{Sent};
@@ -47,9 +47,10 @@ pub trait Link {
         ensures last_got { (wire self.new).last_got ≡ Some result }
         ensures last_sent { (wire self.new).last_sent ≡ (wire self.old).last_sent };
 
-    /// Writes bytes from the front of the slice, as many as it can now.
+    /// Writes bytes from the front of the slice, which has some, as many as it can now.
     fn write(&mut self, from: &[u8]) -> Sent
-        requires { MayGoOn (wire self.old) }
+        requires may { MayGoOn (wire self.old) }
+        requires some { from.now ≢ [] }
         ensures within { sent_count result ≤ length from.now }
         ensures written { (wire self.new).written ≡ and_more (wire self.old).written (take (sent_count result) from.now) }
         ensures read { (wire self.new).read ≡ (wire self.old).read }

@@ -12,10 +12,10 @@ use Rattle.lobby_turns.specs.declared.receiving.Step.TheVariants as step
 use Rattle.lobby_holds.specs.Moments.{Moment}
 use Rattle.lobby_holds.specs.Snapshot.{Carried, Snapshot}
 use Rattle.lobby_holds.specs.Went.{Went}
-use Rattle.lobby_holds.specs.Holds.{AreSaid, SaysLines, IsWithin, StaysNext}
+use Rattle.lobby_holds.specs.Holds.{AreSaid, SaysLines, IsWithin}
 use Rattle.client_session.specs.declared.session.Next.TheVariants.{Nothing, Spoilt}
-use Rattle.client_session.specs.OneSession.{IsNextOf}
-use Rattle.lobby_turns.specs.Receiving.{OnlyReads, IsAllReceived, HasToReceive, has_bytes, has_line, has_more, SaysWithin, StepIs, ReceivesNext, ReceivedIs, Receives}
+use Rattle.client_session.specs.OneSession.{HasLineNext, IsNextOf}
+use Rattle.lobby_turns.specs.Receiving.{OnlyReads, IsAllReceived, IsBytes, NoReadFailed, HasToReceive, has_bytes, has_line, has_more, SaysWithin, StepIs, ReceivesNext, ReceivedIs, Receives}
 use Rattle.lobby_holds.proofs.Parts.{went_then}
 use Rattle.lobby_holds.proofs.Sayings.{says_none, says_then}
 use Rattle.std.proofs.Math.Nat.{add-zero, zero-add}
@@ -28,7 +28,7 @@ pub record Receiving (old new : Snapshot) (lines reads wakes : ℕ) : Type 0 whe
 pub receiving_none : (a : Snapshot) (wakes : ℕ) → ((home : ℕ) → has_home wakes home ≡ false) → Receiving a a 0 0 wakes
 receiving_none a wakes none = record {
   says = says_none a wakes none;
-  only = record { reads_are = omega arith; writes = refl; failures = omega arith; still = λ _. refl };
+  only = record { reads_are = omega arith; writes = refl; failures = omega arith; still = λ _. refl; unwritten = refl };
 }
 
 only_then : (a b c : Snapshot) (m n : ℕ) → OnlyReads a b m → OnlyReads b c n → OnlyReads a c (m + n)
@@ -37,6 +37,7 @@ only_then a b c m n h k = record {
   writes = k.writes ∙ h.writes;
   failures = omega (arith, h.failures, k.failures);
   still = λ e. k.still (omega (arith, e)) ∙ h.still (omega (arith, e));
+  unwritten = k.unwritten ∙ h.unwritten;
 }
 
 -- what came without a line
@@ -48,6 +49,7 @@ quietly a b c m k n wakes u h went only none =
         talk = t;
         went = subst (λ (l : List Moment). Went a c l) (ap (λ l. t ++ l) none ∙ append-nil t) (went_then a b c t u h.says.went went);
         said = h.says.said;
+        unwritten = only.unwritten ∙ h.says.unwritten;
       };
       only = only_then a b c k n h.only only;
     }
@@ -59,9 +61,21 @@ receiving_read a b c m k wakes h s =
 pub receiving_said : (a b c : Snapshot) (m k wakes : ℕ) (said : Said) (all : ℕ) → Receiving a b m k wakes → ReceivesNext b c (step.Said said)
     → ((home : ℕ) → has_home all home ≡ (has_home wakes home || has_home said.wakes home)) → Receiving a c (m + said.lines) k all
 receiving_said a b c m k wakes said all h s both = record {
-  says = says_then a b c m said.lines wakes said.wakes all h.says (record { talk = s.talk; went = s.went; said = s.step_is.1 }) both;
+  says = says_then a b c m said.lines wakes said.wakes all h.says (record { talk = s.talk; went = s.went; said = s.step_is.1; unwritten = s.only.unwritten }) both;
   only = subst (λ (n : ℕ). OnlyReads a c n) (ap (λ n. k + n) s.step_is.0 ∙ add-zero k) (only_then a b c k s.reads h.only s.only);
 }
+
+-- without a read none failed that did not fail before
+no_fault_then : (a b c : Snapshot) (n : ℕ) → n ≡ 0 → OnlyReads b c n → NoReadFailed a b → NoReadFailed a c
+no_fault_then a b c n none only h = λ rose failed. h (omega (arith, rose, only.reads_are, none)) (sym (only.still none) ∙ failed)
+
+-- where all is received the last read did not fail
+no_fault_all : (a c : Snapshot) → IsAllReceived a c → c.wire.last_got ≢ Some got.Fault
+no_fault_all a c h = last h.last
+  where
+    last : (c.wire.last_got ≡ Some got.End) ⊎ ((c.wire.last_got ≡ Some got.Later) × (a.wire.reads < c.wire.reads)) → c.wire.last_got ≢ Some got.Fault
+    last (inl end) = λ failed. absurd (cc (end, failed))
+    last (inr later) = λ failed. absurd (cc (later.0, failed))
 
 -- ---- where receiving ends
 
@@ -72,6 +86,7 @@ ended a c m k wakes how few_lines few h is = record {
   own = h.says.said.own;
   calm = h.says.said.calm;
   lines = omega (arith, h.says.said.lines_are, few_lines);
+  only_lines = h.says.said.only ∙ sym h.says.said.lines_are;
   reads = k;
   few = few;
   only = h.only;
@@ -96,7 +111,7 @@ lines_fit m how said is few within =
 said_some : (m : ℕ) (how : Step) (said : Said) → how ≡ step.Said said → SaysWithin (64 - m) how → said.refused ≡ false → 1 ≤ said.lines
 said_some m how said is within accepted =
     let fits : IsWithin (64 - m) said = subst (λ (x : Step). SaysWithin (64 - m) x) is within in
-    fits.1 accepted
+    fits.2 accepted
 
 rises : (a b : Snapshot) (k : ℕ) → OnlyReads a b k → a.wire.reads ≤ b.wire.reads
 rises a b k only = omega (arith, only.reads_are)
@@ -104,7 +119,8 @@ rises a b k only = omega (arith, only.reads_are)
 pub receives_all : (a b c : Snapshot) (m k wakes : ℕ) (how : Step) → how ≡ step.All → m ≤ 64 → k < 16 → Receiving a b m k wakes → ReceivesNext b c how → Receives a c receive.All wakes
 receives_all a b c m k wakes how is few_lines few h found =
     let s : ReceivesNext b c step.All = subst (λ (x : Step). ReceivesNext b c x) is found in
-    ended a c m (k + s.reads) wakes receive.All few_lines (omega (arith, few, s.few)) (quietly a b c m k s.reads wakes s.talk h s.went s.only s.step_is.0) (since a b c (rises a b k h.only) s.step_is.1)
+    ended a c m (k + s.reads) wakes receive.All few_lines (omega (arith, few, s.few)) (quietly a b c m k s.reads wakes s.talk h s.went s.only s.step_is.0)
+    (λ _. no_fault_all b c s.step_is.1, since a b c (rises a b k h.only) s.step_is.1)
 
 pub receives_stop : (a b c : Snapshot) (m k wakes : ℕ) (how : Step) → how ≡ step.Stop → m ≤ 64 → k < 16 → Receiving a b m k wakes → ReceivesNext b c how → Receives a c receive.Stop wakes
 receives_stop a b c m k wakes how is few_lines few h found =
@@ -117,82 +133,85 @@ to_receive a b c late still (has_bytes h) = has_bytes h
 to_receive a b c late still (has_line h) = has_line h
 to_receive a b c late still (has_more h) = has_more (record { on = h.on; sound = h.sound; late = λ e. h.late e ∙ late (sym still ∙ e) })
 
-pub receives_memory : (a b c : Snapshot) (m k wakes : ℕ) (how : Step) → how ≡ step.Memory → m ≤ 64 → k < 16 → (b.wire.last_got ≡ Some got.Later → b.wire.reads ≡ a.wire.reads) → Receiving a b m k wakes → ReceivesNext b c how → Receives a c receive.Memory wakes
-receives_memory a b c m k wakes how is few_lines few late h found =
+pub receives_memory : (a b c : Snapshot) (m k wakes : ℕ) (how : Step) → how ≡ step.Memory → m ≤ 64 → k < 16 → (b.wire.last_got ≡ Some got.Later → b.wire.reads ≡ a.wire.reads) → NoReadFailed a b → Receiving a b m k wakes → ReceivesNext b c how
+    → Receives a c receive.Memory wakes
+receives_memory a b c m k wakes how is few_lines few late sound h found =
     let s : ReceivesNext b c step.Memory = subst (λ (x : Step). ReceivesNext b c x) is found in
     ended a c m (k + s.reads) wakes receive.Memory few_lines (omega (arith, few, s.few)) (quietly a b c m k s.reads wakes s.talk h s.went s.only s.step_is.0)
-    (to_receive a b c late (s.only.still s.step_is.1) s.step_is.2)
+    (no_fault_then a b c s.reads s.step_is.1 s.only sound, to_receive a b c late (s.only.still s.step_is.1) s.step_is.2)
 
 -- where memory was refused behind some lines
-pub receives_refused : (a b c : Snapshot) (m k wakes : ℕ) (said : Said) (all : ℕ) (how : Step) → how ≡ step.Said said → said.refused ≡ true → m ≤ 64 → k ≤ 16 → SaysWithin (64 - m) how → Receiving a b m k wakes → ReceivesNext b c how
+pub receives_refused : (a b c : Snapshot) (m k wakes : ℕ) (said : Said) (all : ℕ) (how : Step) → how ≡ step.Said said → said.refused ≡ true → m ≤ 64 → k ≤ 16 → SaysWithin (64 - m) how → NoReadFailed a b → Receiving a b m k wakes → ReceivesNext b c how
     → ((home : ℕ) → has_home all home ≡ (has_home wakes home || has_home said.wakes home)) → Receives a c receive.Memory all
-receives_refused a b c m k wakes said all how is refused few_lines few within h found both =
+receives_refused a b c m k wakes said all how is refused few_lines few within sound h found both =
     let s : ReceivesNext b c (step.Said said) = subst (λ (x : Step). ReceivesNext b c x) is found in
-    ended a c (m + said.lines) k all receive.Memory (lines_fit m how said is few_lines within) few (receiving_said a b c m k wakes said all h s both) (has_line (s.step_is.2 refused))
+    ended a c (m + said.lines) k all receive.Memory (lines_fit m how said is few_lines within) few (receiving_said a b c m k wakes said all h s both)
+    (no_fault_then a b c s.reads s.step_is.0 s.only sound, has_line (s.step_is.2 refused))
 
 -- at a limit
-pub receives_again : (a c : Snapshot) (m k wakes : ℕ) → m ≤ 64 → k ≤ 16 → (m ≡ 64) ⊎ (k ≡ 16) → Receiving a c m k wakes → Receives a c receive.Again wakes
-receives_again a c m k wakes few_lines few (inl lines) h = ended a c m k wakes receive.Again few_lines few h (inl (h.says.said.lines_are ∙ lines))
-receives_again a c m k wakes few_lines few (inr reads) h = ended a c m k wakes receive.Again few_lines few h (inr (h.only.reads_are ∙ ap (λ n. a.wire.reads + n) reads))
+pub receives_again : (a c : Snapshot) (m k wakes : ℕ) → m ≤ 64 → k ≤ 16 → (m ≡ 64) ⊎ (k ≡ 16) → NoReadFailed a c → Receiving a c m k wakes → Receives a c receive.Again wakes
+receives_again a c m k wakes few_lines few (inl lines) sound h = ended a c m k wakes receive.Again few_lines few h (sound, inl (h.says.said.lines_are ∙ lines))
+receives_again a c m k wakes few_lines few (inr reads) sound h = ended a c m k wakes receive.Again few_lines few h (sound, inr (h.only.reads_are ∙ ap (λ n. a.wire.reads + n) reads))
 
 -- ---- single steps
 
 pub next_quiet : (a c : Snapshot) (n : ℕ) (how : Step) → n ≤ 1 → Went a c [] → OnlyReads a c n → StepIs a c [] n how → ReceivesNext a c how
 next_quiet a c n how few went only is = record { talk = []; went = went; reads = n; few = few; only = only; step_is = is }
 
-pub only_none : (a c : Snapshot) → c.wire ≡ a.wire → OnlyReads a c 0
-only_none a c same = record {
+pub only_none : (a c : Snapshot) → c.wire ≡ a.wire → c.conn.unwritten ≡ a.conn.unwritten → OnlyReads a c 0
+only_none a c same unwritten = record {
   reads_are = ap (λ w. w.reads) same ∙ none a.wire.reads;
   writes = ap (λ w. w.writes) same;
   failures = omega (arith, ap (λ w. w.failures) same);
   still = λ _. ap (λ w. w.last_got) same;
+  unwritten = unwritten;
 }
   where
     none : (n : ℕ) → n ≡ n + 0
     none n = omega arith
 
-step_behind : (a b c : Snapshot) (talk : List Moment) (reads : ℕ) (how : Step) → b.wire ≡ a.wire → b.conn.session.client ≡ a.conn.session.client → OnlyReads b c reads
+step_behind : (a b c : Snapshot) (talk : List Moment) (reads : ℕ) (how : Step) → b.wire ≡ a.wire → b.conn.unwritten ≡ a.conn.unwritten → b.conn.session.client ≡ a.conn.session.client → OnlyReads b c reads
     → StepIs b c talk reads how → StepIs a c talk reads how
-step_behind a b c talk reads (step.Said said) same client only is = (is.0, subst (λ (d : ℕ). AreSaid d talk said.lines said.wakes) client is.1, is.2)
-step_behind a b c talk reads step.Read same client only is = is
-step_behind a b c talk reads step.All same client only is = (is.0, since a b c (rises a b 0 (only_none a b same)) is.1)
-step_behind a b c talk reads step.Stop same client only is = is
-step_behind a b c talk reads step.Memory same client only is = (is.0, is.1, to_receive a b c (λ _. ap (λ w. w.reads) same) (only.still is.1) is.2)
+step_behind a b c talk reads (step.Said said) same unwritten client only is = (is.0, subst (λ (d : ℕ). AreSaid d talk said.lines said.wakes) client is.1, is.2)
+step_behind a b c talk reads step.Read same unwritten client only is = is
+step_behind a b c talk reads step.All same unwritten client only is = (is.0, since a b c (rises a b 0 (only_none a b same unwritten)) is.1)
+step_behind a b c talk reads step.Stop same unwritten client only is = is
+step_behind a b c talk reads step.Memory same unwritten client only is = (is.0, is.1, to_receive a b c (λ _. ap (λ w. w.reads) same) (only.still is.1) is.2)
 
 -- a step behind feeding
-pub fed_first : (a b c : Snapshot) (how : Step) → Went a b [] → b.wire ≡ a.wire → ReceivesNext b c how → ReceivesNext a c how
-fed_first a b c how went same s = record {
+pub fed_first : (a b c : Snapshot) (how : Step) → Went a b [] → b.wire ≡ a.wire → b.conn.unwritten ≡ a.conn.unwritten → ReceivesNext b c how → ReceivesNext a c how
+fed_first a b c how went same unwritten s = record {
   talk = s.talk;
   went = went_then a b c [] s.talk went s.went;
   reads = s.reads;
   few = s.few;
-  only = subst (λ (n : ℕ). OnlyReads a c n) (zero-add s.reads) (only_then a b c 0 s.reads (only_none a b same) s.only);
-  step_is = step_behind a b c s.talk s.reads how same went.client s.only s.step_is;
+  only = subst (λ (n : ℕ). OnlyReads a c n) (zero-add s.reads) (only_then a b c 0 s.reads (only_none a b same unwritten) s.only);
+  step_is = step_behind a b c s.talk s.reads how same unwritten went.client s.only s.step_is;
 }
 
-pub said_next : (a b : Snapshot) (said : Said) → b.wire ≡ a.wire → StaysNext b.conn.session said → SaysLines a b said.lines said.wakes → ReceivesNext a b (step.Said said)
+pub said_next : (a b : Snapshot) (said : Said) → b.wire ≡ a.wire → (said.refused ≡ true → HasLineNext b.conn.session) → SaysLines a b said.lines said.wakes → ReceivesNext a b (step.Said said)
 said_next a b said same stays s = record {
   talk = s.talk;
   went = s.went;
   reads = 0;
   few = omega arith;
-  only = only_none a b same;
+  only = only_none a b same s.unwritten;
   step_is = (refl, s.said, stays);
 }
 
-pub none_done : (a b : Snapshot) → b.wire ≡ a.wire → Went a b [] → HasToReceive a b → ReceivesNext a b step.Memory
-none_done a b same went left = next_quiet a b 0 step.Memory (omega arith) went (only_none a b same) (refl, refl, left)
+pub none_done : (a b : Snapshot) → b.wire ≡ a.wire → b.conn.unwritten ≡ a.conn.unwritten → Went a b [] → HasToReceive a b → ReceivesNext a b step.Memory
+none_done a b same unwritten went left = next_quiet a b 0 step.Memory (omega arith) went (only_none a b same unwritten) (refl, refl, left)
 
-pub none_left : (a b : Snapshot) → b.wire ≡ a.wire → Went a b [] → IsNextOf (Some b.conn.session) Spoilt → ReceivesNext a b step.Stop
-none_left a b same went next = next_quiet a b 0 step.Stop (omega arith) went (only_none a b same) (refl, inl next)
+pub none_left : (a b : Snapshot) → b.wire ≡ a.wire → b.conn.unwritten ≡ a.conn.unwritten → Went a b [] → IsNextOf (Some b.conn.session) Spoilt → ReceivesNext a b step.Stop
+none_left a b same unwritten went next = next_quiet a b 0 step.Stop (omega arith) went (only_none a b same unwritten) (refl, inl next)
 
-pub only_one : (a b : Snapshot) → b.wire.reads ≡ a.wire.reads + 1 → b.wire.writes ≡ a.wire.writes → b.wire.failures ≤ a.wire.failures + 1 → OnlyReads a b 1
-only_one a b reads writes failures = record { reads_are = reads; writes = writes; failures = failures; still = λ e. absurd (omega (arith, e)) }
+pub only_one : (a b : Snapshot) → b.wire.reads ≡ a.wire.reads + 1 → b.wire.writes ≡ a.wire.writes → b.wire.failures ≤ a.wire.failures + 1 → b.conn.unwritten ≡ a.conn.unwritten → OnlyReads a b 1
+only_one a b reads writes failures unwritten = record { reads_are = reads; writes = writes; failures = failures; still = λ e. absurd (omega (arith, e)); unwritten = unwritten }
 
-pub bytes_came : (n : ℕ) (last : Option Got) → last ≡ Some (got.Bytes n) → last ≢ Some got.Later
-bytes_came n last is e = absurd (cc (is, e))
+pub bytes_came : (n : ℕ) (last : Option Got) → last ≡ Some (got.Bytes n) → IsBytes last
+bytes_came n last is = subst IsBytes (sym is) tt
 
-pub link_read : (a b : Snapshot) → Went a b [] → OnlyReads a b 1 → b.wire.last_got ≢ Some got.Later → ReceivesNext a b step.Read
+pub link_read : (a b : Snapshot) → Went a b [] → OnlyReads a b 1 → IsBytes b.wire.last_got → ReceivesNext a b step.Read
 link_read a b went only some = next_quiet a b 1 step.Read (omega arith) went only (refl, refl, some)
 
 pub link_later : (a b : Snapshot) → Went a b [] → OnlyReads a b 1 → b.conn ≡ a.conn → a.conn.unfed ≡ [] → IsNextOf (Some a.conn.session) Nothing
@@ -225,12 +244,13 @@ link_fault a b went only last = next_quiet a b 1 step.Stop (omega arith) went on
 pub record IsReceiving (old new : Snapshot) (lines reads wakes rounds : ℕ) : Type 0 where
   pub receiving : Receiving old new lines reads wakes
   pub late : new.wire.last_got ≡ Some got.Later → new.wire.reads ≡ old.wire.reads
+  pub sound : NoReadFailed old new
   pub rounds_are : rounds ≤ lines + reads
   pub few_lines : lines ≤ 64
   pub few_reads : reads ≤ 16
 
 pub begins : (a : Snapshot) (wakes : ℕ) → ((home : ℕ) → has_home wakes home ≡ false) → IsReceiving a a 0 0 wakes 0
-begins a wakes none = record { receiving = receiving_none a wakes none; late = λ _. refl; rounds_are = omega arith; few_lines = omega arith; few_reads = omega arith }
+begins a wakes none = record { receiving = receiving_none a wakes none; late = λ _. refl; sound = λ rose failed. absurd (omega (arith, rose)); rounds_are = omega arith; few_lines = omega arith; few_reads = omega arith }
 
 pub goes_on_said : (a b c : Snapshot) (m k wakes rounds : ℕ) (said : Said) (all : ℕ) (how : Step) → how ≡ step.Said said → said.refused ≡ false → SaysWithin (64 - m) how
     → IsReceiving a b m k wakes rounds → ReceivesNext b c how
@@ -240,6 +260,7 @@ goes_on_said a b c m k wakes rounds said all how is accepted within h found both
     record {
       receiving = receiving_said a b c m k wakes said all h.receiving s both;
       late = λ e. s.only.reads_are ∙ ap (λ n. b.wire.reads + n) s.step_is.0 ∙ add-zero b.wire.reads ∙ h.late (sym (s.only.still s.step_is.0) ∙ e);
+      sound = no_fault_then a b c s.reads s.step_is.0 s.only h.sound;
       rounds_are = omega (arith, h.rounds_are, said_some m how said is within accepted);
       few_lines = lines_fit m how said is h.few_lines within;
       few_reads = h.few_reads;
@@ -251,7 +272,8 @@ goes_on_read a b c m k wakes rounds how is few h found =
     let s : ReceivesNext b c step.Read = subst (λ (x : Step). ReceivesNext b c x) is found in
     record {
       receiving = receiving_read a b c m k wakes h.receiving s;
-      late = λ e. absurd (s.step_is.2 e);
+      late = λ e. absurd (subst IsBytes e s.step_is.2);
+      sound = λ _ e. absurd (subst IsBytes e s.step_is.2);
       rounds_are = omega (arith, h.rounds_are);
       few_lines = h.few_lines;
       few_reads = few;
@@ -264,4 +286,4 @@ renamed a b m k wakes rounds m' k' wakes' p q r h =
 
 -- so many rounds meet a limit
 pub all_rounds : (a b : Snapshot) (m k wakes rounds : ℕ) → 80 ≤ rounds → IsReceiving a b m k wakes rounds → Receives a b receive.Again wakes
-all_rounds a b m k wakes rounds many h = receives_again a b m k wakes h.few_lines h.few_reads (inl (omega (arith, many, h.rounds_are, h.few_lines, h.few_reads))) h.receiving
+all_rounds a b m k wakes rounds many h = receives_again a b m k wakes h.few_lines h.few_reads (inl (omega (arith, many, h.rounds_are, h.few_lines, h.few_reads))) h.sound h.receiving

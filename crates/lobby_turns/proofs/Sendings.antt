@@ -1,5 +1,5 @@
 -- How sending to a client goes on.
-use Rattle.std.proofs.Common.{◌≡◌, ℕ, ◌+◌, ◌<◌, ◌≤◌, Bool, true, false, List, [], ◌++◌, refl, sym, ap, ◌∙◌, subst, arith, append-nil, true≢false}
+use Rattle.std.proofs.Common.{◌≡◌, ◌≢◌, ℕ, zero, suc, ◌+◌, ◌*◌, ◌<◌, ◌≤◌, Bool, true, false, List, [], ◌++◌, length, refl, sym, ap, ◌∙◌, subst, arith, append-nil, length-append, true≢false}
 use Rattle.std.specs.Prelude.{Option, Some}
 use Rattle.lobby_holds.specs.declared.link.Sent.{Sent}
 use Rattle.lobby_holds.specs.declared.link.Sent.TheVariants as sent
@@ -12,8 +12,8 @@ use Rattle.lobby_holds.specs.Moments.{Moment, told_end}
 use Rattle.lobby_holds.specs.Snapshot.{Snapshot}
 use Rattle.lobby_holds.specs.Talk.{AreDrains, EndsDry}
 use Rattle.lobby_holds.specs.Went.{Went}
-use Rattle.lobby_holds.specs.Holds.{Drains}
-use Rattle.lobby_turns.specs.Sending.{MaySend, OnlyWrites, IsAllSent, StepIs, SendsNext, IsStop, IsWrittenOut, all_written, stopped, spent, Writes, SentIs, Sends}
+use Rattle.lobby_holds.specs.Holds.{Drains, Asks}
+use Rattle.lobby_turns.specs.Sending.{MaySend, OnlyWrites, NoWriteFailed, IsSound, IsAllSent, AsksFirst, StepIs, SendsNext, IsStop, IsWrittenOut, all_written, stopped, spent, Writes, SentIs, Sends}
 use Rattle.lobby_holds.proofs.Parts.{went_none, went_then}
 use Rattle.lobby_holds.proofs.Talks.{are_drains-append, calm-append, finished-append, dry_behind}
 use Rattle.std.proofs.Math.Nat.{add-zero}
@@ -23,7 +23,9 @@ pub record Sending (old new : Snapshot) (writes : ℕ) : Type 0 where
   pub talk : List Moment
   pub went : Went old new talk
   pub own : AreDrains old.conn.session.client talk
-  pub calm : told_end talk ≡ false
+  pub asks : AsksFirst old talk
+  pub drains : length talk ≤ 8 + 8 * writes
+  pub sound : IsSound old new talk
   pub only : OnlyWrites old new writes
 
 pub only_same : (a : Snapshot) → OnlyWrites a a 0
@@ -32,12 +34,25 @@ only_same a = record {
   reads = refl;
   failures = omega arith;
   last_got = refl;
+  still = λ _. refl;
   session = refl;
   unfed = refl;
 }
 
-pub sending_none : (a : Snapshot) → Sending a a 0
-sending_none a = record { talk = []; went = went_none a; own = tt; calm = refl; only = only_same a }
+-- without a write none failed
+no_fault_none : (a b : Snapshot) (n : ℕ) → n ≡ 0 → OnlyWrites a b n → NoWriteFailed a b
+no_fault_none a b n none only = λ rose failed. absurd (omega (arith, rose, only.writes_are, none))
+
+pub sending_none : (a : Snapshot) → a.conn.unwritten ≡ [] → Sending a a 0
+sending_none a written = record {
+  talk = [];
+  went = went_none a;
+  own = tt;
+  asks = λ rest. absurd (rest written);
+  drains = omega arith;
+  sound = record { calm = refl; no_fault = no_fault_none a a 0 refl (only_same a) };
+  only = only_same a;
+}
 
 pub only_then : (a b c : Snapshot) (m n : ℕ) → OnlyWrites a b m → OnlyWrites b c n → OnlyWrites a c (m + n)
 only_then a b c m n h k = record {
@@ -45,6 +60,7 @@ only_then a b c m n h k = record {
   reads = k.reads ∙ h.reads;
   failures = omega (arith, h.failures, k.failures);
   last_got = k.last_got ∙ h.last_got;
+  still = λ e. k.still (omega (arith, e)) ∙ h.still (omega (arith, e));
   session = k.session ∙ h.session;
   unfed = k.unfed ∙ h.unfed;
 }
@@ -52,12 +68,26 @@ only_then a b c m n h k = record {
 their_drains : (a b : Snapshot) (t u : List Moment) → Went a b t → AreDrains a.conn.session.client t → AreDrains b.conn.session.client u → AreDrains a.conn.session.client (t ++ u)
 their_drains a b t u went h k = are_drains-append a.conn.session.client t u h (subst (λ (c : ℕ). AreDrains c u) went.client k)
 
+no_fault_then : (a b c : Snapshot) (m n : ℕ) → OnlyWrites a b m → OnlyWrites b c n → NoWriteFailed a b → NoWriteFailed b c → NoWriteFailed a c
+no_fault_then a b c m zero h k before behind = λ rose failed. before (omega (arith, rose, k.writes_are)) (sym (k.still refl) ∙ failed)
+no_fault_then a b c m (suc n) h k before behind = λ rose failed. behind (omega (arith, k.writes_are)) failed
+
+sound_then : (a b c : Snapshot) (t u : List Moment) (m n : ℕ) → OnlyWrites a b m → OnlyWrites b c n → IsSound a b t → IsSound b c u → IsSound a c (t ++ u)
+sound_then a b c t u m n h k before behind =
+    record { calm = calm-append t u before.calm behind.calm; no_fault = no_fault_then a b c m n h k before.no_fault behind.no_fault }
+
+-- what was asked first was asked first whatever follows
+asks_on : (a : Snapshot) (t u : List Moment) → AsksFirst a t → AsksFirst a (t ++ u)
+asks_on a t u h = λ rest. ((h rest).0, (h rest).1 ++ u, ap (λ l. l ++ u) (h rest).2)
+
 wrote : (a b c : Snapshot) (k : ℕ) → Sending a b k → SendsNext b c step.Wrote → Sending a c (k + 1)
 wrote a b c k h s = record {
   talk = h.talk ++ s.talk;
   went = went_then a b c h.talk s.talk h.went s.went;
   own = their_drains a b h.talk s.talk h.went h.own s.own;
-  calm = calm-append h.talk s.talk h.calm s.step_is.0;
+  asks = asks_on a h.talk s.talk h.asks;
+  drains = omega (arith, length-append h.talk s.talk, h.drains, s.drains);
+  sound = sound_then a b c h.talk s.talk k s.writes h.only s.only h.sound s.step_is.0;
   only = subst (λ (n : ℕ). OnlyWrites a c (k + n)) s.step_is.1 (only_then a b c k s.writes h.only s.only);
 }
 
@@ -71,6 +101,8 @@ sent_step a b c k s how few h n is = record {
   talk = h.talk ++ n.talk;
   went = went_then a b c h.talk n.talk h.went n.went;
   own = their_drains a b h.talk n.talk h.went h.own n.own;
+  asks = asks_on a h.talk n.talk h.asks;
+  drains = omega (arith, length-append h.talk n.talk, h.drains, n.drains, few);
   writes = k + n.writes;
   few = omega (arith, few, n.few);
   only = only_then a b c k n.writes h.only n.only;
@@ -80,30 +112,29 @@ sent_step a b c k s how few h n is = record {
 pub sends_all : (a b c : Snapshot) (k : ℕ) (how : Step) → how ≡ step.All → k < 16 → Sending a b k → SendsNext b c how → Sends a c send.All
 sends_all a b c k how is few h found =
     let s : SendsNext b c step.All = subst (λ (x : Step). SendsNext b c x) is found in
-    sent_step a b c k step.All send.All few h s (record {
-      calm = calm-append h.talk s.talk h.calm s.step_is.calm;
-      written = s.step_is.written;
-      dry = dry_behind c.conn.session.client h.talk s.talk s.step_is.dry;
-    })
+    sent_step a b c k step.All send.All few h s (
+      sound_then a b c h.talk s.talk k s.writes h.only s.only h.sound s.step_is.0,
+      record { written = s.step_is.1.written; dry = dry_behind c.conn.session.client h.talk s.talk s.step_is.1.dry },
+    )
 
 pub sends_would_block : (a b c : Snapshot) (k : ℕ) (how : Step) → how ≡ step.WouldBlock → k < 16 → Sending a b k → SendsNext b c how → Sends a c send.WouldBlock
 sends_would_block a b c k how is few h found =
     let s : SendsNext b c step.WouldBlock = subst (λ (x : Step). SendsNext b c x) is found in
-    sent_step a b c k step.WouldBlock send.WouldBlock few h s (record {
-      calm = calm-append h.talk s.talk h.calm s.step_is.calm;
-      last = s.step_is.last;
-      made = omega (arith, h.only.writes_are, s.step_is.made);
-    })
+    sent_step a b c k step.WouldBlock send.WouldBlock few h s (
+      sound_then a b c h.talk s.talk k s.writes h.only s.only h.sound s.step_is.0,
+      record { last = s.step_is.1.last; made = omega (arith, h.only.writes_are, s.step_is.1.made) },
+    )
 
 pub sends_fault : (a b c : Snapshot) (k : ℕ) (how : Step) → how ≡ step.Fault → k < 16 → Sending a b k → SendsNext b c how → Sends a c send.Fault
 sends_fault a b c k how is few h found =
     let s : SendsNext b c step.Fault = subst (λ (x : Step). SendsNext b c x) is found in
-    sent_step a b c k step.Fault send.Fault few h s s.step_is
+    sent_step a b c k step.Fault send.Fault few h s (calm-append h.talk s.talk h.sound.calm s.step_is.0, s.step_is.1)
 
 pub sends_memory : (a b c : Snapshot) (k : ℕ) (how : Step) → how ≡ step.Memory → k < 16 → Sending a b k → SendsNext b c how → Sends a c send.Memory
 sends_memory a b c k how is few h found =
     let s : SendsNext b c step.Memory = subst (λ (x : Step). SendsNext b c x) is found in
-    sent_step a b c k step.Memory send.Memory few h s s.step_is.2
+    let still : IsSound b c s.talk = record { calm = ap told_end s.step_is.0; no_fault = no_fault_none b c s.writes s.step_is.1 s.only } in
+    sent_step a b c k step.Memory send.Memory few h s (sound_then a b c h.talk s.talk k s.writes h.only s.only h.sound still, s.step_is.2)
 
 -- what was written out since a place between is since an earlier one too
 out_since : (a b c : Snapshot) (k most all : ℕ) → k + most ≡ all → OnlyWrites a b k → IsWrittenOut b c most → IsWrittenOut a c all
@@ -112,11 +143,13 @@ out_since a b c k most all sum only (stopped made stop) = stopped (omega (arith,
 out_since a b c k most all sum only (spent e) = spent (omega (arith, e, only.writes_are, sum))
 
 -- what was drained was written out behind it
-finished : (a b c d : Snapshot) (k most : ℕ) → k + most ≡ 16 → Sending a b k → SendsNext b c step.Finished → Writes c d most → Sends a d send.Finished
-finished a b c d k most few h s w = record {
+finished : (a b c d : Snapshot) (k most : ℕ) → k < 16 → k + most ≡ 16 → Sending a b k → SendsNext b c step.Finished → Writes c d most → Sends a d send.Finished
+finished a b c d k most room few h s w = record {
   talk = (h.talk ++ s.talk) ++ [];
   went = went_then a c d (h.talk ++ s.talk) [] (went_then a b c h.talk s.talk h.went s.went) w.went;
   own = their_drains a c (h.talk ++ s.talk) [] (went_then a b c h.talk s.talk h.went s.went) (their_drains a b h.talk s.talk h.went h.own s.own) tt;
+  asks = asks_on a (h.talk ++ s.talk) [] (asks_on a h.talk s.talk h.asks);
+  drains = omega (arith, ap length (append-nil (h.talk ++ s.talk)), length-append h.talk s.talk, h.drains, s.drains, room);
   writes = (k + s.writes) + w.writes;
   few = omega (arith, few, w.few, s.step_is.1);
   only = only_then a c d (k + s.writes) w.writes (only_then a b c k s.writes h.only s.only) w.only;
@@ -126,18 +159,20 @@ finished a b c d k most few h s w = record {
   );
 }
 
-pub sends_finished : (a b c d : Snapshot) (k most : ℕ) (how : Step) → how ≡ step.Finished → k + most ≡ 16 → Sending a b k → SendsNext b c how → Writes c d most → Sends a d send.Finished
-sends_finished a b c d k most how is few h s w = finished a b c d k most few h (subst (λ (x : Step). SendsNext b c x) is s) w
+pub sends_finished : (a b c d : Snapshot) (k most : ℕ) (how : Step) → how ≡ step.Finished → k < 16 → k + most ≡ 16 → Sending a b k → SendsNext b c how → Writes c d most → Sends a d send.Finished
+sends_finished a b c d k most how is room few h s w = finished a b c d k most room few h (subst (λ (x : Step). SendsNext b c x) is s) w
 
 pub sends_again : (a b : Snapshot) → Sending a b 16 → Sends a b send.Again
 sends_again a b h = record {
   talk = h.talk;
   went = h.went;
   own = h.own;
+  asks = h.asks;
+  drains = omega (arith, h.drains);
   writes = 16;
   few = omega arith;
   only = h.only;
-  sent_is = h.only.writes_are;
+  sent_is = (h.sound, h.only.writes_are);
 }
 
 -- ---- what may be done on the way
@@ -159,7 +194,7 @@ may_send a b c k n most few may only more = record {
 -- ---- single steps
 
 pub next_memory : (a : Snapshot) → a.conn.unwritten ≡ [] → SendsNext a a step.Memory
-next_memory a written = record { talk = []; went = went_none a; own = tt; writes = 0; few = omega arith; only = only_same a; step_is = (refl, refl, written) }
+next_memory a written = record { talk = []; went = went_none a; own = tt; drains = omega arith; writes = 0; few = omega arith; only = only_same a; step_is = (refl, refl, written) }
 
 -- ---- behind drains
 
@@ -173,30 +208,43 @@ wrote_behind a b c dry how d before went only is = record {
   talk = d.talk;
   went = subst (λ (t : List Moment). Went a c t) (append-nil d.talk) (went_then a b c d.talk [] d.went went);
   own = d.own;
+  drains = d.few;
   writes = 1;
   few = omega arith;
   only = only_then a b c 0 1 before only;
   step_is = is;
 }
 
-pub next_wrote : (a b c : Snapshot) (dry : Bool) → Drains a b false dry → OnlyWrites a b 0 → Went b c [] → OnlyWrites b c 1 → SendsNext a c step.Wrote
-next_wrote a b c dry d before went only = wrote_behind a b c dry step.Wrote d before went only (d.finished_is, refl)
+-- the link took what was written
+took : (n : ℕ) (last : Option Sent) → last ≡ Some (sent.Took n) → last ≢ Some sent.Fault
+took n last is failed = absurd (cc (is, failed))
+
+pub next_wrote : (a b c : Snapshot) (dry : Bool) (n : ℕ) → Drains a b false dry → OnlyWrites a b 0 → Went b c [] → OnlyWrites b c 1 → c.wire.last_sent ≡ Some (sent.Took n) → SendsNext a c step.Wrote
+next_wrote a b c dry n d before went only last =
+    wrote_behind a b c dry step.Wrote d before went only (record { calm = d.finished_is; no_fault = λ _. took n c.wire.last_sent last }, refl)
 
 pub next_would_block : (a b c : Snapshot) (dry : Bool) → Drains a b false dry → OnlyWrites a b 0 → Went b c [] → OnlyWrites b c 1 → c.wire.last_sent ≡ Some sent.Later → SendsNext a c step.WouldBlock
 next_would_block a b c dry d before went only last =
-    wrote_behind a b c dry step.WouldBlock d before went only (record { calm = d.finished_is; last = last; made = omega (arith, before.writes_are, only.writes_are) })
+    wrote_behind a b c dry step.WouldBlock d before went only (
+      record { calm = d.finished_is; no_fault = λ _ failed. absurd (cc (last, failed)) },
+      record { last = last; made = omega (arith, before.writes_are, only.writes_are) },
+    )
 
 pub next_fault : (a b c : Snapshot) (dry : Bool) → Drains a b false dry → OnlyWrites a b 0 → Went b c [] → OnlyWrites b c 1 → c.wire.last_sent ≡ Some sent.Fault → SendsNext a c step.Fault
-next_fault a b c dry d before went only last = wrote_behind a b c dry step.Fault d before went only last
+next_fault a b c dry d before went only last = wrote_behind a b c dry step.Fault d before went only (d.finished_is, last)
 
 -- all is sent
 sent_all : (a b c : Snapshot) (dry : Bool) → (d : Drains a b false dry) → dry ≡ true → c.conn.session.client ≡ a.conn.session.client → c.conn.unwritten ≡ [] → IsAllSent c d.talk
 sent_all a b c dry d is_dry client written =
-    record { calm = d.finished_is; written = written; dry = subst (λ (n : ℕ). EndsDry n d.talk) (sym client) (d.dry_is is_dry) }
+    record { written = written; dry = subst (λ (n : ℕ). EndsDry n d.talk) (sym client) (d.dry_is is_dry) }
 
-pub next_sent : (a b c : Snapshot) (dry : Bool) → Drains a b false dry → OnlyWrites a b 0 → Went b c [] → OnlyWrites b c 1 → dry ≡ true → c.conn.unwritten ≡ [] → SendsNext a c step.All
-next_sent a b c dry d before went only is_dry written =
-    wrote_behind a b c dry step.All d before went only (sent_all a b c dry d is_dry (went.client ∙ d.went.client) written)
+pub next_sent : (a b c : Snapshot) (dry : Bool) (n : ℕ) → Drains a b false dry → OnlyWrites a b 0 → Went b c [] → OnlyWrites b c 1 → c.wire.last_sent ≡ Some (sent.Took n) → dry ≡ true → c.conn.unwritten ≡ []
+    → SendsNext a c step.All
+next_sent a b c dry n d before went only last is_dry written =
+    wrote_behind a b c dry step.All d before went only (
+      record { calm = d.finished_is; no_fault = λ _. took n c.wire.last_sent last },
+      sent_all a b c dry d is_dry (went.client ∙ d.went.client) written,
+    )
 
 pub next_all : (a b : Snapshot) (finished dry : Bool) → finished ≡ false → dry ≡ true → OnlyWrites a b 0 → b.conn.unwritten ≡ [] → Drains a b finished dry → SendsNext a b step.All
 next_all a b finished dry goes_on is_dry only written found =
@@ -205,10 +253,14 @@ next_all a b finished dry goes_on is_dry only written found =
       talk = d.talk;
       went = d.went;
       own = d.own;
+      drains = d.few;
       writes = 0;
       few = omega arith;
       only = only;
-      step_is = sent_all a b b dry d is_dry d.went.client written;
+      step_is = (
+        record { calm = d.finished_is; no_fault = no_fault_none a b 0 refl only },
+        sent_all a b b dry d is_dry d.went.client written,
+      );
     }
 
 pub next_finished : (a b : Snapshot) (finished dry : Bool) → finished ≡ true → OnlyWrites a b 0 → Drains a b finished dry → SendsNext a b step.Finished
@@ -216,6 +268,7 @@ next_finished a b finished dry is_so only d = record {
   talk = d.talk;
   went = d.went;
   own = d.own;
+  drains = d.few;
   writes = 0;
   few = omega arith;
   only = only;
@@ -224,15 +277,17 @@ next_finished a b finished dry is_so only d = record {
 
 -- nothing was drained
 pub drains_none : (a : Snapshot) → Drains a a false false
-drains_none a = record { talk = []; went = went_none a; own = tt; finished_is = refl; dry_is = λ e. absurd (true≢false (sym e)) }
+drains_none a = record { talk = []; went = went_none a; own = tt; few = omega arith; finished_is = refl; dry_is = λ e. absurd (true≢false (sym e)) }
 
 -- the loop begins behind the question whether the client is finished
-pub sending_asked : (a b : Snapshot) (finished dry : Bool) → finished ≡ false → OnlyWrites a b 0 → Drains a b finished dry → Sending a b 0
-sending_asked a b finished dry goes_on only d = record {
-  talk = d.talk;
-  went = d.went;
-  own = d.own;
-  calm = d.finished_is ∙ goes_on;
+pub sending_asked : (a b : Snapshot) (finished : Bool) → finished ≡ false → OnlyWrites a b 0 → Asks a b finished → Sending a b 0
+sending_asked a b finished goes_on only d = record {
+  talk = d.drains.talk;
+  went = d.drains.went;
+  own = d.drains.own;
+  asks = λ _. d.begins;
+  drains = omega (arith, d.drains.few);
+  sound = record { calm = d.drains.finished_is ∙ goes_on; no_fault = no_fault_none a b 0 refl only };
   only = only;
 }
 
@@ -272,13 +327,26 @@ pub writes_most : (a b : Snapshot) (k most : ℕ) → k ≡ most → Writing a b
 writes_most a b k most same h = writes_out a b k most (omega (arith, same)) h (spent (omega (arith, h.only.writes_are, same)))
 
 -- finished already when asked
-pub sends_asked : (a b c : Snapshot) → SendsNext a b step.Finished → Writes b c 16 → Sends a c send.Finished
-sends_asked a b c s w = finished a a b c 0 16 (omega arith) (sending_none a) s w
+pub sends_asked : (a b c : Snapshot) (finished : Bool) → finished ≡ true → OnlyWrites a b 0 → Asks a b finished → Writes b c 16 → Sends a c send.Finished
+sends_asked a b c finished is_so only d w = record {
+  talk = d.drains.talk ++ [];
+  went = went_then a b c d.drains.talk [] d.drains.went w.went;
+  own = their_drains a b d.drains.talk [] d.drains.went d.drains.own tt;
+  asks = asks_on a d.drains.talk [] (λ _. d.begins);
+  drains = omega (arith, ap length (append-nil d.drains.talk), d.drains.few);
+  writes = 0 + w.writes;
+  few = omega (arith, w.few);
+  only = only_then a b c 0 w.writes only w.only;
+  sent_is = (
+    ap told_end (append-nil d.drains.talk) ∙ d.drains.finished_is ∙ is_so,
+    out_since a b c 0 16 16 (omega arith) only w.out,
+  );
+}
 
 pub one_write : (a b : Snapshot) → b.wire.writes ≡ a.wire.writes + 1 → b.wire.reads ≡ a.wire.reads → b.wire.failures ≤ a.wire.failures + 1 → b.wire.last_got ≡ a.wire.last_got
     → b.conn.session ≡ a.conn.session → b.conn.unfed ≡ a.conn.unfed → OnlyWrites a b 1
 one_write a b writes reads failures last_got session unfed =
-    record { writes_are = writes; reads = reads; failures = failures; last_got = last_got; session = session; unfed = unfed }
+    record { writes_are = writes; reads = reads; failures = failures; last_got = last_got; still = λ e. absurd (omega (arith, e)); session = session; unfed = unfed }
 
 pub no_write : (a b : Snapshot) → b.wire ≡ a.wire → b.conn.session ≡ a.conn.session → b.conn.unfed ≡ a.conn.unfed → OnlyWrites a b 0
 no_write a b wire session unfed = record {
@@ -286,6 +354,7 @@ no_write a b wire session unfed = record {
   reads = ap (λ w. w.reads) wire;
   failures = omega (arith, ap (λ w. w.failures) wire);
   last_got = ap (λ w. w.last_got) wire;
+  still = λ _. ap (λ w. w.last_sent) wire;
   session = session;
   unfed = unfed;
 }

@@ -1,5 +1,5 @@
 -- How a turn is put together.
-use Rattle.std.proofs.Common.{◌≡◌, ◌⊎◌, ◌≢◌, ℕ, ◌+◌, ◌<◌, ◌≤◌, false, List, [], ◌∷◌, ◌++◌, length, refl, sym, ap, ◌∙◌, subst, inl, inr, arith, append-nil}
+use Rattle.std.proofs.Common.{◌≡◌, ◌⊎◌, ◌≢◌, ℕ, ◌+◌, ◌<◌, ◌≤◌, true, false, List, [], ◌∷◌, ◌++◌, length, refl, sym, ap, ◌∙◌, subst, inl, inr, arith, append-nil, length-append, true≢false}
 use Rattle.std.proofs.Math.Bool.{or-false}
 use Rattle.std.specs.Prelude.{◌||◌, Option, Some}
 use Rattle.lobby_model.specs.declared.event.Event.TheVariants as event
@@ -21,11 +21,11 @@ use Rattle.lobby_holds.specs.Moments.{Moment, moment, requests, touched, told_en
 use Rattle.lobby_holds.specs.Wire.{Wire}
 use Rattle.lobby_holds.specs.Snapshot.{Snapshot}
 use Rattle.lobby_holds.specs.Talk.{AreTalk, AreDrains, EndsDry}
-use Rattle.lobby_turns.specs.Receiving.{IsAllReceived, HasToReceive, has_bytes, has_line, has_more, IsOver, ReceivedIs, Receives}
-use Rattle.lobby_turns.specs.Sending.{OnlyWrites, IsStop, IsWrittenOut, all_written, stopped, spent, IsAllSent, MustWait, SentIs, Sends}
+use Rattle.lobby_turns.specs.Receiving.{IsAllReceived, HasToReceive, has_bytes, has_line, has_more, IsOver, NoReadFailed, ReceivesMost, ReceivedIs, Receives}
+use Rattle.lobby_turns.specs.Sending.{OnlyWrites, IsSound, IsStop, IsWrittenOut, all_written, stopped, spent, IsAllSent, MustWait, NoWriteFailed, SendsMost, SentIs, Sends}
 use Rattle.lobby_holds.specs.Went.{Went}
 use Rattle.lobby_holds.specs.Holds.{Made}
-use Rattle.lobby_turns.specs.Turned.{IsEmptied, MayShut, spoilt, unread, unsent, finished, ended, TakesMemory, for_receiving, for_drain, for_shut, IsIdle, IsAtLimit, Ends, Turned, ClosesTo}
+use Rattle.lobby_turns.specs.Turned.{GoesOn, MayShut, spoilt, unread, unsent, finished, ended, HasReceived, received_all, received_most, HasSent, sent_all, put_off, sent_most, IsIdle, IsAtLimit, of_receiving, of_sending, IsShort, to_receive, to_drain, TakesMemory, to_go_on, to_shut, IsAsked, Ends, Turned, ClosesTo}
 use Rattle.lobby_holds.proofs.Parts.{requests-append, went_then}
 use Rattle.lobby_holds.proofs.Talks.{are_talk-append, drains_are_talk, drains_ask, touched-append, touched_drained, calm-append, finished-append, dry_behind}
 
@@ -52,6 +52,11 @@ lines_both : (a b c : Snapshot) (how : ReceiveState) (far : SendState) (wakes : 
 lines_both a b c how far wakes s =
     requests-append s.receives.talk s.sends.talk ∙ ap (λ l. requests s.receives.talk ++ l) (drains_ask b.conn.session.client s.sends.talk s.sends.own) ∙ append-nil (requests s.receives.talk)
 
+drains_both : (a b c : Snapshot) (how : ReceiveState) (far : SendState) (wakes : ℕ) → (s : Served a b c how far wakes)
+    → length (s.receives.talk ++ s.sends.talk) ≤ length (requests (s.receives.talk ++ s.sends.talk)) + 136
+drains_both a b c how far wakes s =
+    omega (arith, length-append s.receives.talk s.sends.talk, s.receives.only_lines, s.sends.drains, ap length (lines_both a b c how far wakes s))
+
 reads_both : (a b c : Snapshot) (how : ReceiveState) (far : SendState) (wakes : ℕ) → Served a b c how far wakes → c.wire.reads ≤ a.wire.reads + 16
 reads_both a b c how far wakes s = omega (arith, s.receives.only.reads_are, s.receives.few, s.sends.only.reads)
 
@@ -61,10 +66,19 @@ writes_both a b c how far wakes s = omega (arith, s.receives.only.writes, s.send
 -- ---- why a client is shut
 
 all_received : (a b : Snapshot) (talk : List Moment) (how : ReceiveState) → how ≡ receive.All → ReceivedIs a b talk how → IsAllReceived a b
-all_received a b talk how e h = subst (λ (x : ReceiveState). ReceivedIs a b talk x) e h
+all_received a b talk how e h = (subst (λ (x : ReceiveState). ReceivedIs a b talk x) e h).1
 
 all_sent : (b c : Snapshot) (talk : List Moment) (far : SendState) → far ≡ send.All → SentIs b c talk far → IsAllSent c talk
-all_sent b c talk far e h = subst (λ (x : SendState). SentIs b c talk x) e h
+all_sent b c talk far e h = (subst (λ (x : SendState). SentIs b c talk x) e h).1
+
+-- whether a drain said that nothing will come, by how far it was sent
+finished_or_not : (b c : Snapshot) (talk : List Moment) (far : SendState) → SentIs b c talk far → ((told_end talk ≡ true) × IsWrittenOut b c 16) ⊎ (told_end talk ≡ false)
+finished_or_not b c talk send.All h = inr h.0.calm
+finished_or_not b c talk send.WouldBlock h = inr h.0.calm
+finished_or_not b c talk send.Again h = inr h.0.calm
+finished_or_not b c talk send.Finished h = inl h
+finished_or_not b c talk send.Fault h = inr h.0
+finished_or_not b c talk send.Memory h = inr h.0.calm
 
 abbrev pub MustShut : Snapshot → ReceiveState → SendState → Type 0
 MustShut c how far = (far ≡ send.Finished) ⊎ ((far ≡ send.Fault) ⊎ ((how ≡ receive.Stop) ⊎ ((how ≡ receive.All) × (far ≡ send.All) × (c.wire.last_got ≡ Some got.End))))
@@ -75,29 +89,40 @@ out_before a b c same (all_written e) = all_written e
 out_before a b c same (stopped made stop) = stopped (omega (arith, made, same)) stop
 out_before a b c same (spent e) = spent (omega (arith, e, same))
 
-over : (a b c : Snapshot) (talk : List Moment) → c.conn.session ≡ b.conn.session → c.wire.last_got ≡ b.wire.last_got → IsOver b → MayShut a c talk
-over a b c talk session last (inl next) = spoilt (subst (λ (x : Serving). IsNextOf (Some x) Spoilt) (sym session) next)
-over a b c talk session last (inr fault) = unread (last ∙ fault)
+over : (a b c : Snapshot) (talk : List Moment) → told_end talk ≡ false → c.conn.session ≡ b.conn.session → c.wire.last_got ≡ b.wire.last_got → IsOver b → MayShut a c talk
+over a b c talk calm session last (inl next) = spoilt calm (subst (λ (x : Serving). IsNextOf (Some x) Spoilt) (sym session) next)
+over a b c talk calm session last (inr fault) = unread calm (last ∙ fault)
 
-may_shut : (a b c : Snapshot) (how : ReceiveState) (far : SendState) (wakes : ℕ) → (s : Served a b c how far wakes) → MustShut c how far → MayShut a c (s.receives.talk ++ s.sends.talk)
-may_shut a b c how far wakes s (inl e) =
-    let sent_is : SentIs b c s.sends.talk send.Finished = subst (λ (x : SendState). SentIs b c s.sends.talk x) e s.sends.sent_is in
-    finished (finished-append s.receives.talk s.sends.talk sent_is.0) (out_before a b c s.receives.only.writes sent_is.1)
-may_shut a b c how far wakes s (inr (inl e)) = unsent (subst (λ (x : SendState). SentIs b c s.sends.talk x) e s.sends.sent_is)
-may_shut a b c how far wakes s (inr (inr (inl e))) =
-    over a b c (s.receives.talk ++ s.sends.talk) s.sends.only.session s.sends.only.last_got (subst (λ (x : ReceiveState). ReceivedIs a b s.receives.talk x) e s.receives.received_is)
-may_shut a b c how far wakes s (inr (inr (inr e))) =
+-- where no drain said that nothing will come
+shut_else : (a b c : Snapshot) (how : ReceiveState) (far : SendState) (wakes : ℕ) → (s : Served a b c how far wakes) → told_end (s.receives.talk ++ s.sends.talk) ≡ false
+    → ((told_end s.sends.talk ≡ true) → ⊥) → MustShut c how far → MayShut a c (s.receives.talk ++ s.sends.talk)
+shut_else a b c how far wakes s calm goes_on (inl e) = absurd (goes_on (subst (λ (x : SendState). SentIs b c s.sends.talk x) e s.sends.sent_is).0)
+shut_else a b c how far wakes s calm goes_on (inr (inl e)) = unsent calm (subst (λ (x : SendState). SentIs b c s.sends.talk x) e s.sends.sent_is).1
+shut_else a b c how far wakes s calm goes_on (inr (inr (inl e))) =
+    over a b c (s.receives.talk ++ s.sends.talk) calm s.sends.only.session s.sends.only.last_got (subst (λ (x : ReceiveState). ReceivedIs a b s.receives.talk x) e s.receives.received_is)
+shut_else a b c how far wakes s calm goes_on (inr (inr (inr e))) =
     let h : IsAllReceived a b = all_received a b s.receives.talk how e.0 s.receives.received_is in
     let t : IsAllSent c s.sends.talk = all_sent b c s.sends.talk far e.1 s.sends.sent_is in
-    ended
+    ended calm
     (record { fed = s.sends.only.unfed ∙ h.fed; nothing = subst (λ (x : Serving). IsNextOf (Some x) Nothing) (sym s.sends.only.session) h.nothing; last = e.2 })
     (record { written = t.written; dry = dry_behind c.conn.session.client s.receives.talk s.sends.talk t.dry })
 
+may_shut : (a b c : Snapshot) (how : ReceiveState) (far : SendState) (wakes : ℕ) → (s : Served a b c how far wakes) → MustShut c how far → MayShut a c (s.receives.talk ++ s.sends.talk)
+may_shut a b c how far wakes s must = by_drains (finished_or_not b c s.sends.talk far s.sends.sent_is)
+  where
+    by_drains : ((told_end s.sends.talk ≡ true) × IsWrittenOut b c 16) ⊎ (told_end s.sends.talk ≡ false) → MayShut a c (s.receives.talk ++ s.sends.talk)
+    by_drains (inl e) = finished (finished-append s.receives.talk s.sends.talk e.0) (out_before a b c s.receives.only.writes e.1)
+    by_drains (inr calm) = shut_else a b c how far wakes s (calm-append s.receives.talk s.sends.talk s.receives.calm calm) (λ told. true≢false (sym told ∙ calm)) must
+
 -- ---- a turn that shuts nobody
+
+-- neither half saw a reason to shut the client
+abbrev pub MayGo : ReceiveState → SendState → Type 0
+MayGo how far = (how ≢ receive.Stop) × (far ≢ send.Finished) × (far ≢ send.Fault)
 
 abbrev pub MayRest : Snapshot → ReceiveState → SendState → TurnState → Type 0
 MayRest c how far state.Idle = (how ≡ receive.All) × ((far ≡ send.WouldBlock) ⊎ ((far ≡ send.All) × (c.wire.last_got ≢ Some got.End)))
-MayRest c how far state.Again = (how ≡ receive.Again) ⊎ (far ≡ send.Again)
+MayRest c how far state.Again = ((how ≡ receive.Again) ⊎ (far ≡ send.Again)) × (how ≢ receive.Memory) × (far ≢ send.Memory)
 MayRest c how far state.Closed = ⊥
 MayRest c how far state.Memory = (how ≡ receive.Memory) ⊎ (far ≡ send.Memory)
 
@@ -107,74 +132,152 @@ still_received : (a b c : Snapshot) → b.wire.reads ≡ c.wire.reads → c.wire
 still_received a b c reads last (inl end) = inl (last ∙ end)
 still_received a b c reads last (inr later) = inr (last ∙ later.0, subst (λ (n : ℕ). a.wire.reads < n) reads later.1)
 
-idle : (a b c : Snapshot) (how : ReceiveState) (far : SendState) (wakes : ℕ) → (s : Served a b c how far wakes) → MayRest c how far state.Idle → IsIdle a c (s.receives.talk ++ s.sends.talk)
-idle a b c how far wakes s rest =
-    let h : IsAllReceived a b = all_received a b s.receives.talk how rest.0 s.receives.received_is in
-    record {
-      calm = calm-append s.receives.talk s.sends.talk s.receives.calm (calm rest.1);
-      fed = s.sends.only.unfed ∙ h.fed;
-      nothing = subst (λ (x : Serving). IsNextOf (Some x) Nothing) (sym s.sends.only.session) h.nothing;
-      received = still_received a b c (sym s.sends.only.reads) s.sends.only.last_got h.last;
-      sent = quiet rest.1;
-    }
-  where
-    t : List Moment
-    t = s.sends.talk
-
-    waits : far ≡ send.WouldBlock → MustWait b c t
-    waits e = subst (λ (x : SendState). SentIs b c t x) e s.sends.sent_is
-
-    calm : (far ≡ send.WouldBlock) ⊎ ((far ≡ send.All) × (c.wire.last_got ≢ Some got.End)) → told_end t ≡ false
-    calm (inl e) = (waits e).calm
-    calm (inr e) = (all_sent b c t far e.0 s.sends.sent_is).calm
-
-    quiet : (far ≡ send.WouldBlock) ⊎ ((far ≡ send.All) × (c.wire.last_got ≢ Some got.End))
-        → ((c.wire.last_sent ≡ Some sent.Later) × (a.wire.writes < c.wire.writes)) ⊎ (IsEmptied c (s.receives.talk ++ t) × (c.wire.last_got ≢ Some got.End))
-    quiet (inl e) = inl ((waits e).last, subst (λ (n : ℕ). n < c.wire.writes) s.receives.only.writes (waits e).made)
-    quiet (inr e) =
-        let sent_all : IsAllSent c t = all_sent b c t far e.0 s.sends.sent_is in
-        inr (record { written = sent_all.written; dry = dry_behind c.conn.session.client s.receives.talk t sent_all.dry }, e.1)
-
-at_limit : (a b c : Snapshot) (how : ReceiveState) (far : SendState) (wakes : ℕ) → (s : Served a b c how far wakes) → MayRest c how far state.Again → IsAtLimit a c (s.receives.talk ++ s.sends.talk)
-at_limit a b c how far wakes s (inl e) = receive_limit (subst (λ (x : ReceiveState). ReceivedIs a b s.receives.talk x) e s.receives.received_is)
-  where
-    receive_limit : (length (requests s.receives.talk) ≡ 64) ⊎ (b.wire.reads ≡ a.wire.reads + 16) → IsAtLimit a c (s.receives.talk ++ s.sends.talk)
-    receive_limit (inl lines) = inl (ap length (lines_both a b c how far wakes s) ∙ lines)
-    receive_limit (inr reads) = inr (inl (s.sends.only.reads ∙ reads))
-at_limit a b c how far wakes s (inr e) =
-    let written : c.wire.writes ≡ b.wire.writes + 16 = subst (λ (x : SendState). SentIs b c s.sends.talk x) e s.sends.sent_is in
-    inr (inr (written ∙ ap (λ n. n + 16) s.receives.only.writes))
-
 -- sending reads nothing
-to_receive : (a b c : Snapshot) → c.conn.session ≡ b.conn.session → c.conn.unfed ≡ b.conn.unfed → c.wire.last_got ≡ b.wire.last_got → c.wire.reads ≡ b.wire.reads → HasToReceive a b → HasToReceive a c
-to_receive a b c session unfed last reads (has_bytes h) = has_bytes (λ e. h (sym unfed ∙ e))
-to_receive a b c session unfed last reads (has_line h) = has_line (subst HasLineNext (sym session) h)
-to_receive a b c session unfed last reads (has_more h) =
+left_to_receive : (a b c : Snapshot) → c.conn.session ≡ b.conn.session → c.conn.unfed ≡ b.conn.unfed → c.wire.last_got ≡ b.wire.last_got → c.wire.reads ≡ b.wire.reads → HasToReceive a b → HasToReceive a c
+left_to_receive a b c session unfed last reads (has_bytes h) = has_bytes (λ e. h (sym unfed ∙ e))
+left_to_receive a b c session unfed last reads (has_line h) = has_line (subst HasLineNext (sym session) h)
+left_to_receive a b c session unfed last reads (has_more h) =
     has_more (record { on = λ e. h.on (sym last ∙ e); sound = λ e. h.sound (sym last ∙ e); late = λ e. reads ∙ h.late (sym last ∙ e) })
 
-takes_memory : (a b c : Snapshot) (how : ReceiveState) (far : SendState) (wakes : ℕ) → (s : Served a b c how far wakes) → MayRest c how far state.Memory → TakesMemory a c (s.receives.talk ++ s.sends.talk)
-takes_memory a b c how far wakes s (inl e) =
-    let only : OnlyWrites b c s.sends.writes = s.sends.only in
-    for_receiving (to_receive a b c only.session only.unfed only.last_got only.reads (subst (λ (x : ReceiveState). ReceivedIs a b s.receives.talk x) e s.receives.received_is))
-takes_memory a b c how far wakes s (inr e) = for_drain (subst (λ (x : SendState). SentIs b c s.sends.talk x) e s.sends.sent_is)
+sound_received : (a b : Snapshot) (talk : List Moment) (how : ReceiveState) → how ≢ receive.Stop → ReceivedIs a b talk how → NoReadFailed a b
+sound_received a b talk receive.All on h = h.0
+sound_received a b talk receive.Again on h = h.0
+sound_received a b talk receive.Stop on h = absurd (on refl)
+sound_received a b talk receive.Memory on h = h.0
 
-rests : (a b c : Snapshot) (how : ReceiveState) (far : SendState) (wakes : ℕ) (x : TurnState) → (s : Served a b c how far wakes) → MayRest c how far x → Ends a c (s.receives.talk ++ s.sends.talk) [] x
-rests a b c how far wakes state.Idle s rest = (refl, idle a b c how far wakes s rest)
-rests a b c how far wakes state.Again s rest = (refl, at_limit a b c how far wakes s rest)
-rests a b c how far wakes state.Closed s rest = absurd rest
-rests a b c how far wakes state.Memory s rest = (refl, takes_memory a b c how far wakes s rest)
+sound_sent : (b c : Snapshot) (talk : List Moment) (far : SendState) → far ≢ send.Finished → far ≢ send.Fault → SentIs b c talk far → IsSound b c talk
+sound_sent b c talk send.All on sound h = h.0
+sound_sent b c talk send.WouldBlock on sound h = h.0
+sound_sent b c talk send.Again on sound h = h.0
+sound_sent b c talk send.Finished on sound h = absurd (on refl)
+sound_sent b c talk send.Fault on sound h = absurd (sound refl)
+sound_sent b c talk send.Memory on sound h = h.0
 
-pub turned_open : (a b c : Snapshot) (how : ReceiveState) (far : SendState) (wakes : ℕ) (x : TurnState) → Receives a b how wakes → Sends b c far → MayRest c how far x
+module _ (a b c : Snapshot) (how : ReceiveState) (far : SendState) (wakes : ℕ) (s : Served a b c how far wakes) where
+  abbrev spoken : List Moment
+  spoken = s.receives.talk ++ s.sends.talk
+
+  goes_on : MayGo how far → GoesOn a c spoken
+  goes_on on =
+      let sound : IsSound b c s.sends.talk = sound_sent b c s.sends.talk far on.1 on.2 s.sends.sent_is in
+      let read : NoReadFailed a b = sound_received a b s.receives.talk how on.0 s.receives.received_is in
+      record {
+        calm = calm-append s.receives.talk s.sends.talk s.receives.calm sound.calm;
+        read = λ rose failed. read (omega (arith, rose, s.sends.only.reads)) (sym s.sends.only.last_got ∙ failed);
+        written = λ rose. sound.no_fault (omega (arith, rose, s.receives.only.writes));
+      }
+
+  received : how ≡ receive.All → IsAllReceived a c
+  received e =
+      let h : IsAllReceived a b = all_received a b s.receives.talk how e s.receives.received_is in
+      record {
+        fed = s.sends.only.unfed ∙ h.fed;
+        nothing = subst (λ (x : Serving). IsNextOf (Some x) Nothing) (sym s.sends.only.session) h.nothing;
+        last = still_received a b c (sym s.sends.only.reads) s.sends.only.last_got h.last;
+      }
+
+  most_since : ReceivesMost a b s.receives.talk → ReceivesMost a c spoken
+  most_since (inl lines) = inl (ap length (lines_both a b c how far wakes s) ∙ lines)
+  most_since (inr reads) = inr (s.sends.only.reads ∙ reads)
+
+  most : how ≡ receive.Again → ReceivesMost a c spoken
+  most e = most_since (subst (λ (x : ReceiveState). ReceivedIs a b s.receives.talk x) e s.receives.received_is).1
+
+  refused : how ≡ receive.Memory → HasToReceive a c
+  refused e =
+      let only : OnlyWrites b c s.sends.writes = s.sends.only in
+      left_to_receive a b c only.session only.unfed only.last_got only.reads (subst (λ (x : ReceiveState). ReceivedIs a b s.receives.talk x) e s.receives.received_is).1
+
+  so_far : (x : ReceiveState) → how ≡ x → x ≢ receive.Stop → x ≢ receive.Memory → HasReceived a c spoken
+  so_far receive.All e on fits = received_all (received e)
+  so_far receive.Again e on fits = received_most (most e)
+  so_far receive.Stop e on fits = absurd (on refl)
+  so_far receive.Memory e on fits = absurd (fits refl)
+
+  waits : far ≡ send.WouldBlock → MustWait a c
+  waits e =
+      let must : MustWait b c = (subst (λ (x : SendState). SentIs b c s.sends.talk x) e s.sends.sent_is).1 in
+      record { last = must.last; made = subst (λ (n : ℕ). n < c.wire.writes) s.receives.only.writes must.made }
+
+  sent_to : far ≡ send.All → IsAllSent c spoken
+  sent_to e =
+      let all : IsAllSent c s.sends.talk = all_sent b c s.sends.talk far e s.sends.sent_is in
+      record { written = all.written; dry = dry_behind c.conn.session.client s.receives.talk s.sends.talk all.dry }
+
+  wrote_most : far ≡ send.Again → SendsMost a c
+  wrote_most e = (subst (λ (x : SendState). SentIs b c s.sends.talk x) e s.sends.sent_is).1 ∙ ap (λ n. n + 16) s.receives.only.writes
+
+  nothing_left : far ≡ send.Memory → c.conn.unwritten ≡ []
+  nothing_left e = (subst (λ (x : SendState). SentIs b c s.sends.talk x) e s.sends.sent_is).1
+
+  sent_so_far : (x : SendState) → far ≡ x → x ≢ send.Finished → x ≢ send.Fault → HasSent a c spoken ⊎ (c.conn.unwritten ≡ [])
+  sent_so_far send.All e on sound = inl (sent_all (sent_to e))
+  sent_so_far send.WouldBlock e on sound = inl (put_off (waits e))
+  sent_so_far send.Again e on sound = inl (sent_most (wrote_most e))
+  sent_so_far send.Finished e on sound = absurd (on refl)
+  sent_so_far send.Fault e on sound = absurd (sound refl)
+  sent_so_far send.Memory e on sound = inr (nothing_left e)
+
+  has_sent : (x : SendState) → far ≡ x → x ≢ send.Finished → x ≢ send.Fault → x ≢ send.Memory → HasSent a c spoken
+  has_sent send.All e on sound fits = sent_all (sent_to e)
+  has_sent send.WouldBlock e on sound fits = put_off (waits e)
+  has_sent send.Again e on sound fits = sent_most (wrote_most e)
+  has_sent send.Finished e on sound fits = absurd (on refl)
+  has_sent send.Fault e on sound fits = absurd (sound refl)
+  has_sent send.Memory e on sound fits = absurd (fits refl)
+
+  idle : MayRest c how far state.Idle → IsIdle a c spoken
+  idle rest = record { received = received rest.0; sent = quiet rest.1 }
+    where
+      quiet : (far ≡ send.WouldBlock) ⊎ ((far ≡ send.All) × (c.wire.last_got ≢ Some got.End)) → MustWait a c ⊎ (IsAllSent c spoken × (c.wire.last_got ≢ Some got.End))
+      quiet (inl e) = inl (waits e)
+      quiet (inr e) = inr (sent_to e.0, e.1)
+
+  -- a half came to its limit, and the other one did not fail
+  limit : HasReceived a c spoken → HasSent a c spoken → (how ≡ receive.Again) ⊎ (far ≡ send.Again) → IsAtLimit a c spoken
+  limit before behind (inl e) = of_receiving (most e) behind
+  limit (received_all all) behind (inr e) = of_sending all (wrote_most e)
+  limit (received_most reached) behind (inr e) = of_receiving reached behind
+
+  at_limit : MayGo how far → MayRest c how far state.Again → IsAtLimit a c spoken
+  at_limit on rest = limit (so_far how refl on.0 rest.1) (has_sent far refl on.1 on.2 rest.2) rest.0
+
+  -- receiving was refused memory, or it was not
+  short : MayGo how far → (x : ReceiveState) → how ≡ x → (how ≡ receive.Memory) ⊎ (far ≡ send.Memory) → IsShort a c spoken
+  short on receive.Memory e rest = to_receive (refused e) (sent_so_far far refl on.1 on.2)
+  short on receive.All e (inr none) = to_drain (received_all (received e)) (nothing_left none)
+  short on receive.Again e (inr none) = to_drain (received_most (most e)) (nothing_left none)
+  short on receive.Stop e rest = absurd (on.0 e)
+  short on receive.All e (inl f) = absurd (cc (e, f))
+  short on receive.Again e (inl f) = absurd (cc (e, f))
+
+  rests : (x : TurnState) → MayGo how far → MayRest c how far x → Ends a c spoken [] x
+  rests state.Idle on rest = (refl, goes_on on, idle rest)
+  rests state.Again on rest = (refl, goes_on on, at_limit on rest)
+  rests state.Closed on rest = absurd rest
+  rests state.Memory on rest = (refl, to_go_on (goes_on on) (short on how refl rest))
+
+  -- what waits to be written is what waited before the turn
+  asked : a.conn.unwritten ≢ [] → IsAsked c.conn.session.client spoken
+  asked waiting =
+      let first = s.sends.asks (λ none. waiting (sym s.receives.only.unwritten ∙ none)) in
+      let same : b.conn.session.client ≡ c.conn.session.client = sym s.sends.went.client in
+      subst (λ (d : ℕ). IsAsked d spoken) same
+      (s.receives.talk, first.0, first.1, ap (λ l. s.receives.talk ++ l) first.2, (subst (λ (l : List Moment). AreDrains b.conn.session.client l) first.2 s.sends.own).1)
+
+pub turned_open : (a b c : Snapshot) (how : ReceiveState) (far : SendState) (wakes : ℕ) (x : TurnState) → Receives a b how wakes → Sends b c far → MayGo how far → MayRest c how far x
     → Turned a c (record { state = x; wakes = wakes })
-turned_open a b c how far wakes x h t rest =
+turned_open a b c how far wakes x h t on rest =
     let s : Served a b c how far wakes = record { receives = h; sends = t } in
     record {
       talk = h.talk ++ t.talk;
       end = [];
       went = subst (λ (l : List Moment). Went a c l) (sym (append-nil (h.talk ++ t.talk))) (went_both a b c how far wakes s);
       own = own_both a b c how far wakes s;
-      ends = rests a b c how far wakes x s rest;
+      asked = asked a b c how far wakes s;
+      ends = rests a b c how far wakes s x on rest;
       lines = subst (λ (l : List _). length l ≤ 64) (sym (lines_both a b c how far wakes s)) h.lines;
+      drains = drains_both a b c how far wakes s;
       reads = reads_both a b c how far wakes s;
       writes = writes_both a b c how far wakes s;
       wakes_are = λ home.
@@ -190,12 +293,12 @@ out_still a c d conn wire (stopped made stop) = stopped (subst (λ (w : Wire). a
 out_still a c d conn wire (spent e) = spent (ap (λ w. w.writes) wire ∙ e)
 
 moved_on : (a c d : Snapshot) (talk : List Moment) → d.conn ≡ c.conn → d.wire ≡ c.wire → MayShut a c talk → MayShut a d talk
-moved_on a c d talk conn wire (spoilt next) = spoilt (subst (λ (x : Serving). IsNextOf (Some x) Spoilt) (ap (λ x. x.session) (sym conn)) next)
-moved_on a c d talk conn wire (unread e) = unread (ap (λ w. w.last_got) wire ∙ e)
-moved_on a c d talk conn wire (unsent e) = unsent (ap (λ w. w.last_sent) wire ∙ e)
+moved_on a c d talk conn wire (spoilt calm next) = spoilt calm (subst (λ (x : Serving). IsNextOf (Some x) Spoilt) (ap (λ x. x.session) (sym conn)) next)
+moved_on a c d talk conn wire (unread calm e) = unread calm (ap (λ w. w.last_got) wire ∙ e)
+moved_on a c d talk conn wire (unsent calm e) = unsent calm (ap (λ w. w.last_sent) wire ∙ e)
 moved_on a c d talk conn wire (finished e out) = finished e (out_still a c d conn wire out)
-moved_on a c d talk conn wire (ended h t) =
-    ended
+moved_on a c d talk conn wire (ended calm h t) =
+    ended calm
     (record { fed = ap (λ x. x.unfed) conn ∙ h.fed; nothing = subst (λ (x : Serving). IsNextOf (Some x) Nothing) (ap (λ x. x.session) (sym conn)) h.nothing; last = ap (λ w. w.last_got) wire ∙ h.last })
     (record { written = ap (λ x. x.unwritten) conn ∙ t.written; dry = subst (λ (n : ℕ). EndsDry n talk) (ap (λ x. x.session.client) (sym conn)) t.dry })
 
@@ -213,8 +316,10 @@ turned_closed a b c d how far wakes more state.Closed h t must conn wire closes 
       end = last ∷ [];
       went = went_then a c d talk (last ∷ []) (went_both a b c how far wakes s) closes.1;
       own = subst (λ (x : ℕ). AreTalk x talk) (sym closes.1.client) (own_both a b c how far wakes s);
+      asked = λ waiting. subst (λ (x : ℕ). IsAsked x talk) (sym closes.1.client) (asked a b c how far wakes s waiting);
       ends = (closes.0, ap (λ x. moment closes.0 (event.Shut x) ∷ []) (sym closes.1.client), moved_on a c d talk conn wire (may_shut a b c how far wakes s must));
       lines = subst (λ (l : List _). length l ≤ 64) (sym (lines_both a b c how far wakes s)) h.lines;
+      drains = drains_both a b c how far wakes s;
       reads = subst (λ (w : _). w.reads ≤ a.wire.reads + 16) (sym wire) (reads_both a b c how far wakes s);
       writes = subst (λ (w : _). w.writes ≤ a.wire.writes + 16) (sym wire) (writes_both a b c how far wakes s);
       wakes_are = λ home.
@@ -230,8 +335,10 @@ turned_closed a b c d how far wakes more state.Memory h t must conn wire closes 
       end = [];
       went = went_then a c d talk [] (went_both a b c how far wakes s) closes.0;
       own = subst (λ (x : ℕ). AreTalk x talk) (sym closes.0.client) (own_both a b c how far wakes s);
-      ends = (refl, for_shut (moved_on a c d talk conn wire (may_shut a b c how far wakes s must)));
+      asked = λ waiting. subst (λ (x : ℕ). IsAsked x talk) (sym closes.0.client) (asked a b c how far wakes s waiting);
+      ends = (refl, to_shut (moved_on a c d talk conn wire (may_shut a b c how far wakes s must)));
       lines = subst (λ (l : List _). length l ≤ 64) (sym (lines_both a b c how far wakes s)) h.lines;
+      drains = drains_both a b c how far wakes s;
       reads = subst (λ (w : _). w.reads ≤ a.wire.reads + 16) (sym wire) (reads_both a b c how far wakes s);
       writes = subst (λ (w : _). w.writes ≤ a.wire.writes + 16) (sym wire) (writes_both a b c how far wakes s);
       wakes_are = λ home.
@@ -255,7 +362,7 @@ must_shut c how far last same must =
 
 pub may_rest : (c : Snapshot) (how : ReceiveState) (far : SendState) (x : TurnState) (last : Option Got) → last ≡ c.wire.last_got
     → (Some x ≡ Some state.Idle → (how ≡ receive.All) × ((far ≡ send.WouldBlock) ⊎ ((far ≡ send.All) × (last ≢ Some got.End))))
-    → (Some x ≡ Some state.Again → (how ≡ receive.Again) ⊎ (far ≡ send.Again))
+    → (Some x ≡ Some state.Again → ((how ≡ receive.Again) ⊎ (far ≡ send.Again)) × (how ≢ receive.Memory) × (far ≢ send.Memory))
     → (Some x ≡ Some state.Memory → (how ≡ receive.Memory) ⊎ (far ≡ send.Memory))
     → (Some x ≢ Some state.Closed)
     → MayRest c how far x

@@ -1,8 +1,9 @@
 -- What receiving from a client did.
-use Rattle.std.specs.Prelude.{◌≡◌, ◌≢◌, ◌⊎◌, ℕ, ◌+◌, ◌<◌, ◌≤◌, false, List, [], length, Some}
+use Rattle.std.specs.Prelude.{◌≡◌, ◌≢◌, ◌⊎◌, ℕ, ◌+◌, ◌<◌, ◌≤◌, true, false, List, [], length, Option, Some, None}
 use Rattle.lobby_post.specs.Mask.{has_home}
 use Rattle.client_session.specs.declared.session.Next.TheVariants.{Nothing, Spoilt}
 use Rattle.client_session.specs.OneSession.{IsNextOf, HasLineNext}
+use Rattle.lobby_holds.specs.declared.link.Got.{Got}
 use Rattle.lobby_holds.specs.declared.link.Got.TheVariants as got
 use Rattle.lobby_turns.specs.declared.receiving.ReceiveState.{ReceiveState}
 use Rattle.lobby_turns.specs.declared.receiving.ReceiveState.TheVariants as receive
@@ -12,14 +13,16 @@ use Rattle.lobby_holds.specs.Moments.{Moment, requests, touched, told_end}
 use Rattle.lobby_holds.specs.Snapshot.{Snapshot}
 use Rattle.lobby_holds.specs.Talk.{AreTalk}
 use Rattle.lobby_holds.specs.Went.{Went}
-use Rattle.lobby_holds.specs.Holds.{AreSaid, IsWithin, StaysNext}
+use Rattle.lobby_holds.specs.Holds.{AreSaid, IsWithin}
 
--- So many reads were made and no write, and each failed at most once. Without a read its last answer is as it was
+-- So many reads were made and no write, and each failed at most once. Without a read its last answer is as it was. What is to be
+-- written is as it was
 pub record OnlyReads (old new : Snapshot) (reads : ℕ) : Type 0 where
   pub reads_are : new.wire.reads ≡ old.wire.reads + reads
   pub writes : new.wire.writes ≡ old.wire.writes
   pub failures : new.wire.failures ≤ old.wire.failures + reads
   pub still : reads ≡ 0 → new.wire.last_got ≡ old.wire.last_got
+  pub unwritten : new.conn.unwritten ≡ old.conn.unwritten
 
 -- All that was read was fed, and no line of it is left; and the link has nothing more, ever, or said just now that it has nothing yet
 pub record IsAllReceived (old new : Snapshot) : Type 0 where
@@ -37,6 +40,22 @@ pub record MayHaveMore (old new : Snapshot) : Type 0 where
   pub sound : new.wire.last_got ≢ Some got.Fault
   pub late : new.wire.last_got ≡ Some got.Later → new.wire.reads ≡ old.wire.reads
 
+-- the link gave bytes
+abbrev pub IsBytes : Option Got → Type 0
+IsBytes None = ⊥
+IsBytes (Some (got.Bytes n)) = Unit {0}
+IsBytes (Some got.Later) = ⊥
+IsBytes (Some got.End) = ⊥
+IsBytes (Some got.Fault) = ⊥
+
+-- no read failed since
+abbrev pub NoReadFailed : Snapshot → Snapshot → Type 0
+NoReadFailed old new = old.wire.reads < new.wire.reads → new.wire.last_got ≢ Some got.Fault
+
+-- 64 lines were said to the lobby, or 16 reads were made
+abbrev pub ReceivesMost : Snapshot → Snapshot → List Moment → Type 0
+ReceivesMost old new talk = (length (requests talk) ≡ 64) ⊎ (new.wire.reads ≡ old.wire.reads + 16)
+
 -- Receiving from a client takes memory where bytes are to be fed, where a line is next, and where the link may have more
 pub data HasToReceive (old new : Snapshot) : Type 0 where
   has_bytes : new.conn.unfed ≢ [] → HasToReceive old new
@@ -53,8 +72,8 @@ SaysWithin most step.Memory = Unit {0}
 
 -- what a step did, in so many reads
 abbrev pub StepIs : Snapshot → Snapshot → List Moment → ℕ → Step → Type 0
-StepIs old new talk reads (step.Said said) = (reads ≡ 0) × AreSaid old.conn.session.client talk said.lines said.wakes × StaysNext new.conn.session said
-StepIs old new talk reads step.Read = (talk ≡ []) × (reads ≡ 1) × (new.wire.last_got ≢ Some got.Later)
+StepIs old new talk reads (step.Said said) = (reads ≡ 0) × AreSaid old.conn.session.client talk said.lines said.wakes × (said.refused ≡ true → HasLineNext new.conn.session)
+StepIs old new talk reads step.Read = (talk ≡ []) × (reads ≡ 1) × IsBytes new.wire.last_got
 StepIs old new talk reads step.All = (talk ≡ []) × IsAllReceived old new
 StepIs old new talk reads step.Stop = (talk ≡ []) × IsOver new
 StepIs old new talk reads step.Memory = (talk ≡ []) × (reads ≡ 0) × HasToReceive old new
@@ -69,10 +88,10 @@ pub record ReceivesNext (old new : Snapshot) (step : Step) : Type 0 where
 
 -- how far a turn received from the client
 abbrev pub ReceivedIs : Snapshot → Snapshot → List Moment → ReceiveState → Type 0
-ReceivedIs old new talk receive.All = IsAllReceived old new
-ReceivedIs old new talk receive.Again = (length (requests talk) ≡ 64) ⊎ (new.wire.reads ≡ old.wire.reads + 16)
+ReceivedIs old new talk receive.All = NoReadFailed old new × IsAllReceived old new
+ReceivedIs old new talk receive.Again = NoReadFailed old new × ReceivesMost old new talk
 ReceivedIs old new talk receive.Stop = IsOver new
-ReceivedIs old new talk receive.Memory = HasToReceive old new
+ReceivedIs old new talk receive.Memory = NoReadFailed old new × HasToReceive old new
 
 pub record Receives (old new : Snapshot) (state : ReceiveState) (wakes : ℕ) : Type 0 where
   pub talk : List Moment
@@ -80,6 +99,7 @@ pub record Receives (old new : Snapshot) (state : ReceiveState) (wakes : ℕ) : 
   pub own : AreTalk old.conn.session.client talk
   pub calm : told_end talk ≡ false
   pub lines : length (requests talk) ≤ 64
+  pub only_lines : length talk ≡ length (requests talk)
   pub reads : ℕ
   pub few : reads ≤ 16
   pub only : OnlyReads old new reads

@@ -1,5 +1,5 @@
 -- What sending to a client did.
-use Rattle.std.specs.Prelude.{◌≡◌, ℕ, ◌+◌, ◌-◌, ◌^◌, ◌<◌, ◌≤◌, true, false, List, [], Option, Some, None}
+use Rattle.std.specs.Prelude.{◌≡◌, ◌≢◌, ℕ, ◌+◌, ◌-◌, ◌^◌, ◌<◌, ◌≤◌, true, false, List, [], length, Option, Some, None}
 use Rattle.lobby_holds.specs.declared.link.Sent.{Sent}
 use Rattle.lobby_holds.specs.declared.link.Sent.TheVariants as sent
 use Rattle.lobby_turns.specs.declared.sending.SendState.{SendState}
@@ -9,7 +9,7 @@ use Rattle.lobby_turns.specs.declared.sending.Step.TheVariants as step
 use Rattle.lobby_holds.specs.Wire.{Wire}
 use Rattle.lobby_holds.specs.Moments.{Moment, told_end}
 use Rattle.lobby_holds.specs.Snapshot.{Snapshot}
-use Rattle.lobby_holds.specs.Talk.{AreDrains, EndsDry}
+use Rattle.lobby_holds.specs.Talk.{AreDrains, BeginsWith, EndsDry}
 use Rattle.lobby_holds.specs.Went.{Went}
 
 -- so many more writes may be made, each of which may fail
@@ -18,40 +18,54 @@ pub record MaySend (wire : Wire) (writes : ℕ) : Type 0 where
   pub writes_place : wire.writes + writes ≤ 2 ^ 64 - 1
   pub failures_place : wire.failures + writes ≤ 2 ^ 64 - 1
 
--- So many writes were made and no read, and each failed at most once. What was received is as it was
+-- So many writes were made and no read, and each failed at most once. Without a write its last answer is as it was. What was received
+-- is as it was
 pub record OnlyWrites (old new : Snapshot) (writes : ℕ) : Type 0 where
   pub writes_are : new.wire.writes ≡ old.wire.writes + writes
   pub reads : new.wire.reads ≡ old.wire.reads
   pub failures : new.wire.failures ≤ old.wire.failures + writes
   pub last_got : new.wire.last_got ≡ old.wire.last_got
+  pub still : writes ≡ 0 → new.wire.last_sent ≡ old.wire.last_sent
   pub session : new.conn.session ≡ old.conn.session
   pub unfed : new.conn.unfed ≡ old.conn.unfed
 
--- all that was drained was written, and the last piece gave nothing
-pub record IsAllSent (new : Snapshot) (talk : List Moment) : Type 0 where
+-- no write failed since
+abbrev pub NoWriteFailed : Snapshot → Snapshot → Type 0
+NoWriteFailed old new = old.wire.writes < new.wire.writes → new.wire.last_sent ≢ Some sent.Fault
+
+-- nothing of it shuts the client: no drain said that nothing will ever come of it, and no write failed
+pub record IsSound (old new : Snapshot) (talk : List Moment) : Type 0 where
   pub calm : told_end talk ≡ false
+  pub no_fault : NoWriteFailed old new
+
+-- all that was drained for the client was written, and a piece that was then drained gave nothing
+pub record IsAllSent (new : Snapshot) (talk : List Moment) : Type 0 where
   pub written : new.conn.unwritten ≡ []
   pub dry : EndsDry new.conn.session.client talk
 
 -- the last write was made just now, and the link took nothing
-pub record MustWait (old new : Snapshot) (talk : List Moment) : Type 0 where
-  pub calm : told_end talk ≡ false
+pub record MustWait (old new : Snapshot) : Type 0 where
   pub last : new.wire.last_sent ≡ Some sent.Later
   pub made : old.wire.writes < new.wire.writes
 
+-- 16 writes were made
+abbrev pub SendsMost : Snapshot → Snapshot → Type 0
+SendsMost old new = new.wire.writes ≡ old.wire.writes + 16
+
 -- what a step did, in so many writes
 abbrev pub StepIs : Snapshot → Snapshot → List Moment → ℕ → Step → Type 0
-StepIs old new talk writes step.Wrote = (told_end talk ≡ false) × (writes ≡ 1)
-StepIs old new talk writes step.All = IsAllSent new talk
-StepIs old new talk writes step.WouldBlock = MustWait old new talk
+StepIs old new talk writes step.Wrote = IsSound old new talk × (writes ≡ 1)
+StepIs old new talk writes step.All = IsSound old new talk × IsAllSent new talk
+StepIs old new talk writes step.WouldBlock = IsSound old new talk × MustWait old new
 StepIs old new talk writes step.Finished = (told_end talk ≡ true) × (writes ≡ 0)
-StepIs old new talk writes step.Fault = new.wire.last_sent ≡ Some sent.Fault
+StepIs old new talk writes step.Fault = (told_end talk ≡ false) × (new.wire.last_sent ≡ Some sent.Fault)
 StepIs old new talk writes step.Memory = (talk ≡ []) × (writes ≡ 0) × (new.conn.unwritten ≡ [])
 
 pub record SendsNext (old new : Snapshot) (step : Step) : Type 0 where
   pub talk : List Moment
   pub went : Went old new talk
   pub own : AreDrains old.conn.session.client talk
+  pub drains : length talk ≤ 8
   pub writes : ℕ
   pub few : writes ≤ 1
   pub only : OnlyWrites old new writes
@@ -78,19 +92,25 @@ pub record Writes (old new : Snapshot) (most : ℕ) : Type 0 where
   pub only : OnlyWrites old new writes
   pub out : IsWrittenOut old new most
 
+-- where drained bytes wait to be written, it first asks with an empty slice whether nothing will ever come of the client
+abbrev pub AsksFirst : Snapshot → List Moment → Type 0
+AsksFirst old talk = old.conn.unwritten ≢ [] → BeginsWith old.conn.session.client 0 talk
+
 -- how far a turn sent to the client
 abbrev pub SentIs : Snapshot → Snapshot → List Moment → SendState → Type 0
-SentIs old new talk send.All = IsAllSent new talk
-SentIs old new talk send.WouldBlock = MustWait old new talk
-SentIs old new talk send.Again = new.wire.writes ≡ old.wire.writes + 16
+SentIs old new talk send.All = IsSound old new talk × IsAllSent new talk
+SentIs old new talk send.WouldBlock = IsSound old new talk × MustWait old new
+SentIs old new talk send.Again = IsSound old new talk × SendsMost old new
 SentIs old new talk send.Finished = (told_end talk ≡ true) × IsWrittenOut old new 16
-SentIs old new talk send.Fault = new.wire.last_sent ≡ Some sent.Fault
-SentIs old new talk send.Memory = new.conn.unwritten ≡ []
+SentIs old new talk send.Fault = (told_end talk ≡ false) × (new.wire.last_sent ≡ Some sent.Fault)
+SentIs old new talk send.Memory = IsSound old new talk × (new.conn.unwritten ≡ [])
 
 pub record Sends (old new : Snapshot) (state : SendState) : Type 0 where
   pub talk : List Moment
   pub went : Went old new talk
   pub own : AreDrains old.conn.session.client talk
+  pub asks : AsksFirst old talk
+  pub drains : length talk ≤ 136
   pub writes : ℕ
   pub few : writes ≤ 16
   pub only : OnlyWrites old new writes

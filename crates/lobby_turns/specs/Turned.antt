@@ -1,5 +1,5 @@
 -- What a turn did.
-use Rattle.std.specs.Prelude.{◌≡◌, ◌≢◌, ◌⊎◌, ℕ, ◌+◌, ◌<◌, ◌≤◌, true, false, ◌||◌, List, [], ◌∷◌, ◌++◌, length, Some}
+use Rattle.std.specs.Prelude.{◌≡◌, ◌≢◌, ◌⊎◌, ℕ, ◌+◌, ◌≤◌, true, false, ◌||◌, List, [], ◌∷◌, ◌++◌, length, Some}
 use Rattle.lobby_model.specs.declared.event.Event.TheVariants as event
 use Rattle.lobby_model.specs.State.{State}
 use Rattle.lobby_model.specs.Touched.{touches}
@@ -13,10 +13,10 @@ use Rattle.lobby_turns.specs.declared.turn.TurnState.{TurnState}
 use Rattle.lobby_turns.specs.declared.turn.TurnState.TheVariants as state
 use Rattle.lobby_holds.specs.Moments.{Moment, moment, requests, touched, told_end}
 use Rattle.lobby_holds.specs.Snapshot.{Snapshot}
-use Rattle.lobby_holds.specs.Talk.{AreTalk, EndsDry}
+use Rattle.lobby_holds.specs.Talk.{AreDrains, AreTalk}
 use Rattle.lobby_holds.specs.Went.{Went}
-use Rattle.lobby_turns.specs.Receiving.{HasToReceive}
-use Rattle.lobby_turns.specs.Sending.{IsWrittenOut}
+use Rattle.lobby_turns.specs.Receiving.{IsAllReceived, HasToReceive, NoReadFailed, ReceivesMost}
+use Rattle.lobby_turns.specs.Sending.{IsAllSent, IsWrittenOut, MustWait, NoWriteFailed, SendsMost}
 
 -- all that came was said to the lobby, and the link has no more, ever
 pub record HasEnded (at : Snapshot) : Type 0 where
@@ -24,55 +24,77 @@ pub record HasEnded (at : Snapshot) : Type 0 where
   pub nothing : IsNextOf (Some at.conn.session) Nothing
   pub last : at.wire.last_got ≡ Some got.End
 
--- all that was drained for the client was written, and a piece that was then drained gave nothing
-pub record IsEmptied (at : Snapshot) (talk : List Moment) : Type 0 where
-  pub written : at.conn.unwritten ≡ []
-  pub dry : EndsDry at.conn.session.client talk
+-- no drain of the turn said that nothing will ever come of its client, and no call of its link failed
+pub record GoesOn (old new : Snapshot) (talk : List Moment) : Type 0 where
+  pub calm : told_end talk ≡ false
+  pub read : NoReadFailed old new
+  pub written : NoWriteFailed old new
 
--- A client is shut where its stream is spoilt at this place, or its link failed, or the lobby said that nothing will ever come of it
--- and what was drained for it is written out, or it has ended and has been sent everything
+-- A client is shut where the lobby said that nothing will ever come of it, and what was drained for it is written out; where the lobby
+-- did not, its stream is spoilt at this place, or its link failed, or it has ended and has been sent everything
 pub data MayShut (old at : Snapshot) (talk : List Moment) : Type 0 where
-  spoilt : IsNextOf (Some at.conn.session) Spoilt → MayShut old at talk
-  unread : at.wire.last_got ≡ Some got.Fault → MayShut old at talk
-  unsent : at.wire.last_sent ≡ Some sent.Fault → MayShut old at talk
   finished : told_end talk ≡ true → IsWrittenOut old at 16 → MayShut old at talk
-  ended : HasEnded at → IsEmptied at talk → MayShut old at talk
+  spoilt : told_end talk ≡ false → IsNextOf (Some at.conn.session) Spoilt → MayShut old at talk
+  unread : told_end talk ≡ false → at.wire.last_got ≡ Some got.Fault → MayShut old at talk
+  unsent : told_end talk ≡ false → at.wire.last_sent ≡ Some sent.Fault → MayShut old at talk
+  ended : told_end talk ≡ false → HasEnded at → IsAllSent at talk → MayShut old at talk
+
+-- how far a turn received: all that the link has now, or as much as a turn may
+pub data HasReceived (old new : Snapshot) (talk : List Moment) : Type 0 where
+  received_all : IsAllReceived old new → HasReceived old new talk
+  received_most : ReceivesMost old new talk → HasReceived old new talk
+
+-- how far a turn sent: all that there is, until its last write was taken in no part, or as much as a turn may
+pub data HasSent (old new : Snapshot) (talk : List Moment) : Type 0 where
+  sent_all : IsAllSent new talk → HasSent old new talk
+  put_off : MustWait old new → HasSent old new talk
+  sent_most : SendsMost old new → HasSent old new talk
 
 -- Nothing more can be done now: all that came was said to the lobby, and the link has no more, or said so in this turn; and the turn's
 -- last write was taken in no part, or the client has been sent everything and may still say more
 pub record IsIdle (old new : Snapshot) (talk : List Moment) : Type 0 where
-  pub calm : told_end talk ≡ false
-  pub fed : new.conn.unfed ≡ []
-  pub nothing : IsNextOf (Some new.conn.session) Nothing
-  pub received : (new.wire.last_got ≡ Some got.End) ⊎ ((new.wire.last_got ≡ Some got.Later) × (old.wire.reads < new.wire.reads))
-  pub sent : ((new.wire.last_sent ≡ Some sent.Later) × (old.wire.writes < new.wire.writes)) ⊎ (IsEmptied new talk × (new.wire.last_got ≢ Some got.End))
+  pub received : IsAllReceived old new
+  pub sent : MustWait old new ⊎ (IsAllSent new talk × (new.wire.last_got ≢ Some got.End))
 
--- There was something to do that takes memory: there may be more to receive, a piece is to be drained for it, or it is to be shut
+-- a turn came to a limit of receiving, and then sent as far as it could; or it received all, and came to the limit of sending
+pub data IsAtLimit (old new : Snapshot) (talk : List Moment) : Type 0 where
+  of_receiving : ReceivesMost old new talk → HasSent old new talk → IsAtLimit old new talk
+  of_sending : IsAllReceived old new → SendsMost old new → IsAtLimit old new talk
+
+-- Memory was refused to the half of a turn that receives, or to a piece that was to be drained; the other half went as far as it could,
+-- or was refused memory too
+pub data IsShort (old new : Snapshot) (talk : List Moment) : Type 0 where
+  to_receive : HasToReceive old new → HasSent old new talk ⊎ (new.conn.unwritten ≡ []) → IsShort old new talk
+  to_drain : HasReceived old new talk → new.conn.unwritten ≡ [] → IsShort old new talk
+
+-- memory was refused to a turn that goes on, or to the shut of its client
 pub data TakesMemory (old new : Snapshot) (talk : List Moment) : Type 0 where
-  for_receiving : HasToReceive old new → TakesMemory old new talk
-  for_drain : new.conn.unwritten ≡ [] → TakesMemory old new talk
-  for_shut : MayShut old new talk → TakesMemory old new talk
-
--- 64 lines were said to the lobby, or 16 reads or 16 writes were made
-abbrev pub IsAtLimit : Snapshot → Snapshot → List Moment → Type 0
-IsAtLimit old new talk = (length (requests talk) ≡ 64) ⊎ ((new.wire.reads ≡ old.wire.reads + 16) ⊎ (new.wire.writes ≡ old.wire.writes + 16))
+  to_go_on : GoesOn old new talk → IsShort old new talk → TakesMemory old new talk
+  to_shut : MayShut old new talk → TakesMemory old new talk
 
 -- how a turn ended: by shutting its client, or without one event more
 abbrev pub Ends : Snapshot → Snapshot → List Moment → List Moment → TurnState → Type 0
-Ends old new talk end state.Idle = (end ≡ []) × IsIdle old new talk
-Ends old new talk end state.Again = (end ≡ []) × IsAtLimit old new talk
+Ends old new talk end state.Idle = (end ≡ []) × GoesOn old new talk × IsIdle old new talk
+Ends old new talk end state.Again = (end ≡ []) × GoesOn old new talk × IsAtLimit old new talk
 Ends old new talk end state.Closed = (met : State) × (end ≡ moment met (event.Shut new.conn.session.client) ∷ []) × MayShut old new talk
 Ends old new talk end state.Memory = (end ≡ []) × TakesMemory old new talk
 
--- A turn: the client's next lines were said to the lobby and bytes were drained for it, and then it ended. The woken workers are those
--- whose clients its events touched
+-- behind all that was said, client c was drained into an empty slice, which tells whether nothing will ever come of it
+abbrev pub IsAsked : ℕ → List Moment → Type 0
+IsAsked c talk =
+    (said : List Moment) × (met : State) × (drains : List Moment) × (talk ≡ said ++ moment met (event.Drain c 0) ∷ drains) × AreDrains c drains
+
+-- A turn: the client's next lines were said to the lobby and bytes were drained for it, and then it ended. Where drained bytes waited to
+-- be written, the lobby was asked whether the client is finished. The woken workers are those whose clients its events touched
 pub record Turned (old new : Snapshot) (turn : Turn) : Type 0 where
   pub talk : List Moment
   pub end : List Moment
   pub went : Went old new (talk ++ end)
   pub own : AreTalk new.conn.session.client talk
+  pub asked : old.conn.unwritten ≢ [] → IsAsked new.conn.session.client talk
   pub ends : Ends old new talk end turn.state
   pub lines : length (requests talk) ≤ 64
+  pub drains : length talk ≤ length (requests talk) + 136
   pub reads : new.wire.reads ≤ old.wire.reads + 16
   pub writes : new.wire.writes ≤ old.wire.writes + 16
   pub wakes_are : (home : ℕ) → has_home turn.wakes home ≡ touched (talk ++ end) home

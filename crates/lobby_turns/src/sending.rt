@@ -1,7 +1,7 @@
 //! The half of a turn that sends to the client: what the lobby has for it is drained, as much as one
 //! write carries, and written.
 
-ghost use Rattle.std.specs.Prelude.{◌≡◌, ◌+◌, ◌≤◌, [], Some, false};
+ghost use Rattle.std.specs.Prelude.{◌≡◌, ◌≢◌, ◌+◌, ◌≤◌, [], Some, false};
 ghost use Rattle.lobby_lock.specs.Passes.{ShownPass};
 ghost use Rattle.lobby_holds.specs.Wire.{MayGoOn};
 ghost use Rattle.lobby_holds.specs.Snapshot.{Snapshot, snapshot};
@@ -51,9 +51,10 @@ pub(crate) enum Step {
     Memory,
 }
 
-/// Writes what was drained and not yet written, as much of it as the link takes now.
+/// Writes what was drained and not yet written, as much of it as the link takes now. There is some.
 fn write_rest<L: Link, G: Gate>(conn: &mut Conn, link: &mut L, gate: &G, worker: u8) -> Sent
-    requires { MayGoOn (L.wire link.old) }
+    requires wire { MayGoOn (L.wire link.old) }
+    requires rest { conn.old.unwritten ≢ [] }
     ensures went { (pass : ShownPass) → Went (snapshot conn.old (L.wire link.old) pass) (snapshot conn.new (L.wire link.new) pass) [] }
     ensures session { conn.new.session ≡ conn.old.session }
     ensures unfed { conn.new.unfed ≡ conn.old.unfed }
@@ -72,8 +73,8 @@ fn write_rest<L: Link, G: Gate>(conn: &mut Conn, link: &mut L, gate: &G, worker:
     sent
 }
 
-/// Writes what was drained, as much of it as the link takes now. Where the last drain was dry, which
-/// gave nothing, the client has been sent everything once all is written.
+/// Writes what was drained, which is some, as much of it as the link takes now. Where the last drain was dry,
+/// which gave nothing, the client has been sent everything once all is written.
 fn send_link<L: Link, G: Gate>(
     conn: &mut Conn,
     link: &mut L,
@@ -81,7 +82,8 @@ fn send_link<L: Link, G: Gate>(
     gate: &G,
     dry: bool,
 ) -> (Pass, Step)
-    requires { MayGoOn (L.wire link.old) }
+    requires wire { MayGoOn (L.wire link.old) }
+    requires rest { conn.old.unwritten ≢ [] }
     ensures { (before : Snapshot) → Drains before (snapshot conn.old (L.wire link.old) pass) false dry → OnlyWrites before (snapshot conn.old (L.wire link.old) pass) 0 → SendsNext before (snapshot conn.new (L.wire link.new) result.0) result.1 }
 {
     match write_rest(conn, link, gate, pass.number()) {

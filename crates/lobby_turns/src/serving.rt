@@ -17,7 +17,8 @@ use std::sync::Wait;
 fn state_of(last_got: Option<Got>, received: ReceiveState, sent: SendState) -> Option<TurnState>
     ensures shut { result ≡ None → (sent ≡ SendState.Finished) ⊎ ((sent ≡ SendState.Fault) ⊎ ((received ≡ ReceiveState.Stop) ⊎ ((received ≡ ReceiveState.All) × (sent ≡ SendState.All) × (last_got ≡ Some Got.End)))) }
     ensures idle { result ≡ Some TurnState.Idle → (received ≡ ReceiveState.All) × ((sent ≡ SendState.WouldBlock) ⊎ ((sent ≡ SendState.All) × (last_got ≢ Some Got.End))) }
-    ensures again { result ≡ Some TurnState.Again → (received ≡ ReceiveState.Again) ⊎ (sent ≡ SendState.Again) }
+    ensures goes_on { result ≢ None → (received ≢ ReceiveState.Stop) × (sent ≢ SendState.Finished) × (sent ≢ SendState.Fault) }
+    ensures again { result ≡ Some TurnState.Again → ((received ≡ ReceiveState.Again) ⊎ (sent ≡ SendState.Again)) × (received ≢ ReceiveState.Memory) × (sent ≢ SendState.Memory) }
     ensures memory { result ≡ Some TurnState.Memory → (received ≡ ReceiveState.Memory) ⊎ (sent ≡ SendState.Memory) }
     ensures closed { result ≢ Some TurnState.Closed }
 {

@@ -115,30 +115,33 @@ fn a_line_that_is_too_long_shuts_its_client(rt: HostRuntime) {
     check(&rt, rt.alloc(), &LONG);
 }
 
-/// What a client sends at once, how often a turn then takes the lobby, and how many events there are. The greeting alone is
-/// drained in a hold that also sees that nothing is left.
-static TAKES: [(Text, u64, u64); 4] = [
-    (&[], 1, 3),
-    (PING, 2, 4),
-    (&[(b"PING\n", 32)], 2, 35),
-    (&[(b"PING\n", 33)], 3, 36),
+const EXIT: Text = &[(b"EXIT\n", 1)];
+
+/// What a client sends at once, how many bytes its link takes at a time, how many turns it gets and what the last one comes to, how
+/// often these take the lobby, and how many events there are. The greeting alone is drained in a hold that also sees that nothing
+/// is left. Who exits is shut in a hold of its own, and where bytes wait to be written, a hold asks whether the client is finished.
+static TAKES: [(Text, usize, u64, TurnState, u64, u64); 6] = [
+    (&[], 4_096, 1, TurnState::Idle, 1, 3),
+    (PING, 4_096, 1, TurnState::Idle, 2, 4),
+    (&[(b"PING\n", 32)], 4_096, 1, TurnState::Idle, 2, 35),
+    (&[(b"PING\n", 33)], 4_096, 1, TurnState::Idle, 3, 36),
+    (EXIT, 4_096, 1, TurnState::Closed, 3, 4),
+    (PING, 0, 2, TurnState::Idle, 3, 5),
 ];
 
 #[test]
-fn a_hold_says_up_to_32_lines(rt: HostRuntime) {
-    for (sends, takes, events) in &TAKES {
+fn each_take_passes_the_gate_and_a_hold_says_up_to_32_lines(rt: HostRuntime) {
+    for (sends, room, turns, state, takes, events) in &TAKES {
         let caller = Caller {
             sends: *sends,
             piece: 4_096,
-            room: 4_096,
+            room: *room,
             end: End::Open,
         };
-        let steps = [Enters(caller), Turns(0, 1, TurnState::Idle), Takes(*takes)];
+        let steps = [Enters(caller), Turns(0, *turns, *state), Takes(*takes)];
         play(&rt, rt.alloc(), &steps, *events);
     }
 }
-
-const EXIT: Text = &[(b"EXIT\n", 1)];
 
 const LATE_EXIT: Text = &[(b"                EXIT\n", 1)];
 

@@ -52,10 +52,11 @@ pub enum Step {
     Takes(u64),
 }
 
-/// A gate that counts how often the lobby is taken in turns.
+/// A gate that counts how often the lobby is taken in turns, and how many bytes it is told were written.
 #[derive(Drop)]
 struct Counting {
     takes: AtomicU64,
+    written: AtomicU64,
 }
 
 impl Gate for Counting {
@@ -65,7 +66,8 @@ impl Gate for Counting {
     }
 
     fn after_write(&self, worker: u8, bytes: &[u8]) {
-        let _ = (worker, bytes.len());
+        let _ = worker;
+        self.written.fetch_add(bytes.len() as u64, Ordering::SeqCst);
     }
 
     fn woken(&self, worker: u8) {
@@ -137,6 +139,7 @@ impl Cast {
             alloc,
             gate: Counting {
                 takes: AtomicU64::new(0),
+                written: AtomicU64::new(0),
             },
             clients: Vec::new(alloc),
         }
@@ -254,12 +257,15 @@ impl Cast {
         pass
     }
 
-    /// The lobby has just those clients that were not shut.
+    /// The lobby has just those clients that were not shut, and the gate was told of all that their links took.
     fn compare(&self, rt: &impl Abort, closing: &Closing) {
+        let mut taken: u64 = 0;
         for client in &self.clients {
             let is_there = closing.lobby().has_client(client.conn.client());
             same(rt, is_there, !client.is_shut);
+            taken = taken.saturating_add(client.link.output().len() as u64);
         }
+        same(rt, self.gate.written.load(Ordering::SeqCst), taken);
     }
 }
 

@@ -19,7 +19,7 @@ returns-in-Stop g c =
 pub returns-in-Memory : goal.returns-in-Memory
 returns-in-Memory g c =
     let h = c.loop.invariant in
-    receives_memory _ _ _ _ _ _ _ c.in-Memory.is h.few_lines (omega (arith, h.few_reads, c.if-reads-eq-READS.false)) h.late h.receiving c.receive_next-next.ensures.received
+    receives_memory _ _ _ _ _ _ _ c.in-Memory.is h.few_lines (omega (arith, h.few_reads, c.if-reads-eq-READS.false)) h.late h.sound h.receiving c.receive_next-next.ensures.received
 
 pub overflow_sub-lines : goal.overflow_sub-lines
 overflow_sub-lines g c = omega (arith, c.loop.invariant.few_lines)
@@ -30,7 +30,7 @@ receive_next-next-requires-clause-some g c = omega (arith, c.loop.invariant.few_
 pub returns-then-said : goal.returns-then-said
 returns-then-said g c =
     let h = c.loop.invariant in
-    receives_refused _ _ _ _ _ _ _ _ _ c.in-Said.is c.if-said.true h.few_lines h.few_reads c.receive_next-next.ensures.within h.receiving c.receive_next-next.ensures.received c.union-wakes.ensures
+    receives_refused _ _ _ _ _ _ _ _ _ c.in-Said.is c.if-said.true h.few_lines h.few_reads c.receive_next-next.ensures.within h.sound h.receiving c.receive_next-next.ensures.received c.union-wakes.ensures
 
 pub loop-preserved : goal.loop-preserved
 loop-preserved g c =

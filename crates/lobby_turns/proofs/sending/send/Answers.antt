@@ -1,14 +1,14 @@
 use Rattle.std.proofs.Common.{refl, sym, subst, arith}
 use Rattle.lobby_lock.specs.Passes.{ShownPass}
 use Rattle.lobby_holds.specs.Snapshot.{snapshot}
-use Rattle.lobby_turns.proofs.Sendings.{Sending, no_write, next_finished, sending_none, sending_asked, sending_wrote, sends_all, sends_would_block, sends_fault, sends_memory, sends_finished, sends_asked}
+use Rattle.lobby_turns.proofs.Sendings.{Sending, no_write, sending_none, sending_asked, sending_wrote, sends_all, sends_would_block, sends_fault, sends_memory, sends_finished, sends_asked}
 use Rattle.lobby_turns.proofs.sending.send.Goals.{then-not-is_written+else-finished, else-not-is_written}
 use Rattle.lobby_turns.proofs.sending.send.Goals as goal
 
 pub returns-then-finished : goal.returns-then-finished
 returns-then-finished g c =
     let wire = g.L.Link.wire c.args.link.now in
-    sends_asked _ _ _ (next_finished _ _ _ _ c.if-finished.true (no_write _ _ refl refl refl) (c.is_finished-next.ensures wire)) c.write_out.ensures
+    sends_asked _ _ _ _ c.if-finished.true (no_write _ _ refl refl refl) (c.is_finished-next.ensures wire) c.write_out.ensures
 
 pub loop-writes-init : goal.loop-writes-init
 loop-writes-init g c =
@@ -16,8 +16,8 @@ loop-writes-init g c =
     let before = snapshot c.args.conn.now wire c.args.pass in
     elim c.if-not-is_written.branch [
       | then-not-is_written+else-finished w ↦ subst (λ (p : ShownPass). Sending before (snapshot c.args.conn.now wire p) 0) (sym w.pass-is)
-          (sending_asked _ _ _ _ w.if-finished.false (no_write _ _ refl refl refl) (w.is_finished-next.ensures wire))
-      | else-not-is_written w ↦ subst (λ (p : ShownPass). Sending before (snapshot c.args.conn.now wire p) 0) (sym w.pass-is) (sending_none before)
+          (sending_asked _ _ _ w.if-finished.false (no_write _ _ refl refl refl) (w.is_finished-next.ensures wire))
+      | else-not-is_written w ↦ subst (λ (p : ShownPass). Sending before (snapshot c.args.conn.now wire p) 0) (sym w.pass-is) (sending_none before (c.is_written.ensures.0 w.if-not-is_written.false))
     ]
 
 pub returns-in-All : goal.returns-in-All
@@ -34,7 +34,7 @@ returns-in-Memory g c = sends_memory _ _ _ _ _ c.in-Memory.is c.loop-writes-test
 
 pub returns-in-Finished : goal.returns-in-Finished
 returns-in-Finished g c =
-    sends_finished _ _ _ _ _ _ _ c.in-Finished.is (omega (arith, c.loop-writes-test.true)) c.loop-writes.invariant c.send_next-next.ensures c.write_out-in-Finished.ensures
+    sends_finished _ _ _ _ _ _ _ c.in-Finished.is c.loop-writes-test.true (omega (arith, c.loop-writes-test.true)) c.loop-writes.invariant c.send_next-next.ensures c.write_out-in-Finished.ensures
 
 pub loop-writes-preserved : goal.loop-writes-preserved
 loop-writes-preserved g c = sending_wrote _ _ _ _ _ c.in-Wrote.is c.loop-writes.invariant c.send_next-next.ensures
