@@ -4,6 +4,7 @@ use Rattle.std.specs.Prelude.{map}
 use Rattle.std.proofs.lemmas.List.{map-append}
 use Rattle.lobby_model.specs.declared.event.Event.{Event}
 use Rattle.lobby_model.specs.State.{State}
+use Rattle.lobby_machine.specs.Shown.{Shown}
 use Rattle.lobby_lock.specs.History.{Entry, after_history, made_by, under, Begins}
 use Rattle.lobby_lock.specs.Passes.{ShownPass, ShownHold, pass_after, lobby_after}
 use Rattle.lobby_lock.proofs.Histories.{after_history-append, after_history-more, made_by-append}
@@ -24,8 +25,8 @@ pub joined_then : (a b c : ShownPass) (t u : List Moment) → Joined a b t → J
 joined_then a b c t u h k = record {
   later = h.later ++ k.later;
   pass = k.pass
-      ∙ ap (λ (p : ShownPass). record p { worker = record { number = p.worker.number; seen = p.worker.seen ++ k.later; mine = p.worker.mine ++ map (λ m. m.event) u } }) h.pass
-      ∙ (λ i. record a { worker = record { number = a.worker.number; seen = append_assoc a.worker.seen h.later k.later i; mine = mine i } });
+      ∙ ap (λ (p : ShownPass). record p { on_desk = c.on_desk; worker = record { number = p.worker.number; seen = p.worker.seen ++ k.later; mine = p.worker.mine ++ map (λ m. m.event) u } }) h.pass
+      ∙ (λ i. record a { on_desk = c.on_desk; worker = record { number = a.worker.number; seen = append_assoc a.worker.seen h.later k.later i; mine = mine i } });
   made = moments-append n s h.later k.later
       ∙ ap (λ l. l ++ moments n (after_history s h.later) k.later) h.made
       ∙ ap (λ l. t ++ l) rest;
@@ -53,11 +54,11 @@ nothing_more (x ∷ xs) ys e = nothing_more xs ys (cc (e))
 held : (p q : ShownPass) (seen : List Entry) (es : List Event) (t : List Moment)
     → Begins p.worker.seen seen → made_by p.worker.number seen ≡ p.worker.mine → made_by p.worker.number p.worker.seen ≡ p.worker.mine
     → moments p.worker.number (after_history p.start seen) (under p.worker.number es) ≡ t → es ≡ map (λ m. m.event) t
-    → q ≡ record p { worker = record { number = p.worker.number; seen = seen ++ under p.worker.number es; mine = p.worker.mine ++ es } }
+    → (x : Shown) → q ≡ record p { on_desk = x; worker = record { number = p.worker.number; seen = seen ++ under p.worker.number es; mine = p.worker.mine ++ es } }
     → Joined p q t
-held p q seen es t b own known made events is = record {
+held p q seen es t b own known made events x is = record {
   later = b.0 ++ under n es;
-  pass = is ∙ (λ i. record p { worker = record { number = n; seen = (ap (λ l. l ++ under n es) b.1 ∙ append_assoc p.worker.seen b.0 (under n es)) i; mine = p.worker.mine ++ events i } });
+  pass = is ∙ (λ i. record p { on_desk = sym (ap (λ (c : ShownPass). c.on_desk) is) i; worker = record { number = n; seen = (ap (λ l. l ++ under n es) b.1 ∙ append_assoc p.worker.seen b.0 (under n es)) i; mine = p.worker.mine ++ events i } });
   made = moments-append n s b.0 (under n es)
       ∙ ap (λ l. l ++ moments n (after_history s b.0) (under n es)) (moments-none n s b.0 none)
       ∙ ap (λ x. moments n x (under n es)) (sym (after_history-append p.start p.worker.seen b.0) ∙ ap (after_history p.start) (sym b.1))
@@ -77,7 +78,7 @@ held p q seen es t b own known made events is = record {
 -- a hold of no event
 pub held_none : (p q : ShownPass) (h k : ShownHold) → IsTaken p h → k ≡ h → q ≡ pass_after k → Joined p q []
 held_none p q h k t same is =
-    held p q h.pass.worker.seen [] [] t.later t.own t.known refl refl (is ∙ ap pass_after same
+    held p q h.pass.worker.seen [] [] t.later t.own t.known refl refl h.lobby (is ∙ ap pass_after same
     ∙ ap (λ es. pass_after (record h { events = es })) t.fresh
     ∙ ap (λ (x : ShownPass). pass_after (record { pass = x; lobby = h.lobby; events = [] })) t.pass_is)
 
@@ -86,7 +87,7 @@ pub held_one : (p q : ShownPass) (h k : ShownHold) (e : Event) → IsTaken p h �
     → Joined p q (moment h.lobby.plain e ∷ [])
 held_one p q h k e t one is =
     held p q h.pass.worker.seen (e ∷ []) _ t.later t.own t.known
-    (moments-own p.worker.number (after_history p.start h.pass.worker.seen) e ∙ ap (λ s. moment s e ∷ []) (sym t.stands)) refl (
+    (moments-own p.worker.number (after_history p.start h.pass.worker.seen) e ∙ ap (λ s. moment s e ∷ []) (sym t.stands)) refl k.lobby (
     is ∙ ap pass_after one
     ∙ ap (λ es. pass_after (record { pass = h.pass; lobby = k.lobby; events = es ++ e ∷ [] })) t.fresh
     ∙ ap (λ (x : ShownPass). pass_after (record { pass = x; lobby = k.lobby; events = e ∷ [] })) t.pass_is)
@@ -98,7 +99,7 @@ pub joined_more : (h k : ShownHold) (e : Event) → Stands h → k ≡ record h 
     → Joined (pass_after h) (pass_after k) (moment h.lobby.plain e ∷ [])
 joined_more h k e stands one = record {
   later = under n (e ∷ []);
-  pass = ap pass_after one ∙ (λ i. record h.pass { worker = record { number = n; seen = seen i; mine = sym (append_assoc h.pass.worker.mine h.events (e ∷ [])) i } });
+  pass = ap pass_after one ∙ (λ i. record h.pass { on_desk = k.lobby; worker = record { number = n; seen = seen i; mine = sym (append_assoc h.pass.worker.mine h.events (e ∷ [])) i } });
   made = moments-own n (lobby_after h.pass h.events) e ∙ ap (λ s. moment s e ∷ []) (sym stands);
 }
   where

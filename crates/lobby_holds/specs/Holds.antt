@@ -21,7 +21,7 @@ use Rattle.lobby_holds.specs.Went.{Joined, Went}
 -- What it is where it begins: its worker has seen a longer history, in which the events under the worker's number are those that it made,
 -- and no others; its lobby is the plain lobby after that history, and it has no event
 pub record IsTaken (pass : ShownPass) (held : ShownHold) : Type 0 where
-  pub pass_is : held.pass ≡ record pass { worker = seen_by pass.worker held.pass.worker.seen }
+  pub pass_is : held.pass ≡ record pass { on_desk = held.lobby; worker = seen_by pass.worker held.pass.worker.seen }
   pub later : Begins pass.worker.seen held.pass.worker.seen
   pub own : made_by pass.worker.number held.pass.worker.seen ≡ pass.worker.mine
   pub known : made_by pass.worker.number pass.worker.seen ≡ pass.worker.mine

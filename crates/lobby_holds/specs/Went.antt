@@ -11,7 +11,7 @@ use Rattle.lobby_holds.specs.Snapshot.{Snapshot, Carries}
 -- the history went on, and in what came the worker made these events and no other
 pub record Joined (old new : ShownPass) (turn : List Moment) : Type 0 where
   pub later : List Entry
-  pub pass : new ≡ record old { worker = record { number = old.worker.number; seen = old.worker.seen ++ later; mine = old.worker.mine ++ map (λ m. m.event) turn } }
+  pub pass : new ≡ record old { on_desk = new.on_desk; worker = record { number = old.worker.number; seen = old.worker.seen ++ later; mine = old.worker.mine ++ map (λ m. m.event) turn } }
   pub made : moments old.worker.number (after_history old.start old.worker.seen) later ≡ turn
 
 -- the requests are those of the next lines
