@@ -2,7 +2,7 @@
 //!
 //! A line is an optional message id (`#7 `), the command word, the arguments, and LF. Each word
 //! stands behind one space; the first sentence or the text stands behind one space too, and
-//! further sentences behind tabs. The crate `reply_grammar` prints the lines, and `reply_reader`
+//! further sentences behind tabs. The crate `reply_printer` prints the lines, and `reply_reader`
 //! reads them back.
 #![tactic(auto)]
 
