@@ -2,7 +2,7 @@
 //! lists of them.
 //!
 //! Each function takes the bytes that are left of a line, and gives the field with the bytes behind it.
-//! It reads just what `reply_grammar` prints for the field, and answers `Unread` at all else: a number
+//! It reads just what `reply_printer` prints for the field, and answers `Unread` at all else: a number
 //! with a needless zero is refused. Those that take an `alloc` copy the field, and answer `Memory` where
 //! memory for that is refused.
 #![tactic(auto)]
