@@ -10,9 +10,9 @@ ROOT = Path(__file__).resolve().parent.parent
 PAGE = ROOT / "docs/DEFINITIONS.md"
 HEAD = """# Definitions
 
-A contract speaks of values: numbers, lists of bytes, records. What a contract sees of a type stands at the type, as `Value` and `view`. The definitions that contracts cite stand in `specs/` of the lowest crate that needs them, each with a comment that says what it means. This page lists their files, by crate from the lowest up. `checks/definitions.py --mend` writes it.
+A contract speaks of values: numbers, lists, records. What it sees of a type stands at the type, as `Value` and `view`. The definitions that it cites stand in `specs/` of the lowest crate that needs them, with comments. `checks/definitions.py --mend` writes this list of their files, from the lowest crate up.
 
-The definitions build on one another. A stream of bytes has *frames*. A frame *reads as* a request. A request of a client is an *event* of the *plain lobby*. An event comes to an *outcome*: a refusal, or things that *happen*. Each thing that happens says what it changes and who is *told* what. A client's lines of one event are *put* as one batch, or the client is *cut*. A list of events is a *history*; a *schedule* of connects, pieces, takes, reads and disconnects gives one, and a *record* is what a history put for each client. From the other side, the bytes of a client give its *view*, and the plain lobby gives the *observation* of a user, which the view is to equal.
+The definitions build on one another. A stream of bytes has *frames*. A frame *reads as* a request. A request of a client is an *event* of the *plain lobby*. An event comes to an *outcome*: a refusal, or things that *happen*. Each thing that happens says what it changes and who is *told* what. A client's lines of one event are *put* as one batch, or the client is *cut*. A list of events is a *history*; a *schedule* gives one, and a *record* is what it put for each client. A client's bytes give its *view*, which is to equal the plain lobby's *observation* of its user.
 """
 
 
@@ -38,11 +38,8 @@ def page():
     for row in (ROOT / "crates.txt").read_text(encoding="utf-8").split("\n"):
         crate = re.match(r"(\w+)[ :]", row)
         files = files_of(crate[1]) if crate else []
-        if files:
-            lines += [f"**{crate[1]}**", ""]
-            for file in files:
-                lines.append(f"- [{file.stem}](../{file.relative_to(ROOT)}): {said(file)}")
-            lines.append("")
+        for file in files:
+            lines.append(f"- [{crate[1]}/{file.stem}](../{file.relative_to(ROOT)}): {said(file)}")
     return "\n".join(lines).rstrip("\n") + "\n"
 
 
