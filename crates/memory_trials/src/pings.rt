@@ -1,5 +1,5 @@
-//! Two clients that each send PING, whom one worker serves over links in memory. After each refusal all that a link was told and all that
-//! waits is compared, to the byte.
+//! Two clients that each send PING, whom one worker serves over links in memory. After each refusal all that a link
+//! was told and all that waits is compared, to the byte.
 
 ghost use Rattle.std.specs.Prelude.{◌≡◌};
 
@@ -35,14 +35,15 @@ enum Place {
     Away,
     /// It got no turn yet.
     Greeted,
-    /// Its turn was refused: its line is still next, and it was told its greeting or not, or nothing of what it was answered.
+    /// Its turn was refused: its line is still next, and it was told its greeting or not, or nothing of what it was
+    /// answered.
     Refused,
     /// It was told all.
     Served,
 }
 
-/// How far the client of this number, 0 or 1, has come where the call of this number was refused. Its turn comes two calls behind that
-/// by which it connects.
+/// How far the client of this number, 0 or 1, has come where the call of this number was refused. Its turn comes two
+/// calls behind that by which it connects.
 fn place_of(client: usize, refused: usize) -> Place {
     match refused.saturating_sub(client) {
         0 => Place::Away,
@@ -96,7 +97,8 @@ fn are_exact<R: Wait>(
     (pass, are_so)
 }
 
-/// Makes the calls from this number on, and says whether all is told then, and whether a further turn of each tells nothing more.
+/// Makes the calls from this number on, and says whether all is told then, and whether a further turn of each tells
+/// nothing more.
 fn is_told_at_last<R: Wait>(
     rt: &R,
     desk: &Desk,
@@ -114,8 +116,8 @@ fn is_told_at_last<R: Wait>(
     (pass, is_told && is_all)
 }
 
-/// Makes the calls, that of this number as at this step, and says whether memory was refused. Then the call's answer is that and no
-/// other; each link was told just what it is to be told by then, and the next try has all told.
+/// Makes the calls, that of this number as at this step, and says whether memory was refused. Then the call's answer
+/// is that and no other; each link was told just what it is to be told by then, and the next try has all told.
 fn try_one<R: Wait>(
     rt: &R,
     desk: &Desk,
