@@ -28,7 +28,7 @@ const CALLS: usize = 4;
 /// How many of the calls connect.
 const CONNECTS: usize = 2;
 
-/// How far a client has come where a call was refused.
+/// How far a client has come where a call was refused, or is yet to be made.
 #[derive(Clone, Copy)]
 enum Place {
     /// It has not connected, or that was refused.
@@ -116,8 +116,9 @@ fn is_told_at_last<R: Wait>(
     (pass, is_told && is_all)
 }
 
-/// Makes the calls, that of this number as at this step, and says whether memory was refused. Then the call's answer
-/// is that and no other; each link was told just what it is to be told by then, and the next try has all told.
+/// Makes the calls, that of this number as at this step, and says whether memory was refused. Then its answer says so,
+/// or all was done without what was refused. Each link was told just what it is to be told by then, and the next try has
+/// all told.
 fn try_one<R: Wait>(
     rt: &R,
     desk: &Desk,
@@ -138,19 +139,15 @@ fn try_one<R: Wait>(
     refuser.release();
     let (is_right, next) = match came {
         Came::Short => (true, number),
-        Came::Done => (!was_refused, number.saturating_add(1)),
+        Came::Done => (true, number.saturating_add(1)),
         Came::Wrong => (false, number),
     };
-    let (pass, is_exact) = if was_refused {
-        are_exact(rt, desk, pass, sides, number)
-    } else {
-        (pass, true)
-    };
+    let (pass, is_exact) = are_exact(rt, desk, pass, sides, next);
     let (pass, is_told) = is_told_at_last(rt, desk, pass, sides, next);
     if was_refused {
         notes.refuse(is_right && is_exact && is_told);
     } else {
-        notes.compare(is_right && is_told);
+        notes.compare(is_right && is_exact && is_told);
     }
     (pass, was_refused)
 }
