@@ -59,7 +59,7 @@ fn is_at(place: Place, told: &[u8], all: &[u8], waiting: usize) -> bool {
         Place::Away => told.is_empty() && waiting == 0,
         Place::Greeted => told.is_empty() && waiting == GREETING.len(),
         Place::Refused => {
-            (told == GREETING && waiting == 0)
+            ((told == GREETING || told == all) && waiting == 0)
                 || (told.is_empty() && (waiting == GREETING.len() || waiting == all.len()))
         }
         Place::Served => told == all && waiting == 0,
