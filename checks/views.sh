@@ -14,7 +14,7 @@ room=$(mktemp -d)
 trap 'rm -rf "$room"' EXIT
 onlooker='account Onlooker X03MO1qnZdYdgyfeuILPmQ== 4000000001 0'
 # So many bytes are folded at once: one, and some primes.
-lengths='1 2 3 7 61 1021'
+lengths='1 3 61 1021'
 # How many scripts end badly, as their rows say, and how many do so only with the onlooker.
 most_broken=104
 most_unseen=0

@@ -384,7 +384,8 @@ fn second_format_with(alloc: Global, lines: &str) -> Result<Vec<u8>, AllocError>
     Ok(file)
 }
 
-/// Why the file of the second format is refused with these lines behind it; `Memory` too where there is none to write it in.
+/// Why the file of the second format is refused with these lines behind it; `Memory` too where there is none to write
+/// it in.
 fn refusal_behind(alloc: Global, lines: &str) -> Option<AccountsError> {
     match second_format_with(alloc, lines) {
         Ok(file) => refusal(alloc, &file),

@@ -150,8 +150,8 @@ enum Then {
 }
 
 impl<S: Subject> Pair<S> {
-    /// Whether both tell the same behind a deed that was refused to one of them, or was done without what was refused. The other one
-    /// has not done it yet.
+    /// Whether both tell the same behind a deed that was refused to one of them, or was done without what was
+    /// refused. The other one has not done it yet.
     fn is_alike_behind(
         &mut self,
         alloc: Global,
@@ -197,9 +197,9 @@ fn is_refused<S: Subject>(
     was_refused
 }
 
-/// Tries each deed on new pairs, step by step until no memory is refused. Looks, which are deeds that make more be told, find what the
-/// refused deed left and the next try would hide. So a growth that is refused has a pair for them, and one for the next try; where
-/// memory is scarce, they take turns.
+/// Tries each deed on new pairs, step by step until no memory is refused. Looks, which are deeds that make more be
+/// told, find what the refused deed left and the next try would hide. So a growth that is refused has a pair for
+/// them, and one for the next try; where memory is scarce, they take turns.
 fn try_anew<S: Subject>(
     alloc: Global,
     deeds: &[(u64, Deed)],

@@ -69,9 +69,9 @@ static DEEDS: [(u64, Deed); 32] = [
     (4, Deed::Send(b"PING\n")),
 ];
 
-/// An unfinished line of each is ended, and its next lines are taken. Then so many connect that a client 6 is there, however many there
-/// were. Emil logs in at it, and is told the users, the battle and its members; then who is in the channels, and what the members of
-/// the battle share. Then the others go, and he is told what each was in.
+/// An unfinished line of each is ended, and its next lines are taken. Then so many connect that a client 6 is there,
+/// however many there were. Emil logs in at it, and is told the users, the battle and its members; then who is in the
+/// channels, and what the members of the battle share. Then the others go, and he is told what each was in.
 static LOOKS: [(u64, Deed); 22] = [
     (1, Deed::Send(b"\n")),
     (1, Deed::Take),

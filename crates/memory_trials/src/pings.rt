@@ -1,5 +1,5 @@
-//! Two clients that each send PING, whom one worker serves over links in memory. After each refusal all that a link was told and all that
-//! waits is compared, to the byte.
+//! Two clients that each send PING, whom one worker serves over links in memory. After each refusal all that a link
+//! was told and all that waits is compared, to the byte.
 
 ghost use Rattle.std.specs.Prelude.{◌≡◌};
 
@@ -28,21 +28,22 @@ const CALLS: usize = 4;
 /// How many of the calls connect.
 const CONNECTS: usize = 2;
 
-/// How far a client has come where a call was refused.
+/// How far a client has come where a call was refused, or is yet to be made.
 #[derive(Clone, Copy)]
 enum Place {
     /// It has not connected, or that was refused.
     Away,
     /// It got no turn yet.
     Greeted,
-    /// Its turn was refused: its line is still next, and it was told its greeting or not, or nothing of what it was answered.
+    /// Its turn was refused: its line is still next, and it was told its greeting or not, or nothing of what it was
+    /// answered.
     Refused,
     /// It was told all.
     Served,
 }
 
-/// How far the client of this number, 0 or 1, has come where the call of this number was refused. Its turn comes two calls behind that
-/// by which it connects.
+/// How far the client of this number, 0 or 1, has come where the call of this number was refused. Its turn comes two
+/// calls behind that by which it connects.
 fn place_of(client: usize, refused: usize) -> Place {
     match refused.saturating_sub(client) {
         0 => Place::Away,
@@ -58,7 +59,7 @@ fn is_at(place: Place, told: &[u8], all: &[u8], waiting: usize) -> bool {
         Place::Away => told.is_empty() && waiting == 0,
         Place::Greeted => told.is_empty() && waiting == GREETING.len(),
         Place::Refused => {
-            (told == GREETING && waiting == 0)
+            ((told == GREETING || told == all) && waiting == 0)
                 || (told.is_empty() && (waiting == GREETING.len() || waiting == all.len()))
         }
         Place::Served => told == all && waiting == 0,
@@ -96,7 +97,8 @@ fn are_exact<R: Wait>(
     (pass, are_so)
 }
 
-/// Makes the calls from this number on, and says whether all is told then, and whether a further turn of each tells nothing more.
+/// Makes the calls from this number on, and says whether all is told then, and whether a further turn of each tells
+/// nothing more.
 fn is_told_at_last<R: Wait>(
     rt: &R,
     desk: &Desk,
@@ -114,8 +116,9 @@ fn is_told_at_last<R: Wait>(
     (pass, is_told && is_all)
 }
 
-/// Makes the calls, that of this number as at this step, and says whether memory was refused. Then the call's answer is that and no
-/// other; each link was told just what it is to be told by then, and the next try has all told.
+/// Makes the calls, that of this number as at this step, and says whether memory was refused. Then its answer says so,
+/// or all was done without what was refused. Each link was told just what it is to be told by then, and the next try has
+/// all told.
 fn try_one<R: Wait>(
     rt: &R,
     desk: &Desk,
@@ -136,19 +139,15 @@ fn try_one<R: Wait>(
     refuser.release();
     let (is_right, next) = match came {
         Came::Short => (true, number),
-        Came::Done => (!was_refused, number.saturating_add(1)),
+        Came::Done => (true, number.saturating_add(1)),
         Came::Wrong => (false, number),
     };
-    let (pass, is_exact) = if was_refused {
-        are_exact(rt, desk, pass, sides, number)
-    } else {
-        (pass, true)
-    };
+    let (pass, is_exact) = are_exact(rt, desk, pass, sides, next);
     let (pass, is_told) = is_told_at_last(rt, desk, pass, sides, next);
     if was_refused {
         notes.refuse(is_right && is_exact && is_told);
     } else {
-        notes.compare(is_right && is_told);
+        notes.compare(is_right && is_exact && is_told);
     }
     (pass, was_refused)
 }

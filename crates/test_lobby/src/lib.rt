@@ -1,4 +1,5 @@
-//! What crates of tests share: three users and two who look on, what they say and are told, lobbies of them, and a link in memory.
+//! What crates of tests share: three users and two who look on, what they say and are told, lobbies of them, and a
+//! link in memory.
 #![tactic(auto)]
 
 mod link;

@@ -87,7 +87,8 @@ fn show_battles<W: Write>(battles: &Battles, out: &mut W) -> io::Result<()> {
     Ok(())
 }
 
-/// The line of a battle: what opened it, in the order of that line, then how many spectators are told, and what else is so.
+/// The line of a battle: what opened it, in the order of that line, then how many spectators are told, and what else
+/// is so.
 fn show_battle<W: Write>(number: u32, battle: &Battle, out: &mut W) -> io::Result<()> {
     let opened = &battle.opened;
     let words = [

@@ -123,7 +123,8 @@ impl Client {
         false
     }
 
-    /// Whether one line comes so many times next, and another one once, before, between or behind these. Both fit into a piece.
+    /// Whether one line comes so many times next, and another one once, before, between or behind these. Both fit
+    /// into a piece.
     pub fn reads_among<C: Clock>(
         &mut self,
         clock: &C,
