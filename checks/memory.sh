@@ -31,6 +31,6 @@ refuse() {
         status=1
     fi
 }
-refuse scarce 10000
-refuse counted 1500
+refuse scarce 15000
+refuse counted 3000
 exit "$status"
