@@ -5,3 +5,4 @@ pub mod Listed
 pub mod Picked
 pub mod Seen
 pub mod Tests
+pub mod Copied

@@ -1,6 +1,6 @@
 //! The bots of a room.
 
-ghost use Rattle.std.specs.Prelude.{◌≡◌, ◌∷◌, [], ◌++◌, map, filter, find, not, length, nat_le, if◌then◌else◌, OnOk, OnErr, option_copied};
+ghost use Rattle.std.specs.Prelude.{◌≡◌, ◌∷◌, [], ◌++◌, map, filter, find, not, length, nat_le, if◌then◌else◌, OnOk, OnErr, IfOk, option_copied};
 ghost use Rattle.line_words.specs.Table.{same_name};
 ghost use Rattle.room_lists.specs.Room as room;
 
@@ -45,6 +45,19 @@ impl<S: StatusWord> Bot<S> {
             colour,
             ai,
         }
+    }
+
+    /// A copy. Fails only where memory is refused.
+    fn copy(&self, alloc: Global) -> Result<Bot<S>, AllocError>
+        ensures { IfOk result (λ copy. copy ≡ self.now) }
+    {
+        Ok(Bot {
+            name: WordBuf::copy_of(alloc, self.name.as_slice())?,
+            owner: self.owner.copy(),
+            status: self.status,
+            colour: self.colour,
+            ai: SentenceBuf::copy_of(alloc, self.ai.as_slice())?,
+        })
     }
 
     /// The bot's name.
@@ -124,6 +137,17 @@ impl<S: StatusWord> Bots<S> {
         Bots {
             bots: Vec::new(alloc),
         }
+    }
+
+    /// A copy. Fails only where memory is refused.
+    pub fn copy(&self, alloc: Global) -> Result<Bots<S>, AllocError>
+        ensures { IfOk result (λ copy. copy ≡ self.now) }
+    {
+        let mut bots = Vec::with_capacity(alloc, self.bots.len())?;
+        for bot in self.as_slice() {
+            bots.push(bot.copy(alloc)?)?;
+        }
+        Ok(Bots { bots })
     }
 
     /// The bots, in order of adding.

@@ -8,7 +8,7 @@ ghost use Rattle.room_lists.specs.Units.{words_new};
 
 use crate::names::is_same;
 use indexmap::{IndexMap, IndexSet};
-use line_words::{Pair, WordBuf, WordList};
+use line_words::{KeyBuf, Pair, SentenceBuf, WordBuf, WordList};
 use std::alloc::{AllocError, Global};
 use std::marker::Model;
 
@@ -19,6 +19,10 @@ pub(crate) trait Keyed: Drop {
     /// The bytes of the key.
     fn key(&self) -> &[u8]
         ensures { result.now ≡ key_of self.now };
+
+    /// A copy. Fails only where memory is refused.
+    fn copy(&self, alloc: Global) -> Result<Self, AllocError>
+        ensures { IfOk result (λ copy. copy ≡ self.now) };
 }
 
 impl Keyed for Pair {
@@ -27,6 +31,13 @@ impl Keyed for Pair {
     fn key(&self) -> &[u8] {
         self.key.as_slice()
     }
+
+    fn copy(&self, alloc: Global) -> Result<Pair, AllocError> {
+        Ok(Pair {
+            key: KeyBuf::copy_of(alloc, self.key.as_slice())?,
+            value: SentenceBuf::copy_of(alloc, self.value.as_slice())?,
+        })
+    }
 }
 
 impl Keyed for WordBuf {
@@ -34,6 +45,10 @@ impl Keyed for WordBuf {
 
     fn key(&self) -> &[u8] {
         self.as_slice()
+    }
+
+    fn copy(&self, alloc: Global) -> Result<WordBuf, AllocError> {
+        WordBuf::copy_of(alloc, self.as_slice())
     }
 }
 
@@ -78,6 +93,17 @@ fn entries_of<T: Keyed>(alloc: Global, items: Vec<T>) -> Result<Vec<(Vec<u8>, T)
     Ok(entries)
 }
 
+/// Copies of items.
+fn copies_of<T: Keyed>(alloc: Global, items: &[T]) -> Result<Vec<T>, AllocError>
+    ensures { IfOk result (λ copies. copies.items ≡ items.now) }
+{
+    let mut copies = Vec::with_capacity(alloc, items.len())?;
+    for item in items {
+        copies.push(item.copy(alloc)?)?;
+    }
+    Ok(copies)
+}
+
 impl<T: Keyed> KeyedList<T> {
     /// No items. It takes no memory yet.
     pub(crate) fn new(alloc: Global) -> KeyedList<T>
@@ -93,6 +119,18 @@ impl<T: Keyed> KeyedList<T> {
         ensures { result.now ≡ self.now }
     {
         self.by_key.values().as_slice()
+    }
+
+    /// A copy. Fails only where memory is refused.
+    pub(crate) fn copy(&self, alloc: Global) -> Result<KeyedList<T>, AllocError>
+        ensures { IfOk result (λ copy. copy ≡ self.now) }
+    {
+        // Its contract says that no key stands twice, which the proof wants of the items.
+        let _ = self.by_key.len();
+        let items = copies_of(alloc, self.as_slice())?;
+        let mut copy = KeyedList::new(alloc);
+        copy.put(alloc, items)?;
+        Ok(copy)
     }
 
     /// Whether an item of this key is there.

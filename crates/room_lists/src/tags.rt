@@ -41,6 +41,15 @@ impl Tags {
         }
     }
 
+    /// A copy. Fails only where memory is refused.
+    pub fn copy(&self, alloc: Global) -> Result<Tags, AllocError>
+        ensures { IfOk result (λ copy. copy ≡ self.now) }
+    {
+        Ok(Tags {
+            tags: self.tags.copy(alloc)?,
+        })
+    }
+
     /// The tags, in order of first setting.
     pub fn as_slice(&self) -> &[Pair]
         ensures { result.now ≡ self.now }

@@ -41,6 +41,15 @@ impl Units {
         }
     }
 
+    /// A copy. Fails only where memory is refused.
+    pub fn copy(&self, alloc: Global) -> Result<Units, AllocError>
+        ensures { IfOk result (λ copy. copy ≡ self.now) }
+    {
+        Ok(Units {
+            units: self.units.copy(alloc)?,
+        })
+    }
+
     /// The units, in order of first disabling.
     pub fn as_slice(&self) -> &[WordBuf]
         ensures { result.now ≡ self.now }
