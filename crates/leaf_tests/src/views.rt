@@ -35,6 +35,9 @@ SETSCRIPTTAGS a=1\tb=2\n\
 REMOVESCRIPTTAGS a\n\
 SAIDBATTLE Bert go\n";
 
+/// How often a piece is fed at most, until memory is not refused to it.
+const TRIES: usize = 64;
+
 /// A battle in the list: its number, map and map's hash, whether it is locked, how many spectators are told, and how many members.
 #[derive(Clone, Copy)]
 struct Listed {
@@ -62,7 +65,7 @@ enum Step {
     Feeds(&'static [u8], Result<usize, ViewError>),
     /// These bytes one by one, of which so many lines are folded.
     FeedsEach(&'static [u8], usize),
-    /// These bytes, and after each refusal of memory what was not taken in; so many lines are folded.
+    /// These bytes, and again after each refusal of memory; so many lines are folded.
     FeedsOn(&'static [u8], usize),
     Me(&'static [u8]),
     /// There are so many users, channels and battles.
@@ -90,27 +93,12 @@ fn feed_each(view: &mut View, bytes: &[u8]) -> Option<usize> {
     Some(folded)
 }
 
-/// What is left of a piece where memory was refused behind so many bytes: that is at its start or behind an LF, and before the end.
-fn left_of(piece: &[u8], taken: usize) -> Option<&[u8]> {
-    let (taken_in, left) = piece.split_at_checked(taken)?;
-    if (taken_in.is_empty() || taken_in.ends_with(b"\n")) && !left.is_empty() {
-        Some(left)
-    } else {
-        None
-    }
-}
-
-/// Feeds a piece, and after each refusal of memory what was not taken in. Gives how many lines were folded.
+/// Feeds a piece, and again after each refusal of memory, which changes nothing. Gives how many lines were folded.
 fn feed_on(view: &mut View, piece: &[u8]) -> Option<usize> {
-    let mut rest = piece;
-    let mut before: usize = 0;
-    for _ in 0..piece.len() {
-        match view.feed(rest) {
-            Ok(count) => return Some(before.saturating_add(count)),
-            Err(ViewError::Memory { taken, folded }) => {
-                rest = left_of(rest, taken)?;
-                before = before.saturating_add(folded);
-            }
+    for _ in 0..TRIES {
+        match view.feed(piece) {
+            Ok(count) => return Some(count),
+            Err(ViewError::Memory) => {}
             Err(ViewError::LineTooLong) => return None,
         }
     }
@@ -370,6 +358,6 @@ static FED_ON: [Step; 5] = [
 ];
 
 #[test]
-fn a_feed_that_memory_refused_goes_on_where_it_stopped(rt: HostRuntime) {
+fn a_feed_that_memory_refused_is_made_again(rt: HostRuntime) {
     play(&rt, rt.alloc(), &FED_ON);
 }

@@ -1,9 +1,10 @@
-//! The lines of the session and its users.
+//! The lines of users.
 
 ghost use Rattle.std.specs.Prelude.{◌≡◌, OnOk, OnErr};
 ghost use Rattle.reply_kinds.specs.declared.Reply.TheVariants as reply;
 ghost use Rattle.lobby_view.specs.View.{shown};
-ghost use Rattle.client_view.specs.Kinds.{Session, kind_of};
+ghost use Rattle.noted_map.specs.Undoable.{Changes};
+ghost use Rattle.client_view.specs.Kinds.{Users, kind_of};
 
 use crate::known::Known;
 use line_words::{NameBuf, WordBuf};
@@ -12,42 +13,24 @@ use std::alloc::AllocError;
 use view_lists::User;
 
 impl Known {
-    // A login, or who comes and goes. Not inlined, as the others: what comes most is folded without their moves.
+    // Who comes and goes. Not inlined, as the others: what comes most is folded without their moves.
     #[inline(never)]
-    pub(crate) fn fold_session(&mut self, reply: Reply) -> Result<(), AllocError>
-        requires { kind_of reply ≡ Session }
-        ensures ok { OnOk result (self.new ≡ shown self.old reply) }
+    pub(crate) fn fold_users(&mut self, reply: Reply) -> Result<(), AllocError>
+        requires { kind_of reply ≡ Users }
+        ensures ok { OnOk result (Changes (λ v. shown v reply) self.old self.new) }
         ensures err { OnErr result (self.new ≡ self.old) }
     {
         match reply {
-            Reply::Accepted { user } => {
-                self.accepted(user);
-                Ok(())
-            }
             Reply::AddUser {
                 user,
                 country,
                 cpu,
                 account,
             } => self.add_user(user, country, cpu, account),
-            Reply::RemoveUser { user } => {
-                self.remove_user(&user);
-                Ok(())
-            }
-            Reply::ClientStatus { user, status } => {
-                self.client_status(&user, status);
-                Ok(())
-            }
+            Reply::RemoveUser { user } => self.remove_user(&user),
+            Reply::ClientStatus { user, status } => self.client_status(&user, status),
             _ => unreachable!(),
         }
-    }
-
-    // The login was accepted: all begins anew.
-    fn accepted(&mut self, name: NameBuf)
-        ensures { self.new ≡ shown self.old (reply.Accepted name) }
-    {
-        *self = Known::new(self.alloc);
-        self.me = Some(name);
     }
 
     fn add_user(
@@ -57,7 +40,7 @@ impl Known {
         cpu: i64,
         account: u32,
     ) -> Result<(), AllocError>
-        ensures ok { OnOk result (self.new ≡ shown self.old (reply.AddUser name country cpu account)) }
+        ensures ok { OnOk result (Changes (λ v. shown v (reply.AddUser name country cpu account)) self.old self.new) }
         ensures err { OnErr result (self.new ≡ self.old) }
     {
         let user = User {
@@ -69,15 +52,17 @@ impl Known {
         self.users.put(name, user)
     }
 
-    fn remove_user(&mut self, name: &NameBuf)
-        ensures { self.new ≡ shown self.old (reply.RemoveUser name.now) }
+    fn remove_user(&mut self, name: &NameBuf) -> Result<(), AllocError>
+        ensures ok { OnOk result (Changes (λ v. shown v (reply.RemoveUser name.now)) self.old self.new) }
+        ensures err { OnErr result (self.new ≡ self.old) }
     {
-        self.users.remove(name);
+        self.users.remove(name)
     }
 
-    pub(crate) fn client_status(&mut self, name: &NameBuf, status: u32)
-        ensures { self.new ≡ shown self.old (reply.ClientStatus name.now status) }
+    pub(crate) fn client_status(&mut self, name: &NameBuf, status: u32) -> Result<(), AllocError>
+        ensures ok { OnOk result (Changes (λ v. shown v (reply.ClientStatus name.now status)) self.old self.new) }
+        ensures err { OnErr result (self.new ≡ self.old) }
     {
-        self.users.set_status(name, status);
+        self.users.set_status(name, status)
     }
 }
