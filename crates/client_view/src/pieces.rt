@@ -18,6 +18,7 @@ use std::alloc::AllocError;
 pub(crate) const LINE_LIMIT: usize = 20_479;
 
 /// What came of the lines of a piece.
+#[derive(Clone, Copy)]
 pub(crate) struct Taken {
     /// How many a reply printed.
     pub(crate) count: usize,

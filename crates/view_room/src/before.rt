@@ -1,6 +1,6 @@
 //! How the client's own room was before it changed.
 
-ghost use Rattle.std.specs.Prelude.{◌≡◌, Option, Some, None, true, OnOk, OnErr, IfOk};
+ghost use Rattle.std.specs.Prelude.{◌≡◌, Option, Some, None, true, false, IsOk, OnOk, OnErr, IfOk};
 ghost use Rattle.std.specs.Option.{option_map};
 ghost use Rattle.lobby_view.specs.View.{OwnRoom};
 ghost use Rattle.view_room.specs.Kept.{or_now, restored, was, is_noted, keeping, keep_members, keep_bots, keep_rects, keep_tags, keep_units};
@@ -148,10 +148,15 @@ impl Before {
         }
     }
 
-    /// The members are about to change. Where memory is refused, nothing changes.
-    pub(crate) fn keep_members(&mut self, alloc: Global, members: &Members) -> Result<(), AllocError>
+    /// The members are about to change. Where memory is refused, nothing changes; while nothing is noted, none is asked for.
+    pub(crate) fn keep_members(
+        &mut self,
+        alloc: Global,
+        members: &Members,
+    ) -> Result<(), AllocError>
         ensures ok { OnOk result (self.new ≡ keeping (keep_members members.now) self.old) }
         ensures err { OnErr result (self.new ≡ self.old) }
+        ensures sure { is_noted self.old ≡ false → IsOk result }
     {
         match self {
             Before::Lists(kept) => keep(&mut kept.members, members, alloc),

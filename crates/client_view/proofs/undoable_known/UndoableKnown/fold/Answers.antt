@@ -1,12 +1,14 @@
 use Rattle.std.proofs.Common.{◌≡◌, refl}
 use Rattle.reply_kinds.specs.declared.Reply.TheVariants as reply
-use Rattle.lobby_view.specs.View.{shown}
-use Rattle.client_view.proofs.known.Known.fold.Goals as goal
+use Rattle.lobby_view.specs.View.{View, shown}
+use Rattle.noted_map.specs.Undoable.{Changes}
+use Rattle.client_view.proofs.Changing.{unchanged}
+use Rattle.client_view.proofs.undoable_known.UndoableKnown.fold.Goals as goal
 
 -- the arms above take each reply that changes something; of each of the others it is shown here that it changes nothing
 pub returns-in_default-clause-ok : goal.returns-in_default-clause-ok
 returns-in_default-clause-ok c =
-    elim c.args.reply as (λ r. c.args.reply ≡ r → c.args.self.now ≡ shown c.args.self.now r) [
+    elim c.args.reply as (λ r. c.args.reply ≡ r → Changes (λ (v : View). shown v r) c.args.self.now c.args.self.now) [
       | reply.Accepted user ↦ λ e. absurd (c.in_default.not-Accepted user e)
       | reply.AddUser user country cpu account ↦ λ e. absurd (c.in_default.not-AddUser user country cpu account e)
       | reply.RemoveUser user ↦ λ e. absurd (c.in_default.not-RemoveUser user e)
@@ -33,5 +35,5 @@ returns-in_default-clause-ok c =
       | reply.DisableUnits units ↦ λ e. absurd (c.in_default.not-DisableUnits units e)
       | reply.EnableUnits units ↦ λ e. absurd (c.in_default.not-EnableUnits units e)
       | reply.EnableAllUnits ↦ λ e. absurd (c.in_default.not-EnableAllUnits e)
-      | r ↦ λ e. refl
+      | r ↦ λ e. unchanged c.args.self.now
     ] refl
