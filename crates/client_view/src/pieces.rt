@@ -1,7 +1,7 @@
 //! What of a piece ends lines, read and folded: all of it, or none.
 
 ghost use Rattle.std.specs.Prelude.{◌≡◌, ◌+◌, ◌++◌, ◌≤◌, true, false, OnOk, OnErr, IfOk, length, drop, is_some};
-ghost use Rattle.line_framer.specs.Buffered.{IsFirstEnd};
+ghost use Rattle.line_framer.specs.Buffered.{IsFirstEnd, IsLastEnd};
 ghost use Rattle.line_framer.specs.Frames as frames;
 ghost use Rattle.reply_reader.specs.Lines.{read_line};
 ghost use Rattle.lobby_view.specs.View.{shown_all};
@@ -34,11 +34,18 @@ pub(crate) fn next_end(bytes: &[u8], from: usize) -> Option<usize>
     memchr(b'\n', &bytes[from..])
 }
 
+// The place of the last LF.
+fn last_end(bytes: &[u8]) -> Option<usize>
+    ensures { IsLastEnd bytes.now result }
+{
+    memrchr(b'\n', bytes)
+}
+
 /// What stands behind the last LF.
 pub(crate) fn unfinished(bytes: &[u8]) -> &[u8]
     ensures { result.now ≡ frames.rest_of bytes.now }
 {
-    match memrchr(b'\n', bytes) {
+    match last_end(bytes) {
         Some(end) => &bytes[end + 1..],
         None => bytes,
     }
