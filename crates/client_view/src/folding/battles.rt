@@ -104,7 +104,7 @@ impl Known {
         _script_password: Option<WordBuf>,
     ) -> Result<(), AllocError>
         ensures ok { OnOk result (Changes (λ v. shown v (reply.JoinedBattle number name _script_password)) self.old self.new) }
-        ensures err { OnErr result (self.new ≡ self.old) }
+        ensures err { OnErr result (Refused self.old self.new) }
     {
         self.room.add_member(number, name.copy())?;
         match self.battles.add_member(number, name) {
