@@ -1,5 +1,4 @@
 -- Changes of a listed battle, and what undoes them.
-use Rattle.std.specs.Prelude.{ℕ, List}
 use Rattle.lobby_model.specs.State.{updated}
 use Rattle.lobby_view.specs.View.{Listed, change_members, change_listed_info}
 use Rattle.view_lists.specs.Names.{names_after, names_back}

@@ -1,6 +1,5 @@
-use Rattle.std.proofs.Common.{◌∙◌, ap, sym}
+use Rattle.std.proofs.Common.{◌∙◌, ap}
 use Rattle.noted_map.specs.Slots.{live}
-use Rattle.noted_map.specs.Notes.{place_note}
 use Rattle.noted_map.proofs.SlotLaws.{sorted_of, live-put, noted_put}
 use Rattle.noted_map.proofs.map.put_noted.Goals as goal
 

@@ -1,4 +1,4 @@
-use Rattle.std.proofs.Common.{◌∙◌, ap, sym}
+use Rattle.std.proofs.Common.{◌∙◌, ap}
 use Rattle.noted_map.specs.Slots.{live}
 use Rattle.noted_map.proofs.SlotLaws.{sorted_of, live-emptied, noted_emptied}
 use Rattle.noted_map.proofs.map.remove_noted.Goals as goal

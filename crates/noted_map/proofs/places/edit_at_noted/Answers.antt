@@ -1,12 +1,11 @@
-use Rattle.std.proofs.Common.{◌∙◌, ap, sym, ◌≡◌, List}
-use Rattle.std.specs.Prelude.{Option}
+use Rattle.std.proofs.Common.{◌∙◌, ap, sym}
 use Rattle.std.specs.Option.{option_map, option_copied_mut}
 use Rattle.std.specs.BTreeMap.{is_at}
 use Rattle.std.specs.Map.{set_value}
 use Rattle.std.proofs.lemmas.Map.Steps.{set_value_same}
 use Rattle.std.proofs.lemmas.Result.{on_ok_weaker, on_err_weaker}
 use Rattle.line_words.proofs.Written.{set_is_change, none_is_change}
-use Rattle.noted_map.proofs.SlotLaws.{sorted_of, if_ok_weaker, back_set}
+use Rattle.noted_map.proofs.SlotLaws.{if_ok_weaker, back_set}
 use Rattle.noted_map.proofs.places.edit_at_noted.Goals as goal
 
 pub returns-in-Some-clause-ok : goal.returns-in-Some-clause-ok

@@ -1,4 +1,4 @@
-use Rattle.std.proofs.Common.{◌∙◌, ap, sym}
+use Rattle.std.proofs.Common.{◌∙◌, ap}
 use Rattle.std.specs.Prelude.{None}
 use Rattle.std.specs.Option.{option_flatten}
 use Rattle.noted_map.proofs.SlotLaws.{found_live}

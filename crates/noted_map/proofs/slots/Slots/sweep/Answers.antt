@@ -1,4 +1,4 @@
-use Rattle.std.proofs.Common.{◌∙◌, ap, sym}
+use Rattle.std.proofs.Common.{◌∙◌, ap}
 use Rattle.noted_map.specs.Slots.{live}
 use Rattle.noted_map.proofs.SlotLaws.{live_swept}
 use Rattle.noted_map.proofs.slots.Slots.sweep.Goals as goal
