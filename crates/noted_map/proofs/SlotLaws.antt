@@ -15,7 +15,7 @@ use Rattle.std.specs.Map.{lookup, set_value}
 use Rattle.line_words.specs.Table.{at, put, without, change}
 use Rattle.line_words.proofs.Tables.{Equal_of, both, both_first, both_second, find_before, at-put, at-without, at-change, is_sorted-without, is_sorted-change, change_absent, without_absent, lookup_is_find}
 use Rattle.line_words.proofs.Written.{set_is_change}
-use Rattle.noted_map.specs.Slots.{live, with_live, one, one_in, coming}
+use Rattle.noted_map.specs.Slots.{live, with_live, one, one_in}
 use Rattle.noted_map.specs.Notes.{undo_at, undone, place_note}
 use Rattle.noted_map.specs.declared.note.Note.{Note}
 
@@ -280,14 +280,6 @@ module _ {K X : Type 0} (R : K → K → Ordering) (o : IsTotalOrder R) (same : 
   write_counts es k (Some v) s h found =
       ap (λ a. length (live (change R es k (λ _. Some v))) + one_in a) (sym found)
       ∙ ap (λ (m : List (K × Option X)). length (live m) + one_in (at R es k)) (sym (put_is_change R o same es k (Some v) s h found)) ∙ count-put es k v h
-
-  pub count-write : (es : List (K × Option X)) (k : K) (held : Option X) → T (is_sorted R es)
-      → length (live (change R es k (λ _. held))) + one_in (at R es k) ≡ length (live es) + coming (at R es k) (one held)
-  count-write es k held h =
-      elim (at R es k) as (λ a. at R es k ≡ a → length (live (change R es k (λ _. held))) + one_in a ≡ length (live es) + coming a (one held)) [
-        | None ↦ λ none. ap (λ (m : List (K × Option X)). length (live m) + 0) (change_absent R (λ _. held) es k none)
-        | Some s ↦ λ found. write_counts es k held s h found
-      ] refl
 
 module _ {K X U : Type 0} (R : K → K → Ordering) (back : U → X → X) where
   pub undone-append : (ns : List (K × Note X U)) (k : K) (n : Note X U) (es : List (K × Option X)) → undone R back (ns ++ (k, n) ∷ []) es ≡ undone R back ns (undo_at R back k n es)
