@@ -18,6 +18,7 @@ mod refuser;
 mod repeats;
 mod scripts;
 mod sessions;
+mod views;
 
 use notes::Notes;
 use refuser::Refuser;
@@ -44,6 +45,7 @@ fn try_all<R: Wait + Print + AllocGlobal>(
     asking::try_out(rt, refuser, notes)?;
     halls::try_out(rt, refuser, notes)?;
     sessions::try_out(rt, refuser, notes)?;
+    views::try_out(rt, refuser, notes)?;
     scripts::try_out(rt, refuser, notes)?;
     repeats::try_out(rt, refuser, notes)?;
     refuser.release();
