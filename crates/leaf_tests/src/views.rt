@@ -35,9 +35,6 @@ SETSCRIPTTAGS a=1\tb=2\n\
 REMOVESCRIPTTAGS a\n\
 SAIDBATTLE Bert go\n";
 
-/// How often a piece is fed at most, until memory is not refused to it.
-const TRIES: usize = 64;
-
 /// A battle in the list: its number, map and map's hash, whether it is locked, how many spectators are told, and how many members.
 #[derive(Clone, Copy)]
 struct Listed {
