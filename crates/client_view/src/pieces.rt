@@ -127,6 +127,7 @@ impl UndoableKnown {
         requires { self.old.noting ≡ true }
         ensures known { OnOk result (self.new.now ≡ shown_all self.old.now (all_read (frames.frames bytes.now 20479))) }
         ensures count { IfOk result (λ taken. taken.count ≡ length (all_read (frames.frames bytes.now 20479))) }
+        ensures few { IfOk result (λ taken. taken.count ≤ length bytes.now) }
         ensures spoilt { IfOk result (λ taken. taken.is_spoilt ≡ frames.is_spoilt bytes.now 20479) }
         ensures before { self.new.before ≡ self.old.before }
     {
