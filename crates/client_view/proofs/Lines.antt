@@ -1,19 +1,21 @@
 -- Bytes that are taken in line by line, from the start of a line on.
-use Rattle.std.proofs.Common.{◌≡◌, ℕ, ◌+◌, ◌-◌, ◌<◌, ◌≤◌, List, [], ◌∷◌, ◌++◌, length, take, drop, sym, ap, subst, ◌∙◌, true, false, arith, append_assoc, append-nil, length-take, length-drop, length-append}
-use Rattle.std.specs.Prelude.{map, nat_le, nat_lt, not, Option, Some, None}
+use Rattle.std.proofs.Common.{◌≡◌, ℕ, ◌+◌, ◌-◌, ◌<◌, ◌≤◌, List, [], ◌∷◌, ◌++◌, length, take, drop, refl, sym, ap, subst, ◌∙◌, true, false, T, arith, add-zero, append_assoc, append-nil, length-take, length-drop, length-append}
+use Rattle.std.specs.Prelude.{Bool, map, nat_le, nat_lt, not, Option, Some, None, is_some}
 use Rattle.std.proofs.lemmas.Bool.Decides.{nat_tests}
 use Rattle.std.proofs.Math.Seq.{take-add}
 use Rattle.std.proofs.lemmas.List.{take_more, take-append-drop, get_or-drop}
 use Rattle.line_framer.specs.Frames.{Parts, frames, fits, is_spoilt, rest_of, sound_lines, without_cr}
-use Rattle.line_framer.specs.Buffered.{HasNoEnd, FirstEndAt, LastEndAt}
+use Rattle.line_framer.specs.Buffered.{HasNoEnd, FirstEndAt, LastEndAt, IsFirstEnd}
 use Rattle.line_framer.proofs.Parts.{parts_none, parts-append, rest-end}
 use Rattle.line_framer.proofs.Limit.{spoilt_in}
 use Rattle.line_framer.proofs.Stands.{frames-append, spoilt-append}
+use Rattle.reply_kinds.specs.declared.Reply.{Reply}
 use Rattle.reply_kinds.specs.Replies.{Line}
 use Rattle.reply_reader.specs.Lines.{read_line}
 use Rattle.lobby_view.specs.View.{View, shown_all}
 use Rattle.lobby_view.specs.Bytes.{frame_limit, all_read, one_read}
 use Rattle.lobby_view.proofs.Basics.{shown_all-append}
+use Rattle.noted_map.specs.Undoable.{Undoable}
 use Rattle.client_view.proofs.Ended.{ended_frames, ended_spoilt, long_spoilt, long_frames}
 use Rattle.client_view.proofs.Feeding.{up_to_end, none_before}
 use Rattle.client_view.proofs.Follows.{read_of, read_more}
@@ -25,6 +27,9 @@ one_read_size (Some line) = omega arith
 pub read_size : (frame : List ℕ) → length (read_of frame) ≤ 1
 read_size frame = one_read_size (read_line frame)
 
+over_limit : (n m : ℕ) → n ≡ m → nat_lt 20479 n ≡ not (nat_le m 20479)
+over_limit n m e = grind (arith, nat_tests)
+
 -- the bytes before a place are whole lines, none of them too long, which were folded
 pub record LinesTaken (bytes : List ℕ) (old new : View) (taken count : ℕ) : Type 0 where
   pub within : taken ≤ length bytes
@@ -34,10 +39,16 @@ pub record LinesTaken (bytes : List ℕ) (old new : View) (taken count : ℕ) : 
   pub counts : count ≡ length (all_read (frames (take taken bytes) frame_limit))
   pub few : count ≤ taken
 
+-- the same, where changes are noted
+pub record NotedLines (bytes : List ℕ) (old new : Undoable View) (taken count : ℕ) : Type 0 where
+  pub lines : LinesTaken bytes old.now new.now taken count
+  pub before : new.before ≡ old.before
+  pub noting : new.noting ≡ true
+
 module _ (bytes : List ℕ) (old view : View) (taken count : ℕ) (so_far : LinesTaken bytes old view taken count) where
   -- one line more
   module _ (end : ℕ) (first : FirstEndAt (drop taken bytes) end) where
-    line : List ℕ
+    abbrev line : List ℕ
     line = take end (drop taken bytes)
 
     with_line : take (taken + (end + 1)) bytes ≡ take taken bytes ++ (line ++ 10 ∷ [])
@@ -120,12 +131,9 @@ module _ (bytes : List ℕ) (old view : View) (taken count : ℕ) (so_far : Line
     pub last_count : count ≡ length (all_read (frames bytes frame_limit))
     last_count = so_far.counts ∙ ap (λ fs. length (all_read fs)) last_frames
 
-    over_is : (n m : ℕ) → n ≡ m → nat_lt 20479 n ≡ not (nat_le m 20479)
-    over_is n m e = grind (arith, nat_tests)
-
     pub last_spoilt : nat_lt 20479 (length bytes - taken) ≡ is_spoilt bytes frame_limit
     last_spoilt =
-        over_is (length bytes - taken) (length (drop taken bytes)) (sym (length-drop taken bytes))
+        over_limit (length bytes - taken) (length (drop taken bytes)) (sym (length-drop taken bytes))
         ∙ sym (ap (λ xs. is_spoilt xs frame_limit) (sym (take-append-drop taken bytes))
         ∙ spoilt-append (take taken bytes) (drop taken bytes) frame_limit so_far.sound
         ∙ ap (λ xs. is_spoilt xs frame_limit) behind_is
@@ -149,3 +157,22 @@ module _ (bytes : List ℕ) (end : ℕ) (last : LastEndAt bytes end) where
 
 pub none_at_all : (bytes : List ℕ) → HasNoEnd bytes → bytes ≡ rest_of bytes
 none_at_all bytes none = sym (ap (λ (q : Parts). q.1) (parts_none bytes none))
+
+-- no line ends in bytes without an LF
+module _ (bytes : List ℕ) (none : HasNoEnd bytes) where
+  none_read : all_read (frames bytes frame_limit) ≡ []
+  none_read = ap (λ (q : Parts). all_read (map without_cr (sound_lines frame_limit q.0))) (parts_none bytes none)
+
+  pub none_shown : (v : View) → v ≡ shown_all v (all_read (frames bytes frame_limit))
+  none_shown v = ap (shown_all v) (sym none_read)
+
+  pub none_counted : (n : ℕ) → n ≡ n + length (all_read (frames bytes frame_limit))
+  none_counted n = sym (add-zero n) ∙ ap (λ (rs : List Reply). n + length rs) (sym none_read)
+
+  pub none_spoilt : nat_lt 20479 (length bytes) ≡ is_spoilt bytes frame_limit
+  none_spoilt = over_limit (length bytes) (length bytes) refl ∙ sym (ap (spoilt_in frame_limit) (parts_none bytes none))
+
+-- a search that finds no LF
+pub none_found : (bytes : List ℕ) (place : Option ℕ) (nothing : Bool) → IsFirstEnd bytes place → is_some place ≡ not nothing → nothing ≡ true → HasNoEnd bytes
+none_found bytes None nothing none e is = none
+none_found bytes (Some end) nothing first e is = absurd (subst T (e ∙ ap not is) tt)

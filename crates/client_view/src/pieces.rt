@@ -87,12 +87,7 @@ impl UndoableKnown {
     }
 
     // Where memory is refused, some may be folded, and what was before is noted.
-    fn take_noted(
-        &mut self,
-        start: &[u8],
-        end: &[u8],
-        behind: &[u8],
-    ) -> Result<Taken, AllocError>
+    fn take_noted(&mut self, start: &[u8], end: &[u8], behind: &[u8]) -> Result<Taken, AllocError>
         requires { self.old.noting ≡ true }
         ensures known { OnOk result (self.new.now ≡ shown_all (shown_all self.old.now (one_read (read_line (frames.without_cr (start.now ++ end.now))))) (all_read (frames.frames behind.now 20479))) }
         ensures count { IfOk result (λ taken. taken.count ≡ length (one_read (read_line (frames.without_cr (start.now ++ end.now)))) + length (all_read (frames.frames behind.now 20479))) }
@@ -127,6 +122,7 @@ impl UndoableKnown {
         requires { self.old.noting ≡ true }
         ensures known { OnOk result (self.new.now ≡ shown_all self.old.now (all_read (frames.frames bytes.now 20479))) }
         ensures count { IfOk result (λ taken. taken.count ≡ length (all_read (frames.frames bytes.now 20479))) }
+        ensures few { IfOk result (λ taken. taken.count ≤ length bytes.now) }
         ensures spoilt { IfOk result (λ taken. taken.is_spoilt ≡ frames.is_spoilt bytes.now 20479) }
         ensures before { self.new.before ≡ self.old.before }
     {
