@@ -121,14 +121,25 @@ impl UndoableKnown {
     fn accepted(&mut self, name: NameBuf)
         ensures { Changes (λ v. shown v (reply.Accepted name)) self.old self.new }
     {
-        let is_noting = self.known.is_noting();
-        let mut known = Known::new(self.known.alloc, Some(name));
-        if is_noting {
-            known.begin();
+        let known = Known::new(self.known.alloc, Some(name));
+        if self.known.is_noting() {
+            self.begin_anew(known);
+        } else {
+            self.known = known;
         }
+    }
+
+    // From now on this is known, and what was before the changes that are noted stays.
+    fn begin_anew(&mut self, mut known: Known)
+        ensures now { self.new.now ≡ known.now }
+        ensures before { self.new.before ≡ self.old.before }
+        ensures noting { self.new.noting ≡ true }
+    {
+        known.begin();
         let last = replace(&mut self.known, known);
-        if is_noting && self.earlier.is_none() {
-            self.earlier = Some(last);
+        match &self.earlier {
+            Some(_) => {}
+            None => self.earlier = Some(last),
         }
     }
 }

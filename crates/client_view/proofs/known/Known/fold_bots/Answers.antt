@@ -1,4 +1,4 @@
-use Rattle.std.proofs.Common.{◌≡◌, ◌∙◌, ap, sym, subst, w64, ℤ, rules}
+use Rattle.std.proofs.Common.{◌∙◌, ap, sym, subst, w64, ℤ, rules}
 use Rattle.std.specs.Prelude.{OnOk}
 use Rattle.std.proofs.lemmas.Int.{to_z-of_z}
 use Rattle.reply_kinds.specs.declared.Reply.{Reply}
