@@ -4,7 +4,9 @@ ghost use Rattle.std.specs.Prelude.{◌≡◌, ◌≤◌};
 
 use crate::sockets::clients::Client;
 use crate::sockets::gates::{Hold, Watch, is_set_soon};
-use crate::sockets::running::{ANNA, BERT, Input, PATIENCE, Service, Told, listen, run, service};
+use crate::sockets::running::{
+    ANNA, BERT, Input, PATIENCE, Service, Told, listen, new_service, run,
+};
 use crate::verdict::{fail, same};
 use mio::net::TcpListener;
 use std::alloc::{AllocError, Global};
@@ -357,7 +359,7 @@ fn play_at<
 >(rt: &R, clock: HostRuntime, workers: u32, stage: &Stage, acts: &[Act], status: u8) -> Vec<u8>
     requires { (1 ≤ workers) × (workers ≤ 64) }
 {
-    match (listen(rt), service(clock.alloc(), workers)) {
+    match (listen(rt), new_service(clock.alloc(), workers)) {
         (Some((listener, address)), Some(service)) => {
             let told = play_beside(rt, clock, service, listener, address, stage, acts);
             same(rt, told.status, status);

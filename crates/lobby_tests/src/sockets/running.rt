@@ -62,7 +62,7 @@ pub struct Service {
 }
 
 /// A service for the users, with so many workers and a large limit of an outbox. None where memory is refused.
-pub fn service(alloc: Global, workers: u32) -> Option<Service>
+pub fn new_service(alloc: Global, workers: u32) -> Option<Service>
     ensures { IfSome result (λ service. service.workers ≡ workers) }
 {
     let accounts = book(alloc)?;
