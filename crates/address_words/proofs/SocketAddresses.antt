@@ -1,20 +1,27 @@
--- An address has no colon, so the first one of a socket address parts it from its port.
-use Rattle.std.proofs.Common.{◌≡◌, ℕ, ◌<◌, ◌^◌, false, List, [], ◌∷◌, Option, Some, None, ap, sym, ◌∙◌, subst, arith, decimal}
+-- An address has no colon and no space, so the first one behind it parts it from what follows.
+use Rattle.std.proofs.Common.{◌≡◌, ℕ, ◌<◌, ◌^◌, ◌||◌, false, List, [], ◌∷◌, Option, Some, None, refl, ap, sym, ◌∙◌, subst, arith, decimal, nat_eq}
 use Rattle.line_words.specs.Bytes.{has_byte}
 use Rattle.address_words.specs.Words.{Finds, IsAddress, IsPort, IsSocketAddress, PartedAt}
 use Rattle.address_words.proofs.Readings.{finds_none}
-use Rattle.address_words.proofs.Parts.{lacks-append, lacks_colon, parted_once}
+use Rattle.address_words.proofs.Parts.{lacks-append, lacks_colon, lacks_digits, parted_once}
 
-colonless : (n : ℕ) → n < 2 ^ 8 → has_byte 58 (decimal n) ≡ false
-colonless n small = lacks_colon n (omega (arith, small))
+-- an address lacks each byte that is no dot and that its numbers lack
+lacks_address : (m : ℕ) → nat_eq 46 m ≡ false → ((n : ℕ) → n < 2 ^ 8 → has_byte m (decimal n) ≡ false)
+    → (text ip : List ℕ) → IsAddress text ip → has_byte m text ≡ false
+lacks_address m dot number text (a ∷ b ∷ c ∷ d ∷ []) is =
+    let behind_dot : (rest : List ℕ) → has_byte m rest ≡ false → has_byte m (46 ∷ rest) ≡ false
+      = λ rest lacks. ap (λ here. here || has_byte m rest) dot ∙ lacks in
+    subst (λ t. has_byte m t ≡ false) (sym is.0)
+    (lacks-append m (decimal a) _ (number a is.1) (behind_dot _
+    (lacks-append m (decimal b) _ (number b is.2) (behind_dot _
+    (lacks-append m (decimal c) _ (number c is.3) (behind_dot _ (number d is.4)))))))
+lacks_address m dot number text _ is = absurd is
 
 no_colon : (text ip : List ℕ) → IsAddress text ip → has_byte 58 text ≡ false
-no_colon text (a ∷ b ∷ c ∷ d ∷ []) is =
-    subst (λ t. has_byte 58 t ≡ false) (sym is.0)
-    (lacks-append 58 (decimal a) _ (colonless a is.1)
-    (lacks-append 58 (decimal b) _ (colonless b is.2)
-    (lacks-append 58 (decimal c) _ (colonless c is.3) (colonless d is.4))))
-no_colon text _ is = absurd is
+no_colon = lacks_address 58 refl (λ n small. lacks_colon n (omega (arith, small)))
+
+pub no_space : (text ip : List ℕ) → IsAddress text ip → has_byte 32 text ≡ false
+no_space = lacks_address 32 refl (λ n small. lacks_digits 32 n (omega arith) (omega (arith, small)))
 
 module _ (text host rest : List ℕ) (parts : PartedAt 58 text host rest) where
   -- the parts of a socket address are these

@@ -24,7 +24,8 @@ pub fn address(text: &[u8]) -> Option<[u8; 4]>
     Some([first, second, third, fourth])
 }
 
-fn port(text: &[u8]) -> Option<u16>
+/// The port that the whole text writes: a number 0 to 65535 without leading zeros. `None` at any other text.
+pub fn port(text: &[u8]) -> Option<u16>
     ensures { Finds (IsPort text.now) result }
 {
     u16::try_from(number(text)?).ok()

@@ -4,5 +4,5 @@
 mod addresses;
 mod numbers;
 
-pub use addresses::{address, socket_address};
+pub use addresses::{address, port, socket_address};
 pub use numbers::{number, number_before, part_at};

@@ -1,0 +1,4 @@
+pub mod Routes
+pub mod Lines
+pub mod Steps
+pub mod Sets
