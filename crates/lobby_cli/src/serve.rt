@@ -5,7 +5,7 @@ ghost use Rattle.std.specs.Prelude.{◌≤◌, IfOk};
 use account_book::AccountBook;
 use lobby_files::{FileError, accounts_at, settings_at};
 use lobby_setup::Setup;
-use lobby_workers::{Gate, ServerError, run_server};
+use lobby_workers::{Gate, ServerError, run_server_behind};
 use mio::net::TcpListener;
 use std::io;
 use std::net::{Net, SocketAddr};
@@ -45,7 +45,7 @@ fn book_at<R: Files + AllocGlobal>(rt: &R, path: &str) -> Result<AccountBook, Se
 }
 
 /// Runs a server by its files, until its input ends or the program is killed. The first fault in the order of
-/// settings, accounts and listener is the answer, and then what `run_server` gives.
+/// settings, accounts and listener is the answer, and then what `run_server_behind` gives.
 pub fn serve<R>(rt: &R, settings: &str, accounts: &str) -> Result<(), ServerError>
 where
     R: Files + Input + Print + AllocGlobal + Threads + Wait + Net + Sync,
@@ -55,6 +55,7 @@ where
         address,
         workers,
         stop_at_input_end,
+        proxies,
     } = setup_at(rt, settings)?;
     let accounts = book_at(rt, accounts)?;
     let Ok(listener) = TcpListener::bind(rt, SocketAddr::V4(address)) else {
@@ -62,12 +63,13 @@ where
     };
     let mut input = rt.reader();
     let mut output = io::writer(rt);
-    let status = run_server(
+    let status = run_server_behind(
         rt,
         rt.alloc(),
         settings,
         workers,
         stop_at_input_end,
+        proxies,
         accounts,
         listener,
         &mut input,

@@ -3,12 +3,12 @@ use Rattle.std.proofs.Common.{◌≡◌, ℕ, List, Option, None, Result, Ok, Er
 use Rattle.toml_fields.specs.declared.fault.FieldFault.{FieldFault}
 use Rattle.toml_fields.specs.declared.fault.FieldFault.TheVariants.{NotAllowed}
 use Rattle.address_words.specs.Words.{Finds, IsSocketAddress}
-use Rattle.lobby_setup.specs.Choices.{IsEndpoint}
+use Rattle.lobby_setup.specs.Written.{IsWritten}
 
 pub no_endpoint : (said : Result (List ℕ) FieldFault) (text bytes : List ℕ) (found : Option (List ℕ × ℕ)) → Ok text ≡ said → bytes ≡ text
-    → Finds (IsSocketAddress bytes) found → found ≡ None → IsEndpoint said (Err NotAllowed)
+    → Finds (IsSocketAddress bytes) found → found ≡ None → IsWritten IsSocketAddress said (Err NotAllowed)
 no_endpoint said text bytes found says same finds none =
-    subst (λ s. IsEndpoint s (Err NotAllowed)) says (
+    subst (λ s. IsWritten IsSocketAddress s (Err NotAllowed)) says (
       refl,
       λ x is.
           let written = finds.complete x (subst (λ b. IsSocketAddress b x) (sym same) is) in absurd (cc),

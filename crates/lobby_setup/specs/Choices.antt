@@ -2,44 +2,38 @@
 use Rattle.std.specs.Prelude.{◌≡◌, ℕ, Bool, false, List, codes, Result, Ok, Err, if◌then◌else◌}
 use Rattle.std.specs.Option.{option_map_or}
 use Rattle.toml.specs.Data.{Data, Items, no_items, Members}
-use Rattle.toml_fields.specs.Fields.{◌>>=◌, flag, list, number, optional, required, text}
+use Rattle.toml_fields.specs.Fields.{◌>>=◌, flag, list, number, required, text}
 use Rattle.toml_fields.specs.declared.fault.FieldFault.{FieldFault}
 use Rattle.toml_fields.specs.declared.fault.FieldFault.TheVariants.{NotAllowed}
 use Rattle.address_words.specs.Words.{IsSocketAddress}
 use Rattle.lobby_model.specs.Configuration.{Configuration, configuration, is_version}
+use Rattle.lobby_setup.specs.At.{at, field}
 use Rattle.lobby_setup.specs.Keys.{name_of}
 use Rattle.lobby_setup.specs.Motd.{lines_of, motd_fault}
-use Rattle.lobby_setup.specs.declared.key.Key.{Key}
+use Rattle.lobby_setup.specs.Proxies.{Addresses, SayProxies}
+use Rattle.lobby_setup.specs.Written.{IsWritten}
 use Rattle.lobby_setup.specs.declared.key.Key.TheVariants.{Address, Workers, OutboxLimit, ProtocolVersion, SpringVersion, UdpPort, ServerMode, Motd, StopAtInputEnd}
 use Rattle.lobby_setup.specs.declared.error.Refusal.{Refusal}
-use Rattle.lobby_setup.specs.declared.error.Refusal.TheVariants.{Field}
 
--- The settings of the lobby, the address and the port at which the server listens, how many workers it has, and whether it stops
--- where its input ends
+-- The settings of the lobby, the address and the port at which the server listens, how many workers it has, whether it stops where
+-- its input ends, and the addresses from which a front connects
 pub record Choices : Type 0 where
   pub settings : Configuration
   pub ip : List ℕ
   pub port : ℕ
   pub workers : ℕ
   pub stop_at_input_end : Bool
+  pub proxies : List (List ℕ)
 
-abbrev pub chosen : Configuration → List ℕ × ℕ → ℕ → Bool → Choices
-chosen settings endpoint workers stop_at_input_end = record {
+abbrev pub chosen : Configuration → List ℕ × ℕ → ℕ → Bool → List (List ℕ) → Choices
+chosen settings endpoint workers stop_at_input_end proxies = record {
   settings = settings;
   ip = endpoint.0;
   port = endpoint.1;
   workers = workers;
   stop_at_input_end = stop_at_input_end;
+  proxies = proxies;
 }
-
--- what is said at a key, whose name is told where it is refused
-abbrev pub at : {X : Type 0} → Key → Result X FieldFault → Result X Refusal
-at key (Ok value) = Ok value
-at key (Err fault) = Err (Field key fault)
-
--- what is said at a key that may be missing
-abbrev pub field : {X : Type 0} → Key → (Data → Result X FieldFault) → X → Members → Result X Refusal
-field key read default table = at key (optional read default (name_of key) table)
 
 -- a text that is a version word
 abbrev pub version : Data → Result (List ℕ) FieldFault
@@ -49,9 +43,10 @@ version value = text value >>= (λ word. if is_version word then Ok word else Er
 abbrev pub motd_items : Members → Result Items Refusal
 motd_items table = field Motd list no_items table >>= (λ values. option_map_or Err (motd_fault 1 values) (Ok values))
 
--- What is said at each key, or the first key in this order that is refused. What is said at the first key, `address`, is given
-abbrev pub choices : Result (List ℕ × ℕ) FieldFault → Members → Result Choices Refusal
-choices endpoint table =
+-- What is said at each key, or the first key in this order that is refused. What is said at the first key, `address`, and at the
+-- last, `proxies`, is given
+abbrev pub choices : Result (List ℕ × ℕ) FieldFault → Addresses → Members → Result Choices Refusal
+choices endpoint proxies table =
     at Address endpoint >>= (λ endpoint.
     field Workers (number 1 64) 4 table >>= (λ workers.
     field OutboxLimit (number 65536 67108864) 4194304 table >>= (λ outbox_limit.
@@ -61,17 +56,12 @@ choices endpoint table =
     field ServerMode (number 0 1) 0 table >>= (λ server_mode.
     motd_items table >>= (λ motd.
     field StopAtInputEnd flag false table >>= (λ stop_at_input_end.
+    proxies >>= (λ proxies.
     Ok (chosen (configuration protocol_version spring_version udp_port server_mode (lines_of motd) outbox_limit)
-    endpoint workers stop_at_input_end))))))))))
+    endpoint workers stop_at_input_end proxies)))))))))))
 
--- What a text says as an address and a port: the one that it writes, or that it is not allowed, since it writes none
-abbrev pub IsEndpoint : Result (List ℕ) FieldFault → Result (List ℕ × ℕ) FieldFault → Type 0
-IsEndpoint (Ok text) (Ok endpoint) = IsSocketAddress text endpoint
-IsEndpoint (Ok text) (Err fault) = (fault ≡ NotAllowed) × ((endpoint : List ℕ × ℕ) → IsSocketAddress text endpoint → ⊥)
-IsEndpoint (Err missing) said = said ≡ Err missing
-
--- What a table says: what its keys say, with what the text at `address` says as an address
+-- What a table says: what its keys say, with what the text at `address` says as an address and a port
 abbrev pub Says : Members → Result Choices Refusal → Type 0
 Says table answer =
-    (endpoint : Result (List ℕ × ℕ) FieldFault) × IsEndpoint (required text (name_of Address) table) endpoint
-    × (answer ≡ choices endpoint table)
+    (endpoint : Result (List ℕ × ℕ) FieldFault) × IsWritten IsSocketAddress (required text (name_of Address) table) endpoint
+    × ((proxies : Addresses) × SayProxies table proxies × (answer ≡ choices endpoint proxies table))

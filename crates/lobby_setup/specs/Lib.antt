@@ -1,6 +1,9 @@
 pub mod Answers
+pub mod At
 pub mod Choices
 pub mod Errors
 pub mod Gathered
 pub mod Keys
 pub mod Motd
+pub mod Proxies
+pub mod Written

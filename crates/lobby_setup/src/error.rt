@@ -17,6 +17,9 @@ pub enum Refusal {
     /// A line of the message of the day, counted from 1, is not what it has to be.
     #[error("line {place} of `motd` {fault}: expected {}", Key::Motd.expected())]
     MotdLine { place: usize, fault: FieldFault },
+    /// An address of a front, counted from 1, is not what it has to be.
+    #[error("address {place} of `proxies` {fault}: expected {}", Key::Proxies.expected())]
+    Proxy { place: usize, fault: FieldFault },
 }
 
 /// Why there are no settings.

@@ -3,10 +3,14 @@
 ghost use Rattle.std.specs.Prelude.{◌≡◌, ◌≤◌, IfOk, IsTrue, None, true, false};
 ghost use Rattle.toml.specs.View.{table_view, items_view};
 ghost use Rattle.toml_fields.specs.Fields.{flag, lent, number, required, seen_list, text};
+ghost use Rattle.address_words.specs.Words.{IsSocketAddress};
 ghost use Rattle.lobby_model.specs.Configuration.{is_configuration, is_version};
 ghost use Rattle.lobby_setup.specs.Keys.{name_of};
 ghost use Rattle.lobby_setup.specs.Motd.{motd_fault};
-ghost use Rattle.lobby_setup.specs.Choices.{choices, field, motd_items, version, IsEndpoint};
+ghost use Rattle.lobby_setup.specs.Choices.{choices, motd_items, version};
+ghost use Rattle.lobby_setup.specs.At.{field};
+ghost use Rattle.lobby_setup.specs.Proxies.{all_listed};
+ghost use Rattle.lobby_setup.specs.Written.{IsWritten};
 ghost use Rattle.lobby_setup.specs.Gathered.{gathered, gathered_of};
 
 use crate::error::Refusal;
@@ -17,6 +21,7 @@ use lobby_model::WORKERS;
 use lobby_model::settings::{
     DEFAULT_OUTBOX_LIMIT, GREATEST_OUTBOX_LIMIT, LEAST_OUTBOX_LIMIT, is_version,
 };
+use proxy_line::Proxies;
 use toml::{Table, Value};
 use toml_fields::{FieldFault, flag_or, list_or_empty, number_or, text_at, text_or};
 
@@ -33,11 +38,12 @@ pub struct Fields<'a> {
     pub server_mode: u8,
     pub motd: &'a [Value],
     pub stop_at_input_end: bool,
+    pub proxies: Proxies,
 }
 
 /// The address and the port at which to listen.
 pub fn listening_address(table: &Table) -> Result<([u8; 4], u16), FieldFault>
-    ensures { IsEndpoint (required text (name_of Key.Address) (table_view table.now)) result }
+    ensures { IsWritten IsSocketAddress (required text (name_of Key.Address) (table_view table.now)) result }
 {
     match text_at(table, Key::Address.name()) {
         Ok(text) => match socket_address(text.as_bytes()) {
@@ -102,12 +108,13 @@ fn flag_field(table: &Table, key: Key) -> Result<bool, Refusal>
     }
 }
 
-/// What the keys of a table say, with what was read at `address`, or the first of them that is refused.
+/// What the keys of a table say, with what was read at `address` and at `proxies`, or the first of them that is refused.
 pub fn fields_of(
     endpoint: Result<([u8; 4], u16), FieldFault>,
+    proxies: Result<Proxies, Refusal>,
     table: &Table,
 ) -> Result<Fields<'_>, Refusal>
-    ensures value { gathered_of result ≡ choices endpoint (table_view table.now) }
+    ensures value { gathered_of result ≡ choices endpoint (all_listed proxies) (table_view table.now) }
     ensures lines { IfOk result (λ fields. motd_fault 1 (items_view fields.motd.now) ≡ None) }
     ensures settings { IfOk result (λ fields. IsTrue (is_configuration (gathered fields).settings)) }
     ensures workers { IfOk result (λ fields. (1 ≤ fields.workers) × (fields.workers ≤ 64)) }
@@ -138,5 +145,6 @@ pub fn fields_of(
         server_mode: number_field(table, Key::ServerMode, 0, 1, 0)? as u8,
         motd: motd_field(table)?,
         stop_at_input_end: flag_field(table, Key::StopAtInputEnd)?,
+        proxies: proxies?,
     })
 }

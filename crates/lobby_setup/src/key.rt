@@ -26,6 +26,9 @@ pub enum Key {
     Motd,
     /// `stop_at_input_end`: whether the server stops where its standard input ends; false if left out.
     StopAtInputEnd,
+    /// `proxies`: the addresses from which a front connects, so that a connection begins with its line; at most 64 texts of an IPv4
+    /// address each; none if left out.
+    Proxies,
 }
 
 impl Key {
@@ -43,6 +46,7 @@ impl Key {
             Key::ServerMode => "server_mode",
             Key::Motd => "motd",
             Key::StopAtInputEnd => "stop_at_input_end",
+            Key::Proxies => "proxies",
         }
     }
 
@@ -57,6 +61,7 @@ impl Key {
             Key::ServerMode => "0 or 1",
             Key::Motd => "a list of at most 100 texts of at most 1000 bytes without CR and LF",
             Key::StopAtInputEnd => "true or false",
+            Key::Proxies => "a list of at most 64 IPv4 addresses, as [\"127.0.0.1\"]",
         }
     }
 }

@@ -8,6 +8,7 @@ mod error;
 mod fields;
 mod key;
 mod motd;
+mod proxies;
 mod setup;
 
 pub use error::{Refusal, SetupError, SetupFault};

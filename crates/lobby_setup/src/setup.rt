@@ -10,7 +10,9 @@ ghost use Rattle.lobby_setup.specs.Motd.{motd_fault};
 use crate::error::{SetupError, SetupFault};
 use crate::fields::{Fields, fields_of, listening_address};
 use crate::motd::copy_motd;
+use crate::proxies::proxies_at;
 use lobby_model::{Settings, SettingsError};
+use proxy_line::Proxies;
 use std::alloc::{AllocError, Global};
 use std::net::{Ipv4Addr, SocketAddrV4};
 use toml_fields::read_document;
@@ -26,6 +28,8 @@ pub struct Setup {
     pub workers: u32,
     /// Whether the server stops where its standard input ends.
     pub stop_at_input_end: bool,
+    /// From where a front connects.
+    pub proxies: Proxies,
 }
 
 impl Setup {
@@ -33,7 +37,7 @@ impl Setup {
     ///
     /// `Unusable` where the file is not TOML or not UTF-8, else with the first key that is refused, in the
     /// order of [`crate::Key`]: it is missing though it has to be there, or its value is of another kind or not
-    /// allowed. In a message of the day it is the first line that is refused. `Memory` where it was refused for
+    /// allowed. In a message of the day it is the first line that is refused, and of fronts the first address. `Memory` where it was refused for
     /// the file, or, once no key is refused, for the settings.
     pub fn read(alloc: Global, bytes: &[u8]) -> Result<Setup, SetupFault>
         ensures answer { IsAnswer bytes.now result }
@@ -43,7 +47,7 @@ impl Setup {
             Ok(table) => table,
             Err(error) => return Err(SetupFault::from(error)),
         };
-        let fields = match fields_of(listening_address(&table), &table) {
+        let fields = match fields_of(listening_address(&table), proxies_at(&table), &table) {
             Ok(fields) => fields,
             Err(refusal) => return Err(SetupFault::Unusable(refusal)),
         };
@@ -93,5 +97,6 @@ fn setup_of(alloc: Global, fields: &Fields<'_>) -> Result<Setup, AllocError>
         address: SocketAddrV4::new(Ipv4Addr::from(fields.ip), fields.port),
         workers: fields.workers,
         stop_at_input_end: fields.stop_at_input_end,
+        proxies: fields.proxies,
     })
 }

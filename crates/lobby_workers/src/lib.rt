@@ -14,6 +14,6 @@ mod worker;
 pub use error::ServerError;
 pub use inboxes::{Arrival, Inboxes};
 pub use lobby_turns::{Conn, Gate, Got, Link, Sent, Turn, TurnState, serve};
-pub use server::run_server;
+pub use server::{run_server, run_server_behind};
 pub use wakers::Wakers;
 pub use worker::{WorkerListener, run_worker};

@@ -16,6 +16,7 @@ use lobby_model::{Settings, WORKERS};
 use lobby_turns::Gate;
 use mio::Waker;
 use mio::net::TcpListener;
+use proxy_line::Proxies;
 use std::alloc::{AllocError, Global};
 use std::io::{ErrorKind, Read, Write};
 use std::net::Net;
@@ -30,24 +31,27 @@ struct Service {
     settings: Settings,
     workers: u32,
     stop_at_input_end: bool,
+    proxies: Proxies,
     accounts: AccountBook,
 }
 
-/// How the workers of a server are reached, and whether they are to end.
+/// How the workers of a server are reached, whether they are to end, and from where fronts connect.
 #[derive(Drop)]
 struct Handles {
     inboxes: Inboxes,
     wakers: Wakers,
     stop: AtomicBool,
+    proxies: Proxies,
 }
 
 impl Handles {
     /// No worker yet.
-    fn new(alloc: Global) -> Handles {
+    fn new(alloc: Global, proxies: Proxies) -> Handles {
         Handles {
             inboxes: Inboxes::new(alloc),
             wakers: Wakers::new(alloc),
             stop: AtomicBool::new(false),
+            proxies,
         }
     }
 
@@ -121,10 +125,44 @@ pub fn run_server<R: Threads + Wait + Net + Sync, I: Read, O: Write, G: Gate + S
     requires { (1 ≤ workers) × (workers ≤ WORKERS) }
     ensures { IsEnd result }
 {
+    run_server_behind(
+        rt,
+        alloc,
+        settings,
+        workers,
+        stop_at_input_end,
+        Proxies::new(),
+        accounts,
+        listener,
+        input,
+        output,
+        gate,
+    )
+}
+
+/// Runs a server as [`run_server`] does, where fronts connect from these addresses: a connection from one of them begins with its
+/// line, and its client is opened with the address that the line gives.
+pub fn run_server_behind<R: Threads + Wait + Net + Sync, I: Read, O: Write, G: Gate + Sync>(
+    rt: &R,
+    alloc: Global,
+    settings: Settings,
+    workers: u32,
+    stop_at_input_end: bool,
+    proxies: Proxies,
+    accounts: AccountBook,
+    listener: TcpListener,
+    input: &mut I,
+    output: &mut O,
+    gate: &G,
+) -> u8
+    requires { (1 ≤ workers) × (workers ≤ WORKERS) }
+    ensures { IsEnd result }
+{
     let service = Service {
         settings,
         workers,
         stop_at_input_end,
+        proxies,
         accounts,
     };
     match serve_until_end(rt, alloc, service, listener, input, output, gate) {
@@ -146,10 +184,11 @@ fn serve_until_end<R: Threads + Wait + Net + Sync, I: Read, O: Write, G: Gate + 
         settings,
         workers,
         stop_at_input_end,
+        proxies,
         accounts,
     } = service;
     let (desk, pass) = open_desk(rt, alloc, settings, accounts)?;
-    let mut handles = Handles::new(alloc);
+    let mut handles = Handles::new(alloc, proxies);
     let ended = match new_workers(rt, alloc, &desk, pass, workers, listener, &mut handles) {
         Ok((first, others)) => {
             let shared = Shared {
@@ -252,7 +291,7 @@ fn new_listener<R: Net>(
 ) -> Result<WorkerListener, ServerError> {
     match WorkerListener::new(rt, alloc, listener) {
         Ok((listener, waker)) => match handles.join(alloc, waker) {
-            Ok(()) => Ok(listener),
+            Ok(()) => Ok(listener.behind(handles.proxies)),
             Err(_) => {
                 drop(listener);
                 Err(ServerError::Memory)

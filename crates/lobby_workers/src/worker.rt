@@ -11,11 +11,13 @@ use lobby_lock::{Desk, Pass};
 use lobby_turns::Gate;
 use mio::net::TcpListener;
 use mio::{Events, Interest, Poll, Token, Waker};
+use proxy_line::Proxies;
 use std::alloc::Global;
 use std::io::ErrorKind;
 use std::net::{Net, SocketAddr};
 use std::sync::Wait;
 use std::sync::atomic::AtomicBool;
+use wire_link::Newcomers;
 
 /// The token of a worker's waker. Connections have the keys of their table, far below.
 const WAKER: Token = Token(usize::MAX);
@@ -31,12 +33,14 @@ const EVENTS: usize = 1_024;
 /// the worker from its connections.
 const ACCEPTS: u32 = 64;
 
-/// What a worker listens with: its poll, with room for what one poll tells, and at one worker the server's listener.
+/// What a worker listens with: its poll, with room for what one poll tells, from where fronts connect, and at one worker the server's
+/// listener.
 #[derive(Drop)]
 pub struct WorkerListener {
     poll: Poll,
     events: Events,
     listener: Option<TcpListener>,
+    proxies: Proxies,
 }
 
 /// What a worker works with: what it listens with, and its connections.
@@ -49,6 +53,9 @@ struct WorkerLoop {
     accepted: u64,
     // whether to accept though the poll does not tell of the listener
     goes_on: bool,
+    // from where fronts connect
+    proxies: Proxies,
+    newcomers: Newcomers,
     connections: Connections,
 }
 
@@ -78,6 +85,7 @@ impl WorkerListener {
                     poll,
                     events,
                     listener,
+                    proxies: Proxies::new(),
                 };
                 Ok((listener, waker))
             }
@@ -88,6 +96,13 @@ impl WorkerListener {
             }
         }
     }
+
+    /// The same, where fronts connect from these addresses: a connection from one of them begins with its line.
+    pub fn behind(self, proxies: Proxies) -> WorkerListener {
+        let mut listener = self;
+        listener.proxies = proxies;
+        listener
+    }
 }
 
 impl WorkerLoop {
@@ -97,6 +112,7 @@ impl WorkerLoop {
             poll,
             events,
             listener,
+            proxies,
         } = listener;
         WorkerLoop {
             poll,
@@ -104,6 +120,8 @@ impl WorkerLoop {
             listener,
             accepted: 0,
             goes_on: false,
+            proxies,
+            newcomers: Newcomers::new(alloc),
             connections: Connections::new(alloc),
         }
     }
@@ -171,14 +189,40 @@ impl WorkerLoop {
             let Some(arrival) = shared.inboxes.next_arrival(rt, worker) else {
                 return pass;
             };
-            let registry = self.poll.registry();
-            let connections = &mut self.connections;
-            pass = turns::adopt(rt, shared, pass, connections, registry, arrival);
+            pass = self.receive(rt, shared, pass, arrival);
         }
         pass
     }
 
-    /// Gives turns to those of whom the last poll told, and lets go what came for those who linger.
+    /// Takes a connection: at once, or behind a front once its line is whole.
+    fn receive<R: Wait, G: Gate>(
+        &mut self,
+        rt: &R,
+        shared: &Shared<'_, G>,
+        pass: Pass,
+        arrival: Arrival,
+    ) -> Pass
+        requires { pass.desk ≡ shared.now.desk.now }
+        ensures desk { result.desk ≡ pass.desk }
+        ensures number { result.worker.number ≡ pass.worker.number }
+    {
+        let registry = self.poll.registry();
+        let connections = &mut self.connections;
+        if !self.proxies.has(arrival.ip) {
+            return turns::adopt(rt, shared, pass, connections, registry, arrival);
+        }
+        let Arrival { stream, ip } = arrival;
+        match self.newcomers.begin(registry, stream, ip) {
+            Some((stream, ip)) => {
+                let arrival = Arrival { stream, ip };
+                turns::adopt(rt, shared, pass, connections, registry, arrival)
+            }
+            None => pass,
+        }
+    }
+
+    /// Gives turns to those of whom the last poll told, takes connections whose line is whole, and lets go what came for those who
+    /// linger.
     fn turn_ready<R: Wait, G: Gate>(&mut self, rt: &R, shared: &Shared<'_, G>, pass: Pass) -> Pass
         requires { pass.desk ≡ shared.now.desk.now }
         ensures desk { result.desk ≡ pass.desk }
@@ -189,7 +233,12 @@ impl WorkerLoop {
         let mut pass = pass;
         for event in &self.events {
             let token = event.token();
-            if !connections.let_go(registry, token) {
+            if Newcomers::has(token) {
+                if let Some((stream, ip)) = self.newcomers.turn(registry, token) {
+                    let arrival = Arrival { stream, ip };
+                    pass = turns::adopt(rt, shared, pass, connections, registry, arrival);
+                }
+            } else if !connections.let_go(registry, token) {
                 pass = turns::turn(rt, shared, pass, connections, registry, token.0);
             }
         }

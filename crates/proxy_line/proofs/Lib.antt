@@ -1,3 +1,4 @@
 pub mod Texts
 pub mod Sources
 pub mod Ends
+pub mod Examples

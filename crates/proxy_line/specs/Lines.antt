@@ -17,3 +17,8 @@ Says text OwnAddress = (text ≡ codes "PROXY UNKNOWN") ⊎ ((rest : List ℕ) �
 -- A line, at most 107 bytes with its CR LF, and what it says of where the connection comes from
 abbrev pub IsProxyLine : List ℕ → ProxySource → Type 0
 IsProxyLine line source = (length line ≤ 107) × ((text : List ℕ) × IsLineOf line text × Says text source)
+
+-- where a connection comes from that comes from an address of its own without the line
+abbrev pub address : List ℕ → ProxySource → List ℕ
+address own (Given source) = source
+address own OwnAddress = own

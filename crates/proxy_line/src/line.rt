@@ -3,7 +3,7 @@
 ghost use Rattle.std.specs.Prelude.{◌≡◌, ℕ, ◌↔◌, List, IfSome, IsSomeAnd, IsTrue};
 ghost use Rattle.address_words.specs.Words.{Finds, IsPort};
 ghost use Rattle.proxy_line.specs.Routes.{ArePorts, IsRoute, IsSomePort, LeadsWithAddress};
-ghost use Rattle.proxy_line.specs.Lines.{IsLineOf, IsProxyLine, Says};
+ghost use Rattle.proxy_line.specs.Lines.{address, IsLineOf, IsProxyLine, Says};
 
 use address_words::{address, part_at, port};
 
@@ -17,6 +17,18 @@ pub enum ProxySource {
     Given([u8; 4]),
     /// The line gives none: from where it comes without the line.
     OwnAddress,
+}
+
+impl ProxySource {
+    /// Where a connection comes from that comes from `own` without the line.
+    pub fn address(self, own: [u8; 4]) -> [u8; 4]
+        ensures { result ≡ address own self }
+    {
+        match self {
+            ProxySource::Given(source) => source,
+            ProxySource::OwnAddress => own,
+        }
+    }
 }
 
 /// Where a connection comes from that begins with this line, its CR LF counted:

@@ -14,7 +14,7 @@ pub struct Proxies {
 }
 
 impl Proxies {
-    ghost use Rattle.std.specs.Prelude.{◌≡◌, ◌==◌, ◌↔◌, nat_lt, [], ◌∷◌, ◌++◌, length, true, false, Contains, IsTrue};
+    ghost use Rattle.std.specs.Prelude.{◌≡◌, ◌↔◌, ◌<◌, [], ◌∷◌, ◌++◌, length, Contains, IsTrue};
     ghost use Rattle.proxy_line.specs.Sets.{listed};
 
     /// No address.
@@ -27,18 +27,13 @@ impl Proxies {
         }
     }
 
-    /// Adds an address. Whether there was room: 64 may be added.
-    pub fn add(&mut self, address: [u8; 4]) -> bool
-        ensures room { result ≡ nat_lt (length (listed self.old)) 64 }
-        ensures added { IsTrue result → listed self.new ≡ listed self.old ++ address ∷ [] }
-        ensures full { result ≡ false → self.new ≡ self.old }
+    /// Adds an address. Fewer than 64 were added before.
+    pub fn add(&mut self, address: [u8; 4])
+        requires { length (listed self.old) < 64 }
+        ensures { listed self.new ≡ listed self.old ++ address ∷ [] }
     {
-        if self.count == MOST_PROXIES {
-            return false;
-        }
         self.addresses[self.count] = address;
         self.count += 1;
-        true
     }
 
     /// Whether this address was added.

@@ -5,6 +5,7 @@
 #![tactic(auto)]
 
 mod lingering;
+mod newcomers;
 
 ghost use Rattle.std.specs.Prelude.{◌≡◌, ◌≤◌, ◌++◌, length};
 ghost use Rattle.wire_link.specs.Gathered.{gathered};
@@ -16,6 +17,7 @@ use lobby_holds::{Got, Link, Sent};
 use mio::event::Event;
 use mio::net::TcpStream;
 use mio::{Interest, Registry, Token};
+pub use newcomers::Newcomers;
 use std::io::{self, ErrorKind, Read, Write};
 use std::net::Shutdown;
 

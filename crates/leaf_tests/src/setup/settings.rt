@@ -19,6 +19,7 @@ udp_port = 0
 server_mode = 1
 motd = ['Welcome!', '', 'Gr\xc3\xbc\xc3\x9fe']
 stop_at_input_end = true
+proxies = ['127.0.0.1', '10.0.0.2', '127.0.0.1']
 colour = 'a key that is not known'
 ";
 
@@ -51,6 +52,8 @@ struct Wanted {
     server_mode: u8,
     outbox_limit: usize,
     motd: &'static [&'static [u8]],
+    // whether each of these addresses is a front's
+    proxies: &'static [([u8; 4], bool)],
 }
 
 fn compare_settings(rt: &impl Abort, settings: &Settings, wanted: &Wanted) {
@@ -91,6 +94,9 @@ fn compare(rt: &impl Abort, setup: &Setup, wanted: &Wanted) {
         ),
         (true, wanted.workers, wanted.stop_at_input_end),
     );
+    for (address, is_front) in wanted.proxies {
+        same_for(rt, address, setup.proxies.has(*address), *is_front);
+    }
     compare_settings(rt, &setup.settings, wanted);
 }
 
@@ -115,6 +121,7 @@ static SMALLEST: Wanted = Wanted {
     server_mode: 0,
     outbox_limit: 4_194_304,
     motd: &[],
+    proxies: &[([127, 0, 0, 1], false), ([0, 0, 0, 0], false)],
 };
 
 #[test]
@@ -133,6 +140,12 @@ static LARGEST: Wanted = Wanted {
     server_mode: 1,
     outbox_limit: 65_536,
     motd: &[b"Welcome!", b"", b"Gr\xc3\xbc\xc3\x9fe"],
+    proxies: &[
+        ([127, 0, 0, 1], true),
+        ([10, 0, 0, 2], true),
+        ([10, 0, 0, 1], false),
+        ([0, 0, 0, 0], false),
+    ],
 };
 
 #[test]
@@ -170,7 +183,7 @@ fn each_value_has_its_bounds(rt: HostRuntime) {
     refuse_all(&rt, rt.alloc(), &NOT_ALLOWED, FieldFault::NotAllowed);
 }
 
-static OTHER_KIND: [Row; 9] = [
+static OTHER_KIND: [Row; 10] = [
     ("workers = '4'", Key::Workers),
     ("workers = 4.0", Key::Workers),
     ("outbox_limit = []", Key::OutboxLimit),
@@ -180,6 +193,7 @@ static OTHER_KIND: [Row; 9] = [
     ("server_mode = false", Key::ServerMode),
     ("motd = 'Welcome!'", Key::Motd),
     ("stop_at_input_end = 1", Key::StopAtInputEnd),
+    ("proxies = '127.0.0.1'", Key::Proxies),
 ];
 
 #[test]
@@ -248,6 +262,53 @@ fn the_first_bad_line_of_the_day_is_named(rt: HostRuntime) {
     );
 }
 
+/// Fronts at so many addresses.
+fn proxies_of(alloc: Global, count: u32) -> Result<String, AllocError> {
+    let mut line = String::new(alloc);
+    line.push_str("proxies = [")?;
+    for _ in 0..count {
+        line.push_str("'10.0.0.1',")?;
+    }
+    line.push_str("]")?;
+    Ok(line)
+}
+
+fn refusal_of_proxies(alloc: Global, count: u32) -> Option<SetupFault> {
+    match proxies_of(alloc, count) {
+        Ok(line) => refusal_with(alloc, line.as_str()),
+        Err(AllocError) => Some(SetupFault::Memory),
+    }
+}
+
+fn bad_proxy(place: usize, fault: FieldFault) -> Option<SetupFault> {
+    Some(SetupFault::Unusable(Refusal::Proxy { place, fault }))
+}
+
+static BAD_PROXIES: [(&str, FieldFault); 4] = [
+    ("proxies = ['10.0.0.1', '10.0.0.01', 5]", FieldFault::NotAllowed),
+    ("proxies = ['10.0.0.1', 'localhost']", FieldFault::NotAllowed),
+    ("proxies = ['10.0.0.1', '10.0.0.1:80']", FieldFault::NotAllowed),
+    ("proxies = ['10.0.0.1', 5, '']", FieldFault::OtherKind),
+];
+
+#[test]
+fn the_first_bad_address_of_a_front_is_named(rt: HostRuntime) {
+    for (line, fault) in &BAD_PROXIES {
+        same_for(
+            &rt,
+            line,
+            refusal_with(rt.alloc(), line),
+            bad_proxy(2, *fault),
+        );
+    }
+    same(&rt, refusal_of_proxies(rt.alloc(), 64), None);
+    same(
+        &rt,
+        refusal_of_proxies(rt.alloc(), 65),
+        bad_proxy(65, FieldFault::NotAllowed),
+    );
+}
+
 /// Whether an error shows itself by this text.
 fn shows(alloc: Global, error: Option<SetupFault>, wanted: &str) -> bool {
     match error {
@@ -259,7 +320,7 @@ fn shows(alloc: Global, error: Option<SetupFault>, wanted: &str) -> bool {
     }
 }
 
-static TEXTS: [(&[u8], &str); 4] = [
+static TEXTS: [(&[u8], &str); 5] = [
     (
         b"workers = 4\naddress = '127.0.0.1:0\n",
         "line 2 is not TOML",
@@ -275,6 +336,10 @@ static TEXTS: [(&[u8], &str); 4] = [
     (
         b"address = '127.0.0.1:0'\nmotd = [5]",
         "line 1 of `motd` is of another kind: expected a list of at most 100 texts of at most 1000 bytes without CR and LF",
+    ),
+    (
+        b"address = '127.0.0.1:0'\nproxies = ['10.0.0.1', '::1']",
+        "address 2 of `proxies` is not allowed: expected a list of at most 64 IPv4 addresses, as [\"127.0.0.1\"]",
     ),
 ];
 
