@@ -1,6 +1,7 @@
 -- Lines that are a front's, and lines that are none.
-use Rattle.std.proofs.Common.{◌≡◌, ◌≢◌, ℕ, ◌≤◌, ◌⊎◌, inl, inr, List, [], ◌∷◌, ◌++◌, length, get_or, refl, sym, ap, ◌∙◌, arith, lit<, lit≤, take, drop}
+use Rattle.std.proofs.Common.{◌≡◌, ◌≢◌, ℕ, ◌≤◌, ◌⊎◌, inl, inr, List, [], ◌∷◌, ◌++◌, get_or, refl, ap, ◌∙◌, arith, lit<, lit≤}
 use Rattle.std.specs.Prelude.{codes, reverse, replicate}
+use Rattle.std.specs.Fmt.{digits}
 use Rattle.std.proofs.lemmas.List.{reverse-append}
 use Rattle.address_words.specs.Words.{IsAddress}
 use Rattle.proxy_line.specs.Routes.{IsRoute}
@@ -13,26 +14,27 @@ ended text = text ++ 13 ∷ 10 ∷ []
 
 -- a line of HAProxy
 pub gives_its_source : IsProxyLine (ended (codes "PROXY TCP4 192.168.0.1 10.0.0.255 56324 443")) (Given (192 ∷ 168 ∷ 0 ∷ 1 ∷ []))
+unfolding digits
 gives_its_source =
     let source : IsAddress (codes "192.168.0.1") (192 ∷ 168 ∷ 0 ∷ 1 ∷ []) = (refl, lit< tt, lit< tt, lit< tt, lit< tt) in
     let destination : IsAddress (codes "10.0.0.255") (10 ∷ 0 ∷ 0 ∷ 255 ∷ []) = (refl, lit< tt, lit< tt, lit< tt, lit< tt) in
     let route : IsRoute (codes "192.168.0.1 10.0.0.255 56324 443") (192 ∷ 168 ∷ 0 ∷ 1 ∷ []) =
       (codes "10.0.0.255 56324 443", 10 ∷ 0 ∷ 0 ∷ 255 ∷ [], codes "56324 443", (codes "192.168.0.1", refl, source), (codes "10.0.0.255", refl, destination),
-      (codes "56324", codes "443", refl, (56324, refl, lit< tt), (443, refl, lit< tt))) in
-    (lit≤ tt, codes "PROXY TCP4 192.168.0.1 10.0.0.255 56324 443", (refl, refl), codes "192.168.0.1 10.0.0.255 56324 443", refl, route)
+      (codes "56324", codes "443", refl, (56324, (refl, lit< tt)), (443, (refl, lit< tt)))) in
+    (lit≤ tt, (codes "PROXY TCP4 192.168.0.1 10.0.0.255 56324 443", (refl, refl), (codes "192.168.0.1 10.0.0.255 56324 443", refl, route)))
 
 pub knows_none : IsProxyLine (ended (codes "PROXY UNKNOWN")) OwnAddress
-knows_none = (lit≤ tt, codes "PROXY UNKNOWN", (refl, refl), inl refl)
+knows_none = (lit≤ tt, (codes "PROXY UNKNOWN", (refl, refl), inl refl))
 
 pub knows_none_of_ipv6 : IsProxyLine (ended (codes "PROXY UNKNOWN ffff::1 ffff::2 1 2")) OwnAddress
-knows_none_of_ipv6 = (lit≤ tt, codes "PROXY UNKNOWN ffff::1 ffff::2 1 2", (refl, refl), inr (codes "ffff::1 ffff::2 1 2", refl))
+knows_none_of_ipv6 = (lit≤ tt, (codes "PROXY UNKNOWN ffff::1 ffff::2 1 2", (refl, refl), inr (codes "ffff::1 ffff::2 1 2", refl)))
 
 -- none without a CR
 before_last : (line text : List ℕ) → IsLineOf line text → get_or (reverse line) 1 0 ≡ 13
 before_last line text is = ap (λ l. get_or (reverse l) 1 0) is.0 ∙ ap (λ l. get_or l 1 0) (reverse-append text (13 ∷ 10 ∷ []))
 
 pub wants_a_return : (source : ProxySource) → IsProxyLine (codes "PROXY UNKNOWN" ++ 10 ∷ []) source → ⊥
-wants_a_return source is = let return : ◌≡◌ {A = ℕ} 78 13 = before_last _ is.1 is.2 in omega (arith, return)
+wants_a_return source is = let return : ◌≡◌ {A = ℕ} 78 13 = before_last _ is.1.0 is.1.1 in omega (arith, return)
 
 -- none of more than 107 bytes
 pub has_a_limit : (source : ProxySource) → IsProxyLine (ended (codes "PROXY UNKNOWN " ++ replicate 92 65)) source → ⊥
@@ -53,8 +55,8 @@ module _ (line text : List ℕ) (is : IsLineOf line text) where
 
 pub is_of_no_ipv6 : (source : ProxySource) → IsProxyLine (ended (codes "PROXY TCP6 ::1 ::1 1 2")) source → ⊥
 is_of_no_ipv6 source is =
-    no_other_word _ is.1 is.2 (λ e. omega (arith, e)) (λ e. omega (arith, e)) (λ e. omega (arith, e)) source is.3
+    no_other_word _ is.1.0 is.1.1 (λ e. omega (arith, e)) (λ e. omega (arith, e)) (λ e. omega (arith, e)) source is.1.2
 
 pub ends_its_word : (source : ProxySource) → IsProxyLine (ended (codes "PROXY UNKNOWNx")) source → ⊥
 ends_its_word source is =
-    no_other_word _ is.1 is.2 (λ e. omega (arith, e)) (λ e. omega (arith, e)) (λ e. omega (arith, e)) source is.3
+    no_other_word _ is.1.0 is.1.1 (λ e. omega (arith, e)) (λ e. omega (arith, e)) (λ e. omega (arith, e)) source is.1.2
