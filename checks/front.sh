@@ -11,11 +11,12 @@ command -v openssl > /dev/null || echo "front: there is no openssl, which makes 
 status=0
 said=$(timeout 120 python3 -B -m unittest 2>&1) || status=$?
 if [ "$status" -ne 0 ]; then echo "$said"; fi
-# The last lines are `Ran 19 tests in 2.1s` and `OK`, or `FAILED (failures=1, errors=1, skipped=2)`.
+# The last lines are `Ran 19 tests in 2.1s` and `OK`, or `FAILED (failures=1, errors=1, skipped=2)`; others where it came to no end.
 ran=$(sed -n 's/^Ran \([0-9]*\) test.*/\1/p' <<< "$said")
 count() { sed -n '$ s/.*'"$1"'=\([0-9]*\).*/\1/p' <<< "$said"; }
 failures=$(count failures) errors=$(count errors) skipped=$(count skipped)
 failed=$((${failures:-0} + ${errors:-0}))
-if [ "$status" -ne 0 ] && [ "$failed" -eq 0 ]; then failed=1; fi
-echo "front: $((${ran:-0} - failed - ${skipped:-0})) passed, $failed failed"
+passed=$((${ran:-0} - failed - ${skipped:-0}))
+if [ "$status" -ne 0 ] && { [ "$failed" -eq 0 ] || [ "$passed" -lt 0 ]; }; then passed=0 failed=1; fi
+echo "front: $passed passed, $failed failed"
 [ "$failed" -eq 0 ]
