@@ -56,7 +56,7 @@ made install PREFIX="$top"
 tells 'what was changed stays' diff -r "$room/changed" "$files"
 
 if command -v systemd-analyze > /dev/null; then
-    tells 'the units are good' systemd-analyze verify --man=no "$unit"
+    tells 'the units are good' systemd-analyze verify --man=no "$top"/lib/systemd/system/*.service
     tells 'the server is shut in' systemd-analyze security --offline=true --threshold=20 "$unit" > /dev/null
 else
     echo "package: there is no systemd-analyze, which looks at the units"
