@@ -119,6 +119,8 @@ def move(files, source, target):
 
 
 def main():
+    if not shutil.which("dpkg-deb"):
+        sys.exit("there is no dpkg-deb, which makes the packages: install dpkg")
     os.environ.setdefault("SOURCE_DATE_EPOCH", output("git", "log", "-1", "--format=%ct") or "0")
     with tempfile.TemporaryDirectory() as room:
         server, front = Path(room, "server"), Path(room, "front")
