@@ -9,6 +9,6 @@ shift
 if [ "${1:-}" = serve ]; then export MALLOC_MMAP_THRESHOLD_=${MALLOC_MMAP_THRESHOLD_:-16384}; fi
 if program=$("$root/tools/program.sh" "$name"); then exec "$program" "$@"; fi
 # Without what quick.sh leans on, rt runs the program itself: it shows what that prints once it has ended.
-echo "$name: this toolchain builds no program without a proof; rt try runs it, and shows at its end what it printed" >&2
+echo "$name: rt try runs it, and shows at its end what it printed" >&2
 cd "$root/crates/$name"
 exec rt try --seconds 31536000 -- "$@"
