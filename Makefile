@@ -4,7 +4,7 @@ SETTINGS ?= examples/lobby.toml
 ACCOUNTS ?= examples/accounts.toml
 
 .DEFAULT_GOAL := help
-.PHONY: help play serve setup hash view build test unit fmt check bench memory soak connections counts hostile
+.PHONY: help play serve setup hash view build install uninstall deb test unit fmt check bench memory soak connections counts hostile
 
 help: ## lists the targets
 	@awk -F ':.*## ' '/^[a-z]+:.*## / { printf "  make %-12s %s\n", $$1, $$2 }' Makefile
@@ -26,6 +26,15 @@ view: ## reads the bytes that a client was sent, and shows what it knows then
 
 build: ## proves and builds the programs, optimised, into bin/
 	@tools/build.py
+
+install: ## installs programs, manual pages, files of configuration and units (PREFIX, SYSCONFDIR, DESTDIR)
+	@PREFIX='$(PREFIX)' SYSCONFDIR='$(SYSCONFDIR)' DESTDIR='$(DESTDIR)' packaging/install.sh install
+
+uninstall: ## takes away what install installed, but for files of configuration that were changed
+	@PREFIX='$(PREFIX)' SYSCONFDIR='$(SYSCONFDIR)' DESTDIR='$(DESTDIR)' packaging/install.sh uninstall
+
+deb: ## makes the Debian packages in out/
+	@packaging/deb.py
 
 test: ## the gate: proves everything from nothing, tries wrong bodies, runs all tests
 	@tools/gate.py

@@ -1,7 +1,7 @@
 #!/usr/bin/env bash
-# Runs both programs, as the gate built them, with good and bad arguments and inputs, and compares what they print, what they
-# tell on standard error and their exit status. The files in examples/ are read by serve.sh. Then has lobby_play play a script
-# with more and more memory.
+# Runs the programs, as the gate built them, with good and bad arguments and inputs, and compares what they print, what they
+# tell on standard error and their exit status. The files in examples/ are read by serve.sh. Each program says its version, which is
+# the newest numbered one of CHANGELOG, and how it is used. Then has lobby_play play a script with more and more memory.
 set -euo pipefail
 cd "$(dirname "$0")/.."
 play=crates/lobby_play/out/lobby_play
@@ -36,7 +36,22 @@ expect 1 '' "$usage\n" '' "$main"
 expect 1 '' "$usage\n" 'password\n' "$main" hash more
 expect 1 '' "$usage\n" 'password\n' "$main" Hash
 expect 1 '' "$usage\n" "$(printf 'a%.0s' {1..8193})\n" "$main" hash
+expect 1 '' "$usage\n" '' "$main" --version more
 expect 2 '' 'cannot read input\n' . "$main" hash
+
+version=$(sed -n 's/^## \([0-9][0-9.]*\)$/\1/p' CHANGELOG.md | head -n 1)
+# tells NAME USAGE : it tells its version, and its usage first where it is asked for help.
+tells() {
+    local program=crates/$1/out/$1
+    expect 0 "$1 $version\n" '' '' "$program" --version
+    if [ "$("$program" --help < /dev/null 2>&1 | head -n 1)" = "usage: $2" ]; then passed=$((passed + 1)); return; fi
+    echo "$1 --help does not begin with its usage"
+    failed=$((failed + 1))
+}
+tells lobby_main 'lobby_main serve SETTINGS ACCOUNTS'
+tells lobby_play 'lobby_play < SCRIPT'
+tells lobby_check 'lobby_check SETTINGS ACCOUNTS'
+tells view_show 'view_show [whole|BYTES] < RECEIVED'
 
 greeting='1> TASSERVER 0.38 * 8201 0\n'
 expect 0 '' '' '' "$play"

@@ -11,6 +11,7 @@ import importlib.util
 import os
 import re
 import shutil
+import signal
 import subprocess
 import sys
 import threading
@@ -19,6 +20,8 @@ from pathlib import Path
 
 ROOT = Path(__file__).resolve().parent.parent
 BIN = ROOT / "bin"
+# The memory that a job takes, in kB.
+JOB_MEMORY = 3_000_000
 # Each program with what it is run on once it is built.
 PROGRAMS = {
     "lobby_main": ["hash"],
@@ -36,7 +39,8 @@ def toolchain():
         module = importlib.util.module_from_spec(spec)
         loader.exec_module(module)
         crate = module.rtlib.Crate
-        named = (crate.stamp, crate.below, crate.front_end, module.rtlib.every, module.rtlib.crates_below, module.rtlib.lock)
+        named = [crate.stamp, crate.below, crate.front_end, crate.build_rlib, crate.is_built]
+        named += [module.rtlib.every, module.rtlib.crates_below, module.rtlib.lock]
         return module if all(map(callable, named)) else None
     except (AttributeError, OSError, SyntaxError, TypeError):
         return None
@@ -69,9 +73,33 @@ def sum_once(crate):
     crate.front_end = lambda self: 0
 
 
+def share_processors(crate):
+    """Gives each library as many jobs as it has processors where it begins: much of the time one library is built, for which all others
+    wait."""
+    running, lock, build = [0], threading.Lock(), crate.build_rlib
+    processors = min(len(os.sched_getaffinity(0)), free_memory() // JOB_MEMORY)
+
+    def build_rlib(self, flags, anew):
+        if self.is_built():
+            return 0
+        with lock:
+            running[0] += 1
+            jobs = max(1, processors // running[0])
+        try:
+            status = build(self, ["--jobs", str(jobs)], anew)
+            # Killed, most likely for memory: once more, with one job.
+            return build(self, ["--jobs", "1"], anew) if status == -signal.SIGKILL and jobs > 1 else status
+        finally:
+            with lock:
+                running[0] -= 1
+
+    crate.build_rlib = build_rlib
+
+
 def build_libraries(rt, places):
     """Builds what the programs stand on, and no program."""
     library, known, crates = rt.rtlib, {}, []
+    share_processors(library.Crate)
     library.guarded()
     for name in PROGRAMS:
         folder = str(ROOT / "crates" / name)
@@ -91,7 +119,7 @@ def build_program(rt, name):
     return rt.main(["run", "--", *PROGRAMS[name]])
 
 
-def told(process, count):
+def told(process, names):
     """Says of each library that is done how far the whole is, and keeps all else for the log."""
     begun, done, last = time.monotonic(), 0, []
     with open(BIN / "build.log", "a", encoding="utf-8") as log:
@@ -99,33 +127,37 @@ def told(process, count):
             log.write(line)
             last = (last + [line])[-20:]
             name = re.fullmatch(r"== (\w+)\n", line)
-            if name and name[1] != "summary" and done < count:
+            if name and name[1] in names:
                 done += 1
                 spent = (time.monotonic() - begun) / 60
-                rest = spent / done * (count - done)
-                print(f"{done} of {count}: {name[1]}; {spent:.0f} minutes so far, {rest:.0f} to go at this rate", flush=True)
+                rest = spent / done * (len(names) - done)
+                print(f"{done} of {len(names)}: {name[1]}; {spent:.0f} minutes so far, {rest:.0f} to go at this rate", flush=True)
     if process.wait():
         print("".join(last), end="", flush=True)
     return process.returncode
 
 
+def free_memory():
+    """In kB."""
+    return int(re.search(r"MemAvailable: +(\d+)", Path("/proc/meminfo").read_text())[1])
+
+
 def places():
-    """How many libraries at once: twice the processors, since one that waits for another takes a place too, as far as 3 GB of free memory
-    for each reach."""
-    free = int(re.search(r"MemAvailable: +(\d+)", Path("/proc/meminfo").read_text())[1]) // 3_000_000
-    return str(max(1, min(free, 2 * len(os.sched_getaffinity(0)))))
+    """How many libraries at once: twice the processors, since one that waits for another takes a place too, as far as free memory
+    reaches."""
+    return str(max(1, min(free_memory() // JOB_MEMORY, 2 * len(os.sched_getaffinity(0)))))
 
 
 def started(words, **how):
     return subprocess.Popen(words, stdin=subprocess.DEVNULL, stderr=subprocess.STDOUT, text=True, errors="replace", **how)
 
 
-def libraries(rt, count):
+def libraries(rt, names):
     if rt:
         words = [sys.executable, __file__, "libraries", places()]
-        return told(started(words, stdout=subprocess.PIPE), count)
+        return told(started(words, stdout=subprocess.PIPE), names)
     words = ["rt", "all", "check", "--jobs", places()]
-    return max(told(started(words, stdout=subprocess.PIPE, cwd=ROOT / "crates" / name), count) for name in PROGRAMS)
+    return max(told(started(words, stdout=subprocess.PIPE, cwd=ROOT / "crates" / name), names) for name in PROGRAMS)
 
 
 def programs(rt):
@@ -156,8 +188,8 @@ def main():
     (BIN / "begun").touch()
     (BIN / "build.log").write_text("")
     words = ["awk", "-v", "names=" + " ".join(PROGRAMS), "-f", str(ROOT / "tools/below.awk"), str(ROOT / "crates.txt")]
-    count = len(subprocess.run(words, stdout=subprocess.PIPE, text=True, check=True).stdout.split())
-    return libraries(rt, count) or programs(rt)
+    names = set(subprocess.run(words, stdout=subprocess.PIPE, text=True, check=True).stdout.split())
+    return libraries(rt, names) or programs(rt)
 
 
 if __name__ == "__main__":

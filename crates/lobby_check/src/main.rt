@@ -3,6 +3,20 @@
 
 use std::process::ExitCode;
 
+const HELP: &str = "\
+usage: lobby_check SETTINGS ACCOUNTS
+
+Looks at a server's file of settings and its file of accounts, and says of each what it comes to, or
+what is wrong in it first and what would be right. It starts nothing.
+
+--help     prints this
+--version  prints the version
+
+Exit status: 0 a server can be started by the files, 2 it cannot, or wrong arguments";
+
 fn main(rt: HostRuntime) -> ExitCode {
+    if program_help::answers(&rt, "lobby_check", HELP) {
+        return ExitCode::SUCCESS;
+    }
     ExitCode::from(lobby_files::check(&rt))
 }

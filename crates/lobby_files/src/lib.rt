@@ -1,6 +1,7 @@
 //! The files that a server is started by: a file of settings and a file of accounts, and what people are told of them.
 #![tactic(auto)]
 
+mod burst;
 mod error;
 mod files;
 mod report;

@@ -2,7 +2,9 @@
 
 ghost use Rattle.std.specs.Prelude.{◌≡◌, ◌+◌, ◌*◌, ◌/◌, ◌≤◌, ◌⊎◌};
 
+use crate::burst::{battles_that_fit, longest_burst};
 use crate::files::{accounts_at, settings_at};
+use lobby_model::Settings;
 use std::env;
 use std::rt::{Env, Files};
 
@@ -23,13 +25,13 @@ fn waiting_megabytes(outbox_limit: usize) -> usize
     CLIENTS * (CLIENT_BYTES + outbox_limit) / 1_000_000
 }
 
-/// Says what a file of settings sets the server up to, or why it cannot be used, and whether it can.
-fn check_settings<R: Files + Print + AllocGlobal>(rt: &R, path: &str) -> bool {
+/// Says what a file of settings sets the server up to, or why it cannot be used. The settings where it can.
+fn check_settings<R: Files + Print + AllocGlobal>(rt: &R, path: &str) -> Option<Settings> {
     let setup = match settings_at(rt, path) {
         Ok(setup) => setup,
         Err(error) => {
             let _ = println!(rt; "settings: {error}");
-            return false;
+            return None;
         }
     };
     setup.settings.keep_their_bounds();
@@ -45,20 +47,35 @@ fn check_settings<R: Files + Print + AllocGlobal>(rt: &R, path: &str) -> bool {
     let _ = println!(rt;
         "memory: some {most} MB if {CLIENTS} clients read nothing, and more where buffers have room to spare"
     );
-    true
+    Some(setup.settings)
 }
 
-/// Says how many accounts stand in a file, or why it cannot be used, and whether it can.
-fn check_accounts<R: Files + Print + AllocGlobal>(rt: &R, path: &str) -> bool {
+/// Says how many accounts stand in a file, or why it cannot be used. Their number where it can.
+fn check_accounts<R: Files + Print + AllocGlobal>(rt: &R, path: &str) -> Option<usize> {
     match accounts_at(rt, path) {
         Ok(accounts) => {
             let _ = println!(rt; "accounts: {} can log in", accounts.len());
-            true
+            Some(accounts.len())
         }
         Err(error) => {
             let _ = println!(rt; "accounts: {error}");
-            false
+            None
         }
+    }
+}
+
+/// Says what a login is sent at most, and warns where the limit of an outbox is below that.
+fn check_burst<R: Print>(rt: &R, settings: &Settings, accounts: usize) {
+    let users = accounts.min(CLIENTS);
+    let burst = longest_burst(settings, users);
+    let _ = println!(rt;
+        "login: up to {burst} bytes, if each other user has opened a battle with the longest texts"
+    );
+    if burst > settings.outbox_limit() {
+        let battles = battles_that_fit(settings, users);
+        let _ = println!(rt;
+            "warning: `outbox_limit` is less: who logs in is cut off while more than {battles} such battles are open"
+        );
     }
 }
 
@@ -77,7 +94,13 @@ pub fn check<R: Files + Env + Print + Eprint + AllocGlobal>(rt: &R) -> u8
         let _ = rt.eprintln(USAGE);
         return 2;
     };
-    let can_set_up = check_settings(rt, settings.as_str());
-    let can_log_in = check_accounts(rt, accounts.as_str());
-    if can_set_up && can_log_in { 0 } else { 2 }
+    let settings = check_settings(rt, settings.as_str());
+    let accounts = check_accounts(rt, accounts.as_str());
+    match (&settings, accounts) {
+        (Some(settings), Some(accounts)) => {
+            check_burst(rt, settings, accounts);
+            0
+        }
+        _ => 2,
+    }
 }

@@ -6,6 +6,27 @@ use lobby_script::{PlayFault, play};
 use std::io;
 use std::io::BufWriter;
 use std::process::ExitCode;
+use std::rt::Env;
+
+const HELP: &str = "\
+usage: lobby_play < SCRIPT
+
+Plays a script of connects, bytes and disconnects against a lobby, and shows what each client
+is sent. The script comes on standard input, a step a line:
+
+  account NAME WORD ID RANK [COUNTRY]   who may log in; WORD as `lobby_main hash` prints it
+  motd TEXT, limit N                    a line of the message of the day; the limit of an outbox
+  open N IP                             a client connects, and is called N from here on
+  send N TEXT                           bytes arrive of it; \\n, \\t, \\r, \\\\ and \\xHH are escapes
+  take N, all N                         its next line is taken; all that are whole
+  read N K                              it reads up to K bytes
+  shut N                                it disconnects
+  show N                                shows the lines put for it since it was last shown
+
+--help     prints this
+--version  prints the version
+
+Exit status: 0 played, 1 a bad step, 2 the input failed or is too long, 4 no memory";
 
 fn play_streams<R: Input + Print + AllocGlobal>(rt: &R) -> Result<(), PlayFault> {
     let mut writer = BufWriter::new(rt.alloc(), io::writer(rt)).map_err(|_| PlayFault::Memory)?;
@@ -13,7 +34,10 @@ fn play_streams<R: Input + Print + AllocGlobal>(rt: &R) -> Result<(), PlayFault>
 }
 
 /// The status: 0, or that of the fault, which is told on standard error.
-fn run<R: Input + Print + Eprint + AllocGlobal>(rt: &R) -> u8 {
+fn run<R: Env + Input + Print + Eprint + AllocGlobal>(rt: &R) -> u8 {
+    if program_help::answers(rt, "lobby_play", HELP) {
+        return 0;
+    }
     match play_streams(rt) {
         Ok(()) => 0,
         Err(fault) => {

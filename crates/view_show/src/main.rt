@@ -13,6 +13,19 @@ use std::io::{BufWriter, ErrorKind, Read, Write};
 use std::rt::Env;
 use std::{env, io};
 
+const HELP: &str = "\
+usage: view_show [whole|BYTES] < RECEIVED
+
+Reads the bytes that a client was sent, and shows what it knows behind the last of them: its user, all
+users, battles, channels and its own room. Lines behind one that is too long are not read.
+
+BYTES      folds at most so many bytes at once, 1 to 4096
+whole      folds all at once
+--help     prints this
+--version  prints the version
+
+Exit status: 0 shown, 1 wrong arguments, a fault of reading or printing, or no memory";
+
 /// How many bytes are read at once, at most.
 const PIECE: usize = 4_096;
 
@@ -87,6 +100,9 @@ fn print<R: Print + AllocGlobal>(rt: &R, view: &View) -> Result<(), Error> {
 }
 
 fn run<R: Env + Input + Print + AllocGlobal>(rt: &R) -> Result<(), Error> {
+    if program_help::answers(rt, "view_show", HELP) {
+        return Ok(());
+    }
     let mut view = View::new(rt.alloc());
     let followed = follow(rt, &mut view);
     drop(view);

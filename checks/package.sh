@@ -1,0 +1,133 @@
+#!/usr/bin/env bash
+# package.sh [FOLDER]: installs the programs, as the gate built them, or those of a folder, into a temporary folder, and looks at what is
+# there then. Runs the server by the commands of the installed unit, as systemd would, lets clients log in and talk, and stops it.
+set -euo pipefail
+cd "$(dirname "$0")/.."
+names='lobby_main lobby_check lobby_play view_show'
+passed=0
+failed=0
+server=
+room=$(mktemp -d)
+
+# kill_rest : what systemd does behind a stop: ends the server, and who waits for something to open `stop`.
+kill_rest() {
+    if [ -n "$server" ]; then kill "$server" 2> /dev/null || true; fi
+    if [ -p "$room/run/stop" ]; then : <> "$room/run/stop"; fi
+}
+trap 'kill_rest; rm -rf "$room"' EXIT
+
+mkdir "$room/programs"
+for name in $names; do
+    program=${1:-$PWD/crates/$name/out}/$name
+    [ -x "$program" ] || { echo "there is no $program: make test builds it"; exit 1; }
+    ln -s "$(realpath "$program")" "$room/programs/$name"
+done
+
+# tells WHAT COMMAND.. : counts whether a command does what it is to do.
+tells() {
+    local what=$1
+    shift
+    if "$@"; then passed=$((passed + 1)); else echo "package: $what: it is not so"; failed=$((failed + 1)); fi
+}
+
+# made TARGET [WORD].. : a target of the Makefile with the folder of the programs.
+made() { PROGRAMS=$room/programs make -s "$@" >> "$room/log" 2>&1 || { cat "$room/log"; exit 1; }; }
+
+# Everything lies below DESTDIR, where the programs are told it is without it.
+made install DESTDIR="$room/staged" PREFIX=/usr SYSCONFDIR=/etc
+for file in usr/bin/lobby_main usr/lib/systemd/system/rudderraisin.service etc/rudderraisin/accounts.toml usr/share/doc/rudderraisin/README.md; do
+    tells "$file is installed" test -f "$room/staged/$file"
+done
+tells 'the unit names its program' grep -q ' /usr/bin/lobby_main serve /etc/rudderraisin/lobby.toml ' "$room/staged/usr/lib/systemd/system/rudderraisin.service"
+tells 'only its group reads the accounts' test "$(stat -c %a "$room/staged/etc/rudderraisin/accounts.toml")" = 640
+
+# What an operator changed stays, and goes with nothing else.
+top=$room/top
+made install PREFIX="$top"
+unit=$top/lib/systemd/system/rudderraisin.service
+files=$top/etc/rudderraisin
+tells 'the files are good, and nobody can log in yet' grep -qx 'accounts: 0 can log in' <("$top/bin/lobby_check" "$files/lobby.toml" "$files/accounts.toml")
+port=$(cd checks && python3 -c 'import lobby_server; print(lobby_server.free_port())')
+sed -i "s/^address = .*/address = \"127.0.0.1:$port\"/" "$files/lobby.toml"
+word=$(echo password | "$top/bin/lobby_main" hash)
+for number in {1..200}; do printf '[[account]]\nname = "u%d"\npassword = "%s"\nid = %d\n' "$number" "$word" "$number"; done >> "$files/accounts.toml"
+cp -r "$files" "$room/changed"
+made install PREFIX="$top"
+tells 'what was changed stays' diff -r "$room/changed" "$files"
+
+if command -v systemd-analyze > /dev/null; then
+    tells 'the units are good' systemd-analyze verify --man=no "$top"/lib/systemd/system/*.service
+    tells 'the server is shut in' systemd-analyze security --offline=true --threshold=20 "$unit" > /dev/null
+else
+    echo "package: there is no systemd-analyze, which looks at the units"
+fi
+if command -v pandoc > /dev/null && command -v man > /dev/null; then
+    for page in "$top"/share/man/man?/*; do
+        man -l --warnings "$page" > "$room/page" 2> "$room/warnings" || true
+        tells "${page##*/} is shown without a warning" test -s "$room/page" -a ! -s "$room/warnings"
+    done
+else
+    echo "package: there is no pandoc or no man, which make and show the manual pages"
+fi
+
+# commands KEY : the commands of the unit under this key, a line each.
+commands() { sed -n "s/^$1=//p" "$unit"; }
+
+# start OUTPUT : starts the server as the unit does, in a folder as it gets one.
+start() {
+    local command
+    rm -rf "$room/run"
+    mkdir "$room/run"
+    cd "$room/run"
+    commands ExecStartPre | while read -r command; do eval "$command" >> "$room/log"; done
+    (eval "exec $(commands ExecStart)" > "$1" 2> "$room/errors") &
+    server=$!
+    cd - > /dev/null
+}
+
+# stop : stops it as the unit does, and tells whether it ended in order.
+stop() {
+    local status=0
+    (cd "$room/run" && export MAINPID=$server && eval "timeout 60 $(commands ExecStop)") || true
+    kill_rest
+    wait "$server" || status=$?
+    server=
+    [ "$status" -eq 0 ] && [ ! -s "$room/errors" ]
+}
+
+# answers : whether the server takes a connection and greets it, within 20 seconds.
+answers() {
+    local line
+    for _ in {1..200}; do
+        if (exec {it}<> "/dev/tcp/127.0.0.1/$port" && read -t 10 -r -u "$it" line && [ "$line" = 'TASSERVER 0.38 * 8201 0' ]) 2> /dev/null; then return; fi
+        sleep 0.1
+    done
+    return 1
+}
+
+start "$room/out"
+tells 'the server answers' answers
+checks/readers.py "$port" 200 "$room/talked" &
+crowd=$!
+until [ -e "$room/talked" ] || ! kill -0 "$crowd" 2> /dev/null; do sleep 0.1; done
+tells 'the server stops in order' stop
+tells '200 clients talk, and read to the end' wait "$crowd"
+tells 'it says what its workers did' grep -q '^worker 3: [1-9]' "$room/out"
+
+# Where its output takes nothing, or nobody reads it, it stops all the same.
+start /dev/full
+tells 'the server answers though its output is full' answers
+tells 'it stops though its output is full' stop
+mkfifo "$room/unread"
+cat "$room/unread" > /dev/null &
+reader=$!
+start "$room/unread"
+tells 'the server answers though nobody reads its output' answers
+kill "$reader"
+tells 'it stops though nobody reads its output' stop
+
+made uninstall PREFIX="$top"
+tells 'what was changed is left, and nothing else' test "$(cd "$top" && find . -type f | sort | tr '\n' ' ')" = './etc/rudderraisin/accounts.toml ./etc/rudderraisin/lobby.toml '
+
+echo "package: $passed passed, $failed failed"
+[ "$failed" -eq 0 ]

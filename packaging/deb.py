@@ -1,0 +1,146 @@
+#!/usr/bin/env python3
+"""Makes the Debian packages of the server and of the front, out of what install.sh installs, into out/.
+
+The version is the newest number of CHANGELOG.md; where that has changes behind it, with the time and name of the last commit behind a
+`+`, which Debian takes for newer than the number alone."""
+import gzip
+import hashlib
+import os
+import re
+import shutil
+import subprocess
+import sys
+import tempfile
+import textwrap
+from email.utils import formatdate
+from pathlib import Path
+
+ROOT = Path(__file__).resolve().parent.parent
+SCRIPTS = ROOT / "packaging/deb"
+MAINTAINER = "Rudderraisin maintainers <maintainers@users.noreply.rudderraisin.example>"
+CONFIGURATION = "etc/rudderraisin"
+# What goes into the front's package; all else goes into the server's.
+FRONT = ["usr/bin/springlobby_front", "usr/share/man/man1/springlobby_front.1", "usr/lib/systemd/system/rudderraisin-front.service",
+         f"{CONFIGURATION}/front.conf"]
+
+
+def output(*words):
+    """What a command prints, or nothing where it is not there or fails."""
+    try:
+        return subprocess.run(words, cwd=ROOT, stdout=subprocess.PIPE, stderr=subprocess.DEVNULL, text=True, check=True).stdout.strip()
+    except (OSError, subprocess.CalledProcessError):
+        return ""
+
+
+def changes():
+    """The sections of CHANGELOG.md, the newest first: what each is of, and its text."""
+    parts = re.split(r"(?m)^## (.+)\n", (ROOT / "CHANGELOG.md").read_text(encoding="utf-8"))
+    return [(name, text.strip()) for name, text in zip(parts[1::2], parts[2::2])]
+
+
+def version():
+    """The version of this tree."""
+    number = next(name for name, _ in changes() if name != "Unreleased")
+    if not dict(changes()).get("Unreleased"):
+        return number
+    commit = output("git", "log", "-1", "--format=%cd.%h", "--date=format:%Y%m%d%H%M")
+    return f"{number}+git{commit}" if commit else f"{number}+unreleased"
+
+
+def debian_changes(name):
+    """CHANGELOG.md in the form of Debian, with the time of the commit that put each version in."""
+    entries = []
+    for number, text in changes():
+        if not text:
+            continue
+        shown = version() if number == "Unreleased" else number
+        words = ["log", "-1"] if number == "Unreleased" else ["log", "--reverse", f"-S## {number}"]
+        seconds = (output("git", *words, "--format=%ct", "--", "CHANGELOG.md").splitlines() or ["0"])[0]
+        text = re.sub(r"\[([^\]]*)\]\([^)]*\)", r"\1", text)
+        items = [it for it in re.split(r"(?m)^- |\n\n", text) if it.strip()]
+        lines = [textwrap.fill(" ".join(it.split()), 78, initial_indent="  * ", subsequent_indent="    ") for it in items]
+        entries.append(f"{name} ({shown}) unstable; urgency=medium\n\n" + "\n".join(lines)
+                       + f"\n\n -- {MAINTAINER}  {formatdate(int(seconds))}\n")
+    return "\n".join(entries)
+
+
+def libc(program):
+    """The version of the C library that a program needs."""
+    found = re.findall(rb"GLIBC_(\d+)\.(\d+)", program.read_bytes())
+    return "{}.{}".format(*max((int(a), int(b)) for a, b in found))
+
+
+def packed(path, data):
+    path.parent.mkdir(parents=True, exist_ok=True)
+    path.write_bytes(gzip.compress(data, 9, mtime=0))
+
+
+def fill(stage, name, fields, is_proved):
+    """Adds to the files of a package what Debian wants of one, and makes it."""
+    share = stage / "usr/share"
+    for page in share.glob("man/man?/*"):
+        packed(page.with_name(page.name + ".gz"), page.read_bytes())
+        page.unlink()
+    packed(share / f"doc/{name}/changelog.gz", debian_changes(name).encode())
+    shutil.copy(SCRIPTS / "copyright", share / f"doc/{name}/copyright")
+    overrides = SCRIPTS / f"{name}.overrides"
+    if overrides.exists():
+        (share / "lintian/overrides").mkdir(parents=True)
+        shutil.copy(overrides, share / "lintian/overrides" / name)
+    files = sorted(it for it in stage.rglob("*") if it.is_file())
+    about = (SCRIPTS / f"{name}.description").read_text(encoding="utf-8")
+    if not is_proved:
+        about = about.rstrip("\n") + "\n .\n The programs of this package were built without their proof.\n"
+    control = stage / "DEBIAN"
+    control.mkdir()
+    size = sum((it.stat().st_size + 1023) // 1024 for it in files)
+    head = {"Package": name, "Version": version(), **fields, "Maintainer": MAINTAINER, "Installed-Size": size, "Section": "net",
+            "Priority": "optional"}
+    (control / "control").write_text("".join(f"{key}: {value}\n" for key, value in head.items()) + about, encoding="utf-8")
+    (control / "md5sums").write_text("".join(f"{hashlib.md5(it.read_bytes()).hexdigest()}  {it.relative_to(stage)}\n"
+                                             for it in files if CONFIGURATION not in str(it)))
+    (control / "conffiles").write_text("".join(f"/{it.relative_to(stage)}\n" for it in files if CONFIGURATION in str(it)))
+    for script in SCRIPTS.glob(f"{name}.*"):
+        if script.suffix in (".postinst", ".prerm", ".postrm"):
+            shutil.copy(script, control / script.suffix[1:])
+            (control / script.suffix[1:]).chmod(0o755)
+    for it in [stage, *stage.rglob("*")]:
+        if it.is_dir():
+            it.chmod(0o755)
+    (ROOT / "out").mkdir(exist_ok=True)
+    subprocess.run(["dpkg-deb", "--root-owner-group", "-Zxz", "--build", stage, ROOT / "out"], check=True)
+
+
+def move(files, source, target):
+    for it in files:
+        if (source / it).exists():
+            (target / it).parent.mkdir(parents=True, exist_ok=True)
+            shutil.move(source / it, target / it)
+
+
+def main():
+    if not shutil.which("dpkg-deb"):
+        sys.exit("there is no dpkg-deb, which makes the packages: install dpkg")
+    os.environ.setdefault("SOURCE_DATE_EPOCH", output("git", "log", "-1", "--format=%ct") or "0")
+    with tempfile.TemporaryDirectory() as room:
+        server, front = Path(room, "server"), Path(room, "front")
+        words = {**os.environ, "PREFIX": "/usr", "SYSCONFDIR": "/etc", "DESTDIR": str(server)}
+        told = subprocess.run([ROOT / "packaging/install.sh", "install"], env=words, stdout=subprocess.DEVNULL, stderr=subprocess.PIPE,
+                              text=True)
+        print(told.stderr, end="", file=sys.stderr)
+        if told.returncode:
+            return told.returncode
+        is_proved = "not the proved program" not in told.stderr
+        programs = [server / "usr/bin" / it for it in ("lobby_main", "lobby_check", "lobby_play", "view_show")]
+        if shutil.which("strip"):
+            subprocess.run(["strip", "--strip-unneeded", "--remove-section=.comment", *programs], check=True)
+        move(FRONT, server, front)
+        fill(server, "rudderraisin", {"Architecture": output("dpkg", "--print-architecture"),
+                                      "Depends": f"libc6 (>= {max(map(libc, programs))}), adduser",
+                                      "Suggests": "rudderraisin-front"}, is_proved)
+        fill(front, "rudderraisin-front", {"Architecture": "all", "Depends": "python3 (>= 3.11)", "Suggests": "rudderraisin"}, True)
+    return 0
+
+
+if __name__ == "__main__":
+    sys.exit(main())

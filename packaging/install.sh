@@ -1,0 +1,74 @@
+#!/usr/bin/env bash
+# install.sh install|uninstall : lays the programs, their manual pages, files of configuration and units under $DESTDIR, or takes them
+# away again. $PREFIX is /usr/local if not given, $SYSCONFDIR is $PREFIX/etc. Files of configuration that are there stay as they are.
+# $PROGRAMS is the folder of the programs; without it they are those that tools/program.sh finds or builds.
+set -euo pipefail
+root=$(cd "$(dirname "$0")/.." && pwd)
+prefix=${PREFIX:-/usr/local}
+bin=$prefix/bin
+configuration=${SYSCONFDIR:-$prefix/etc}/rudderraisin
+documents=$prefix/share/doc/rudderraisin
+to=${DESTDIR:-}
+programs='lobby_main lobby_check lobby_play view_show'
+room=$(mktemp -d)
+trap 'rm -rf "$room"' EXIT
+
+# put MODE FILE PLACE : a file and where it is to be.
+put() { install -D -m "$1" "$2" "$room/all$3"; }
+
+# gather : lays out all files but the programs as they are to be.
+gather() {
+    local file
+    # The server is to stop where its unit ends its input, and nobody is to log in by the password of an example.
+    sed 's/^stop_at_input_end = false/stop_at_input_end = true /' "$root/examples/lobby.toml" > "$room/lobby.toml"
+    sed '/^\[\[account/,$ s/^./# &/' "$root/examples/accounts.toml" > "$room/accounts.toml"
+    put 644 "$room/lobby.toml" "$configuration/lobby.toml"
+    put 640 "$room/accounts.toml" "$configuration/accounts.toml"
+    put 644 "$root/packaging/front.conf" "$configuration/front.conf"
+    for file in "$root"/packaging/*.service; do
+        sed "s|@BIN@|$bin|g; s|@CONFIGURATION@|$configuration|g" "$file" > "$room/unit"
+        put 644 "$room/unit" "$prefix/lib/systemd/system/${file##*/}"
+    done
+    for file in "$root"/{README,CHANGELOG}.md "$root"/docs/{OPERATING,PROTOCOL}.md; do put 644 "$file" "$documents/${file##*/}"; done
+    for file in "$root"/examples/*; do put 644 "$file" "$documents/examples/${file##*/}"; done
+    put 755 "$root/front/springlobby_front.py" "$bin/springlobby_front"
+}
+
+# make_pages : lays out the manual pages.
+make_pages() {
+    if ! command -v pandoc > /dev/null; then
+        echo "there is no pandoc, which makes the manual pages: they are left out" >&2
+        return
+    fi
+    "$root/packaging/pages.py" "$room/pages"
+    for page in "$room"/pages/*; do put 644 "$page" "$prefix/share/man/man${page##*.}/${page##*/}"; done
+}
+
+gather
+case ${1:-} in
+install)
+    make_pages
+    for name in $programs; do
+        if [ -n "${PROGRAMS:-}" ]; then program=$PROGRAMS/$name; else program=$("$root/tools/program.sh" "$name"); fi
+        put 755 "$program" "$bin/$name"
+    done
+    (cd "$room/all" && find . -type f | sort) | while read -r file; do
+        place=${file#.}
+        case $place in "$configuration"/*) if [ -e "$to$place" ]; then echo "$to$place stays as it is"; continue; fi ;; esac
+        install -D -m "$(stat -c %a "$room/all$place")" "$room/all$place" "$to$place"
+        echo "$to$place"
+    done
+    ;;
+uninstall)
+    for name in $programs; do rm -f "$to$bin/$name"; done
+    (cd "$room/all" && find . -type f | sort) | while read -r file; do
+        place=${file#.}
+        [ -e "$to$place" ] || continue
+        case $place in "$configuration"/*) if ! cmp -s "$room/all$place" "$to$place"; then echo "$to$place was changed, and stays"; continue; fi ;; esac
+        rm -f "$to$place"
+    done
+    "$root/packaging/pages.py" | while read -r page; do rm -f "$to$prefix/share/man/man${page##*.}/$page"; done
+    for folder in "$configuration" "$documents/examples" "$documents"; do rmdir "$to$folder" 2> /dev/null || true; done
+    ;;
+*) echo "usage: install.sh install|uninstall" >&2; exit 1 ;;
+esac
