@@ -12,9 +12,10 @@ use lobby_lock::{Desk, Held, Pass};
 use lobby_machine::{OpenError, Wakes};
 use lobby_model::WORKERS;
 use lobby_turns::{Conn, Gate, Link, Turn, TurnState, close, serve};
-use mio::Registry;
+use mio::{Registry, Token};
 use std::sync::Wait;
 use std::sync::atomic::{AtomicBool, Ordering};
+use wire_link::Newcomers;
 
 /// What all workers of a server use.
 #[derive(Drop)]
@@ -90,6 +91,36 @@ pub fn turn<R: Wait, G: Gate>(
     connections.end_turn(registry, key, turn.state);
     pass_on(shared, connections, pass.number(), turn.wakes);
     pass
+}
+
+/// What a poll told under this token: a connection's line goes on, and its client is opened where it is whole; what came for one that
+/// lingers is let go; or a connection gets its turn.
+pub fn turn_told<R: Wait, G: Gate>(
+    rt: &R,
+    shared: &Shared<'_, G>,
+    pass: Pass,
+    connections: &mut Connections,
+    newcomers: &mut Newcomers,
+    registry: &Registry,
+    token: Token,
+) -> Pass
+    requires { pass.desk ≡ shared.now.desk.now }
+    ensures desk { result.desk ≡ pass.desk }
+    ensures number { result.worker.number ≡ pass.worker.number }
+{
+    if Newcomers::has(token) {
+        return match newcomers.turn(registry, token) {
+            Some((stream, ip)) => {
+                let arrival = Arrival { stream, ip };
+                adopt(rt, shared, pass, connections, registry, arrival)
+            }
+            None => pass,
+        };
+    }
+    if connections.let_go(registry, token) {
+        return pass;
+    }
+    turn(rt, shared, pass, connections, registry, token.0)
 }
 
 /// Tells the workers whose clients a turn touched: the others by their wakers, this one by its mark.

@@ -230,17 +230,11 @@ impl WorkerLoop {
     {
         let registry = self.poll.registry();
         let connections = &mut self.connections;
+        let newcomers = &mut self.newcomers;
         let mut pass = pass;
         for event in &self.events {
             let token = event.token();
-            if Newcomers::has(token) {
-                if let Some((stream, ip)) = self.newcomers.turn(registry, token) {
-                    let arrival = Arrival { stream, ip };
-                    pass = turns::adopt(rt, shared, pass, connections, registry, arrival);
-                }
-            } else if !connections.let_go(registry, token) {
-                pass = turns::turn(rt, shared, pass, connections, registry, token.0);
-            }
+            pass = turns::turn_told(rt, shared, pass, connections, newcomers, registry, token);
         }
         pass
     }
