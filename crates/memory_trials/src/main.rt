@@ -5,6 +5,7 @@
 #![tactic(auto)]
 
 mod asking;
+mod bounds;
 mod counted;
 mod crowd;
 mod deeds;
@@ -14,10 +15,13 @@ mod links;
 mod lobbies;
 mod notes;
 mod pings;
+mod places;
 mod refuser;
 mod repeats;
 mod scripts;
 mod sessions;
+mod sides;
+mod turns;
 
 use notes::Notes;
 use refuser::Refuser;
@@ -51,7 +55,18 @@ fn try_all<R: Wait + Print + AllocGlobal>(
     pings::try_out(rt, refuser, notes)
 }
 
+/// Whether the argument asks for what memory is asked for and kept.
+fn asks_for_bounds<R: Env + AllocGlobal>(rt: &R) -> bool {
+    match env::args(rt) {
+        Ok(mut words) => words.nth(1).is_some_and(|word| word.as_str() == "bounds"),
+        Err(_) => false,
+    }
+}
+
 fn main(rt: HostRuntime) -> io::Result<()> {
+    if asks_for_bounds(&rt) {
+        return bounds::try_out(&rt);
+    }
     let Some(mut refuser) = chosen(&rt) else {
         return println!(rt;
             "usage: memory_trials [scarce|counted]; or there is no memory to begin with"
