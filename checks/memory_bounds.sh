@@ -1,7 +1,8 @@
 #!/usr/bin/env bash
-# memory_bounds.sh [PROGRAM]: counts what memory a lobby asks for and keeps, by memory_trials as the gate built it, or by another build
-# of it. The program shows each rule behind the most that it allows: growths, bytes asked for, and bytes kept; the library that counts
-# tells how many there were. A part that is answered that memory was refused has no such numbers, and fails.
+# memory_bounds.sh [PROGRAM]: counts what memory a lobby asks for and keeps, by memory_trials as the gate built it, or
+# by another build of it. The program shows each rule behind the most that it allows: growths, bytes asked for, and
+# bytes kept; the library that counts tells how many there were. A part that is answered that memory was refused has no
+# such numbers, and fails.
 set -euo pipefail
 program=$(realpath -m "${1:-$(dirname "$0")/../crates/memory_trials/out/memory_trials}")
 [ -x "$program" ] || { echo "there is no $program: make test builds it"; exit 1; }

@@ -1,16 +1,18 @@
-//! What memory a lobby asks for and keeps where many are told a line. The library checks/refuse_allocation.c counts it; each part of a
-//! script stands beside its rule and the most that this allows, which checks/memory.sh compares with the counts.
+//! What memory a lobby asks for and keeps where many are told a line. The library checks/refuse_allocation.c counts it;
+//! each part of a script stands beside its rule and the most that this allows, which checks/memory_bounds.sh compares
+//! with the counts.
 
-use crate::counted::Counted;
 use crate::crowd::Crowd;
 use crate::deeds::Subject;
 use crate::lobbies::{read_some, say};
 use lobby_machine::Lobby;
+use memory_refuser::counted::Counted;
 use std::alloc::{AllocError, Global};
 use std::io;
 use test_lobby::GREETING;
 
-/// The users of a large crowd: so many that a line to them has more shares than there are places for from event to event, 1,024.
+/// The users of a large crowd: so many that a line to them has more shares than there are places for from event to
+/// event, 1,024.
 const MANY: u32 = 1_100;
 
 /// Those of them who are in the channel, the speaker among them.
@@ -19,8 +21,8 @@ const MEMBERS: usize = MANY as usize - 1;
 /// The users of a small crowd.
 const FEW: u32 = 4;
 
-/// How long a line is as it is told, in bytes: one that is copied, of which a buffer that is kept has room for two, and the shortest that
-/// is shared.
+/// How long a line is as it is told, in bytes: one that is copied, of which a buffer that is kept has room for two, and
+/// the shortest that is shared.
 const SHORT: usize = 1_900;
 
 const LONG: usize = 2_048;
@@ -60,8 +62,8 @@ struct Part {
     kept: usize,
 }
 
-/// A line that is said takes one growth for itself, the text of its request. Where a buffer grows by doubling, four bytes at most are
-/// asked for to each that waits in the end.
+/// A line that is said takes one growth for itself, the text of its request. Where a buffer grows by doubling, four
+/// bytes at most are asked for to each that waits in the end.
 static MANY_PARTS: [Part; 4] = [
     Part {
         rule: "equal rounds of a copied line take no buffer anew",
@@ -78,13 +80,17 @@ static MANY_PARTS: [Part; 4] = [
             Act::Short,
             Act::Short,
             Act::Short,
+            Act::Short,
+            Act::Short,
+            Act::Short,
+            Act::Read(4_096),
             Act::Read(4_096),
             Act::Read(4_096),
         ],
         before: 0,
         times: 1,
-        growths: 3 * (MEMBERS + 1),
-        asked: 4 * 3 * SHORT * (MEMBERS + 1),
+        growths: 6 * (MEMBERS + 1),
+        asked: 4 * 6 * SHORT * (MEMBERS + 1),
         kept: 0,
     },
     Part {
@@ -119,7 +125,7 @@ static FEW_PARTS: [Part; 4] = [
     },
     Part {
         rule: "who always leaves a line unread costs no more than the lines that are said",
-        acts: &[Act::Short, Act::Long, Act::Read(SHORT + LONG)],
+        acts: &[Act::Long, Act::Short, Act::Read(SHORT + LONG)],
         before: 100,
         times: 1_000,
         growths: 4 * 1_000,
@@ -146,8 +152,8 @@ static FEW_PARTS: [Part; 4] = [
     },
 ];
 
-/// A small crowd comes, is told lines, and goes with its lobby: as many growths and bytes as its users take who log in and are told
-/// of one another.
+/// A small crowd comes, is told lines, and goes with its lobby: as many growths and bytes as its users take who log in
+/// and are told of one another.
 static WHOLE: Part = Part {
     rule: "nothing is kept of a lobby that is let go with lines unread",
     acts: &[],
@@ -178,7 +184,8 @@ fn lines_of(alloc: Global) -> Result<Lines, AllocError> {
     Ok(Lines { short, long })
 }
 
-/// One connects, and goes at once, or after its worker took it from its list and it read its greeting. Says whether memory sufficed.
+/// One connects, and goes at once, or after its worker took it from its list and it read its greeting. Says whether
+/// memory sufficed.
 fn come(lobby: &mut Lobby, is_served: bool) -> bool {
     let Ok(client) = lobby.open([10, 0, 0, 2], AWAY) else {
         return false;
@@ -191,7 +198,7 @@ fn come(lobby: &mut Lobby, is_served: bool) -> bool {
 }
 
 /// Does it, and says whether memory sufficed.
-fn act(lobby: &mut Lobby, alloc: Global, lines: &Lines, members: u32, act: Act) -> bool {
+fn act_once(lobby: &mut Lobby, alloc: Global, lines: &Lines, members: u32, act: Act) -> bool {
     match act {
         Act::Short => say(lobby, alloc, 1, &lines.short),
         Act::Long => say(lobby, alloc, 1, &lines.long),
@@ -216,7 +223,7 @@ fn act_all(
 ) -> bool {
     for _ in 0..times {
         for each in acts {
-            if !act(lobby, alloc, lines, members, *each) {
+            if !act_once(lobby, alloc, lines, members, *each) {
                 return false;
             }
         }

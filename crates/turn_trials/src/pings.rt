@@ -1,10 +1,10 @@
 //! Two clients that each send PING, whom one worker serves over links in memory. After each refusal all that a link
 //! was told and all that waits is compared, to the byte.
 
-use crate::notes::Notes;
-use crate::refuser::Refuser;
 use crate::sides::Caller;
 use crate::turns::{CONNECTS, Play, try_anew};
+use memory_refuser::notes::Notes;
+use memory_refuser::refuser::Refuser;
 use std::io;
 use std::sync::Wait;
 use test_lobby::GREETING;

@@ -1,14 +1,15 @@
-//! What is done for two clients whom one worker serves: they connect and get turns. One call is refused memory, and made again.
+//! What is done for two clients whom one worker serves: they connect and get turns. One call is refused memory, and
+//! made again.
 
 ghost use Rattle.std.specs.Prelude.{◌≡◌, IfSome};
 
-use crate::notes::Notes;
 use crate::places;
-use crate::refuser::Refuser;
 use crate::sides::{Caller, Side, Sides};
 use lobby_lock::{Desk, Pass};
 use lobby_machine::OpenError;
 use lobby_turns::{Gate, Link, PIECE, TurnState, serve};
+use memory_refuser::notes::Notes;
+use memory_refuser::refuser::Refuser;
 use std::sync::Wait;
 use test_lobby::new_lobby;
 
@@ -125,8 +126,8 @@ pub fn make_all<R: Wait>(
     (pass, are_done)
 }
 
-/// Whether each was told a front of what it is to be told where the call of this number is next, and was refused or not; and just what
-/// it is to be told by then, if that is known.
+/// Whether each was told a front of what it is to be told where the call of this number is next, and was refused or
+/// not; and just what it is to be told by then, if that is known.
 fn are_right<R: Wait>(
     rt: &R,
     desk: &Desk,
@@ -155,8 +156,8 @@ fn is_right(came: Came, was_refused: bool, sent: usize) -> bool {
     }
 }
 
-/// Makes the calls from this number on, and then the turns once more. Says whether each is done, whether each client was told then what it
-/// is to be told by then, and all in the end.
+/// Makes the calls from this number on, and then the turns once more. Says whether each is done, whether each client
+/// was told then what it is to be told by then, and all in the end.
 fn are_told_at_last<R: Wait>(
     rt: &R,
     desk: &Desk,
@@ -173,17 +174,17 @@ fn are_told_at_last<R: Wait>(
     for number in from..play.calls {
         let next = number.saturating_add(1);
         let (made, is_done) = make_all(rt, desk, pass, sides, number, next);
-        let (seen, are_right) = are_right(rt, desk, made, sides, play, next, false);
+        let (seen, is_so) = are_right(rt, desk, made, sides, play, next, false);
         pass = seen;
-        are_told = are_told && is_done && are_right;
+        are_told = are_told && is_done && is_so;
     }
     let (pass, are_done) = make_all(rt, desk, pass, sides, CONNECTS, play.calls);
-    let (pass, are_right) = are_right(rt, desk, pass, sides, play, play.calls, false);
-    (pass, are_told && are_done && are_right && sides.are_told())
+    let (pass, is_so) = are_right(rt, desk, pass, sides, play, play.calls, false);
+    (pass, are_told && are_done && is_so && sides.are_told())
 }
 
-/// Makes the calls, that of this number as at this step, and says whether memory was refused. Then its answer says so, nobody was told
-/// otherwise than without it, and the next try has all told.
+/// Makes the calls, that of this number as at this step, and says whether memory was refused. Then its answer says so,
+/// nobody was told otherwise than without it, and the next try has all told.
 fn try_one<R: Wait>(
     rt: &R,
     desk: &Desk,
@@ -206,9 +207,9 @@ fn try_one<R: Wait>(
     refuser.release();
     let sent = sides.output().saturating_sub(before);
     let next = number.saturating_add(usize::from(came == Came::Done));
-    let (pass, are_right) = are_right(rt, desk, pass, sides, play, next, came == Came::Short);
+    let (pass, is_so) = are_right(rt, desk, pass, sides, play, next, came == Came::Short);
     let (pass, are_told) = are_told_at_last(rt, desk, pass, sides, play, next);
-    let is_as_wanted = are_done && is_right(came, was_refused, sent) && are_right && are_told;
+    let is_as_wanted = are_done && is_right(came, was_refused, sent) && is_so && are_told;
     if was_refused {
         notes.refuse(is_as_wanted);
     } else {

@@ -21,8 +21,8 @@ enum Place {
     Served,
 }
 
-/// How far the client of this number, 0 or 1, has come where the call of this number is next, and was refused or not. Its turn comes two
-/// calls behind that by which it connects.
+/// How far the client of this number, 0 or 1, has come where the call of this number is next, and was refused or not.
+/// Its turn comes two calls behind that by which it connects.
 fn place_of(client: usize, next: usize, was_refused: bool) -> Place {
     match next.saturating_sub(client) {
         0 => Place::Away,

@@ -1,5 +1,5 @@
-//! A count of growths by the library checks/refuse_allocation.c, which refuses one of them, or says how many there were and what is kept.
-//! It is told by requests that are refused without it too.
+//! A count of growths by the library checks/refuse_allocation.c, which refuses one of them, or says how many there were
+//! and what is kept. It is told by requests that are refused without it too.
 
 use std::alloc::Global;
 

@@ -4,7 +4,8 @@ use lobby_turns::Conn;
 use std::alloc::{AllocError, Global};
 use test_lobby::{MemoryLink, Text, written};
 
-/// What a client sends, of which a read gives at most `piece` bytes, and what it is told, of which a write takes at most `room`.
+/// What a client sends, of which a read gives at most `piece` bytes, and what it is told, of which a write takes at
+/// most `room`.
 pub struct Caller {
     pub sends: Text,
     pub piece: usize,

@@ -2,11 +2,11 @@
 
 ghost use Rattle.std.specs.Prelude.{◌≡◌};
 
-use crate::notes::Notes;
-use crate::refuser::Refuser;
 use crate::sides::{Caller, Side, Sides};
 use crate::turns::{CONNECTS, Came, Play, make, make_all, new_desk, try_anew};
 use lobby_lock::{Desk, Pass};
+use memory_refuser::notes::Notes;
+use memory_refuser::refuser::Refuser;
 use std::io;
 use std::sync::Wait;
 
