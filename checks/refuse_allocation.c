@@ -1,14 +1,16 @@
-/* Refuses allocations of a program, and counts them; for LD_PRELOAD. It includes nothing, so that the toolchain's own compiler builds it.
+/* Refuses allocations of a program, and counts them; for LD_PRELOAD. It includes nothing, so that the toolchain's own
+   compiler builds it.
 
-   The variable REFUSED numbers the allocation that is refused, from the program's start. REFUSED_WHILE names a file: each allocation
-   is refused while it is there. To the file that REFUSED_TOLD names each refusal adds a line: `program`, or `library` where a shared
-   library asked, as the C library does for a thread. Or the program says it itself, by requests that no system grants: one of
-   BEGIN + k bytes is refused, and has the k-th allocation behind it refused, once. One of END bytes has nothing refused from then on;
-   it is granted where an allocation was refused, by a byte alone, and refused where none was.
+   The variable REFUSED numbers the allocation that is refused, from the program's start. REFUSED_WHILE names a file:
+   each allocation is refused while it is there. To the file that REFUSED_TOLD names each refusal adds a line:
+   `program`, or `library` where a shared library asked, as the C library does for a thread. Or the program says it
+   itself, by requests that no system grants: one of BEGIN + k bytes is refused, and has the k-th allocation behind it
+   refused, once. One of END bytes has nothing refused from then on; it is granted where an allocation was refused, by a
+   byte alone, and refused where none was.
 
-   From a request of MARK bytes on, which is refused, growths are counted: allocations, and blocks that are made larger. One of TELL bytes is
-   refused, and a line on standard error says how many there were, how many bytes they asked for, and how many more are held than at the
-   mark, less than 0 where fewer are. With the variable COUNTED this is said at the program's end too, of all since its start. */
+   From a request of MARK bytes on, which is refused, growths are counted: allocations, and blocks that are made larger.
+   One of TELL bytes is refused, and a line on standard error says how many growths there were, how many bytes they asked
+   for, and how many more are held than at the mark, less than 0 where fewer are. */
 typedef __SIZE_TYPE__ size_t;
 
 /* counted.rt has all four. */
@@ -111,10 +113,6 @@ static void *mark(void) {
 static void *tell_counts(void) {
     dprintf(2, "%zu %zu %ld\n", grown, asked, held);
     return refuse();
-}
-
-__attribute__((destructor)) static void end_of_program(void) {
-    if (getenv("COUNTED")) tell_counts();
 }
 
 /* A block that was asked for, with so many bytes, where fewer were held before. */
