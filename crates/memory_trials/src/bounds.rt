@@ -152,8 +152,7 @@ static FEW_PARTS: [Part; 4] = [
     },
 ];
 
-/// A small crowd comes, is told lines, and goes with its lobby: as many growths and bytes as its users take who log in
-/// and are told of one another.
+/// A small crowd comes, is told lines, and goes with its lobby. Only what is kept is bounded closely.
 static WHOLE: Part = Part {
     rule: "nothing is kept of a lobby that is let go with lines unread",
     acts: &[],
@@ -262,7 +261,7 @@ fn show<R: Print>(rt: &R, part: &Part, is_done: bool) -> io::Result<()> {
     }
 }
 
-/// Counts what the parts take of a crowd of so many, which has read all but a line.
+/// Counts what the parts take of a crowd of so many.
 fn count_crowd<const USERS: u32, R: Print + AllocGlobal>(
     rt: &R,
     parts: &[Part],
@@ -272,7 +271,8 @@ fn count_crowd<const USERS: u32, R: Print + AllocGlobal>(
     let Some(mut crowd) = Crowd::<USERS>::new(rt.alloc()) else {
         return println!(rt; "no crowd of {USERS}");
     };
-    let shown = count(rt, &mut crowd.lobby, USERS - 1, parts, counted, lines);
+    let members = USERS.saturating_sub(1);
+    let shown = count(rt, &mut crowd.lobby, members, parts, counted, lines);
     drop(crowd);
     shown
 }
@@ -286,7 +286,7 @@ fn pass_by(alloc: Global, lines: &Lines) -> bool {
         &mut crowd.lobby,
         alloc,
         lines,
-        3,
+        FEW - 1,
         &[Act::Long, Act::Short, Act::Long],
         1,
     );
