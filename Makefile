@@ -52,7 +52,7 @@ bench: ## runs the benchmarks
 	@for figures in bench/*.sh; do echo "== $$figures"; $$figures || exit 1; done
 
 memory: ## refuses each growth in turn to the programs that make test built
-	@checks/memory.sh && checks/refused_memory.sh
+	@checks/memory.sh && checks/memory_bounds.sh && checks/refused_memory.sh
 
 soak: ## many threads at one desk, at full size
 	@checks/soak.sh

@@ -165,6 +165,22 @@ fn no_limit_is_too_great_for_shared_pieces(rt: HostRuntime) {
     play(&rt, rt.alloc(), usize::MAX, &SHARED, 1);
 }
 
+/// One shared piece more behind a copied one.
+static PILED: [Step; 2] = [Step::Puts(b"#"), Step::Shares(b"SAIDo\n")];
+
+#[test]
+fn thousands_of_shared_pieces_are_refused_no_memory(rt: HostRuntime) {
+    play(&rt, rt.alloc(), 65_536, &PILED, 3_000);
+    let mut outbox = Outbox::new(rt.alloc(), 65_536);
+    same_for(
+        &rt,
+        &"at once",
+        outbox.reserve_shared(0, 3_000).is_ok(),
+        true,
+    );
+    drop(outbox);
+}
+
 static CUT: [Step; 6] = [
     Step::Puts(b"PONG\n"),
     Step::IsCut(false),

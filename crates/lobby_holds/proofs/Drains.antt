@@ -1,5 +1,5 @@
 -- What a drain takes.
-use Rattle.std.proofs.Common.{◌≡◌, ◌≢◌, ℕ, zero, suc, ◌+◌, ◌-◌, ◌*◌, ◌<◌, ◌≤◌, true, false, List, [], ◌∷◌, ◌++◌, length, take, drop, min, refl, sym, ap, ◌∙◌, arith, append_assoc, append-nil, length-append, subst, true≢false, inl, inr}
+use Rattle.std.proofs.Common.{◌≡◌, ◌≢◌, ℕ, zero, suc, ◌+◌, ◌-◌, ◌*◌, ◌<◌, ◌≤◌, true, false, List, [], ◌∷◌, ◌++◌, length, take, drop, min, refl, sym, ap, ◌∙◌, arith, append_assoc, append-nil, length-append, subst, inl, inr}
 use Rattle.std.specs.Prelude.{◌||◌, Option, Some, None, if◌then◌else◌, map}
 use Rattle.std.proofs.Math.Bool.{or-false}
 use Rattle.std.proofs.Math.Seq.{take-append-add}
@@ -19,13 +19,13 @@ use Rattle.lobby_machine.specs.Shown.{unread_of, unread_in, is_finished}
 use Rattle.lobby_lock.specs.Passes.{ShownPass, ShownHold, pass_after}
 use Rattle.lobby_holds.specs.declared.holds.Piece.{Piece}
 use Rattle.lobby_holds.specs.Wire.{Wire}
-use Rattle.lobby_holds.specs.Moments.{Moment, moment, drained_for, tells_end, told_end}
+use Rattle.lobby_holds.specs.Moments.{Moment, moment, questioned, questions, drained_for, tells_end, told_end}
 use Rattle.lobby_holds.specs.Snapshot.{Carried, snapshot}
-use Rattle.lobby_holds.specs.Talk.{AreDrains, BeginsWith}
-use Rattle.lobby_holds.specs.Went.{Joined}
+use Rattle.lobby_holds.specs.Talk.{AreDrains}
+use Rattle.lobby_holds.specs.Went.{Joined, Went}
 use Rattle.lobby_holds.specs.Holds.{IsTaken, Stands, Drains, Asks, DrainedInto, DrainedBehind, LetsGo}
 use Rattle.lobby_holds.proofs.Joins.{held_none, joined_none, joined_then, joined_more, stands_more}
-use Rattle.lobby_holds.proofs.Parts.{drained-append, went_drains}
+use Rattle.lobby_holds.proofs.Parts.{questions-append, drained-append, went_drains}
 use Rattle.lobby_holds.proofs.Talks.{are_drains-append, told_end-append, dry_behind}
 
 from_one : (n : ℕ) (o : Option Client) → taken_from n o ≡ take n (unread_in o)
@@ -58,6 +58,7 @@ drained_behind p q c n into before after piece some d is = record {
   talk = d.talk;
   joined = d.joined;
   own = d.own;
+  no_question = d.no_question some;
   bytes = is ∙ ap (λ l. before ++ l) d.bytes;
   finished_is = d.finished_is;
   dry_is = λ dry. d.dry_is dry some;
@@ -71,6 +72,7 @@ drained_further p q r c before between after first rest goes_on h k = record {
   talk = h.talk ++ k.talk;
   joined = joined_then p q r h.talk k.talk h.joined k.joined;
   own = are_drains-append c h.talk k.talk h.own k.own;
+  no_question = questions-append h.talk k.talk ∙ ap (λ l. l ++ questions k.talk) h.no_question ∙ k.no_question;
   bytes = k.bytes ∙ ap (λ l. l ++ drained_for c k.talk) h.bytes ∙ append_assoc before _ _ ∙ ap (λ l. before ++ l) (sym (drained-append c h.talk k.talk));
   finished_is = told_end-append h.talk k.talk ∙ ap (λ b. b || told_end k.talk) (h.finished_is ∙ goes_on) ∙ k.finished_is;
   dry_is = λ e. dry_behind c h.talk k.talk (k.dry_is e);
@@ -88,12 +90,6 @@ talk_length p q t joined =
 hold_length : (k : ShownHold) (q : ShownPass) → q ≡ pass_after k → length q.worker.mine ≡ length k.pass.worker.mine + length k.events
 hold_length k q is = ap (λ (x : ShownPass). length x.worker.mine) is ∙ length-append k.pass.worker.mine k.events
 
--- the whole hold, from the take to the give, makes as many events as it has
-pub made_few : (p q : ShownPass) (h k : ShownHold) (n : ℕ) → IsTaken p h → h.events ≡ [] → k.pass ≡ h.pass → length k.events ≤ length h.events + n → q ≡ pass_after k
-    → length q.worker.mine ≤ length p.worker.mine + n
-made_few p q h k n taken fresh still few is =
-    omega (arith, hold_length k q is, ap (λ (x : ShownPass). length x.worker.mine) still, ap (λ (x : ShownPass). length x.worker.mine) taken.pass_is, ap length fresh, few)
-
 -- the whole hold, from the take to the give, for a connection that had nothing to write
 pub drains_held : (old new : Carried) (wire : Wire) (p q : ShownPass) (h k : ShownHold) (c : ℕ) (before after : List ℕ) (piece : Piece) → IsTaken p h → q ≡ pass_after k
     → h.events ≡ [] → k.pass ≡ h.pass → length k.events ≤ 8
@@ -108,6 +104,7 @@ drains_held old new wire p q h k c before after piece taken is fresh still few s
           (joined_then p (pass_after h) q [] e.talk (held_none p (pass_after h) h h taken refl refl) e.joined);
       own = e.own;
       few = omega (arith, talk_length (pass_after h) q e.talk e.joined, hold_length k q is, length-append h.pass.worker.mine h.events, ap length fresh, ap (λ (x : ShownPass). length x.worker.mine) still, few);
+      no_question = e.no_question;
       finished_is = e.finished_is;
       dry_is = e.dry_is;
     }
@@ -123,20 +120,17 @@ take_none n xs few =
 
 -- asked with an empty slice
 pub asks : (conn : Carried) (wire : Wire) (p q : ShownPass) (c : ℕ) (into : List ℕ) (piece : Piece) → c ≡ conn.session.client
-    → DrainedInto p q c 0 into piece → length q.worker.mine ≤ length p.worker.mine + 2 → Asks (snapshot conn wire p) (snapshot conn wire q) piece.finished
-asks conn wire p q c into piece same d few =
+    → DrainedInto p q c 0 into piece → Asks (snapshot conn wire p) (snapshot conn wire q) piece.finished
+asks conn wire p q c into piece same d =
     let e : DrainedInto p q conn.session.client 0 into piece = subst (λ (x : ℕ). DrainedInto p q x 0 into piece) same d in
     let nothing : drained_for conn.session.client e.talk ≡ [] = sym e.bytes ∙ take_none piece.count into e.within in
+    let question : Moment = moment e.begins.0 (event.Drain conn.session.client 0) in
+    let alone : e.talk ≡ question ∷ [] = e.begins.2 ∙ ap (λ l. question ∷ l) (e.once refl) in
     record {
-      drains = record {
-        talk = e.talk;
-        went = went_drains conn conn wire p q e.talk e.own refl refl (sym (append-nil conn.unwritten) ∙ ap (λ l. conn.unwritten ++ l) (sym nothing)) e.joined;
-        own = e.own;
-        few = omega (arith, talk_length p q e.talk e.joined, few);
-        finished_is = e.finished_is;
-        dry_is = λ e. absurd (true≢false (sym e));
-      };
-      begins = e.begins;
+      met = e.begins.0;
+      went = subst (λ (t : List Moment). Went (snapshot conn wire p) (snapshot conn wire q) t) alone
+          (went_drains conn conn wire p q e.talk e.own refl refl (sym (append-nil conn.unwritten) ∙ ap (λ l. conn.unwritten ++ l) (sym nothing)) e.joined);
+      finished_is = sym (or-false (tells_end e.begins.0 (event.Drain conn.session.client 0))) ∙ ap told_end (sym alone) ∙ e.finished_is;
     }
 
 drained_all : (n : ℕ) (o : Option Client) → length (unread_in o) ≤ n → unread_in (option_map (drained n) o) ≡ []
@@ -155,16 +149,23 @@ none_left s c n count count_is less =
 pub some_came : (count : ℕ) → count ≢ 0 → 0 < count
 some_came count some = omega (arith, some)
 
+-- a drain of some bytes asks nothing
+for_bytes : (c n : ℕ) → 0 < n → questioned (event.Drain c n) ≡ []
+for_bytes c zero some = absurd (omega (arith, some))
+for_bytes c (suc n) some = refl
+
 -- a drain of a hold that goes on
-pub drained_once : (h k : ShownHold) (c n : ℕ) (into rest : List ℕ) (piece : Piece) → Stands h → k ≡ record h { lobby = k.lobby; events = h.events ++ event.Drain c n ∷ [] }
+pub drained_once : (h k : ShownHold) (c n : ℕ) (into rest : List ℕ) (piece : Piece) → n ≤ 4096 → Stands h → k ≡ record h { lobby = k.lobby; events = h.events ++ event.Drain c n ∷ [] }
     → k.lobby.plain ≡ next h.lobby.plain (event.Drain c n) → piece.count ≡ min (length (unread_of h.lobby.plain c)) n
     → into ≡ take piece.count (unread_of h.lobby.plain c) ++ rest → piece.finished ≡ is_finished k.lobby.plain c → (piece.dry ≡ true → piece.count ≡ 0) → (piece.dry ≡ false → 0 < piece.count)
     → DrainedInto (pass_after h) (pass_after k) c n into piece
-drained_once h k c n into rest piece stands one goes count given finished dry came = record {
+drained_once h k c n into rest piece small stands one goes count given finished dry came = record {
   talk = moment h.lobby.plain (event.Drain c n) ∷ [];
   joined = joined_more h k (event.Drain c n) stands one;
-  own = (refl, tt);
+  own = ((refl, small), tt);
   begins = (h.lobby.plain, [], refl);
+  once = λ _. refl;
+  no_question = λ some. ap (λ l. l ++ []) (for_bytes c n some);
   within = omega (arith, count);
   few = few_came h.lobby.plain c n piece.count into rest count given;
   bytes = bytes ∙ sym (append-nil (taken_by h.lobby.plain (event.Drain c n) c));
@@ -193,6 +194,8 @@ drained_twice p q r c n m front back tail first rest both h k goes_on some lengt
   joined = joined_then p q r h.talk k.talk h.joined k.joined;
   own = are_drains-append c h.talk k.talk h.own k.own;
   begins = (h.begins.0, h.begins.1 ++ k.talk, ap (λ l. l ++ k.talk) h.begins.2);
+  once = λ none. absurd (omega (arith, none, lengths, some));
+  no_question = λ asks. questions-append h.talk k.talk ∙ ap (λ l. l ++ questions k.talk) (h.no_question asks) ∙ k.no_question some;
   within = omega (arith, count, k.within, lengths);
   few = omega (arith, count, k.few, length-append (take first.count front) (back ++ tail), length-append back tail, long);
   bytes = ap (λ x. take x (take first.count front ++ (back ++ tail))) count
@@ -218,6 +221,8 @@ drained_held p q h k c n into piece taken is d =
       joined = joined_then p (pass_after h) (pass_after k) [] d.talk (held_none p (pass_after h) h h taken refl refl) d.joined;
       own = d.own;
       begins = d.begins;
+      once = d.once;
+      no_question = d.no_question;
       within = d.within;
       few = d.few;
       bytes = d.bytes;

@@ -1,6 +1,7 @@
 pub mod Moments
 pub mod Joins
 pub mod Lines
+pub mod Nexts
 pub mod Parts
 pub mod Drains
 pub mod Talks

@@ -14,7 +14,7 @@ use Rattle.client_session.specs.OneSession.{IsNextOf}
 use Rattle.lobby_holds.specs.declared.link.Sent.{Sent}
 use Rattle.lobby_holds.specs.declared.link.Sent.TheVariants as sent
 use Rattle.lobby_holds.specs.Wire.{Wire, and_more, sent_count}
-use Rattle.lobby_holds.specs.Moments.{Moment, moment, asked, requests, drained_for}
+use Rattle.lobby_holds.specs.Moments.{Moment, moment, asked, requests, questioned, questions, drained_for}
 use Rattle.lobby_holds.specs.Snapshot.{Carried, Snapshot, snapshot, Carries}
 use Rattle.lobby_holds.specs.Talk.{AreDrains}
 use Rattle.lobby_holds.specs.Went.{Joined, Went, AreNext}
@@ -27,6 +27,9 @@ same_carries at f g m n d e p q r c = subst (λ (x : List ℕ × (ℕ × List �
 
 pub requests-append : (t u : List Moment) → requests (t ++ u) ≡ requests t ++ requests u
 requests-append t u = flat_map-append (λ (m : Moment). asked m.event) t u
+
+pub questions-append : (t u : List Moment) → questions (t ++ u) ≡ questions t ++ questions u
+questions-append t u = flat_map-append (λ (m : Moment). questioned m.event) t u
 
 pub drained-append : (c : ℕ) (t u : List Moment) → drained_for c (t ++ u) ≡ drained_for c t ++ drained_for c u
 drained-append c t u = flat_map-append (λ (m : Moment). taken_by m.met m.event c) t u
@@ -94,7 +97,11 @@ went_fed old new wire pass client fed same takes =
       },
     ))
 
-more_twice : (o : Option (List ℕ)) (xs ys : List ℕ) → and_more (and_more o xs) ys ≡ and_more o (xs ++ ys)
+pub more_none : (o : Option (List ℕ)) → o ≡ and_more o []
+more_none None = refl
+more_none (Some w) = ap (λ l. Some l) (sym (append-nil w))
+
+pub more_twice : (o : Option (List ℕ)) (xs ys : List ℕ) → and_more (and_more o xs) ys ≡ and_more o (xs ++ ys)
 more_twice None xs ys = refl
 more_twice (Some w) xs ys = ap (λ l. Some l) (append_assoc w xs ys)
 

@@ -1,5 +1,5 @@
 -- Laws of what a worker does for one client.
-use Rattle.std.proofs.Common.{◌≡◌, ℕ, true, false, List, [], ◌∷◌, ◌++◌, refl, sym, ap, ◌∙◌, subst, append_assoc}
+use Rattle.std.proofs.Common.{◌≡◌, ℕ, zero, suc, ◌+◌, ◌≤◌, true, false, List, [], ◌∷◌, ◌++◌, length, refl, sym, ap, ◌∙◌, subst, arith, append_assoc, length-append}
 use Rattle.std.proofs.Math.Bool.{or-false, or-true}
 use Rattle.std.proofs.lemmas.List.Folds.{list_any-append}
 use Rattle.std.specs.Prelude.{◌||◌, Result, Ok, Err, IfOk, OnErr}
@@ -8,7 +8,7 @@ use Rattle.lobby_model.specs.declared.event.Event.TheVariants as event
 use Rattle.lobby_model.specs.State.{State}
 use Rattle.lobby_model.specs.Touched.{touches}
 use Rattle.lobby_model.proofs.Quiet.{quiet_touches}
-use Rattle.lobby_holds.specs.Moments.{Moment, moment, asked, requests, touched, tells_end, told_end}
+use Rattle.lobby_holds.specs.Moments.{Moment, moment, asked, requests, questioned, questions, touched, tells_end, told_end}
 use Rattle.lobby_holds.specs.Talk.{IsDrain, IsTalk, AreDrains, AreTalk, EndsDry}
 
 pub are_talk-append : (c : ℕ) (t u : List Moment) → AreTalk c t → AreTalk c u → AreTalk c (t ++ u)
@@ -39,6 +39,26 @@ drain_asks c (event.Shut d) h = absurd h
 pub drains_ask : (c : ℕ) (t : List Moment) → AreDrains c t → requests t ≡ []
 drains_ask c [] h = refl
 drains_ask c (m ∷ t) h = ap (λ l. l ++ requests t) (drain_asks c m.event h.0) ∙ drains_ask c t h.1
+
+one_each : (e : Event) → length (asked e) + length (questioned e) ≤ 1
+one_each (event.Say c request) = omega arith
+one_each (event.Drain c zero) = omega arith
+one_each (event.Drain c (suc n)) = omega arith
+one_each (event.Open ip home) = omega arith
+one_each (event.Shut c) = omega arith
+
+no_more : (t : List Moment) → length (requests t) + length (questions t) ≤ length t
+no_more [] = omega arith
+no_more (m ∷ t) =
+    omega (arith, one_each m.event, no_more t, length-append (asked m.event) (requests t), length-append (questioned m.event) (questions t))
+
+none_of : (xs : List ℕ) → length xs ≤ 0 → xs ≡ []
+none_of [] few = refl
+none_of (x ∷ xs) few = absurd (omega (arith, few))
+
+-- who only says requests to the lobby asks nothing
+pub only_requests : (t : List Moment) → length t ≡ length (requests t) → questions t ≡ []
+only_requests t only = none_of (questions t) (omega (arith, no_more t, only))
 
 drain_touches : (c : ℕ) (s : State) (e : Event) (home : ℕ) → IsDrain c e → touches s e home ≡ false
 drain_touches c s (event.Drain d n) home h = quiet_touches s (event.Drain d n) home (λ d. refl)

@@ -1,6 +1,7 @@
 -- What a hold of a turn did.
 use Rattle.std.specs.Prelude.{◌≡◌, ◌⊎◌, ℕ, ◌<◌, ◌≤◌, Bool, true, false, List, [], ◌∷◌, ◌++◌, length, take, Some}
 use Rattle.lobby_model.specs.declared.event.Event.{Event}
+use Rattle.lobby_model.specs.declared.event.Event.TheVariants as event
 use Rattle.lobby_model.specs.State.{State}
 use Rattle.lobby_post.specs.Mask.{has_home}
 use Rattle.lobby_post.specs.Mail.{IsWakes}
@@ -11,9 +12,10 @@ use Rattle.lobby_lock.specs.Passes.{ShownPass, ShownHold, lobby_after}
 use Rattle.client_session.specs.Serving.{Serving}
 use Rattle.client_session.specs.declared.session.Next.TheVariants.{Nothing, Spoilt}
 use Rattle.client_session.specs.OneSession.{HasLineNext, IsNextOf}
+use Rattle.client_session.specs.Sessions.{Heard, IsNext}
 use Rattle.lobby_holds.specs.declared.holds.Said.{Said}
 use Rattle.lobby_holds.specs.declared.holds.Piece.{Piece}
-use Rattle.lobby_holds.specs.Moments.{Moment, moment, requests, drained_for, touched, told_end}
+use Rattle.lobby_holds.specs.Moments.{Moment, moment, requests, questions, drained_for, touched, tells_end, told_end}
 use Rattle.lobby_holds.specs.Snapshot.{Snapshot}
 use Rattle.lobby_holds.specs.Talk.{AreDrains, AreTalk, BeginsWith, EndsDry}
 use Rattle.lobby_holds.specs.Went.{Joined, Went}
@@ -57,6 +59,10 @@ pub record SaysLines (old new : Snapshot) (lines wakes : ℕ) : Type 0 where
 abbrev pub IsWithin : ℕ → Said → Type 0
 IsWithin most said = (said.lines ≤ most) × (said.lines ≤ 32) × (said.refused ≡ false → 1 ≤ said.lines)
 
+-- no spoilt place is next: a whole line stands before it, or there is none
+abbrev pub HasNoSpoiltNext : Serving → Type 0
+HasNoSpoiltNext session = (bytes : List ℕ) (accepted : ℕ) → Heard session.framed bytes accepted → IsNext bytes accepted Spoilt → ⊥
+
 -- no whole line is next
 abbrev pub HasNoLineNext : Serving → Type 0
 HasNoLineNext session = IsNextOf (Some session) Nothing ⊎ IsNextOf (Some session) Spoilt
@@ -69,20 +75,22 @@ pub data StopsAt (most : ℕ) (session : Serving) (said : Said) : Type 0 where
   none_left : said.refused ≡ false → HasNoLineNext session → StopsAt most session said
   full : said.refused ≡ false → said.lines ≡ 32 → StopsAt most session said
 
--- it drained for its client, eight times at most: whether nothing will ever come of it; where it is dry, the last drain asked for some
--- bytes and gave none
+-- it drained for its client, eight times at most and never into an empty slice: whether nothing will ever come of it; where it is dry,
+-- the last drain gave nothing
 pub record Drains (old new : Snapshot) (finished dry : Bool) : Type 0 where
   pub talk : List Moment
   pub went : Went old new talk
   pub own : AreDrains old.conn.session.client talk
   pub few : length talk ≤ 8
+  pub no_question : questions talk ≡ []
   pub finished_is : told_end talk ≡ finished
   pub dry_is : dry ≡ true → EndsDry old.conn.session.client talk
 
--- it drained into an empty slice, which tells whether nothing will ever come of its client
+-- it drained into an empty slice and did nothing else, which tells whether nothing will ever come of its client
 pub record Asks (old new : Snapshot) (finished : Bool) : Type 0 where
-  pub drains : Drains old new finished false
-  pub begins : BeginsWith old.conn.session.client 0 drains.talk
+  pub met : State
+  pub went : Went old new (moment met (event.Drain old.conn.session.client 0) ∷ [])
+  pub finished_is : tells_end met (event.Drain old.conn.session.client 0) ≡ finished
 
 -- nothing waits unread for client c, in the plain lobby after all that the pass has seen
 abbrev pub HasNoneFor : ℕ → ShownPass → Type 0
@@ -94,6 +102,8 @@ pub record DrainedInto (old new : ShownPass) (c n : ℕ) (into : List ℕ) (piec
   pub joined : Joined old new talk
   pub own : AreDrains c talk
   pub begins : BeginsWith c n talk
+  pub once : n ≡ 0 → begins.1 ≡ []
+  pub no_question : 0 < n → questions talk ≡ []
   pub within : piece.count ≤ n
   pub few : piece.count ≤ length into
   pub bytes : take piece.count into ≡ drained_for c talk
@@ -107,6 +117,7 @@ pub record DrainedBehind (old new : ShownPass) (c : ℕ) (before after : List �
   pub talk : List Moment
   pub joined : Joined old new talk
   pub own : AreDrains c talk
+  pub no_question : questions talk ≡ []
   pub bytes : after ≡ before ++ drained_for c talk
   pub finished_is : told_end talk ≡ piece.finished
   pub dry_is : piece.dry ≡ true → EndsDry c talk

@@ -1,5 +1,5 @@
 -- What a worker did in a part of the history: its events, each with the plain lobby that it met.
-use Rattle.std.specs.Prelude.{ℕ, Bool, false, ◌==◌, if◌then◌else◌, List, [], ◌∷◌, flat_map}
+use Rattle.std.specs.Prelude.{ℕ, zero, suc, Bool, false, ◌==◌, if◌then◌else◌, List, [], ◌∷◌, flat_map}
 use Rattle.std.specs.List.{list_any}
 use Rattle.command_forms.specs.declared.command.Request.{Request}
 use Rattle.lobby_model.specs.declared.event.Event.{Event}
@@ -32,6 +32,17 @@ asked (event.Drain c n) = []
 
 abbrev pub requests : List Moment → List Request
 requests turn = flat_map (λ m. asked m.event) turn
+
+-- the clients for whom it drained into an empty slice, which asks whether anything will ever come of them
+abbrev pub questioned : Event → List ℕ
+questioned (event.Drain c zero) = c ∷ []
+questioned (event.Drain c (suc n)) = []
+questioned (event.Open ip home) = []
+questioned (event.Say c request) = []
+questioned (event.Shut c) = []
+
+abbrev pub questions : List Moment → List ℕ
+questions turn = flat_map (λ m. questioned m.event) turn
 
 -- the bytes that were drained for client c
 abbrev pub drained_for : ℕ → List Moment → List ℕ

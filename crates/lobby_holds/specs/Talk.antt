@@ -1,22 +1,22 @@
 -- What a worker does for one client as long as it does not shut it.
-use Rattle.std.specs.Prelude.{◌≡◌, ℕ, ◌<◌, List, [], ◌∷◌, ◌++◌}
+use Rattle.std.specs.Prelude.{◌≡◌, ℕ, ◌<◌, ◌≤◌, List, [], ◌∷◌, ◌++◌}
 use Rattle.lobby_model.specs.declared.event.Event.{Event}
 use Rattle.lobby_model.specs.declared.event.Event.TheVariants as event
 use Rattle.lobby_model.specs.State.{State}
 use Rattle.lobby_model.specs.Next.{taken_by}
 use Rattle.lobby_holds.specs.Moments.{Moment, moment}
 
--- it drains bytes for client c
+-- it drains bytes for client c, 4,096 at most
 abbrev pub IsDrain : ℕ → Event → Type 0
-IsDrain c (event.Drain d n) = d ≡ c
+IsDrain c (event.Drain d n) = (d ≡ c) × (n ≤ 4096)
 IsDrain c (event.Say d request) = ⊥
 IsDrain c (event.Open ip home) = ⊥
 IsDrain c (event.Shut d) = ⊥
 
--- it says a request of client c to the lobby, or drains bytes for it
+-- it says a request of client c to the lobby, or drains bytes for it, 4,096 at most
 abbrev pub IsTalk : ℕ → Event → Type 0
 IsTalk c (event.Say d request) = d ≡ c
-IsTalk c (event.Drain d n) = d ≡ c
+IsTalk c (event.Drain d n) = (d ≡ c) × (n ≤ 4096)
 IsTalk c (event.Open ip home) = ⊥
 IsTalk c (event.Shut d) = ⊥
 

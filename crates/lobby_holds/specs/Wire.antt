@@ -1,5 +1,5 @@
 -- What a link shows of its calls.
-use Rattle.std.specs.Prelude.{ℕ, ◌-◌, ◌<◌, ◌≤◌, ◌^◌, List, [], ◌++◌, Option, Some, None}
+use Rattle.std.specs.Prelude.{◌≡◌, ℕ, ◌-◌, ◌<◌, ◌≤◌, ◌^◌, List, [], ◌++◌, length, Option, Some, None}
 use Rattle.std.specs.Option.{option_map}
 use Rattle.lobby_holds.specs.declared.link.Got.{Got}
 use Rattle.lobby_holds.specs.declared.link.Got.TheVariants as got
@@ -37,6 +37,12 @@ sent_count sent.Fault = 0
 -- bytes and some more behind them, where they are written
 abbrev pub and_more : Option (List ℕ) → List ℕ → Option (List ℕ)
 and_more written more = option_map (λ bytes. bytes ++ more) written
+
+-- some bytes were read, so many at most, where they are told
+pub record ReadsSome (old new : Wire) (most : ℕ) : Type 0 where
+  pub more : List ℕ
+  pub read : new.read ≡ and_more old.read more
+  pub few : length more ≤ most
 
 -- each count may rise by one
 pub record MayGoOn (wire : Wire) : Type 0 where

@@ -1,12 +1,14 @@
 //! The connection of a client.
 
-ghost use Rattle.std.specs.Prelude.{◌≡◌, ◌≢◌, ◌↔◌, ◌+◌, ◌≤◌, ℕ, List, [], ◌++◌, length, drop, OnOk, OnErr, IfOk, IsTrue, Some};
+ghost use Rattle.std.specs.Prelude.{◌≡◌, ◌≢◌, ◌↔◌, ◌+◌, ◌≤◌, ℕ, List, [], ◌++◌, length, drop, OnOk, OnErr, IfOk, IsTrue, Some, true, false};
 ghost use Rattle.lobby_lock.specs.Passes.{ShownPass};
+ghost use Rattle.client_session.specs.declared.session.Next.TheVariants.{Spoilt};
 ghost use Rattle.client_session.specs.OneSession.{Accepted, HasLineNext, IsNextOf};
 ghost use Rattle.client_session.specs.Sessions.{Heard, KeepsKinds};
-ghost use Rattle.lobby_holds.specs.Wire.{Wire, MayGoOn, got_count};
+ghost use Rattle.lobby_holds.specs.Wire.{Wire, ReadsSome, MayGoOn, got_count};
 ghost use Rattle.lobby_holds.specs.Snapshot.{snapshot, Carries};
 ghost use Rattle.lobby_holds.specs.Went.{Went};
+ghost use Rattle.lobby_holds.specs.Holds.{HasNoSpoiltNext};
 
 use crate::link::{Got, Link};
 use byte_queue::ByteQueue;
@@ -73,6 +75,17 @@ impl Conn {
         self.session.next_request()
     }
 
+    /// Whether a spoilt place is next. It reads no request and takes no memory.
+    pub fn is_spoilt_next(&self) -> bool
+        ensures spoilt { result ≡ true → IsNextOf (Some self.now.session) Spoilt }
+        ensures sound { result ≡ false → HasNoSpoiltNext self.now.session }
+    {
+        if self.session.has_line() {
+            return false;
+        }
+        self.session.is_ready()
+    }
+
     /// What was drained and not yet written.
     pub fn rest(&self) -> &[u8]
         ensures { result.now ≡ self.now.unwritten }
@@ -104,12 +117,12 @@ impl Conn {
         self.unwritten.release(0);
     }
 
-    /// Feeds what was read and not yet fed. Where memory is refused, nothing changes.
+    /// Feeds what was read and not yet fed. Where memory is refused, nothing changes, and no spoilt place is next.
     pub fn feed(&mut self) -> Result<(), AllocError>
         ensures went { OnOk result ((wire : Wire) (pass : ShownPass) → Went (snapshot self.old wire pass) (snapshot self.new wire pass) []) }
         ensures fed { OnOk result (self.new.unfed ≡ []) }
         ensures unwritten { self.new.unwritten ≡ self.old.unwritten }
-        ensures err { OnErr result ((self.new ≡ self.old) × (self.old.unfed ≢ [])) }
+        ensures err { OnErr result ((self.new ≡ self.old) × (self.old.unfed ≢ []) × HasNoSpoiltNext self.old.session) }
     {
         if self.unfed.is_empty() {
             return Ok(());
@@ -124,6 +137,7 @@ impl Conn {
         requires fed { self.old.unfed ≡ [] }
         requires wire { MayGoOn (L.wire link.old) }
         ensures went { (pass : ShownPass) → Went (snapshot self.old (L.wire link.old) pass) (snapshot self.new (L.wire link.new) pass) [] }
+        ensures piece { ReadsSome (L.wire link.old) (L.wire link.new) PIECE }
         ensures session { self.new.session ≡ self.old.session }
         ensures unwritten { self.new.unwritten ≡ self.old.unwritten }
         ensures none { IfOk result (λ got. got_count got ≡ 0 → self.new ≡ self.old) }
@@ -159,7 +173,7 @@ impl Conn {
 fn feed_session(session: &mut Session, piece: &[u8]) -> Result<(), AllocError>
     ensures client { OnOk result (session.new.client ≡ session.old.client) }
     ensures heard { OnOk result ((bytes : List ℕ) (accepted : ℕ) → Heard session.old.framed bytes accepted → Heard session.new.framed (bytes ++ piece.now) accepted) }
-    ensures err { OnErr result (session.new ≡ session.old) }
+    ensures err { OnErr result ((session.new ≡ session.old) × HasNoSpoiltNext session.old) }
 {
     match session.feed(piece) {
         Err(FeedError::Memory) => Err(AllocError),

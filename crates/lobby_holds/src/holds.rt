@@ -169,6 +169,7 @@ pub fn say<R: Wait, G: Gate>(
 /// Drains into a slice, in a hold that goes on.
 fn drain_once(held: &mut Held, client: u64, into: &mut [u8]) -> Piece
     requires few { length held.old.events < MOST_EVENTS }
+    requires small { length into.old ≤ PIECE }
     requires stands { Stands held.old }
     ensures drained { DrainedInto (pass_after held.old) (pass_after held.new) client (length into.old) into.new result }
     ensures stands { Stands held.new }
@@ -187,6 +188,7 @@ fn drain_once(held: &mut Held, client: u64, into: &mut [u8]) -> Piece
 /// into the rest of it: that a client has been told everything is known by a drain that gives nothing.
 fn drain_all(held: &mut Held, client: u64, into: &mut [u8]) -> Piece
     requires few { length held.old.events + 2 ≤ MOST_EVENTS }
+    requires small { length into.old ≤ PIECE }
     requires stands { Stands held.old }
     ensures drained { DrainedInto (pass_after held.old) (pass_after held.new) client (length into.old) into.new result }
     ensures stands { Stands held.new }
@@ -251,9 +253,9 @@ fn drain_into<R: Wait, G: Gate>(
     pass: Pass,
     into: &mut [u8],
 ) -> (Pass, Piece)
-    requires { pass.desk ≡ desk.now.desk.now }
-    ensures drained { DrainedInto pass result.0 client (length into.old) into.new result.1 }
-    ensures few { length result.0.worker.mine ≤ length pass.worker.mine + 2 }
+    requires desk { pass.desk ≡ desk.now.desk.now }
+    requires small { length into.old ≤ PIECE }
+    ensures { DrainedInto pass result.0 client (length into.old) into.new result.1 }
 {
     let mut held = desk.take(rt, pass);
     let piece = drain_all(&mut held, client, into);

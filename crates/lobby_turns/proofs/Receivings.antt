@@ -1,5 +1,5 @@
 -- How receiving from a client goes on.
-use Rattle.std.proofs.Common.{◌≡◌, ◌≢◌, ◌⊎◌, ℕ, ◌+◌, ◌-◌, ◌<◌, ◌≤◌, true, false, List, [], ◌++◌, refl, sym, ap, ◌∙◌, subst, inl, inr, arith, append-nil}
+use Rattle.std.proofs.Common.{◌≡◌, ◌≢◌, ◌⊎◌, ℕ, zero, suc, ◌+◌, ◌-◌, ◌*◌, ◌<◌, ◌≤◌, true, false, List, [], ◌++◌, length, refl, sym, ap, ◌∙◌, subst, inl, inr, arith, append-nil, length-append}
 use Rattle.std.specs.Prelude.{◌||◌, Option, Some}
 use Rattle.lobby_post.specs.Mask.{has_home}
 use Rattle.lobby_holds.specs.declared.link.Got.{Got}
@@ -9,15 +9,17 @@ use Rattle.lobby_turns.specs.declared.receiving.ReceiveState.{ReceiveState}
 use Rattle.lobby_turns.specs.declared.receiving.ReceiveState.TheVariants as receive
 use Rattle.lobby_turns.specs.declared.receiving.Step.{Step}
 use Rattle.lobby_turns.specs.declared.receiving.Step.TheVariants as step
-use Rattle.lobby_holds.specs.Moments.{Moment}
-use Rattle.lobby_holds.specs.Snapshot.{Carried, Snapshot}
+use Rattle.lobby_holds.specs.Moments.{Moment, requests}
+use Rattle.lobby_holds.specs.Wire.{Wire, ReadsSome, and_more}
+use Rattle.lobby_holds.specs.Snapshot.{Snapshot}
+use Rattle.client_session.specs.Serving.{Serving}
 use Rattle.lobby_holds.specs.Went.{Went}
-use Rattle.lobby_holds.specs.Holds.{AreSaid, SaysLines, IsWithin}
+use Rattle.lobby_holds.specs.Holds.{AreSaid, SaysLines, IsWithin, StopsAt}
 use Rattle.client_session.specs.declared.session.Next.TheVariants.{Nothing, Spoilt}
-use Rattle.client_session.specs.OneSession.{HasLineNext, IsNextOf}
-use Rattle.lobby_turns.specs.Receiving.{OnlyReads, IsAllReceived, IsBytes, NoReadFailed, HasToReceive, has_bytes, has_line, has_more, SaysWithin, StepIs, ReceivesNext, ReceivedIs, Receives}
-use Rattle.lobby_holds.proofs.Parts.{went_then}
-use Rattle.lobby_holds.proofs.Sayings.{says_none, says_then}
+use Rattle.client_session.specs.OneSession.{IsNextOf}
+use Rattle.lobby_turns.specs.Receiving.{OnlyReads, IsAllReceived, IsBytes, NoReadFailed, LimitIs, MayRead, HasToReceive, has_bytes, has_line, has_more, SaysWithin, StepIs, ReceivesNext, ReceivedIs, Receives}
+use Rattle.lobby_holds.proofs.Parts.{went_then, more_none, more_twice}
+use Rattle.lobby_holds.proofs.Sayings.{says_none, says_then, stays_next}
 use Rattle.std.proofs.Math.Nat.{add-zero, zero-add}
 
 -- so many lines were said to the lobby and so many reads were made, and these workers are to be woken
@@ -25,15 +27,26 @@ pub record Receiving (old new : Snapshot) (lines reads wakes : ℕ) : Type 0 whe
   pub says : SaysLines old new lines wakes
   pub only : OnlyReads old new reads
 
+reads_none : (a b : Wire) → b ≡ a → ReadsSome a b 0
+reads_none a b same = record { more = []; read = ap (λ w. w.read) same ∙ more_none a.read; few = omega arith }
+
+reads_then : (a b c : Wire) (m n : ℕ) → ReadsSome a b (4096 * m) → ReadsSome b c (4096 * n) → ReadsSome a c (4096 * (m + n))
+reads_then a b c m n h k = record {
+  more = h.more ++ k.more;
+  read = k.read ∙ ap (λ o. and_more o k.more) h.read ∙ more_twice a.read h.more k.more;
+  few = omega (arith, h.few, k.few, length-append h.more k.more);
+}
+
 pub receiving_none : (a : Snapshot) (wakes : ℕ) → ((home : ℕ) → has_home wakes home ≡ false) → Receiving a a 0 0 wakes
 receiving_none a wakes none = record {
   says = says_none a wakes none;
-  only = record { reads_are = omega arith; writes = refl; failures = omega arith; still = λ _. refl; unwritten = refl };
+  only = record { reads_are = omega arith; pieces = reads_none a.wire a.wire refl; writes = refl; failures = omega arith; still = λ _. refl; unwritten = refl };
 }
 
 only_then : (a b c : Snapshot) (m n : ℕ) → OnlyReads a b m → OnlyReads b c n → OnlyReads a c (m + n)
 only_then a b c m n h k = record {
   reads_are = omega (arith, h.reads_are, k.reads_are);
+  pieces = reads_then a.wire b.wire c.wire m n h.pieces k.pieces;
   writes = k.writes ∙ h.writes;
   failures = omega (arith, h.failures, k.failures);
   still = λ e. k.still (omega (arith, e)) ∙ h.still (omega (arith, e));
@@ -77,10 +90,64 @@ no_fault_all a c h = last h.last
     last (inl end) = λ failed. absurd (cc (end, failed))
     last (inr later) = λ failed. absurd (cc (later.0, failed))
 
+-- ---- the whole of what a round of receiving keeps
+
+pub record IsReceiving (old new : Snapshot) (lines reads wakes : ℕ) : Type 0 where
+  pub receiving : Receiving old new lines reads wakes
+  pub late : new.wire.last_got ≡ Some got.Later → new.wire.reads ≡ old.wire.reads
+  pub sound : NoReadFailed old new
+  pub after_end : old.wire.last_got ≡ Some got.End → reads ≡ 0
+  pub few_lines : lines ≤ 64
+  pub few_reads : reads ≤ 16
+
+pub begins : (a : Snapshot) (wakes : ℕ) → ((home : ℕ) → has_home wakes home ≡ false) → IsReceiving a a 0 0 wakes
+begins a wakes none =
+    record { receiving = receiving_none a wakes none; late = λ _. refl; sound = λ rose failed. absurd (omega (arith, rose)); after_end = λ _. refl; few_lines = omega arith; few_reads = omega arith }
+
+-- behind its end no link is read
+unread : (b c : Snapshot) (n : ℕ) → (0 < n → MayRead b c) → b.wire.last_got ≡ Some got.End → n ≡ 0
+unread b c zero may end = refl
+unread b c (suc n) may end = absurd ((may (omega arith)).on end)
+
+end_stays : (a b c : Snapshot) (k n : ℕ) → OnlyReads a b k → (a.wire.last_got ≡ Some got.End → k ≡ 0) → (0 < n → MayRead b c) → a.wire.last_got ≡ Some got.End → k + n ≡ 0
+end_stays a b c k n only first may end = omega (arith, first end, unread b c n may (only.still (first end) ∙ end))
+
+said_within : (m : ℕ) (session : Serving) (how : Step) (said : Said) → how ≡ step.Said said → SaysWithin (64 - m) session how → IsWithin (64 - m) said × StopsAt (64 - m) session said
+said_within m session how said is within = subst (λ (x : Step). SaysWithin (64 - m) session x) is within
+
+lines_fit : (m : ℕ) (said : Said) → m ≤ 64 → IsWithin (64 - m) said → m + said.lines ≤ 64
+lines_fit m said few fits = omega (arith, few, fits.0)
+
+pub goes_on_said : (a b c : Snapshot) (m k wakes : ℕ) (said : Said) (all : ℕ) (how : Step) → how ≡ step.Said said → SaysWithin (64 - m) c.conn.session how
+    → IsReceiving a b m k wakes → ReceivesNext b c how
+    → ((home : ℕ) → has_home all home ≡ (has_home wakes home || has_home said.wakes home)) → IsReceiving a c (m + said.lines) k all
+goes_on_said a b c m k wakes said all how is within h found both =
+    let s : ReceivesNext b c (step.Said said) = subst (λ (x : Step). ReceivesNext b c x) is found in
+    record {
+      receiving = receiving_said a b c m k wakes said all h.receiving s both;
+      late = λ e. s.only.reads_are ∙ ap (λ n. b.wire.reads + n) s.step_is.0 ∙ add-zero b.wire.reads ∙ h.late (sym (s.only.still s.step_is.0) ∙ e);
+      sound = no_fault_then a b c s.reads s.step_is.0 s.only h.sound;
+      after_end = h.after_end;
+      few_lines = lines_fit m said h.few_lines (said_within m c.conn.session how said is within).0;
+      few_reads = h.few_reads;
+    }
+
+pub goes_on_read : (a b c : Snapshot) (m k wakes : ℕ) (how : Step) → how ≡ step.Read → k < 16 → IsReceiving a b m k wakes → ReceivesNext b c how → IsReceiving a c m (k + 1) wakes
+goes_on_read a b c m k wakes how is few h found =
+    let s : ReceivesNext b c step.Read = subst (λ (x : Step). ReceivesNext b c x) is found in
+    record {
+      receiving = receiving_read a b c m k wakes h.receiving s;
+      late = λ e. absurd (subst IsBytes e s.step_is.2);
+      sound = λ _ e. absurd (subst IsBytes e s.step_is.2);
+      after_end = λ end. ap (λ n. k + n) (sym s.step_is.1) ∙ end_stays a b c k s.reads h.receiving.only h.after_end s.may_read end;
+      few_lines = h.few_lines;
+      few_reads = omega (arith, few);
+    }
+
 -- ---- where receiving ends
 
-ended : (a c : Snapshot) (m k wakes : ℕ) (how : ReceiveState) → m ≤ 64 → k ≤ 16 → (h : Receiving a c m k wakes) → ReceivedIs a c h.says.talk how → Receives a c how wakes
-ended a c m k wakes how few_lines few h is = record {
+ended : (a c : Snapshot) (m k wakes : ℕ) (how : ReceiveState) → m ≤ 64 → k ≤ 16 → (a.wire.last_got ≡ Some got.End → k ≡ 0) → (h : Receiving a c m k wakes) → ReceivedIs a c h.says.talk how → Receives a c how wakes
+ended a c m k wakes how few_lines few after_end h is = record {
   talk = h.says.talk;
   went = h.says.went;
   own = h.says.said.own;
@@ -89,10 +156,18 @@ ended a c m k wakes how few_lines few h is = record {
   only_lines = h.says.said.only ∙ sym h.says.said.lines_are;
   reads = k;
   few = few;
+  after_end = after_end;
   only = h.only;
   wakes_are = h.says.said.wakes_are;
   received_is = is;
 }
+
+-- by a step without a line
+stops : (a b c : Snapshot) (m k wakes : ℕ) (how : Step) (state : ReceiveState) → k < 16 → IsReceiving a b m k wakes → (s : ReceivesNext b c how) → s.talk ≡ []
+    → ((talk : List Moment) → ReceivedIs a c talk state) → Receives a c state wakes
+stops a b c m k wakes how state few h s none is =
+    let all : Receiving a c m (k + s.reads) wakes = quietly a b c m k s.reads wakes s.talk h.receiving s.went s.only none in
+    ended a c m (k + s.reads) wakes state h.few_lines (omega (arith, few, s.few)) (end_stays a b c k s.reads h.receiving.only h.after_end s.may_read) all (is all.says.talk)
 
 since_last : (a b c : Snapshot) → a.wire.reads ≤ b.wire.reads → (c.wire.last_got ≡ Some got.End) ⊎ ((c.wire.last_got ≡ Some got.Later) × (b.wire.reads < c.wire.reads))
     → (c.wire.last_got ≡ Some got.End) ⊎ ((c.wire.last_got ≡ Some got.Later) × (a.wire.reads < c.wire.reads))
@@ -103,64 +178,56 @@ since_last a b c rises (inr later) = inr (later.0, omega (arith, rises, later.1)
 since : (a b c : Snapshot) → a.wire.reads ≤ b.wire.reads → IsAllReceived b c → IsAllReceived a c
 since a b c rises h = record { fed = h.fed; nothing = h.nothing; last = since_last a b c rises h.last }
 
-pub lines_fit : (m : ℕ) (how : Step) (said : Said) → how ≡ step.Said said → m ≤ 64 → SaysWithin (64 - m) how → m + said.lines ≤ 64
-lines_fit m how said is few within =
-    let fits : IsWithin (64 - m) said = subst (λ (x : Step). SaysWithin (64 - m) x) is within in
-    omega (arith, few, fits.0)
-
-said_some : (m : ℕ) (how : Step) (said : Said) → how ≡ step.Said said → SaysWithin (64 - m) how → said.refused ≡ false → 1 ≤ said.lines
-said_some m how said is within accepted =
-    let fits : IsWithin (64 - m) said = subst (λ (x : Step). SaysWithin (64 - m) x) is within in
-    fits.2 accepted
-
 rises : (a b : Snapshot) (k : ℕ) → OnlyReads a b k → a.wire.reads ≤ b.wire.reads
 rises a b k only = omega (arith, only.reads_are)
 
-pub receives_all : (a b c : Snapshot) (m k wakes : ℕ) (how : Step) → how ≡ step.All → m ≤ 64 → k < 16 → Receiving a b m k wakes → ReceivesNext b c how → Receives a c receive.All wakes
-receives_all a b c m k wakes how is few_lines few h found =
+pub receives_all : (a b c : Snapshot) (m k wakes : ℕ) (how : Step) → how ≡ step.All → k < 16 → IsReceiving a b m k wakes → ReceivesNext b c how → Receives a c receive.All wakes
+receives_all a b c m k wakes how is few h found =
     let s : ReceivesNext b c step.All = subst (λ (x : Step). ReceivesNext b c x) is found in
-    ended a c m (k + s.reads) wakes receive.All few_lines (omega (arith, few, s.few)) (quietly a b c m k s.reads wakes s.talk h s.went s.only s.step_is.0)
-    (λ _. no_fault_all b c s.step_is.1, since a b c (rises a b k h.only) s.step_is.1)
+    stops a b c m k wakes step.All receive.All few h s s.step_is.0 (λ talk. (λ _. no_fault_all b c s.step_is.1, since a b c (rises a b k h.receiving.only) s.step_is.1))
 
-pub receives_stop : (a b c : Snapshot) (m k wakes : ℕ) (how : Step) → how ≡ step.Stop → m ≤ 64 → k < 16 → Receiving a b m k wakes → ReceivesNext b c how → Receives a c receive.Stop wakes
-receives_stop a b c m k wakes how is few_lines few h found =
+pub receives_stop : (a b c : Snapshot) (m k wakes : ℕ) (how : Step) → how ≡ step.Stop → k < 16 → IsReceiving a b m k wakes → ReceivesNext b c how → Receives a c receive.Stop wakes
+receives_stop a b c m k wakes how is few h found =
     let s : ReceivesNext b c step.Stop = subst (λ (x : Step). ReceivesNext b c x) is found in
-    ended a c m (k + s.reads) wakes receive.Stop few_lines (omega (arith, few, s.few)) (quietly a b c m k s.reads wakes s.talk h s.went s.only s.step_is.0) s.step_is.1
+    stops a b c m k wakes step.Stop receive.Stop few h s s.step_is.0 (λ talk. s.step_is.1)
 
 -- without a read in between there is the same to receive since an earlier place
 to_receive : (a b c : Snapshot) → (b.wire.last_got ≡ Some got.Later → b.wire.reads ≡ a.wire.reads) → c.wire.last_got ≡ b.wire.last_got → HasToReceive b c → HasToReceive a c
-to_receive a b c late still (has_bytes h) = has_bytes h
+to_receive a b c late still (has_bytes some unspoilt) = has_bytes some unspoilt
 to_receive a b c late still (has_line h) = has_line h
-to_receive a b c late still (has_more h) = has_more (record { on = h.on; sound = h.sound; late = λ e. h.late e ∙ late (sym still ∙ e) })
+to_receive a b c late still (has_more h) = has_more (record { fed = h.fed; nothing = h.nothing; on = h.on; sound = h.sound; late = λ e. h.late e ∙ late (sym still ∙ e) })
 
-pub receives_memory : (a b c : Snapshot) (m k wakes : ℕ) (how : Step) → how ≡ step.Memory → m ≤ 64 → k < 16 → (b.wire.last_got ≡ Some got.Later → b.wire.reads ≡ a.wire.reads) → NoReadFailed a b → Receiving a b m k wakes → ReceivesNext b c how
-    → Receives a c receive.Memory wakes
-receives_memory a b c m k wakes how is few_lines few late sound h found =
+pub receives_memory : (a b c : Snapshot) (m k wakes : ℕ) (how : Step) → how ≡ step.Memory → k < 16 → IsReceiving a b m k wakes → ReceivesNext b c how → Receives a c receive.Memory wakes
+receives_memory a b c m k wakes how is few h found =
     let s : ReceivesNext b c step.Memory = subst (λ (x : Step). ReceivesNext b c x) is found in
-    ended a c m (k + s.reads) wakes receive.Memory few_lines (omega (arith, few, s.few)) (quietly a b c m k s.reads wakes s.talk h s.went s.only s.step_is.0)
-    (no_fault_then a b c s.reads s.step_is.1 s.only sound, to_receive a b c late (s.only.still s.step_is.1) s.step_is.2)
+    stops a b c m k wakes step.Memory receive.Memory few h s s.step_is.0
+    (λ talk. (no_fault_then a b c s.reads s.step_is.1 s.only h.sound, to_receive a b c h.late (s.only.still s.step_is.1) s.step_is.2))
 
 -- where memory was refused behind some lines
-pub receives_refused : (a b c : Snapshot) (m k wakes : ℕ) (said : Said) (all : ℕ) (how : Step) → how ≡ step.Said said → said.refused ≡ true → m ≤ 64 → k ≤ 16 → SaysWithin (64 - m) how → NoReadFailed a b → Receiving a b m k wakes → ReceivesNext b c how
+pub receives_refused : (a b c : Snapshot) (m k wakes : ℕ) (said : Said) (all : ℕ) (how : Step) → how ≡ step.Said said → said.refused ≡ true → SaysWithin (64 - m) c.conn.session how
+    → IsReceiving a b m k wakes → ReceivesNext b c how
     → ((home : ℕ) → has_home all home ≡ (has_home wakes home || has_home said.wakes home)) → Receives a c receive.Memory all
-receives_refused a b c m k wakes said all how is refused few_lines few within sound h found both =
+receives_refused a b c m k wakes said all how is refused within h found both =
     let s : ReceivesNext b c (step.Said said) = subst (λ (x : Step). ReceivesNext b c x) is found in
-    ended a c (m + said.lines) k all receive.Memory (lines_fit m how said is few_lines within) few (receiving_said a b c m k wakes said all h s both)
-    (no_fault_then a b c s.reads s.step_is.0 s.only sound, has_line (s.step_is.2 refused))
+    let fits = said_within m c.conn.session how said is within in
+    ended a c (m + said.lines) k all receive.Memory (lines_fit m said h.few_lines fits.0) h.few_reads h.after_end (receiving_said a b c m k wakes said all h.receiving s both)
+    (no_fault_then a b c s.reads s.step_is.0 s.only h.sound, has_line (stays_next (64 - m) c.conn.session said fits.1 refused))
 
 -- at a limit
-pub receives_again : (a c : Snapshot) (m k wakes : ℕ) → m ≤ 64 → k ≤ 16 → (m ≡ 64) ⊎ (k ≡ 16) → NoReadFailed a c → Receiving a c m k wakes → Receives a c receive.Again wakes
-receives_again a c m k wakes few_lines few (inl lines) sound h = ended a c m k wakes receive.Again few_lines few h (sound, inl (h.says.said.lines_are ∙ lines))
-receives_again a c m k wakes few_lines few (inr reads) sound h = ended a c m k wakes receive.Again few_lines few h (sound, inr (h.only.reads_are ∙ ap (λ n. a.wire.reads + n) reads))
+most_are : (a c : Snapshot) (m k wakes : ℕ) → (m ≡ 64) ⊎ (k ≡ 16) → (h : Receiving a c m k wakes) → (length (requests h.says.talk) ≡ 64) ⊎ (c.wire.reads ≡ a.wire.reads + 16)
+most_are a c m k wakes (inl lines) h = inl (h.says.said.lines_are ∙ lines)
+most_are a c m k wakes (inr reads) h = inr (h.only.reads_are ∙ ap (λ n. a.wire.reads + n) reads)
 
--- ---- single steps
-
-pub next_quiet : (a c : Snapshot) (n : ℕ) (how : Step) → n ≤ 1 → Went a c [] → OnlyReads a c n → StepIs a c [] n how → ReceivesNext a c how
-next_quiet a c n how few went only is = record { talk = []; went = went; reads = n; few = few; only = only; step_is = is }
+limit_is : (a c : Snapshot) (m k wakes : ℕ) (how : ReceiveState) → (m ≡ 64) ⊎ (k ≡ 16) → NoReadFailed a c → (h : Receiving a c m k wakes) → LimitIs c.conn how → ReceivedIs a c h.says.talk how
+limit_is a c m k wakes receive.All met sound h limit = absurd limit
+limit_is a c m k wakes receive.Again met sound h limit = (sound, record { limit = most_are a c m k wakes met h; fed = limit.0; unspoilt = limit.1 })
+limit_is a c m k wakes receive.Stop met sound h limit = inl limit
+limit_is a c m k wakes receive.Memory met sound h limit = (sound, has_bytes limit.0 limit.1)
 
 pub only_none : (a c : Snapshot) → c.wire ≡ a.wire → c.conn.unwritten ≡ a.conn.unwritten → OnlyReads a c 0
 only_none a c same unwritten = record {
   reads_are = ap (λ w. w.reads) same ∙ none a.wire.reads;
+  pieces = reads_none a.wire c.wire same;
   writes = ap (λ w. w.writes) same;
   failures = omega (arith, ap (λ w. w.failures) same);
   still = λ _. ap (λ w. w.last_got) same;
@@ -170,9 +237,29 @@ only_none a c same unwritten = record {
     none : (n : ℕ) → n ≡ n + 0
     none n = omega arith
 
+met : (m k : ℕ) → m ≤ 64 → k ≤ 16 → (64 ≤ m) ⊎ (16 ≤ k) → (m ≡ 64) ⊎ (k ≡ 16)
+met m k few_lines few (inl many) = inl (omega (arith, many, few_lines))
+met m k few_lines few (inr many) = inr (omega (arith, many, few))
+
+pub receives_limit : (a b c : Snapshot) (m k wakes : ℕ) (how : ReceiveState) → (64 ≤ m) ⊎ (16 ≤ k) → IsReceiving a b m k wakes → Went b c [] → c.wire ≡ b.wire → c.conn.unwritten ≡ b.conn.unwritten
+    → LimitIs c.conn how → Receives a c how wakes
+receives_limit a b c m k wakes how many h went same unwritten limit =
+    let only : OnlyReads b c 0 = only_none b c same unwritten in
+    let all : Receiving a c m k wakes = subst (λ (n : ℕ). Receiving a c m n wakes) (add-zero k) (quietly a b c m k 0 wakes [] h.receiving went only refl) in
+    ended a c m k wakes how h.few_lines h.few_reads h.after_end all (limit_is a c m k wakes how (met m k h.few_lines h.few_reads many) (no_fault_then a b c 0 refl only h.sound) all limit)
+
+-- ---- single steps
+
+next_quiet : (a c : Snapshot) (n : ℕ) (how : Step) → n ≤ 1 → (0 < n → MayRead a c) → Went a c [] → OnlyReads a c n → StepIs a c [] n how → ReceivesNext a c how
+next_quiet a c n how few may went only is = record { talk = []; went = went; reads = n; few = few; may_read = may; only = only; step_is = is }
+
+-- without a read
+unasked : (a c : Snapshot) → 0 < 0 → MayRead a c
+unasked a c some = absurd (omega (arith, some))
+
 step_behind : (a b c : Snapshot) (talk : List Moment) (reads : ℕ) (how : Step) → b.wire ≡ a.wire → b.conn.unwritten ≡ a.conn.unwritten → b.conn.session.client ≡ a.conn.session.client → OnlyReads b c reads
     → StepIs b c talk reads how → StepIs a c talk reads how
-step_behind a b c talk reads (step.Said said) same unwritten client only is = (is.0, subst (λ (d : ℕ). AreSaid d talk said.lines said.wakes) client is.1, is.2)
+step_behind a b c talk reads (step.Said said) same unwritten client only is = (is.0, subst (λ (d : ℕ). AreSaid d talk said.lines said.wakes) client is.1)
 step_behind a b c talk reads step.Read same unwritten client only is = is
 step_behind a b c talk reads step.All same unwritten client only is = (is.0, since a b c (rises a b 0 (only_none a b same unwritten)) is.1)
 step_behind a b c talk reads step.Stop same unwritten client only is = is
@@ -185,105 +272,63 @@ fed_first a b c how went same unwritten s = record {
   went = went_then a b c [] s.talk went s.went;
   reads = s.reads;
   few = s.few;
+  may_read = λ some.
+      let may : MayRead b c = s.may_read some in
+      record { nothing = may.nothing; on = λ e. may.on (ap (λ w. w.last_got) same ∙ e); sound = λ e. may.sound (ap (λ w. w.last_got) same ∙ e) };
   only = subst (λ (n : ℕ). OnlyReads a c n) (zero-add s.reads) (only_then a b c 0 s.reads (only_none a b same unwritten) s.only);
   step_is = step_behind a b c s.talk s.reads how same unwritten went.client s.only s.step_is;
 }
 
-pub said_next : (a b : Snapshot) (said : Said) → b.wire ≡ a.wire → (said.refused ≡ true → HasLineNext b.conn.session) → SaysLines a b said.lines said.wakes → ReceivesNext a b (step.Said said)
-said_next a b said same stays s = record {
+pub said_next : (a b : Snapshot) (said : Said) → b.wire ≡ a.wire → SaysLines a b said.lines said.wakes → ReceivesNext a b (step.Said said)
+said_next a b said same s = record {
   talk = s.talk;
   went = s.went;
   reads = 0;
   few = omega arith;
+  may_read = unasked a b;
   only = only_none a b same s.unwritten;
-  step_is = (refl, s.said, stays);
+  step_is = (refl, s.said);
 }
 
 pub none_done : (a b : Snapshot) → b.wire ≡ a.wire → b.conn.unwritten ≡ a.conn.unwritten → Went a b [] → HasToReceive a b → ReceivesNext a b step.Memory
-none_done a b same unwritten went left = next_quiet a b 0 step.Memory (omega arith) went (only_none a b same unwritten) (refl, refl, left)
+none_done a b same unwritten went left = next_quiet a b 0 step.Memory (omega arith) (unasked a b) went (only_none a b same unwritten) (refl, refl, left)
 
 pub none_left : (a b : Snapshot) → b.wire ≡ a.wire → b.conn.unwritten ≡ a.conn.unwritten → Went a b [] → IsNextOf (Some b.conn.session) Spoilt → ReceivesNext a b step.Stop
-none_left a b same unwritten went next = next_quiet a b 0 step.Stop (omega arith) went (only_none a b same unwritten) (refl, inl next)
+none_left a b same unwritten went next = next_quiet a b 0 step.Stop (omega arith) (unasked a b) went (only_none a b same unwritten) (refl, inl next)
 
-pub only_one : (a b : Snapshot) → b.wire.reads ≡ a.wire.reads + 1 → b.wire.writes ≡ a.wire.writes → b.wire.failures ≤ a.wire.failures + 1 → b.conn.unwritten ≡ a.conn.unwritten → OnlyReads a b 1
-only_one a b reads writes failures unwritten = record { reads_are = reads; writes = writes; failures = failures; still = λ e. absurd (omega (arith, e)); unwritten = unwritten }
+pub only_one : (a b : Snapshot) → ReadsSome a.wire b.wire 4096 → b.wire.reads ≡ a.wire.reads + 1 → b.wire.writes ≡ a.wire.writes → b.wire.failures ≤ a.wire.failures + 1 → b.conn.unwritten ≡ a.conn.unwritten → OnlyReads a b 1
+only_one a b piece reads writes failures unwritten = record { reads_are = reads; pieces = piece; writes = writes; failures = failures; still = λ e. absurd (omega (arith, e)); unwritten = unwritten }
 
 pub bytes_came : (n : ℕ) (last : Option Got) → last ≡ Some (got.Bytes n) → IsBytes last
 bytes_came n last is = subst IsBytes (sym is) tt
 
-pub link_read : (a b : Snapshot) → Went a b [] → OnlyReads a b 1 → IsBytes b.wire.last_got → ReceivesNext a b step.Read
-link_read a b went only some = next_quiet a b 1 step.Read (omega arith) went only (refl, refl, some)
+pub stays_nothing : (a b : Serving) → b ≡ a → IsNextOf (Some a) Nothing → IsNextOf (Some b) Nothing
+stays_nothing a b same nothing = subst (λ (x : Serving). IsNextOf (Some x) Nothing) (sym same) nothing
 
-pub link_later : (a b : Snapshot) → Went a b [] → OnlyReads a b 1 → b.conn ≡ a.conn → a.conn.unfed ≡ [] → IsNextOf (Some a.conn.session) Nothing
+pub link_read : (a b : Snapshot) → MayRead a b → Went a b [] → OnlyReads a b 1 → IsBytes b.wire.last_got → ReceivesNext a b step.Read
+link_read a b may went only some = next_quiet a b 1 step.Read (omega arith) (λ _. may) went only (refl, refl, some)
+
+pub link_later : (a b : Snapshot) → MayRead a b → Went a b [] → OnlyReads a b 1 → b.conn ≡ a.conn → a.conn.unfed ≡ []
     → b.wire.last_got ≡ Some got.Later → ReceivesNext a b step.All
-link_later a b went only same fed nothing last = next_quiet a b 1 step.All (omega arith) went only (
+link_later a b may went only same fed last = next_quiet a b 1 step.All (omega arith) (λ _. may) went only (
   refl,
   record {
     fed = ap (λ x. x.unfed) same ∙ fed;
-    nothing = subst (λ (x : Carried). IsNextOf (Some x.session) Nothing) (sym same) nothing;
+    nothing = may.nothing;
     last = inr (last, omega (arith, only.reads_are));
   },
 )
 
-pub link_end : (a b : Snapshot) → Went a b [] → OnlyReads a b 1 → b.conn ≡ a.conn → a.conn.unfed ≡ [] → IsNextOf (Some a.conn.session) Nothing
+pub link_end : (a b : Snapshot) → MayRead a b → Went a b [] → OnlyReads a b 1 → b.conn ≡ a.conn → a.conn.unfed ≡ []
     → b.wire.last_got ≡ Some got.End → ReceivesNext a b step.All
-link_end a b went only same fed nothing last = next_quiet a b 1 step.All (omega arith) went only (
+link_end a b may went only same fed last = next_quiet a b 1 step.All (omega arith) (λ _. may) went only (
   refl,
   record {
     fed = ap (λ x. x.unfed) same ∙ fed;
-    nothing = subst (λ (x : Carried). IsNextOf (Some x.session) Nothing) (sym same) nothing;
+    nothing = may.nothing;
     last = inl last;
   },
 )
 
-pub link_fault : (a b : Snapshot) → Went a b [] → OnlyReads a b 1 → b.wire.last_got ≡ Some got.Fault → ReceivesNext a b step.Stop
-link_fault a b went only last = next_quiet a b 1 step.Stop (omega arith) went only (refl, inr last)
-
--- ---- the whole of what a round of receiving keeps
-
-pub record IsReceiving (old new : Snapshot) (lines reads wakes rounds : ℕ) : Type 0 where
-  pub receiving : Receiving old new lines reads wakes
-  pub late : new.wire.last_got ≡ Some got.Later → new.wire.reads ≡ old.wire.reads
-  pub sound : NoReadFailed old new
-  pub rounds_are : rounds ≤ lines + reads
-  pub few_lines : lines ≤ 64
-  pub few_reads : reads ≤ 16
-
-pub begins : (a : Snapshot) (wakes : ℕ) → ((home : ℕ) → has_home wakes home ≡ false) → IsReceiving a a 0 0 wakes 0
-begins a wakes none = record { receiving = receiving_none a wakes none; late = λ _. refl; sound = λ rose failed. absurd (omega (arith, rose)); rounds_are = omega arith; few_lines = omega arith; few_reads = omega arith }
-
-pub goes_on_said : (a b c : Snapshot) (m k wakes rounds : ℕ) (said : Said) (all : ℕ) (how : Step) → how ≡ step.Said said → said.refused ≡ false → SaysWithin (64 - m) how
-    → IsReceiving a b m k wakes rounds → ReceivesNext b c how
-    → ((home : ℕ) → has_home all home ≡ (has_home wakes home || has_home said.wakes home)) → IsReceiving a c (m + said.lines) k all (rounds + 1)
-goes_on_said a b c m k wakes rounds said all how is accepted within h found both =
-    let s : ReceivesNext b c (step.Said said) = subst (λ (x : Step). ReceivesNext b c x) is found in
-    record {
-      receiving = receiving_said a b c m k wakes said all h.receiving s both;
-      late = λ e. s.only.reads_are ∙ ap (λ n. b.wire.reads + n) s.step_is.0 ∙ add-zero b.wire.reads ∙ h.late (sym (s.only.still s.step_is.0) ∙ e);
-      sound = no_fault_then a b c s.reads s.step_is.0 s.only h.sound;
-      rounds_are = omega (arith, h.rounds_are, said_some m how said is within accepted);
-      few_lines = lines_fit m how said is h.few_lines within;
-      few_reads = h.few_reads;
-    }
-
-pub goes_on_read : (a b c : Snapshot) (m k wakes rounds : ℕ) (how : Step) → how ≡ step.Read → k + 1 ≤ 16 → IsReceiving a b m k wakes rounds → ReceivesNext b c how
-    → IsReceiving a c m (k + 1) wakes (rounds + 1)
-goes_on_read a b c m k wakes rounds how is few h found =
-    let s : ReceivesNext b c step.Read = subst (λ (x : Step). ReceivesNext b c x) is found in
-    record {
-      receiving = receiving_read a b c m k wakes h.receiving s;
-      late = λ e. absurd (subst IsBytes e s.step_is.2);
-      sound = λ _ e. absurd (subst IsBytes e s.step_is.2);
-      rounds_are = omega (arith, h.rounds_are);
-      few_lines = h.few_lines;
-      few_reads = few;
-    }
-
--- the same with its numbers named anew
-pub renamed : (a b : Snapshot) (m k wakes rounds m' k' wakes' : ℕ) → m' ≡ m → k' ≡ k → wakes' ≡ wakes → IsReceiving a b m k wakes rounds → IsReceiving a b m' k' wakes' rounds
-renamed a b m k wakes rounds m' k' wakes' p q r h =
-    subst (λ (x : ℕ × (ℕ × ℕ)). IsReceiving a b x.0 x.1.0 x.1.1 rounds) (λ i. (sym p i, (sym q i, sym r i))) h
-
--- so many rounds meet a limit
-pub all_rounds : (a b : Snapshot) (m k wakes rounds : ℕ) → 80 ≤ rounds → IsReceiving a b m k wakes rounds → Receives a b receive.Again wakes
-all_rounds a b m k wakes rounds many h = receives_again a b m k wakes h.few_lines h.few_reads (inl (omega (arith, many, h.rounds_are, h.few_lines, h.few_reads))) h.sound h.receiving
+pub link_fault : (a b : Snapshot) → MayRead a b → Went a b [] → OnlyReads a b 1 → b.wire.last_got ≡ Some got.Fault → ReceivesNext a b step.Stop
+link_fault a b may went only last = next_quiet a b 1 step.Stop (omega arith) (λ _. may) went only (refl, inr last)

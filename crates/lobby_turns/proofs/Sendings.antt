@@ -1,6 +1,8 @@
 -- How sending to a client goes on.
-use Rattle.std.proofs.Common.{◌≡◌, ◌≢◌, ℕ, zero, suc, ◌+◌, ◌*◌, ◌<◌, ◌≤◌, Bool, true, false, List, [], ◌++◌, length, refl, sym, ap, ◌∙◌, subst, arith, append-nil, length-append, true≢false}
+use Rattle.std.proofs.Common.{◌≡◌, ◌≢◌, ℕ, zero, suc, ◌+◌, ◌*◌, ◌<◌, ◌≤◌, Bool, true, false, List, [], ◌∷◌, ◌++◌, length, refl, sym, ap, ◌∙◌, subst, arith, append-nil, length-append, true≢false}
 use Rattle.std.specs.Prelude.{Option, Some}
+use Rattle.std.proofs.Math.Bool.{or-false}
+use Rattle.lobby_model.specs.declared.event.Event.TheVariants as event
 use Rattle.lobby_holds.specs.declared.link.Sent.{Sent}
 use Rattle.lobby_holds.specs.declared.link.Sent.TheVariants as sent
 use Rattle.lobby_turns.specs.declared.sending.SendState.{SendState}
@@ -8,13 +10,13 @@ use Rattle.lobby_turns.specs.declared.sending.SendState.TheVariants as send
 use Rattle.lobby_turns.specs.declared.sending.Step.{Step}
 use Rattle.lobby_turns.specs.declared.sending.Step.TheVariants as step
 use Rattle.lobby_holds.specs.Wire.{MayGoOn}
-use Rattle.lobby_holds.specs.Moments.{Moment, told_end}
+use Rattle.lobby_holds.specs.Moments.{Moment, moment, questions, tells_end, told_end}
 use Rattle.lobby_holds.specs.Snapshot.{Snapshot}
 use Rattle.lobby_holds.specs.Talk.{AreDrains, EndsDry}
 use Rattle.lobby_holds.specs.Went.{Went}
 use Rattle.lobby_holds.specs.Holds.{Drains, Asks}
 use Rattle.lobby_turns.specs.Sending.{MaySend, OnlyWrites, NoWriteFailed, IsSound, IsAllSent, AsksFirst, StepIs, SendsNext, IsStop, IsWrittenOut, all_written, stopped, spent, Writes, SentIs, Sends}
-use Rattle.lobby_holds.proofs.Parts.{went_none, went_then}
+use Rattle.lobby_holds.proofs.Parts.{went_none, went_then, questions-append}
 use Rattle.lobby_holds.proofs.Talks.{are_drains-append, calm-append, finished-append, dry_behind}
 use Rattle.std.proofs.Math.Nat.{add-zero}
 
@@ -32,6 +34,7 @@ pub only_same : (a : Snapshot) → OnlyWrites a a 0
 only_same a = record {
   writes_are = sym (add-zero a.wire.writes);
   reads = refl;
+  read = refl;
   failures = omega arith;
   last_got = refl;
   still = λ _. refl;
@@ -48,7 +51,7 @@ sending_none a written = record {
   talk = [];
   went = went_none a;
   own = tt;
-  asks = λ rest. absurd (rest written);
+  asks = record { waiting = λ rest. absurd (rest written); written = λ _. refl; once = omega arith };
   drains = omega arith;
   sound = record { calm = refl; no_fault = no_fault_none a a 0 refl (only_same a) };
   only = only_same a;
@@ -58,6 +61,7 @@ pub only_then : (a b c : Snapshot) (m n : ℕ) → OnlyWrites a b m → OnlyWrit
 only_then a b c m n h k = record {
   writes_are = omega (arith, h.writes_are, k.writes_are);
   reads = k.reads ∙ h.reads;
+  read = k.read ∙ h.read;
   failures = omega (arith, h.failures, k.failures);
   last_got = k.last_got ∙ h.last_got;
   still = λ e. k.still (omega (arith, e)) ∙ h.still (omega (arith, e));
@@ -76,16 +80,20 @@ sound_then : (a b c : Snapshot) (t u : List Moment) (m n : ℕ) → OnlyWrites a
 sound_then a b c t u m n h k before behind =
     record { calm = calm-append t u before.calm behind.calm; no_fault = no_fault_then a b c m n h k before.no_fault behind.no_fault }
 
--- what was asked first was asked first whatever follows
-asks_on : (a : Snapshot) (t u : List Moment) → AsksFirst a t → AsksFirst a (t ++ u)
-asks_on a t u h = λ rest. ((h rest).0, (h rest).1 ++ u, ap (λ l. l ++ u) (h rest).2)
+-- what was asked first was asked first, and once, whatever follows without a question
+asks_on : (a : Snapshot) (t u : List Moment) → questions u ≡ [] → AsksFirst a t → AsksFirst a (t ++ u)
+asks_on a t u none h = record {
+  waiting = λ rest. ((h.waiting rest).0, (h.waiting rest).1 ++ u, ap (λ l. l ++ u) (h.waiting rest).2);
+  written = λ e. questions-append t u ∙ (λ i. h.written e i ++ none i);
+  once = omega (arith, h.once, ap length (questions-append t u), length-append (questions t) (questions u), ap length none);
+}
 
 wrote : (a b c : Snapshot) (k : ℕ) → Sending a b k → SendsNext b c step.Wrote → Sending a c (k + 1)
 wrote a b c k h s = record {
   talk = h.talk ++ s.talk;
   went = went_then a b c h.talk s.talk h.went s.went;
   own = their_drains a b h.talk s.talk h.went h.own s.own;
-  asks = asks_on a h.talk s.talk h.asks;
+  asks = asks_on a h.talk s.talk s.no_question h.asks;
   drains = omega (arith, length-append h.talk s.talk, h.drains, s.drains);
   sound = sound_then a b c h.talk s.talk k s.writes h.only s.only h.sound s.step_is.0;
   only = subst (λ (n : ℕ). OnlyWrites a c (k + n)) s.step_is.1 (only_then a b c k s.writes h.only s.only);
@@ -101,7 +109,7 @@ sent_step a b c k s how few h n is = record {
   talk = h.talk ++ n.talk;
   went = went_then a b c h.talk n.talk h.went n.went;
   own = their_drains a b h.talk n.talk h.went h.own n.own;
-  asks = asks_on a h.talk n.talk h.asks;
+  asks = asks_on a h.talk n.talk n.no_question h.asks;
   drains = omega (arith, length-append h.talk n.talk, h.drains, n.drains, few);
   writes = k + n.writes;
   few = omega (arith, few, n.few);
@@ -148,7 +156,7 @@ finished a b c d k most room few h s w = record {
   talk = (h.talk ++ s.talk) ++ [];
   went = went_then a c d (h.talk ++ s.talk) [] (went_then a b c h.talk s.talk h.went s.went) w.went;
   own = their_drains a c (h.talk ++ s.talk) [] (went_then a b c h.talk s.talk h.went s.went) (their_drains a b h.talk s.talk h.went h.own s.own) tt;
-  asks = asks_on a (h.talk ++ s.talk) [] (asks_on a h.talk s.talk h.asks);
+  asks = asks_on a (h.talk ++ s.talk) [] refl (asks_on a h.talk s.talk s.no_question h.asks);
   drains = omega (arith, ap length (append-nil (h.talk ++ s.talk)), length-append h.talk s.talk, h.drains, s.drains, room);
   writes = (k + s.writes) + w.writes;
   few = omega (arith, few, w.few, s.step_is.1);
@@ -194,7 +202,7 @@ may_send a b c k n most few may only more = record {
 -- ---- single steps
 
 pub next_memory : (a : Snapshot) → a.conn.unwritten ≡ [] → SendsNext a a step.Memory
-next_memory a written = record { talk = []; went = went_none a; own = tt; drains = omega arith; writes = 0; few = omega arith; only = only_same a; step_is = (refl, refl, written) }
+next_memory a written = record { talk = []; went = went_none a; own = tt; no_question = refl; drains = omega arith; writes = 0; few = omega arith; only = only_same a; step_is = (refl, refl, written) }
 
 -- ---- behind drains
 
@@ -208,6 +216,7 @@ wrote_behind a b c dry how d before went only is = record {
   talk = d.talk;
   went = subst (λ (t : List Moment). Went a c t) (append-nil d.talk) (went_then a b c d.talk [] d.went went);
   own = d.own;
+  no_question = d.no_question;
   drains = d.few;
   writes = 1;
   few = omega arith;
@@ -253,6 +262,7 @@ next_all a b finished dry goes_on is_dry only written found =
       talk = d.talk;
       went = d.went;
       own = d.own;
+      no_question = d.no_question;
       drains = d.few;
       writes = 0;
       few = omega arith;
@@ -268,6 +278,7 @@ next_finished a b finished dry is_so only d = record {
   talk = d.talk;
   went = d.went;
   own = d.own;
+  no_question = d.no_question;
   drains = d.few;
   writes = 0;
   few = omega arith;
@@ -277,17 +288,26 @@ next_finished a b finished dry is_so only d = record {
 
 -- nothing was drained
 pub drains_none : (a : Snapshot) → Drains a a false false
-drains_none a = record { talk = []; went = went_none a; own = tt; few = omega arith; finished_is = refl; dry_is = λ e. absurd (true≢false (sym e)) }
+drains_none a = record { talk = []; went = went_none a; own = tt; few = omega arith; no_question = refl; finished_is = refl; dry_is = λ e. absurd (true≢false (sym e)) }
 
 -- the loop begins behind the question whether the client is finished
-pub sending_asked : (a b : Snapshot) (finished : Bool) → finished ≡ false → OnlyWrites a b 0 → Asks a b finished → Sending a b 0
-sending_asked a b finished goes_on only d = record {
-  talk = d.drains.talk;
-  went = d.drains.went;
-  own = d.drains.own;
-  asks = λ _. d.begins;
-  drains = omega (arith, d.drains.few);
-  sound = record { calm = d.drains.finished_is ∙ goes_on; no_fault = no_fault_none a b 0 refl only };
+abbrev question : (a b : Snapshot) (finished : Bool) → Asks a b finished → Moment
+question a b finished d = moment d.met (event.Drain a.conn.session.client 0)
+
+told : (a b : Snapshot) (finished : Bool) → (d : Asks a b finished) → told_end (question a b finished d ∷ []) ≡ finished
+told a b finished d = or-false (tells_end d.met (event.Drain a.conn.session.client 0)) ∙ d.finished_is
+
+asks_once : (a b : Snapshot) (finished : Bool) → a.conn.unwritten ≢ [] → (d : Asks a b finished) → AsksFirst a (question a b finished d ∷ [])
+asks_once a b finished rest d = record { waiting = λ _. (d.met, [], refl); written = λ none. absurd (rest none); once = omega arith }
+
+pub sending_asked : (a b : Snapshot) (finished : Bool) → a.conn.unwritten ≢ [] → finished ≡ false → OnlyWrites a b 0 → Asks a b finished → Sending a b 0
+sending_asked a b finished rest goes_on only d = record {
+  talk = question a b finished d ∷ [];
+  went = d.went;
+  own = ((refl, omega arith), tt);
+  asks = asks_once a b finished rest d;
+  drains = omega arith;
+  sound = record { calm = told a b finished d ∙ goes_on; no_fault = no_fault_none a b 0 refl only };
   only = only;
 }
 
@@ -327,31 +347,32 @@ pub writes_most : (a b : Snapshot) (k most : ℕ) → k ≡ most → Writing a b
 writes_most a b k most same h = writes_out a b k most (omega (arith, same)) h (spent (omega (arith, h.only.writes_are, same)))
 
 -- finished already when asked
-pub sends_asked : (a b c : Snapshot) (finished : Bool) → finished ≡ true → OnlyWrites a b 0 → Asks a b finished → Writes b c 16 → Sends a c send.Finished
-sends_asked a b c finished is_so only d w = record {
-  talk = d.drains.talk ++ [];
-  went = went_then a b c d.drains.talk [] d.drains.went w.went;
-  own = their_drains a b d.drains.talk [] d.drains.went d.drains.own tt;
-  asks = asks_on a d.drains.talk [] (λ _. d.begins);
-  drains = omega (arith, ap length (append-nil d.drains.talk), d.drains.few);
+pub sends_asked : (a b c : Snapshot) (finished : Bool) → a.conn.unwritten ≢ [] → finished ≡ true → OnlyWrites a b 0 → Asks a b finished → Writes b c 16 → Sends a c send.Finished
+sends_asked a b c finished rest is_so only d w = record {
+  talk = question a b finished d ∷ [];
+  went = went_then a b c (question a b finished d ∷ []) [] d.went w.went;
+  own = ((refl, omega arith), tt);
+  asks = asks_once a b finished rest d;
+  drains = omega arith;
   writes = 0 + w.writes;
   few = omega (arith, w.few);
   only = only_then a b c 0 w.writes only w.only;
   sent_is = (
-    ap told_end (append-nil d.drains.talk) ∙ d.drains.finished_is ∙ is_so,
+    told a b finished d ∙ is_so,
     out_since a b c 0 16 16 (omega arith) only w.out,
   );
 }
 
-pub one_write : (a b : Snapshot) → b.wire.writes ≡ a.wire.writes + 1 → b.wire.reads ≡ a.wire.reads → b.wire.failures ≤ a.wire.failures + 1 → b.wire.last_got ≡ a.wire.last_got
+pub one_write : (a b : Snapshot) → b.wire.writes ≡ a.wire.writes + 1 → b.wire.reads ≡ a.wire.reads → b.wire.read ≡ a.wire.read → b.wire.failures ≤ a.wire.failures + 1 → b.wire.last_got ≡ a.wire.last_got
     → b.conn.session ≡ a.conn.session → b.conn.unfed ≡ a.conn.unfed → OnlyWrites a b 1
-one_write a b writes reads failures last_got session unfed =
-    record { writes_are = writes; reads = reads; failures = failures; last_got = last_got; still = λ e. absurd (omega (arith, e)); session = session; unfed = unfed }
+one_write a b writes reads read failures last_got session unfed =
+    record { writes_are = writes; reads = reads; read = read; failures = failures; last_got = last_got; still = λ e. absurd (omega (arith, e)); session = session; unfed = unfed }
 
 pub no_write : (a b : Snapshot) → b.wire ≡ a.wire → b.conn.session ≡ a.conn.session → b.conn.unfed ≡ a.conn.unfed → OnlyWrites a b 0
 no_write a b wire session unfed = record {
   writes_are = ap (λ w. w.writes) wire ∙ sym (add-zero a.wire.writes);
   reads = ap (λ w. w.reads) wire;
+  read = ap (λ w. w.read) wire;
   failures = omega (arith, ap (λ w. w.failures) wire);
   last_got = ap (λ w. w.last_got) wire;
   still = λ _. ap (λ w. w.last_sent) wire;

@@ -1,5 +1,5 @@
 -- How a turn is put together.
-use Rattle.std.proofs.Common.{◌≡◌, ◌⊎◌, ◌≢◌, ℕ, ◌+◌, ◌<◌, ◌≤◌, true, false, List, [], ◌∷◌, ◌++◌, length, refl, sym, ap, ◌∙◌, subst, inl, inr, arith, append-nil, length-append, true≢false}
+use Rattle.std.proofs.Common.{◌≡◌, ◌⊎◌, ◌≢◌, ℕ, ◌+◌, ◌*◌, ◌<◌, ◌≤◌, true, false, List, [], ◌∷◌, ◌++◌, length, refl, sym, ap, ◌∙◌, subst, inl, inr, arith, append-nil, length-append, true≢false}
 use Rattle.std.proofs.Math.Bool.{or-false}
 use Rattle.std.specs.Prelude.{◌||◌, Option, Some}
 use Rattle.lobby_model.specs.declared.event.Event.TheVariants as event
@@ -10,24 +10,24 @@ use Rattle.client_session.specs.declared.session.Next.TheVariants.{Nothing, Spoi
 use Rattle.client_session.specs.OneSession.{IsNextOf, HasLineNext}
 use Rattle.lobby_holds.specs.declared.link.Got.{Got}
 use Rattle.lobby_holds.specs.declared.link.Got.TheVariants as got
-use Rattle.lobby_holds.specs.declared.link.Sent.TheVariants as sent
 use Rattle.lobby_turns.specs.declared.receiving.ReceiveState.{ReceiveState}
 use Rattle.lobby_turns.specs.declared.receiving.ReceiveState.TheVariants as receive
 use Rattle.lobby_turns.specs.declared.sending.SendState.{SendState}
 use Rattle.lobby_turns.specs.declared.sending.SendState.TheVariants as send
 use Rattle.lobby_turns.specs.declared.turn.TurnState.{TurnState}
 use Rattle.lobby_turns.specs.declared.turn.TurnState.TheVariants as state
-use Rattle.lobby_holds.specs.Moments.{Moment, moment, requests, touched, told_end}
-use Rattle.lobby_holds.specs.Wire.{Wire}
+use Rattle.lobby_holds.specs.Moments.{Moment, moment, requests, questions, touched, told_end}
+use Rattle.lobby_holds.specs.Wire.{Wire, ReadsSome}
 use Rattle.lobby_holds.specs.Snapshot.{Snapshot}
 use Rattle.lobby_holds.specs.Talk.{AreTalk, AreDrains, EndsDry}
 use Rattle.lobby_turns.specs.Receiving.{IsAllReceived, HasToReceive, has_bytes, has_line, has_more, IsOver, NoReadFailed, ReceivesMost, ReceivedIs, Receives}
-use Rattle.lobby_turns.specs.Sending.{OnlyWrites, IsSound, IsStop, IsWrittenOut, all_written, stopped, spent, IsAllSent, MustWait, NoWriteFailed, SendsMost, SentIs, Sends}
+use Rattle.lobby_turns.specs.Sending.{OnlyWrites, IsSound, IsStop, IsWrittenOut, all_written, stopped, spent, IsAllSent, MustWait, SendsMost, SentIs, Sends}
 use Rattle.lobby_holds.specs.Went.{Went}
-use Rattle.lobby_holds.specs.Holds.{Made}
-use Rattle.lobby_turns.specs.Turned.{GoesOn, MayShut, spoilt, unread, unsent, finished, ended, HasReceived, received_all, received_most, HasSent, sent_all, put_off, sent_most, IsIdle, IsAtLimit, of_receiving, of_sending, IsShort, to_receive, to_drain, TakesMemory, to_go_on, to_shut, IsAsked, Ends, Turned, ClosesTo}
-use Rattle.lobby_holds.proofs.Parts.{requests-append, went_then}
-use Rattle.lobby_holds.proofs.Talks.{are_talk-append, drains_are_talk, drains_ask, touched-append, touched_drained, calm-append, finished-append, dry_behind}
+use Rattle.lobby_holds.specs.Holds.{Made, HasNoSpoiltNext}
+use Rattle.lobby_turns.specs.Turned.{GoesOn, MayShut, spoilt, unread, unsent, finished, ended, HasReceived, received_all, received_most, HasSent, sent_all, put_off, sent_most, IsIdle, IsAtLimit, of_receiving, of_sending, IsShort, to_receive, to_drain, to_go_on, to_shut, IsAsked, Ends, Turned, ClosesTo}
+use Rattle.lobby_holds.proofs.Nexts.{line_is_sound, nothing_is_sound}
+use Rattle.lobby_holds.proofs.Parts.{requests-append, questions-append, went_then}
+use Rattle.lobby_holds.proofs.Talks.{only_requests, are_talk-append, drains_are_talk, drains_ask, touched-append, touched_drained, calm-append, finished-append, dry_behind}
 
 -- what came from a client was received, and then what is for it was sent
 pub record Served (a b c : Snapshot) (how : ReceiveState) (far : SendState) (wakes : ℕ) : Type 0 where
@@ -57,8 +57,27 @@ drains_both : (a b c : Snapshot) (how : ReceiveState) (far : SendState) (wakes :
 drains_both a b c how far wakes s =
     omega (arith, length-append s.receives.talk s.sends.talk, s.receives.only_lines, s.sends.drains, ap length (lines_both a b c how far wakes s))
 
+-- who only says lines asks nothing
+unasked_both : (a b c : Snapshot) (how : ReceiveState) (far : SendState) (wakes : ℕ) → (s : Served a b c how far wakes) → questions (s.receives.talk ++ s.sends.talk) ≡ questions s.sends.talk
+unasked_both a b c how far wakes s =
+    questions-append s.receives.talk s.sends.talk ∙ ap (λ l. l ++ questions s.sends.talk) (only_requests s.receives.talk s.receives.only_lines)
+
+once_both : (a b c : Snapshot) (how : ReceiveState) (far : SendState) (wakes : ℕ) → (s : Served a b c how far wakes) → length (questions (s.receives.talk ++ s.sends.talk)) ≤ 1
+once_both a b c how far wakes s = omega (arith, ap length (unasked_both a b c how far wakes s), s.sends.asks.once)
+
+never_both : (a b c : Snapshot) (how : ReceiveState) (far : SendState) (wakes : ℕ) → (s : Served a b c how far wakes) → a.conn.unwritten ≡ [] → questions (s.receives.talk ++ s.sends.talk) ≡ []
+never_both a b c how far wakes s written = unasked_both a b c how far wakes s ∙ s.sends.asks.written (s.receives.only.unwritten ∙ written)
+
 reads_both : (a b c : Snapshot) (how : ReceiveState) (far : SendState) (wakes : ℕ) → Served a b c how far wakes → c.wire.reads ≤ a.wire.reads + 16
 reads_both a b c how far wakes s = omega (arith, s.receives.only.reads_are, s.receives.few, s.sends.only.reads)
+
+pieces_both : (a b c : Snapshot) (how : ReceiveState) (far : SendState) (wakes : ℕ) → Served a b c how far wakes → ReadsSome a.wire c.wire 65536
+pieces_both a b c how far wakes s =
+    let h : ReadsSome a.wire b.wire (4096 * s.receives.reads) = s.receives.only.pieces in
+    record { more = h.more; read = s.sends.only.read ∙ h.read; few = omega (arith, h.few, s.receives.few) }
+
+ended_both : (a b c : Snapshot) (how : ReceiveState) (far : SendState) (wakes : ℕ) → Served a b c how far wakes → a.wire.last_got ≡ Some got.End → c.wire.reads ≡ a.wire.reads
+ended_both a b c how far wakes s end = omega (arith, s.receives.only.reads_are, s.receives.after_end end, s.sends.only.reads)
 
 writes_both : (a b c : Snapshot) (how : ReceiveState) (far : SendState) (wakes : ℕ) → Served a b c how far wakes → c.wire.writes ≤ a.wire.writes + 16
 writes_both a b c how far wakes s = omega (arith, s.receives.only.writes, s.sends.only.writes_are, s.sends.few)
@@ -134,16 +153,28 @@ still_received a b c reads last (inr later) = inr (last ∙ later.0, subst (λ (
 
 -- sending reads nothing
 left_to_receive : (a b c : Snapshot) → c.conn.session ≡ b.conn.session → c.conn.unfed ≡ b.conn.unfed → c.wire.last_got ≡ b.wire.last_got → c.wire.reads ≡ b.wire.reads → HasToReceive a b → HasToReceive a c
-left_to_receive a b c session unfed last reads (has_bytes h) = has_bytes (λ e. h (sym unfed ∙ e))
+left_to_receive a b c session unfed last reads (has_bytes some unspoilt) = has_bytes (λ e. some (sym unfed ∙ e)) (subst HasNoSpoiltNext (sym session) unspoilt)
 left_to_receive a b c session unfed last reads (has_line h) = has_line (subst HasLineNext (sym session) h)
 left_to_receive a b c session unfed last reads (has_more h) =
-    has_more (record { on = λ e. h.on (sym last ∙ e); sound = λ e. h.sound (sym last ∙ e); late = λ e. reads ∙ h.late (sym last ∙ e) })
+    has_more (record { fed = unfed ∙ h.fed; nothing = subst (λ (x : Serving). IsNextOf (Some x) Nothing) (sym session) h.nothing; on = λ e. h.on (sym last ∙ e); sound = λ e. h.sound (sym last ∙ e); late = λ e. reads ∙ h.late (sym last ∙ e) })
 
 sound_received : (a b : Snapshot) (talk : List Moment) (how : ReceiveState) → how ≢ receive.Stop → ReceivedIs a b talk how → NoReadFailed a b
 sound_received a b talk receive.All on h = h.0
 sound_received a b talk receive.Again on h = h.0
 sound_received a b talk receive.Stop on h = absurd (on refl)
 sound_received a b talk receive.Memory on h = h.0
+
+-- nor is a spoilt place next
+left_unspoilt : (a b : Snapshot) → HasToReceive a b → HasNoSpoiltNext b.conn.session
+left_unspoilt a b (has_bytes some unspoilt) = unspoilt
+left_unspoilt a b (has_line h) = line_is_sound b.conn.session h
+left_unspoilt a b (has_more h) = nothing_is_sound b.conn.session h.nothing
+
+unspoilt_received : (a b : Snapshot) (talk : List Moment) (how : ReceiveState) → how ≢ receive.Stop → ReceivedIs a b talk how → HasNoSpoiltNext b.conn.session
+unspoilt_received a b talk receive.All on h = nothing_is_sound b.conn.session h.1.nothing
+unspoilt_received a b talk receive.Again on h = h.1.unspoilt
+unspoilt_received a b talk receive.Stop on h = absurd (on refl)
+unspoilt_received a b talk receive.Memory on h = left_unspoilt a b h.1
 
 sound_sent : (b c : Snapshot) (talk : List Moment) (far : SendState) → far ≢ send.Finished → far ≢ send.Fault → SentIs b c talk far → IsSound b c talk
 sound_sent b c talk send.All on sound h = h.0
@@ -163,6 +194,7 @@ module _ (a b c : Snapshot) (how : ReceiveState) (far : SendState) (wakes : ℕ)
       let read : NoReadFailed a b = sound_received a b s.receives.talk how on.0 s.receives.received_is in
       record {
         calm = calm-append s.receives.talk s.sends.talk s.receives.calm sound.calm;
+        unspoilt = subst HasNoSpoiltNext (sym s.sends.only.session) (unspoilt_received a b s.receives.talk how on.0 s.receives.received_is);
         read = λ rose failed. read (omega (arith, rose, s.sends.only.reads)) (sym s.sends.only.last_got ∙ failed);
         written = λ rose. sound.no_fault (omega (arith, rose, s.receives.only.writes));
       }
@@ -176,9 +208,12 @@ module _ (a b c : Snapshot) (how : ReceiveState) (far : SendState) (wakes : ℕ)
         last = still_received a b c (sym s.sends.only.reads) s.sends.only.last_got h.last;
       }
 
+  limit_since : (length (requests s.receives.talk) ≡ 64) ⊎ (b.wire.reads ≡ a.wire.reads + 16) → (length (requests spoken) ≡ 64) ⊎ (c.wire.reads ≡ a.wire.reads + 16)
+  limit_since (inl lines) = inl (ap length (lines_both a b c how far wakes s) ∙ lines)
+  limit_since (inr reads) = inr (s.sends.only.reads ∙ reads)
+
   most_since : ReceivesMost a b s.receives.talk → ReceivesMost a c spoken
-  most_since (inl lines) = inl (ap length (lines_both a b c how far wakes s) ∙ lines)
-  most_since (inr reads) = inr (s.sends.only.reads ∙ reads)
+  most_since h = record { limit = limit_since h.limit; fed = s.sends.only.unfed ∙ h.fed; unspoilt = subst HasNoSpoiltNext (sym s.sends.only.session) h.unspoilt }
 
   most : how ≡ receive.Again → ReceivesMost a c spoken
   most e = most_since (subst (λ (x : ReceiveState). ReceivedIs a b s.receives.talk x) e s.receives.received_is).1
@@ -260,7 +295,7 @@ module _ (a b c : Snapshot) (how : ReceiveState) (far : SendState) (wakes : ℕ)
   -- what waits to be written is what waited before the turn
   asked : a.conn.unwritten ≢ [] → IsAsked c.conn.session.client spoken
   asked waiting =
-      let first = s.sends.asks (λ none. waiting (sym s.receives.only.unwritten ∙ none)) in
+      let first = s.sends.asks.waiting (λ none. waiting (sym s.receives.only.unwritten ∙ none)) in
       let same : b.conn.session.client ≡ c.conn.session.client = sym s.sends.went.client in
       subst (λ (d : ℕ). IsAsked d spoken) same
       (s.receives.talk, first.0, first.1, ap (λ l. s.receives.talk ++ l) first.2, (subst (λ (l : List Moment). AreDrains b.conn.session.client l) first.2 s.sends.own).1)
@@ -275,10 +310,14 @@ turned_open a b c how far wakes x h t on rest =
       went = subst (λ (l : List Moment). Went a c l) (sym (append-nil (h.talk ++ t.talk))) (went_both a b c how far wakes s);
       own = own_both a b c how far wakes s;
       asked = asked a b c how far wakes s;
+      unasked = never_both a b c how far wakes s;
+      once = once_both a b c how far wakes s;
       ends = rests a b c how far wakes s x on rest;
       lines = subst (λ (l : List _). length l ≤ 64) (sym (lines_both a b c how far wakes s)) h.lines;
       drains = drains_both a b c how far wakes s;
       reads = reads_both a b c how far wakes s;
+      pieces = pieces_both a b c how far wakes s;
+      after_end = ended_both a b c how far wakes s;
       writes = writes_both a b c how far wakes s;
       wakes_are = λ home.
           h.wakes_are home ∙ sym (touched_drained b.conn.session.client h.talk t.talk home t.own)
@@ -317,10 +356,14 @@ turned_closed a b c d how far wakes more state.Closed h t must conn wire closes 
       went = went_then a c d talk (last ∷ []) (went_both a b c how far wakes s) closes.1;
       own = subst (λ (x : ℕ). AreTalk x talk) (sym closes.1.client) (own_both a b c how far wakes s);
       asked = λ waiting. subst (λ (x : ℕ). IsAsked x talk) (sym closes.1.client) (asked a b c how far wakes s waiting);
+      unasked = never_both a b c how far wakes s;
+      once = once_both a b c how far wakes s;
       ends = (closes.0, ap (λ x. moment closes.0 (event.Shut x) ∷ []) (sym closes.1.client), moved_on a c d talk conn wire (may_shut a b c how far wakes s must));
       lines = subst (λ (l : List _). length l ≤ 64) (sym (lines_both a b c how far wakes s)) h.lines;
       drains = drains_both a b c how far wakes s;
       reads = subst (λ (w : _). w.reads ≤ a.wire.reads + 16) (sym wire) (reads_both a b c how far wakes s);
+      pieces = subst (λ (w : Wire). ReadsSome a.wire w 65536) (sym wire) (pieces_both a b c how far wakes s);
+      after_end = λ end. ap (λ w. w.reads) wire ∙ ended_both a b c how far wakes s end;
       writes = subst (λ (w : _). w.writes ≤ a.wire.writes + 16) (sym wire) (writes_both a b c how far wakes s);
       wakes_are = λ home.
           closes.2 home
@@ -336,10 +379,14 @@ turned_closed a b c d how far wakes more state.Memory h t must conn wire closes 
       went = went_then a c d talk [] (went_both a b c how far wakes s) closes.0;
       own = subst (λ (x : ℕ). AreTalk x talk) (sym closes.0.client) (own_both a b c how far wakes s);
       asked = λ waiting. subst (λ (x : ℕ). IsAsked x talk) (sym closes.0.client) (asked a b c how far wakes s waiting);
+      unasked = never_both a b c how far wakes s;
+      once = once_both a b c how far wakes s;
       ends = (refl, to_shut (moved_on a c d talk conn wire (may_shut a b c how far wakes s must)));
       lines = subst (λ (l : List _). length l ≤ 64) (sym (lines_both a b c how far wakes s)) h.lines;
       drains = drains_both a b c how far wakes s;
       reads = subst (λ (w : _). w.reads ≤ a.wire.reads + 16) (sym wire) (reads_both a b c how far wakes s);
+      pieces = subst (λ (w : Wire). ReadsSome a.wire w 65536) (sym wire) (pieces_both a b c how far wakes s);
+      after_end = λ end. ap (λ w. w.reads) wire ∙ ended_both a b c how far wakes s end;
       writes = subst (λ (w : _). w.writes ≤ a.wire.writes + 16) (sym wire) (writes_both a b c how far wakes s);
       wakes_are = λ home.
           ap (λ w. has_home w home) closes.1

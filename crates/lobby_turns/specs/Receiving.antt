@@ -1,24 +1,27 @@
 -- What receiving from a client did.
-use Rattle.std.specs.Prelude.{◌≡◌, ◌≢◌, ◌⊎◌, ℕ, ◌+◌, ◌<◌, ◌≤◌, true, false, List, [], length, Option, Some, None}
+use Rattle.std.specs.Prelude.{◌≡◌, ◌≢◌, ◌⊎◌, ℕ, ◌+◌, ◌*◌, ◌<◌, ◌≤◌, false, List, [], length, Option, Some, None}
 use Rattle.lobby_post.specs.Mask.{has_home}
 use Rattle.client_session.specs.declared.session.Next.TheVariants.{Nothing, Spoilt}
 use Rattle.client_session.specs.OneSession.{IsNextOf, HasLineNext}
+use Rattle.client_session.specs.Serving.{Serving}
 use Rattle.lobby_holds.specs.declared.link.Got.{Got}
 use Rattle.lobby_holds.specs.declared.link.Got.TheVariants as got
 use Rattle.lobby_turns.specs.declared.receiving.ReceiveState.{ReceiveState}
 use Rattle.lobby_turns.specs.declared.receiving.ReceiveState.TheVariants as receive
 use Rattle.lobby_turns.specs.declared.receiving.Step.{Step}
 use Rattle.lobby_turns.specs.declared.receiving.Step.TheVariants as step
+use Rattle.lobby_holds.specs.Wire.{ReadsSome}
 use Rattle.lobby_holds.specs.Moments.{Moment, requests, touched, told_end}
-use Rattle.lobby_holds.specs.Snapshot.{Snapshot}
+use Rattle.lobby_holds.specs.Snapshot.{Carried, Snapshot}
 use Rattle.lobby_holds.specs.Talk.{AreTalk}
 use Rattle.lobby_holds.specs.Went.{Went}
-use Rattle.lobby_holds.specs.Holds.{AreSaid, IsWithin}
+use Rattle.lobby_holds.specs.Holds.{AreSaid, IsWithin, HasNoSpoiltNext, StopsAt}
 
--- So many reads were made and no write, and each failed at most once. Without a read its last answer is as it was. What is to be
+-- So many reads were made, of 4,096 bytes at most, and no write, and each failed at most once. Without a read its last answer is as it was. What is to be
 -- written is as it was
 pub record OnlyReads (old new : Snapshot) (reads : ℕ) : Type 0 where
   pub reads_are : new.wire.reads ≡ old.wire.reads + reads
+  pub pieces : ReadsSome old.wire new.wire (4096 * reads)
   pub writes : new.wire.writes ≡ old.wire.writes
   pub failures : new.wire.failures ≤ old.wire.failures + reads
   pub still : reads ≡ 0 → new.wire.last_got ≡ old.wire.last_got
@@ -34,8 +37,11 @@ pub record IsAllReceived (old new : Snapshot) : Type 0 where
 abbrev pub IsOver : Snapshot → Type 0
 IsOver new = IsNextOf (Some new.conn.session) Spoilt ⊎ (new.wire.last_got ≡ Some got.Fault)
 
--- the link neither has ended nor failed, and did not say just now that it has nothing yet
+-- All that was read was fed, and nothing of it is next; and the link neither has ended nor failed, and did not say just now that it has
+-- nothing yet
 pub record MayHaveMore (old new : Snapshot) : Type 0 where
+  pub fed : new.conn.unfed ≡ []
+  pub nothing : IsNextOf (Some new.conn.session) Nothing
   pub on : new.wire.last_got ≢ Some got.End
   pub sound : new.wire.last_got ≢ Some got.Fault
   pub late : new.wire.last_got ≡ Some got.Later → new.wire.reads ≡ old.wire.reads
@@ -52,27 +58,36 @@ IsBytes (Some got.Fault) = ⊥
 abbrev pub NoReadFailed : Snapshot → Snapshot → Type 0
 NoReadFailed old new = old.wire.reads < new.wire.reads → new.wire.last_got ≢ Some got.Fault
 
--- 64 lines were said to the lobby, or 16 reads were made
-abbrev pub ReceivesMost : Snapshot → Snapshot → List Moment → Type 0
-ReceivesMost old new talk = (length (requests talk) ≡ 64) ⊎ (new.wire.reads ≡ old.wire.reads + 16)
+-- 64 lines were said to the lobby, or 16 reads were made; and all that was read was fed, and no spoilt place is next
+pub record ReceivesMost (old new : Snapshot) (talk : List Moment) : Type 0 where
+  pub limit : (length (requests talk) ≡ 64) ⊎ (new.wire.reads ≡ old.wire.reads + 16)
+  pub fed : new.conn.unfed ≡ []
+  pub unspoilt : HasNoSpoiltNext new.conn.session
 
--- Receiving from a client takes memory where bytes are to be fed, where a line is next, and where the link may have more
+-- Receiving from a client takes memory where bytes are to be fed and no spoilt place is next, where a line is next, and where the link
+-- may have more
 pub data HasToReceive (old new : Snapshot) : Type 0 where
-  has_bytes : new.conn.unfed ≢ [] → HasToReceive old new
+  has_bytes : new.conn.unfed ≢ [] → HasNoSpoiltNext new.conn.session → HasToReceive old new
   has_line : HasLineNext new.conn.session → HasToReceive old new
   has_more : MayHaveMore old new → HasToReceive old new
 
--- a step that said lines said so many at most, and one at least unless memory was refused
-abbrev pub SaysWithin : ℕ → Step → Type 0
-SaysWithin most (step.Said said) = IsWithin most said
-SaysWithin most step.Read = Unit {0}
-SaysWithin most step.All = Unit {0}
-SaysWithin most step.Stop = Unit {0}
-SaysWithin most step.Memory = Unit {0}
+-- a link is read only where no whole line is left of what was fed, and where it neither has ended nor failed
+pub record MayRead (old new : Snapshot) : Type 0 where
+  pub nothing : IsNextOf (Some new.conn.session) Nothing
+  pub on : old.wire.last_got ≢ Some got.End
+  pub sound : old.wire.last_got ≢ Some got.Fault
+
+-- a step that said lines said so many at most in one hold, and stopped before for want of a line, of memory or of place in the hold alone
+abbrev pub SaysWithin : ℕ → Serving → Step → Type 0
+SaysWithin most session (step.Said said) = IsWithin most said × StopsAt most session said
+SaysWithin most session step.Read = Unit {0}
+SaysWithin most session step.All = Unit {0}
+SaysWithin most session step.Stop = Unit {0}
+SaysWithin most session step.Memory = Unit {0}
 
 -- what a step did, in so many reads
 abbrev pub StepIs : Snapshot → Snapshot → List Moment → ℕ → Step → Type 0
-StepIs old new talk reads (step.Said said) = (reads ≡ 0) × AreSaid old.conn.session.client talk said.lines said.wakes × (said.refused ≡ true → HasLineNext new.conn.session)
+StepIs old new talk reads (step.Said said) = (reads ≡ 0) × AreSaid old.conn.session.client talk said.lines said.wakes
 StepIs old new talk reads step.Read = (talk ≡ []) × (reads ≡ 1) × IsBytes new.wire.last_got
 StepIs old new talk reads step.All = (talk ≡ []) × IsAllReceived old new
 StepIs old new talk reads step.Stop = (talk ≡ []) × IsOver new
@@ -83,8 +98,16 @@ pub record ReceivesNext (old new : Snapshot) (step : Step) : Type 0 where
   pub went : Went old new talk
   pub reads : ℕ
   pub few : reads ≤ 1
+  pub may_read : 0 < reads → MayRead old new
   pub only : OnlyReads old new reads
   pub step_is : StepIs old new talk reads step
+
+-- how far a turn received that came to a limit: on to the next turn, or to a spoilt place, or until memory was refused to what was read
+abbrev pub LimitIs : Carried → ReceiveState → Type 0
+LimitIs conn receive.All = ⊥
+LimitIs conn receive.Again = (conn.unfed ≡ []) × HasNoSpoiltNext conn.session
+LimitIs conn receive.Stop = IsNextOf (Some conn.session) Spoilt
+LimitIs conn receive.Memory = (conn.unfed ≢ []) × HasNoSpoiltNext conn.session
 
 -- how far a turn received from the client
 abbrev pub ReceivedIs : Snapshot → Snapshot → List Moment → ReceiveState → Type 0
@@ -102,6 +125,7 @@ pub record Receives (old new : Snapshot) (state : ReceiveState) (wakes : ℕ) : 
   pub only_lines : length talk ≡ length (requests talk)
   pub reads : ℕ
   pub few : reads ≤ 16
+  pub after_end : old.wire.last_got ≡ Some got.End → reads ≡ 0
   pub only : OnlyReads old new reads
   pub wakes_are : (home : ℕ) → has_home wakes home ≡ touched talk home
   pub received_is : ReceivedIs old new talk state

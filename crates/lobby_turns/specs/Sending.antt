@@ -7,7 +7,7 @@ use Rattle.lobby_turns.specs.declared.sending.SendState.TheVariants as send
 use Rattle.lobby_turns.specs.declared.sending.Step.{Step}
 use Rattle.lobby_turns.specs.declared.sending.Step.TheVariants as step
 use Rattle.lobby_holds.specs.Wire.{Wire}
-use Rattle.lobby_holds.specs.Moments.{Moment, told_end}
+use Rattle.lobby_holds.specs.Moments.{Moment, questions, told_end}
 use Rattle.lobby_holds.specs.Snapshot.{Snapshot}
 use Rattle.lobby_holds.specs.Talk.{AreDrains, BeginsWith, EndsDry}
 use Rattle.lobby_holds.specs.Went.{Went}
@@ -23,6 +23,7 @@ pub record MaySend (wire : Wire) (writes : ℕ) : Type 0 where
 pub record OnlyWrites (old new : Snapshot) (writes : ℕ) : Type 0 where
   pub writes_are : new.wire.writes ≡ old.wire.writes + writes
   pub reads : new.wire.reads ≡ old.wire.reads
+  pub read : new.wire.read ≡ old.wire.read
   pub failures : new.wire.failures ≤ old.wire.failures + writes
   pub last_got : new.wire.last_got ≡ old.wire.last_got
   pub still : writes ≡ 0 → new.wire.last_sent ≡ old.wire.last_sent
@@ -65,6 +66,7 @@ pub record SendsNext (old new : Snapshot) (step : Step) : Type 0 where
   pub talk : List Moment
   pub went : Went old new talk
   pub own : AreDrains old.conn.session.client talk
+  pub no_question : questions talk ≡ []
   pub drains : length talk ≤ 8
   pub writes : ℕ
   pub few : writes ≤ 1
@@ -92,9 +94,12 @@ pub record Writes (old new : Snapshot) (most : ℕ) : Type 0 where
   pub only : OnlyWrites old new writes
   pub out : IsWrittenOut old new most
 
--- where drained bytes wait to be written, it first asks with an empty slice whether nothing will ever come of the client
-abbrev pub AsksFirst : Snapshot → List Moment → Type 0
-AsksFirst old talk = old.conn.unwritten ≢ [] → BeginsWith old.conn.session.client 0 talk
+-- Where drained bytes wait to be written, it first asks once with an empty slice whether nothing will ever come of the client; where none
+-- wait, it never does
+pub record AsksFirst (old : Snapshot) (talk : List Moment) : Type 0 where
+  pub waiting : old.conn.unwritten ≢ [] → BeginsWith old.conn.session.client 0 talk
+  pub written : old.conn.unwritten ≡ [] → questions talk ≡ []
+  pub once : length (questions talk) ≤ 1
 
 -- how far a turn sent to the client
 abbrev pub SentIs : Snapshot → Snapshot → List Moment → SendState → Type 0

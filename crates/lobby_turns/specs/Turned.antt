@@ -11,10 +11,12 @@ use Rattle.lobby_holds.specs.declared.link.Sent.TheVariants as sent
 use Rattle.lobby_turns.specs.declared.turn.Turn.{Turn}
 use Rattle.lobby_turns.specs.declared.turn.TurnState.{TurnState}
 use Rattle.lobby_turns.specs.declared.turn.TurnState.TheVariants as state
-use Rattle.lobby_holds.specs.Moments.{Moment, moment, requests, touched, told_end}
+use Rattle.lobby_holds.specs.Wire.{ReadsSome}
+use Rattle.lobby_holds.specs.Moments.{Moment, moment, requests, questions, touched, told_end}
 use Rattle.lobby_holds.specs.Snapshot.{Snapshot}
 use Rattle.lobby_holds.specs.Talk.{AreDrains, AreTalk}
 use Rattle.lobby_holds.specs.Went.{Went}
+use Rattle.lobby_holds.specs.Holds.{HasNoSpoiltNext}
 use Rattle.lobby_turns.specs.Receiving.{IsAllReceived, HasToReceive, NoReadFailed, ReceivesMost}
 use Rattle.lobby_turns.specs.Sending.{IsAllSent, IsWrittenOut, MustWait, NoWriteFailed, SendsMost}
 
@@ -24,9 +26,10 @@ pub record HasEnded (at : Snapshot) : Type 0 where
   pub nothing : IsNextOf (Some at.conn.session) Nothing
   pub last : at.wire.last_got ≡ Some got.End
 
--- no drain of the turn said that nothing will ever come of its client, and no call of its link failed
+-- no drain of the turn said that nothing will ever come of its client, no spoilt place is next, and no call of its link failed
 pub record GoesOn (old new : Snapshot) (talk : List Moment) : Type 0 where
   pub calm : told_end talk ≡ false
+  pub unspoilt : HasNoSpoiltNext new.conn.session
   pub read : NoReadFailed old new
   pub written : NoWriteFailed old new
 
@@ -85,17 +88,22 @@ IsAsked c talk =
     (said : List Moment) × (met : State) × (drains : List Moment) × (talk ≡ said ++ moment met (event.Drain c 0) ∷ drains) × AreDrains c drains
 
 -- A turn: the client's next lines were said to the lobby and bytes were drained for it, and then it ended. Where drained bytes waited to
--- be written, the lobby was asked whether the client is finished. The woken workers are those whose clients its events touched
+-- be written, and only there, the lobby was asked once whether the client is finished. The woken workers are those whose clients its
+-- events touched
 pub record Turned (old new : Snapshot) (turn : Turn) : Type 0 where
   pub talk : List Moment
   pub end : List Moment
   pub went : Went old new (talk ++ end)
   pub own : AreTalk new.conn.session.client talk
   pub asked : old.conn.unwritten ≢ [] → IsAsked new.conn.session.client talk
+  pub unasked : old.conn.unwritten ≡ [] → questions talk ≡ []
+  pub once : length (questions talk) ≤ 1
   pub ends : Ends old new talk end turn.state
   pub lines : length (requests talk) ≤ 64
   pub drains : length talk ≤ length (requests talk) + 136
   pub reads : new.wire.reads ≤ old.wire.reads + 16
+  pub pieces : ReadsSome old.wire new.wire 65536
+  pub after_end : old.wire.last_got ≡ Some got.End → new.wire.reads ≡ old.wire.reads
   pub writes : new.wire.writes ≤ old.wire.writes + 16
   pub wakes_are : (home : ℕ) → has_home turn.wakes home ≡ touched (talk ++ end) home
 

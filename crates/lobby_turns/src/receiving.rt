@@ -2,11 +2,13 @@
 //! and where none is left, the link is read.
 
 ghost use Rattle.std.specs.Prelude.{◌≡◌, ℕ, ◌≤◌, [], Some};
+ghost use Rattle.lobby_lock.specs.Passes.{ShownPass};
 ghost use Rattle.client_session.specs.declared.session.Next.TheVariants.{Nothing};
 ghost use Rattle.client_session.specs.OneSession.{IsNextOf};
-ghost use Rattle.lobby_holds.specs.Wire.{MayGoOn, IsFresh};
+ghost use Rattle.lobby_holds.specs.Wire.{Wire, MayGoOn, IsFresh};
 ghost use Rattle.lobby_holds.specs.Snapshot.{snapshot};
-ghost use Rattle.lobby_turns.specs.Receiving.{SaysWithin, ReceivesNext, Receives};
+ghost use Rattle.lobby_holds.specs.Went.{Went};
+ghost use Rattle.lobby_turns.specs.Receiving.{SaysWithin, LimitIs, ReceivesNext, Receives};
 
 use client_session::Next;
 use lobby_holds::holds::{self, Said};
@@ -57,7 +59,7 @@ fn receive_link<L: Link>(conn: &mut Conn, link: &mut L, pass: Pass) -> (Pass, St
     requires wire { MayGoOn (L.wire link.old) }
     requires next { IsNextOf (Some conn.old.session) Nothing }
     ensures received { ReceivesNext (snapshot conn.old (L.wire link.old) pass) (snapshot conn.new (L.wire link.new) result.0) result.1 }
-    ensures within { (most : ℕ) → SaysWithin most result.1 }
+    ensures within { (most : ℕ) → SaysWithin most conn.new.session result.1 }
 {
     match link.last_got() {
         Some(Got::End) => return (pass, Step::All),
@@ -87,7 +89,7 @@ fn receive_next<R: Wait, L: Link, G: Gate>(
     requires wire { MayGoOn (L.wire link.old) }
     requires some { 1 ≤ most }
     ensures received { ReceivesNext (snapshot conn.old (L.wire link.old) pass) (snapshot conn.new (L.wire link.new) result.0) result.1 }
-    ensures within { SaysWithin most result.1 }
+    ensures within { SaysWithin most conn.new.session result.1 }
 {
     match conn.feed() {
         Ok(()) => {}
@@ -102,6 +104,22 @@ fn receive_next<R: Wait, L: Link, G: Gate>(
         Ok(Next::Spoilt) => (pass, Step::Stop),
         Err(_) => (pass, Step::Memory),
     }
+}
+
+/// Feeds what was read last before a limit, and looks whether a spoilt place is next: its client is shut in this turn.
+fn stop_at_limit(conn: &mut Conn) -> ReceiveState
+    ensures went { (wire : Wire) (pass : ShownPass) → Went (snapshot conn.old wire pass) (snapshot conn.new wire pass) [] }
+    ensures unwritten { conn.new.unwritten ≡ conn.old.unwritten }
+    ensures limit { LimitIs conn.new result }
+{
+    match conn.feed() {
+        Ok(()) => {}
+        Err(_) => return ReceiveState::Memory,
+    }
+    if conn.is_spoilt_next() {
+        return ReceiveState::Stop;
+    }
+    ReceiveState::Again
 }
 
 /// Receives from the client, as far as a turn may.
@@ -120,10 +138,7 @@ pub(crate) fn receive<R: Wait, L: Link, G: Gate>(
     let mut wakes = Wakes::none();
     let mut lines = 0;
     let mut reads = 0;
-    for _ in 0..LINES + READS {
-        if lines == LINES || reads == READS {
-            return (pass, ReceiveState::Again, wakes);
-        }
+    while lines < LINES && reads < READS {
         let (next, step) = receive_next(rt, conn, link, desk, pass, LINES - lines);
         pass = next;
         match step {
@@ -140,5 +155,5 @@ pub(crate) fn receive<R: Wait, L: Link, G: Gate>(
             Step::Memory => return (pass, ReceiveState::Memory, wakes),
         }
     }
-    (pass, ReceiveState::Again, wakes)
+    (pass, stop_at_limit(conn), wakes)
 }

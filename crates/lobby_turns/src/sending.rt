@@ -59,6 +59,7 @@ fn write_rest<L: Link, G: Gate>(conn: &mut Conn, link: &mut L, gate: &G, worker:
     ensures session { conn.new.session ≡ conn.old.session }
     ensures unfed { conn.new.unfed ≡ conn.old.unfed }
     ensures reads { (L.wire link.new).reads ≡ (L.wire link.old).reads }
+    ensures read { (L.wire link.new).read ≡ (L.wire link.old).read }
     ensures writes { (L.wire link.new).writes ≡ (L.wire link.old).writes + 1 }
     ensures failures { (L.wire link.new).failures ≤ (L.wire link.old).failures + 1 }
     ensures last_got { (L.wire link.new).last_got ≡ (L.wire link.old).last_got }

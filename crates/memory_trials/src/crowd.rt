@@ -99,7 +99,7 @@ fn use_buffers_up(lobby: &mut Lobby, alloc: Global, users: u32) -> bool {
 /// A lobby of so many users who have read all, where all but the last are in a channel.
 #[derive(Drop)]
 pub struct Crowd<const USERS: u32> {
-    lobby: Lobby,
+    pub lobby: Lobby,
 }
 
 impl<const USERS: u32> Subject for Crowd<USERS> {

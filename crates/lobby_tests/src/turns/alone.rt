@@ -86,8 +86,11 @@ fn a_turn_ends_as_its_link_says(rt: HostRuntime) {
     check(&rt, rt.alloc(), &LINKS);
 }
 
-/// A line that does not end within its limit, behind PING and alone.
-static LONG: [Case; 2] = [
+const SIXTY_FOUR_PONGS: Text = &[(GREETING, 1), (b"PONG\n", 64)];
+
+/// A line that does not end within its limit, behind PING and alone; met by the last read of a turn; and behind the last line of a
+/// turn, which has read only its front.
+static LONG: [Case; 4] = [
     (
         &[(b"PING\n", 1), (b"A", 8_193)],
         4_096,
@@ -108,6 +111,26 @@ static LONG: [Case; 2] = [
         GREETED,
         4,
     ),
+    (
+        &[(b"A", 8_193)],
+        513,
+        100,
+        End::Open,
+        1,
+        TurnState::Closed,
+        GREETED,
+        4,
+    ),
+    (
+        &[(b"PING\n", 64), (b"A", 8_193)],
+        4_096,
+        4_096,
+        End::Open,
+        2,
+        TurnState::Closed,
+        SIXTY_FOUR_PONGS,
+        69,
+    ),
 ];
 
 #[test]
@@ -118,13 +141,15 @@ fn a_line_that_is_too_long_shuts_its_client(rt: HostRuntime) {
 const EXIT: Text = &[(b"EXIT\n", 1)];
 
 /// What a client sends at once, how many bytes its link takes at a time, how many turns it gets and what the last one comes to, how
-/// often these take the lobby, and how many events there are. The greeting alone is drained in a hold that also sees that nothing
-/// is left. Who exits is shut in a hold of its own, and where bytes wait to be written, a hold asks whether the client is finished.
-static TAKES: [(Text, usize, u64, TurnState, u64, u64); 6] = [
+/// often these take the lobby, and how many events there are. 64 lines take two holds. The greeting alone is drained in a hold that
+/// also sees that nothing is left. Who exits is shut in a hold of its own, and where bytes wait to be written, a hold asks whether
+/// the client is finished.
+static TAKES: [(Text, usize, u64, TurnState, u64, u64); 7] = [
     (&[], 4_096, 1, TurnState::Idle, 1, 3),
     (PING, 4_096, 1, TurnState::Idle, 2, 4),
     (&[(b"PING\n", 32)], 4_096, 1, TurnState::Idle, 2, 35),
     (&[(b"PING\n", 33)], 4_096, 1, TurnState::Idle, 3, 36),
+    (&[(b"PING\n", 64)], 4_096, 1, TurnState::Again, 3, 67),
     (EXIT, 4_096, 1, TurnState::Closed, 3, 4),
     (PING, 0, 2, TurnState::Idle, 3, 5),
 ];

@@ -8,7 +8,7 @@ use Rattle.lobby_holds.proofs.holds.drain_once.Goals as goal
 pub returns-clause-drained : goal.returns-clause-drained
 returns-clause-drained c =
     let d = c.drain-drained.ensures in
-    drained_once c.args.held.now c.drain-drained.new.self c.args.client (length c.args.into.now) c.drain-drained.new.into _ _ c.requires.stands d.event d.next d.count d.given d.finished
+    drained_once c.args.held.now c.drain-drained.new.self c.args.client (length c.args.into.now) c.drain-drained.new.into _ _ c.requires.small c.requires.stands d.event d.next d.count d.given d.finished
     (λ e. eqb-true c.drain-drained.result.count 0 e) (λ e. some_came c.drain-drained.result.count (eqb-false c.drain-drained.result.count 0 e))
 
 pub returns-clause-stands : goal.returns-clause-stands

@@ -1,43 +1,36 @@
-use Rattle.std.proofs.Common.{arith}
-use Rattle.lobby_turns.proofs.Receivings.{begins, renamed, goes_on_said, goes_on_read, receives_all, receives_stop, receives_memory, receives_refused}
-use Rattle.lobby_turns.proofs.receiving.receive.Goals.{in-Said+else-said, in-Read}
+use Rattle.std.proofs.Common.{◌≤◌, ◌⊎◌, refl, inl, inr}
+use Rattle.lobby_turns.proofs.Receivings.{begins, goes_on_said, goes_on_read, receives_all, receives_stop, receives_memory, receives_refused, receives_limit}
+use Rattle.lobby_turns.proofs.receiving.receive.Goals.{then-loop-lines-test+else-reads-lt-READS, else-loop-lines-test}
 use Rattle.lobby_turns.proofs.receiving.receive.Goals as goal
 
-pub loop-init : goal.loop-init
-loop-init g c = begins _ _ c.none-wakes.ensures
+pub loop-lines-init : goal.loop-lines-init
+loop-lines-init g c = begins _ _ c.none-wakes.ensures
 
 pub returns-in-All : goal.returns-in-All
-returns-in-All g c =
-    let h = c.loop.invariant in
-    receives_all _ _ _ _ _ _ _ c.in-All.is h.few_lines (omega (arith, h.few_reads, c.if-reads-eq-READS.false)) h.receiving c.receive_next-next.ensures.received
+returns-in-All g c = receives_all _ _ _ _ _ _ _ c.in-All.is c.if-reads-lt-READS.true c.loop-lines.invariant c.receive_next-next.ensures.received
 
 pub returns-in-Stop : goal.returns-in-Stop
-returns-in-Stop g c =
-    let h = c.loop.invariant in
-    receives_stop _ _ _ _ _ _ _ c.in-Stop.is h.few_lines (omega (arith, h.few_reads, c.if-reads-eq-READS.false)) h.receiving c.receive_next-next.ensures.received
+returns-in-Stop g c = receives_stop _ _ _ _ _ _ _ c.in-Stop.is c.if-reads-lt-READS.true c.loop-lines.invariant c.receive_next-next.ensures.received
 
 pub returns-in-Memory : goal.returns-in-Memory
-returns-in-Memory g c =
-    let h = c.loop.invariant in
-    receives_memory _ _ _ _ _ _ _ c.in-Memory.is h.few_lines (omega (arith, h.few_reads, c.if-reads-eq-READS.false)) h.late h.sound h.receiving c.receive_next-next.ensures.received
-
-pub overflow_sub-lines : goal.overflow_sub-lines
-overflow_sub-lines g c = omega (arith, c.loop.invariant.few_lines)
-
-pub receive_next-next-requires-clause-some : goal.receive_next-next-requires-clause-some
-receive_next-next-requires-clause-some g c = omega (arith, c.loop.invariant.few_lines, c.if-lines-eq-LINES.false)
+returns-in-Memory g c = receives_memory _ _ _ _ _ _ _ c.in-Memory.is c.if-reads-lt-READS.true c.loop-lines.invariant c.receive_next-next.ensures.received
 
 pub returns-then-said : goal.returns-then-said
 returns-then-said g c =
-    let h = c.loop.invariant in
-    receives_refused _ _ _ _ _ _ _ _ _ c.in-Said.is c.if-said.true h.few_lines h.few_reads c.receive_next-next.ensures.within h.sound h.receiving c.receive_next-next.ensures.received c.union-wakes.ensures
-
-pub loop-preserved : goal.loop-preserved
-loop-preserved g c =
     let s = c.receive_next-next.ensures in
-    elim c.match-step.branch [
-      | in-Said+else-said w ↦ renamed _ _ _ _ _ _ _ _ _ w.lines-is w.reads-is w.wakes-is
-          (goes_on_said _ _ _ _ _ _ _ _ _ _ w.in-Said.is w.if-said.false s.within c.loop.invariant s.received w.union-wakes.ensures)
-      | in-Read w ↦ renamed _ _ _ _ _ _ _ _ _ w.lines-is w.reads-is w.wakes-is
-          (goes_on_read _ _ _ _ _ _ _ _ w.in-Read.is (omega (arith, c.loop.invariant.few_reads, c.if-reads-eq-READS.false)) c.loop.invariant s.received)
-    ]
+    receives_refused _ _ _ _ _ _ _ _ _ c.in-Said.is c.if-said.true s.within c.loop-lines.invariant s.received c.union-wakes.ensures
+
+pub loop-lines-preserved-else-said : goal.loop-lines-preserved-else-said
+loop-lines-preserved-else-said g c =
+    let s = c.receive_next-next.ensures in
+    goes_on_said _ _ _ _ _ _ _ _ _ c.in-Said.is s.within c.loop-lines.invariant s.received c.union-wakes.ensures
+
+pub loop-lines-preserved : goal.loop-lines-preserved
+loop-lines-preserved g c = goes_on_read _ _ _ _ _ _ _ c.in-Read.is c.if-reads-lt-READS.true c.loop-lines.invariant c.receive_next-next.ensures.received
+
+pub returns : goal.returns
+returns g c =
+    let many : (64 ≤ c.loop-lines.lines) ⊎ (16 ≤ c.loop-lines.reads) =
+    elim c.loop-lines-test.branch [ then-loop-lines-test+else-reads-lt-READS w ↦ inr w.if-reads-lt-READS.false | else-loop-lines-test w ↦ inl w.loop-lines-test.false ] in
+    let s = c.stop_at_limit.ensures in
+    receives_limit _ _ _ _ _ _ _ many c.loop-lines.invariant (s.went (g.L.Link.wire c.loop-lines.link) c.loop-lines.pass) refl s.unwritten s.limit

@@ -1,6 +1,10 @@
+use Rattle.std.proofs.Common.{◌+◌, ◌-◌}
 use Rattle.lobby_holds.specs.Snapshot.{snapshot}
 use Rattle.lobby_turns.proofs.Receivings.{IsReceiving}
 use Rattle.lobby_turns.proofs.receiving.receive.Given as goal
 
-abbrev pub invariant-loop : goal.invariant-loop
-invariant-loop g l = IsReceiving (snapshot l.fn.conn (g.L.Link.wire l.fn.link) l.fn.pass) (snapshot l.conn (g.L.Link.wire l.link) l.pass) l.lines l.reads l.wakes l.counter
+abbrev pub invariant-loop-lines : goal.invariant-loop-lines
+invariant-loop-lines g l = IsReceiving (snapshot l.fn.conn (g.L.Link.wire l.fn.link) l.fn.pass) (snapshot l.conn (g.L.Link.wire l.link) l.pass) l.lines l.reads l.wakes
+
+abbrev pub decreases-loop-lines : goal.decreases-loop-lines
+decreases-loop-lines g l = (64 - l.lines) + (16 - l.reads)

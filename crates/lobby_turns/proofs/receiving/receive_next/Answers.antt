@@ -5,17 +5,16 @@ use Rattle.client_session.specs.OneSession.{IsNextOf}
 use Rattle.lobby_holds.specs.Snapshot.{Carried, snapshot}
 use Rattle.lobby_turns.specs.Receiving.{has_bytes, has_line, ReceivesNext}
 use Rattle.lobby_holds.proofs.Parts.{went_none}
-use Rattle.lobby_holds.proofs.Sayings.{stays_next}
 use Rattle.lobby_turns.proofs.Receivings.{said_next, none_done, none_left, fed_first}
 use Rattle.lobby_turns.proofs.receiving.receive_next.Goals as goal
 
 pub returns-in-Err-clause-received : goal.returns-in-Err-clause-received
 returns-in-Err-clause-received g c =
     let before = snapshot c.args.conn.now (g.L.Link.wire c.args.link.now) c.args.pass in
-    subst (λ (x : Carried). ReceivesNext before (snapshot x (g.L.Link.wire c.args.link.now) c.args.pass) step.Memory) (sym c.in-Err.ensures.err.0) (none_done _ _ refl refl (went_none before) (has_bytes c.in-Err.ensures.err.1))
+    subst (λ (x : Carried). ReceivesNext before (snapshot x (g.L.Link.wire c.args.link.now) c.args.pass) step.Memory) (sym c.in-Err.ensures.err.0) (none_done _ _ refl refl (went_none before) (has_bytes c.in-Err.ensures.err.1 c.in-Err.ensures.err.2))
 
 pub returns-in-Ok-Line-clause-received : goal.returns-in-Ok-Line-clause-received
-returns-in-Ok-Line-clause-received g c = fed_first _ _ _ _ (c.in-Ok.ensures.went (g.L.Link.wire c.args.link.now) c.args.pass) refl c.in-Ok.ensures.unwritten (said_next _ _ _ refl (stays_next _ _ _ c.say-pass.ensures.stops) (c.say-pass.ensures.says (g.L.Link.wire c.args.link.now)))
+returns-in-Ok-Line-clause-received g c = fed_first _ _ _ _ (c.in-Ok.ensures.went (g.L.Link.wire c.args.link.now) c.args.pass) refl c.in-Ok.ensures.unwritten (said_next _ _ _ refl (c.say-pass.ensures.says (g.L.Link.wire c.args.link.now)))
 
 pub returns-in-Ok-Nothing-clause-received : goal.returns-in-Ok-Nothing-clause-received
 returns-in-Ok-Nothing-clause-received g c = fed_first _ _ _ _ (c.in-Ok.ensures.went (g.L.Link.wire c.args.link.now) c.args.pass) refl c.in-Ok.ensures.unwritten c.receive_link.ensures.received

@@ -11,12 +11,12 @@ returns-then-is_written g c = writes_all _ _ _ _ c.loop-test.true (c.is_written.
 pub returns-in_default : goal.returns-in_default
 returns-in_default g c =
     let e = c.write_rest.ensures in
-    writes_stopped _ _ _ _ _ c.loop-test.true (stops c.write_rest.result _ c.in_default.not-Took e.last_sent) c.loop.invariant (e.went _) (one_write _ _ e.writes e.reads e.failures e.last_got e.session e.unfed)
+    writes_stopped _ _ _ _ _ c.loop-test.true (stops c.write_rest.result _ c.in_default.not-Took e.last_sent) c.loop.invariant (e.went _) (one_write _ _ e.writes e.reads e.read e.failures e.last_got e.session e.unfed)
 
 pub loop-preserved : goal.loop-preserved
 loop-preserved g c =
     let e = c.write_rest.ensures in
-    writing_more _ _ _ _ c.loop.invariant (e.went _) (one_write _ _ e.writes e.reads e.failures e.last_got e.session e.unfed)
+    writing_more _ _ _ _ c.loop.invariant (e.went _) (one_write _ _ e.writes e.reads e.read e.failures e.last_got e.session e.unfed)
 
 pub returns : goal.returns
 returns g c = writes_most _ _ _ _ (omega (arith, c.loop-test.false)) c.loop.invariant

@@ -3,6 +3,8 @@
 use crate::counted::{self, Counted};
 use crate::hog::{self, Hog};
 use std::alloc::Global;
+use std::env;
+use std::rt::Env;
 
 /// How many pieces of memory may be taken away where it is to be scarce.
 const MOST_PIECES: usize = 4_096;
@@ -19,6 +21,15 @@ pub enum Refuser {
 }
 
 impl Refuser {
+    /// The way that the program's argument names, or none to refuse it where there is no argument; `None` as `named`
+    /// says.
+    pub fn chosen<R: Env + AllocGlobal>(rt: &R) -> Option<Refuser> {
+        match env::args(rt).ok()?.nth(1) {
+            Some(word) => Refuser::named(rt.alloc(), word.as_str()),
+            None => Some(Refuser::Never),
+        }
+    }
+
     /// The way that a word names; `None` where there is no such way, or no memory for it.
     pub fn named(alloc: Global, word: &str) -> Option<Refuser> {
         match word {
@@ -51,8 +62,8 @@ impl Refuser {
         }
     }
 
-    /// Memory is not refused any more, or, where it is scarce, much less. Says whether it is known that it was refused: one who
-    /// counts knows it, also of a call that succeeded without.
+    /// Memory is not refused any more, or, where it is scarce, much less. Says whether it is known that it was refused:
+    /// one who counts knows it, also of a call that succeeded without.
     pub fn end(&mut self) -> bool {
         match self {
             Refuser::Never => false,

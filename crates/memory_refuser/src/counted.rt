@@ -1,5 +1,5 @@
-//! A count of growths, one of which is refused by the library checks/refuse_allocation.c. It is told by requests that are refused
-//! without it too.
+//! A count of growths by the library checks/refuse_allocation.c, which refuses one of them, or says how many there were
+//! and what is kept. It is told by requests that are refused without it too.
 
 use std::alloc::Global;
 
@@ -8,6 +8,12 @@ const BEGIN: usize = 1 << 60;
 
 /// A request of so many bytes ends that. It is granted where a growth was refused.
 const END: usize = 1 << 59;
+
+/// From a request of so many bytes on what is asked for and kept is counted.
+const MARK: usize = 1 << 58;
+
+/// At a request of so many bytes it is told.
+const TELL: usize = 1 << 57;
 
 /// More growths than a call makes.
 pub const MOST_STEPS: usize = 4_096;
@@ -41,5 +47,15 @@ impl Counted {
     pub fn end(&mut self) -> bool {
         self.request(END);
         self.granted.is_some()
+    }
+
+    /// From here on what is asked for and kept is counted.
+    pub fn mark(&mut self) {
+        self.request(MARK);
+    }
+
+    /// Has it told on standard error.
+    pub fn tell(&mut self) {
+        self.request(TELL);
     }
 }

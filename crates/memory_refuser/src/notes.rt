@@ -1,7 +1,9 @@
 //! What is noted of the trials.
 
-/// How often memory was refused, how often something was otherwise after that than before, or at the end than where memory was not
-/// refused, and how often a trial was given up, since memory never sufficed.
+use std::io;
+
+/// How often memory was refused, how often something was otherwise after that than before, or at the end than where
+/// memory was not refused, and how often a trial was given up, since memory never sufficed.
 #[derive(Clone, Copy)]
 pub struct Notes {
     pub refusals: u32,
@@ -34,5 +36,13 @@ impl Notes {
     /// Memory never sufficed.
     pub fn give_up(&mut self) {
         self.given_up = self.given_up.saturating_add(1);
+    }
+
+    /// Shows the three.
+    pub fn show<R: Print>(&self, rt: &R) -> io::Result<()> {
+        println!(rt;
+            "{} refused, {} left a trace, {} were given up",
+            self.refusals, self.traces, self.given_up
+        )
     }
 }
