@@ -2,7 +2,7 @@ use Rattle.std.proofs.Common.{◌≡◌, drop}
 use Rattle.std.specs.Map.{values_of}
 use Rattle.room_lists.specs.Keyed.{without_keys}
 use Rattle.room_lists.proofs.Entries.{AreKeyed}
-use Rattle.room_lists.proofs.keyed.KeyedList.remove.Given as goal
+use Rattle.room_lists.proofs.keyed.KeyedList.remove_each.Given as goal
 
 abbrev pub invariant-loop-key : goal.invariant-loop-key
 invariant-loop-key g l = record {
