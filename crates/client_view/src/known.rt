@@ -12,7 +12,6 @@ use view_lists::{UndoableBattles, UndoableChannels, UndoableUsers};
 use view_room::UndoableRoom;
 
 /// What a client knows under one login. Each part notes its own changes.
-#[derive(Drop)]
 pub(crate) struct Known {
     pub(crate) alloc: Global,
     me: Option<NameBuf>,
@@ -20,6 +19,25 @@ pub(crate) struct Known {
     pub(crate) battles: UndoableBattles,
     pub(crate) channels: UndoableChannels,
     pub(crate) room: UndoableRoom,
+}
+
+impl Drop for Known {
+    /// Who lets this go calls this, and need not know what it is made of.
+    fn drop(self) {
+        let Known {
+            alloc: _,
+            me,
+            users,
+            battles,
+            channels,
+            room,
+        } = self;
+        drop(me);
+        drop(users);
+        drop(battles);
+        drop(channels);
+        drop(room);
+    }
 }
 
 impl Model for Known {

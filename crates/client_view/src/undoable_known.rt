@@ -14,11 +14,19 @@ use std::marker::Model;
 use std::mem::replace;
 
 /// What a client knows, which can be as it was before some lines.
-#[derive(Drop)]
 pub(crate) struct UndoableKnown {
     pub(crate) known: Known,
     // What was known when a login was accepted, the first of the lines that are noted. All begins anew then.
     earlier: Option<Known>,
+}
+
+impl Drop for UndoableKnown {
+    /// Who lets this go calls this, and need not know what it is made of.
+    fn drop(self) {
+        let UndoableKnown { known, earlier } = self;
+        drop(known);
+        drop(earlier);
+    }
 }
 
 impl Model for UndoableKnown {
@@ -85,8 +93,9 @@ impl UndoableKnown {
                 self.accepted(user);
                 Ok(())
             }
-            Reply::AddUser { .. } | Reply::RemoveUser { .. } | Reply::ClientStatus { .. } =>
-                self.known.fold_users(reply),
+            Reply::AddUser { .. } | Reply::RemoveUser { .. } | Reply::ClientStatus { .. } => self
+                .known
+                .fold_users(reply),
             Reply::Join { .. }
             | Reply::Clients { .. }
             | Reply::Joined { .. }

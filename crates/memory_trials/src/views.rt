@@ -80,6 +80,7 @@ ADDBOT 2 Rob Anna 0 0 KAIK\n";
 /// All begins anew, behind changes and before others.
 const ANEW: &[u8] = b"REMOVEUSER Cleo\n\
 SETSCRIPTTAGS e=6\n\
+LEFTBATTLE 2 Anna\n\
 ACCEPTED Bert\n\
 ADDUSER Bert DE 0 1\n\
 JOIN third\n\

@@ -17,7 +17,6 @@ use std::marker::Model;
 use std::mem::replace;
 
 /// A battle as it is listed.
-#[derive(Drop)]
 pub struct Battle {
     /// What all were told of it as it opened; its map and the hash of that are those of now.
     pub opened: OpenedBattle,
@@ -26,6 +25,20 @@ pub struct Battle {
     /// Whether nobody may join it now.
     pub locked: bool,
     pub(crate) members: Names,
+}
+
+impl Drop for Battle {
+    /// Who lets a battle go calls this, and need not know what it is made of.
+    fn drop(self) {
+        let Battle {
+            opened,
+            spectators: _,
+            locked: _,
+            members,
+        } = self;
+        drop(opened);
+        drop(members);
+    }
 }
 
 impl Model for Battle {
@@ -135,10 +148,20 @@ impl Undo<Battle> for BattleWas {
 pub type Battles<'a> = Entries<'a, u32, Battle>;
 
 /// The battles, whose changes can be taken back.
-#[derive(Drop)]
 pub struct UndoableBattles {
     alloc: Global,
     by_number: NotedMap<u32, Battle, BattleWas>,
+}
+
+impl Drop for UndoableBattles {
+    /// Who lets battles go calls this, and need not know what they are made of.
+    fn drop(self) {
+        let UndoableBattles {
+            alloc: _,
+            by_number,
+        } = self;
+        drop(by_number);
+    }
 }
 
 impl Model for UndoableBattles {

@@ -60,10 +60,17 @@ impl<'a> Channels<'a> {
 }
 
 /// The channels that the client is in, whose changes can be taken back.
-#[derive(Drop)]
 pub struct UndoableChannels {
     alloc: Global,
     by_name: NotedMap<NameBuf, Names, NamesWere>,
+}
+
+impl Drop for UndoableChannels {
+    /// Who lets channels go calls this, and need not know what they are made of.
+    fn drop(self) {
+        let UndoableChannels { alloc: _, by_name } = self;
+        drop(by_name);
+    }
 }
 
 impl Model for UndoableChannels {

@@ -75,9 +75,16 @@ impl Edit<User, Status> for Status {
 pub type Users<'a> = Entries<'a, NameBuf, User>;
 
 /// The users who are logged in, whose changes can be taken back.
-#[derive(Drop)]
 pub struct UndoableUsers {
     by_name: NotedMap<NameBuf, User, Status>,
+}
+
+impl Drop for UndoableUsers {
+    /// Who lets users go calls this, and need not know what they are made of.
+    fn drop(self) {
+        let UndoableUsers { by_name } = self;
+        drop(by_name);
+    }
 }
 
 impl Model for UndoableUsers {

@@ -59,14 +59,39 @@ fn keep<L: Copied>(kept: &mut Option<L>, list: &L, alloc: Global) -> Result<(), 
     Ok(())
 }
 
+/// A list is again as it was kept, if it was.
+fn put_back<L: Copied>(kept: Option<L>, list: &mut L)
+    ensures { list.new ≡ or_now kept list.old }
+{
+    if let Some(was) = kept {
+        *list = was;
+    }
+}
+
 /// Lists of a room as they were. A list that has not changed is not here.
-#[derive(Drop)]
 pub(crate) struct KeptLists {
     members: Option<Members>,
     bots: Option<Bots<u32>>,
     rects: Option<Rects>,
     tags: Option<Tags>,
     units: Option<Units>,
+}
+
+impl Drop for KeptLists {
+    fn drop(self) {
+        let KeptLists {
+            members,
+            bots,
+            rects,
+            tags,
+            units,
+        } = self;
+        drop(members);
+        drop(bots);
+        drop(rects);
+        drop(tags);
+        drop(units);
+    }
 }
 
 /// How the client's own room was.
@@ -117,21 +142,11 @@ impl KeptLists {
             tags,
             units,
         } = self;
-        if let Some(members) = members {
-            own.members = members;
-        }
-        if let Some(bots) = bots {
-            own.bots = bots;
-        }
-        if let Some(rects) = rects {
-            own.rects = rects;
-        }
-        if let Some(tags) = tags {
-            own.tags = tags;
-        }
-        if let Some(units) = units {
-            own.units = units;
-        }
+        put_back(members, &mut own.members);
+        put_back(bots, &mut own.bots);
+        put_back(rects, &mut own.rects);
+        put_back(tags, &mut own.tags);
+        put_back(units, &mut own.units);
     }
 }
 

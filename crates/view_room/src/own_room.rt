@@ -16,7 +16,6 @@ use view_lists::Battle;
 pub type Bot = room_lists::Bot<u32>;
 
 /// The room of the battle that the client is in: what its members share.
-#[derive(Drop)]
 pub struct OwnRoom {
     battle: u32,
     pub(crate) members: Members,
@@ -24,6 +23,25 @@ pub struct OwnRoom {
     pub(crate) rects: Rects,
     pub(crate) tags: Tags,
     pub(crate) units: Units,
+}
+
+impl Drop for OwnRoom {
+    /// Who lets a room go calls this, and need not know what it is made of.
+    fn drop(self) {
+        let OwnRoom {
+            battle: _,
+            members,
+            bots,
+            rects,
+            tags,
+            units,
+        } = self;
+        drop(members);
+        drop(bots);
+        drop(rects);
+        drop(tags);
+        drop(units);
+    }
 }
 
 impl Model for OwnRoom {

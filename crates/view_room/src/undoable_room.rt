@@ -16,11 +16,23 @@ use std::mem::replace;
 use view_lists::Battle;
 
 /// The client's own room, if it is in one, which can be as it was before some changes.
-#[derive(Drop)]
 pub struct UndoableRoom {
     alloc: Global,
     own: Option<OwnRoom>,
     before: Before,
+}
+
+impl Drop for UndoableRoom {
+    /// Who lets a room go calls this, and need not know what it is made of.
+    fn drop(self) {
+        let UndoableRoom {
+            alloc: _,
+            own,
+            before,
+        } = self;
+        drop(own);
+        drop(before);
+    }
 }
 
 impl Model for UndoableRoom {
