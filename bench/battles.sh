@@ -1,8 +1,9 @@
 #!/usr/bin/env bash
 # What a status costs that is shown to the eight members of a battle, with 50 and with 500 battles among 5,000 users; what it
 # costs that the founder of such a battle disables 100 units beside 900, that one joins it with 1,000 disabled units, and that
-# one among 5,000 users asks to join a battle and is let in: medians of 5 runs, in turn with a hand-written Rust program. And the
-# login of one more user among 2,000, with 250 battles and with none.
+# one among 5,000 users asks to join a battle and is let in: medians of 5 runs, in turn with a hand-written Rust program. The
+# login of one more user among 2,000, with 250 battles and with none. And the dearest lines of units and script tags that the
+# founder of a battle of eight can say.
 # The first argument is the number of lines that the members of battles get in a run, 4,000,000.
 set -euo pipefail
 cd "$(dirname "$0")/.."
@@ -20,6 +21,7 @@ for _ in 1 2 3 4 5; do
     "$out/rooms" 10000 5000 1 0 2000 0 0 | sed 's/^/baseline once /'
     "$program" clients=32 users=16 battles=1 joins=2000 | sed 's/^/lobby once /'
     "$out/rooms" 32 16 1 0 0 2000 0 | sed 's/^/baseline once /'
+    "$program" clients=32 users=16 battles=1 lines=20 | sed 's/^/lobby once /'
     "$program" clients=10000 users=5000 asks=500 | sed 's/^/lobby once /'
     "$out/rooms" 10000 5000 0 0 0 0 500 | sed 's/^/baseline once /'
     for battles in 0 250; do
@@ -36,6 +38,7 @@ done | awk '
         lines[$1, what] = $4 + 0
         bytes[$1, what] = $5
     }
+    $3 ~ /^[A-Z]+-.*:$/ && !($3 in dear) { dear[$3] = 1; dearest[++count_dear] = $3 }
     $4 == "picoseconds" { n = ++count[$1, what]; taken[$1, what, n] = $3 / 1000 }
     function median(who, what,    i, j, a, t, n) {
         n = count[who, what]
@@ -68,4 +71,6 @@ done | awk '
         event("JOINBATTLE and JOINBATTLEACCEPT among 5,000 users", "asks")
         print "a login among 2,000 users, battles of 8 | lines | bytes | us | ns a line"
         burst(0); burst(250)
+        print "a line of 8,192 bytes of a founder, told to 8 | us"
+        for (i = 1; i <= count_dear; i++) printf "%s | %.0f\n", substr(dearest[i], 1, length(dearest[i]) - 1), median("lobby", dearest[i] " once") / 1000
     }'

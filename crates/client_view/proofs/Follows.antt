@@ -2,7 +2,7 @@
 use Rattle.std.proofs.Common.{◌≡◌, ℕ, ◌+◌, ◌<◌, ◌≤◌, List, [], ◌∷◌, ◌++◌, length, sym, ap, subst, ◌∙◌, true, false, T, append-nil, length-append}
 use Rattle.line_framer.specs.Frames.{frames, is_spoilt, rest_of, without_cr}
 use Rattle.line_framer.specs.Buffered.{HasNoEnd}
-use Rattle.line_framer.proofs.Stands.{spoilt_for_good}
+use Rattle.line_framer.proofs.Stands.{frames-append, spoilt-append, rest-append, spoilt_for_good}
 use Rattle.reply_kinds.specs.declared.Reply.{Reply}
 use Rattle.reply_reader.specs.Lines.{read_line}
 use Rattle.lobby_view.specs.View.{new_view, shown_all}
@@ -17,7 +17,7 @@ abbrev pub read_of : List ℕ → List Reply
 read_of frame = one_read (read_line frame)
 
 -- one frame more
-read_more : (fs : List (List ℕ)) (frame : List ℕ) → all_read (fs ++ frame ∷ []) ≡ all_read fs ++ read_of frame
+pub read_more : (fs : List (List ℕ)) (frame : List ℕ) → all_read (fs ++ frame ∷ []) ≡ all_read fs ++ read_of frame
 read_more fs frame = all_read-append fs (frame ∷ []) ∙ ap (λ rs. all_read fs ++ rs) (append-nil (read_of frame))
 
 module _ (f : Following) (bytes : List ℕ) (followed : Followed f bytes) (live : f.spoilt ≡ false) where
@@ -72,6 +72,32 @@ module _ (f : Following) (bytes : List ℕ) (followed : Followed f bytes) (live 
           spoilt = spoilt ∙ sym (long_spoilt bytes more frame_limit sound none over later);
           rest = λ e. absurd (subst T (sym spoilt ∙ e) tt);
         }
+
+-- lines behind the end of a line
+module _ (f : Following) (bytes : List ℕ) (followed : Followed f bytes) (live : f.spoilt ≡ false) (ended : f.rest ≡ []) (behind : List ℕ) where
+  nothing_left : rest_of bytes ≡ []
+  nothing_left = sym (followed.rest live) ∙ ended
+
+  frames_are : frames (bytes ++ behind) frame_limit ≡ frames bytes frame_limit ++ frames behind frame_limit
+  frames_are =
+      frames-append bytes behind frame_limit (sound f bytes followed live)
+      ∙ ap (λ (r : List ℕ). frames bytes frame_limit ++ frames (r ++ behind) frame_limit) nothing_left
+
+  read_are : all_read (frames (bytes ++ behind) frame_limit) ≡ all_read (frames bytes frame_limit) ++ all_read (frames behind frame_limit)
+  read_are = ap all_read frames_are ∙ all_read-append (frames bytes frame_limit) (frames behind frame_limit)
+
+  pub lines_followed : (new : Following) → new.known ≡ shown_all f.known (all_read (frames behind frame_limit)) → new.spoilt ≡ is_spoilt behind frame_limit
+      → (new.spoilt ≡ false → new.rest ≡ rest_of behind) → Followed new (bytes ++ behind)
+  lines_followed new known spoilt rest = record {
+    known = known ∙ ap (λ v. shown_all v (all_read (frames behind frame_limit))) followed.known
+        ∙ sym (shown_all-append (new_view []) (all_read (frames bytes frame_limit)) (all_read (frames behind frame_limit)))
+        ∙ ap (shown_all (new_view [])) (sym read_are);
+    spoilt = spoilt ∙ sym (spoilt-append bytes behind frame_limit (sound f bytes followed live) ∙ ap (λ (r : List ℕ). is_spoilt (r ++ behind) frame_limit) nothing_left);
+    rest = λ e. rest e ∙ sym (rest-append bytes behind frame_limit (sound f bytes followed live) ∙ ap (λ (r : List ℕ). rest_of (r ++ behind)) nothing_left);
+  }
+
+  pub lines_counted : count_read (bytes ++ behind) ≡ count_read bytes + length (all_read (frames behind frame_limit))
+  lines_counted = ap length read_are ∙ length-append (all_read (frames bytes frame_limit)) (all_read (frames behind frame_limit))
 
 -- behind a line that is too long nothing changes
 pub spoilt_follows : (f : Following) (bytes more : List ℕ) → Followed f bytes → f.spoilt ≡ true → Followed f (bytes ++ more)

@@ -1,5 +1,5 @@
 -- What contracts see of a view of the crate, and the bytes that it followed.
-use Rattle.std.specs.Prelude.{◌≡◌, ℕ, ◌+◌, ◌<◌, Bool, false, List, [], ◌++◌, length, take}
+use Rattle.std.specs.Prelude.{◌≡◌, ℕ, ◌+◌, Bool, false, List, ◌++◌, length}
 use Rattle.line_framer.specs.Frames.{frames, is_spoilt, rest_of}
 use Rattle.lobby_view.specs.View.{View}
 use Rattle.lobby_view.specs.Bytes.{frame_limit, all_read, view}
@@ -27,13 +27,3 @@ count_read bytes = length (all_read (frames bytes frame_limit))
 -- more bytes have so many such frames more
 abbrev pub HasNew : Following → List ℕ → ℕ → Type 0
 HasNew old more count = (bytes : List ℕ) → Followed old bytes → count_read (bytes ++ more) ≡ count_read bytes + count
-
--- a feed stopped behind so many bytes of the piece: they are whole lines, so many of which a reply printed, and they alone
--- were taken in; something of the piece is left
-pub record Stopped (old : Following) (piece : List ℕ) (taken folded : ℕ) (new : Following) : Type 0 where
-  pub left : taken < length piece
-  pub at_end : rest_of (take taken piece) ≡ []
-  pub took : TookIn old (take taken piece) new
-  pub counts : HasNew old (take taken piece) folded
-  pub sound : new.spoilt ≡ false
-  pub at_start : taken ≡ 0 → new ≡ old

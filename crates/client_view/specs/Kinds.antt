@@ -3,11 +3,12 @@ use Rattle.std.specs.Prelude.{Bool, true, false}
 use Rattle.reply_kinds.specs.declared.Reply.{Reply}
 use Rattle.reply_kinds.specs.declared.Reply.TheVariants as reply
 
--- what a reply changes of what a client knows: the own name and the users, who is in which channel, the battles and who is in
+-- what a reply changes of what a client knows: all, by a login; the users, who is in which channel, the battles and who is in
 -- them, the list by a battle that opens; in the own room the members' statuses, the bots, the start rectangles, the script tags
 -- and the disabled units; or nothing
 pub data Kind : Type 0 where
-  Session : Kind
+  Login : Kind
+  Users : Kind
   Channels : Kind
   Battles : Kind
   Opening : Kind
@@ -19,10 +20,10 @@ pub data Kind : Type 0 where
   Nothing : Kind
 
 abbrev pub kind_of : Reply → Kind
-kind_of (reply.Accepted user) = Session
-kind_of (reply.AddUser user country cpu account) = Session
-kind_of (reply.RemoveUser user) = Session
-kind_of (reply.ClientStatus user status) = Session
+kind_of (reply.Accepted user) = Login
+kind_of (reply.AddUser user country cpu account) = Users
+kind_of (reply.RemoveUser user) = Users
+kind_of (reply.ClientStatus user status) = Users
 kind_of (reply.Join channel) = Channels
 kind_of (reply.Clients channel names) = Channels
 kind_of (reply.Joined channel user) = Channels

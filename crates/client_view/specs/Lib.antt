@@ -1,4 +1,5 @@
 pub mod Following
 pub mod Kept
 pub mod Kinds
+pub mod Refused
 pub mod Told

@@ -3,4 +3,4 @@
 mod battles;
 mod channels;
 mod room;
-mod session;
+mod users;

@@ -1,54 +1,78 @@
-//! What a client knows, and how it changes line by line.
+//! What a client knows under one login, and how it was before the changes that are noted.
 
-ghost use Rattle.std.specs.Prelude.{◌≡◌, [], OnOk, OnErr};
+ghost use Rattle.std.specs.Prelude.{◌≡◌, true, false};
 ghost use Rattle.line_words.specs.Table.{same_name};
-ghost use Rattle.lobby_view.specs.View.{new_view, shown};
+ghost use Rattle.lobby_view.specs.View.{new_view};
+ghost use Rattle.client_view.specs.Kept.{own_name};
 
 use line_words::NameBuf;
-use reply_kinds::Reply;
-use std::alloc::{AllocError, Global};
+use std::alloc::Global;
 use std::marker::Model;
-use view_lists::{Battles, Channels, Users};
-use view_room::OwnRoom;
+use view_lists::{UndoableBattles, UndoableChannels, UndoableUsers};
+use view_room::UndoableRoom;
 
-/// What a client knows.
-#[derive(Drop)]
+/// What a client knows under one login. Each part notes its own changes.
 pub(crate) struct Known {
     pub(crate) alloc: Global,
-    pub(crate) me: Option<NameBuf>,
-    pub(crate) users: Users,
-    pub(crate) battles: Battles,
-    pub(crate) channels: Channels,
-    pub(crate) own: Option<OwnRoom>,
+    me: Option<NameBuf>,
+    pub(crate) users: UndoableUsers,
+    pub(crate) battles: UndoableBattles,
+    pub(crate) channels: UndoableChannels,
+    pub(crate) room: UndoableRoom,
+}
+
+impl Drop for Known {
+    /// Who lets this go calls this, and need not know what it is made of.
+    fn drop(self) {
+        let Known {
+            alloc: _,
+            me,
+            users,
+            battles,
+            channels,
+            room,
+        } = self;
+        drop(me);
+        drop(users);
+        drop(battles);
+        drop(channels);
+        drop(room);
+    }
 }
 
 impl Model for Known {
+    ghost use Rattle.std.specs.Prelude.{◌≡◌};
     ghost use Rattle.lobby_view.specs.View.{View};
+    ghost use Rattle.noted_map.specs.Undoable.{Undoable};
     ghost use Rattle.client_view.specs.Kept.{own_name};
 
-    ghost Value = { View };
+    ghost Value = { Undoable View };
 
-    ghost view = { λ k. record { me = own_name k.me; users = k.users; battles = k.battles; channels = k.channels; own = k.own } };
+    ghost view = { λ k. record { now = record { me = own_name k.me; users = k.users.now; battles = k.battles.now; channels = k.channels.now; own = k.room.now }; before = record { me = own_name k.me; users = k.users.before; battles = k.battles.before; channels = k.channels.before; own = k.room.before }; noting = k.users.noting } };
+
+    ghost invariant = { λ k. (k.battles.noting ≡ k.users.noting) × (k.channels.noting ≡ k.users.noting) × (k.room.noting ≡ k.users.noting) };
 }
 
 impl Known {
-    /// Nothing is known. It takes no memory.
-    pub(crate) fn new(alloc: Global) -> Known
-        ensures { result ≡ new_view [] }
+    /// What is known right after a login under this name, or before a login. It takes no memory, and nothing
+    /// is noted.
+    pub(crate) fn new(alloc: Global, me: Option<NameBuf>) -> Known
+        ensures now { result.now ≡ new_view (own_name me) }
+        ensures noting { result.noting ≡ false }
     {
         Known {
             alloc,
-            me: None,
-            users: Users::new(alloc),
-            battles: Battles::new(alloc),
-            channels: Channels::new(alloc),
-            own: None,
+            me,
+            users: UndoableUsers::new(alloc),
+            battles: UndoableBattles::new(alloc),
+            channels: UndoableChannels::new(alloc),
+            room: UndoableRoom::new(alloc),
         }
     }
 
     /// The own name, no bytes before a login.
     pub(crate) fn me(&self) -> &[u8]
-        ensures { result.now ≡ self.now.me }
+        ensures { result.now ≡ self.now.now.me }
     {
         match &self.me {
             Some(name) => name.as_slice(),
@@ -58,56 +82,49 @@ impl Known {
 
     /// Whether this is the own name.
     pub(crate) fn is_me(&self, name: &NameBuf) -> bool
-        ensures { result ≡ same_name self.now.me name.now }
+        ensures { result ≡ same_name self.now.now.me name.now }
     {
         self.me().cmp(name.as_slice()).is_eq()
     }
 
-    /// Folds a reply. Where memory is refused, nothing changes.
-    // It stands apart and has few groups, since each call that takes a reply has a place for a whole one here.
-    #[inline(never)]
-    pub(crate) fn fold(&mut self, reply: Reply) -> Result<(), AllocError>
-        ensures ok { OnOk result (self.new ≡ shown self.old reply) }
-        ensures err { OnErr result (self.new ≡ self.old) }
+    /// Whether changes are noted.
+    pub(crate) fn is_noting(&self) -> bool
+        ensures { result ≡ self.now.noting }
     {
-        match reply {
-            Reply::Accepted { .. }
-            | Reply::AddUser { .. }
-            | Reply::RemoveUser { .. }
-            | Reply::ClientStatus { .. } => self.fold_session(reply),
-            Reply::Join { .. }
-            | Reply::Clients { .. }
-            | Reply::Joined { .. }
-            | Reply::Left { .. } => self.fold_channels(reply),
-            Reply::OpenBattle { .. }
-            | Reply::BattleClosed { .. }
-            | Reply::JoinBattle { .. }
-            | Reply::JoinedBattle { .. }
-            | Reply::LeftBattle { .. }
-            | Reply::UpdateBattleInfo { .. } => self.fold_battles(reply),
-            Reply::BattleOpened { .. } => self.battle_opened(reply),
-            Reply::ClientBattleStatus { .. }
-            | Reply::AddBot { .. }
-            | Reply::UpdateBot { .. }
-            | Reply::RemoveBot { .. }
-            | Reply::AddStartRect { .. }
-            | Reply::RemoveStartRect { .. }
-            | Reply::SetScriptTags { .. }
-            | Reply::RemoveScriptTags { .. }
-            | Reply::DisableUnits { .. }
-            | Reply::EnableUnits { .. }
-            | Reply::EnableAllUnits => self.fold_room(reply),
-            // What is said, asked or refused. By the contract it is only what changes nothing.
-            _ => {
-                let_go(reply);
-                Ok(())
-            }
-        }
+        self.room.is_noting()
     }
-}
 
-// It stands apart, so that a reply that is folded is moved as a whole, and not field by field.
-#[inline(never)]
-fn let_go(reply: Reply) {
-    reply.discard();
+    /// Changes are noted from now on.
+    pub(crate) fn begin(&mut self)
+        ensures now { self.new.now ≡ self.old.now }
+        ensures before { self.new.before ≡ self.old.now }
+        ensures noting { self.new.noting ≡ true }
+    {
+        self.users.begin();
+        self.battles.begin();
+        self.channels.begin();
+        self.room.begin();
+    }
+
+    /// What was noted stands for good, and changes are noted no more.
+    pub(crate) fn settle(&mut self)
+        ensures now { self.new.now ≡ self.old.now }
+        ensures noting { self.new.noting ≡ false }
+    {
+        self.users.settle();
+        self.battles.settle();
+        self.channels.settle();
+        self.room.settle();
+    }
+
+    /// All is as it was when changes began to be noted, and they are noted no more.
+    pub(crate) fn take_back(&mut self)
+        ensures now { self.new.now ≡ self.old.before }
+        ensures noting { self.new.noting ≡ false }
+    {
+        self.users.take_back();
+        self.battles.take_back();
+        self.channels.take_back();
+        self.room.take_back();
+    }
 }

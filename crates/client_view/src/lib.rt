@@ -23,9 +23,8 @@
 //! ```
 //!
 //! A line that no reply prints is skipped, so a later server may send kinds of line that this crate
-//! does not know. Where memory is refused to a line, `feed` stops at the end of the line before and
-//! says how many bytes it took in: the rest of the piece may be fed again. A view takes no byte from
-//! the network and sends none.
+//! does not know. Where memory is refused, `feed` changes nothing, and the piece may be fed again. A view
+//! takes no byte from the network and sends none.
 //!
 //! A view keeps nothing of who asks to join a battle. The crate's README says how a bot that hosts
 //! battles is asked and answers, and what its view shows of disabled units.
@@ -34,7 +33,9 @@
 mod error;
 mod folding;
 mod known;
+mod pieces;
 mod reading;
+mod undoable_known;
 mod view;
 
 pub use error::ViewError;

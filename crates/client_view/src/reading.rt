@@ -6,21 +6,23 @@ ghost use Rattle.reply_kinds.specs.declared.command_word.CommandWord.TheVariants
 ghost use Rattle.reply_reader.specs.Lines.{read_arguments, read_line};
 ghost use Rattle.lobby_view.specs.View.{shown_all};
 ghost use Rattle.lobby_view.specs.Bytes.{one_read};
+ghost use Rattle.noted_map.specs.Undoable.{Changes};
+ghost use Rattle.client_view.specs.Refused.{Refused};
 ghost use Rattle.client_view.specs.Told.{told};
 
-use crate::known::Known;
+use crate::undoable_known::UndoableKnown;
 use line_framer::without_cr;
 use reply_kinds::CommandWord;
 use reply_reader::{Head, read_client_status, read_head, read_said};
 use std::alloc::AllocError;
 
-impl Known {
+impl UndoableKnown {
     /// Reads a line, which may have a CR at its end, and folds it. Gives how many lines were folded:
-    /// 1, or 0 where no reply prints it. Where memory is refused, nothing changes.
+    /// 1, or 0 where no reply prints it.
     pub(crate) fn take(&mut self, line: &[u8]) -> Result<usize, AllocError>
-        ensures ok { OnOk result (self.new ≡ shown_all self.old (one_read (read_line (frames.without_cr line.now)))) }
+        ensures ok { OnOk result (Changes (λ v. shown_all v (one_read (read_line (frames.without_cr line.now)))) self.old self.new) }
         ensures count { IfOk result (λ count. count ≡ length (one_read (read_line (frames.without_cr line.now)))) }
-        ensures err { OnErr result (self.new ≡ self.old) }
+        ensures err { OnErr result (Refused self.old self.new) }
     {
         match read_head(without_cr(line)) {
             Some(head) => self.take_head(head),
@@ -31,9 +33,9 @@ impl Known {
     // Nine in ten lines are a status or talk. These are folded without a `Reply`, which is as large as
     // the largest kind, and whose moves from where it is read to here would cost more than the rest.
     fn take_head(&mut self, head: Head) -> Result<usize, AllocError>
-        ensures ok { OnOk result (self.new ≡ shown_all self.old (told (read_arguments head.entry.command head.entry.arguments.now))) }
+        ensures ok { OnOk result (Changes (λ v. shown_all v (told (read_arguments head.entry.command head.entry.arguments.now))) self.old self.new) }
         ensures count { IfOk result (λ count. count ≡ length (told (read_arguments head.entry.command head.entry.arguments.now))) }
-        ensures err { OnErr result (self.new ≡ self.old) }
+        ensures err { OnErr result (Refused self.old self.new) }
     {
         match head.command {
             CommandWord::ClientStatus => self.take_status(head.arguments),
@@ -44,13 +46,13 @@ impl Known {
 
     // The arguments are those of `CLIENTSTATUS`.
     fn take_status(&mut self, arguments: &[u8]) -> Result<usize, AllocError>
-        ensures ok { OnOk result (self.new ≡ shown_all self.old (told (read_arguments command.ClientStatus arguments.now))) }
+        ensures ok { OnOk result (Changes (λ v. shown_all v (told (read_arguments command.ClientStatus arguments.now))) self.old self.new) }
         ensures count { IfOk result (λ count. count ≡ length (told (read_arguments command.ClientStatus arguments.now))) }
-        ensures err { OnErr result (self.new ≡ self.old) }
+        ensures err { OnErr result (Refused self.old self.new) }
     {
-        match read_client_status(self.alloc, arguments) {
+        match read_client_status(self.known.alloc, arguments) {
             Ok(Some((user, status))) => {
-                self.client_status(&user, status);
+                self.known.client_status(&user, status)?;
                 Ok(1)
             }
             Ok(None) => Ok(0),
@@ -60,11 +62,11 @@ impl Known {
 
     // The arguments are those of `SAID`, of which nothing is kept.
     fn take_said(&mut self, arguments: &[u8]) -> Result<usize, AllocError>
-        ensures ok { OnOk result (self.new ≡ shown_all self.old (told (read_arguments command.Said arguments.now))) }
+        ensures ok { OnOk result (Changes (λ v. shown_all v (told (read_arguments command.Said arguments.now))) self.old self.new) }
         ensures count { IfOk result (λ count. count ≡ length (told (read_arguments command.Said arguments.now))) }
-        ensures err { OnErr result (self.new ≡ self.old) }
+        ensures err { OnErr result (Refused self.old self.new) }
     {
-        match read_said(self.alloc, arguments) {
+        match read_said(self.known.alloc, arguments) {
             Ok(Some(_)) => Ok(1),
             Ok(None) => Ok(0),
             Err(refused) => Err(refused),
@@ -73,11 +75,11 @@ impl Known {
 
     #[inline(never)]
     fn take_reply(&mut self, head: Head) -> Result<usize, AllocError>
-        ensures ok { OnOk result (self.new ≡ shown_all self.old (told (read_arguments head.entry.command head.entry.arguments.now))) }
+        ensures ok { OnOk result (Changes (λ v. shown_all v (told (read_arguments head.entry.command head.entry.arguments.now))) self.old self.new) }
         ensures count { IfOk result (λ count. count ≡ length (told (read_arguments head.entry.command head.entry.arguments.now))) }
-        ensures err { OnErr result (self.new ≡ self.old) }
+        ensures err { OnErr result (Refused self.old self.new) }
     {
-        match head.reply(self.alloc) {
+        match head.reply(self.known.alloc) {
             Ok(Some(reply)) => {
                 self.fold(reply)?;
                 Ok(1)

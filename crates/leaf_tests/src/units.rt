@@ -194,8 +194,8 @@ fn units_are_disabled_and_enabled(rt: HostRuntime) {
     play(&rt, rt.alloc(), &[b"Bert"], &ROWS);
 }
 
-/// One unit more is refused, and none of the others is disabled then.
-static MOST: [Row; 4] = [
+/// One unit more is refused, and none of the others is disabled then. A unit that is named twice counts once.
+static MOST: [Row; 8] = [
     (
         b"Anna",
         Call::DisableMost,
@@ -219,6 +219,40 @@ static MOST: [Row; 4] = [
         Call::Disable(&[b"u7", b"u1024"]),
         Ok(Units::These(&[])),
         Units::Begin(1024, b"u1"),
+    ),
+    (
+        b"Anna",
+        Call::Enable(&[
+            b"u9", b"u1", b"u2", b"u3", b"none", b"u4", b"u5", b"u6", b"u7", b"u8", b"u9",
+        ]),
+        Ok(Units::These(&[
+            b"u9", b"u1", b"u2", b"u3", b"u4", b"u5", b"u6", b"u7", b"u8",
+        ])),
+        Units::Begin(1015, b"u10"),
+    ),
+    (
+        b"Anna",
+        Call::Disable(&[
+            b"n0", b"n1", b"n2", b"n3", b"n4", b"n5", b"n6", b"n7", b"n8", b"n9",
+        ]),
+        Err(RoomError::TooManyUnits),
+        Units::Begin(1015, b"u10"),
+    ),
+    (
+        b"Anna",
+        Call::Disable(&[
+            b"n8", b"n1", b"n8", b"u10", b"n2", b"n3", b"n4", b"n1", b"n5", b"n6", b"n7", b"n9",
+        ]),
+        Ok(Units::These(&[
+            b"n8", b"n1", b"n2", b"n3", b"n4", b"n5", b"n6", b"n7", b"n9",
+        ])),
+        Units::Begin(1024, b"u10"),
+    ),
+    (
+        b"Anna",
+        Call::EnableAll,
+        Ok(Units::These(&[])),
+        Units::These(&[]),
     ),
 ];
 

@@ -121,7 +121,7 @@ fn has_channel(view: &View, name: &[u8], members: usize, first: &[u8]) -> bool {
 }
 
 fn lists(view: &View, wanted: &Listed) -> bool {
-    match view.battles().get(wanted.number) {
+    match view.battles().get(&wanted.number) {
         Some(battle) => battle.opened.map.as_slice() == wanted.map
             && battle.opened.map_hash == wanted.map_hash
             && battle.locked == wanted.locked

@@ -14,6 +14,7 @@ mod halls;
 mod lobbies;
 mod scripts;
 mod sessions;
+mod views;
 
 use memory_refuser::{notes, refuser};
 use notes::Notes;
@@ -32,6 +33,7 @@ fn try_all<R: Print + AllocGlobal>(
     asking::try_out(rt, refuser, notes)?;
     halls::try_out(rt, refuser, notes)?;
     sessions::try_out(rt, refuser, notes)?;
+    views::try_out(rt, refuser, notes)?;
     scripts::try_out(rt, refuser, notes)
 }
 

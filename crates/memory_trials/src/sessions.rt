@@ -103,7 +103,7 @@ fn next_id(session: &Session) -> Result<Option<Option<u32>>, AllocError> {
     }
 }
 
-fn pairs_are_same(ours: &[Pair], theirs: &[Pair]) -> bool {
+pub fn pairs_are_same(ours: &[Pair], theirs: &[Pair]) -> bool {
     for (place, pair) in ours.iter().enumerate() {
         match theirs.get(place) {
             Some(other)

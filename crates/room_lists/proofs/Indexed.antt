@@ -26,6 +26,28 @@ module _ {K V : Type 0} (bytes : K → List ℕ) (name : V → List ℕ) where
       → IsDistinct same_name (map name (values_of es))
   distinct_values es each distinct = subst (IsDistinct same_name) (names_same es each) (distinct_names bytes (keys_of es) distinct)
 
+  -- those stay whose names pass a test
+  module _ (passes : List ℕ → Bool) where
+    pub values_kept : (es : List (K × V)) → IsIndex bytes name es
+        → values_of (filter (λ e. passes (bytes e.0)) es) ≡ filter (λ v. passes (name v)) (values_of es)
+    values_kept [] each = refl
+    values_kept (e ∷ es) each =
+        let rest = values_kept es each.1 in
+        ap (λ k. values_of (cond (passes k) (e ∷ filter (λ e. passes (bytes e.0)) es) (filter (λ e. passes (bytes e.0)) es))) each.0
+        ∙ elim (passes (name e.1)) as (λ b. values_of (cond b (e ∷ filter (λ e. passes (bytes e.0)) es) (filter (λ e. passes (bytes e.0)) es))
+        ≡ cond b (e.1 ∷ filter (λ v. passes (name v)) (values_of es)) (filter (λ v. passes (name v)) (values_of es))) [
+          | true ↦ ap (λ vs. e.1 ∷ vs) rest
+          | false ↦ rest
+        ]
+
+  pub index_kept : (test : K × V → Bool) (es : List (K × V)) → IsIndex bytes name es → IsIndex bytes name (filter test es)
+  index_kept test [] each = tt
+  index_kept test (e ∷ es) each =
+      elim (test e) as (λ b. IsIndex bytes name (cond b (e ∷ filter test es) (filter test es))) [
+        | true ↦ (each.0, index_kept test es each.1)
+        | false ↦ index_kept test es each.1
+      ]
+
   module _ (key : List ℕ) where
     pub has_value : (es : List (K × V)) → IsIndex bytes name es → is_some (lookup (stands_for bytes key) es) ≡ is_among key (map name (values_of es))
     has_value es each = is_there bytes key es ∙ ap (is_among key) (names_same es each)
@@ -41,16 +63,7 @@ module _ {K V : Type 0} (bytes : K → List ℕ) (name : V → List ℕ) where
 
     values_filtered : (es : List (K × V)) → IsIndex bytes name es
         → values_of (filter (λ e. not (same_name key (bytes e.0))) es) ≡ filter (λ v. not (same_name key (name v))) (values_of es)
-    values_filtered [] each = refl
-    values_filtered (e ∷ es) each =
-        let rest = values_filtered es each.1 in
-        ap (λ k. values_of (cond (not (same_name key k)) (e ∷ filter (λ e. not (same_name key (bytes e.0))) es) (filter (λ e. not (same_name key (bytes e.0))) es))) each.0
-        ∙ elim (same_name key (name e.1)) as (λ b.
-        values_of (cond (not b) (e ∷ filter (λ e. not (same_name key (bytes e.0))) es) (filter (λ e. not (same_name key (bytes e.0))) es))
-        ≡ cond (not b) (e.1 ∷ filter (λ v. not (same_name key (name v))) (values_of es)) (filter (λ v. not (same_name key (name v))) (values_of es))) [
-          | true ↦ rest
-          | false ↦ ap (λ vs. e.1 ∷ vs) rest
-        ]
+    values_filtered es each = values_kept (λ k. not (same_name key k)) es each
 
     -- one is removed, and the others keep their order
     pub values_removed : (es : List (K × V)) → IsIndex bytes name es → IsDistinct (same_key bytes) (keys_of es)

@@ -3,6 +3,8 @@ pub mod Entries
 pub mod Indexed
 pub mod Listed
 pub mod Picked
+pub mod Removed
+pub mod Room
 pub mod Seen
 pub mod Tests
 pub mod Copied

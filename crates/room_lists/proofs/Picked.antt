@@ -1,7 +1,7 @@
 -- Words that are picked from a list, each once.
-use Rattle.std.proofs.Common.{◌≡◌, ◌<◌, ◌≤◌, ◌+◌, ℕ, List, [], ◌∷◌, ◌++◌, refl, sym, ap, ◌∙◌, Bool, true, false, not, length, map, drop, get_or}
+use Rattle.std.proofs.Common.{◌≡◌, ◌<◌, ◌≤◌, ◌+◌, ℕ, List, [], ◌∷◌, ◌++◌, refl, sym, ap, ◌∙◌, Bool, true, false, not, length, map, drop, get_or, arith}
 use Rattle.std.specs.Prelude.{◌||◌, ◌&&◌, if◌then◌else◌}
-use Rattle.std.proofs.lemmas.List.{append_assoc, append-nil, at_drop_more, drop_all}
+use Rattle.std.proofs.lemmas.List.{length-append, append_assoc, append-nil, at_drop_more, drop_all}
 use Rattle.line_words.specs.Table.{same_name, is_among}
 use Rattle.line_words.proofs.Tables.{same_name_is}
 use Rattle.line_words.proofs.Once.{apart_either_way}
@@ -32,6 +32,16 @@ module _ (test : List ℕ → Bool) where
         ∙ ap (λ b. found ++ (if b then word ∷ more else picked found (drop (i + 1) words)))
         (sym (ap (λ b. b && not (is_among word found)) passes ∙ ap not new))
         ∙ ap (λ ws. found ++ ws) (sym rest_is)
+
+    -- one more is found than those so far
+    pub more_found : test word ≡ true → is_among word found ≡ false → found ++ picked found (drop i words) ≡ picked [] words
+        → length found < length (picked [] words)
+    more_found passes new held =
+        let rest = picked (found ++ word ∷ []) (drop (i + 1) words) in
+        let all : length (picked [] words) ≡ length ((found ++ word ∷ []) ++ rest) = ap length (sym held ∙ sym (found_more passes new)) in
+        let both = length-append (found ++ word ∷ []) rest in
+        let one = length-append found (word ∷ []) in
+        omega arith
 
     passed : (test word && not (is_among word found)) ≡ false → found ++ picked found (drop (i + 1) words) ≡ found ++ picked found (drop i words)
     passed gone =

@@ -1,5 +1,7 @@
 -- Items in order of first putting, each found by its key.
-use Rattle.std.specs.Prelude.{ℕ, Bool, not, if◌then◌else◌, List, [], ◌∷◌, filter}
+use Rattle.std.specs.Prelude.{◌≡◌, ◌<◌, ◌≤◌, ℕ, Bool, not, if◌then◌else◌, List, [], ◌∷◌, filter, map, length, Option, Some, None, Vec}
+use Rattle.std.specs.declared.alloc.Global.{Global}
+use Rattle.std.specs.Borrow.{Bor}
 use Rattle.std.specs.List.{list_any}
 use Rattle.line_words.specs.Table.{same_name}
 
@@ -28,3 +30,8 @@ module _ {T : Type 0} (key_of : T → List ℕ) where
   abbrev pub keys_there : List T → List (List ℕ) → List (List ℕ)
   keys_there items [] = []
   keys_there items (key ∷ keys) = if has_key key items then key ∷ keys_there (without_key key items) keys else keys_there items keys
+
+  -- items of these keys, or none where the keys are more than so many
+  abbrev pub AreFirsts : ℕ → List (List ℕ) → Option (Vec (Bor T) Global) → Type 0
+  AreFirsts most keys None = most < length keys
+  AreFirsts most keys (Some firsts) = (map (λ first. key_of first.now) firsts.items ≡ keys) × (length keys ≤ most)

@@ -1,10 +1,11 @@
 //! Items that are found by their keys, as the script tags and the disabled units of a room are.
 
-ghost use Rattle.std.specs.Prelude.{◌≡◌, ◌<◌, ◌≤◌, ◌^◌, ℕ, List, Vec, not, nat_lt, map, length, [], true, false, OnOk, OnErr, IfOk};
+ghost use Rattle.std.specs.Prelude.{◌≡◌, ◌<◌, ◌≤◌, ◌^◌, ℕ, List, Vec, not, nat_lt, map, filter, length, [], true, false, OnOk, OnErr, IfOk, IfSome, is_some};
 ghost use Rattle.std.specs.Map.{values_of};
 ghost use Rattle.room_lists.specs.Index.{IsIndex};
 ghost use Rattle.room_lists.specs.Keyed as keyed;
 ghost use Rattle.room_lists.specs.Units.{words_new};
+ghost use Rattle.line_words.specs.Table.{is_among};
 
 use crate::names::is_same;
 use indexmap::{IndexMap, IndexSet};
@@ -71,6 +72,31 @@ impl<T: Keyed> Model for KeyedList<T> {
     ghost view = { λ l. values l.by_key };
 
     ghost invariant = { λ l. IsIndex (λ (key : Vec ℕ Global). key.items) T.key_of l.by_key.entries };
+}
+
+/// So few keys are looked for one by one, since an index costs a walk of all items.
+const FEW_KEYS: usize = 8;
+
+/// An index of keys.
+fn index_of(alloc: Global, keys: &[WordBuf]) -> Result<IndexSet<&[u8]>, AllocError>
+    ensures { IfOk result (λ index. (key : List ℕ) → is_among key (map (λ key. key.now) index.keys) ≡ is_among key keys.now) }
+{
+    let mut index = IndexSet::with_capacity(alloc, keys.len())?;
+    for key in keys {
+        let _ = index.insert(key.as_slice())?;
+    }
+    Ok(index)
+}
+
+/// Copies of words.
+fn copies_of_words(alloc: Global, words: &[&WordBuf]) -> Result<WordList, AllocError>
+    ensures { IfOk result (λ copies. copies ≡ map (λ word. word.now) words.now) }
+{
+    let mut copies = Vec::with_capacity(alloc, words.len())?;
+    for word in words {
+        copies.push(WordBuf::copy_of(alloc, word.as_slice())?)?;
+    }
+    Ok(WordList::new(copies))
 }
 
 /// Whether a key is among those of items.
@@ -140,16 +166,23 @@ impl<T: Keyed> KeyedList<T> {
         self.by_key.contains_key(key)
     }
 
-    /// Whether there would be at most `limit` items, if these were put.
+    /// Whether there would be at most `limit` items, if these were put. Where memory for an index of those
+    /// that are new is refused, it walks for each of them those before it.
     pub(crate) fn has_room_for(&self, items: &[T], limit: usize) -> bool
         requires { limit < 2 ^ 63 }
         ensures { result ≡ not (nat_lt limit (length (keyed.with_items T.key_of self.now items.now))) }
     {
-        self.has_ample_room_for(items, limit) || self.has_room_for_distinct(items, limit)
+        if self.has_ample_room_for(items, limit) {
+            return true;
+        }
+        match self.new_items(*self.by_key.allocator(), items, limit) {
+            Ok(new) => new.is_some(),
+            Err(AllocError) => self.has_room_for_distinct(items, limit),
+        }
     }
 
     /// Whether there is room even if each item whose key is not there yet is counted, also where its key
-    /// stands twice. That is one look-up an item, and nearly always it is so.
+    /// stands twice. That is one look-up an item, takes no memory, and nearly always it is so.
     fn has_ample_room_for(&self, items: &[T], limit: usize) -> bool
         requires { limit < 2 ^ 63 }
         ensures { result ≡ true → length (keyed.with_items T.key_of self.now items.now) ≤ limit }
@@ -167,7 +200,7 @@ impl<T: Keyed> KeyedList<T> {
     }
 
     /// Whether there is room if each key is counted once. For each item whose key is not there yet that
-    /// is a walk of those before it, since no memory is asked for here.
+    /// is a walk of those before it, so that it takes no memory.
     fn has_room_for_distinct(&self, items: &[T], limit: usize) -> bool
         requires { limit < 2 ^ 63 }
         ensures { result ≡ not (nat_lt limit (length (keyed.with_items T.key_of self.now items.now))) }
@@ -185,6 +218,25 @@ impl<T: Keyed> KeyedList<T> {
         count <= limit
     }
 
+    /// The items whose keys are not there, the first of each key, in their order; None where there would be
+    /// more than `limit` items, if these were put. Fails only where memory is refused, and asks for none
+    /// where the list is full.
+    fn new_items<'a>(
+        &self,
+        alloc: Global,
+        items: &'a [T],
+        limit: usize,
+    ) -> Result<Option<Vec<&'a T>>, AllocError>
+        requires { limit < 2 ^ 63 }
+        ensures new { IfOk result (λ new. IfSome new (λ firsts. map (λ first. T.key_of first.now) firsts.items ≡ words_new (map T.key_of self.now) (map T.key_of items.now))) }
+        ensures room { IfOk result (λ new. is_some new ≡ not (nat_lt limit (length (keyed.with_items T.key_of self.now items.now)))) }
+    {
+        match limit.checked_sub(self.by_key.len()) {
+            Some(most) => self.firsts(alloc, items, false, most),
+            None => Ok(None),
+        }
+    }
+
     /// Puts items. Where memory is refused, nothing changes.
     pub(crate) fn put(&mut self, alloc: Global, items: Vec<T>) -> Result<(), AllocError>
         ensures ok { OnOk result (self.new ≡ keyed.with_items T.key_of self.old items.items) }
@@ -198,8 +250,34 @@ impl<T: Keyed> KeyedList<T> {
         Ok(())
     }
 
-    /// Removes the items of these keys.
+    /// Removes the items of these keys. Many are removed in one walk by an index of the keys; where memory
+    /// for that is refused, they go one by one.
     pub(crate) fn remove(&mut self, keys: &[WordBuf])
+        ensures { self.new ≡ keyed.without_keys T.key_of self.old keys.now }
+    {
+        if keys.len() <= FEW_KEYS {
+            self.remove_each(keys);
+            return;
+        }
+        match index_of(*self.by_key.allocator(), keys) {
+            Ok(index) => self.remove_indexed(&index),
+            Err(AllocError) => self.remove_each(keys),
+        }
+    }
+
+    /// Removes the items of the keys of an index, in one walk of all items.
+    fn remove_indexed(&mut self, index: &IndexSet<&[u8]>)
+        ensures { self.new ≡ filter (λ item. not (is_among (T.key_of item) (map (λ key. key.now) index.now.keys))) self.old }
+    {
+        self.by_key.retain(
+            |key: &Vec<u8>, item: &mut T| -> bool
+                ensures { (result ≡ not (is_among key.now.items (map (λ key. key.now) index.entry.now.keys))) × (item.new ≡ item.old) }
+            { !index.contains(&key.as_slice()) },
+        );
+    }
+
+    /// Removes the items of these keys one by one, each of which moves the items behind it.
+    fn remove_each(&mut self, keys: &[WordBuf])
         ensures { self.new ≡ keyed.without_keys T.key_of self.old keys.now }
     {
         for key in keys {
@@ -220,34 +298,49 @@ impl<T: Keyed> KeyedList<T> {
     pub(crate) fn keys_there(&self, alloc: Global, keys: &[WordBuf]) -> Result<WordList, AllocError>
         ensures { IfOk result (λ there. there ≡ keyed.keys_there T.key_of self.now keys.now) }
     {
-        self.keys_where(alloc, keys, true)
+        match self.firsts(alloc, keys, true, keys.len())? {
+            Some(firsts) => copies_of_words(alloc, &firsts),
+            None => unreachable!(), // they are no more than the keys
+        }
     }
 
     /// Those of the keys that are not there, each once.
     pub(crate) fn keys_new(&self, alloc: Global, keys: &[WordBuf]) -> Result<WordList, AllocError>
         ensures { IfOk result (λ new. new ≡ words_new (map T.key_of self.now) keys.now) }
     {
-        self.keys_where(alloc, keys, false)
+        match self.firsts(alloc, keys, false, keys.len())? {
+            Some(firsts) => copies_of_words(alloc, &firsts),
+            None => unreachable!(), // they are no more than the keys
+        }
     }
 
-    /// Those of the keys that are there, or those that are not, each once.
-    fn keys_where(
+    /// The items whose keys are here, or those whose keys are not, the first of each key, in their order; None
+    /// where these are more than `most`. One look-up an item, and an index of those that are given. It
+    /// grows only for one that is given.
+    fn firsts<'a, U: Keyed>(
         &self,
         alloc: Global,
-        keys: &[WordBuf],
+        items: &'a [U],
         are_there: bool,
-    ) -> Result<WordList, AllocError>
-        ensures there { are_there ≡ true → IfOk result (λ picked. picked ≡ keyed.keys_there T.key_of self.now keys.now) }
-        ensures new { are_there ≡ false → IfOk result (λ picked. picked ≡ words_new (map T.key_of self.now) keys.now) }
+        most: usize,
+    ) -> Result<Option<Vec<&'a U>>, AllocError>
+        ensures there { are_there ≡ true → IfOk result (keyed.AreFirsts U.key_of most (keyed.keys_there T.key_of self.now (map U.key_of items.now))) }
+        ensures new { are_there ≡ false → IfOk result (keyed.AreFirsts U.key_of most (words_new (map T.key_of self.now) (map U.key_of items.now))) }
     {
         let mut seen = IndexSet::new(alloc);
-        let mut picked = Vec::new(alloc);
-        for key in keys {
-            let bytes = key.as_slice();
-            if self.has_bytes(bytes) == are_there && seen.insert(bytes)? {
-                picked.push(WordBuf::copy_of(alloc, bytes)?)?;
+        let mut firsts = Vec::new(alloc);
+        for item in items {
+            let key = item.key();
+            if self.has_bytes(key) == are_there {
+                if firsts.len() < most {
+                    if seen.insert(key)? {
+                        firsts.push(item)?;
+                    }
+                } else if !seen.contains(&key) {
+                    return Ok(None);
+                }
             }
         }
-        Ok(WordList::new(picked))
+        Ok(Some(firsts))
     }
 }

@@ -1,25 +1,22 @@
 //! The battles, as all see them.
 
-ghost use Rattle.std.specs.Prelude.{◌≡◌, ◌<◌, ◌^◌, ℕ, false, [], ◌∷◌, OnOk, OnErr, length, option_copied};
-ghost use Rattle.std.specs.Ordering.{nat_cmp};
-ghost use Rattle.std.specs.List.Sorted.{IsStrictlySortedBy};
-ghost use Rattle.std.specs.Map.{keys_of};
-ghost use Rattle.std.specs.Map.Iter.{ShowsInOrder, deref_pair};
-ghost use Rattle.line_words.specs.Table.{at_number, put_number, without_number, change_number, all_but};
+ghost use Rattle.std.specs.Prelude.{◌≡◌, true, false, [], ◌∷◌, OnOk, OnErr};
+ghost use Rattle.line_words.specs.Table.{put_number, without_number, change_number, all_but};
+ghost use Rattle.noted_map.specs.Undoable.{Changes};
 ghost use Rattle.lobby_model.specs.Opened.{info_of};
 ghost use Rattle.lobby_model.specs.State.{updated};
-ghost use Rattle.lobby_view.specs.View.{Listed, change_members, change_listed_info, at_end};
+ghost use Rattle.lobby_view.specs.View.{change_members, change_listed_info, at_end};
+ghost use Rattle.view_lists.specs.Battles.{with_update, battle_after, battle_back};
 
-use crate::names::Names;
+use crate::names::{Names, NamesChange, NamesWere};
 use line_words::{NameBuf, SentenceBuf};
+use noted_map::{Edit, Entries, NotedMap, Undo};
 use reply_kinds::OpenedBattle;
 use std::alloc::{AllocError, Global};
-use std::collections::BTreeMap;
-use std::collections::btree_map::Iter;
 use std::marker::Model;
+use std::mem::replace;
 
 /// A battle as it is listed.
-#[derive(Drop)]
 pub struct Battle {
     /// What all were told of it as it opened; its map and the hash of that are those of now.
     pub opened: OpenedBattle,
@@ -28,6 +25,20 @@ pub struct Battle {
     /// Whether nobody may join it now.
     pub locked: bool,
     pub(crate) members: Names,
+}
+
+impl Drop for Battle {
+    /// Who lets a battle go calls this, and need not know what it is made of.
+    fn drop(self) {
+        let Battle {
+            opened,
+            spectators: _,
+            locked: _,
+            members,
+        } = self;
+        drop(opened);
+        drop(members);
+    }
 }
 
 impl Model for Battle {
@@ -47,79 +58,140 @@ impl Battle {
         self.members.as_slice()
     }
 
-    /// What all know of it changes.
-    fn update(&mut self, spectators: u16, locked: bool, map_hash: i64, map: SentenceBuf)
-        ensures { self.new ≡ change_listed_info (updated spectators locked map_hash map) self.old }
+    // What all know of it changes. Gives what that was.
+    fn update(&mut self, update: Update) -> Update
+        ensures now { self.new ≡ with_update update self.old }
+        ensures was { with_update result self.new ≡ self.old }
     {
-        self.spectators = spectators;
-        self.locked = locked;
-        self.opened.map_hash = map_hash;
-        self.opened.map = map;
-    }
-
-    /// One joins it. Where memory is refused, nothing changes.
-    fn add_member(&mut self, name: NameBuf) -> Result<(), AllocError>
-        ensures ok { OnOk result (self.new ≡ change_members (at_end (name ∷ [])) self.old) }
-        ensures err { OnErr result (self.new ≡ self.old) }
-    {
-        self.members.push(name)
-    }
-
-    /// One leaves it.
-    fn remove_member(&mut self, name: &NameBuf)
-        ensures { self.new ≡ change_members (all_but name.now) self.old }
-    {
-        self.members.remove(name);
+        Update {
+            spectators: replace(&mut self.spectators, update.spectators),
+            locked: replace(&mut self.locked, update.locked),
+            map_hash: replace(&mut self.opened.map_hash, update.map_hash),
+            map: replace(&mut self.opened.map, update.map),
+        }
     }
 }
 
-/// The battles by their numbers.
+/// What all know of a battle, as far as its founder changes it.
 #[derive(Drop)]
-pub struct Battles {
-    by_number: BTreeMap<u32, Battle>,
+pub(crate) struct Update {
+    pub(crate) spectators: u16,
+    pub(crate) locked: bool,
+    pub(crate) map_hash: i64,
+    pub(crate) map: SentenceBuf,
 }
 
-impl Model for Battles {
-    ghost use Rattle.line_words.specs.Table.{ByNumber};
-    ghost use Rattle.lobby_view.specs.View.{Listed};
-
-    ghost Value = { ByNumber Listed };
-
-    ghost view = { λ b. b.by_number.entries };
-}
-
-impl Battles {
-    /// No battle. It takes no memory yet.
-    pub fn new(alloc: Global) -> Battles
-        ensures { result ≡ [] }
+impl Update {
+    // Of its parts.
+    fn of(spectators: u16, locked: bool, map_hash: i64, map: SentenceBuf) -> Update
+        ensures { result ≡ (record { spectators = spectators; locked = locked; map_hash = map_hash; map = map }) }
     {
-        Battles {
-            by_number: BTreeMap::new(alloc),
+        Update {
+            spectators,
+            locked,
+            map_hash,
+            map,
+        }
+    }
+}
+
+/// A change of a battle.
+#[derive(Drop)]
+pub(crate) enum BattleChange<'a> {
+    Info(Update),
+    Members(NamesChange<'a>),
+}
+
+/// What a battle was before a change.
+#[derive(Drop)]
+pub(crate) enum BattleWas {
+    Info(Update),
+    Members(NamesWere),
+}
+
+impl<'a> Edit<Battle, BattleWas> for BattleChange<'a> {
+    ghost after = { battle_after };
+
+    fn make(self, battle: &mut Battle) -> Result<(), AllocError> {
+        match self {
+            BattleChange::Info(update) => {
+                drop(battle.update(update));
+                Ok(())
+            }
+            BattleChange::Members(names) => names.make(&mut battle.members),
         }
     }
 
-    /// The battle of a number, if there is one.
-    pub fn get(&self, number: u32) -> Option<&Battle>
-        ensures { option_copied result ≡ at_number self.now number }
+    fn make_noted(self, battle: &mut Battle) -> Result<BattleWas, AllocError> {
+        match self {
+            BattleChange::Info(update) => Ok(BattleWas::Info(battle.update(update))),
+            BattleChange::Members(names) => {
+                let were = names.make_noted(&mut battle.members)?;
+                Ok(BattleWas::Members(were))
+            }
+        }
+    }
+}
+
+impl Undo<Battle> for BattleWas {
+    ghost back = { battle_back };
+
+    fn undo(self, battle: &mut Battle) {
+        match self {
+            BattleWas::Info(update) => drop(battle.update(update)),
+            BattleWas::Members(names) => names.undo(&mut battle.members),
+        }
+    }
+}
+
+/// The battles by their numbers, in the order of these.
+pub type Battles<'a> = Entries<'a, u32, Battle>;
+
+/// The battles, whose changes can be taken back.
+pub struct UndoableBattles {
+    alloc: Global,
+    by_number: NotedMap<u32, Battle, BattleWas>,
+}
+
+impl Drop for UndoableBattles {
+    /// Who lets battles go calls this, and need not know what they are made of.
+    fn drop(self) {
+        let UndoableBattles {
+            alloc: _,
+            by_number,
+        } = self;
+        drop(by_number);
+    }
+}
+
+impl Model for UndoableBattles {
+    ghost use Rattle.line_words.specs.Table.{ByNumber};
+    ghost use Rattle.noted_map.specs.Undoable.{Undoable};
+    ghost use Rattle.lobby_view.specs.View.{Listed};
+
+    ghost Value = { Undoable (ByNumber Listed) };
+
+    ghost view = { λ b. b.by_number };
+}
+
+impl UndoableBattles {
+    /// No battle, and nothing is noted. It takes no memory yet.
+    pub fn new(alloc: Global) -> UndoableBattles
+        ensures now { result.now ≡ [] }
+        ensures before { result.before ≡ [] }
+        ensures noting { result.noting ≡ false }
     {
-        self.by_number.get(&number)
+        UndoableBattles {
+            alloc,
+            by_number: NotedMap::new(alloc),
+        }
     }
 
-    /// How many battles there are.
-    pub fn len(&self) -> usize
-        ensures { result ≡ length self.now }
+    /// The battles as they are now.
+    pub fn battles(&self) -> Battles<'_>
+        ensures { result ≡ self.now.now }
     {
-        self.by_number.len()
-    }
-
-    /// The battles and their numbers, in the order of these.
-    pub fn iter(&self) -> Iter<'_, u32, Battle>
-        ensures rest { result ≡ self.now }
-        ensures runs { ShowsInOrder (deref_pair {K = ℕ} {X = Listed}) }
-        ensures ordered { IsStrictlySortedBy nat_cmp (keys_of self.now) }
-        ensures fits { length self.now < 2 ^ 63 }
-    {
-        self.by_number.iter()
+        self.by_number.entries()
     }
 
     /// A battle opens, in place of one of the number: its founder alone is in it, nobody watches, and it is not
@@ -130,7 +202,7 @@ impl Battles {
         number: u32,
         opened: OpenedBattle,
     ) -> Result<(), AllocError>
-        ensures ok { OnOk result (self.new ≡ put_number self.old number (record { info = info_of opened 0 false; members = opened.founder ∷ [] })) }
+        ensures ok { OnOk result (Changes (λ battles. put_number battles number (record { info = info_of opened 0 false; members = opened.founder ∷ [] })) self.old self.new) }
         ensures err { OnErr result (self.new ≡ self.old) }
     {
         let members = Names::one(alloc, opened.founder.copy())?;
@@ -140,19 +212,10 @@ impl Battles {
             opened,
             members,
         };
-        self.put(number, battle)
+        self.by_number.put(number, battle)
     }
 
-    /// A battle in place of one of the number. Where memory is refused, nothing changes.
-    fn put(&mut self, number: u32, battle: Battle) -> Result<(), AllocError>
-        ensures ok { OnOk result (self.new ≡ put_number self.old number battle) }
-        ensures err { OnErr result (self.new ≡ self.old) }
-    {
-        drop(self.by_number.insert(number, battle)?);
-        Ok(())
-    }
-
-    /// What all know of a battle changes.
+    /// What all know of a battle changes. Where memory is refused, nothing does.
     pub fn update(
         &mut self,
         number: u32,
@@ -160,40 +223,65 @@ impl Battles {
         locked: bool,
         map_hash: i64,
         map: SentenceBuf,
-    )
-        ensures { self.new ≡ change_number self.old number (change_listed_info (updated spectators locked map_hash map)) }
+    ) -> Result<(), AllocError>
+        ensures ok { OnOk result (Changes (λ battles. change_number battles number (change_listed_info (updated spectators locked map_hash map))) self.old self.new) }
+        ensures err { OnErr result (self.new ≡ self.old) }
     {
-        if let Some(battle) = self.by_number.get_mut(&number) {
-            battle.update(spectators, locked, map_hash, map);
-        }
+        let update = Update::of(spectators, locked, map_hash, map);
+        self.by_number.edit(&number, BattleChange::Info(update))
     }
 
     /// One joins a battle. Where memory is refused, nothing changes.
     pub fn add_member(&mut self, number: u32, name: NameBuf) -> Result<(), AllocError>
-        ensures ok { OnOk result (self.new ≡ change_number self.old number (change_members (at_end (name ∷ [])))) }
+        ensures ok { OnOk result (Changes (λ battles. change_number battles number (change_members (at_end (name ∷ [])))) self.old self.new) }
         ensures err { OnErr result (self.new ≡ self.old) }
     {
-        if let Some(battle) = self.by_number.get_mut(&number) {
-            battle.add_member(name)?;
-        }
-        Ok(())
+        let joins = BattleChange::Members(NamesChange::Add(name));
+        self.by_number.edit(&number, joins)
     }
 
-    /// One leaves a battle.
-    pub fn remove_member(&mut self, number: u32, name: &NameBuf)
-        ensures { self.new ≡ change_number self.old number (change_members (all_but name.now)) }
+    /// One leaves a battle. Where memory is refused, nothing changes.
+    pub fn remove_member(&mut self, number: u32, name: &NameBuf) -> Result<(), AllocError>
+        ensures ok { OnOk result (Changes (λ battles. change_number battles number (change_members (all_but name.now))) self.old self.new) }
+        ensures err { OnErr result (self.new ≡ self.old) }
     {
-        if let Some(battle) = self.by_number.get_mut(&number) {
-            battle.remove_member(name);
-        }
+        let leaves = NamesChange::Remove {
+            name,
+            alloc: self.alloc,
+        };
+        self.by_number.edit(&number, BattleChange::Members(leaves))
     }
 
-    /// A battle closes.
-    pub fn remove(&mut self, number: u32)
-        ensures { self.new ≡ without_number self.old number }
+    /// A battle closes. Where memory is refused, nothing changes.
+    pub fn remove(&mut self, number: u32) -> Result<(), AllocError>
+        ensures ok { OnOk result (Changes (λ battles. without_number battles number) self.old self.new) }
+        ensures err { OnErr result (self.new ≡ self.old) }
     {
-        // Its contract says that the numbers rise, which the proof wants of the map as it was.
-        let _ = self.by_number.len();
-        drop(self.by_number.remove(&number));
+        self.by_number.remove(&number)
+    }
+
+    /// From now on changes are noted.
+    pub fn begin(&mut self)
+        ensures now { self.new.now ≡ self.old.now }
+        ensures before { self.new.before ≡ self.old.now }
+        ensures noting { self.new.noting ≡ true }
+    {
+        self.by_number.begin();
+    }
+
+    /// The changes stay, and no more are noted.
+    pub fn settle(&mut self)
+        ensures now { self.new.now ≡ self.old.now }
+        ensures noting { self.new.noting ≡ false }
+    {
+        self.by_number.settle();
+    }
+
+    /// The battles are again as they were when noting began, and changes are not noted any more.
+    pub fn take_back(&mut self)
+        ensures now { self.new.now ≡ self.old.before }
+        ensures noting { self.new.noting ≡ false }
+    {
+        self.by_number.take_back();
     }
 }

@@ -1,16 +1,13 @@
 //! The users who are logged in, as a client knows them.
 
-ghost use Rattle.std.specs.Prelude.{◌≡◌, ◌<◌, ◌^◌, ℕ, List, [], OnOk, OnErr, length, option_copied};
-ghost use Rattle.std.specs.List.Sorted.{IsStrictlySortedBy};
-ghost use Rattle.std.specs.Map.{keys_of};
-ghost use Rattle.std.specs.Map.Iter.{ShowsInOrder, deref_pair};
-ghost use Rattle.line_words.specs.Table.{at_name, put_name, without_name, change_name, name_cmp};
-ghost use Rattle.lobby_view.specs.View.{Known, known_with};
+ghost use Rattle.std.specs.Prelude.{◌≡◌, [], true, false, OnOk, OnErr};
+ghost use Rattle.line_words.specs.Table.{put_name, without_name, change_name};
+ghost use Rattle.noted_map.specs.Undoable.{Changes};
+ghost use Rattle.lobby_view.specs.View.{known_with};
 
 use line_words::{NameBuf, WordBuf};
+use noted_map::{Edit, Entries, NotedMap, Undo};
 use std::alloc::{AllocError, Global};
-use std::collections::BTreeMap;
-use std::collections::btree_map::Iter;
 use std::marker::Model;
 
 /// What is known of a user who is logged in.
@@ -43,79 +40,128 @@ impl User {
     }
 }
 
-/// The users who are logged in, by their names.
+/// A status that a user is to have.
 #[derive(Drop)]
-pub struct Users {
-    by_name: BTreeMap<NameBuf, User>,
+struct Status {
+    status: u32,
 }
 
-impl Model for Users {
+impl Undo<User> for Status {
+    ghost back = { λ to user. known_with to.status user };
+
+    fn undo(self, user: &mut User) {
+        user.set_status(self.status);
+    }
+}
+
+impl Edit<User, Status> for Status {
+    ghost after = { λ to user. known_with to.status user };
+
+    fn make(self, user: &mut User) -> Result<(), AllocError> {
+        user.set_status(self.status);
+        Ok(())
+    }
+
+    fn make_noted(self, user: &mut User) -> Result<Status, AllocError> {
+        let was = Status {
+            status: user.status,
+        };
+        user.set_status(self.status);
+        Ok(was)
+    }
+}
+
+/// The users who are logged in, by their names, in the order of the bytes of these.
+pub type Users<'a> = Entries<'a, NameBuf, User>;
+
+/// The users who are logged in, whose changes can be taken back.
+pub struct UndoableUsers {
+    by_name: NotedMap<NameBuf, User, Status>,
+}
+
+impl Drop for UndoableUsers {
+    /// Who lets users go calls this, and need not know what they are made of.
+    fn drop(self) {
+        let UndoableUsers { by_name } = self;
+        drop(by_name);
+    }
+}
+
+impl Model for UndoableUsers {
     ghost use Rattle.line_words.specs.Table.{ByName};
+    ghost use Rattle.noted_map.specs.Undoable.{Undoable};
     ghost use Rattle.lobby_view.specs.View.{Known};
 
-    ghost Value = { ByName Known };
+    ghost Value = { Undoable (ByName Known) };
 
-    ghost view = { λ u. u.by_name.entries };
+    ghost view = { λ u. u.by_name };
 }
 
-impl Users {
-    /// Nobody is known. It takes no memory yet.
-    pub fn new(alloc: Global) -> Users
-        ensures { result ≡ [] }
+impl UndoableUsers {
+    /// Nobody is known, and nothing is noted. It takes no memory yet.
+    pub fn new(alloc: Global) -> UndoableUsers
+        ensures now { result.now ≡ [] }
+        ensures before { result.before ≡ [] }
+        ensures noting { result.noting ≡ false }
     {
-        Users {
-            by_name: BTreeMap::new(alloc),
+        UndoableUsers {
+            by_name: NotedMap::new(alloc),
         }
     }
 
-    /// The user of a name, if somebody of that name is logged in.
-    pub fn get(&self, name: &NameBuf) -> Option<&User>
-        ensures { option_copied result ≡ at_name self.now name.now }
+    /// The users as they are now.
+    pub fn users(&self) -> Users<'_>
+        ensures { result ≡ self.now.now }
     {
-        self.by_name.get(name)
-    }
-
-    /// How many are logged in.
-    pub fn len(&self) -> usize
-        ensures { result ≡ length self.now }
-    {
-        self.by_name.len()
-    }
-
-    /// The users and their names, in the order of the bytes of the names.
-    pub fn iter(&self) -> Iter<'_, NameBuf, User>
-        ensures rest { result ≡ self.now }
-        ensures runs { ShowsInOrder (deref_pair {K = List ℕ} {X = Known}) }
-        ensures ordered { IsStrictlySortedBy name_cmp (keys_of self.now) }
-        ensures fits { length self.now < 2 ^ 63 }
-    {
-        self.by_name.iter()
+        self.by_name.entries()
     }
 
     /// A user logs in, in place of one of the name. Where memory is refused, nothing changes.
     pub fn put(&mut self, name: NameBuf, user: User) -> Result<(), AllocError>
-        ensures ok { OnOk result (self.new ≡ put_name self.old name user) }
+        ensures ok { OnOk result (Changes (λ users. put_name users name user) self.old self.new) }
         ensures err { OnErr result (self.new ≡ self.old) }
     {
-        self.by_name.insert(name, user)?;
-        Ok(())
+        self.by_name.put(name, user)
     }
 
-    /// A status for a user. Where there is none of the name, nothing changes.
-    pub fn set_status(&mut self, name: &NameBuf, status: u32)
-        ensures { self.new ≡ change_name self.old name.now (known_with status) }
+    /// A status for a user. Where there is none of the name, or memory is refused, nothing changes.
+    pub fn set_status(&mut self, name: &NameBuf, status: u32) -> Result<(), AllocError>
+        ensures ok { OnOk result (Changes (λ users. change_name users name.now (known_with status)) self.old self.new) }
+        ensures err { OnErr result (self.new ≡ self.old) }
     {
-        if let Some(user) = self.by_name.get_mut(name) {
-            user.set_status(status);
-        }
+        self.by_name.edit(name, Status { status })
     }
 
-    /// A user logs out.
-    pub fn remove(&mut self, name: &NameBuf)
-        ensures { self.new ≡ without_name self.old name.now }
+    /// A user logs out. Where memory is refused, nothing changes.
+    pub fn remove(&mut self, name: &NameBuf) -> Result<(), AllocError>
+        ensures ok { OnOk result (Changes (λ users. without_name users name.now) self.old self.new) }
+        ensures err { OnErr result (self.new ≡ self.old) }
     {
-        // Its contract says that the names rise, which the proof wants of the map as it was.
-        let _ = self.by_name.len();
-        let _ = self.by_name.remove(name);
+        self.by_name.remove(name)
+    }
+
+    /// From now on changes are noted.
+    pub fn begin(&mut self)
+        ensures now { self.new.now ≡ self.old.now }
+        ensures before { self.new.before ≡ self.old.now }
+        ensures noting { self.new.noting ≡ true }
+    {
+        self.by_name.begin();
+    }
+
+    /// The changes stay, and no more are noted.
+    pub fn settle(&mut self)
+        ensures now { self.new.now ≡ self.old.now }
+        ensures noting { self.new.noting ≡ false }
+    {
+        self.by_name.settle();
+    }
+
+    /// The users are again as they were when noting began, and changes are not noted any more.
+    pub fn take_back(&mut self)
+        ensures now { self.new.now ≡ self.old.before }
+        ensures noting { self.new.noting ≡ false }
+    {
+        self.by_name.take_back();
     }
 }

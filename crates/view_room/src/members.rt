@@ -39,6 +39,16 @@ impl Member {
         }
     }
 
+    fn copy(&self) -> Member
+        ensures { result ≡ self.now }
+    {
+        Member {
+            name: self.name.copy(),
+            status: self.status,
+            colour: self.colour,
+        }
+    }
+
     /// A status and a colour for the member, if it has this name.
     fn put_status(&mut self, name: &NameBuf, status: u32, colour: i64)
         ensures { self.new ≡ (if same_name name.now self.old.name then room.member_with status colour self.old else self.old) }
@@ -73,6 +83,17 @@ impl Members {
         Members {
             members: Vec::new(alloc),
         }
+    }
+
+    /// A copy. Fails only where memory is refused.
+    pub(crate) fn copy(&self, alloc: Global) -> Result<Members, AllocError>
+        ensures { IfOk result (λ copy. copy ≡ self.now) }
+    {
+        let mut members = Vec::with_capacity(alloc, self.members.len())?;
+        for member in self.as_slice() {
+            members.push(member.copy())?;
+        }
+        Ok(Members { members })
     }
 
     /// Members of these names, of whom nothing is told yet.

@@ -1,16 +1,14 @@
 //! The room of the battle that the client is in.
 
-ghost use Rattle.std.specs.Prelude.{◌≡◌, ℕ, List, OnOk, OnErr, IfOk, length, option_copied};
+ghost use Rattle.std.specs.Prelude.{◌≡◌, IfOk, length, option_copied};
 ghost use Rattle.line_words.specs.Table.{at_number, same_number};
-ghost use Rattle.room_lists.specs.Room as room;
-ghost use Rattle.lobby_view.specs.View.{OwnRoom, entered};
-ghost use Rattle.view_room.specs.Rooms.{changed_room};
+ghost use Rattle.lobby_view.specs.View.{entered};
 
 use crate::members::{Member, Members};
-use line_words::{NameBuf, Pair, WordBuf};
+use crate::rects::Rects;
+use line_words::{Pair, WordBuf};
 use room_lists::{Bots, Rect, Tags, Units};
 use std::alloc::{AllocError, Global};
-use std::collections::BTreeMap;
 use std::marker::Model;
 use view_lists::Battle;
 
@@ -18,14 +16,32 @@ use view_lists::Battle;
 pub type Bot = room_lists::Bot<u32>;
 
 /// The room of the battle that the client is in: what its members share.
-#[derive(Drop)]
 pub struct OwnRoom {
     battle: u32,
     pub(crate) members: Members,
     pub(crate) bots: Bots<u32>,
-    rects: BTreeMap<u8, Rect>,
+    pub(crate) rects: Rects,
     pub(crate) tags: Tags,
     pub(crate) units: Units,
+}
+
+impl Drop for OwnRoom {
+    /// Who lets a room go calls this, and need not know what it is made of.
+    fn drop(self) {
+        let OwnRoom {
+            battle: _,
+            members,
+            bots,
+            rects,
+            tags,
+            units,
+        } = self;
+        drop(members);
+        drop(bots);
+        drop(rects);
+        drop(tags);
+        drop(units);
+    }
 }
 
 impl Model for OwnRoom {
@@ -34,13 +50,13 @@ impl Model for OwnRoom {
 
     ghost Value = { OwnRoom };
 
-    ghost view = { λ o. record { battle = o.battle; room = record { members = o.members; bots = o.bots; rects = o.rects.entries; tags = o.tags; units = o.units; askers = [] } } };
+    ghost view = { λ o. record { battle = o.battle; room = record { members = o.members; bots = o.bots; rects = o.rects; tags = o.tags; units = o.units; askers = [] } } };
 }
 
 impl OwnRoom {
     /// The room of a battle that the client enters. Nothing is told yet of the members that the battle
     /// is known to have.
-    pub fn entered(
+    pub(crate) fn entered(
         alloc: Global,
         number: u32,
         battle: Option<&Battle>,
@@ -55,7 +71,7 @@ impl OwnRoom {
             battle: number,
             members,
             bots: Bots::new(alloc),
-            rects: BTreeMap::new(alloc),
+            rects: Rects::new(alloc),
             tags: Tags::new(alloc),
             units: Units::new(alloc),
         })
@@ -93,7 +109,7 @@ impl OwnRoom {
     pub fn rect_at(&self, ally: u8) -> Option<Rect>
         ensures { result ≡ at_number self.now.room.rects ally }
     {
-        self.rects.get(&ally).copied()
+        self.rects.at(ally)
     }
 
     /// How many ally numbers have a start rectangle.
@@ -115,38 +131,5 @@ impl OwnRoom {
         ensures { result.now ≡ self.now.room.units }
     {
         self.units.as_slice()
-    }
-
-    /// One joins. Where memory is refused, nothing changes.
-    pub(crate) fn add_member(&mut self, name: NameBuf) -> Result<(), AllocError>
-        ensures ok { OnOk result (self.new ≡ changed_room (room.with_member name) self.old) }
-        ensures err { OnErr result (self.new ≡ self.old) }
-    {
-        self.members.add(name)
-    }
-
-    /// Without the last member, who has just been added.
-    pub(crate) fn drop_last(&mut self)
-        ensures { (before : OwnRoom) (name : List ℕ) → self.old ≡ changed_room (room.with_member name) before → self.new ≡ before }
-    {
-        self.members.drop_last();
-    }
-
-    /// A start rectangle. Where memory is refused, nothing changes.
-    pub(crate) fn put_rect(&mut self, ally: u8, rect: Rect) -> Result<(), AllocError>
-        ensures ok { OnOk result (self.new ≡ changed_room (room.with_rect ally rect) self.old) }
-        ensures err { OnErr result (self.new ≡ self.old) }
-    {
-        self.rects.insert(ally, rect)?;
-        Ok(())
-    }
-
-    /// No start rectangle for an ally number.
-    pub(crate) fn remove_rect(&mut self, ally: u8)
-        ensures { self.new ≡ changed_room (room.without_rect ally) self.old }
-    {
-        // Its contract says that the numbers rise, which the proof wants of the map as it was.
-        let _ = self.rects.len();
-        let _ = self.rects.remove(&ally);
     }
 }

@@ -51,16 +51,16 @@ fn put_text<W: Write>(text: &[u8], out: &mut W) -> io::Result<()> {
 /// Writes all that a client knows.
 pub fn show<W: Write>(view: &View, out: &mut W) -> io::Result<()> {
     put_line(b"me", &[Text(view.me())], out)?;
-    show_users(view.users(), out)?;
-    show_battles(view.battles(), out)?;
-    show_channels(view.channels(), out)?;
+    show_users(&view.users(), out)?;
+    show_battles(&view.battles(), out)?;
+    show_channels(&view.channels(), out)?;
     match view.room() {
         Some(room) => show_room(room, out),
         None => Ok(()),
     }
 }
 
-fn show_users<W: Write>(users: &Users, out: &mut W) -> io::Result<()> {
+fn show_users<W: Write>(users: &Users<'_>, out: &mut W) -> io::Result<()> {
     for (name, user) in users.iter() {
         show_user(name, user, out)?;
     }
@@ -78,7 +78,7 @@ fn show_user<'a, W: Write>(name: &'a NameBuf, user: &'a User, out: &mut W) -> io
     put_line(b"user", &words, out)
 }
 
-fn show_battles<W: Write>(battles: &Battles, out: &mut W) -> io::Result<()> {
+fn show_battles<W: Write>(battles: &Battles<'_>, out: &mut W) -> io::Result<()> {
     for (number, battle) in battles.iter() {
         show_battle(*number, battle, out)?;
         show_titles(battle, out)?;
@@ -124,7 +124,7 @@ fn show_names<W: Write>(names: &[NameBuf], out: &mut W) -> io::Result<()> {
     Ok(())
 }
 
-fn show_channels<W: Write>(channels: &Channels, out: &mut W) -> io::Result<()> {
+fn show_channels<W: Write>(channels: &Channels<'_>, out: &mut W) -> io::Result<()> {
     for k in 0..channels.len() {
         if let Some(name) = channels.name_at(k) {
             put_line(b"channel", &[Text(name.as_slice())], out)?;

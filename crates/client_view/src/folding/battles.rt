@@ -3,21 +3,22 @@
 ghost use Rattle.std.specs.Prelude.{◌≡◌, OnOk, OnErr};
 ghost use Rattle.reply_kinds.specs.declared.Reply.TheVariants as reply;
 ghost use Rattle.lobby_view.specs.View.{shown};
+ghost use Rattle.noted_map.specs.Undoable.{Changes};
 ghost use Rattle.client_view.specs.Kinds.{Battles, Opening, kind_of};
+ghost use Rattle.client_view.specs.Refused.{Refused};
 
 use crate::known::Known;
 use line_words::{NameBuf, SentenceBuf, WordBuf};
 use reply_kinds::{OpenedBattle, Reply};
 use std::alloc::AllocError;
-use view_room::{OwnRoom, room_changes};
 
 impl Known {
     // Who is in a battle, or what it is.
     #[inline(never)]
     pub(crate) fn fold_battles(&mut self, reply: Reply) -> Result<(), AllocError>
         requires { kind_of reply ≡ Battles }
-        ensures ok { OnOk result (self.new ≡ shown self.old reply) }
-        ensures err { OnErr result (self.new ≡ self.old) }
+        ensures ok { OnOk result (Changes (λ v. shown v reply) self.old self.new) }
+        ensures err { OnErr result (Refused self.old self.new) }
     {
         match reply {
             Reply::OpenBattle { battle } => self.open_battle(battle),
@@ -27,24 +28,15 @@ impl Known {
                 user,
                 script_password,
             } => self.joined_battle(battle, user, script_password),
-            Reply::LeftBattle { battle, user } => {
-                self.left_battle(battle, &user);
-                Ok(())
-            }
-            Reply::BattleClosed { battle } => {
-                self.battle_closed(battle);
-                Ok(())
-            }
+            Reply::LeftBattle { battle, user } => self.left_battle(battle, &user),
+            Reply::BattleClosed { battle } => self.battle_closed(battle),
             Reply::UpdateBattleInfo {
                 battle,
                 spectator_count,
                 locked,
                 map_hash,
                 map,
-            } => {
-                self.update_battle_info(battle, spectator_count, locked, map_hash, map);
-                Ok(())
-            }
+            } => self.update_battle_info(battle, spectator_count, locked, map_hash, map),
             _ => unreachable!(),
         }
     }
@@ -53,7 +45,7 @@ impl Known {
     #[inline(never)]
     pub(crate) fn battle_opened(&mut self, reply: Reply) -> Result<(), AllocError>
         requires { kind_of reply ≡ Opening }
-        ensures ok { OnOk result (self.new ≡ shown self.old reply) }
+        ensures ok { OnOk result (Changes (λ v. shown v reply) self.old self.new) }
         ensures err { OnErr result (self.new ≡ self.old) }
     {
         match reply {
@@ -98,12 +90,10 @@ impl Known {
 
     // The client enters a battle, as its founder or as one who joins.
     fn open_battle(&mut self, number: u32) -> Result<(), AllocError>
-        ensures ok { OnOk result (self.new ≡ shown self.old (reply.OpenBattle number)) }
+        ensures ok { OnOk result (Changes (λ v. shown v (reply.OpenBattle number)) self.old self.new) }
         ensures err { OnErr result (self.new ≡ self.old) }
     {
-        let room = OwnRoom::entered(self.alloc, number, self.battles.get(number))?;
-        self.own = Some(room);
-        Ok(())
+        self.room.enter(number, self.battles.battles().get(&number))
     }
 
     // Only a founder's client is told a script password, and no client keeps it.
@@ -113,14 +103,14 @@ impl Known {
         name: NameBuf,
         _script_password: Option<WordBuf>,
     ) -> Result<(), AllocError>
-        ensures ok { OnOk result (self.new ≡ shown self.old (reply.JoinedBattle number name _script_password)) }
-        ensures err { OnErr result (self.new ≡ self.old) }
+        ensures ok { OnOk result (Changes (λ v. shown v (reply.JoinedBattle number name _script_password)) self.old self.new) }
+        ensures err { OnErr result (Refused self.old self.new) }
     {
-        room_changes::add_member(&mut self.own, number, name.copy())?;
+        self.room.add_member(number, name.copy())?;
         match self.battles.add_member(number, name) {
             Ok(()) => Ok(()),
             Err(refused) => {
-                room_changes::drop_last(&mut self.own, number);
+                self.room.drop_unnoted(number);
                 Err(refused)
             }
         }
@@ -133,29 +123,34 @@ impl Known {
         locked: bool,
         map_hash: i64,
         map: SentenceBuf,
-    )
-        ensures { self.new ≡ shown self.old (reply.UpdateBattleInfo number spectators locked map_hash map) }
+    ) -> Result<(), AllocError>
+        ensures ok { OnOk result (Changes (λ v. shown v (reply.UpdateBattleInfo number spectators locked map_hash map)) self.old self.new) }
+        ensures err { OnErr result (self.new ≡ self.old) }
     {
         self.battles
-            .update(number, spectators, locked, map_hash, map);
+            .update(number, spectators, locked, map_hash, map)
     }
 
     // The room is left with the client itself.
-    fn left_battle(&mut self, number: u32, name: &NameBuf)
-        ensures { self.new ≡ shown self.old (reply.LeftBattle number name.now) }
+    fn left_battle(&mut self, number: u32, name: &NameBuf) -> Result<(), AllocError>
+        ensures ok { OnOk result (Changes (λ v. shown v (reply.LeftBattle number name.now)) self.old self.new) }
+        ensures err { OnErr result (Refused self.old self.new) }
     {
+        self.battles.remove_member(number, name)?;
         if self.is_me(name) {
-            room_changes::leave(&mut self.own, number);
+            self.room.leave(number);
+            Ok(())
         } else {
-            room_changes::remove_member(&mut self.own, number, name);
+            self.room.remove_member(number, name)
         }
-        self.battles.remove_member(number, name);
     }
 
-    fn battle_closed(&mut self, number: u32)
-        ensures { self.new ≡ shown self.old (reply.BattleClosed number) }
+    fn battle_closed(&mut self, number: u32) -> Result<(), AllocError>
+        ensures ok { OnOk result (Changes (λ v. shown v (reply.BattleClosed number)) self.old self.new) }
+        ensures err { OnErr result (self.new ≡ self.old) }
     {
-        self.battles.remove(number);
-        room_changes::leave(&mut self.own, number);
+        self.battles.remove(number)?;
+        self.room.leave(number);
+        Ok(())
     }
 }

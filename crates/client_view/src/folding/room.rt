@@ -3,6 +3,7 @@
 ghost use Rattle.std.specs.Prelude.{◌≡◌, true, OnOk, OnErr};
 ghost use Rattle.reply_kinds.specs.declared.Reply.TheVariants as reply;
 ghost use Rattle.lobby_view.specs.View.{shown};
+ghost use Rattle.noted_map.specs.Undoable.{Changes};
 ghost use Rattle.client_view.specs.Kinds.{Members, Bots, Rects, Tags, Units, is_of_room, kind_of};
 
 use crate::known::Known;
@@ -10,14 +11,14 @@ use line_words::{NameBuf, WordBuf};
 use reply_kinds::Reply;
 use room_lists::Rect;
 use std::alloc::AllocError;
-use view_room::{Bot, room_changes};
+use view_room::Bot;
 
 impl Known {
     // What changes the own room.
     #[inline(never)]
     pub(crate) fn fold_room(&mut self, reply: Reply) -> Result<(), AllocError>
         requires { is_of_room (kind_of reply) ≡ true }
-        ensures ok { OnOk result (self.new ≡ shown self.old reply) }
+        ensures ok { OnOk result (Changes (λ v. shown v reply) self.old self.new) }
         ensures err { OnErr result (self.new ≡ self.old) }
     {
         match reply {
@@ -36,7 +37,7 @@ impl Known {
     #[inline(never)]
     fn fold_members(&mut self, reply: Reply) -> Result<(), AllocError>
         requires { kind_of reply ≡ Members }
-        ensures ok { OnOk result (self.new ≡ shown self.old reply) }
+        ensures ok { OnOk result (Changes (λ v. shown v reply) self.old self.new) }
         ensures err { OnErr result (self.new ≡ self.old) }
     {
         match reply {
@@ -44,25 +45,28 @@ impl Known {
                 user,
                 battle_status,
                 team_color,
-            } => {
-                self.client_battle_status(&user, battle_status, team_color);
-                Ok(())
-            }
+            } => self.client_battle_status(&user, battle_status, team_color),
             _ => unreachable!(),
         }
     }
 
-    fn client_battle_status(&mut self, name: &NameBuf, status: u32, colour: i64)
-        ensures { self.new ≡ shown self.old (reply.ClientBattleStatus name.now status colour) }
+    fn client_battle_status(
+        &mut self,
+        name: &NameBuf,
+        status: u32,
+        colour: i64,
+    ) -> Result<(), AllocError>
+        ensures ok { OnOk result (Changes (λ v. shown v (reply.ClientBattleStatus name.now status colour)) self.old self.new) }
+        ensures err { OnErr result (self.new ≡ self.old) }
     {
-        room_changes::put_status(&mut self.own, name, status, colour);
+        self.room.put_status(name, status, colour)
     }
 
     // A bot comes, changes or goes.
     #[inline(never)]
     fn fold_bots(&mut self, reply: Reply) -> Result<(), AllocError>
         requires { kind_of reply ≡ Bots }
-        ensures ok { OnOk result (self.new ≡ shown self.old reply) }
+        ensures ok { OnOk result (Changes (λ v. shown v reply) self.old self.new) }
         ensures err { OnErr result (self.new ≡ self.old) }
     {
         match reply {
@@ -82,42 +86,44 @@ impl Known {
                 bot,
                 battle_status,
                 team_color,
-            } => {
-                self.update_bot(battle, &bot, battle_status, team_color);
-                Ok(())
-            }
-            Reply::RemoveBot { battle, bot } => {
-                self.remove_bot(battle, &bot);
-                Ok(())
-            }
+            } => self.update_bot(battle, &bot, battle_status, team_color),
+            Reply::RemoveBot { battle, bot } => self.remove_bot(battle, &bot),
             _ => unreachable!(),
         }
     }
 
     fn add_bot(&mut self, number: u32, bot: Bot) -> Result<(), AllocError>
-        ensures ok { OnOk result (self.new ≡ shown self.old (reply.AddBot number bot.name bot.owner bot.status bot.colour bot.ai)) }
+        ensures ok { OnOk result (Changes (λ v. shown v (reply.AddBot number bot.name bot.owner bot.status bot.colour bot.ai)) self.old self.new) }
         ensures err { OnErr result (self.new ≡ self.old) }
     {
-        room_changes::add_bot(&mut self.own, number, bot)
+        self.room.add_bot(number, bot)
     }
 
-    fn update_bot(&mut self, number: u32, name: &WordBuf, status: u32, colour: i64)
-        ensures { self.new ≡ shown self.old (reply.UpdateBot number name.now status colour) }
+    fn update_bot(
+        &mut self,
+        number: u32,
+        name: &WordBuf,
+        status: u32,
+        colour: i64,
+    ) -> Result<(), AllocError>
+        ensures ok { OnOk result (Changes (λ v. shown v (reply.UpdateBot number name.now status colour)) self.old self.new) }
+        ensures err { OnErr result (self.new ≡ self.old) }
     {
-        room_changes::put_bot_status(&mut self.own, number, name, status, colour);
+        self.room.put_bot_status(number, name, status, colour)
     }
 
-    fn remove_bot(&mut self, number: u32, name: &WordBuf)
-        ensures { self.new ≡ shown self.old (reply.RemoveBot number name.now) }
+    fn remove_bot(&mut self, number: u32, name: &WordBuf) -> Result<(), AllocError>
+        ensures ok { OnOk result (Changes (λ v. shown v (reply.RemoveBot number name.now)) self.old self.new) }
+        ensures err { OnErr result (self.new ≡ self.old) }
     {
-        room_changes::remove_bot(&mut self.own, number, name);
+        self.room.remove_bot(number, name)
     }
 
     // A start rectangle is set or goes.
     #[inline(never)]
     fn fold_rects(&mut self, reply: Reply) -> Result<(), AllocError>
         requires { kind_of reply ≡ Rects }
-        ensures ok { OnOk result (self.new ≡ shown self.old reply) }
+        ensures ok { OnOk result (Changes (λ v. shown v reply) self.old self.new) }
         ensures err { OnErr result (self.new ≡ self.old) }
     {
         match reply {
@@ -134,12 +140,9 @@ impl Known {
                     right,
                     bottom,
                 };
-                room_changes::put_rect(&mut self.own, ally_no, rect)
+                self.room.put_rect(ally_no, rect)
             }
-            Reply::RemoveStartRect { ally_no } => {
-                room_changes::remove_rect(&mut self.own, ally_no);
-                Ok(())
-            }
+            Reply::RemoveStartRect { ally_no } => self.room.remove_rect(ally_no),
             _ => unreachable!(),
         }
     }
@@ -148,19 +151,12 @@ impl Known {
     #[inline(never)]
     fn fold_tags(&mut self, reply: Reply) -> Result<(), AllocError>
         requires { kind_of reply ≡ Tags }
-        ensures ok { OnOk result (self.new ≡ shown self.old reply) }
+        ensures ok { OnOk result (Changes (λ v. shown v reply) self.old self.new) }
         ensures err { OnErr result (self.new ≡ self.old) }
     {
         match reply {
-            Reply::SetScriptTags { pairs } => room_changes::put_tags(
-                &mut self.own,
-                self.alloc,
-                pairs,
-            ),
-            Reply::RemoveScriptTags { keys } => {
-                room_changes::remove_tags(&mut self.own, &keys);
-                Ok(())
-            }
+            Reply::SetScriptTags { pairs } => self.room.put_tags(pairs),
+            Reply::RemoveScriptTags { keys } => self.room.remove_tags(&keys),
             _ => unreachable!(),
         }
     }
@@ -169,23 +165,13 @@ impl Known {
     #[inline(never)]
     fn fold_units(&mut self, reply: Reply) -> Result<(), AllocError>
         requires { kind_of reply ≡ Units }
-        ensures ok { OnOk result (self.new ≡ shown self.old reply) }
+        ensures ok { OnOk result (Changes (λ v. shown v reply) self.old self.new) }
         ensures err { OnErr result (self.new ≡ self.old) }
     {
         match reply {
-            Reply::DisableUnits { units } => room_changes::put_units(
-                &mut self.own,
-                self.alloc,
-                units,
-            ),
-            Reply::EnableUnits { units } => {
-                room_changes::remove_units(&mut self.own, &units);
-                Ok(())
-            }
-            Reply::EnableAllUnits => {
-                room_changes::clear_units(&mut self.own);
-                Ok(())
-            }
+            Reply::DisableUnits { units } => self.room.put_units(units),
+            Reply::EnableUnits { units } => self.room.remove_units(&units),
+            Reply::EnableAllUnits => self.room.clear_units(),
             _ => unreachable!(),
         }
     }

@@ -1,0 +1,3 @@
+pub mod Undoable
+pub mod Slots
+pub mod Notes

@@ -1,0 +1,2 @@
+pub mod FirstNames
+pub mod NthKey
