@@ -285,9 +285,18 @@ fn bad_proxy(place: usize, fault: FieldFault) -> Option<SetupFault> {
 }
 
 static BAD_PROXIES: [(&str, FieldFault); 4] = [
-    ("proxies = ['10.0.0.1', '10.0.0.01', 5]", FieldFault::NotAllowed),
-    ("proxies = ['10.0.0.1', 'localhost']", FieldFault::NotAllowed),
-    ("proxies = ['10.0.0.1', '10.0.0.1:80']", FieldFault::NotAllowed),
+    (
+        "proxies = ['10.0.0.1', '10.0.0.01', 5]",
+        FieldFault::NotAllowed,
+    ),
+    (
+        "proxies = ['10.0.0.1', 'localhost']",
+        FieldFault::NotAllowed,
+    ),
+    (
+        "proxies = ['10.0.0.1', '10.0.0.1:80']",
+        FieldFault::NotAllowed,
+    ),
     ("proxies = ['10.0.0.1', 5, '']", FieldFault::OtherKind),
 ];
 
