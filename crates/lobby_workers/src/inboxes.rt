@@ -17,6 +17,13 @@ pub struct Arrival {
     pub ip: [u8; 4],
 }
 
+impl Arrival {
+    /// A connection that comes from this address.
+    pub fn new(stream: TcpStream, ip: [u8; 4]) -> Arrival {
+        Arrival { stream, ip }
+    }
+}
+
 /// An inbox for each worker of a server, by their numbers from 0.
 #[derive(Drop)]
 pub struct Inboxes {

@@ -111,7 +111,7 @@ pub fn turn_told<R: Wait, G: Gate>(
     if Newcomers::has(token) {
         return match newcomers.turn(registry, token) {
             Some((stream, ip)) => {
-                let arrival = Arrival { stream, ip };
+                let arrival = Arrival::new(stream, ip);
                 adopt(rt, shared, pass, connections, registry, arrival)
             }
             None => pass,

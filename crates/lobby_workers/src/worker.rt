@@ -214,7 +214,7 @@ impl WorkerLoop {
         let Arrival { stream, ip } = arrival;
         match self.newcomers.begin(registry, stream, ip) {
             Some((stream, ip)) => {
-                let arrival = Arrival { stream, ip };
+                let arrival = Arrival::new(stream, ip);
                 turns::adopt(rt, shared, pass, connections, registry, arrival)
             }
             None => pass,
