@@ -34,8 +34,8 @@ refuse() {
         status=1
     fi
 }
-refuse memory_trials scarce 15000
+refuse memory_trials scarce 12000
 refuse memory_trials counted 3000
-refuse turn_trials scarce 1000
-refuse turn_trials counted 100
+refuse turn_trials scarce 3500
+refuse turn_trials counted 150
 exit "$status"

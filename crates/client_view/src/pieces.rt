@@ -1,6 +1,6 @@
 //! What of a piece ends lines, read and folded: all of it, or none.
 
-ghost use Rattle.std.specs.Prelude.{◌≡◌, ◌+◌, ◌++◌, ◌≤◌, true, false, OnOk, OnErr, IfOk, length, drop, is_some};
+ghost use Rattle.std.specs.Prelude.{◌≡◌, ◌+◌, ◌++◌, ◌≤◌, true, false, OnOk, OnErr, IfOk, length, drop};
 ghost use Rattle.line_framer.specs.Buffered.{IsFirstEnd, IsLastEnd};
 ghost use Rattle.line_framer.specs.Frames as frames;
 ghost use Rattle.reply_reader.specs.Lines.{read_line};

@@ -1,6 +1,6 @@
 //! What a client knows from its own bytes.
 
-ghost use Rattle.std.specs.Prelude.{◌≡◌, ◌+◌, ◌≤◌, true, false, [], ◌∷◌, ◌++◌, length, IfOk, Err, nat_lt, option_copied};
+ghost use Rattle.std.specs.Prelude.{◌≡◌, ◌+◌, true, false, [], ◌∷◌, ◌++◌, length, IfOk, Err, nat_lt, option_copied};
 ghost use Rattle.line_framer.specs.Buffered.{HasNoEnd};
 ghost use Rattle.client_view.specs.Following.{Following, Followed, TookIn, HasNew};
 

@@ -17,8 +17,8 @@ use Rattle.lobby_holds.specs.Talk.{AreTalk}
 use Rattle.lobby_holds.specs.Went.{Went}
 use Rattle.lobby_holds.specs.Holds.{AreSaid, IsWithin, HasNoSpoiltNext, StopsAt}
 
--- So many reads were made, of 4,096 bytes at most, and no write, and each failed at most once. Without a read its last answer is as it was. What is to be
--- written is as it was
+-- So many reads were made, of 4,096 bytes at most, and no write, and each failed at most once. Without a read its last answer is as it
+-- was. What is to be written is as it was
 pub record OnlyReads (old new : Snapshot) (reads : ℕ) : Type 0 where
   pub reads_are : new.wire.reads ≡ old.wire.reads + reads
   pub pieces : ReadsSome old.wire new.wire (4096 * reads)

@@ -35,7 +35,8 @@ CLIENTS main Cleo Anna\n\
 SAID main Cleo hello\n";
 
 /// Battles, and who is in them.
-const BATTLES: &[u8] = b"BATTLEOPENED 1 0 0 Anna 10.0.0.1 8452 8 0 0 1 Spring\t104.0\tComet Catcher\tAnna's game\tBA\n\
+const BATTLES: &[u8] =
+    b"BATTLEOPENED 1 0 0 Anna 10.0.0.1 8452 8 0 0 1 Spring\t104.0\tComet Catcher\tAnna's game\tBA\n\
 BATTLEOPENED 2 1 2 Bert 10.0.0.2 8453 4 1 3 2 Spring\t105.0\tSmall Divide\tBert's game\tBA\n\
 JOINEDBATTLE 2 Cleo\n\
 UPDATEBATTLEINFO 2 1 1 5 Other Map\n\
@@ -123,7 +124,8 @@ fn users_are_same(ours: &Users<'_>, theirs: &Users<'_>) -> bool {
     let mut others = theirs.iter();
     for (name, user) in ours.iter() {
         match others.next() {
-            Some((other, known)) if name.as_slice() == other.as_slice() && is_user(user, known) => {}
+            Some((other, known)) if name.as_slice() == other.as_slice() && is_user(user, known) =>
+                {}
             _ => return false,
         }
     }

@@ -1,7 +1,7 @@
 //! The places of a map: each holds a value, or is empty.
 
-ghost use Rattle.std.specs.Prelude.{◌≡◌, ◌+◌, ◌<◌, ◌≤◌, ◌^◌, OnOk, OnErr, IfOk, MatchOption, None, Some, is_some, if◌then◌else◌, length};
-ghost use Rattle.std.specs.Option.{option_flatten, option_map};
+ghost use Rattle.std.specs.Prelude.{◌≡◌, ◌+◌, ◌<◌, ◌≤◌, ◌^◌, OnOk, OnErr, IfOk, MatchOption, None, Some, if◌then◌else◌, length};
+ghost use Rattle.std.specs.Option.{option_map};
 ghost use Rattle.std.specs.List.Sorted.{IsStrictlySortedBy};
 ghost use Rattle.std.specs.Map.{keys_of};
 ghost use Rattle.line_words.specs.Table.{at, put, without, change};

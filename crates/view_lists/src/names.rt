@@ -1,6 +1,6 @@
 //! Names in the order in which they came.
 
-ghost use Rattle.std.specs.Prelude.{◌≡◌, ◌≤◌, [], ◌∷◌, ◌++◌, OnOk, OnErr, IfOk, length, take};
+ghost use Rattle.std.specs.Prelude.{◌≡◌, [], ◌∷◌, ◌++◌, OnOk, OnErr, IfOk, length, take};
 ghost use Rattle.line_words.specs.Table.{all_but};
 ghost use Rattle.view_lists.specs.Names.{names_after, names_back};
 
