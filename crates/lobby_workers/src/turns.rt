@@ -110,7 +110,8 @@ pub fn turn_told<R: Wait, G: Gate>(
 {
     if Newcomers::has(token) {
         return match newcomers.turn(registry, token) {
-            Some((stream, ip)) => {
+            Some(found) => {
+                let (stream, ip) = found;
                 let arrival = Arrival::new(stream, ip);
                 adopt(rt, shared, pass, connections, registry, arrival)
             }

@@ -213,7 +213,8 @@ impl WorkerLoop {
         }
         let Arrival { stream, ip } = arrival;
         match self.newcomers.begin(registry, stream, ip) {
-            Some((stream, ip)) => {
+            Some(found) => {
+                let (stream, ip) = found;
                 let arrival = Arrival::new(stream, ip);
                 turns::adopt(rt, shared, pass, connections, registry, arrival)
             }

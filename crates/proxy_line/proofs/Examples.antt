@@ -18,9 +18,14 @@ unfolding digits
 gives_its_source =
     let source : IsAddress (codes "192.168.0.1") (192 ∷ 168 ∷ 0 ∷ 1 ∷ []) = (refl, lit< tt, lit< tt, lit< tt, lit< tt) in
     let destination : IsAddress (codes "10.0.0.255") (10 ∷ 0 ∷ 0 ∷ 255 ∷ []) = (refl, lit< tt, lit< tt, lit< tt, lit< tt) in
-    let route : IsRoute (codes "192.168.0.1 10.0.0.255 56324 443") (192 ∷ 168 ∷ 0 ∷ 1 ∷ []) =
-      (codes "10.0.0.255 56324 443", 10 ∷ 0 ∷ 0 ∷ 255 ∷ [], codes "56324 443", (codes "192.168.0.1", refl, source), (codes "10.0.0.255", refl, destination),
-      (codes "56324", codes "443", refl, (56324, (refl, lit< tt)), (443, (refl, lit< tt)))) in
+    let route : IsRoute (codes "192.168.0.1 10.0.0.255 56324 443") (192 ∷ 168 ∷ 0 ∷ 1 ∷ []) = (
+      codes "10.0.0.255 56324 443",
+      10 ∷ 0 ∷ 0 ∷ 255 ∷ [],
+      codes "56324 443",
+      (codes "192.168.0.1", refl, source),
+      (codes "10.0.0.255", refl, destination),
+      (codes "56324", codes "443", refl, (56324, (refl, lit< tt)), (443, (refl, lit< tt))),
+    ) in
     (lit≤ tt, (codes "PROXY TCP4 192.168.0.1 10.0.0.255 56324 443", (refl, refl), (codes "192.168.0.1 10.0.0.255 56324 443", refl, route)))
 
 pub knows_none : IsProxyLine (ended (codes "PROXY UNKNOWN")) OwnAddress
