@@ -15,7 +15,7 @@ is_new() {
 
 if is_new "$proved"; then echo "$proved"; exit; fi
 if ! is_new "$unproved"; then
-    echo "$name: builds a program that is not proved, which takes two to three minutes and is kept in bin/" >&2
+    echo "$name: builds a program that is not proved, which takes about two minutes and is kept in bin/" >&2
     "$root/tools/quick.sh" "$name" "$unproved" || { echo "$name: this toolchain builds no program without a proof" >&2; exit 1; }
 fi
 echo "$name: this is not the proved program, which 'make build' makes" >&2

@@ -1,5 +1,5 @@
 #!/usr/bin/env bash
-# quick.sh PROGRAM FILE : builds a program of crates.txt into FILE, optimised and without any proof, in two to three minutes.
+# quick.sh PROGRAM FILE : builds a program of crates.txt into FILE, optimised and without any proof, in about two minutes.
 # It keeps the checks of `rt try`: a bad index or an overflow stops the program, and says where.
 # `rt try` hands the program's LLVM module to the kit's clang. Here it meets a clang of our own, which compiles that module at -O2,
 # links it with the kit's linker, and ends the try there. Where a kit does not let that happen, the status is 1 and nothing is told.
