@@ -10,7 +10,7 @@ lacks_address : (m : ℕ) → nat_eq 46 m ≡ false → ((n : ℕ) → n < 2 ^ 8
     → (text ip : List ℕ) → IsAddress text ip → has_byte m text ≡ false
 lacks_address m dot number text (a ∷ b ∷ c ∷ d ∷ []) is =
     let behind_dot : (rest : List ℕ) → has_byte m rest ≡ false → has_byte m (46 ∷ rest) ≡ false
-      = λ rest lacks. ap (λ here. here || has_byte m rest) dot ∙ lacks in
+    = λ rest lacks. ap (λ here. here || has_byte m rest) dot ∙ lacks in
     subst (λ t. has_byte m t ≡ false) (sym is.0)
     (lacks-append m (decimal a) _ (number a is.1) (behind_dot _
     (lacks-append m (decimal b) _ (number b is.2) (behind_dot _
