@@ -15,8 +15,12 @@ what is wrong in it first and what would be right. It starts nothing.
 Exit status: 0 a server can be started by the files, 2 it cannot, or wrong arguments";
 
 fn main(rt: HostRuntime) -> ExitCode {
-    if program_help::answers(&rt, "lobby_check", HELP) {
-        return ExitCode::SUCCESS;
+    match program_help::answers(&rt, "lobby_check", HELP) {
+        Ok(true) => ExitCode::SUCCESS,
+        Ok(false) => ExitCode::from(lobby_files::check(&rt)),
+        Err(_) => {
+            let _ = rt.eprintln("no memory");
+            ExitCode::from(2)
+        }
     }
-    ExitCode::from(lobby_files::check(&rt))
 }

@@ -17,8 +17,12 @@ hash       reads a password, a line on standard input, and prints the word that 
 Exit status: 0 done, 1 wrong arguments, 2 a file or the input cannot be used, 3 it cannot listen, 4 no memory";
 
 fn main(rt: HostRuntime) -> ExitCode {
-    if program_help::answers(&rt, "lobby_main", HELP) {
-        return ExitCode::SUCCESS;
+    match program_help::answers(&rt, "lobby_main", HELP) {
+        Ok(true) => ExitCode::SUCCESS,
+        Ok(false) => ExitCode::from(lobby_cli::run(&rt)),
+        Err(_) => {
+            let _ = rt.eprintln("no memory");
+            ExitCode::from(4)
+        }
     }
-    ExitCode::from(lobby_cli::run(&rt))
 }

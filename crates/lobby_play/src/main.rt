@@ -35,10 +35,12 @@ fn play_streams<R: Input + Print + AllocGlobal>(rt: &R) -> Result<(), PlayFault>
 
 /// The status: 0, or that of the fault, which is told on standard error.
 fn run<R: Env + Input + Print + Eprint + AllocGlobal>(rt: &R) -> u8 {
-    if program_help::answers(rt, "lobby_play", HELP) {
-        return 0;
-    }
-    match play_streams(rt) {
+    let played = match program_help::answers(rt, "lobby_play", HELP) {
+        Ok(true) => Ok(()),
+        Ok(false) => play_streams(rt),
+        Err(_) => Err(PlayFault::Memory),
+    };
+    match played {
         Ok(()) => 0,
         Err(fault) => {
             let _ = rt.eprintln(fault);

@@ -1,7 +1,9 @@
 //! What each program answers of itself: `--help` and `--version`.
 #![tactic(auto)]
 
+use std::alloc::AllocError;
 use std::env;
+use std::io::ErrorKind;
 use std::rt::Env;
 
 /// The version of all programs: the newest numbered one in CHANGELOG.
@@ -28,21 +30,27 @@ impl Question {
 }
 
 /// Answers on standard output where the program's only argument is `--help` or `--version`, and says whether it was. A print that
-/// fails is ignored. Where memory for the arguments is refused, nothing is answered, and the program finds that out by itself.
-pub fn answers<R: Env + Print + AllocGlobal>(rt: &R, name: &str, help: &str) -> bool {
-    let Ok(mut words) = env::args(rt) else {
-        return false;
+/// fails is ignored. Fails only where memory for the arguments is refused.
+pub fn answers<R: Env + Print + AllocGlobal>(
+    rt: &R,
+    name: &str,
+    help: &str,
+) -> Result<bool, AllocError> {
+    let mut words = match env::args(rt) {
+        Ok(words) => words,
+        Err(error) if error.kind() == ErrorKind::OutOfMemory => return Err(AllocError),
+        Err(_) => return Ok(false),
     };
     words.next();
     let (Some(word), None) = (words.next(), words.next()) else {
-        return false;
+        return Ok(false);
     };
     let Some(question) = Question::of(word.as_str()) else {
-        return false;
+        return Ok(false);
     };
     let _ = match question {
         Question::Help => println!(rt; "{help}"),
         Question::Version => println!(rt; "{name} {VERSION}"),
     };
-    true
+    Ok(true)
 }

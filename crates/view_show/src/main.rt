@@ -100,7 +100,7 @@ fn print<R: Print + AllocGlobal>(rt: &R, view: &View) -> Result<(), Error> {
 }
 
 fn run<R: Env + Input + Print + AllocGlobal>(rt: &R) -> Result<(), Error> {
-    if program_help::answers(rt, "view_show", HELP) {
+    if program_help::answers(rt, "view_show", HELP)? {
         return Ok(());
     }
     let mut view = View::new(rt.alloc());
