@@ -1,5 +1,5 @@
 #!/usr/bin/env python3
-"""Compares docs/DEFINITIONS.md with the files that it lists: each file of definitions with what its first comment says.
+"""Compares docs/DEFINITIONS.md with the files that it lists: each file of definitions with how its first comment begins.
 
 `checks/definitions.py --mend` writes the page anew."""
 import re
@@ -22,15 +22,15 @@ def files_of(crate):
 
 
 def said(file):
-    """The comment at the head of a file, up to its first full stop, or what is missing."""
+    """The comment at the head of a file, up to its first colon, semicolon or full stop, or what is missing."""
     lines = []
     for line in file.read_text(encoding="utf-8").split("\n"):
         if not line.startswith("-- "):
             break
         lines.append(line[3:])
     text = " ".join(lines)
-    found = re.match(r".*?\.(?= |$)", text)
-    return found[0].rstrip(".") if found else text or "**no comment**"
+    found = re.match(r".*?(?=[.:;]( |$))", text)
+    return found[0] if found else text or "**no comment**"
 
 
 def page():
