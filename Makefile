@@ -39,8 +39,8 @@ deb: ## makes the Debian packages in out/
 test: ## the gate: proves everything from nothing, tries wrong bodies, runs all tests
 	@tools/gate.py
 
-unit: ## runs the tests that stand on what you changed, without a proof
-	@tools/unit.sh
+unit: ## runs the tests of what you changed, without a proof (CRATE=lobby_tests)
+	@tools/unit.sh $(CRATE)
 
 fmt: ## lays out the crates that you changed
 	@for crate in $$(tools/changed.sh); do (cd crates/$$crate && rt fmt) || exit 1; done

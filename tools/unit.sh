@@ -1,18 +1,29 @@
 #!/usr/bin/env bash
-# unit.sh [CRATE..] : runs tests without any proof, by `rt try --test`: of the crates named, else of the crates of tests that stand on
-# what was changed since HEAD, and where nothing was changed of all.
+# unit.sh [CRATE..] : runs tests without any proof, by `rt try --test`, side by side: of the crates of tests that are named; else of
+# leaf_tests where a crate was changed since HEAD that it stands on, and of lobby_tests where any other was; and of both where none was.
 set -euo pipefail
 cd "$(dirname "$0")/.."
-changed=$(tools/changed.sh)
+crates=("$@")
 if [ $# -eq 0 ]; then
-    for crate in leaf_tests lobby_tests; do
-        below=" $(awk -v names="$crate" -f tools/below.awk crates.txt | tr '\n' ' ')$crate "
-        stands=
-        for name in $changed; do case $below in *" $name "*) stands=yes ;; esac; done
-        if [ -z "$changed" ] || [ -n "$stands" ]; then set -- "$@" "$crate"; fi
+    leaves=" $(awk -v names=leaf_tests -f tools/below.awk crates.txt | tr '\n' ' ')leaf_tests "
+    leaf='' lobby=''
+    for name in $(tools/changed.sh); do
+        case $leaves in *" $name "*) leaf=yes ;; *) lobby=yes ;; esac
     done
+    if [ "$leaf" ] || [ -z "$lobby" ]; then crates+=(leaf_tests); fi
+    if [ "$lobby" ] || [ -z "$leaf" ]; then crates+=(lobby_tests); fi
 fi
-for crate; do
+told=$(mktemp -d)
+trap 'rm -rf "$told"' EXIT
+runs=()
+for crate in "${crates[@]}"; do
     echo "$crate: tests, without a proof"
-    (cd "crates/$crate" && rt try --test)
+    (cd "crates/$crate" && rt try --test) > "$told/$crate" 2>&1 &
+    runs+=($!)
 done
+status=0
+for at in "${!crates[@]}"; do
+    wait "${runs[$at]}" || status=1
+    cat "$told/${crates[$at]}"
+done
+exit $status
