@@ -1,5 +1,6 @@
 #!/usr/bin/env bash
-# Lines read and printed a second by the two grammars and by a hand-written Rust program: medians of 51 runs, in turn.
+# Lines read and printed a second by the two grammars and by a hand-written Rust program: medians of 51 runs, in turn. Asked are
+# the requests, printed.
 # The first argument is the number of passes over the mix of 5 requests and 5 replies. Its default is so small that a run
 # takes two milliseconds, and few runs are interrupted by other work on the machine.
 set -euo pipefail
@@ -12,7 +13,7 @@ for _ in $(seq 51); do
     "$program" "$passes" | sed 's/^/grammars /'
     "$out/lines" "$passes" | sed 's/^/baseline /'
 done | awk '
-    $2 == "read:" || $2 == "printed:" {
+    $2 == "read:" || $2 == "printed:" || $2 == "asked:" {
         what = substr($2, 1, length($2) - 1)
         if ((what in sums) && sums[what] != $6) { print "the sums differ" > "/dev/stderr"; exit 1 }
         sums[what] = $6
@@ -25,10 +26,10 @@ done | awk '
         return a[int((n + 1) / 2)]
     }
     END {
-        if (length(sums) < 2) exit 1
+        if (length(sums) < 3) exit 1
         print "lines a second | grammars | baseline | baseline / grammars"
-        split("read printed", whats, " ")
-        for (k = 1; k <= 2; k++) {
+        split("read printed asked", whats, " ")
+        for (k = 1; k <= 3; k++) {
             g = median("grammars", whats[k]); b = median("baseline", whats[k])
             printf "%s | %d | %d | %.2f\n", whats[k], 1e12 / g, 1e12 / b, g / b
         }

@@ -1,4 +1,4 @@
-//! Reads and prints the mix of lines of bench/programs/bench_grammar, written by hand over Rust's std alone: its baseline.
+//! Reads and prints the mixes of lines of bench/programs/bench_grammar, written by hand over Rust's std alone: its baseline.
 //!
 //! It knows all 36 command words, and reads the arguments of the commands of the mix by the same rules: bytes without CR and
 //! LF, words behind runs of spaces, names of 1 to 20 letters, numbers within bounds, and each argument that is kept owned.
@@ -285,6 +285,72 @@ fn print(reply: &Reply, id: Option<u32>, out: &mut Vec<u8>) {
     out.push(b'\n');
 }
 
+/// The requests of the mix, printed: numbers in their ranges, lists with something in them, no word behind a missing one, and
+/// lines of at most 8,192 bytes.
+fn print_request(request: &Request, out: &mut Vec<u8>) -> Result<(), &'static str> {
+    let start = out.len();
+    if let Some(id) = request.id {
+        if id > 2147483647 {
+            return Err("a number is out of its range");
+        }
+        out.push(b'#');
+        out.extend_from_slice(id.to_string().as_bytes());
+        out.push(b' ');
+    }
+    let is_wide = |z: i64| -2147483648 <= z && z <= 4294967295;
+    match &request.command {
+        Command::Say { channel, text } => {
+            out.extend_from_slice(b"SAY");
+            put_behind(out, b' ', channel);
+            put_behind(out, b' ', text);
+        }
+        Command::MyStatus { status } => {
+            out.extend_from_slice(b"MYSTATUS");
+            put_number(out, i64::from(*status));
+        }
+        Command::JoinBattle { battle, password, script_password } => {
+            if *battle > 2147483647 || (password.is_none() && script_password.is_some()) {
+                out.truncate(start);
+                return Err("a number or a word is not to be printed");
+            }
+            out.extend_from_slice(b"JOINBATTLE");
+            put_number(out, i64::from(*battle));
+            for word in password.iter().chain(script_password) {
+                put_behind(out, b' ', word);
+            }
+        }
+        Command::MyBattleStatus { battle_status, team_color } => {
+            if !is_wide(*team_color) {
+                out.truncate(start);
+                return Err("a number is out of its range");
+            }
+            out.extend_from_slice(b"MYBATTLESTATUS");
+            put_number(out, i64::from(*battle_status));
+            put_number(out, *team_color);
+        }
+        Command::SetScriptTags { pairs } => {
+            if pairs.is_empty() {
+                out.truncate(start);
+                return Err("nothing is listed");
+            }
+            out.extend_from_slice(b"SETSCRIPTTAGS");
+            let mut mark = b' ';
+            for (key, value) in pairs {
+                put_behind(out, mark, key);
+                put_behind(out, b'=', value);
+                mark = b'\t';
+            }
+        }
+        _ => return Err("not in the mix"),
+    }
+    if out.len() - start > 8192 {
+        out.truncate(start);
+        return Err("the line would be too long");
+    }
+    out.push(b'\n');
+    Ok(())
+}
+
 fn replies() -> [Reply; 5] {
     let user = || b"alice".to_vec();
     [
@@ -356,4 +422,21 @@ fn main() {
         sum = sum.wrapping_add(u64::from(*byte));
     }
     report("printed", lines, sum, start);
+
+    let requests = black_box(REQUESTS.map(read_request));
+    let start = Instant::now();
+    let (mut lines, mut sum) = (0u64, 0u64);
+    out.clear();
+    for _ in 0..passes {
+        out.clear();
+        for request in &requests {
+            print_request(request, &mut out).unwrap();
+            lines += 1;
+            sum = sum.wrapping_add(out.len() as u64);
+        }
+    }
+    for byte in &out {
+        sum = sum.wrapping_add(u64::from(*byte));
+    }
+    report("asked", lines, sum, start);
 }

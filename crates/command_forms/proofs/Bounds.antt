@@ -4,14 +4,14 @@ use Rattle.std.specs.Prelude.{◌&&◌, IsTrue, IfSome, Option, Some, None}
 use Rattle.std.proofs.lemmas.Bool.{and_from}
 use Rattle.line_words.specs.Bytes.{is_text}
 use Rattle.command_forms.specs.declared.command.Command.{Command}
-use Rattle.command_forms.specs.Forms.{is_same, entry_named, command_named, Form}
+use Rattle.command_forms.specs.Forms.{applied, is_same, entry_named, command_named, Form}
 use Rattle.command_forms.specs.Kinds.{fits, all_fit, keeps_kinds}
 use Rattle.command_forms.specs.Sizes.{sizes_of, argument_bytes}
 use Rattle.command_forms.specs.Table.{Kind, Values, Arguments, Entry, entries, battle_entries, room_entries, host_entries, given, arguments_of}
-use Rattle.command_forms.proofs.Taken.{IsUnread, applied, EachFits, row_taken}
+use Rattle.command_forms.proofs.Taken.{IsUnread, EachFits, row_taken}
 
 -- the arguments of a command that an entry makes are the values that it is made of
-abbrev Again : Entry → Type 0
+abbrev pub Again : Entry → Type 0
 Again e = (xs : Values e.kinds) → arguments_of (applied e.kinds e.maker xs) ≡ given e.kinds xs
 
 abbrev EachAgain : List Entry → Type 0
@@ -29,6 +29,9 @@ again (e ∷ es) h name = by (is_same name e.word) (entry_named es name) (again 
     by : (t : Bool) (o : Option Entry) → IfSome o Again → IfSome (cond t (Some e) o) Again
     by true o others = h.0
     by false o others = others
+
+pub entry_again : (name : List ℕ) (e : Entry) → command_named name ≡ Some e → Again e
+entry_again name e named = subst (λ o. IfSome o Again) named (again entries each_again name)
 
 all_fit_after : (before : Bool) (ks : List Kind) (xs : Values ks) → IsTrue before → EachFits ks xs → IsTrue (all_fit before ks xs)
 all_fit_after before [] xs b h = b

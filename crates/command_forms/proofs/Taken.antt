@@ -17,7 +17,7 @@ use Rattle.command_forms.specs.declared.command.ReadFault.{ReadFault}
 use Rattle.command_forms.specs.declared.command.ReadFault.TheVariants as fault
 use Rattle.command_forms.specs.declared.command.Command.{Command}
 use Rattle.command_forms.specs.Arguments.{IsFault, Word, Number, Natural, IsPair, PairsIn, AtLeastOne, AreWords, flagged}
-use Rattle.command_forms.specs.Forms.{Argument, Row}
+use Rattle.command_forms.specs.Forms.{applied, Argument, Row}
 use Rattle.command_forms.specs.Kinds.{is_up_to, are_some, fits}
 use Rattle.command_forms.specs.Sizes.{size, pair_size, size_of, sizes_of}
 use Rattle.command_forms.specs.Table as kind
@@ -30,7 +30,7 @@ abbrev pub IsUnread : Command → Type 0
 IsUnread c = (f : ReadFault) × IsFault f c
 
 -- unless it was not read, one more step
-unless_unread : {c : Command} {A B : Type 0} → IsUnread c ⊎ A → (A → IsUnread c ⊎ B) → IsUnread c ⊎ B
+pub unless_unread : {c : Command} {A B : Type 0} → IsUnread c ⊎ A → (A → IsUnread c ⊎ B) → IsUnread c ⊎ B
 unless_unread (inl f) next = inl f
 unless_unread (inr x) next = next x
 
@@ -225,11 +225,6 @@ taken kind.Words K rest c h m =
     inr (record { value = m.0; behind = []; next = y.1; fit = y.0; text = refl; room = let n = words_size rest m.0 m.1 in omega arith })
 
 -- A row of kinds
-
--- the command of these values
-abbrev pub applied : (ks : List Kind) → Maker ks → Values ks → Command
-applied [] c xs = c
-applied (k ∷ ks) maker xs = applied ks (maker xs.0) xs.1
 
 abbrev pub EachFits : (ks : List Kind) → Values ks → Type 0
 EachFits [] xs = Unit {0}

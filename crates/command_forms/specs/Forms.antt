@@ -5,7 +5,7 @@ use Rattle.command_forms.specs.declared.command.ReadFault.TheVariants as fault
 use Rattle.command_forms.specs.declared.command.Command.{Command}
 use Rattle.command_forms.specs.Arguments.{IsFault, Word, OptionalWord, Name, Natural, Wide, Flag, Text, OptionalText, Sentence, LoginFlags, Pairs, Words}
 use Rattle.command_forms.specs.Table as kind
-use Rattle.command_forms.specs.Table.{Kind, Value, Maker, Entry, entries}
+use Rattle.command_forms.specs.Table.{Kind, Value, Values, Maker, Entry, entries}
 
 -- two words are the same, byte for byte: what `==` says of slices, while `same_name` of line_words goes by their order, as lists of names are searched
 abbrev pub is_same : List ℕ → List ℕ → Bool
@@ -38,6 +38,11 @@ Argument kind.Words K = Words (λ words. K words [])
 abbrev pub Row : (kinds : List Kind) → Maker kinds → List ℕ → Command → Type 0
 Row [] made rest c = c ≡ made
 Row (k ∷ ks) maker rest c = Argument k (λ x. Row ks (maker x)) rest c
+
+-- the command that these values make
+abbrev pub applied : (kinds : List Kind) → Maker kinds → Values kinds → Command
+applied [] made xs = made
+applied (k ∷ ks) maker xs = applied ks (maker xs.0) xs.1
 
 -- rest, which is what stands behind the command word, and the command that it makes
 abbrev pub Form : Option Entry → List ℕ → Command → Type 0

@@ -1,9 +1,10 @@
-//! Lines that are read with memory at hand.
+//! Lines that are read with memory at hand, and requests that are printed as lines.
 
 use crate::lists::are;
-use crate::verdict::same_for;
+use crate::verdict::{same, same_for};
 use command_grammar::{Command, ReadFault, Request, read_request};
-use line_words::{TextBuf, WordBuf};
+use line_words::{PairList, TextBuf, WordBuf, WordList};
+use request_printer::{PrintError, print_request};
 use std::alloc::Global;
 
 // A line of each command.
@@ -396,4 +397,212 @@ fn arguments_are_read(rt: HostRuntime) {
     for (line, expected) in &READ_LINES {
         same_for(&rt, line, is_read_as(rt.alloc(), line, expected), true);
     }
+}
+
+// A line of each command, with and without what may be left out, and the line that its request prints as.
+static PRINTED_LINES: [(&[u8], &[u8]); 56] = [
+    (b"", b""),
+    (b"  #7  ", b"#7 "),
+    (b"PING", b"PING"),
+    (b"#007 PING and more", b"#7 PING"),
+    (b"#0 PING", b"#0 PING"),
+    (b"#2147483647 PING", b"#2147483647 PING"),
+    (b"CHANNELS", b"CHANNELS"),
+    (b"LEAVEBATTLE", b"LEAVEBATTLE"),
+    (b"EXIT bye", b"EXIT"),
+    (
+        b"LOGIN Anna X03MO1qnZdYdgyfeuILPmQ== 0 * TestLobby 1.0",
+        b"LOGIN Anna X03MO1qnZdYdgyfeuILPmQ== 0 * TestLobby 1.0",
+    ),
+    (
+        b"LOGIN Anna X 4294967295 *  \t0\tsp b",
+        b"LOGIN Anna X 4294967295 *  \t\tb",
+    ),
+    (
+        b"#3 LOGIN a b -2147483648 c ",
+        b"#3 LOGIN a b -2147483648 c ",
+    ),
+    (b"MYSTATUS -0", b"MYSTATUS 0"),
+    (b"MYSTATUS 4294967295", b"MYSTATUS 4294967295"),
+    (b"JOIN  main  ", b"JOIN main"),
+    (b"#8 JOIN main key", b"#8 JOIN main key"),
+    (b"LEAVE a_[b]", b"LEAVE a_[b]"),
+    (b"SAY main ", b"SAY main "),
+    (b"#9 SAY main  a\tb ", b"#9 SAY main  a\tb "),
+    (b"SAYEX main waves", b"SAYEX main waves"),
+    (b"SAYPRIVATE Bert  hi", b"SAYPRIVATE Bert  hi"),
+    (
+        b"OPENBATTLE 0 2 * 08452 8 -1 0 4294967295 Spring\t104.0\tComet Catcher\tAnna's game\tBA 9.46\tx",
+        b"OPENBATTLE 0 2 * 8452 8 -1 0 4294967295 Spring\t104.0\tComet Catcher\tAnna's game\tBA 9.46",
+    ),
+    (
+        b"OPENBATTLE 1 0 pw 65535 0 0 0 0 \t\t\t\t",
+        b"OPENBATTLE 1 0 pw 65535 0 0 0 0 \t\t\t\t",
+    ),
+    (b"JOINBATTLE 1", b"JOINBATTLE 1"),
+    (b"JOINBATTLE 2147483647 pw", b"JOINBATTLE 2147483647 pw"),
+    (b"#1 JOINBATTLE 0 * pw9", b"#1 JOINBATTLE 0 * pw9"),
+    (b"JOINBATTLEACCEPT Bert", b"JOINBATTLEACCEPT Bert"),
+    (b"JOINBATTLEDENY Bert", b"JOINBATTLEDENY Bert"),
+    (b"JOINBATTLEDENY Bert ", b"JOINBATTLEDENY Bert "),
+    (
+        b"JOINBATTLEDENY Bert not  today",
+        b"JOINBATTLEDENY Bert not  today",
+    ),
+    (
+        b"UPDATEBATTLEINFO 0 1 123 Comet Catcher",
+        b"UPDATEBATTLEINFO 0 1 123 Comet Catcher",
+    ),
+    (
+        b"UPDATEBATTLEINFO 65535 0 -7  x",
+        b"UPDATEBATTLEINFO 65535 0 -7  x",
+    ),
+    (
+        b"MYBATTLESTATUS 4294967295 -1",
+        b"MYBATTLESTATUS 4294967295 -1",
+    ),
+    (b"SAYBATTLE ", b"SAYBATTLE "),
+    (b"SAYBATTLEEX hi", b"SAYBATTLEEX hi"),
+    (b"ADDBOT Robo 1024 255 KAIK", b"ADDBOT Robo 1024 255 KAIK"),
+    (b"ADDBOT Robo 1024 255 ", b"ADDBOT Robo 1024 255 "),
+    (b"UPDATEBOT Robo 1024 255", b"UPDATEBOT Robo 1024 255"),
+    (b"REMOVEBOT Robo", b"REMOVEBOT Robo"),
+    (b"ADDSTARTRECT 15 0 0 200 60", b"ADDSTARTRECT 15 0 0 200 60"),
+    (b"REMOVESTARTRECT 015", b"REMOVESTARTRECT 15"),
+    (b"SETSCRIPTTAGS \ta=1\t\tb=", b"SETSCRIPTTAGS a=1\tb="),
+    (b"#5 SETSCRIPTTAGS a==b c", b"#5 SETSCRIPTTAGS a==b c"),
+    (b"REMOVESCRIPTTAGS k2 k1  k2 ", b"REMOVESCRIPTTAGS k2 k1 k2"),
+    (
+        b"DISABLEUNITS armcom corcom armcom",
+        b"DISABLEUNITS armcom corcom armcom",
+    ),
+    (b"ENABLEUNITS x", b"ENABLEUNITS x"),
+    (b"ENABLEALLUNITS", b"ENABLEALLUNITS"),
+    (b"HANDICAP Anna 100", b"HANDICAP Anna 100"),
+    (b"FORCETEAMNO Bert 5", b"FORCETEAMNO Bert 5"),
+    (b"FORCEALLYNO Bert 15", b"FORCEALLYNO Bert 15"),
+    (
+        b"FORCETEAMCOLOR Bert -2147483648",
+        b"FORCETEAMCOLOR Bert -2147483648",
+    ),
+    (b"FORCESPECTATORMODE Bert", b"FORCESPECTATORMODE Bert"),
+    (b"KICKFROMBATTLE Bert", b"KICKFROMBATTLE Bert"),
+    (b"#2 RING Bert", b"#2 RING Bert"),
+    (b"SAYBATTLE \xC3\xA4\xFF\x00", b"SAYBATTLE \xC3\xA4\xFF\x00"),
+    (b"SAYPRIVATE Bert ", b"SAYPRIVATE Bert "),
+];
+
+#[test]
+fn each_request_is_printed_as_it_reads(rt: HostRuntime) {
+    for (line, printed) in &PRINTED_LINES {
+        same_for(&rt, line, prints(rt.alloc(), line, printed), true);
+        same_for(&rt, printed, prints(rt.alloc(), printed, printed), true);
+    }
+}
+
+// Whether the request of a line prints as this line, behind what was there.
+fn prints(alloc: Global, line: &[u8], printed: &[u8]) -> bool {
+    let Ok(request) = read_request(alloc, line) else {
+        return false;
+    };
+    let mut out = Vec::new(alloc);
+    let is_done = out.push(b'>').is_ok() && print_request(&request, &mut out).is_ok();
+    request.discard();
+    match out.as_slice() {
+        [b'>', told @ .., b'\n'] => is_done && told == printed,
+        _ => false,
+    }
+}
+
+// Why the request of this id and command is refused; None where it is printed, or where something was put.
+fn refusal(alloc: Global, id: Option<u32>, command: Command) -> Option<PrintError> {
+    let request = Request { id, command };
+    let mut out = Vec::new(alloc);
+    let done = print_request(&request, &mut out);
+    request.discard();
+    match done {
+        Err(error) if out.is_empty() => Some(error),
+        _ => None,
+    }
+}
+
+#[test]
+fn numbers_out_of_range_are_not_printed(rt: HostRuntime) {
+    let alloc = rt.alloc();
+    let wanted = Some(PrintError::OutOfRange);
+    same(&rt, refusal(alloc, Some(2147483648), Command::Ping), wanted);
+    for team_color in [-2147483649, 4294967296] {
+        let command = Command::MyBattleStatus {
+            battle_status: 0,
+            team_color,
+        };
+        same(&rt, refusal(alloc, None, command), wanted);
+    }
+    for ally_no in [16, 255] {
+        let command = Command::RemoveStartRect { ally_no };
+        same(&rt, refusal(alloc, None, command), wanted);
+    }
+    let command = Command::AddStartRect {
+        ally_no: 0,
+        left: 0,
+        top: 200,
+        right: 201,
+        bottom: 0,
+    };
+    same(&rt, refusal(alloc, None, command), wanted);
+    let command = Command::JoinBattle {
+        battle: 2147483648,
+        password: None,
+        script_password: None,
+    };
+    same(&rt, refusal(alloc, None, command), wanted);
+}
+
+#[test]
+fn what_has_no_line_is_not_printed(rt: HostRuntime) {
+    let alloc = rt.alloc();
+    let command = Command::Unread(ReadFault::BadName);
+    same(&rt, refusal(alloc, None, command), Some(PrintError::Unread));
+    let nothing = Some(PrintError::NothingListed);
+    let command = Command::SetScriptTags {
+        pairs: PairList::new(Vec::new(alloc)),
+    };
+    same(&rt, refusal(alloc, None, command), nothing);
+    let command = Command::EnableUnits {
+        units: WordList::new(Vec::new(alloc)),
+    };
+    same(&rt, refusal(alloc, None, command), nothing);
+    let command = Command::JoinBattle {
+        battle: 1,
+        password: None,
+        script_password: WordBuf::copy_of(alloc, b"pw9").ok(),
+    };
+    same(
+        &rt,
+        refusal(alloc, None, command),
+        Some(PrintError::Skipped),
+    );
+}
+
+// A text of so many bytes, said in a battle under an id.
+fn said(alloc: Global, count: usize) -> Option<PrintError> {
+    let mut bytes = Vec::new(alloc);
+    for _ in 0..count {
+        if bytes.push(b'x').is_err() {
+            return None;
+        }
+    }
+    let text = TextBuf::of(bytes)?;
+    refusal(alloc, Some(7), Command::SayBattle { text })
+}
+
+#[test]
+fn a_line_that_is_too_long_is_not_printed(rt: HostRuntime) {
+    let front = b"#7 SAYBATTLE ".len();
+    same(&rt, said(rt.alloc(), 8192 - front), None);
+    same(
+        &rt,
+        said(rt.alloc(), 8193 - front),
+        Some(PrintError::TooLong),
+    );
 }

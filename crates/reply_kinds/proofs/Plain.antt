@@ -24,16 +24,16 @@ word_text b h = sentence_text b (and_parts (not (b == 32)) (is_sentence_byte b) 
 key_text : (b : ℕ) → is_key_byte b ≡ true → is_text_byte b ≡ true
 key_text b h = word_text b (and_parts (not (b == 61)) (is_word_byte b) h).1
 
-plain_words : (w : List ℕ) → list_all is_word_byte w ≡ true → is_text w ≡ true
+pub plain_words : (w : List ℕ) → list_all is_word_byte w ≡ true → is_text w ≡ true
 plain_words w h = all_more is_word_byte is_text_byte word_text w h
 
-a_word : (w : List ℕ) → is_word w ≡ true → is_text w ≡ true
+pub a_word : (w : List ℕ) → is_word w ≡ true → is_text w ≡ true
 a_word w h = plain_words w (and_parts (nat_le 1 (length w)) (list_all is_word_byte w) h).1
 
-a_name : (w : List ℕ) → is_name w ≡ true → is_text w ≡ true
+pub a_name : (w : List ℕ) → is_name w ≡ true → is_text w ≡ true
 a_name w h = all_more is_name_byte is_text_byte (λ b is. word_text b (word_name b is)) w (and_parts (nat_le 1 (length w) && nat_le (length w) 20) (list_all is_name_byte w) h).1
 
-a_sentence : (s : List ℕ) → is_sentence s ≡ true → is_text s ≡ true
+pub a_sentence : (s : List ℕ) → is_sentence s ≡ true → is_text s ≡ true
 a_sentence s h = all_more is_sentence_byte is_text_byte sentence_text s h
 
 a_pair : (p : Pair) → is_pair p ≡ true → is_text (pair_text p) ≡ true
@@ -42,28 +42,28 @@ a_pair p h =
     let key = and_parts (nat_le 1 (length p.key)) (list_all is_key_byte p.key) parts.0 in
     all_append is_text_byte p.key (61 ∷ p.value) (all_more is_key_byte is_text_byte key_text p.key key.1) (a_sentence p.value parts.1)
 
-several : (fit : List ℕ → Bool) → ((w : List ℕ) → fit w ≡ true → is_text w ≡ true) → (ws : List (List ℕ)) → list_all fit ws ≡ true → is_text (words_text ws) ≡ true
+pub several : (fit : List ℕ → Bool) → ((w : List ℕ) → fit w ≡ true → is_text w ≡ true) → (ws : List (List ℕ)) → list_all fit ws ≡ true → is_text (words_text ws) ≡ true
 several fit plain [] h = refl
 several fit plain (w ∷ ws) h =
     let parts = and_parts (fit w) (list_all fit ws) h in
     all_append is_text_byte w (words_text ws) (plain w parts.0) (several fit plain ws parts.1)
 
-pairs_plain : (mark : ℕ) (ps : List Pair) → is_text_byte mark ≡ true → list_all is_pair ps ≡ true → is_text (pairs_text mark ps) ≡ true
+pub pairs_plain : (mark : ℕ) (ps : List Pair) → is_text_byte mark ≡ true → list_all is_pair ps ≡ true → is_text (pairs_text mark ps) ≡ true
 pairs_plain mark [] m h = refl
 pairs_plain mark (p ∷ ps) m h =
     let parts = and_parts (is_pair p) (list_all is_pair ps) h in
     and_from (is_text_byte mark) (is_text (pair_text p ++ pairs_text 9 ps)) m
     (all_append is_text_byte (pair_text p) (pairs_text 9 ps) (a_pair p parts.0) (pairs_plain 9 ps refl parts.1))
 
-flag_plain : (b : Bool) → is_text (cond b 49 48 ∷ []) ≡ true
+pub flag_plain : (b : Bool) → is_text (cond b 49 48 ∷ []) ≡ true
 flag_plain true = refl
 flag_plain false = refl
 
-optional_plain : (o : Option (List ℕ)) → is_some_word o ≡ true → is_text (optional_text o) ≡ true
+pub optional_plain : (o : Option (List ℕ)) → is_some_word o ≡ true → is_text (optional_text o) ≡ true
 optional_plain None h = refl
 optional_plain (Some w) h = a_word w h
 
-decimal_plain : (n : ℕ) → n < 2 ^ 64 → is_text (decimal n) ≡ true
+pub decimal_plain : (n : ℕ) → n < 2 ^ 64 → is_text (decimal n) ≡ true
 decimal_plain n lt = plain_words (decimal n) (digits_words (decimal n) (digits_decimal own n lt))
 
 -- what a kind prints

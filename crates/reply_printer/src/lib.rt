@@ -7,4 +7,4 @@
 
 mod printing;
 
-pub use printing::{print, print_id, print_lent};
+pub use printing::{pieces, print, print_id, print_lent};

@@ -8,7 +8,7 @@ mod battles;
 mod bots;
 mod channels;
 mod lent;
-mod pieces;
+pub mod pieces;
 mod refusals;
 mod room;
 mod session;

@@ -13,7 +13,7 @@ use line_words::{NameBuf, Pair, SentenceBuf, Text, WordBuf, write_number};
 use reply_kinds::CommandWord;
 use std::alloc::AllocError;
 
-pub(super) fn put_behind(out: &mut Vec<u8>, mark: u8, bytes: &[u8]) -> Result<(), AllocError>
+pub fn put_behind(out: &mut Vec<u8>, mark: u8, bytes: &[u8]) -> Result<(), AllocError>
     ensures ok { IfOk result (λ _. out.new.items ≡ out.old.items ++ (mark ∷ bytes.now)) }
     ensures kept { Keeps out.old.items out.new.items }
 {
@@ -31,14 +31,14 @@ fn put_decimal(out: &mut Vec<u8>, mark: u8, n: i64) -> Result<(), AllocError>
     put_behind(out, mark, &digits[..length])
 }
 
-pub(super) fn put_number(out: &mut Vec<u8>, n: u32) -> Result<(), AllocError>
+pub fn put_number(out: &mut Vec<u8>, n: u32) -> Result<(), AllocError>
     ensures ok { IfOk result (λ _. out.new.items ≡ out.old.items ++ (32 ∷ decimal n)) }
     ensures kept { Keeps out.old.items out.new.items }
 {
     put_decimal(out, b' ', i64::from(n))
 }
 
-pub(super) fn put_count(out: &mut Vec<u8>, n: usize) -> Result<(), AllocError>
+pub fn put_count(out: &mut Vec<u8>, n: usize) -> Result<(), AllocError>
     ensures ok { IfOk result (λ _. out.new.items ≡ out.old.items ++ (32 ∷ decimal n)) }
     ensures kept { Keeps out.old.items out.new.items }
 {
@@ -46,14 +46,14 @@ pub(super) fn put_count(out: &mut Vec<u8>, n: usize) -> Result<(), AllocError>
     put_behind(out, b' ', buffer.format(n).as_bytes())
 }
 
-pub(super) fn put_wide(out: &mut Vec<u8>, n: &i64) -> Result<(), AllocError>
+pub fn put_wide(out: &mut Vec<u8>, n: &i64) -> Result<(), AllocError>
     ensures ok { IfOk result (λ _. out.new.items ≡ out.old.items ++ (32 ∷ signed_decimal n.now)) }
     ensures kept { Keeps out.old.items out.new.items }
 {
     put_decimal(out, b' ', *n)
 }
 
-pub(super) fn put_words(out: &mut Vec<u8>, words: &[WordBuf]) -> Result<(), AllocError>
+pub fn put_words(out: &mut Vec<u8>, words: &[WordBuf]) -> Result<(), AllocError>
     ensures ok { IfOk result (λ _. out.new.items ≡ out.old.items ++ words_text words.now) }
     ensures kept { Keeps out.old.items out.new.items }
 {
@@ -63,7 +63,7 @@ pub(super) fn put_words(out: &mut Vec<u8>, words: &[WordBuf]) -> Result<(), Allo
     Ok(())
 }
 
-pub(super) fn put_names(out: &mut Vec<u8>, names: &[NameBuf]) -> Result<(), AllocError>
+pub fn put_names(out: &mut Vec<u8>, names: &[NameBuf]) -> Result<(), AllocError>
     ensures ok { IfOk result (λ _. out.new.items ≡ out.old.items ++ words_text names.now) }
     ensures kept { Keeps out.old.items out.new.items }
 {
@@ -81,7 +81,7 @@ fn put_pair(out: &mut Vec<u8>, mark: u8, pair: &Pair) -> Result<(), AllocError>
     put_behind(out, b'=', pair.value.as_slice())
 }
 
-pub(super) fn put_pairs(out: &mut Vec<u8>, pairs: &[Pair]) -> Result<(), AllocError>
+pub fn put_pairs(out: &mut Vec<u8>, pairs: &[Pair]) -> Result<(), AllocError>
     ensures ok { IfOk result (λ _. out.new.items ≡ out.old.items ++ pairs_text 32 pairs.now) }
     ensures kept { Keeps out.old.items out.new.items }
 {
@@ -93,7 +93,7 @@ pub(super) fn put_pairs(out: &mut Vec<u8>, pairs: &[Pair]) -> Result<(), AllocEr
     Ok(())
 }
 
-pub(super) fn put_flag(out: &mut Vec<u8>, b: bool) -> Result<(), AllocError>
+pub fn put_flag(out: &mut Vec<u8>, b: bool) -> Result<(), AllocError>
     ensures ok { IfOk result (λ _. out.new.items ≡ out.old.items ++ (32 ∷ (if b then 49 else 48) ∷ [])) }
     ensures kept { Keeps out.old.items out.new.items }
 {
@@ -104,7 +104,7 @@ pub(super) fn put_flag(out: &mut Vec<u8>, b: bool) -> Result<(), AllocError>
     }
 }
 
-pub(super) fn put_optional(out: &mut Vec<u8>, word: Option<&WordBuf>) -> Result<(), AllocError>
+pub fn put_optional(out: &mut Vec<u8>, word: Option<&WordBuf>) -> Result<(), AllocError>
     ensures ok { IfOk result (λ _. out.new.items ≡ out.old.items ++ optional_text (option_copied word.entry)) }
     ensures kept { Keeps out.old.items out.new.items }
 {
@@ -114,7 +114,7 @@ pub(super) fn put_optional(out: &mut Vec<u8>, word: Option<&WordBuf>) -> Result<
     }
 }
 
-pub(super) fn put_id(out: &mut Vec<u8>, id: Option<u32>) -> Result<(), AllocError>
+pub fn put_id(out: &mut Vec<u8>, id: Option<u32>) -> Result<(), AllocError>
     ensures ok { IfOk result (λ _. out.new.items ≡ out.old.items ++ id_text id) }
     ensures kept { Keeps out.old.items out.new.items }
 {
@@ -125,7 +125,7 @@ pub(super) fn put_id(out: &mut Vec<u8>, id: Option<u32>) -> Result<(), AllocErro
     Ok(())
 }
 
-pub(super) fn put_command(
+pub fn put_command(
     out: &mut Vec<u8>,
     id: Option<u32>,
     command: CommandWord,
@@ -137,35 +137,35 @@ pub(super) fn put_command(
     out.extend_from_slice(command.text())
 }
 
-pub(super) fn put_word(out: &mut Vec<u8>, word: &WordBuf) -> Result<(), AllocError>
+pub fn put_word(out: &mut Vec<u8>, word: &WordBuf) -> Result<(), AllocError>
     ensures ok { IfOk result (λ _. out.new.items ≡ out.old.items ++ (32 ∷ word.now)) }
     ensures kept { Keeps out.old.items out.new.items }
 {
     put_behind(out, b' ', word.as_slice())
 }
 
-pub(super) fn put_name(out: &mut Vec<u8>, name: &NameBuf) -> Result<(), AllocError>
+pub fn put_name(out: &mut Vec<u8>, name: &NameBuf) -> Result<(), AllocError>
     ensures ok { IfOk result (λ _. out.new.items ≡ out.old.items ++ (32 ∷ name.now)) }
     ensures kept { Keeps out.old.items out.new.items }
 {
     put_behind(out, b' ', name.as_slice())
 }
 
-pub(super) fn put_text(out: &mut Vec<u8>, text: &Text) -> Result<(), AllocError>
+pub fn put_text(out: &mut Vec<u8>, text: &Text) -> Result<(), AllocError>
     ensures ok { IfOk result (λ _. out.new.items ≡ out.old.items ++ (32 ∷ text.now)) }
     ensures kept { Keeps out.old.items out.new.items }
 {
     put_behind(out, b' ', text.as_slice())
 }
 
-pub(super) fn put_sentence(out: &mut Vec<u8>, sentence: &SentenceBuf) -> Result<(), AllocError>
+pub fn put_sentence(out: &mut Vec<u8>, sentence: &SentenceBuf) -> Result<(), AllocError>
     ensures ok { IfOk result (λ _. out.new.items ≡ out.old.items ++ (32 ∷ sentence.now)) }
     ensures kept { Keeps out.old.items out.new.items }
 {
     put_behind(out, b' ', sentence.as_slice())
 }
 
-pub(super) fn put_next_sentence(out: &mut Vec<u8>, sentence: &SentenceBuf) -> Result<(), AllocError>
+pub fn put_next_sentence(out: &mut Vec<u8>, sentence: &SentenceBuf) -> Result<(), AllocError>
     ensures ok { IfOk result (λ _. out.new.items ≡ out.old.items ++ (9 ∷ sentence.now)) }
     ensures kept { Keeps out.old.items out.new.items }
 {
@@ -173,7 +173,7 @@ pub(super) fn put_next_sentence(out: &mut Vec<u8>, sentence: &SentenceBuf) -> Re
 }
 
 /// Ends the line.
-pub(super) fn put_end(out: &mut Vec<u8>) -> Result<(), AllocError>
+pub fn put_end(out: &mut Vec<u8>) -> Result<(), AllocError>
     ensures ok { IfOk result (λ _. out.new.items ≡ out.old.items ++ 10 ∷ []) }
     ensures kept { Keeps out.old.items out.new.items }
 {
@@ -182,7 +182,7 @@ pub(super) fn put_end(out: &mut Vec<u8>) -> Result<(), AllocError>
 }
 
 /// Leaves what was put behind `start` where all of it was, and takes it back where memory was refused.
-pub(super) fn whole(
+pub fn whole(
     out: &mut Vec<u8>,
     start: usize,
     done: Result<(), AllocError>,

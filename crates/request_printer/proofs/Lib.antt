@@ -1,0 +1,10 @@
+pub mod Named
+pub mod Numbers
+pub mod Back
+pub mod Rows
+pub mod Plain
+pub mod Lines
+pub mod Lengths
+pub mod Gaps
+pub mod Opened
+pub mod Told

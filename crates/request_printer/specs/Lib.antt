@@ -1,0 +1,3 @@
+pub mod Words
+pub mod Writing
+pub mod Faults

@@ -1,0 +1,45 @@
+-- The word that is put for each command: it is proved to be that of the table.
+use Rattle.std.specs.Prelude.{ℕ, List, [], codes, Option, Some, None}
+use Rattle.command_forms.specs.declared.command.Command.{Command}
+use Rattle.command_forms.specs.declared.command.Command.TheVariants as command
+
+-- of a line that was not read there is none
+abbrev pub word_named : Command → Option (List ℕ)
+word_named command.Blank = Some []
+word_named (command.Unread fault) = None
+word_named (command.Handicap a b) = Some (codes "HANDICAP")
+word_named (command.ForceTeamNo a b) = Some (codes "FORCETEAMNO")
+word_named (command.ForceAllyNo a b) = Some (codes "FORCEALLYNO")
+word_named (command.ForceTeamColor a b) = Some (codes "FORCETEAMCOLOR")
+word_named (command.ForceSpectatorMode a) = Some (codes "FORCESPECTATORMODE")
+word_named (command.KickFromBattle a) = Some (codes "KICKFROMBATTLE")
+word_named (command.Ring a) = Some (codes "RING")
+word_named (command.AddBot a b c d) = Some (codes "ADDBOT")
+word_named (command.UpdateBot a b c) = Some (codes "UPDATEBOT")
+word_named (command.RemoveBot a) = Some (codes "REMOVEBOT")
+word_named (command.AddStartRect a b c d e) = Some (codes "ADDSTARTRECT")
+word_named (command.RemoveStartRect a) = Some (codes "REMOVESTARTRECT")
+word_named (command.SetScriptTags a) = Some (codes "SETSCRIPTTAGS")
+word_named (command.RemoveScriptTags a) = Some (codes "REMOVESCRIPTTAGS")
+word_named (command.DisableUnits a) = Some (codes "DISABLEUNITS")
+word_named (command.EnableUnits a) = Some (codes "ENABLEUNITS")
+word_named command.EnableAllUnits = Some (codes "ENABLEALLUNITS")
+word_named (command.OpenBattle a b c d e f g h i j k l m) = Some (codes "OPENBATTLE")
+word_named (command.JoinBattle a b c) = Some (codes "JOINBATTLE")
+word_named (command.JoinBattleAccept a) = Some (codes "JOINBATTLEACCEPT")
+word_named (command.JoinBattleDeny a b) = Some (codes "JOINBATTLEDENY")
+word_named command.LeaveBattle = Some (codes "LEAVEBATTLE")
+word_named (command.UpdateBattleInfo a b c d) = Some (codes "UPDATEBATTLEINFO")
+word_named (command.MyBattleStatus a b) = Some (codes "MYBATTLESTATUS")
+word_named (command.SayBattle a) = Some (codes "SAYBATTLE")
+word_named (command.SayBattleEx a) = Some (codes "SAYBATTLEEX")
+word_named command.Ping = Some (codes "PING")
+word_named command.Exit = Some (codes "EXIT")
+word_named (command.Login a b c d e f) = Some (codes "LOGIN")
+word_named (command.MyStatus a) = Some (codes "MYSTATUS")
+word_named command.Channels = Some (codes "CHANNELS")
+word_named (command.Join a b) = Some (codes "JOIN")
+word_named (command.Leave a) = Some (codes "LEAVE")
+word_named (command.Say a b) = Some (codes "SAY")
+word_named (command.SayEx a b) = Some (codes "SAYEX")
+word_named (command.SayPrivate a b) = Some (codes "SAYPRIVATE")
