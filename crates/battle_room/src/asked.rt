@@ -276,9 +276,13 @@ impl<M: Copy> Room<M> {
         ensures err { OnErr result (self.new ≡ self.old) }
     {
         self.check_units(by, &words)?;
-        let new = self.units_new(words.as_slice())?;
-        self.put_units(words)?;
-        Ok(new)
+        match self.units_new(words.as_slice())? {
+            Some(new) => {
+                self.put_units(words)?;
+                Ok(new)
+            }
+            None => unreachable!(), // there is room
+        }
     }
 
     /// Not run by the server, which uses `units_there` and `drop_units`: the founder enables units again.

@@ -1,6 +1,6 @@
 //! A room: what the members of a battle share.
 
-ghost use Rattle.std.specs.Prelude.{◌≡◌, ◌<◌, not, OnOk, OnErr, IfOk, IfErr, option_copied, false};
+ghost use Rattle.std.specs.Prelude.{◌≡◌, ◌<◌, not, [], OnOk, OnErr, IfOk, IfErr, IfSome, is_some, option_copied, false};
 ghost use Rattle.std.specs.List.{IsDistinct};
 ghost use Rattle.line_words.specs.Table.{same_name, at_number};
 ghost use Rattle.room_lists.specs.Room as room;
@@ -231,10 +231,22 @@ impl<M: Copy> Room<M> {
         self.rest.tags.has_room_for(pairs)
     }
 
-    /// Those of the keys that are set, each once, in the order of the list of keys. Fails only where memory
-    /// is refused.
+    /// The last of these pairs of each key, in the order of their first ones; None where there would be more
+    /// than 512 tags (`TAG_LIMIT`), if these were set. That the last alone are set comes to the same. Fails
+    /// only where memory is refused.
+    pub fn last_pairs(&self, pairs: &[Pair]) -> Result<Option<PairList>, AllocError>
+        ensures last { IfOk result (λ last. IfSome last (λ last. last ≡ tags.with_tags [] pairs.now)) }
+        ensures alike { IfOk result (λ last. IfSome last (λ last. room.set_tags last self.now ≡ room.set_tags pairs.now self.now)) }
+        ensures room { IfOk result (λ last. is_some last ≡ not (room.has_too_many_tags (tags.with_tags self.now.tags pairs.now))) }
+    {
+        self.rest.tags.last_pairs(self.alloc, pairs)
+    }
+
+    /// Those of the keys that are set, each once, in the order of the list of keys. That they go alone
+    /// comes to the same. Fails only where memory is refused.
     pub fn keys_there(&self, keys: &[WordBuf]) -> Result<WordList, AllocError>
-        ensures { IfOk result (λ there. there ≡ tags.keys_there self.now.tags keys.now) }
+        ensures there { IfOk result (λ there. there ≡ tags.keys_there self.now.tags keys.now) }
+        ensures alike { IfOk result (λ there. room.remove_tags there self.now ≡ room.remove_tags keys.now self.now) }
     {
         self.rest.tags.keys_there(self.alloc, keys)
     }
@@ -246,18 +258,22 @@ impl<M: Copy> Room<M> {
         self.rest.units.has_room_for(words)
     }
 
-    /// Those of the words that are no disabled units, each once, in the order of the list of words. Fails
-    /// only where memory is refused.
-    pub fn units_new(&self, words: &[WordBuf]) -> Result<WordList, AllocError>
-        ensures { IfOk result (λ new. new ≡ units.words_new self.now.units words.now) }
+    /// Those of the words that are no disabled units, each once, in the order of the list of words; None
+    /// where there would be more than 1,024 units (`UNIT_LIMIT`), if these were disabled. That they alone are
+    /// disabled comes to the same. Fails only where memory is refused.
+    pub fn units_new(&self, words: &[WordBuf]) -> Result<Option<WordList>, AllocError>
+        ensures new { IfOk result (λ new. IfSome new (λ new. new ≡ units.words_new self.now.units words.now)) }
+        ensures alike { IfOk result (λ new. IfSome new (λ new. room.disable_units new self.now ≡ room.disable_units words.now self.now)) }
+        ensures room { IfOk result (λ new. is_some new ≡ not (room.has_too_many_units (units.with_units self.now.units words.now))) }
     {
         self.rest.units.words_new(self.alloc, words)
     }
 
-    /// Those of the words that are disabled units, each once, in the order of the list of words. Fails only
-    /// where memory is refused.
+    /// Those of the words that are disabled units, each once, in the order of the list of words. That they
+    /// alone are enabled comes to the same. Fails only where memory is refused.
     pub fn units_there(&self, words: &[WordBuf]) -> Result<WordList, AllocError>
-        ensures { IfOk result (λ there. there ≡ units.words_there self.now.units words.now) }
+        ensures there { IfOk result (λ there. there ≡ units.words_there self.now.units words.now) }
+        ensures alike { IfOk result (λ there. room.enable_units there self.now ≡ room.enable_units words.now self.now) }
     {
         self.rest.units.words_there(self.alloc, words)
     }

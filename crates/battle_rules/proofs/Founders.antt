@@ -8,7 +8,7 @@ use Rattle.status_bits.specs.BattleWord.{battle_table, team, ally, player, handi
 use Rattle.room_lists.specs.Room.{Asker, Member, Room, asker_of, has_asker, has_member, member_of, status_in, colour_in, status_of, colour_of}
 use Rattle.lobby_model.specs.State.{State, Battle, battle_of}
 use Rattle.lobby_model.specs.Texts.{not_the_founder, no_such_member, cannot_kick_yourself}
-use Rattle.lobby_model.specs.Outcome.{Happening, Outcome, Done, done, tell, user, only_told, refuse_if, message}
+use Rattle.lobby_model.specs.Outcome.{Happening, Letter, Outcome, Done, done, happens, tell, user, only_told, refuse_if, message}
 use Rattle.lobby_model.specs.Battles.{accept, change_room, deny, if_asks, is_founder, in_own, as_founder, joining, let_into, member_has, leaves_battle, reason_or_default, turned_away, with_asker_of}
 use Rattle.lobby_model.specs.Rooms.{with_member_of, kick}
 use Rattle.line_words.proofs.Once.{contradiction}
@@ -17,10 +17,11 @@ use Rattle.lobby_post.specs.Posted.{Posted, Told}
 use Rattle.lobby_post.proofs.Telling.{told_then}
 use Rattle.battle_rules.specs.declared.rooms.Force.{Force}
 use Rattle.battle_rules.specs.declared.rooms.Force.TheVariants as force
-use Rattle.lobby_battles.specs.declared.battles.BattleChange.TheVariants.{Leave, LetIn}
+use Rattle.lobby_battles.specs.declared.battles.BattleChange.TheVariants.{InRoom, Leave, LetIn}
 use Rattle.lobby_maps.specs.declared.change.Change.{Change}
 use Rattle.lobby_maps.specs.declared.change.Change.TheVariants.{InBattles}
-use Rattle.lobby_battles.specs.Battles.{AskOutside, asks_at, left_at, let_in}
+use Rattle.lobby_battles.specs.Battles.{AskOutside, ChangesAlike, FitsRoom, asks_at, left_at, let_in, room_after, room_changed}
+use Rattle.lobby_battles.specs.declared.battles.RoomChange.{RoomChange}
 use Rattle.battle_rules.specs.BattleTalk.{forced, forced_status, forced_colour, status_change, stops_asking}
 use Rattle.lobby_guards.specs.Answers.{Obeyed}
 use Rattle.battle_rules.proofs.InBattles.{leaves_effect}
@@ -79,6 +80,21 @@ module _ (s : State) (me name : List ℕ) (number : ℕ) (battle : Battle) (own 
           effect = leaves_effect s name number battle ∙ (λ i. record s { battles = left_at s.battles number (sym copied i) (sym in_place i) });
           can_be = tt;
         })
+
+  -- a change of what members share, which in this room is what happens
+  pub shared_so : (c : ℕ) (old new : Posted) (change : Change) (done_to : RoomChange) (f : Room → Room) (letter : Letter) (rest : ℕ → Battle → Outcome)
+      → ChangesAlike s.battles number battle → rest number battle ≡ done (happens (λ t. change_room t number f) (letter ∷ []))
+      → change ≡ InBattles (InRoom number done_to) → room_after done_to battle.room ≡ f battle.room → FitsRoom done_to
+      → Told s old new (letter ∷ []) → Obeyed s c old new change (as_founder s me rest)
+  shared_so c old new change done_to f letter rest alike comes is same fits told =
+      subst (λ o. Obeyed s c old new change o) (sym (founder_is rest ∙ comes))
+      (subst (λ x. Obeyed s c old new x (done (happens (λ t. change_room t number f) (letter ∷ [])))) (sym is) (record {
+        told = told;
+        effect = λ i. record s {
+          battles = alike (λ b. record b { room = f b.room }) (room_changed (room_after done_to)) (λ j. record battle { room = sym same j }) i;
+        };
+        can_be = fits;
+      }))
 
   -- one who asks to join its battle
   module _ (c : ℕ) (old new : Posted) (asker : Asker) (found : asker_of name battle.room ≡ Some asker) where

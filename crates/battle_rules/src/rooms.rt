@@ -1,7 +1,7 @@
 //! What members do in a battle's room: bots, start rectangles, script tags, disabled units, and what the
 //! founder forces on members: docs/PROTOCOL.md, "What the server does", from "ADDBOT" to "RING".
 
-ghost use Rattle.std.specs.Prelude.{◌≡◌, ◌<◌, [], ◌∷◌, IfOk, OnOk};
+ghost use Rattle.std.specs.Prelude.{◌≡◌, ◌<◌, [], ◌∷◌, OnOk};
 ghost use Rattle.reply_kinds.specs.Lent.{reply_of};
 ghost use Rattle.room_lists.specs.Room.{member_names};
 ghost use Rattle.lobby_model.specs.Outcome.{tell, users};
@@ -12,17 +12,17 @@ ghost use Rattle.battle_rules.specs.BattleTalk.{FitsForce, forced, forced_colour
 
 use crate::battles::{Leaving, give_status, in_room, tell_leaving};
 use battle_room::{Bot, Member, Rect, Room};
-use line_words::{KeyBuf, NameBuf, Pair, PairList, SentenceBuf, WordBuf, WordList};
+use line_words::{NameBuf, PairList, SentenceBuf, WordBuf, WordList};
 use lobby_guards::battle_guards::{
-    bot_named, founded_by, free_bot_name, may_change, member_named, not_oneself, own_battle,
-    room_for_bot, room_for_tags, room_for_units,
+    bot_named, founded_by, free_bot_name, last_tags, may_change, member_named, new_units,
+    not_oneself, own_battle, room_for_bot,
 };
 use lobby_guards::{Issuer, Stop};
 use lobby_maps::{BattleChange, Change, Maps, RoomChange};
 use lobby_post::{ClientKey, Post};
 use reply_kinds::LentReply;
 use status_bits::{BattleStatus, merge_battle};
-use std::alloc::{AllocError, Global};
+use std::alloc::AllocError;
 
 /// What the founder of a battle forces on a member.
 #[derive(Clone, Copy)]
@@ -205,13 +205,12 @@ pub fn set_script_tags(by: &Issuer, pairs: &PairList, post: &mut Post) -> Result
 {
     let (number, battle) = own_battle(by.maps, by.me)?;
     founded_by(battle, by.me)?;
-    room_for_tags(battle, pairs.as_slice())?;
+    let last = last_tags(battle, pairs.as_slice())?;
     let line = LentReply::SetScriptTags {
         pairs: pairs.as_slice(),
     };
     by.maps.tell_room(&battle.room, line, post)?;
-    let pairs = copy_pairs(by.maps.alloc(), pairs.as_slice())?;
-    Ok(in_room(number, RoomChange::SetTags { pairs }))
+    Ok(in_room(number, RoomChange::SetTags { pairs: last }))
 }
 
 /// `REMOVESCRIPTTAGS`: the user is in a battle, which it founded. Keys that are not there are left
@@ -222,9 +221,9 @@ pub fn remove_script_tags(by: &Issuer, keys: &WordList, post: &mut Post) -> Resu
     let (number, battle) = own_battle(by.maps, by.me)?;
     founded_by(battle, by.me)?;
     let there = battle.room.keys_there(keys.as_slice())?;
-    tell_words(by.maps, &battle.room, Wording::TagsGone, there, post)?;
-    let keys = copy_words(by.maps.alloc(), keys.as_slice())?;
-    Ok(in_room(number, RoomChange::RemoveTags { keys }))
+    let wording = Wording::TagsGone;
+    tell_words(by.maps, &battle.room, wording, there.as_slice(), post)?;
+    Ok(in_room(number, RoomChange::RemoveTags { keys: there }))
 }
 
 /// `DISABLEUNITS`: the user is in a battle, which it founded, and there is room for the units. Those
@@ -234,11 +233,10 @@ pub fn disable_units(by: &Issuer, units: &WordList, post: &mut Post) -> Result<C
 {
     let (number, battle) = own_battle(by.maps, by.me)?;
     founded_by(battle, by.me)?;
-    room_for_units(battle, units.as_slice())?;
-    let new = battle.room.units_new(units.as_slice())?;
-    tell_words(by.maps, &battle.room, Wording::UnitsDisabled, new, post)?;
-    let words = copy_words(by.maps.alloc(), units.as_slice())?;
-    Ok(in_room(number, RoomChange::DisableUnits { words }))
+    let new = new_units(battle, units.as_slice())?;
+    let wording = Wording::UnitsDisabled;
+    tell_words(by.maps, &battle.room, wording, new.as_slice(), post)?;
+    Ok(in_room(number, RoomChange::DisableUnits { words: new }))
 }
 
 /// `ENABLEUNITS`: the user is in a battle, which it founded. Units that are not disabled are left out.
@@ -248,9 +246,9 @@ pub fn enable_units(by: &Issuer, units: &WordList, post: &mut Post) -> Result<Ch
     let (number, battle) = own_battle(by.maps, by.me)?;
     founded_by(battle, by.me)?;
     let there = battle.room.units_there(units.as_slice())?;
-    tell_words(by.maps, &battle.room, Wording::UnitsEnabled, there, post)?;
-    let words = copy_words(by.maps.alloc(), units.as_slice())?;
-    Ok(in_room(number, RoomChange::EnableUnits { words }))
+    let wording = Wording::UnitsEnabled;
+    tell_words(by.maps, &battle.room, wording, there.as_slice(), post)?;
+    Ok(in_room(number, RoomChange::EnableUnits { words: there }))
 }
 
 /// `ENABLEALLUNITS`: the user is in a battle, which it founded.
@@ -269,17 +267,15 @@ fn tell_words(
     maps: &Maps,
     room: &Room<ClientKey>,
     wording: Wording,
-    words: WordList,
+    words: &[WordBuf],
     post: &mut Post,
 ) -> Result<(), AllocError>
-    ensures { OnOk result (Told maps.now.plain post.old post.new (tell (users (member_names room.now)) (words_told wording words) ∷ [])) }
+    ensures { OnOk result (Told maps.now.plain post.old post.new (tell (users (member_names room.now)) (words_told wording words.now) ∷ [])) }
 {
-    if words.as_slice().is_empty() {
+    if words.is_empty() {
         return Ok(());
     }
-    let told = maps.tell_room(room, wording.line(words.as_slice()), post);
-    drop(words);
-    told
+    maps.tell_room(room, wording.line(words), post)
 }
 
 /// `HANDICAP` and the four `FORCE` commands: the user is in a battle, which it founded, and so is the
@@ -327,28 +323,4 @@ pub fn ring(by: &Issuer, name: &NameBuf, post: &mut Post) -> Result<Change, Stop
     by.maps
         .tell_user(name, LentReply::Ring { user: by.me }, post)?;
     Ok(Change::Nothing)
-}
-
-/// Pairs as a list of their own.
-fn copy_pairs(alloc: Global, pairs: &[Pair]) -> Result<PairList, AllocError>
-    ensures { IfOk result (λ copies. copies ≡ pairs.now) }
-{
-    let mut copies = Vec::new(alloc);
-    for pair in pairs {
-        let key = KeyBuf::copy_of(alloc, pair.key.as_slice())?;
-        let value = SentenceBuf::copy_of(alloc, pair.value.as_slice())?;
-        copies.push(Pair { key, value })?;
-    }
-    Ok(PairList::new(copies))
-}
-
-/// Words as a list of their own.
-fn copy_words(alloc: Global, words: &[WordBuf]) -> Result<WordList, AllocError>
-    ensures { IfOk result (λ copies. copies ≡ words.now) }
-{
-    let mut copies = Vec::new(alloc);
-    for word in words {
-        copies.push(WordBuf::copy_of(alloc, word.as_slice())?)?;
-    }
-    Ok(WordList::new(copies))
 }

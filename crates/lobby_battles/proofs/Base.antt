@@ -5,6 +5,8 @@ use Rattle.std.proofs.lemmas.Option.{same_Some}
 use Rattle.std.specs.Ordering.{nat_cmp}
 use Rattle.std.specs.Cmp.{nat_cmp_total}
 use Rattle.std.specs.FinMap.Entries.{is_sorted}
+use Rattle.std.specs.FinMap.{nat_cmp-IsAntisymmetric}
+use Rattle.line_words.proofs.Tables.{change_alike}
 use Rattle.line_words.specs.Table.{ByName, ByNumber, at_number, at_name, change_name, is_among, same_name}
 use Rattle.lobby_model.proofs.RoomsKept.{names_with_status}
 use Rattle.lobby_model.proofs.Finding.{found_at, none_at}
@@ -19,7 +21,7 @@ use Rattle.lobby_battles.specs.declared.battles.RoomChange.{RoomChange}
 use Rattle.lobby_battles.specs.declared.battles.RoomChange.TheVariants as room
 use Rattle.lobby_model.specs.State.{Battle}
 use Rattle.lobby_battles.specs.declared.seats.Seat.{Seat}
-use Rattle.lobby_battles.specs.Battles.{AreSeated, IsOnly, asks_at, battle_at, concerns, room_after}
+use Rattle.lobby_battles.specs.Battles.{AreSeated, ChangesAlike, IsOnly, asks_at, battle_at, concerns, room_after}
 use Rattle.lobby_battles.specs.Seats.{seat_in, user_in, users_of}
 
 -- what one test of the values finds
@@ -113,3 +115,10 @@ shrinks_after (room.RemoveTags keys) rm = record { members = λ q h. h; askers =
 shrinks_after (room.DisableUnits words) rm = record { members = λ q h. h; askers = λ q h. h }
 shrinks_after (room.EnableUnits words) rm = record { members = λ q h. h; askers = λ q h. h }
 shrinks_after room.EnableAllUnits rm = record { members = λ q h. h; askers = λ q h. h }
+
+-- the battle at a number is the only one there
+pub alike_at : (battles : ByNumber Battle) → T (is_sorted nat_cmp battles) → (number : ℕ) (battle : Battle) → at_number battles number ≡ Some battle
+    → ChangesAlike battles number battle
+alike_at battles sorted number battle there = λ f g same.
+    change_alike nat_cmp nat_cmp_total nat_cmp-IsAntisymmetric f g battles number sorted
+    (λ x found. let is : x ≡ battle = same_Some x battle (sym found ∙ there) in ap f is ∙ same ∙ ap g (sym is))

@@ -66,6 +66,10 @@ battles_after (Leave number name) battles = left_battle number name battles
 battles_after (Update number spectators locked map_hash map) battles = change_number battles number (info_changed (updated spectators locked map_hash map))
 battles_after (InRoom number change) battles = change_number battles number (room_changed (room_after change))
 
+-- what comes to the same at the battle of this number comes to the same
+abbrev pub ChangesAlike : ByNumber Battle → ℕ → Battle → Type 0
+ChangesAlike battles number battle = (f g : Battle → Battle) → f battle ≡ g battle → change_number battles number f ≡ change_number battles number g
+
 -- the last number given
 abbrev pub last_after : BattleChange → ℕ → ℕ
 last_after (Open number name battle) last = number

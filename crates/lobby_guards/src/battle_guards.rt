@@ -3,18 +3,18 @@
 
 ghost use Rattle.std.specs.Prelude.{◌≡◌, ◌≤◌, ◌+◌, ◌||◌, ◌==◌, true, false, None, Some, IfOk, IfErr, is_some, option_copied};
 ghost use Rattle.line_words.specs.Table.{at_number, same_name};
-ghost use Rattle.room_lists.specs.Room.{asker_of, bot_of, has_asker, has_member, has_too_many_tags, has_too_many_units, is_full_of_bots, member_of};
+ghost use Rattle.room_lists.specs.Room.{asker_of, bot_of, disable_units, has_asker, has_member, has_too_many_tags, has_too_many_units, is_full_of_bots, member_of, set_tags};
 ghost use Rattle.room_lists.specs.Tags.{with_tags};
-ghost use Rattle.room_lists.specs.Units.{with_units};
+ghost use Rattle.room_lists.specs.Units.{with_units, words_new};
 ghost use Rattle.lobby_model.specs.State.{asked_by, battle_of};
 ghost use Rattle.lobby_model.specs.Battles.{is_founder, lets_in};
 ghost use Rattle.lobby_guards.specs.Answers.{Refuses};
-ghost use Rattle.lobby_battles.specs.Battles.{AskOutside};
+ghost use Rattle.lobby_battles.specs.Battles.{AskOutside, ChangesAlike};
 ghost use Rattle.lobby_guards.specs.declared.refusal.Refusal.TheVariants.{NoNumberLeft, NoSuchBattle, BattleIsLocked, WrongPassword, NotInBattle, NotTheFounder, NoSuchRequest, NoSuchMember, CannotKickYourself, NoSuchBot, NotYourBot, BotNameTaken, TooManyBots, TooManyTags, TooManyUnits};
 
 use crate::{Refusal, Stop, or_refuse, refuse_if};
 use battle_room::{Asker, Bot, Member};
-use line_words::{NameBuf, Pair, WordBuf};
+use line_words::{NameBuf, Pair, PairList, WordBuf, WordList};
 use lobby_maps::{Battle, LAST_NUMBER, Maps};
 use lobby_post::ClientKey;
 
@@ -58,6 +58,7 @@ pub fn own_battle<'a>(maps: &'a Maps, me: &NameBuf) -> Result<(u32, &'a Battle),
     ensures ok { IfOk result (λ own. battle_of maps.now.plain me.now ≡ Some (own.0, own.1.now)) }
     ensures there { IfOk result (λ own. at_number maps.now.plain.battles own.0 ≡ Some own.1.now) }
     ensures outside { IfOk result (λ own. AskOutside own.1.now.room) }
+    ensures alike { IfOk result (λ own. ChangesAlike maps.now.plain.battles own.0 own.1.now) }
     ensures err { IfErr result (Refuses NotInBattle (battle_of maps.now.plain me.now ≡ None)) }
 {
     or_refuse(maps.battle_of(me), Refusal::NotInBattle)
@@ -147,21 +148,21 @@ pub fn room_for_bot(battle: &Battle) -> Result<(), Stop>
     refuse_if(battle.room.is_full_of_bots(), Refusal::TooManyBots)
 }
 
-/// There is room for these script tags in a battle.
-pub fn room_for_tags(battle: &Battle, pairs: &[Pair]) -> Result<(), Stop>
+/// The last of these script tags of each key, where there is room for them in a battle.
+pub fn last_tags(battle: &Battle, pairs: &[Pair]) -> Result<PairList, Stop>
     ensures ok { IfOk result (λ _. has_too_many_tags (with_tags battle.now.room.tags pairs.now) ≡ false) }
+    ensures alike { IfOk result (λ last. set_tags last battle.now.room ≡ set_tags pairs.now battle.now.room) }
     ensures err { IfErr result (Refuses TooManyTags (has_too_many_tags (with_tags battle.now.room.tags pairs.now) ≡ true)) }
 {
-    refuse_if(!battle.room.has_room_for(pairs), Refusal::TooManyTags)
+    or_refuse(battle.room.last_pairs(pairs)?, Refusal::TooManyTags)
 }
 
-/// There is room for these disabled units in a battle.
-pub fn room_for_units(battle: &Battle, units: &[WordBuf]) -> Result<(), Stop>
+/// Those of these units that are not disabled in a battle, each once, where there is room for them.
+pub fn new_units(battle: &Battle, units: &[WordBuf]) -> Result<WordList, Stop>
     ensures ok { IfOk result (λ _. has_too_many_units (with_units battle.now.room.units units.now) ≡ false) }
+    ensures new { IfOk result (λ new. new ≡ words_new battle.now.room.units units.now) }
+    ensures alike { IfOk result (λ new. disable_units new battle.now.room ≡ disable_units units.now battle.now.room) }
     ensures err { IfErr result (Refuses TooManyUnits (has_too_many_units (with_units battle.now.room.units units.now) ≡ true)) }
 {
-    refuse_if(
-        !battle.room.has_room_for_units(units),
-        Refusal::TooManyUnits,
-    )
+    or_refuse(battle.room.units_new(units)?, Refusal::TooManyUnits)
 }

@@ -7,7 +7,7 @@ ghost use Rattle.lobby_model.specs.declared.event.Event.TheVariants as event;
 ghost use Rattle.lobby_model.specs.State.{Battle, asked_by, battle_of, empty_lobby, hears, name_of};
 ghost use Rattle.lobby_model.specs.Sessions.{has_place};
 ghost use Rattle.lobby_post.specs.Mail.{IsWakes};
-ghost use Rattle.lobby_battles.specs.Battles.{AskOutside, IsOnly};
+ghost use Rattle.lobby_battles.specs.Battles.{AskOutside, ChangesAlike, IsOnly};
 ghost use Rattle.lobby_maps.specs.Calls.{Applies, HasNoNumber, IsFull, IsNextNumber, KeepsOthers, ListsTouched, ListsOpened, TakesFirst, count_into, filled};
 ghost use Rattle.lobby_maps.specs.Changes.{CanBe, OfEvent};
 ghost use Rattle.lobby_maps.specs.Dirty.{those_there};
@@ -179,6 +179,7 @@ impl Maps {
         ensures only { IfSome result (λ own. IsOnly (has_member name.now) self.now.plain.battles (Some own.0)) }
         ensures there { IfSome result (λ own. at_number self.now.plain.battles own.0 ≡ Some own.1.now) }
         ensures outside { IfSome result (λ own. AskOutside own.1.now.room) }
+        ensures alike { IfSome result (λ own. ChangesAlike self.now.plain.battles own.0 own.1.now) }
         ensures none { result ≡ None → battle_of self.now.plain name.now ≡ None }
     {
         // Its contract says that the numbers rise, which the proof wants however this ends.

@@ -6,7 +6,7 @@ use Rattle.line_words.specs.Table.{same_name}
 use Rattle.line_words.proofs.Tables.{same_name_is, same_name_itself}
 use Rattle.room_lists.specs.Keyed.{with_item, with_items}
 
-other_way : (a b : List ℕ) → same_name a b ≡ false → same_name b a ≡ false
+pub other_way : (a b : List ℕ) → same_name a b ≡ false → same_name b a ≡ false
 other_way a b apart =
     elim (same_name b a) as (λ t. same_name b a ≡ t → t ≡ false) [
       | true ↦ λ e. sym (same_name_itself a) ∙ ap (same_name a) (sym (same_name_is b a e)) ∙ apart

@@ -15,7 +15,7 @@ step_grows n m true e = omega arith
 step_grows n m false e = omega arith
 
 module _ {T : Type 0} (key_of : T → List ℕ) where
-  has_with : (key : List ℕ) (items : List T) (item : T)
+  pub has_with : (key : List ℕ) (items : List T) (item : T)
       → has_key key_of key (with_item key_of items item) ≡ (has_key key_of key items || same_name key (key_of item))
   has_with key [] item = or-false (same_name key (key_of item))
   has_with key (t ∷ items) item =
@@ -37,7 +37,7 @@ module _ {T : Type 0} (key_of : T → List ℕ) where
             ∙ elim there as (λ h. suc (cond h (length items) (length items + 1)) ≡ cond h (suc (length items)) (suc (length items) + 1)) [ true ↦ refl | false ↦ omega arith ]
       ]
 
-  has_all : (key : List ℕ) (items ps : List T) → has_key key_of key (with_items key_of items ps) ≡ (has_key key_of key items || has_key key_of key ps)
+  pub has_all : (key : List ℕ) (items ps : List T) → has_key key_of key (with_items key_of items ps) ≡ (has_key key_of key items || has_key key_of key ps)
   has_all key items [] = sym (or-false (has_key key_of key items))
   has_all key items (p ∷ ps) =
       has_all key (with_item key_of items p) ps ∙ ap (λ b. b || has_key key_of key ps) (has_with key items p)

@@ -23,17 +23,18 @@ module _ {T : Type 0} (key_of : T → List ℕ) where
   has_key_is key [] = refl
   has_key_is key (t ∷ items) = ap (λ b. same_name key (key_of t) || b) (has_key_is key items)
 
-  item_inserted : (es : List (Vec ℕ Global × T)) (k : Vec ℕ Global) (item : T) → AreKeyed es → k.items ≡ key_of item
-      → values_of (insert_entry (same_key key_bytes) es k item) ≡ with_item key_of (values_of es) item
-  item_inserted [] k item each is = refl
-  item_inserted (e ∷ es) k item each is =
-      ap (λ b. values_of (if b then (e.0, item) ∷ es else e ∷ insert_entry (same_key key_bytes) es k item))
-      (texts_ties k.items e.0.items ∙ ap (λ ks. same_name ks e.0.items) is ∙ ap (same_name (key_of item)) each.0)
-      ∙ elim (same_name (key_of item) (key_of e.1)) as (λ b. values_of (if b then (e.0, item) ∷ es else e ∷ insert_entry (same_key key_bytes) es k item)
-      ≡ (if b then item ∷ values_of es else e.1 ∷ with_item key_of (values_of es) item)) [
-        | true ↦ refl
-        | false ↦ ap (λ ts. e.1 ∷ ts) (item_inserted es k item each.1 is)
-      ]
+  module _ {K : Type 0} (bytes : K → List ℕ) where
+    pub item_inserted : (es : List (K × T)) (k : K) (item : T) → IsIndex bytes key_of es → bytes k ≡ key_of item
+        → values_of (insert_entry (same_key bytes) es k item) ≡ with_item key_of (values_of es) item
+    item_inserted [] k item each is = refl
+    item_inserted (e ∷ es) k item each is =
+        ap (λ b. values_of (if b then (e.0, item) ∷ es else e ∷ insert_entry (same_key bytes) es k item))
+        (texts_ties (bytes k) (bytes e.0) ∙ ap (λ ks. same_name ks (bytes e.0)) is ∙ ap (same_name (key_of item)) each.0)
+        ∙ elim (same_name (key_of item) (key_of e.1)) as (λ b. values_of (if b then (e.0, item) ∷ es else e ∷ insert_entry (same_key bytes) es k item)
+        ≡ (if b then item ∷ values_of es else e.1 ∷ with_item key_of (values_of es) item)) [
+          | true ↦ refl
+          | false ↦ ap (λ ts. e.1 ∷ ts) (item_inserted es k item each.1 is)
+        ]
 
   pub with_both : (items ps qs : List T) → with_items key_of items (ps ++ qs) ≡ with_items key_of (with_items key_of items ps) qs
   with_both items [] qs = refl
@@ -50,7 +51,7 @@ module _ {T : Type 0} (key_of : T → List ℕ) where
     put_next = (
       subst AreKeyed (sym is) (index_inserted key_bytes key_of es k item keys of_next.0),
       of_next.1,
-      ap values_of is ∙ item_inserted es k item keys of_next.0 ∙ ap (λ ts. with_item key_of ts item) said
+      ap values_of is ∙ item_inserted key_bytes es k item keys of_next.0 ∙ ap (λ ts. with_item key_of ts item) said
           ∙ sym (with_both items (values_of done) (item ∷ [])) ∙ ap (with_items key_of items) (sym (map-append (λ e. e.1) done ((k, item) ∷ []))),
       (let one : length rest ≡ suc (length left) = ap length next in omega arith),
     )

@@ -8,3 +8,4 @@ pub mod Room
 pub mod Seen
 pub mod Tests
 pub mod Copied
+pub mod Last

@@ -88,17 +88,6 @@ fn index_of(alloc: Global, keys: &[WordBuf]) -> Result<IndexSet<&[u8]>, AllocErr
     Ok(index)
 }
 
-/// Copies of words.
-fn copies_of_words(alloc: Global, words: &[&WordBuf]) -> Result<WordList, AllocError>
-    ensures { IfOk result (λ copies. copies ≡ map (λ word. word.now) words.now) }
-{
-    let mut copies = Vec::with_capacity(alloc, words.len())?;
-    for word in words {
-        copies.push(WordBuf::copy_of(alloc, word.as_slice())?)?;
-    }
-    Ok(WordList::new(copies))
-}
-
 /// Whether a key is among those of items.
 fn has_key<T: Keyed>(key: &[u8], items: &[T]) -> bool
     ensures { result ≡ keyed.has_key T.key_of key.now items.now }
@@ -122,6 +111,17 @@ fn entries_of<T: Keyed>(alloc: Global, items: Vec<T>) -> Result<Vec<(Vec<u8>, T)
 /// Copies of items.
 fn copies_of<T: Keyed>(alloc: Global, items: &[T]) -> Result<Vec<T>, AllocError>
     ensures { IfOk result (λ copies. copies.items ≡ items.now) }
+{
+    let mut copies = Vec::with_capacity(alloc, items.len())?;
+    for item in items {
+        copies.push(item.copy(alloc)?)?;
+    }
+    Ok(copies)
+}
+
+/// Copies of items that are lent one by one.
+pub(crate) fn copies_of_lent<T: Keyed>(alloc: Global, items: &[&T]) -> Result<Vec<T>, AllocError>
+    ensures { IfOk result (λ copies. copies.items ≡ map (λ item. item.now) items.now) }
 {
     let mut copies = Vec::with_capacity(alloc, items.len())?;
     for item in items {
@@ -221,7 +221,7 @@ impl<T: Keyed> KeyedList<T> {
     /// The items whose keys are not there, the first of each key, in their order; None where there would be
     /// more than `limit` items, if these were put. Fails only where memory is refused, and asks for none
     /// where the list is full.
-    fn new_items<'a>(
+    pub(crate) fn new_items<'a>(
         &self,
         alloc: Global,
         items: &'a [T],
@@ -235,6 +235,36 @@ impl<T: Keyed> KeyedList<T> {
             Some(most) => self.firsts(alloc, items, false, most),
             None => Ok(None),
         }
+    }
+
+    /// Copies of the last item of each key, in the order of their first ones; None where there would be more than
+    /// `limit` items, if these were put. One look-up an item, and one for each key, and an index of those.
+    /// Fails only where memory is refused, and asks for none where the list is full.
+    pub(crate) fn last_items(
+        &self,
+        alloc: Global,
+        items: &[T],
+        limit: usize,
+    ) -> Result<Option<Vec<T>>, AllocError>
+        requires { limit < 2 ^ 63 }
+        ensures last { IfOk result (λ last. IfSome last (λ last. last.items ≡ keyed.with_items T.key_of [] items.now)) }
+        ensures room { IfOk result (λ last. is_some last ≡ not (nat_lt limit (length (keyed.with_items T.key_of self.now items.now)))) }
+    {
+        let Some(most) = limit.checked_sub(self.by_key.len()) else {
+            return Ok(None);
+        };
+        let mut last = IndexMap::new(alloc);
+        let mut new = 0;
+        for item in items {
+            let key = item.key();
+            if last.insert(key, item)?.is_none() && !self.has_bytes(key) {
+                if new >= most {
+                    return Ok(None);
+                }
+                new += 1;
+            }
+        }
+        Ok(Some(copies_of_lent(alloc, last.values().as_slice())?))
     }
 
     /// Puts items. Where memory is refused, nothing changes.
@@ -299,17 +329,7 @@ impl<T: Keyed> KeyedList<T> {
         ensures { IfOk result (λ there. there ≡ keyed.keys_there T.key_of self.now keys.now) }
     {
         match self.firsts(alloc, keys, true, keys.len())? {
-            Some(firsts) => copies_of_words(alloc, &firsts),
-            None => unreachable!(), // they are no more than the keys
-        }
-    }
-
-    /// Those of the keys that are not there, each once.
-    pub(crate) fn keys_new(&self, alloc: Global, keys: &[WordBuf]) -> Result<WordList, AllocError>
-        ensures { IfOk result (λ new. new ≡ words_new (map T.key_of self.now) keys.now) }
-    {
-        match self.firsts(alloc, keys, false, keys.len())? {
-            Some(firsts) => copies_of_words(alloc, &firsts),
+            Some(firsts) => Ok(WordList::new(copies_of_lent(alloc, &firsts)?)),
             None => unreachable!(), // they are no more than the keys
         }
     }

@@ -7,6 +7,8 @@
 
 mod bots;
 mod keyed;
+#[cfg(test)]
+mod looks;
 mod names;
 mod rects;
 mod status_word;

@@ -1,6 +1,6 @@
 //! The script tags of a room.
 
-ghost use Rattle.std.specs.Prelude.{◌≡◌, not, [], OnOk, OnErr, IfOk};
+ghost use Rattle.std.specs.Prelude.{◌≡◌, not, [], OnOk, OnErr, IfOk, IfSome, is_some};
 ghost use Rattle.room_lists.specs.Room.{has_too_many_tags};
 ghost use Rattle.room_lists.specs.Tags as tags;
 
@@ -64,6 +64,20 @@ impl Tags {
         self.tags.has_room_for(pairs, TAG_LIMIT)
     }
 
+    /// The last of these pairs of each key, in the order of their first ones; None where there would be more
+    /// than 512 tags (`TAG_LIMIT`), if these were set. To set the last alone comes to the same. Fails only
+    /// where memory is refused.
+    pub fn last_pairs(&self, alloc: Global, pairs: &[Pair]) -> Result<Option<PairList>, AllocError>
+        ensures last { IfOk result (λ last. IfSome last (λ last. last ≡ tags.with_tags [] pairs.now)) }
+        ensures alike { IfOk result (λ last. IfSome last (λ last. tags.with_tags self.now last ≡ tags.with_tags self.now pairs.now)) }
+        ensures room { IfOk result (λ last. is_some last ≡ not (has_too_many_tags (tags.with_tags self.now pairs.now))) }
+    {
+        match self.tags.last_items(alloc, pairs, TAG_LIMIT)? {
+            Some(last) => Ok(Some(PairList::new(last))),
+            None => Ok(None),
+        }
+    }
+
     /// Sets tags one by one: a key that is set keeps its place and has the new value, another comes last.
     /// However many there are then, it fails only where memory is refused, and then nothing changes.
     pub fn put(&mut self, alloc: Global, pairs: PairList) -> Result<(), AllocError>
@@ -80,10 +94,11 @@ impl Tags {
         self.tags.remove(keys);
     }
 
-    /// Those of the keys that are set, each once, in the order of the list of keys. Fails only where memory
-    /// is refused.
+    /// Those of the keys that are set, each once, in the order of the list of keys. To remove them alone
+    /// comes to the same. Fails only where memory is refused.
     pub fn keys_there(&self, alloc: Global, keys: &[WordBuf]) -> Result<WordList, AllocError>
-        ensures { IfOk result (λ there. there ≡ tags.keys_there self.now keys.now) }
+        ensures there { IfOk result (λ there. there ≡ tags.keys_there self.now keys.now) }
+        ensures alike { IfOk result (λ there. tags.without_tags self.now there ≡ tags.without_tags self.now keys.now) }
     {
         self.tags.keys_there(alloc, keys)
     }

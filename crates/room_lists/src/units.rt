@@ -1,10 +1,10 @@
 //! The disabled units of a room.
 
-ghost use Rattle.std.specs.Prelude.{◌≡◌, not, [], OnOk, OnErr, IfOk};
+ghost use Rattle.std.specs.Prelude.{◌≡◌, not, [], OnOk, OnErr, IfOk, IfSome, is_some};
 ghost use Rattle.room_lists.specs.Room.{has_too_many_units};
 ghost use Rattle.room_lists.specs.Units as units;
 
-use crate::keyed::KeyedList;
+use crate::keyed::{KeyedList, copies_of_lent};
 use line_words::{WordBuf, WordList};
 use std::alloc::{AllocError, Global};
 use std::marker::Model;
@@ -87,18 +87,29 @@ impl Units {
         self.units.clear();
     }
 
-    /// Those of the words that are no disabled units, each once, in the order of the list of words. Fails
-    /// only where memory is refused.
-    pub fn words_new(&self, alloc: Global, words: &[WordBuf]) -> Result<WordList, AllocError>
-        ensures { IfOk result (λ new. new ≡ units.words_new self.now words.now) }
+    /// Those of the words that are no disabled units, each once, in the order of the list of words; None
+    /// where there would be more than 1,024 units (`UNIT_LIMIT`), if these were disabled. To disable them
+    /// alone comes to the same. Fails only where memory is refused.
+    pub fn words_new(
+        &self,
+        alloc: Global,
+        words: &[WordBuf],
+    ) -> Result<Option<WordList>, AllocError>
+        ensures new { IfOk result (λ new. IfSome new (λ new. new ≡ units.words_new self.now words.now)) }
+        ensures alike { IfOk result (λ new. IfSome new (λ new. units.with_units self.now new ≡ units.with_units self.now words.now)) }
+        ensures room { IfOk result (λ new. is_some new ≡ not (has_too_many_units (units.with_units self.now words.now))) }
     {
-        self.units.keys_new(alloc, words)
+        match self.units.new_items(alloc, words, UNIT_LIMIT)? {
+            Some(new) => Ok(Some(WordList::new(copies_of_lent(alloc, &new)?))),
+            None => Ok(None),
+        }
     }
 
-    /// Those of the words that are disabled units, each once, in the order of the list of words. Fails only
-    /// where memory is refused.
+    /// Those of the words that are disabled units, each once, in the order of the list of words. To enable
+    /// them alone comes to the same. Fails only where memory is refused.
     pub fn words_there(&self, alloc: Global, words: &[WordBuf]) -> Result<WordList, AllocError>
-        ensures { IfOk result (λ there. there ≡ units.words_there self.now words.now) }
+        ensures there { IfOk result (λ there. there ≡ units.words_there self.now words.now) }
+        ensures alike { IfOk result (λ there. units.without_units self.now there ≡ units.without_units self.now words.now) }
     {
         self.units.keys_there(alloc, words)
     }

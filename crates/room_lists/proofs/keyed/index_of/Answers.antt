@@ -1,4 +1,4 @@
-use Rattle.std.proofs.Common.{◌≡◌, ◌∙◌, ◌<◌, ◌+◌, ◌++◌, ◌∷◌, [], ap, sym, take, length, rules}
+use Rattle.std.proofs.Common.{◌∙◌, ◌<◌, ◌++◌, ◌∷◌, [], ap, sym, take, length, rules}
 use Rattle.std.specs.Prelude.{ℕ, List, ◌||◌}
 use Rattle.std.proofs.lemmas.List.{take_more, take_all}
 use Rattle.line_words.specs.Table.{same_name, is_among}

@@ -3,7 +3,7 @@ use Rattle.std.specs.Prelude.{Some, None}
 use Rattle.std.proofs.lemmas.Option.{same_Some}
 use Rattle.line_words.specs.Table.{at_number}
 use Rattle.room_lists.specs.Room.{has_member}
-use Rattle.lobby_battles.proofs.Base.{own_found, own_none, own_only}
+use Rattle.lobby_battles.proofs.Base.{alike_at, own_found, own_none, own_only}
 use Rattle.lobby_battles.proofs.Seated.{as_member}
 use Rattle.lobby_maps.proofs.Sorted.{ordered_is_sorted}
 use Rattle.lobby_maps.proofs.maps.Maps.battle_of.Goals as goal
@@ -43,3 +43,9 @@ returns-clause-outside c = c.self.invariant.1.seated.outside c.in_ok-number.numb
 
 pub returns-clause-there : goal.returns-clause-there
 returns-clause-there c = rw (← c.self.view_is) c.in_ok-battle.ensures.some.0
+
+pub returns-clause-alike : goal.returns-clause-alike
+returns-clause-alike c =
+    rw (← c.self.view_is) (alike_at c.self.inside.battles.by_number.entries
+    (ordered_is_sorted c.self.inside.battles.by_number.entries c.len.ensures.ordered) c.in_ok-number.number c.in_ok-battle.battle.now
+    c.in_ok-battle.ensures.some.0)

@@ -1,13 +1,10 @@
-use Rattle.std.proofs.Common.{◌≡◌, ◌∙◌, ◌+◌, ◌<◌, ◌≤◌, ◌++◌, ◌∷◌, [], ap, sym, rules, drop, length, map, arith, get_or, true, false}
+use Rattle.std.proofs.Common.{◌≡◌, ◌∙◌, ◌+◌, ◌<◌, ◌≤◌, ◌++◌, ◌∷◌, [], ap, sym, rules, drop, length, map, arith, get_or, true}
 use Rattle.std.specs.Prelude.{ℕ, List, Bool}
-use Rattle.std.specs.Borrow.{Bor}
-use Rattle.std.specs.List.{list_any}
 use Rattle.std.proofs.lemmas.List.{length-map, length-append, map-append, get_or-map}
-use Rattle.line_words.specs.Table.{is_among}
 use mathlib.Core.Bool.{beq}
 use Rattle.room_lists.specs.Keyed.{has_key}
 use Rattle.room_lists.proofs.Picked.{asked, picked, found_more, more_found, passed_other, passed_again, all_picked, asked_there, asked_new}
-use Rattle.room_lists.proofs.Seen.{same_bytes, words_of, not_seen, seen_before, seen_more, seen_again}
+use Rattle.room_lists.proofs.Seen.{words_of, not_seen, seen_before, seen_more, seen_again}
 use Rattle.room_lists.proofs.keyed.KeyedList.firsts.Goals as goal
 use Rattle.room_lists.proofs.keyed.KeyedList.firsts.Goals.{then-has_bytes-are_there+then-len-most+in_ok-insert+then-branch+in_ok-push, then-has_bytes-are_there+then-len-most+in_ok-insert+else-branch, then-has_bytes-are_there+else-len-most+else-not-contains, else-has_bytes-are_there}
 

@@ -1,4 +1,4 @@
-use Rattle.std.proofs.Common.{◌≡◌, ◌<◌, subst, arith, refl, length, map, rules}
+use Rattle.std.proofs.Common.{◌<◌, subst, arith, refl, length, map}
 use Rattle.std.specs.Prelude.{ℕ, List}
 use Rattle.std.proofs.lemmas.List.{length-map}
 use Rattle.room_lists.specs.Keyed.{keys_there, AreFirsts}

@@ -1,5 +1,4 @@
-use Rattle.std.proofs.Common.{◌≡◌, ◌≤◌, ◌<◌, ◌-◌, ◌∙◌, sym, ap, length, refl, arith}
-use Rattle.std.specs.Prelude.{ℕ}
+use Rattle.std.proofs.Common.{◌≡◌, ◌≤◌, ◌-◌, ◌∙◌, sym, ap, length, refl, arith}
 use Rattle.std.proofs.lemmas.List.{length-map}
 use Rattle.room_lists.proofs.Room.{if_ok, room_from, over_all}
 use Rattle.room_lists.proofs.keyed.KeyedList.new_items.Goals as goal

@@ -1,4 +1,4 @@
-use Rattle.std.proofs.Common.{◌≡◌, ◌∙◌, sym, not, filter}
+use Rattle.std.proofs.Common.{◌∙◌, sym, not, filter}
 use Rattle.room_lists.proofs.Removed.{without_all}
 use Rattle.room_lists.proofs.keyed.KeyedList.remove.Goals as goal
 

@@ -1,4 +1,4 @@
-use Rattle.std.proofs.Common.{◌≡◌, ◌∙◌, ap, sym, subst, not, filter, rules, map}
+use Rattle.std.proofs.Common.{◌∙◌, ap, sym, subst, not, filter, rules}
 use Rattle.std.specs.Map.{values_of}
 use Rattle.line_words.specs.Table.{is_among}
 use Rattle.indexmap.proofs.CallerLemmas.{filter-RetainsPairs}
