@@ -4,13 +4,13 @@
 # Runs the server that `make build` leaves, or the one at LOBBY_MAIN, with so many workers (1), and the bare loop with one write a
 # client and round and with one write a line: all in turn, a new process each time, so many runs (5), a measured time of so many
 # seconds (3) where a mode has one. Prints medians of the runs, and of the ratios of each turn. MODES, some of
-# "fanout lengths ping quiet logins memory calls", leaves the others out.
+# "fanout lengths ping quiet logins log memory calls", leaves the others out.
 set -euo pipefail
 cd "$(dirname "$0")/.."
 workers=${1:-1}
 runs=${2:-5}
 seconds=${3:-3}
-modes=${MODES:-fanout lengths ping quiet logins memory calls}
+modes=${MODES:-fanout lengths ping quiet logins log memory calls}
 main=${LOBBY_MAIN:-$PWD/bin/lobby_main}
 [ -x "$main" ] || { echo "there is no $main: make build makes it"; exit 1; }
 ulimit -n 8192
@@ -33,9 +33,14 @@ done > "$room/accounts.toml"
 
 # launch SERVER PORT : becomes the server.
 launch() {
-    printf 'address = "127.0.0.1:%d"\nworkers = %d\n' "$2" "$workers" > "$room/settings.toml"
+    local log=important
     case $1 in
-        ours) exec "$main" serve "$room/settings.toml" "$room/accounts.toml" ;;
+        silent) log=none ;;
+        telling) log=all ;;
+    esac
+    printf 'address = "127.0.0.1:%d"\nworkers = %d\nlog = "%s"\n' "$2" "$workers" "$log" > "$room/settings.toml"
+    case $1 in
+        ours | silent | telling) exec "$main" serve "$room/settings.toml" "$room/accounts.toml" ;;
         bare) exec "$room/bare_fanout" "$2" ;;
         bare_lines) exec "$room/bare_fanout" "$2" lines ;;
     esac
@@ -185,6 +190,19 @@ logins() {
             figure '| %.2f ' "$name.logins.2000.$how" 'of["user"] + of["system"]'
         done
         echo '|'
+    done
+}
+
+log() {
+    local how name
+    echo '2,000 logins with `log = "none"` and with `log = "all"`: processor seconds of the server, until each is told of all'
+    echo '| How | None | All | All / none |'
+    echo '|---|---|---|---|'
+    for how in one all; do
+        in_turn "silent telling" logins 2000 "$how"
+        printf '| %s ' "$how"
+        for name in silent telling; do figure '| %.3f ' "$name.logins.2000.$how" 'of["user"] + of["system"]'; done
+        echo "| $(ratio "telling.logins.2000.$how" "silent.logins.2000.$how" 'of["user"] + of["system"]') |"
     done
 }
 

@@ -71,17 +71,19 @@ class Account:
 
 
 class Server:
-    """A server that runs until `stop`, in an environment that has these words more."""
+    """A server that runs until `stop`, in an environment that has these words more. It tells operators as much as `log` says, and to
+    the file `errors`, if there is one."""
 
-    def __init__(self, workers, accounts, settings="", port=0, files=0, **words):
+    def __init__(self, workers, accounts, settings="", port=0, files=0, log="none", errors=None, **words):
         self.folder = tempfile.TemporaryDirectory(prefix="lobby-check-")
-        self.port, self.is_stopped, self.workers, self.counts = port or free_port(), False, workers, []
+        self.port, self.is_stopped, self.workers, self.counts, self.log = port or free_port(), False, workers, [], log
         room = Path(self.folder.name)
         head = f'address = "{ADDRESS}:{self.port}"\nworkers = {workers}\nstop_at_input_end = true\n'
+        head += f'log = "{log}"\n' if log else ""
         (room / "settings.toml").write_text(head + settings)
         (room / "accounts.toml").write_text("\n".join(it.table() for it in accounts))
         call = [program("LOBBY_MAIN", "lobby_main"), "serve", str(room / "settings.toml"), str(room / "accounts.toml")]
-        self.errors = (room / "errors").open("w+b")
+        self.errors = errors or (room / "errors").open("w+b")
         how = {"preexec_fn": lambda: resource.setrlimit(resource.RLIMIT_NOFILE, (files, files))} if files else {}
         how["env"] = {**os.environ, **words}
         self.process = subprocess.Popen(call, stdin=subprocess.PIPE, stdout=subprocess.PIPE, stderr=self.errors, **how)
@@ -90,6 +92,8 @@ class Server:
             raise Difference(f"the server does not listen: {self.told()}")
 
     def told(self):
+        if not self.errors.seekable():
+            return ""
         self.errors.seek(0)
         return self.errors.read().decode(errors="replace")
 
@@ -118,7 +122,7 @@ class Server:
             raise Difference("the server does not end with its input") from None
         lines = self.process.stdout.read().decode().splitlines()
         told = [re.fullmatch(f"worker {worker}: ([0-9]+) events", line) for worker, line in enumerate(lines)]
-        if status != 0 or not all(told) or len(told) != self.workers or self.told():
+        if status != 0 or not all(told) or len(told) != self.workers or (self.log == "none" and self.told()):
             raise Difference(f"the server ends with status {status}, and told: {lines} {self.told()}")
         self.counts = [int(it[1]) for it in told]
         return time.monotonic() - begun

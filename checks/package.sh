@@ -92,7 +92,7 @@ stop() {
     kill_rest
     wait "$server" || status=$?
     server=
-    [ "$status" -eq 0 ] && [ ! -s "$room/errors" ]
+    [ "$status" -eq 0 ] && [ "$(grep -cv '^started version=\|^stopped worker=' "$room/errors")" -eq 0 ]
 }
 
 # answers : whether the server takes a connection and greets it, within 20 seconds.
@@ -112,6 +112,7 @@ crowd=$!
 until [ -e "$room/talked" ] || ! kill -0 "$crowd" 2> /dev/null; do sleep 0.1; done
 tells 'the server stops in order' stop
 tells '200 clients talk, and read to the end' wait "$crowd"
+tells 'it tells operators that it started' grep -q '^started version=.* accounts=' "$room/errors"
 tells 'it says what its workers did' grep -q '^worker 3: [1-9]' "$room/out"
 
 # Where its output takes nothing, or nobody reads it, it stops all the same.

@@ -14,7 +14,7 @@ trap 'if [ -n "$server" ]; then kill "$server" 2> /dev/null || true; fi; rm -rf 
 
 settings=$room/settings.toml
 accounts=$room/accounts.toml
-printf 'address = "127.0.0.1:0"\nworkers = 2\nstop_at_input_end = true\n' > "$settings"
+printf 'address = "127.0.0.1:0"\nworkers = 2\nstop_at_input_end = true\nlog = "none"\n' > "$settings"
 : > "$accounts"
 printf '[[account' > "$room/broken"
 printf 'workers = 2\n' > "$room/no_address"

@@ -5,10 +5,13 @@ ghost use Rattle.std.specs.Prelude.{◌≤◌, IfOk};
 use account_book::AccountBook;
 use lobby_files::{FileError, accounts_at, settings_at};
 use lobby_setup::Setup;
-use lobby_workers::{Gate, ServerError, run_server_behind};
+use lobby_workers::{Gate, Log, ServerError, run_server_logged};
 use mio::net::TcpListener;
+use program_help::VERSION;
+use server_log::{ShortText, Started};
+use std::alloc::Global;
 use std::io;
-use std::net::{Net, SocketAddr};
+use std::net::{Net, SocketAddr, SocketAddrV4};
 use std::rt::Files;
 use std::sync::Wait;
 use std::thread::Threads;
@@ -44,11 +47,24 @@ fn book_at<R: Files + AllocGlobal>(rt: &R, path: &str) -> Result<AccountBook, Se
     }
 }
 
+/// Where a listener listens that was bound to this address, of which the system may have chosen the port, as text. Nothing where
+/// memory is refused.
+fn text_of(alloc: Global, listener: &TcpListener, address: SocketAddrV4) -> ShortText {
+    let address = match listener.local_addr() {
+        Ok(SocketAddr::V4(bound)) => bound,
+        _ => address,
+    };
+    match format!(in alloc; "{address}") {
+        Ok(text) => ShortText::of(text.as_bytes()),
+        Err(_) => ShortText::of(&[]),
+    }
+}
+
 /// Runs a server by its files, until its input ends or the program is killed. The first fault in the order of
-/// settings, accounts and listener is the answer, and then what `run_server_behind` gives.
+/// settings, accounts and listener is the answer, and then what `run_server_logged` gives.
 pub fn serve<R>(rt: &R, settings: &str, accounts: &str) -> Result<(), ServerError>
 where
-    R: Files + Input + Print + AllocGlobal + Threads + Wait + Net + Sync,
+    R: Files + Input + Print + Eprint + AllocGlobal + Threads + Wait + Net + Sync,
 {
     let Setup {
         settings,
@@ -56,14 +72,22 @@ where
         workers,
         stop_at_input_end,
         proxies,
+        log,
     } = setup_at(rt, settings)?;
     let accounts = book_at(rt, accounts)?;
     let Ok(listener) = TcpListener::bind(rt, SocketAddr::V4(address)) else {
         return Err(ServerError::Listener);
     };
+    let started = Started {
+        version: VERSION,
+        address: text_of(rt.alloc(), &listener, address),
+        workers,
+        outbox_limit: settings.outbox_limit() as u64,
+        accounts: accounts.len() as u64,
+    };
     let mut input = rt.reader();
     let mut output = io::writer(rt);
-    let status = run_server_behind(
+    let status = run_server_logged(
         rt,
         rt.alloc(),
         settings,
@@ -75,6 +99,10 @@ where
         &mut input,
         &mut output,
         &OpenGate,
+        Log {
+            level: log,
+            started,
+        },
     );
     match ServerError::of_run(status) {
         None => Ok(()),

@@ -42,6 +42,9 @@ pub struct Connections {
     // the same of this round
     left: Vec<usize>,
     is_each_left: bool,
+    // whether memory was refused to a turn of this round, and whether that began before it
+    is_refused: bool,
+    is_short: bool,
     // those whose clients were shut
     lingering: Lingering,
     timeout: PollTimeout,
@@ -61,6 +64,8 @@ impl Drop for Connections {
             is_each_due: _,
             left,
             is_each_left: _,
+            is_refused: _,
+            is_short: _,
             lingering,
             timeout: _,
         } = self;
@@ -104,6 +109,8 @@ impl Connections {
             is_each_due: false,
             left: Vec::new(alloc),
             is_each_left: false,
+            is_refused: false,
+            is_short: false,
             lingering: Lingering::new(alloc),
             timeout: PollTimeout::Endless,
         }
@@ -133,6 +140,17 @@ impl Connections {
         mem::swap(&mut self.due, &mut self.left);
         self.is_each_due = self.is_each_left;
         self.is_each_left = false;
+        self.is_short = self.is_refused;
+        self.is_refused = false;
+    }
+
+    /// Memory was refused to a turn of this round. Whether that is news: it was refused to none before, in this round and the last.
+    pub fn refuse(&mut self) -> bool
+        ensures { self.new ≡ self.old }
+    {
+        let is_news = !self.is_refused && !self.is_short;
+        self.is_refused = true;
+        is_news
     }
 
     /// How many connections there are.

@@ -10,10 +10,16 @@ ghost use Rattle.lobby_holds.specs.Snapshot.{snapshot, Carries};
 ghost use Rattle.lobby_holds.specs.Went.{Went};
 ghost use Rattle.lobby_holds.specs.Holds.{HasNoSpoiltNext};
 
-use crate::link::{Got, Link};
+use crate::gate::Gate;
+use crate::link::{Got, Link, Sent};
+use crate::visit::{Asked, Visit};
 use byte_queue::ByteQueue;
 use client_session::{Next, Session};
+use command_grammar::Command;
 use line_framer::FeedError;
+use lobby_lock::Held;
+use lobby_machine::Wakes;
+use server_log::Happening;
 use std::alloc::{AllocError, Global};
 use std::marker::Model;
 
@@ -30,6 +36,8 @@ pub struct Conn {
     pub(crate) session: Session,
     pub(crate) unfed: Vec<u8>,
     pub(crate) unwritten: ByteQueue,
+    // for operators
+    visit: Visit,
 }
 
 impl Model for Conn {
@@ -56,6 +64,7 @@ impl Conn {
             session: Session::new(alloc, client),
             unfed: Vec::new(alloc),
             unwritten: ByteQueue::new(alloc),
+            visit: Visit::new(),
         }
     }
 
@@ -166,6 +175,35 @@ impl Conn {
         ensures unwritten { self.new.unwritten ≡ self.old.unwritten }
     {
         self.session.accept_next();
+    }
+
+    /// What operators may be told of this command, which is said next in a hold that goes on.
+    pub(crate) fn asked(&self, held: &Held, command: &Command) -> Asked {
+        Asked::of(held, self.client(), command)
+    }
+
+    /// The client's line was said in a hold that goes on, and touched these workers' clients: notes what became of it, and has operators
+    /// told of a login.
+    pub(crate) fn note<G: Gate>(&mut self, held: &Held, gate: &G, asked: Asked, wakes: Wakes)
+        ensures { self.new ≡ self.old }
+    {
+        let client = self.session.client();
+        self.visit.note(held, client, gate, asked, wakes);
+    }
+
+    /// Notes for operators that the lobby said that nothing will ever come of the client.
+    pub fn finish(&mut self)
+        ensures { self.new ≡ self.old }
+    {
+        self.visit.finish();
+    }
+
+    /// What operators are told where the client was shut now, over this link: that its user, if it had one, is logged out, and why.
+    pub fn logout<L: Link>(&self, link: &L) -> Option<Happening> {
+        let has_failed =
+            link.last_got() == Some(Got::Fault) || link.last_sent() == Some(Sent::Fault);
+        self.visit
+            .logout(self.client(), self.is_spoilt_next(), has_failed)
     }
 }
 

@@ -1,6 +1,8 @@
 //! Where a worker may be looked at from outside.
 
-/// Is told what a worker is about to do and what it did. The server's gate does nothing; tests hold
+use server_log::Happening;
+
+/// Is told what a worker is about to do and what it did, and what operators may be told. Tests hold
 /// a worker at a gate, or look whether it came by.
 pub trait Gate {
     /// The worker of this number is about to take the lobby.
@@ -11,4 +13,11 @@ pub trait Gate {
 
     /// The worker was woken.
     fn woken(&self, worker: u8);
+
+    /// The server listens. A gate that tells nobody does nothing.
+    fn listening(&self) {}
+
+    /// This happened, of which operators may be told. It may be called in a hold, so it never waits. A gate that tells nobody does
+    /// nothing.
+    fn tell(&self, _happening: Happening) {}
 }

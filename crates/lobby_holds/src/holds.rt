@@ -52,7 +52,12 @@ pub struct Piece {
 
 /// Says to the lobby what the next line asks for, in a hold that goes on, and accepts the line. Contracts
 /// see the hold as the pass that it would leave if it were given back now.
-fn say_line(conn: &mut Conn, held: &mut Held, request: Request) -> Result<Wakes, AllocError>
+fn say_line<G: Gate>(
+    conn: &mut Conn,
+    held: &mut Held,
+    gate: &G,
+    request: Request,
+) -> Result<Wakes, AllocError>
     requires few { length held.old.events < MOST_EVENTS }
     requires stands { Stands held.old }
     requires kinds { IsTrue (keeps_kinds request.command) }
@@ -63,9 +68,11 @@ fn say_line(conn: &mut Conn, held: &mut Held, request: Request) -> Result<Wakes,
     ensures err { OnErr result ((conn.new ≡ conn.old) × (held.new ≡ held.old)) }
     ensures pass { held.new.pass ≡ held.old.pass }
 {
+    let asked = conn.asked(held, &request.command);
     match held.say(conn.client(), request) {
         Ok(wakes) => {
             conn.accept();
+            conn.note(held, gate, asked, wakes);
             Ok(wakes)
         }
         Err(error) => Err(error),
@@ -73,7 +80,11 @@ fn say_line(conn: &mut Conn, held: &mut Held, request: Request) -> Result<Wakes,
 }
 
 /// Reads the next line and says it to the lobby, where one is there and the hold has place for it.
-fn say_next(conn: &mut Conn, held: &mut Held) -> Result<Option<Wakes>, AllocError>
+fn say_next<G: Gate>(
+    conn: &mut Conn,
+    held: &mut Held,
+    gate: &G,
+) -> Result<Option<Wakes>, AllocError>
     ensures says { IfOk result (λ said. IfSome said (λ wakes. (wire : Wire) → SaysLines (snapshot conn.old wire (pass_after held.old)) (snapshot conn.new wire (pass_after held.new)) 1 wakes)) }
     ensures count { IfOk result (λ said. IfSome said (λ wakes. (length held.new.events ≡ length held.old.events + 1) × (length held.new.events ≤ MOST_EVENTS))) }
     ensures none { IfOk result (λ said. said ≡ None → (conn.new ≡ conn.old) × (held.new ≡ held.old)) }
@@ -86,7 +97,7 @@ fn say_next(conn: &mut Conn, held: &mut Held) -> Result<Option<Wakes>, AllocErro
         return Ok(None);
     }
     match conn.next_request() {
-        Ok(Next::Line(request)) => match say_line(conn, held, request) {
+        Ok(Next::Line(request)) => match say_line(conn, held, gate, request) {
             Ok(wakes) => Ok(Some(wakes)),
             Err(error) => Err(error),
         },
@@ -96,7 +107,13 @@ fn say_next(conn: &mut Conn, held: &mut Held) -> Result<Option<Wakes>, AllocErro
 }
 
 /// Says the next lines to the lobby in a new hold, of which the first was read as this request.
-fn say_lines(conn: &mut Conn, held: &mut Held, request: Request, most: usize) -> Said
+fn say_lines<G: Gate>(
+    conn: &mut Conn,
+    held: &mut Held,
+    gate: &G,
+    request: Request,
+    most: usize,
+) -> Said
     requires new { held.old.events ≡ [] }
     requires stands { Stands held.old }
     requires kinds { IsTrue (keeps_kinds request.command) }
@@ -107,7 +124,7 @@ fn say_lines(conn: &mut Conn, held: &mut Held, request: Request, most: usize) ->
     ensures stops { StopsAt most conn.new.session result }
     ensures pass { held.new.pass ≡ held.old.pass }
 {
-    let mut wakes = match say_line(conn, held, request) {
+    let mut wakes = match say_line(conn, held, gate, request) {
         Ok(wakes) => wakes,
         Err(_) => {
             return Said {
@@ -118,7 +135,7 @@ fn say_lines(conn: &mut Conn, held: &mut Held, request: Request, most: usize) ->
         }
     };
     for lines in 1..most {
-        match say_next(conn, held) {
+        match say_next(conn, held, gate) {
             Ok(Some(more)) => wakes = wakes.union(more),
             Ok(None) => {
                 return Said {
@@ -162,7 +179,7 @@ pub fn say<R: Wait, G: Gate>(
     ensures stops { StopsAt most conn.new.session result.1 }
 {
     let mut held = desk.take(rt, pass);
-    let said = say_lines(conn, &mut held, request, most);
+    let said = say_lines(conn, &mut held, desk.gate, request, most);
     (held.give(rt, desk.desk), said)
 }
 

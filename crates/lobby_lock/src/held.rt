@@ -1,6 +1,6 @@
 //! A hold of the lobby.
 
-ghost use Rattle.std.specs.Prelude.{◌≡◌, ◌<◌, ◌≤◌, ◌↔◌, [], length, OnOk, OnErr, IfNone, IfOk, IsTrue, false};
+ghost use Rattle.std.specs.Prelude.{◌≡◌, ◌-◌, ◌<◌, ◌≤◌, ◌↔◌, ◌++◌, [], length, take, drop, min, OnOk, OnErr, IfNone, IfOk, IsTrue, false};
 ghost use Rattle.command_forms.specs.Kinds.{keeps_kinds};
 ghost use Rattle.lobby_model.specs.declared.event.Event.TheVariants as event;
 ghost use Rattle.lobby_model.specs.Sessions.{has_place};
@@ -153,6 +153,15 @@ impl Held {
         ensures { result ≡ length (unread_of self.now.lobby.plain client) }
     {
         self.lobby.unread(client)
+    }
+
+    /// Copies bytes that a client has not read into a slice, beginning `from` bytes behind the first, as `Lobby::copy_unread` says. It is
+    /// no event.
+    pub fn copy_unread(&self, client: u64, from: usize, into: &mut [u8]) -> usize
+        ensures count { result ≡ min (length (unread_of self.now.lobby.plain client) - from) (length into.old) }
+        ensures given { into.new ≡ take result (drop from (unread_of self.now.lobby.plain client)) ++ drop result into.old }
+    {
+        self.lobby.copy_unread(client, from, into)
     }
 
     /// Gives the lobby back as the hold has it, with its lists of changed clients, and ends the hold: its

@@ -17,7 +17,7 @@ use Rattle.lobby_setup.specs.declared.setup.Setup.{Setup}
 abbrev pub held : Setup → Choices
 held setup =
     chosen setup.settings (ipv4_octets (v4_ip setup.address), v4_port setup.address) setup.workers setup.stop_at_input_end
-    (listed setup.proxies)
+    (listed setup.proxies) setup.log
 
 -- What a file says: what its table says, or that it is no TOML, which one of its lines shows
 abbrev pub Tells : List ℕ → Result Choices Refusal → Type 0

@@ -9,14 +9,17 @@ use Rattle.address_words.specs.Words.{IsSocketAddress}
 use Rattle.lobby_model.specs.Configuration.{Configuration, configuration, is_version}
 use Rattle.lobby_setup.specs.At.{at, field}
 use Rattle.lobby_setup.specs.Keys.{name_of}
+use Rattle.lobby_setup.specs.Levels.{level}
 use Rattle.lobby_setup.specs.Motd.{lines_of, motd_fault}
 use Rattle.lobby_setup.specs.Proxies.{Addresses, SayProxies}
 use Rattle.lobby_setup.specs.Written.{IsWritten}
-use Rattle.lobby_setup.specs.declared.key.Key.TheVariants.{Address, Workers, OutboxLimit, ProtocolVersion, SpringVersion, UdpPort, ServerMode, Motd, StopAtInputEnd}
+use Rattle.lobby_setup.specs.declared.key.Key.TheVariants.{Address, Workers, OutboxLimit, ProtocolVersion, SpringVersion, UdpPort, ServerMode, Motd, StopAtInputEnd, Log}
 use Rattle.lobby_setup.specs.declared.error.Refusal.{Refusal}
+use Rattle.server_log.specs.declared.level.LogLevel.{LogLevel}
+use Rattle.server_log.specs.declared.level.LogLevel.TheVariants.{Important}
 
 -- The settings of the lobby, the address and the port at which the server listens, how many workers it has, whether it stops where
--- its input ends, and the addresses from which a front connects
+-- its input ends, the addresses from which a front connects, and how much operators are told
 pub record Choices : Type 0 where
   pub settings : Configuration
   pub ip : List ℕ
@@ -24,15 +27,17 @@ pub record Choices : Type 0 where
   pub workers : ℕ
   pub stop_at_input_end : Bool
   pub proxies : List (List ℕ)
+  pub log : LogLevel
 
-abbrev pub chosen : Configuration → List ℕ × ℕ → ℕ → Bool → List (List ℕ) → Choices
-chosen settings endpoint workers stop_at_input_end proxies = record {
+abbrev pub chosen : Configuration → List ℕ × ℕ → ℕ → Bool → List (List ℕ) → LogLevel → Choices
+chosen settings endpoint workers stop_at_input_end proxies log = record {
   settings = settings;
   ip = endpoint.0;
   port = endpoint.1;
   workers = workers;
   stop_at_input_end = stop_at_input_end;
   proxies = proxies;
+  log = log;
 }
 
 -- a text that is a version word
@@ -43,8 +48,8 @@ version value = text value >>= (λ word. if is_version word then Ok word else Er
 abbrev pub motd_items : Members → Result Items Refusal
 motd_items table = field Motd list no_items table >>= (λ values. option_map_or Err (motd_fault 1 values) (Ok values))
 
--- What is said at each key, or the first key in this order that is refused. What is said at the first key, `address`, and at the
--- last, `proxies`, is given
+-- What is said at each key, or the first key in this order that is refused. What is said at the first key, `address`, and at
+-- `proxies` is given
 abbrev pub choices : Result (List ℕ × ℕ) FieldFault → Addresses → Members → Result Choices Refusal
 choices endpoint proxies table =
     at Address endpoint >>= (λ endpoint.
@@ -57,8 +62,9 @@ choices endpoint proxies table =
     motd_items table >>= (λ motd.
     field StopAtInputEnd flag false table >>= (λ stop_at_input_end.
     proxies >>= (λ proxies.
+    field Log level Important table >>= (λ log.
     Ok (chosen (configuration protocol_version spring_version udp_port server_mode (lines_of motd) outbox_limit)
-    endpoint workers stop_at_input_end proxies)))))))))))
+    endpoint workers stop_at_input_end proxies log))))))))))))
 
 -- What a table says: what its keys say, with what the text at `address` says as an address and a port
 abbrev pub Says : Members → Result Choices Refusal → Type 0

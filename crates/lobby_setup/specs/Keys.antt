@@ -1,7 +1,7 @@
 -- How the keys of a file of settings are written.
 use Rattle.std.specs.Prelude.{ℕ, List, codes}
 use Rattle.lobby_setup.specs.declared.key.Key.{Key}
-use Rattle.lobby_setup.specs.declared.key.Key.TheVariants.{Address, Workers, OutboxLimit, ProtocolVersion, SpringVersion, UdpPort, ServerMode, Motd, StopAtInputEnd, Proxies}
+use Rattle.lobby_setup.specs.declared.key.Key.TheVariants.{Address, Workers, OutboxLimit, ProtocolVersion, SpringVersion, UdpPort, ServerMode, Motd, StopAtInputEnd, Proxies, Log}
 
 abbrev pub name_of : Key → List ℕ
 name_of Address = codes "address"
@@ -14,3 +14,4 @@ name_of ServerMode = codes "server_mode"
 name_of Motd = codes "motd"
 name_of StopAtInputEnd = codes "stop_at_input_end"
 name_of Proxies = codes "proxies"
+name_of Log = codes "log"

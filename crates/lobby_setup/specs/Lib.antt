@@ -4,6 +4,7 @@ pub mod Choices
 pub mod Errors
 pub mod Gathered
 pub mod Keys
+pub mod Levels
 pub mod Motd
 pub mod Proxies
 pub mod Written

@@ -15,6 +15,7 @@ ghost use Rattle.lobby_setup.specs.Gathered.{gathered, gathered_of};
 
 use crate::error::Refusal;
 use crate::key::Key;
+use crate::level::log_field;
 use crate::motd::motd_fault;
 use address_words::socket_address;
 use lobby_model::WORKERS;
@@ -22,6 +23,7 @@ use lobby_model::settings::{
     DEFAULT_OUTBOX_LIMIT, GREATEST_OUTBOX_LIMIT, LEAST_OUTBOX_LIMIT, is_version,
 };
 use proxy_line::Proxies;
+use server_log::LogLevel;
 use toml::{Table, Value};
 use toml_fields::{FieldFault, flag_or, list_or_empty, number_or, text_at, text_or};
 
@@ -39,6 +41,7 @@ pub struct Fields<'a> {
     pub motd: &'a [Value],
     pub stop_at_input_end: bool,
     pub proxies: Proxies,
+    pub log: LogLevel,
 }
 
 /// The address and the port at which to listen.
@@ -146,5 +149,6 @@ pub fn fields_of(
         motd: motd_field(table)?,
         stop_at_input_end: flag_field(table, Key::StopAtInputEnd)?,
         proxies: proxies?,
+        log: log_field(table)?,
     })
 }

@@ -29,6 +29,8 @@ pub enum Key {
     /// `proxies`: the addresses from which a front connects, so that a connection begins with its line; at most 64 texts of an IPv4
     /// address each; none if left out.
     Proxies,
+    /// `log`: how much operators are told on standard error, `none`, `important` or `all`; `important` if left out.
+    Log,
 }
 
 impl Key {
@@ -47,6 +49,7 @@ impl Key {
             Key::Motd => "motd",
             Key::StopAtInputEnd => "stop_at_input_end",
             Key::Proxies => "proxies",
+            Key::Log => "log",
         }
     }
 
@@ -62,6 +65,7 @@ impl Key {
             Key::Motd => "a list of at most 100 texts of at most 1000 bytes without CR and LF",
             Key::StopAtInputEnd => "true or false",
             Key::Proxies => "a list of at most 64 IPv4 addresses, as [\"127.0.0.1\"]",
+            Key::Log => "\"none\", \"important\" or \"all\"",
         }
     }
 }

@@ -7,6 +7,7 @@
 mod error;
 mod fields;
 mod key;
+mod level;
 mod motd;
 mod proxies;
 mod setup;

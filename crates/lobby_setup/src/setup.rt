@@ -13,6 +13,7 @@ use crate::motd::copy_motd;
 use crate::proxies::proxies_at;
 use lobby_model::{Settings, SettingsError};
 use proxy_line::Proxies;
+use server_log::LogLevel;
 use std::alloc::{AllocError, Global};
 use std::net::{Ipv4Addr, SocketAddrV4};
 use toml_fields::read_document;
@@ -30,6 +31,8 @@ pub struct Setup {
     pub stop_at_input_end: bool,
     /// From where a front connects.
     pub proxies: Proxies,
+    /// How much operators are told.
+    pub log: LogLevel,
 }
 
 impl Setup {
@@ -98,5 +101,6 @@ fn setup_of(alloc: Global, fields: &Fields<'_>) -> Result<Setup, AllocError>
         workers: fields.workers,
         stop_at_input_end: fields.stop_at_input_end,
         proxies: fields.proxies,
+        log: fields.log,
     })
 }

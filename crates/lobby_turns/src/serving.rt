@@ -36,6 +36,15 @@ fn state_of(last_got: Option<Got>, received: ReceiveState, sent: SendState) -> O
     }
 }
 
+/// Notes, for operators, a client of which the lobby said that nothing will ever come.
+fn note_end(conn: &mut Conn, sent: SendState)
+    ensures { conn.new ≡ conn.old }
+{
+    if matches!(sent, SendState::Finished) {
+        conn.finish();
+    }
+}
+
 /// Shuts the client of a connection, in a hold of its own. The state is `Closed`, and the workers whose clients that touched are to
 /// be woken besides these. Where memory is refused, the client is not shut, and the state is `Memory`.
 pub fn close<R: Wait, G: Gate>(
@@ -99,6 +108,9 @@ pub fn serve<R: Wait, L: Link, G: Gate>(
     let (pass, sent) = send(rt, conn, link, &gated, pass);
     match state_of(link.last_got(), received, sent) {
         Some(state) => (pass, Turn { state, wakes }),
-        None => close(rt, conn, desk, pass, gate, wakes),
+        None => {
+            note_end(conn, sent);
+            close(rt, conn, desk, pass, gate, wakes)
+        }
     }
 }

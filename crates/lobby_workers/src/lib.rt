@@ -6,6 +6,8 @@
 
 mod error;
 mod inboxes;
+mod log;
+mod logged;
 mod server;
 mod turns;
 mod wakers;
@@ -13,6 +15,7 @@ mod worker;
 
 pub use error::ServerError;
 pub use inboxes::{Arrival, Inboxes};
+pub use logged::{Log, run_server_logged};
 pub use lobby_turns::{Conn, Gate, Got, Link, Sent, Turn, TurnState, serve};
 pub use server::{run_server, run_server_behind};
 pub use wakers::Wakers;

@@ -17,6 +17,7 @@ use lobby_turns::Gate;
 use mio::Waker;
 use mio::net::TcpListener;
 use proxy_line::Proxies;
+use server_log::Happening;
 use std::alloc::{AllocError, Global};
 use std::io::{ErrorKind, Read, Write};
 use std::net::Net;
@@ -210,7 +211,7 @@ fn serve_until_end<R: Threads + Wait + Net + Sync, I: Read, O: Write, G: Gate + 
     drop(handles);
     match ended {
         Ok(Ended { pass, reason }) => {
-            close(rt, desk, pass, reason, output);
+            close(rt, desk, pass, reason, output, gate);
             reason
         }
         Err(error) => {
@@ -221,19 +222,20 @@ fn serve_until_end<R: Threads + Wait + Net + Sync, I: Read, O: Write, G: Gate + 
 }
 
 /// Closes a desk, and where its server was stopped by its input says what each worker did.
-fn close<R: Wait, O: Write>(
+fn close<R: Wait, O: Write, G: Gate>(
     rt: &R,
     desk: Desk,
     pass: Pass,
     reason: Result<(), ServerError>,
     output: &mut O,
+    gate: &G,
 )
     requires { (pass.desk ≡ desk) × (pass.worker.number ≡ 0) }
 {
     match desk.close(rt, pass) {
         Ok(closing) => {
             if reason != Err(ServerError::Listener) {
-                tell_counts(&closing, output);
+                tell_counts(&closing, output, gate);
             }
             drop(closing);
         }
@@ -245,17 +247,20 @@ fn close<R: Wait, O: Write>(
 }
 
 /// Says how many events each worker made, in rising order. A print that fails is ignored.
-fn tell_counts<O: Write>(closing: &Closing, output: &mut O) {
+fn tell_counts<O: Write, G: Gate>(closing: &Closing, output: &mut O, gate: &G) {
     for worker in 0..WORKERS {
-        match closing.events(worker) {
+        let events = match closing.events(worker) {
             Count::Made(events) => {
                 let _ = writeln!(output, "worker {worker}: {events} events");
+                Some(events)
             }
             Count::Full => {
                 let _ = writeln!(output, "worker {worker}: full");
+                None
             }
-            Count::Never => {}
-        }
+            Count::Never => continue,
+        };
+        gate.tell(Happening::Stopped { worker, events });
     }
     let _ = output.flush();
 }
@@ -482,7 +487,7 @@ fn run_threads<'s, 'e, R: Threads + Wait + Sync, I: Read, O: Write, G: Gate + Sy
 
 /// Says that the server listens, waits until the input ends, where that stops the server, and then stops the workers. Says nothing
 /// and does not wait where a worker got no thread.
-fn announce_until_end<I: Read, O: Write, G>(
+fn announce_until_end<I: Read, O: Write, G: Gate>(
     shared: &Shared<'_, G>,
     input: &mut I,
     stop_at_input_end: bool,
@@ -491,6 +496,7 @@ fn announce_until_end<I: Read, O: Write, G>(
     if shared.is_stopped() {
         return Err(ServerError::Listener);
     }
+    shared.gate.listening();
     announce(output);
     if !stop_at_input_end {
         // The workers run until the program is killed.

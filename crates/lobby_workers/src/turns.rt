@@ -13,6 +13,7 @@ use lobby_machine::{OpenError, Wakes};
 use lobby_model::WORKERS;
 use lobby_turns::{Conn, Gate, Link, Turn, TurnState, close, serve};
 use mio::{Registry, Token};
+use server_log::{Happening, Refusal};
 use std::sync::Wait;
 use std::sync::atomic::{AtomicBool, Ordering};
 use wire_link::Newcomers;
@@ -61,14 +62,26 @@ pub fn adopt<R: Wait, G: Gate>(
 {
     let Arrival { stream, ip } = arrival;
     let Some(link) = connections.prepare(registry, stream) else {
+        shared.gate.tell(Happening::Refused(Refusal::Memory));
         return pass;
     };
     let (pass, opened) = open(rt, shared, pass, ip);
     match opened {
         Ok(client) => connections.put(client, link),
-        Err(_) => drop(link),
+        Err(error) => {
+            drop(link);
+            shared.gate.tell(Happening::Refused(refusal_of(error)));
+        }
     }
     pass
+}
+
+/// Why a client is refused, as operators are told it.
+fn refusal_of(error: OpenError) -> Refusal {
+    match error {
+        OpenError::Full | OpenError::NoNumber => Refusal::Full,
+        OpenError::Memory => Refusal::Memory,
+    }
 }
 
 /// The connection under a key gets its turn of this round. Nothing happens where there is none.
@@ -88,9 +101,29 @@ pub fn turn<R: Wait, G: Gate>(
         return pass;
     };
     let (pass, turn) = serve_or_shut(rt, shared, pass, connection);
+    tell_logout(shared.gate, connection, turn.state);
+    tell_refused(shared.gate, connections, pass.number(), turn.state);
     connections.end_turn(registry, key, turn.state);
     pass_on(shared, connections, pass.number(), turn.wakes);
     pass
+}
+
+/// Tells operators of the log out where a turn shut its client.
+fn tell_logout<G: Gate>(gate: &G, connection: &Connection, state: TurnState) {
+    if state == TurnState::Closed
+        && let Some(logout) = connection.conn.logout(&connection.link)
+    {
+        gate.tell(logout);
+    }
+}
+
+/// Tells operators where a turn was refused memory, and none of the worker's was before in this round and the last.
+fn tell_refused<G: Gate>(gate: &G, connections: &mut Connections, worker: u8, state: TurnState)
+    ensures { connections.new ≡ connections.old }
+{
+    if state == TurnState::Memory && connections.refuse() {
+        gate.tell(Happening::MemoryRefused { worker });
+    }
 }
 
 /// What a poll told under this token: a connection's line goes on, and its client is opened where it is whole; what came for one that

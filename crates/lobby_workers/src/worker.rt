@@ -12,8 +12,9 @@ use lobby_turns::Gate;
 use mio::net::TcpListener;
 use mio::{Events, Interest, Poll, Token, Waker};
 use proxy_line::Proxies;
+use server_log::{Happening, Refusal};
 use std::alloc::Global;
-use std::io::ErrorKind;
+use std::io::{self, ErrorKind};
 use std::net::{Net, SocketAddr};
 use std::sync::Wait;
 use std::sync::atomic::AtomicBool;
@@ -53,6 +54,8 @@ struct WorkerLoop {
     accepted: u64,
     // whether to accept though the poll does not tell of the listener
     goes_on: bool,
+    // whether operators were told that the system accepts none, since when it did not
+    is_stuck: bool,
     // from where fronts connect
     proxies: Proxies,
     newcomers: Newcomers,
@@ -120,6 +123,7 @@ impl WorkerLoop {
             listener,
             accepted: 0,
             goes_on: false,
+            is_stuck: false,
             proxies,
             newcomers: Newcomers::new(alloc),
             connections: Connections::new(alloc),
@@ -142,7 +146,7 @@ impl WorkerLoop {
     }
 
     /// Accepts connections, puts them into the inboxes of their workers, and wakes these.
-    fn accept<R: Wait>(&mut self, rt: &R, inboxes: &Inboxes, wakers: &Wakers) {
+    fn accept<R: Wait, G: Gate>(&mut self, rt: &R, inboxes: &Inboxes, wakers: &Wakers, gate: &G) {
         let Some(listener) = &self.listener else {
             return;
         };
@@ -151,18 +155,25 @@ impl WorkerLoop {
             match listener.accept() {
                 Ok((stream, address)) => {
                     let ip = ip_of(address);
-                    if let Some(worker) = inboxes.put(rt, self.accepted, Arrival { stream, ip }) {
-                        wakers.wake(worker);
+                    match inboxes.put(rt, self.accepted, Arrival { stream, ip }) {
+                        Some(worker) => wakers.wake(worker),
+                        None => gate.tell(Happening::Refused(Refusal::Busy)),
                     }
                     self.accepted = self.accepted.wrapping_add(1);
+                    self.is_stuck = false;
                 }
                 Err(error) => match error.kind() {
                     ErrorKind::WouldBlock => {
                         self.goes_on = false;
+                        self.is_stuck = false;
                         return;
                     }
                     ErrorKind::Interrupted => {}
                     _ => {
+                        if !self.is_stuck {
+                            gate.tell(Happening::Refused(refusal_of(&error)));
+                        }
+                        self.is_stuck = true;
                         self.connections.hurry(PollTimeout::Short);
                         return;
                     }
@@ -258,7 +269,7 @@ impl WorkerLoop {
             self.connections.hurry(PollTimeout::Short);
         }
         if readiness.listener || self.goes_on {
-            self.accept(rt, shared.inboxes, shared.wakers);
+            self.accept(rt, shared.inboxes, shared.wakers, shared.gate);
         }
         let pass = if readiness.woken {
             let pass = self.look_into_inbox(rt, shared, pass);
@@ -307,6 +318,21 @@ fn register(poll: &Poll, listener: &mut Option<TcpListener>) -> Result<Waker, Se
         return Err(ServerError::Listener);
     }
     Ok(waker)
+}
+
+/// The errors of the system where it has no file more for the process, or for all.
+const NO_FILE: [i32; 2] = [24, 23];
+
+/// The errors of the system where it has no memory, or none for sockets.
+const NO_MEMORY: [i32; 2] = [12, 105];
+
+/// Why the system accepts no connection, as operators are told it.
+fn refusal_of(error: &io::Error) -> Refusal {
+    match error.raw_os_error() {
+        Some(code) if NO_FILE.contains(&code) => Refusal::Files,
+        Some(code) if NO_MEMORY.contains(&code) => Refusal::Memory,
+        _ => Refusal::System,
+    }
 }
 
 /// The IPv4 address of a peer. A listener at an IPv4 address meets no other.

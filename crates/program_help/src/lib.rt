@@ -7,7 +7,7 @@ use std::io::ErrorKind;
 use std::rt::Env;
 
 /// The version of all programs: the newest numbered one in CHANGELOG.
-const VERSION: &str = "0.1.0";
+pub const VERSION: &str = "0.1.0";
 
 /// What a program is asked of itself.
 #[derive(Clone, Copy, PartialEq, Eq, Debug)]

@@ -4,6 +4,7 @@ use crate::lists::are;
 use crate::verdict::{fail, same, same_for};
 use lobby_model::Settings;
 use lobby_setup::{Key, Refusal, Setup, SetupError, SetupFault, read_setup};
+use server_log::LogLevel;
 use std::alloc::{AllocError, Global};
 use std::net::{Ipv4Addr, SocketAddrV4};
 use std::process::Abort;
@@ -20,6 +21,7 @@ server_mode = 1
 motd = ['Welcome!', '', 'Gr\xc3\xbc\xc3\x9fe']
 stop_at_input_end = true
 proxies = ['127.0.0.1', '10.0.0.2', '127.0.0.1']
+log = 'all'
 colour = 'a key that is not known'
 ";
 
@@ -54,6 +56,7 @@ struct Wanted {
     motd: &'static [&'static [u8]],
     // whether each of these addresses is a front's
     proxies: &'static [([u8; 4], bool)],
+    log: LogLevel,
 }
 
 fn compare_settings(rt: &impl Abort, settings: &Settings, wanted: &Wanted) {
@@ -91,8 +94,9 @@ fn compare(rt: &impl Abort, setup: &Setup, wanted: &Wanted) {
             setup.address == address,
             setup.workers,
             setup.stop_at_input_end,
+            setup.log,
         ),
-        (true, wanted.workers, wanted.stop_at_input_end),
+        (true, wanted.workers, wanted.stop_at_input_end, wanted.log),
     );
     for (address, is_front) in wanted.proxies {
         same_for(rt, address, setup.proxies.has(*address), *is_front);
@@ -122,6 +126,7 @@ static SMALLEST: Wanted = Wanted {
     outbox_limit: 4_194_304,
     motd: &[],
     proxies: &[([127, 0, 0, 1], false), ([0, 0, 0, 0], false)],
+    log: LogLevel::Important,
 };
 
 #[test]
@@ -146,6 +151,7 @@ static LARGEST: Wanted = Wanted {
         ([10, 0, 0, 1], false),
         ([0, 0, 0, 0], false),
     ],
+    log: LogLevel::All,
 };
 
 #[test]
@@ -162,7 +168,7 @@ fn refuse_all(rt: &impl Abort, alloc: Global, rows: &[Row], fault: FieldFault) {
     }
 }
 
-static NOT_ALLOWED: [Row; 10] = [
+static NOT_ALLOWED: [Row; 12] = [
     ("workers = 0", Key::Workers),
     ("workers = 65", Key::Workers),
     ("workers = -1", Key::Workers),
@@ -176,6 +182,8 @@ static NOT_ALLOWED: [Row; 10] = [
     ),
     ("udp_port = 65536", Key::UdpPort),
     ("server_mode = 2", Key::ServerMode),
+    ("log = 'All'", Key::Log),
+    ("log = ''", Key::Log),
 ];
 
 #[test]
@@ -183,7 +191,7 @@ fn each_value_has_its_bounds(rt: HostRuntime) {
     refuse_all(&rt, rt.alloc(), &NOT_ALLOWED, FieldFault::NotAllowed);
 }
 
-static OTHER_KIND: [Row; 10] = [
+static OTHER_KIND: [Row; 11] = [
     ("workers = '4'", Key::Workers),
     ("workers = 4.0", Key::Workers),
     ("outbox_limit = []", Key::OutboxLimit),
@@ -194,6 +202,7 @@ static OTHER_KIND: [Row; 10] = [
     ("motd = 'Welcome!'", Key::Motd),
     ("stop_at_input_end = 1", Key::StopAtInputEnd),
     ("proxies = '127.0.0.1'", Key::Proxies),
+    ("log = true", Key::Log),
 ];
 
 #[test]

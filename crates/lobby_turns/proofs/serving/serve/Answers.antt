@@ -14,8 +14,8 @@ pub returns-in-None-clause-turned : goal.returns-in-None-clause-turned
 returns-in-None-clause-turned g c =
     let wire = g.L.Link.wire c.send-pass.new.link in
     let after = snapshot c.send-pass.new.conn wire c.send-pass.result.0 in
-    turned_closed _ _ _ _ _ _ _ _ _ c.receive-pass.ensures c.send-pass.ensures (must_shut after _ _ c.last_got.result c.last_got.ensures (c.in-None.ensures.shut refl)) refl refl
-    (c.close.ensures.closes wire)
+    rw c.note_end.ensures (turned_closed _ _ _ _ _ _ _ _ _ c.receive-pass.ensures c.send-pass.ensures
+    (must_shut after _ _ c.last_got.result c.last_got.ensures (c.in-None.ensures.shut refl)) refl refl (rw c.note_end.ensures at (c.close.ensures.closes wire)))
 
 pub returns-in-None-clause-desk : goal.returns-in-None-clause-desk
 returns-in-None-clause-desk g c = (kept _ _ _ (returns-in-None-clause-turned g c).went.joined).0

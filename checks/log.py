@@ -1,0 +1,298 @@
+#!/usr/bin/env python3
+"""log.py [PROGRAM]: what the server as the gate built it, or another build of it, tells operators on standard error: each happening
+once, in its form; names that try to forge a line; each level; and that clients are served where standard error is closed or nobody
+reads it. What is wanted stands here by hand."""
+import contextlib
+import fcntl
+import os
+import re
+import resource
+import subprocess
+import sys
+import tempfile
+import threading
+import time
+from pathlib import Path
+
+from lobby_server import ADDRESS, GREETING, PATIENCE, WORD, Account, Client, Difference, Server, greeted, logged_in
+
+ANNA, BERT, EVE = Account("Anna", 1), Account("Bert", 2), Account("Eve[x]_9", 3)
+VERSION = re.search(r"(?m)^## ([0-9.]+)$", (Path(__file__).resolve().parent.parent / "CHANGELOG.md").read_text())[1]
+INVALID = "DENIED Invalid username or password\n"
+# The most lines that wait to be written, and the bytes that a pipe is made to hold.
+WAITING, PIPE = 1_024, 4_096
+
+
+def denied(client, name, answer=INVALID):
+    client.send(f"LOGIN {name} {WORD} 0 * Checks 1.0\n")
+    client.expect(answer)
+
+
+def same(found, wanted):
+    if found != wanted:
+        raise Difference(f"wanted the lines {wanted}, found {found}")
+
+
+def lines_of(server, count):
+    """The lines that it has told once there are so many, or after a while."""
+    end = time.monotonic() + PATIENCE
+    while len(server.told().splitlines()) < count and time.monotonic() < end:
+        time.sleep(0.01)
+    return server.told().splitlines()
+
+
+def started(server, accounts, limit=4_194_304):
+    return (f"started version={VERSION} address={ADDRESS}:{server.port} workers={server.workers} outbox_limit={limit}"
+            f" accounts={accounts}")
+
+
+def stopped(server):
+    return [f"stopped worker={worker} events={count}" for worker, count in enumerate(server.counts)]
+
+
+def each_happening(workers):
+    """A login, each denial and each log out has its line, in the order in which they came, and no other line comes."""
+    with Server(workers, [ANNA, BERT], log="all") as server:
+        wanted = [started(server, 2)]
+        anna = logged_in(server, ANNA, [])
+        wanted += ["login name=Anna client=1"]
+        bert = greeted(server)
+        denied(bert, "Nobody")
+        denied(bert, "Anna", "DENIED User is already logged in\n")
+        denied(anna, "Bert", "DENIED Already logged in\n")
+        wanted += ["denied name=Nobody reason=invalid client=2", "denied name=Anna reason=in_use client=2",
+                   "denied name=Bert reason=again client=1"]
+        # With an id, and two in one piece.
+        bert.send(f"#7 LOGIN x {WORD} 0 * C\n#8 LOGIN Bert {WORD} 0 * C\n")
+        bert.expect(f"#7 {INVALID}#8 ACCEPTED Bert\n#8 {ANNA.arrival()}#8 {BERT.arrival()}#8 LOGININFOEND\n")
+        anna.expect(BERT.arrival())
+        wanted += ["denied name=x reason=invalid client=2", "login name=Bert client=2"]
+        same(lines_of(server, len(wanted)), wanted)
+        leavers = [("exit", lambda it: it.send("EXIT bye\n")), ("closed", Client.close), ("line_too_long", lambda it: it.send("x" * 8_193)),
+                   ("fault", Client.reset), ("closed", lambda it: it.socket.shutdown(1))]
+        for number, (cause, leave) in enumerate(leavers, 2):
+            leave(bert)
+            anna.expect("REMOVEUSER Bert\n")
+            wanted += [f"logout name=Bert cause={cause} client={number}"]
+            same(lines_of(server, len(wanted)), wanted)
+            bert = logged_in(server, BERT, [ANNA])
+            anna.expect(BERT.arrival())
+            wanted += [f"login name=Bert client={number + 1}"]
+        # Of one who never logged in nothing is told.
+        for _, leave in leavers:
+            leave(greeted(server))
+        same(lines_of(server, len(wanted)), wanted)
+        server.stop()
+        same(server.told().splitlines(), wanted + stopped(server))
+
+
+def too_slow(workers):
+    """One who does not read is cut, as one whose login finds no room is, and both causes are told."""
+    with Server(workers, [ANNA, BERT], "outbox_limit = 65536\nmotd = [" + ", ".join(['"' + "m" * 1_000 + '"'] * 60) + "]\n", log="all") as server:
+        motd = ("MOTD " + "m" * 1_000 + "\n") * 60
+        anna = greeted(server)
+        anna.send(ANNA.login())
+        anna.expect(f"ACCEPTED Anna\n{motd}{ANNA.arrival()}LOGININFOEND\n")
+        slow = greeted(server, room=4_096)
+        slow.send(BERT.login())
+        anna.expect(BERT.arrival())
+        gone = b"REMOVEUSER Bert\n"
+        for _ in range(4_000):
+            anna.send(f"SAYPRIVATE Bert {'x' * 8_000}\n")
+            while not anna.heard.endswith(b"\n") or anna.heard.count(b"SAYPRIVATE") < _ + 1 and gone not in anna.heard:
+                anna.receive()
+            if gone in anna.heard:
+                break
+        wanted = [started(server, 2, 65_536), "login name=Anna client=1", "login name=Bert client=2", "logout name=Bert cause=too_slow client=2"]
+        same(lines_of(server, 4), wanted)
+        server.stop()
+        same(server.told().splitlines(), wanted + stopped(server))
+
+
+def cut_by_its_login(workers):
+    """A login whose lines find no room takes effect and cuts its client."""
+    with Server(workers, [ANNA], "outbox_limit = 65536\nmotd = [" + ", ".join(['"' + "m" * 1_000 + '"'] * 70) + "]\n", log="all") as server:
+        client = greeted(server)
+        client.send(ANNA.login())
+        client.expect_end()
+        wanted = [started(server, 1, 65_536), "login name=Anna client=1", "logout name=Anna cause=too_slow client=1"]
+        same(lines_of(server, 3), wanted)
+
+
+def harmless(name):
+    """The form of a name in a line, by the rule that docs/OPERATING.md gives."""
+    return "".join(chr(it) if chr(it).isascii() and (chr(it).isalnum() or chr(it) in "-.:[]_") else f"%{it:02X}" for it in name[:64])
+
+
+def forged(workers):
+    """What clients send cannot forge a line, a field or an escape: each byte that is sent in a name is written harmlessly."""
+    names = [b"Anna%0Alogin", b"x=y", b"\x1b[31mred\x07", bytes(it for it in range(1, 256) if it not in (9, 10, 13, 32)), b"\x00", b"n" * 64,
+             b"n" * 65, b"n" * 8_000, "Ünï".encode(), b"name=Anna", b"%", b"\x0b\x0c\x85\xe2\x80\xa8"]
+    with Server(workers, [ANNA], log=None) as server:
+        client = greeted(server)
+        wanted = [started(server, 1)]
+        for name in names:
+            client.send(b"LOGIN " + name + f" {WORD} 0 * Checks 1.0\n".encode())
+            client.expect(INVALID)
+            wanted += [f"denied name={harmless(name)} reason=invalid client=1"]
+        same(lines_of(server, len(wanted)), wanted)
+        told = server.told()
+        if not re.fullmatch(r"(?:[ -~]*\n)*", told) or "%0Alogin" in told or wanted[1] != "denied name=Anna%250Alogin reason=invalid client=1":
+            raise Difference(f"a byte that is not harmless: {told!r}")
+
+
+def levels(workers):
+    """Without the setting what is important is told, with `none` nothing."""
+    for log in (None, "important", "none"):
+        with Server(workers, [ANNA, BERT], log=log) as server:
+            anna = logged_in(server, ANNA, [])
+            bert = logged_in(server, BERT, [ANNA])
+            denied(greeted(server), "x")
+            anna.send("EXIT\n")
+            anna.expect(BERT.arrival())
+            anna.expect_end()
+            bert.expect("REMOVEUSER Anna\n")
+            bert.send("x" * 8_193)
+            bert.expect_end()
+            server.stop()
+            wanted = [started(server, 2), "denied name=x reason=invalid client=3", "logout name=Bert cause=line_too_long client=2", *stopped(server)]
+            same(server.told().splitlines(), [] if log == "none" else wanted)
+
+
+def refused(workers):
+    """One who connects while no file is left waits, which is told once; one more than a lobby takes is refused, and told."""
+    files = 40 + 4 * workers
+    with Server(workers, [], files=files, log="all") as server:
+        waiting = [Client(server) for _ in range(60)]
+        same(lines_of(server, 2), [started(server, 0), "refused reason=files"])
+        time.sleep(0.1)
+        same(server.told().splitlines(), [started(server, 0), "refused reason=files"])
+        for client in waiting:
+            client.close()
+        client = Client(server)
+        client.expect(GREETING)
+    files = 10_100
+    allowed = resource.getrlimit(resource.RLIMIT_NOFILE)[1]
+    if allowed < files:
+        print(f"  the system lets one open {allowed} files and not {files}: a server that is full is not seen here")
+        return
+    resource.setrlimit(resource.RLIMIT_NOFILE, (files, allowed))
+    with Server(workers, [], files=files, log="important") as server:
+        clients = [greeted(server) for _ in range(10_000)]
+        count = len(server.told().splitlines())
+        for _ in range(2):
+            Client(server).expect_end()
+        # An inbox may have been full meanwhile.
+        told = [it for it in lines_of(server, count + 2) if it != "refused reason=busy"]
+        same(told, [started(server, 0), *["refused reason=full"] * 2])
+        for client in clients:
+            client.close()
+
+
+def no_memory(workers):
+    """While all memory is refused that is told, and each who is refused for it."""
+    with tempfile.TemporaryDirectory(prefix="lobby-check-") as folder:
+        library, switch = Path(folder) / "refuse.so", Path(folder) / "switch"
+        subprocess.run([Path(__file__).parent / "refuse_allocation.sh", str(library)], check=True)
+        with Server(workers, [ANNA], log="all", LD_PRELOAD=str(library), REFUSED_WHILE=str(switch)) as server:
+            anna = logged_in(server, ANNA, [])
+            switch.touch()
+            anna.send("PING\n")
+            told = lines_of(server, 3)
+            same(told, [started(server, 1), "login name=Anna client=1", "memory_refused worker=0"])
+            time.sleep(0.1)
+            same(server.told().splitlines(), told)
+            switch.unlink()
+            anna.expect("PONG\n")
+
+
+def closed(workers):
+    """Standard error is closed, or takes nothing: clients are served, and the server stops."""
+    for error in ("2>&-", "2> /dev/full"):
+        with Shell(workers, error) as server:
+            anna = logged_in(server, ANNA, [])
+            for _ in range(2 * WAITING):
+                denied(anna, "x", "DENIED Already logged in\n")
+            anna.expect_nothing_more()
+
+
+class Shell(Server):
+    """A server whose standard error is as a shell's redirection says."""
+
+    def __init__(self, workers, error):
+        with tempfile.NamedTemporaryFile("w", prefix="lobby-check-", suffix=".sh", delete=False) as script:
+            script.write(f'#!/bin/sh\nexec "{os.environ["LOBBY_MAIN"]}" "$@" {error}\n')
+        os.chmod(script.name, 0o700)
+        whole = os.environ["LOBBY_MAIN"]
+        os.environ["LOBBY_MAIN"] = script.name
+        try:
+            super().__init__(workers, [ANNA], log="all")
+        finally:
+            os.environ["LOBBY_MAIN"] = whole
+            os.unlink(script.name)
+
+
+def unread(workers):
+    """Nobody reads standard error: clients are served all the while. Once somebody does, all lines are there but those that found no
+    place, and how many these are."""
+    reader, writer = os.pipe()
+    fcntl.fcntl(writer, fcntl.F_SETPIPE_SZ, PIPE)
+    count = 4 * WAITING
+    with Server(workers, [ANNA], log="all", errors=os.fdopen(writer, "wb", buffering=0)) as server:
+        anna = logged_in(server, ANNA, [])
+        for _ in range(count):
+            denied(anna, "x", "DENIED Already logged in\n")
+        server.errors.close()
+        told = bytearray()
+        takes = threading.Thread(target=lambda: take(reader, told))
+        takes.start()
+        # What waits is written before a later line finds its place.
+        deadline = time.monotonic() + PATIENCE
+        while b"log lost=" not in told and time.monotonic() < deadline:
+            time.sleep(0.01)
+        anna.send("EXIT\n")
+        anna.expect_end()
+        server.errors = open(os.devnull, "rb")
+        server.stop()
+        takes.join()
+        lines = told.decode().splitlines()
+        lost = [int(it[1]) for line in lines if (it := re.fullmatch("log lost=([0-9]+)", line))]
+        kept = lines.count("denied name=x reason=again client=1")
+        rest = [it for it in lines if it != "denied name=x reason=again client=1" and not it.startswith("log lost=")]
+        same(rest, [started(server, 1), "login name=Anna client=1", "logout name=Anna cause=exit client=1", *stopped(server)])
+        if not lost or kept + sum(lost) != count or not WAITING <= kept < 2 * WAITING:
+            raise Difference(f"of {count} lines {kept} came, and {lost} were told as lost")
+
+
+def take(reader, told):
+    """Takes all that comes of a pipe."""
+    while piece := os.read(reader, 65_536):
+        told += piece
+    os.close(reader)
+
+
+CHECKS = [each_happening, too_slow, cut_by_its_login, forged, levels, refused, no_memory, closed, unread]
+
+
+def main():
+    here = Path(__file__).resolve().parent.parent
+    built = sys.argv[1] if len(sys.argv) > 1 else here / "crates/lobby_main/out/lobby_main"
+    os.environ["LOBBY_MAIN"] = str(Path(built).resolve())
+    names = sys.argv[2:]
+    passed = failed = 0
+    for workers in (1, 4):
+        for check in CHECKS:
+            if names and check.__name__ not in names:
+                continue
+            try:
+                check(workers)
+                passed += 1
+            except Difference as difference:
+                print(f"{check.__name__} DIFFERS with {workers} workers: {difference}")
+                failed += 1
+    print(f"log: {passed} passed, {failed} failed")
+    sys.exit(1 if failed else 0)
+
+
+if __name__ == "__main__":
+    main()

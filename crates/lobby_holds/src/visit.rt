@@ -1,0 +1,169 @@
+//! Who is logged in at a connection, and how that ends, as operators are told it. What a line brings about is read off the lobby's
+//! answer to it, in the hold in which it was said; no contract speaks of it.
+
+use crate::gate::Gate;
+use command_grammar::Command;
+use line_words::{NameBuf, split_at_byte};
+use lobby_lock::Held;
+use lobby_machine::Wakes;
+use server_log::{Cause, Denial, Happening, ShortText};
+
+/// The most bytes of an answer that denies a login, with an id and its LF, and some to spare.
+const DENIED: usize = 64;
+
+/// The bytes that may wait for each client: no setting allows fewer.
+const LEAST_LIMIT: usize = 65_536;
+
+/// What of a line operators may be told.
+#[derive(Drop)]
+pub(crate) enum Asked {
+    /// A login under this name, behind so many bytes that wait for the client.
+    Login { name: ShortText, waiting: usize },
+    /// To log out.
+    Exit,
+    /// Anything else.
+    Other,
+}
+
+impl Asked {
+    /// What a client asks by this command, before it is said.
+    pub(crate) fn of(held: &Held, client: u64, command: &Command) -> Asked {
+        match command {
+            Command::Login { user_name, .. } => Asked::Login {
+                name: ShortText::of(user_name.as_slice()),
+                waiting: held.unread(client),
+            },
+            Command::Exit => Asked::Exit,
+            _ => Asked::Other,
+        }
+    }
+}
+
+/// How the lobby answered a login.
+#[derive(Clone, Copy, PartialEq, Eq, Debug)]
+enum Answer {
+    LetIn,
+    Denied(Denial),
+    /// The client hears nothing any more, and its login was not looked at.
+    Nothing,
+}
+
+/// What is remembered of a client.
+#[derive(Drop)]
+pub(crate) struct Visit {
+    // who logged in
+    user: Option<NameBuf>,
+    has_exited: bool,
+    is_finished: bool,
+}
+
+impl Visit {
+    /// Nobody is logged in.
+    pub(crate) fn new() -> Visit {
+        Visit {
+            user: None,
+            has_exited: false,
+            is_finished: false,
+        }
+    }
+
+    /// The client's line was said, which touched these workers' clients. Operators are told of a login.
+    pub(crate) fn note<G: Gate>(
+        &mut self,
+        held: &Held,
+        client: u64,
+        gate: &G,
+        asked: Asked,
+        wakes: Wakes,
+    ) {
+        match asked {
+            Asked::Login { name, waiting } => match answer_in(held, client, waiting, wakes) {
+                Answer::LetIn => {
+                    self.user = NameBuf::of(name.as_slice());
+                    gate.tell(Happening::Login { client, name });
+                }
+                Answer::Denied(reason) => gate.tell(Happening::Denied {
+                    client,
+                    name,
+                    reason,
+                }),
+                Answer::Nothing => {}
+            },
+            Asked::Exit => self.has_exited = true,
+            Asked::Other => {}
+        }
+    }
+
+    /// The lobby said that nothing will ever come of the client.
+    pub(crate) fn finish(&mut self) {
+        self.is_finished = true;
+    }
+
+    /// The log out of the user, if there is one, by the shut of its client, at which a line over the limit may be next and whose link may
+    /// have failed.
+    pub(crate) fn logout(
+        &self,
+        client: u64,
+        is_spoilt: bool,
+        has_failed: bool,
+    ) -> Option<Happening> {
+        let user = self.user.as_ref()?;
+        let cause = match (self.has_exited, self.is_finished) {
+            (true, _) => Cause::Exit,
+            (false, true) => Cause::TooSlow,
+            (false, false) => cause_of(is_spoilt, has_failed),
+        };
+        let name = ShortText::of(user.as_slice());
+        Some(Happening::Logout {
+            client,
+            name,
+            cause,
+        })
+    }
+}
+
+/// Why a client is shut that the lobby would go on with.
+fn cause_of(is_spoilt: bool, has_failed: bool) -> Cause {
+    match (is_spoilt, has_failed) {
+        (true, _) => Cause::LineTooLong,
+        (false, true) => Cause::Fault,
+        (false, false) => Cause::Closed,
+    }
+}
+
+/// How a login was answered behind so many bytes that waited before it. A client that was cut by it has no answer: where a denial had
+/// room, it was let in.
+fn answer_in(held: &Held, client: u64, waiting: usize, wakes: Wakes) -> Answer {
+    let mut front = [0u8; DENIED];
+    let count = held.copy_unread(client, waiting, &mut front);
+    let is_cut = count == 0 && wakes != Wakes::none();
+    if is_cut && waiting <= LEAST_LIMIT - DENIED {
+        return Answer::LetIn;
+    }
+    answer_of(front.get(..count).unwrap_or(&[]))
+}
+
+/// What a line says that begins so.
+fn answer_of(line: &[u8]) -> Answer {
+    let said = without_id(line);
+    if said.starts_with(b"ACCEPTED ") {
+        return Answer::LetIn;
+    }
+    match said.strip_prefix(b"DENIED ") {
+        Some(why) if why.starts_with(b"Invalid ") => Answer::Denied(Denial::Invalid),
+        Some(why) if why.starts_with(b"User ") => Answer::Denied(Denial::InUse),
+        Some(_) => Answer::Denied(Denial::Again),
+        None => Answer::Nothing,
+    }
+}
+
+/// A line without the id in front of it.
+fn without_id(line: &[u8]) -> &[u8] {
+    match line {
+        [b'#', id @ ..] => {
+            let (_, behind) = split_at_byte(id, b' ');
+            behind.get(1..).unwrap_or(&[])
+        }
+        _ => line,
+    }
+}

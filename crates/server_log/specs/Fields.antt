@@ -1,0 +1,67 @@
+-- What a line of the log says of each happening.
+use Rattle.std.specs.Prelude.{ℕ, List, [], ◌∷◌, codes, decimal, Option, Some, None}
+use Rattle.server_log.specs.Lines.{line}
+use Rattle.server_log.specs.declared.happening.Denial.{Denial}
+use Rattle.server_log.specs.declared.happening.Denial.TheVariants.{Invalid, InUse, Again}
+use Rattle.server_log.specs.declared.happening.Cause.{Cause}
+use Rattle.server_log.specs.declared.happening.Cause.TheVariants.{Exit, Closed, TooSlow, LineTooLong, Fault}
+use Rattle.server_log.specs.declared.happening.Refusal.{Refusal}
+use Rattle.server_log.specs.declared.happening.Refusal.TheVariants.{Full, Files, Memory, System, Busy}
+use Rattle.server_log.specs.declared.happening.Started.{Started}
+use Rattle.server_log.specs.declared.happening.Happening.{Happening}
+use Rattle.server_log.specs.declared.happening.Happening.TheVariants as happening
+
+abbrev pub denial_word : Denial → List ℕ
+denial_word Invalid = codes "invalid"
+denial_word InUse = codes "in_use"
+denial_word Again = codes "again"
+
+abbrev pub cause_word : Cause → List ℕ
+cause_word Exit = codes "exit"
+cause_word Closed = codes "closed"
+cause_word TooSlow = codes "too_slow"
+cause_word LineTooLong = codes "line_too_long"
+cause_word Fault = codes "fault"
+
+abbrev pub refusal_word : Refusal → List ℕ
+refusal_word Full = codes "full"
+refusal_word Files = codes "files"
+refusal_word Memory = codes "memory"
+refusal_word System = codes "system"
+refusal_word Busy = codes "busy"
+
+-- the word with which a line begins
+abbrev pub word_of : Happening → List ℕ
+word_of (happening.Started started) = codes "started"
+word_of (happening.Login client name) = codes "login"
+word_of (happening.Denied client name reason) = codes "denied"
+word_of (happening.Logout client name cause) = codes "logout"
+word_of (happening.Refused reason) = codes "refused"
+word_of (happening.MemoryRefused worker) = codes "memory_refused"
+word_of (happening.Stopped worker events) = codes "stopped"
+word_of (happening.Lost lines) = codes "log"
+
+-- how many events are counted, or that it is more
+abbrev pub count_word : Option ℕ → List ℕ
+count_word (Some events) = decimal events
+count_word None = codes "full"
+
+-- keys and values, in their order
+abbrev pub fields_of : Happening → List (List ℕ × List ℕ)
+fields_of (happening.Started started) =
+    (codes "version", started.version.now) ∷ (codes "address", started.address)
+    ∷ (codes "workers", decimal started.workers) ∷ (codes "outbox_limit", decimal started.outbox_limit)
+    ∷ (codes "accounts", decimal started.accounts) ∷ []
+fields_of (happening.Login client name) = (codes "name", name) ∷ (codes "client", decimal client) ∷ []
+fields_of (happening.Denied client name reason) =
+    (codes "name", name) ∷ (codes "reason", denial_word reason) ∷ (codes "client", decimal client) ∷ []
+fields_of (happening.Logout client name cause) =
+    (codes "name", name) ∷ (codes "cause", cause_word cause) ∷ (codes "client", decimal client) ∷ []
+fields_of (happening.Refused reason) = (codes "reason", refusal_word reason) ∷ []
+fields_of (happening.MemoryRefused worker) = (codes "worker", decimal worker) ∷ []
+fields_of (happening.Stopped worker events) = (codes "worker", decimal worker) ∷ (codes "events", count_word events) ∷ []
+fields_of (happening.Lost lines) = (codes "lost", decimal lines) ∷ []
+
+-- the line of a happening
+abbrev pub line_of : Happening → List ℕ
+line_of happening = line (word_of happening) (fields_of happening)
