@@ -71,10 +71,10 @@ class Account:
 
 
 class Server:
-    """A server that runs until `stop`, in an environment that has these words more. It tells operators as much as `log` says, and to
-    the file `errors`, if there is one."""
+    """A server that runs until `stop`, in an environment that has these words more. One with an output of its own is not read. It tells
+    operators as much as `log` says, and to the file `errors`, if there is one."""
 
-    def __init__(self, workers, accounts, settings="", port=0, files=0, log="none", errors=None, **words):
+    def __init__(self, workers, accounts, settings="", port=0, files=0, output=None, log="none", errors=None, **words):
         self.folder = tempfile.TemporaryDirectory(prefix="lobby-check-")
         self.port, self.is_stopped, self.workers, self.counts, self.log = port or free_port(), False, workers, [], log
         room = Path(self.folder.name)
@@ -86,10 +86,22 @@ class Server:
         self.errors = errors or (room / "errors").open("w+b")
         how = {"preexec_fn": lambda: resource.setrlimit(resource.RLIMIT_NOFILE, (files, files))} if files else {}
         how["env"] = {**os.environ, **words}
-        self.process = subprocess.Popen(call, stdin=subprocess.PIPE, stdout=subprocess.PIPE, stderr=self.errors, **how)
-        if not select.select([self.process.stdout], [], [], PATIENCE)[0] or self.process.stdout.readline() != b"listening\n":
+        self.process = subprocess.Popen(call, stdin=subprocess.PIPE, stdout=output or subprocess.PIPE, stderr=self.errors, **how)
+        if not self.listens():
             self.process.kill()
             raise Difference(f"the server does not listen: {self.told()}")
+
+    def listens(self):
+        """Whether it says that it listens, or takes a connection where its output is not read."""
+        if self.process.stdout:
+            return select.select([self.process.stdout], [], [], PATIENCE)[0] and self.process.stdout.readline() == b"listening\n"
+        until = time.monotonic() + PATIENCE
+        while time.monotonic() < until:
+            with contextlib.suppress(ConnectionRefusedError):
+                socket.create_connection((ADDRESS, self.port), PATIENCE).close()
+                return True
+            time.sleep(0.01)
+        return False
 
     def told(self):
         if not self.errors.seekable():
@@ -110,20 +122,31 @@ class Server:
             self.errors.close()
             self.folder.cleanup()
 
-    def stop(self):
-        """Ends the server by the end of its input, and gives how long that took. `counts` has then the events of each worker."""
-        begun = time.monotonic()
+    def end_input(self):
+        """Ends its input, by which it stops."""
         self.check_runs()
         self.is_stopped = True
         self.process.stdin.close()
+
+    def wait(self, patience=PATIENCE):
+        """Waits for its end, within so many seconds. It is in order."""
         try:
-            status = self.process.wait(PATIENCE)
+            status = self.process.wait(patience)
         except subprocess.TimeoutExpired:
             raise Difference("the server does not end with its input") from None
+        if status != 0 or (self.log == "none" and self.told()):
+            raise Difference(f"the server ends with status {status}, and told: {self.told()}")
+
+    def stop(self):
+        """Ends the server by the end of its input, and gives how long that took. `counts` has then the events of each worker."""
+        begun = time.monotonic()
+        if not self.is_stopped:
+            self.end_input()
+        self.wait()
         lines = self.process.stdout.read().decode().splitlines()
         told = [re.fullmatch(f"worker {worker}: ([0-9]+) events", line) for worker, line in enumerate(lines)]
-        if status != 0 or not all(told) or len(told) != self.workers or (self.log == "none" and self.told()):
-            raise Difference(f"the server ends with status {status}, and told: {lines} {self.told()}")
+        if not all(told) or len(told) != self.workers:
+            raise Difference(f"the server told at its end: {lines}")
         self.counts = [int(it[1]) for it in told]
         return time.monotonic() - begun
 

@@ -4,6 +4,7 @@
 
 mod arguments;
 mod hash;
+mod output;
 mod serve;
 
 pub use arguments::run;

@@ -2,6 +2,7 @@
 
 ghost use Rattle.std.specs.Prelude.{◌≤◌, IfOk};
 
+use crate::output::PatientOutput;
 use account_book::AccountBook;
 use lobby_files::{FileError, accounts_at, settings_at};
 use lobby_setup::Setup;
@@ -86,7 +87,7 @@ where
         accounts: accounts.len() as u64,
     };
     let mut input = rt.reader();
-    let mut output = io::writer(rt);
+    let mut output = PatientOutput::new(rt, rt.alloc(), io::writer(rt))?;
     let status = run_server_logged(
         rt,
         rt.alloc(),

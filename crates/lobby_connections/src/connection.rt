@@ -13,6 +13,8 @@ pub struct Connection {
     pub conn: Conn,
     /// The link over its socket.
     pub link: WireLink,
+    /// Whether its client was sent all that waited for it: once its worker ends, it is then shut.
+    pub is_told: bool,
     // the last round in which it got a turn
     pub(crate) round: u64,
     // a poll told that its link is gone
@@ -27,6 +29,7 @@ impl Connection {
         Connection {
             conn,
             link,
+            is_told: false,
             round,
             is_gone: false,
             is_over: false,

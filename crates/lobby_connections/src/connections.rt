@@ -302,12 +302,44 @@ impl Connections {
     fn close(&mut self, registry: &Registry, key: usize)
         ensures { Stays self.old self.new }
     {
-        if let Some(connection) = self.slab.try_remove(key) {
-            let Connection { conn, link, .. } = connection;
-            self.keys.remove(&conn.client());
-            drop(conn);
+        if let Some(link) = self.remove(key) {
             self.lingering.begin(registry, link);
         }
+    }
+
+    /// A connection goes. Its link stays.
+    fn remove(&mut self, key: usize) -> Option<WireLink>
+        ensures { Stays self.old self.new }
+    {
+        let connection = self.slab.try_remove(key)?;
+        let Connection { conn, link, .. } = connection;
+        self.keys.remove(&conn.client());
+        drop(conn);
+        Some(link)
+    }
+
+    /// The client of the connection under a key, where it was sent all that waited for it.
+    pub fn told_at(&self, key: usize) -> Option<&Conn> {
+        match self.slab.get(key) {
+            Some(connection) if connection.is_told => Some(&connection.conn),
+            _ => None,
+        }
+    }
+
+    /// A connection ends with its worker: its client was shut, and it lingers beside all others.
+    pub fn end(&mut self, key: usize)
+        ensures { Stays self.old self.new }
+    {
+        if let Some(link) = self.remove(key) {
+            self.lingering.add(link);
+        }
+    }
+
+    /// Lets go what came for each connection that lingers, 64 KiB at most. Whether any does so still.
+    pub fn let_all_go(&mut self) -> bool
+        ensures { self.new ≡ self.old }
+    {
+        self.lingering.let_go()
     }
 
     /// Marks the worker where a turn touched its clients, which are those of this home: the lobby may name more of them.

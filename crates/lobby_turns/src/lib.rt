@@ -14,5 +14,6 @@ mod turn;
 
 pub use lobby_holds::holds::let_go;
 pub use lobby_holds::{Conn, Gate, Got, Link, PIECE, Sent};
-pub use serving::{close, serve};
+pub use sending::SendState;
+pub use serving::{close, send_rest, serve};
 pub use turn::{Turn, TurnState};

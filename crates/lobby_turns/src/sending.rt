@@ -19,7 +19,7 @@ const WRITES: usize = 16;
 
 /// How far a turn sent to its client.
 #[derive(Clone, Copy)]
-pub(crate) enum SendState {
+pub enum SendState {
     /// All that the lobby has for it was written.
     All,
     /// The link takes nothing now.

@@ -3,6 +3,7 @@
 ghost use Rattle.std.specs.Prelude.{◌≡◌, ◌≢◌, ◌⊎◌, Some, None};
 ghost use Rattle.lobby_holds.specs.Wire.{Wire, IsFresh};
 ghost use Rattle.lobby_holds.specs.Snapshot.{snapshot};
+ghost use Rattle.lobby_turns.specs.Sending.{Sends};
 ghost use Rattle.lobby_turns.specs.Turned.{Turned, Closes};
 
 use crate::receiving::{ReceiveState, receive};
@@ -113,4 +114,23 @@ pub fn serve<R: Wait, L: Link, G: Gate>(
             close(rt, conn, desk, pass, gate, wakes)
         }
     }
+}
+
+/// Sends to a client what waits for it, as much as a turn may, and does nothing else: it is not read, and not shut.
+pub fn send_rest<R: Wait, L: Link, G: Gate>(
+    rt: &R,
+    conn: &mut Conn,
+    link: &mut L,
+    desk: &Desk,
+    pass: Pass,
+    gate: &G,
+) -> (Pass, SendState)
+    requires desk { pass.desk ≡ desk.now }
+    requires fresh { IsFresh (L.wire link.old) }
+    ensures sends { Sends (snapshot conn.old (L.wire link.old) pass) (snapshot conn.new (L.wire link.new) result.0) result.1 }
+    ensures desk { result.0.desk ≡ pass.desk }
+    ensures number { result.0.worker.number ≡ pass.worker.number }
+{
+    let gated = GatedDesk { desk, gate };
+    send(rt, conn, link, &gated, pass)
 }

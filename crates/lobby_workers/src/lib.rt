@@ -9,6 +9,7 @@ mod inboxes;
 mod log;
 mod logged;
 mod server;
+mod stopping;
 mod turns;
 mod wakers;
 mod worker;

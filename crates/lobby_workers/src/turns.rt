@@ -261,28 +261,6 @@ pub fn take_names<R: Wait, G: Gate>(
     pass
 }
 
-/// Shuts the clients of all connections. A client whose shut is refused memory is left out.
-pub fn shut_all<R: Wait, G: Gate>(
-    rt: &R,
-    shared: &Shared<'_, G>,
-    pass: Pass,
-    connections: &Connections,
-) -> Pass
-    requires { pass.desk ≡ shared.now.desk.now }
-    ensures desk { result.desk ≡ pass.desk }
-    ensures number { result.worker.number ≡ pass.worker.number }
-{
-    let mut pass = pass;
-    for key in 0..connections.key_bound() {
-        if let Some(conn) = connections.conn_at(key) {
-            let (after, turn) = shut(rt, shared, pass, conn);
-            pass = after;
-            shared.wakers.wake_others(pass.number(), turn.wakes);
-        }
-    }
-    pass
-}
-
 /// Passes the gate and takes the lobby.
 fn take<R: Wait, G: Gate>(rt: &R, shared: &Shared<'_, G>, pass: Pass) -> Held
     requires { pass.desk ≡ shared.now.desk.now }
@@ -359,7 +337,12 @@ fn serve_or_shut<R: Wait, G: Gate>(
 }
 
 /// Shuts the client of a connection.
-fn shut<R: Wait, G: Gate>(rt: &R, shared: &Shared<'_, G>, pass: Pass, conn: &Conn) -> (Pass, Turn)
+pub(crate) fn shut<R: Wait, G: Gate>(
+    rt: &R,
+    shared: &Shared<'_, G>,
+    pass: Pass,
+    conn: &Conn,
+) -> (Pass, Turn)
     requires { pass.desk ≡ shared.now.desk.now }
     ensures desk { result.0.desk ≡ pass.desk }
     ensures number { result.0.worker.number ≡ pass.worker.number }

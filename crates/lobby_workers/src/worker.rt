@@ -4,6 +4,7 @@ ghost use Rattle.std.specs.Prelude.{◌≡◌};
 
 use crate::error::ServerError;
 use crate::inboxes::{Arrival, Inboxes};
+use crate::stopping;
 use crate::turns::{self, Shared};
 use crate::wakers::Wakers;
 use lobby_connections::{Connections, PollTimeout};
@@ -15,9 +16,11 @@ use proxy_line::Proxies;
 use server_log::{Happening, Refusal};
 use std::alloc::Global;
 use std::io::{self, ErrorKind};
+use std::mem;
 use std::net::{Net, SocketAddr};
 use std::sync::Wait;
 use std::sync::atomic::AtomicBool;
+use std::time::Duration;
 use wire_link::Newcomers;
 
 /// The token of a worker's waker. Connections have the keys of their table, far below.
@@ -34,11 +37,20 @@ const EVENTS: usize = 1_024;
 /// the worker from its connections.
 const ACCEPTS: u32 = 64;
 
+/// The most rounds of a worker that was told to stop, with a pause between two: three seconds, in which a client that is far away and
+/// was told twice that its connection ends has ended it too. Who does not read, or does not end, holds a stop up no longer.
+const LAST_ROUNDS: u32 = 150;
+
+/// The milliseconds of a pause.
+const PAUSE: u64 = 20;
+
 /// What a worker listens with: its poll, with room for what one poll tells, from where fronts connect, and at one worker the server's
 /// listener.
 #[derive(Drop)]
 pub struct WorkerListener {
     poll: Poll,
+    // it tells of nothing, and so waits as long as it is to
+    pause: Poll,
     events: Events,
     listener: Option<TcpListener>,
     proxies: Proxies,
@@ -48,6 +60,7 @@ pub struct WorkerListener {
 #[derive(Drop)]
 struct WorkerLoop {
     poll: Poll,
+    pause: Poll,
     events: Events,
     listener: Option<TcpListener>,
     // how many connections were accepted
@@ -81,11 +94,17 @@ impl WorkerListener {
             drop(listener);
             return Err(ServerError::Memory);
         };
+        let Ok(pause) = Poll::new(rt) else {
+            drop(events);
+            drop(listener);
+            return Err(ServerError::Listener);
+        };
         let mut listener = listener;
         match new_poll(rt, &mut listener) {
             Ok((poll, waker)) => {
                 let listener = WorkerListener {
                     poll,
+                    pause,
                     events,
                     listener,
                     proxies: Proxies::new(),
@@ -94,6 +113,7 @@ impl WorkerListener {
             }
             Err(error) => {
                 drop(events);
+                drop(pause);
                 drop(listener);
                 Err(error)
             }
@@ -113,12 +133,14 @@ impl WorkerLoop {
     fn new(alloc: Global, listener: WorkerListener) -> WorkerLoop {
         let WorkerListener {
             poll,
+            pause,
             events,
             listener,
             proxies,
         } = listener;
         WorkerLoop {
             poll,
+            pause,
             events,
             listener,
             accepted: 0,
@@ -284,6 +306,27 @@ impl WorkerLoop {
         let pass = turns::turn_named(rt, shared, pass, connections, registry);
         self.turn_ready(rt, shared, pass)
     }
+
+    /// Ends all connections in order. Nobody is accepted and no client is read any more. Each is sent what waits for it, is shut, and
+    /// its connection lingers until its other side has ended, in so many rounds at most. Who was not sent all by then is shut too.
+    fn wind_up<R: Wait, G: Gate>(&mut self, rt: &R, shared: &Shared<'_, G>, pass: Pass) -> Pass
+        requires { pass.desk ≡ shared.now.desk.now }
+        ensures desk { result.desk ≡ pass.desk }
+        ensures number { result.worker.number ≡ pass.worker.number }
+    {
+        drop(mem::replace(&mut self.listener, None));
+        let mut pass = pass;
+        for _ in 0..LAST_ROUNDS {
+            pass = stopping::send_rests(rt, shared, pass, &mut self.connections);
+            pass = stopping::shut_told(rt, shared, pass, &mut self.connections);
+            if !self.connections.let_all_go() && self.connections.len() == 0 {
+                return pass;
+            }
+            let pause = Some(Duration::from_millis(PAUSE));
+            let _ = self.pause.poll(&mut self.events, pause);
+        }
+        stopping::shut_all(rt, shared, pass, &self.connections)
+    }
 }
 
 /// A poll with a waker, which tells of the listener too.
@@ -343,8 +386,8 @@ fn ip_of(address: SocketAddr) -> [u8; 4] {
     }
 }
 
-/// Serves connections until the workers are told to stop, then shuts their clients, and gives the pass
-/// back. It waits for news, at the desk, and else nowhere.
+/// Serves connections until the workers are told to stop, then ends them in order, and gives the pass back. It waits for news, at the
+/// desk, and at a stop a few seconds at most for its clients, and else nowhere.
 ///
 /// What it listens with is made before, since its waker belongs to its poll. `inboxes` and `wakers` are
 /// those of all workers.
@@ -391,7 +434,7 @@ fn go_round_until_stopped<R: Wait, G: Gate>(
         }
         pass = worker_loop.go_round(rt, shared, pass);
     }
-    let pass = turns::shut_all(rt, shared, pass, &worker_loop.connections);
+    let pass = worker_loop.wind_up(rt, shared, pass);
     drop(worker_loop);
     pass
 }

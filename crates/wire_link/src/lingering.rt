@@ -95,8 +95,8 @@ impl Lingerer {
     }
 }
 
-/// The connections of a worker that linger, 64 at most. Each has a place, and goes on until its other side ends, its link fails,
-/// more than 1,048,576 bytes came of it, or its place is that of a further one, which comes 64 later.
+/// The connections of a worker that linger, 64 at most while it serves. Each has a place, and goes on until its other side ends, its
+/// link fails, more than 1,048,576 bytes came of it, or its place is that of a further one, which comes 64 later.
 #[derive(Drop)]
 pub struct Lingering {
     places: Vec<Option<Lingerer>>,
@@ -140,6 +140,30 @@ impl Lingering {
             }
         }
         self.next = (self.next + 1) % MOST;
+    }
+
+    /// Has one more connection linger whose client was shut, beside all others: no poll tells of it, and `let_go` alone reads it. Only
+    /// a worker that ends does so, which bounds how often that is. It is closed at once where its other side has ended or did not take
+    /// all, or the system or memory do not allow it.
+    pub fn add(&mut self, link: WireLink) {
+        if let Some(stream) = link.into_lingering() {
+            let left = usize::MAX;
+            let _ = self.places.push(Some(Lingerer { stream, left }));
+        }
+    }
+
+    /// Reads what is there for each connection and lets it go, in 16 reads of each at most. Whether any goes on.
+    pub fn let_go(&mut self) -> bool {
+        let mut goes_any_on = false;
+        for place in &mut self.places {
+            if let Some(lingerer) = place {
+                match lingerer.let_go() {
+                    Rest::Nothing | Rest::More => goes_any_on = true,
+                    Rest::Over => drop(mem::replace(place, None)),
+                }
+            }
+        }
+        goes_any_on
     }
 
     /// Lets go what came for the connection of a poll's token. Whether the token is one of these.
