@@ -22,14 +22,14 @@ def files_of(crate):
 
 
 def said(file):
-    """The comment at the head of a file, up to its first colon, semicolon or full stop, or what is missing."""
+    """The comment at the head of a file, up to its first colon, semicolon or full stop, without clauses behind it, or what is missing."""
     lines = []
     for line in file.read_text(encoding="utf-8").split("\n"):
         if not line.startswith("-- "):
             break
         lines.append(line[3:])
     text = " ".join(lines)
-    found = re.match(r".*?(?=[.:;]( |$))", text)
+    found = re.match(r".*?(?=[.:;]( |$)|, (as|which|whose|where|if|seen|by|piece|and (how|what|which|where|the))\b)", text)
     return found[0] if found else text or "**no comment**"
 
 

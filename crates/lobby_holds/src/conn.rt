@@ -200,8 +200,8 @@ impl Conn {
 
     /// What operators are told where the client was shut now, over this link: that its user, if it had one, is logged out, and why.
     pub fn logout<L: Link>(&self, link: &L) -> Option<Happening> {
-        let has_failed =
-            link.last_got() == Some(Got::Fault) || link.last_sent() == Some(Sent::Fault);
+        let has_failed = link.last_got() == Some(Got::Fault)
+            || link.last_sent() == Some(Sent::Fault);
         self.visit
             .logout(self.client(), self.is_spoilt_next(), has_failed)
     }

@@ -16,8 +16,8 @@ mod worker;
 
 pub use error::ServerError;
 pub use inboxes::{Arrival, Inboxes};
-pub use logged::{Log, run_server_logged};
 pub use lobby_turns::{Conn, Gate, Got, Link, Sent, Turn, TurnState, serve};
+pub use logged::{Log, run_server_logged};
 pub use server::{run_server, run_server_behind};
 pub use wakers::Wakers;
 pub use worker::{WorkerListener, run_worker};

@@ -1,7 +1,7 @@
 //! What workers tell operators, on its way to a thread that writes it.
 
-use lobby_turns::Gate;
 use crossbeam_queue::ArrayQueue;
+use lobby_turns::Gate;
 use server_log::{Happening, LogLevel, Started, print};
 use std::alloc::{AllocError, Global};
 use std::str;

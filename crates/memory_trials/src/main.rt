@@ -12,6 +12,7 @@ mod crowd;
 mod deeds;
 mod halls;
 mod lobbies;
+mod requests;
 mod scripts;
 mod sessions;
 mod views;
@@ -34,7 +35,8 @@ fn try_all<R: Print + AllocGlobal>(
     halls::try_out(rt, refuser, notes)?;
     sessions::try_out(rt, refuser, notes)?;
     views::try_out(rt, refuser, notes)?;
-    scripts::try_out(rt, refuser, notes)
+    scripts::try_out(rt, refuser, notes)?;
+    requests::try_out(rt, refuser, notes)
 }
 
 /// Whether the argument asks for what memory is asked for and kept.

@@ -1,9 +1,10 @@
-//! What a client gets that is logged out while more of what it sent is on its way, and how long its connection lingers.
+//! What a client gets that is logged out, or whose server stops, while more of what it sent is on its way, and how long its connection
+//! lingers.
 
 use crate::sockets::gates::Hold;
 use crate::sockets::plays::Step::*;
 use crate::sockets::plays::{Act, BOTH_LOG_IN, play};
-use crate::sockets::running::{ANNA, BERT, PING, PONG, TEXT};
+use crate::sockets::running::{ANNA, BERT, PING, PONG, TEXT, THIRD};
 
 /// So often Bert says something to Anna.
 const LINES: u32 = 64;
@@ -118,4 +119,78 @@ static OTHERS_LEAVE: [Act; 3] = [
 #[test]
 fn who_keeps_its_connection_gives_way_to_others(rt: HostRuntime) {
     drop(play(&rt, rt, 1, Hold::Open, &OTHERS_LEAVE));
+}
+
+/// More than the system keeps for a client that does not read, and less than the limit of an outbox.
+const MANY_LINES: u32 = 1_500;
+
+const BERT_SAYS_MUCH: Act = Act {
+    times: MANY_LINES,
+    steps: &[
+        Sends(BERT, b"SAYPRIVATE Anna "),
+        SendsOften(BERT, TEXT, 250),
+        Sends(BERT, b"\n"),
+    ],
+};
+
+const BERT_IS_ANSWERED: Act = Act {
+    times: MANY_LINES,
+    steps: &[
+        Reads(BERT, b"SAYPRIVATE Anna "),
+        ReadsOften(BERT, TEXT, 250),
+        Reads(BERT, b"\n"),
+    ],
+};
+
+const ANNA_READS_MUCH: Act = Act {
+    times: MANY_LINES,
+    steps: &[
+        Reads(ANNA, b"SAIDPRIVATE Bert "),
+        ReadsOften(ANNA, TEXT, 250),
+        Reads(ANNA, b"\n"),
+    ],
+};
+
+static STOPS: [Act; 6] = [
+    BOTH_LOG_IN,
+    BERT_SAYS_MUCH,
+    BERT_IS_ANSWERED,
+    Act {
+        times: 1,
+        steps: &[
+            Enters(THIRD),
+            Sends(THIRD, PING),
+            IsKept,
+            SendsOften(ANNA, PING, 20_000),
+            InputEnds,
+            GoesOn,
+        ],
+    },
+    ANNA_READS_MUCH,
+    Act {
+        times: 1,
+        steps: &[IsClosed(ANNA), Ends(BERT)],
+    },
+];
+
+/// Anna reads nothing of what Bert says until the server stops, and sends more than her worker reads.
+#[test]
+fn who_talks_at_a_stop_gets_all_that_waits(rt: HostRuntime) {
+    drop(play(&rt, rt, 1, Hold::Write, &STOPS));
+}
+
+static STOPS_ALL_THE_SAME: [Act; 4] = [
+    BOTH_LOG_IN,
+    BERT_SAYS_MUCH,
+    BERT_IS_ANSWERED,
+    Act {
+        times: 1,
+        steps: &[InputEnds, ServerEnds],
+    },
+];
+
+/// Anna reads nothing, and Bert does not end his connection.
+#[test]
+fn who_does_not_read_or_end_holds_no_stop_up(rt: HostRuntime) {
+    drop(play(&rt, rt, 1, Hold::Open, &STOPS_ALL_THE_SAME));
 }

@@ -263,7 +263,7 @@ impl Cast<'_> {
         0
     }
 
-    /// Takes the steps of each act, and then ends the server.
+    /// Takes the steps of each act, lets the clients go, and then ends the server.
     fn play<R: Net + Abort>(&mut self, rt: &R, acts: &[Act]) {
         let mut number = 0u64;
         for Act { times, steps } in acts {
@@ -273,6 +273,8 @@ impl Cast<'_> {
                 assert!(rt; failed == 0, "act {number}, step {failed}");
             }
         }
+        self.clients.clear();
+        self.crowd.clear();
         let _ = self.stage.end_input();
         same(rt, self.stage.ends(&self.clock), true);
     }
