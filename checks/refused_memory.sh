@@ -10,7 +10,7 @@ cd "$(dirname "$0")/.."
 room=$(mktemp -d)
 trap 'rm -rf "$room"' EXIT
 checks/refuse_allocation.sh "$room/refuse_allocation.so"
-printf 'address = "127.0.0.1:0"\nworkers = 2\nmotd = ["Welcome"]\nstop_at_input_end = true\n' > "$room/settings.toml"
+printf 'address = "127.0.0.1:0"\nworkers = 2\nmotd = ["Welcome"]\nstop_at_input_end = true\nlog = "none"\n' > "$room/settings.toml"
 # start NUMBER : who asked for this allocation, which is refused to a server, its status, and what it says.
 start() {
     local got=0

@@ -48,16 +48,20 @@ fn book_at<R: Files + AllocGlobal>(rt: &R, path: &str) -> Result<AccountBook, Se
     }
 }
 
-/// Where a listener listens that was bound to this address, of which the system may have chosen the port, as text. Nothing where
+/// Where a listener listens that was bound to this address, of which the system may have chosen the port, as text. Fails only where
 /// memory is refused.
-fn text_of(alloc: Global, listener: &TcpListener, address: SocketAddrV4) -> ShortText {
+fn text_of(
+    alloc: Global,
+    listener: &TcpListener,
+    address: SocketAddrV4,
+) -> Result<ShortText, ServerError> {
     let address = match listener.local_addr() {
         Ok(SocketAddr::V4(bound)) => bound,
         _ => address,
     };
     match format!(in alloc; "{address}") {
-        Ok(text) => ShortText::of(text.as_bytes()),
-        Err(_) => ShortText::of(&[]),
+        Ok(text) => Ok(ShortText::of(text.as_bytes())),
+        Err(_) => Err(ServerError::Memory),
     }
 }
 
@@ -79,9 +83,10 @@ where
     let Ok(listener) = TcpListener::bind(rt, SocketAddr::V4(address)) else {
         return Err(ServerError::Listener);
     };
+    let address = text_of(rt.alloc(), &listener, address)?;
     let started = Started {
         version: VERSION,
-        address: text_of(rt.alloc(), &listener, address),
+        address,
         workers,
         outbox_limit: settings.outbox_limit() as u64,
         accounts: accounts.len() as u64,
