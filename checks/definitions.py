@@ -22,7 +22,7 @@ def files_of(crate):
 
 
 def said(file):
-    """The comment at the head of a file, up to its first colon, semicolon or full stop, without clauses behind it, or what is missing."""
+    """The comment at the head of a file, up to its first colon, semicolon, full stop or clause, or what is missing."""
     lines = []
     for line in file.read_text(encoding="utf-8").split("\n"):
         if not line.startswith("-- "):

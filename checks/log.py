@@ -1,6 +1,6 @@
 #!/usr/bin/env python3
 """log.py [PROGRAM]: what the server as the gate built it, or another build of it, tells operators on standard error: each happening
-once, in its form; names that try to forge a line; each level; and that clients are served where standard error is closed or nobody
+but two refusals (busy, system) once, in its form; names that try to forge a line; each level; and that clients are served where standard error is closed or nobody
 reads it. What is wanted stands here by hand."""
 import contextlib
 import fcntl
