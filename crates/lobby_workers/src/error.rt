@@ -5,6 +5,7 @@ ghost use Rattle.lobby_workers.specs.Statuses.{status_of, IsEnd};
 
 use std::alloc::AllocError;
 use thiserror::Error;
+use worker_loop::ListenError;
 
 /// Why a server did not start, or ended otherwise than by the end of its input. Its text is what the server's program tells.
 #[derive(Clone, Copy, PartialEq, Eq, Debug, Error)]
@@ -57,5 +58,14 @@ impl ServerError {
 impl From<AllocError> for ServerError {
     fn from(_: AllocError) -> ServerError {
         ServerError::Memory
+    }
+}
+
+impl From<ListenError> for ServerError {
+    fn from(error: ListenError) -> ServerError {
+        match error {
+            ListenError::System => ServerError::Listener,
+            ListenError::Memory => ServerError::Memory,
+        }
     }
 }

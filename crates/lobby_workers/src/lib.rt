@@ -1,23 +1,15 @@
-//! The server over sockets: its workers in threads of their own, each with its connections.
+//! The server over sockets: its workers in threads of their own, each with its connections, and a log for its operators.
 //!
-//! A worker serves its connections in turns (`lobby_turns`). Of sockets, of what a poll
-//! tells and of who is woken when nothing is proved but that it is safe.
+//! What a worker does is in `worker_loop`; it serves its connections in turns (`lobby_turns`).
 #![tactic(auto)]
 
 mod error;
-mod inboxes;
 mod log;
 mod logged;
 mod server;
-mod stopping;
-mod turns;
-mod wakers;
-mod worker;
 
 pub use error::ServerError;
-pub use inboxes::{Arrival, Inboxes};
 pub use lobby_turns::{Conn, Gate, Got, Link, Sent, Turn, TurnState, serve};
 pub use logged::{Log, run_server_logged};
 pub use server::{run_server, run_server_behind};
-pub use wakers::Wakers;
-pub use worker::{WorkerListener, run_worker};
+pub use worker_loop::{Arrival, Inboxes, ListenError, Wakers, WorkerListener, run_worker};

@@ -5,10 +5,6 @@ ghost use Rattle.std.specs.List.{All};
 ghost use Rattle.lobby_workers.specs.Statuses.{IsEnd};
 
 use crate::error::ServerError;
-use crate::inboxes::Inboxes;
-use crate::turns::Shared;
-use crate::wakers::Wakers;
-use crate::worker::{WorkerListener, run_worker};
 use account_book::AccountBook;
 use lobby_lock::{Closing, Count, Desk, DeskError, Pass};
 use lobby_machine::Lobby;
@@ -25,6 +21,7 @@ use std::snapshot::Snapshot;
 use std::sync::Wait;
 use std::sync::atomic::AtomicBool;
 use std::thread::{self, Promise, PromisedHandle, Scope, Threads};
+use worker_loop::{Inboxes, Shared, WorkerListener, Wakers, run_worker};
 
 /// What a server serves, and how.
 #[derive(Drop)]
@@ -302,7 +299,7 @@ fn new_listener<R: Net>(
                 Err(ServerError::Memory)
             }
         },
-        Err(error) => Err(error),
+        Err(error) => Err(error.into()),
     }
 }
 

@@ -2,7 +2,7 @@
 
 ghost use Rattle.std.specs.Prelude.{◌≡◌};
 
-use crate::error::ServerError;
+use crate::error::ListenError;
 use crate::inboxes::{Arrival, Inboxes};
 use crate::stopping;
 use crate::turns::{self, Shared};
@@ -89,15 +89,15 @@ impl WorkerListener {
         rt: &R,
         alloc: Global,
         listener: Option<TcpListener>,
-    ) -> Result<(WorkerListener, Waker), ServerError> {
+    ) -> Result<(WorkerListener, Waker), ListenError> {
         let Ok(events) = Events::with_capacity(alloc, EVENTS) else {
             drop(listener);
-            return Err(ServerError::Memory);
+            return Err(ListenError::Memory);
         };
         let Ok(pause) = Poll::new(rt) else {
             drop(events);
             drop(listener);
-            return Err(ServerError::Listener);
+            return Err(ListenError::System);
         };
         let mut listener = listener;
         match new_poll(rt, &mut listener) {
@@ -333,9 +333,9 @@ impl WorkerLoop {
 fn new_poll<R: Net>(
     rt: &R,
     listener: &mut Option<TcpListener>,
-) -> Result<(Poll, Waker), ServerError> {
+) -> Result<(Poll, Waker), ListenError> {
     let Ok(poll) = Poll::new(rt) else {
-        return Err(ServerError::Listener);
+        return Err(ListenError::System);
     };
     match register(&poll, listener) {
         Ok(waker) => Ok((poll, waker)),
@@ -347,9 +347,9 @@ fn new_poll<R: Net>(
 }
 
 /// Registers a new waker, and the listener where there is one.
-fn register(poll: &Poll, listener: &mut Option<TcpListener>) -> Result<Waker, ServerError> {
+fn register(poll: &Poll, listener: &mut Option<TcpListener>) -> Result<Waker, ListenError> {
     let Ok(waker) = Waker::new(poll.registry(), WAKER) else {
-        return Err(ServerError::Listener);
+        return Err(ListenError::System);
     };
     if let Some(listener) = listener
         && poll
@@ -358,7 +358,7 @@ fn register(poll: &Poll, listener: &mut Option<TcpListener>) -> Result<Waker, Se
             .is_err()
     {
         drop(waker);
-        return Err(ServerError::Listener);
+        return Err(ListenError::System);
     }
     Ok(waker)
 }
