@@ -21,7 +21,7 @@ use std::snapshot::Snapshot;
 use std::sync::Wait;
 use std::sync::atomic::AtomicBool;
 use std::thread::{self, Promise, PromisedHandle, Scope, Threads};
-use worker_loop::{Inboxes, Shared, WorkerListener, Wakers, run_worker};
+use worker_loop::{Inboxes, Shared, Wakers, WorkerListener, run_worker};
 
 /// What a server serves, and how.
 #[derive(Drop)]
