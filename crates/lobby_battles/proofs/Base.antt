@@ -105,16 +105,7 @@ shrinks_after (room.Status name status colour) rm = record {
   members = λ q in_it. ap (is_among q) (sym (names_with_status name status colour rm)) ∙ in_it;
   askers = λ q h. h;
 }
-shrinks_after (room.AddBot bot) rm = record { members = λ q h. h; askers = λ q h. h }
-shrinks_after (room.BotStatus name status colour) rm = record { members = λ q h. h; askers = λ q h. h }
-shrinks_after (room.RemoveBot name) rm = record { members = λ q h. h; askers = λ q h. h }
-shrinks_after (room.SetRect ally rect) rm = record { members = λ q h. h; askers = λ q h. h }
-shrinks_after (room.RemoveRect ally) rm = record { members = λ q h. h; askers = λ q h. h }
-shrinks_after (room.SetTags pairs) rm = record { members = λ q h. h; askers = λ q h. h }
-shrinks_after (room.RemoveTags keys) rm = record { members = λ q h. h; askers = λ q h. h }
-shrinks_after (room.DisableUnits words) rm = record { members = λ q h. h; askers = λ q h. h }
-shrinks_after (room.EnableUnits words) rm = record { members = λ q h. h; askers = λ q h. h }
-shrinks_after room.EnableAllUnits rm = record { members = λ q h. h; askers = λ q h. h }
+shrinks_after change rm = record { members = λ q h. h; askers = λ q h. h }
 
 -- the battle at a number is the only one there
 pub alike_at : (battles : ByNumber Battle) → T (is_sorted nat_cmp battles) → (number : ℕ) (battle : Battle) → at_number battles number ≡ Some battle
