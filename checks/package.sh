@@ -46,6 +46,7 @@ top=$room/top
 made install PREFIX="$top"
 unit=$top/lib/systemd/system/rudderraisin.service
 files=$top/etc/rudderraisin
+tells 'the files name what is installed' test -z "$(grep -l 'make hash\|[^/]docs/' "$files"/*)"
 tells 'the files are good, and nobody can log in yet' grep -qx 'accounts: 0 can log in' <("$top/bin/lobby_check" "$files/lobby.toml" "$files/accounts.toml")
 port=$(cd checks && python3 -c 'import lobby_server; print(lobby_server.free_port())')
 sed -i "s/^address = .*/address = \"127.0.0.1:$port\"/" "$files/lobby.toml"
@@ -73,14 +74,14 @@ fi
 # commands KEY : the commands of the unit under this key, a line each.
 commands() { sed -n "s/^$1=//p" "$unit"; }
 
-# start OUTPUT : starts the server as the unit does, in a folder as it gets one.
+# start LOG : starts the server as the unit does, in a folder as it gets one. It tells operators there.
 start() {
     local command
     rm -rf "$room/run"
     mkdir "$room/run"
     cd "$room/run"
     commands ExecStartPre | while read -r command; do eval "$command" >> "$room/log"; done
-    (eval "exec $(commands ExecStart)" > "$1" 2> "$room/errors") &
+    (eval "exec $(commands ExecStart)" > "$room/out" 2> "$1") &
     server=$!
     cd - > /dev/null
 }
@@ -92,7 +93,7 @@ stop() {
     kill_rest
     wait "$server" || status=$?
     server=
-    [ "$status" -eq 0 ] && [ "$(grep -cv '^started version=\|^stopped worker=' "$room/errors")" -eq 0 ]
+    [ "$status" -eq 0 ]
 }
 
 # answers : whether the server takes a connection and greets it, within 20 seconds.
@@ -105,27 +106,36 @@ answers() {
     return 1
 }
 
-start "$room/out"
+start "$room/told"
 tells 'the server answers' answers
 checks/readers.py "$port" 200 "$room/talked" &
 crowd=$!
 until [ -e "$room/talked" ] || ! kill -0 "$crowd" 2> /dev/null; do sleep 0.1; done
 tells 'the server stops in order' stop
 tells '200 clients talk, and read to the end' wait "$crowd"
-tells 'it tells operators that it started' grep -q '^started version=.* accounts=' "$room/errors"
-tells 'it says what its workers did' grep -q '^worker 3: [1-9]' "$room/out"
+tells 'it tells operators that it started' grep -q '^started version=.* accounts=' "$room/told"
+tells 'it says what its workers did' grep -q '^stopped worker=3 events=[1-9]' "$room/told"
+tells 'it tells nothing else' test "$(grep -cv '^started version=\|^stopped worker=' "$room/told")" -eq 0 -a ! -s "$room/out"
 
-# Where its output takes nothing, or nobody reads it, it stops all the same.
+# Where its log takes nothing, or nobody reads it, it stops all the same.
 start /dev/full
-tells 'the server answers though its output is full' answers
-tells 'it stops though its output is full' stop
+tells 'the server answers though its log is full' answers
+tells 'it stops though its log is full' stop
 mkfifo "$room/unread"
 cat "$room/unread" > /dev/null &
 reader=$!
 start "$room/unread"
-tells 'the server answers though nobody reads its output' answers
+tells 'the server answers though nobody reads its log' answers
 kill "$reader"
-tells 'it stops though nobody reads its output' stop
+tells 'it stops though nobody reads its log' stop
+
+# A stop may come before what holds the server's input has heard of it.
+mkdir "$room/late"
+printf '#!/bin/sh\nsleep 1\nexec %s "$@"\n' "$(command -v cat)" > "$room/late/cat"
+chmod 755 "$room/late/cat"
+PATH=$room/late:$PATH start "$room/told"
+tells 'the server answers at once' answers
+tells 'it stops though it has just begun' stop
 
 made uninstall PREFIX="$top"
 tells 'what was changed is left, and nothing else' test "$(cd "$top" && find . -type f | sort | tr '\n' ' ')" = './etc/rudderraisin/accounts.toml ./etc/rudderraisin/lobby.toml '
