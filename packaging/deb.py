@@ -14,6 +14,7 @@ import tempfile
 import textwrap
 from email.utils import formatdate
 from pathlib import Path
+from time import gmtime, strftime
 
 ROOT = Path(__file__).resolve().parent.parent
 SCRIPTS = ROOT / "packaging/deb"
@@ -43,8 +44,8 @@ def version():
     number = next(name for name, _ in changes() if name != "Unreleased")
     if not dict(changes()).get("Unreleased"):
         return number
-    commit = output("git", "log", "-1", "--format=%cd.%h", "--date=format:%Y%m%d%H%M")
-    return f"{number}+git{commit}" if commit else f"{number}+unreleased"
+    commit = output("git", "log", "-1", "--format=%ct %h").split()
+    return f"{number}+git{strftime('%Y%m%d%H%M', gmtime(int(commit[0])))}.{commit[1]}" if commit else f"{number}+unreleased"
 
 
 def debian_changes(name):
@@ -124,7 +125,8 @@ def main():
     os.environ.setdefault("SOURCE_DATE_EPOCH", output("git", "log", "-1", "--format=%ct") or "0")
     with tempfile.TemporaryDirectory() as room:
         server, front = Path(room, "server"), Path(room, "front")
-        words = {**os.environ, "PREFIX": "/usr", "SYSCONFDIR": "/etc", "DESTDIR": str(server)}
+        # Nobody knows of programs in a folder of one's own whether they were proved.
+        words = {**os.environ, "PREFIX": "/usr", "SYSCONFDIR": "/etc", "DESTDIR": str(server), "PROGRAMS": ""}
         told = subprocess.run([ROOT / "packaging/install.sh", "install"], env=words, stdout=subprocess.DEVNULL, stderr=subprocess.PIPE,
                               text=True)
         print(told.stderr, end="", file=sys.stderr)
@@ -138,7 +140,8 @@ def main():
         fill(server, "rudderraisin", {"Architecture": output("dpkg", "--print-architecture"),
                                       "Depends": f"libc6 (>= {max(map(libc, programs))}), adduser",
                                       "Suggests": "rudderraisin-front"}, is_proved)
-        fill(front, "rudderraisin-front", {"Architecture": "all", "Depends": "python3 (>= 3.11)", "Suggests": "rudderraisin"}, True)
+        fill(front, "rudderraisin-front", {"Architecture": "all", "Depends": "python3 (>= 3.11)", "Recommends": "openssl",
+                                            "Suggests": "rudderraisin"}, True)
     return 0
 
 
