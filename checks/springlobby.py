@@ -29,7 +29,7 @@ from pathlib import Path
 from lobby_server import ADDRESS, Account, Client, Difference, Server, run
 
 sys.path.insert(0, str(Path(__file__).resolve().parent.parent / "front"))
-from springlobby_front import CANCELLED as CANCELLED_LINE, WAITING as WAITING_LINE
+import springlobby_front
 
 ROOT = Path(__file__).resolve().parent.parent
 PACKAGES = {"springlobby": "springlobby", "spring-headless": "spring", "Xvfb": "xvfb", "openbox": "openbox", "xdotool": "xdotool",
@@ -42,7 +42,10 @@ HOME_OF_ANNA, FRONT_PORT, GAME_PORT = "192.0.2.7", 8200, 8452
 HOME_OF_BERT = "127.0.0.2"
 ENGINE, GAME, MAP = "106.0", "Tiny 1", "Tiny Plain 1"
 ANNA, BERT = Account("Anna", 1, country="DE"), Account("Bert", 2)
-WAITING, CANCELLED = (it.decode().removeprefix("SERVERMSG ") for it in (WAITING_LINE, CANCELLED_LINE))
+NO_TOPICS, WAITING, CANCELLED = (it.decode().removeprefix("SERVERMSG ") for it in (
+    springlobby_front.NO_TOPICS, springlobby_front.WAITING, springlobby_front.CANCELLED))
+# What SpringLobby writes as of the server where none of its lines is refused.
+KNOWN = re.compile("|".join(["Connect(ing|ed) to ", "Disconnected from ", *map(re.escape, (NO_TOPICS, WAITING, CANCELLED))]))
 # The battle status of a synced player who is ready, and of one in the second team and ally team.
 READY = 1 << 22 | 1 << 10 | 1 << 1
 READY_SECOND = READY | 1 << 6 | 1 << 2
@@ -104,7 +107,7 @@ class Screen:
     """A screen without glass, a window manager, a mouse and keys."""
 
     def __init__(self, folder, processes):
-        self.folder, self.count = folder, 0
+        self.folder, self.count, self.known = folder, 0, set()
         size = ["-screen", "0", "1140x820x24", "-nolisten", "tcp"]
         server = subprocess.Popen(["Xvfb", "-displayfd", "1", *size], stdout=subprocess.PIPE, stderr=subprocess.DEVNULL)
         processes.append(server)
@@ -125,9 +128,16 @@ class Screen:
     def click(self, place, times=1, button=1):
         name, right, below = PLACES[place]
         window = wait_for(f"a window `{name}`", lambda: self.window(name))
+        if window not in self.known:    # it may not be drawn whole yet
+            time.sleep(2)
+            self.known.add(window)
         self.tool("windowactivate", "--sync", window)
         self.tool("mousemove", "--window", window, right, below, "click", "--repeat", times, "--delay", 60, button)
         time.sleep(0.5)
+
+    def width(self, name):
+        told = self.tool("getwindowgeometry", "--shell", self.window(name))
+        return next((it for it in told if it.startswith("WIDTH=")), None)
 
     def write(self, place, text, key=None):
         self.click(place, times=3 if key is None else 1)
@@ -205,25 +215,35 @@ class SpringLobby:
         """All that it wrote into its logs."""
         return "".join(it.read_text(errors="replace") for it in sorted((self.data / "logs").glob("*.log")))
 
+    def chat(self, name):
+        """What it showed of a chat, as its log has it."""
+        log = self.data / "chatlog" / f"{HOME_OF_ANNA}_{FRONT_PORT}" / f"{name}.txt"
+        return log.read_text() if log.exists() else ""
+
     def shows(self, chat, line):
-        """Waits until its log of a chat has this line behind those that were found there before."""
-        log = self.data / "chatlog" / f"{HOME_OF_ANNA}_{FRONT_PORT}" / f"{chat}.txt"
+        """Waits until it shows this line of a chat, behind those that were found there before."""
         form = re.compile(f"^\\[[0-9:]+\\] {re.escape(line)}$", re.M)
-        found = wait_for(f"`{line}` in {log.name}", lambda: log.exists() and form.search(log.read_text(), self.found.get(chat, 0)))
+        found = wait_for(f"`{line}` in its chat `{chat}`", lambda: form.search(self.chat(chat), self.found.get(chat, 0)))
         self.found[chat] = found.end()
 
 
 class Trial:
     """Anna at SpringLobby, and Bert."""
 
-    def __init__(self, room, folder, server, processes):
-        self.room, self.folder, self.server, self.processes = room, folder, server, processes
+    def __init__(self, room, folder, server, processes, front):
+        self.room, self.folder, self.server, self.processes, self.front = room, folder, server, processes, front
+        self.start_front()
         self.report, self.screen = Report(folder), Screen(folder, processes)
         self.lobby = SpringLobby(room, folder, processes)
         self.bert = Player(server, source=HOME_OF_BERT)
         self.bert.line("TASSERVER .*")
         self.say(BERT.login().replace("\n", "\t0\tb\n"))    # who joins his battles asks him
         self.bert.line("LOGININFOEND")
+
+    def start_front(self):
+        with (self.folder / "front.log").open("ab") as output:
+            self.processes.append(subprocess.Popen(self.front, stdout=output, stderr=output))
+        self.front_process = self.processes[-1]
 
     def say(self, line):
         self.bert.send(line if line.endswith("\n") else line + "\n")
@@ -243,17 +263,27 @@ class Trial:
         self.log_in(fingerprint)
         self.talk_in_channel()
         self.talk_privately()
+        self.start_front_anew()
         battle, game_hash, map_hash = self.host()
         self.kick(battle)
         self.begin(battle)
         self.be_guest(game_hash, map_hash)
         self.lobby.process.terminate()
         self.told("REMOVEUSER Anna", "the end of SpringLobby")
+        refused = [it for it in self.lobby.chat("server").splitlines() if "** Server **" in it and not KNOWN.search(it)]
+        if refused:
+            raise Difference(f"the server told SpringLobby what nobody asked for: {refused}")
+        self.report.ok("no line of SpringLobby's was refused")
 
     def log_in(self, fingerprint):
         screen = self.screen
         self.lobby.start()
-        screen.click("to log in")
+        wait_for("its login window", lambda: screen.window(LOGIN))
+        # At the first start the window asks to register, and is wider.
+        wide = screen.width(LOGIN)
+        while screen.width(LOGIN) == wide:
+            screen.click("to log in")
+            time.sleep(1)
         screen.write("server", f"{HOME_OF_ANNA}:{FRONT_PORT}")
         screen.write("name", "Anna")
         screen.write("password", "password")
@@ -294,6 +324,8 @@ class Trial:
         self.told("SAIDEX trial Anna waves", "channel action")
         self.say("SAYEX trial waves back")
         self.shown("trial", "* Bert waves back", "channel action")
+        self.screen.write("say", "/topic trial Tonight", "Return")
+        self.shown("server", f"** Server ** {NO_TOPICS}", "topic")
         self.screen.picture("channel-talk")
 
     def talk_privately(self):
@@ -304,7 +336,21 @@ class Trial:
         self.say("SAYPRIVATE Anna /me listens")
         self.shown("chatpanel-pm-Bert", "* Bert listens", "private action")
         self.screen.click("private chat")
+        self.screen.write("say", "/me tells it", "Return")
+        self.told("SAIDPRIVATE Anna /me tells it", "private action")
+        self.shown("chatpanel-pm-Bert", "* Anna tells it", "private action")
         self.screen.picture("private-talk")
+
+    def start_front_anew(self):
+        """Where the front ends SpringLobby waits for it, and comes back to its channels by itself."""
+        self.front_process.terminate()
+        self.told("LEFT trial Anna", "the end of the front")
+        self.told("REMOVEUSER Anna", "the end of the front")
+        self.front_process.wait()
+        self.start_front()
+        self.told("ADDUSER Anna DE 0 1", "the front started anew")
+        self.told("JOINED trial Anna", "the front started anew")
+        self.screen.picture("came-back")
 
     def host(self):
         """SpringLobby opens a battle; Bert joins it, and both talk. Gives the numbers of the battle, the game and the map."""
@@ -434,9 +480,7 @@ def check(folder, room, processes):
     with (folder / "server.log").open("w+b") as log, Server(2, [ANNA, BERT], settings, log="all", errors=log) as server:
         front = [sys.executable, ROOT / "front/springlobby_front.py", "--listen", f"0.0.0.0:{FRONT_PORT}", "--cert", cert, "--key", key,
                  "--server", f"{ADDRESS}:{server.port}", "--proxy-protocol"]
-        output = (folder / "front.log").open("wb")
-        processes.append(subprocess.Popen(front, stdout=output, stderr=output))
-        trial = Trial(room, folder, server, processes)
+        trial = Trial(room, folder, server, processes, front)
         try:
             trial.run(fingerprint)
         except Difference:
