@@ -8,10 +8,10 @@ By hand: it is no part of the gate, for it needs a screen and packages of Debian
     checks/springlobby.py bin/lobby_main out/springlobby
 
 Anna sits at SpringLobby, whose machine has the address 192.0.2.7; Bert is scripted, speaks plainly and has 127.0.0.2; the front and
-the server have 127.0.0.1. All of it runs in a network and with processes of its own, which end with it. FOLDER gets a picture of the
-screen for each step, `asserted.txt` with what was compared without eyes, and the logs. What Bert and the two engines were told is
-compared, and what SpringLobby wrote into its chat logs; the pictures want eyes. A place to click is known by its distance from its
-window's corner, as Debian 12 draws it.
+the server have 127.0.0.1. All of it runs in a network and with processes of its own, which end with it. FOLDER, new or empty, gets a
+picture of the screen for each step, `asserted.txt` with what was compared without eyes, and the logs. What Bert and the engines were
+told is compared, and what SpringLobby wrote into its chat logs; the pictures want eyes. A place to click is known by its distance
+from its window's corner, as Debian 12 draws it.
 
 The game and the map are made here, and the engine is Debian's without graphics: a match of SpringLobby's really begins, and Bert's
 engine joins it at the address that the lobby told."""
@@ -57,8 +57,9 @@ MAIN, LOGIN, TRUST, HOST, KICKED = ("SpringLobby", "Connect to lobby server", "U
 PLACES = {
     "to log in": (LOGIN, 149, 11), "server": (LOGIN, 70, 68), "name": (LOGIN, 90, 126), "password": (LOGIN, 90, 180),
     "log in": (LOGIN, 150, 215), "trust": (TRUST, 430, 94),
-    "chat": (MAIN, 45, 48), "battles": (MAIN, 155, 48), "room": (MAIN, 290, 48), "say": (MAIN, 300, 680),
-    "second channel": (MAIN, 154, 86), "private chat": (MAIN, 218, 86), "sort by name": (MAIN, 538, 115), "guest": (MAIN, 514, 163),    "first battle": (MAIN, 300, 107), "join": (MAIN, 1050, 678), "host": (MAIN, 60, 678),
+    "chat": (MAIN, 45, 48), "battles": (MAIN, 155, 48), "say": (MAIN, 300, 680),
+    "second channel": (MAIN, 154, 86), "private chat": (MAIN, 218, 86), "sort by name": (MAIN, 538, 115), "guest": (MAIN, 514, 163),
+    "first battle": (MAIN, 300, 107), "join": (MAIN, 1050, 678), "host": (MAIN, 60, 678),
     "say in room": (MAIN, 300, 643), "ready": (MAIN, 661, 326), "leave": (MAIN, 380, 678), "start": (MAIN, 1053, 678),
     "title": (HOST, 222, 18), "open": (HOST, 301, 291),
 }
@@ -104,7 +105,7 @@ class Player(Client):
 
 
 class Screen:
-    """A screen without glass, a window manager, a mouse and keys."""
+    """A screen that is memory alone, a window manager, a mouse and keys."""
 
     def __init__(self, folder, processes):
         self.folder, self.count, self.known = folder, 0, set()
@@ -112,7 +113,7 @@ class Screen:
         server = subprocess.Popen(["Xvfb", "-displayfd", "1", *size], stdout=subprocess.PIPE, stderr=subprocess.DEVNULL)
         processes.append(server)
         os.environ["DISPLAY"] = ":" + server.stdout.readline().decode().strip()
-        processes.append(subprocess.Popen(["openbox"], stderr=subprocess.DEVNULL))
+        processes.append(subprocess.Popen(["openbox"], stdout=subprocess.DEVNULL, stderr=subprocess.DEVNULL))
 
     def tool(self, *words):
         done = subprocess.run(["xdotool", *map(str, words)], stdout=subprocess.PIPE, stderr=subprocess.DEVNULL, check=False)
@@ -278,12 +279,7 @@ class Trial:
     def log_in(self, fingerprint):
         screen = self.screen
         self.lobby.start()
-        wait_for("its login window", lambda: screen.window(LOGIN))
-        # At the first start the window asks to register, and is wider.
-        wide = screen.width(LOGIN)
-        while screen.width(LOGIN) == wide:
-            screen.click("to log in")
-            time.sleep(1)
+        self.turn_to_login()
         screen.write("server", f"{HOME_OF_ANNA}:{FRONT_PORT}")
         screen.write("name", "Anna")
         screen.write("password", "password")
@@ -299,6 +295,18 @@ class Trial:
         self.told("ADDUSER Anna DE 0 1", "login")
         self.shown("server", "** motd ** Welcome to the trial", "message of the day")
         screen.picture("logged-in")
+
+    def turn_to_login(self):
+        """At its first start the login window asks to register, and is wider."""
+        wait_for("its login window", lambda: self.screen.window(LOGIN))
+        time.sleep(2)
+        wide = self.screen.width(LOGIN)
+        for _ in range(5):
+            self.screen.click("to log in")
+            time.sleep(1)
+            if self.screen.width(LOGIN) != wide:
+                return
+        raise Difference("the login window goes on asking to register")
 
     def come_back(self):
         """Behind the trust SpringLobby ends the connection, and either shows its login window again or crashes, which is its own fault."""
@@ -491,7 +499,8 @@ def check(folder, room, processes):
 
 
 def in_a_world_of_its_own(folder):
-    """Where the network and the processes are those of this run alone."""
+    """Where the network and the processes are those of this run alone. The first process there heeds no signal without a handler."""
+    signal.signal(signal.SIGTERM, lambda *_: sys.exit(1))
     for words in (["link", "set", "lo", "up"], ["address", "add", f"{HOME_OF_ANNA}/32", "dev", "lo"]):
         subprocess.run(["ip", *words], check=True)
     processes = []
@@ -517,6 +526,8 @@ def main():
         in_a_world_of_its_own(folder)
         return
     folder.mkdir(parents=True, exist_ok=True)
+    if any(folder.iterdir()):
+        sys.exit(f"{folder} is not empty")
     os.environ["SPRINGLOBBY_WORLD"] = "1"
     os.nice(10)
     alone = ["unshare", "--map-root-user", "--net", "--pid", "--fork", "--kill-child", "--mount-proc"]
