@@ -44,8 +44,9 @@ ENGINE, GAME, MAP = "106.0", "Tiny 1", "Tiny Plain 1"
 ANNA, BERT = Account("Anna", 1, country="DE"), Account("Bert", 2)
 NO_TOPICS, WAITING, CANCELLED = (it.decode().removeprefix("SERVERMSG ") for it in (
     springlobby_front.NO_TOPICS, springlobby_front.WAITING, springlobby_front.CANCELLED))
-# What SpringLobby writes as of the server where none of its lines is refused.
-KNOWN = re.compile("|".join(["Connect(ing|ed) to ", "Disconnected from ", *map(re.escape, (NO_TOPICS, WAITING, CANCELLED))]))
+DENIED = "Failed to join battle. not today"
+# What SpringLobby writes as of the server, where the server refuses none of its lines.
+KNOWN = re.compile("|".join(["Connect(ing|ed) to ", "Disconnected from ", *map(re.escape, (NO_TOPICS, WAITING, CANCELLED, DENIED))]))
 # The battle status of a synced player who is ready, and of one in the second team and ally team.
 READY = 1 << 22 | 1 << 10 | 1 << 1
 READY_SECOND = READY | 1 << 6 | 1 << 2
@@ -274,7 +275,7 @@ class Trial:
         refused = [it for it in self.lobby.chat("server").splitlines() if "** Server **" in it and not KNOWN.search(it)]
         if refused:
             raise Difference(f"the server told SpringLobby what nobody asked for: {refused}")
-        self.report.ok("no line of SpringLobby's was refused")
+        self.report.ok("the server refused no line of SpringLobby's")
 
     def log_in(self, fingerprint):
         screen = self.screen
@@ -427,24 +428,28 @@ class Trial:
         self.lobby.engine.unlink()
         self.told("CLIENTSTATUS Anna 0", "end of the match")
 
-    def ask(self, battle):
-        """SpringLobby asks to join Bert's battle, asks no more, asks again and is let in."""
-        screen = self.screen
-        for asks_again in (False, True):
-            screen.click("battles")
-            screen.click("first battle")
-            screen.click("join")
-            self.told(f"JOINBATTLEREQUEST Anna {HOME_OF_ANNA}", "a join request, with SpringLobby's own address")
-            self.shown("server", f"** Server ** {WAITING}", "waiting")
-            if asks_again:
-                break
-            screen.click("chat")
-            screen.click("second channel")
-            screen.write("say", "!cancel", "Return")
-            self.shown("server", f"** Server ** {CANCELLED}", "cancel")
-            screen.picture("asks-no-more")
-            self.say("JOINBATTLEACCEPT Anna")
-            self.told("SERVERMSG No such join request", "cancel")
+    def ask(self):
+        """SpringLobby asks to join the one battle there is, and waits."""
+        self.screen.click("battles")
+        self.screen.click("first battle")
+        self.screen.click("join")
+        self.told(f"JOINBATTLEREQUEST Anna {HOME_OF_ANNA}", "a join request, with SpringLobby's own address")
+        self.shown("server", f"** Server ** {WAITING}", "waiting")
+
+    def join(self, battle):
+        """SpringLobby asks to join Bert's battle three times: it asks no more, is denied, and is let in."""
+        self.ask()
+        self.screen.click("chat")
+        self.screen.click("second channel")
+        self.screen.write("say", "!cancel", "Return")
+        self.shown("server", f"** Server ** {CANCELLED}", "cancel")
+        self.screen.picture("asks-no-more")
+        self.say("JOINBATTLEACCEPT Anna")
+        self.told("SERVERMSG No such join request", "cancel")
+        self.ask()
+        self.say("JOINBATTLEDENY Anna not today")
+        self.shown("server", f"** Server ** {DENIED}", "denied")
+        self.ask()
         self.say("JOINBATTLEACCEPT Anna")
         self.told(f"JOINEDBATTLE {battle} Anna \\S+", "let in, with a script password")
 
@@ -453,7 +458,7 @@ class Trial:
         screen = self.screen
         self.say(f"OPENBATTLE 0 0 * {GAME_PORT} 8 {game_hash} 0 {map_hash} Spring\t{ENGINE}\t{MAP}\tBerts room\t{GAME}")
         battle = self.told("OPENBATTLE (\\d+)", "Bert hosts")[1]
-        self.ask(battle)
+        self.join(battle)
         self.say("SAYBATTLE Come in, Anna")
         self.shown("_BATTLE_Bert", "<Bert> Come in, Anna", "battle talk of a guest")
         screen.write("say in room", "Thank you, Bert", "Return")
