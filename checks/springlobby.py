@@ -7,11 +7,11 @@ By hand: it is no part of the gate, for it needs a screen and packages of Debian
         iproute2 openssl gcc libc6-dev
     checks/springlobby.py bin/lobby_main out/springlobby
 
-Anna sits at SpringLobby, whose machine has the address 192.0.2.7; Bert is scripted, speaks plainly and has 127.0.0.2; the front and
-the server have 127.0.0.1. All of it runs in a network and with processes of its own, which end with it. FOLDER, new or empty, gets a
-picture of the screen for each step, `asserted.txt` with what was compared without eyes, and the logs. What Bert and the engines were
-told is compared, and what SpringLobby wrote into its chat logs; the pictures want eyes. A place to click is known by its distance
-from its window's corner, as Debian 12 draws it.
+Anna sits at SpringLobby, whose machine has the address 192.0.2.7, and connects to the front at 192.0.2.8; Bert is scripted, speaks
+plainly and has 127.0.0.2; the server has 127.0.0.1. All of it runs in a network and with processes of its own, which end with it.
+FOLDER, new or empty, gets a picture of the screen for each step, `asserted.txt` with what was compared without eyes, and the logs.
+What Bert and the engines were told is compared, and what SpringLobby wrote into its chat logs; the pictures want eyes. A place to
+click is known by its distance from its window's corner, as Debian 12 draws it.
 
 The game and the map are made here, and the engine is Debian's without graphics: a match of SpringLobby's really begins, and Bert's
 engine joins it at the address that the lobby told."""
@@ -38,8 +38,7 @@ PATHS = os.pathsep.join([os.environ.get("PATH", ""), "/usr/games", "/usr/sbin"])
 UNITSYNC = Path("/usr/lib/spring/libunitsync.so")
 FILES = {UNITSYNC: "spring", Path("/usr/share/fonts/truetype/dejavu/DejaVuSans.ttf"): "fonts-dejavu-core",
          Path("/usr/include/stdio.h"): "libc6-dev"}
-HOME_OF_ANNA, FRONT_PORT, GAME_PORT = "192.0.2.7", 8200, 8452
-HOME_OF_BERT = "127.0.0.2"
+HOME_OF_ANNA, HOME_OF_BERT, FRONT, FRONT_PORT, GAME_PORT = "192.0.2.7", "127.0.0.2", "192.0.2.8", 8200, 8452
 ENGINE, GAME, MAP = "106.0", "Tiny 1", "Tiny Plain 1"
 ANNA, BERT = Account("Anna", 1, country="DE"), Account("Bert", 2)
 NO_TOPICS, WAITING, CANCELLED = (it.decode().removeprefix("SERVERMSG ") for it in (
@@ -219,7 +218,7 @@ class SpringLobby:
 
     def chat(self, name):
         """What it showed of a chat, as its log has it."""
-        log = self.data / "chatlog" / f"{HOME_OF_ANNA}_{FRONT_PORT}" / f"{name}.txt"
+        log = self.data / "chatlog" / f"{FRONT}_{FRONT_PORT}" / f"{name}.txt"
         return log.read_text() if log.exists() else ""
 
     def shows(self, chat, line):
@@ -281,7 +280,7 @@ class Trial:
         screen = self.screen
         self.lobby.start()
         self.turn_to_login()
-        screen.write("server", f"{HOME_OF_ANNA}:{FRONT_PORT}")
+        screen.write("server", f"{FRONT}:{FRONT_PORT}")
         screen.write("name", "Anna")
         screen.write("password", "password")
         screen.picture("login-window")
@@ -491,7 +490,7 @@ def check(folder, room, processes):
     fingerprint = told.stdout.decode().strip().partition("=")[2].replace(":", "").lower()
     settings = f'motd = ["Welcome to the trial"]\nproxies = ["{ADDRESS}"]\n'
     with (folder / "server.log").open("w+b") as log, Server(2, [ANNA, BERT], settings, log="all", errors=log) as server:
-        front = [sys.executable, ROOT / "front/springlobby_front.py", "--listen", f"0.0.0.0:{FRONT_PORT}", "--cert", cert, "--key", key,
+        front = [sys.executable, ROOT / "front/springlobby_front.py", "--listen", f"{FRONT}:{FRONT_PORT}", "--cert", cert, "--key", key,
                  "--server", f"{ADDRESS}:{server.port}", "--proxy-protocol"]
         trial = Trial(room, folder, server, processes, front)
         try:
@@ -506,8 +505,9 @@ def check(folder, room, processes):
 def in_a_world_of_its_own(folder):
     """Where the network and the processes are those of this run alone. The first process there heeds no signal without a handler."""
     signal.signal(signal.SIGTERM, lambda *_: sys.exit(1))
-    for words in (["link", "set", "lo", "up"], ["address", "add", f"{HOME_OF_ANNA}/32", "dev", "lo"]):
-        subprocess.run(["ip", *words], check=True)
+    for words in ("link set lo up", f"address add {HOME_OF_ANNA}/32 dev lo",
+                  f"route add local {FRONT}/32 dev lo src {HOME_OF_ANNA} table local"):
+        subprocess.run(["ip", *words.split()], check=True)
     processes = []
     with tempfile.TemporaryDirectory(prefix="springlobby-") as room:
         try:
