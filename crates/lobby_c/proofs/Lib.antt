@@ -1,0 +1,3 @@
+mod Callee
+pub mod Showing
+mod Values
