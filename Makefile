@@ -4,7 +4,7 @@ SETTINGS ?= examples/lobby.toml
 ACCOUNTS ?= examples/accounts.toml
 
 .DEFAULT_GOAL := help
-.PHONY: help play serve setup hash view build install uninstall deb test unit fmt check bench memory soak connections counts hostile
+.PHONY: help play serve setup hash view build library install uninstall deb test unit fmt check bench memory soak connections counts hostile
 
 help: ## lists the targets
 	@awk -F ':.*## ' '/^[a-z]+:.*## / { printf "  make %-12s %s\n", $$1, $$2 }' Makefile
@@ -26,6 +26,9 @@ view: ## reads the bytes that a client was sent, and shows what it knows then
 
 build: ## proves and builds the programs, optimised, into bin/
 	@tools/build.py
+
+library: ## proves and builds the C library of a view into bin/ (include/lobby.h, examples/battles.c)
+	@tools/library.sh
 
 install: ## installs programs, manual pages, files of configuration and units (PREFIX, SYSCONFDIR, DESTDIR)
 	@PREFIX='$(PREFIX)' SYSCONFDIR='$(SYSCONFDIR)' DESTDIR='$(DESTDIR)' packaging/install.sh install
