@@ -39,6 +39,11 @@ uninstall: ## takes away what install installed, but for files of configuration 
 deb: ## makes the Debian packages in out/
 	@packaging/deb.py
 
+.PHONY: python
+python: library ## makes the wheel of the Python package, with the C library in it, into out/
+	@rm -f out/rudderraisin-*.whl
+	@echo "out/$$(python/build_wheel.py bin/liblobby.so out) is made"
+
 test: ## the gate: proves everything from nothing, tries wrong bodies, runs all tests
 	@tools/gate.py
 
