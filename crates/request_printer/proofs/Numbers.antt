@@ -15,7 +15,9 @@ pub is_digits_decimal : (n : ℕ) → n < 10000000000 → is_digits (decimal n) 
 is_digits_decimal n lt =
     let small : n < 2 ^ 64 = omega arith in
     and_from (nat_le 1 (length (decimal n)) && nat_le (length (decimal n)) 10) (all_digits (decimal n))
-    (and_from (nat_le 1 (length (decimal n))) (nat_le (length (decimal n)) 10) (le-leb 1 (length (decimal n)) (decimal_nonempty n small)) (le-leb (length (decimal n)) 10 (length-decimal-le 10 n (omega arith) (omega arith) small)))
+    (and_from (nat_le 1 (length (decimal n))) (nat_le (length (decimal n)) 10)
+    (le-leb 1 (length (decimal n)) (decimal_nonempty n small))
+    (le-leb (length (decimal n)) 10 (length-decimal-le 10 n (omega arith) (omega arith) small)))
     (digits_decimal own n small)
 
 pub decimal_value : (n : ℕ) → n < 10000000000 → value_of (decimal n) ≡ n
@@ -24,14 +26,16 @@ decimal_value n lt = digits_value-decimal own n (omega arith)
 pub decimal_word : (n : ℕ) → n < 10000000000 → is_word (decimal n) ≡ true
 decimal_word n lt =
     let small : n < 2 ^ 64 = omega arith in
-    and_from (nat_le 1 (length (decimal n))) (list_all is_word_byte (decimal n)) (le-leb 1 (length (decimal n)) (decimal_nonempty n small)) (digits_words (decimal n) (digits_decimal own n small))
+    and_from (nat_le 1 (length (decimal n))) (list_all is_word_byte (decimal n))
+    (le-leb 1 (length (decimal n)) (decimal_nonempty n small)) (digits_words (decimal n) (digits_decimal own n small))
 
 numeral : (digits : List ℕ) → is_digits digits ≡ true → IsNumeral digits (pos (value_of digits))
 numeral [] h = absurd (let n : ⊥ = cc in n)
 numeral (b ∷ bs) h = inl (h, refl)
 
 pub decimal_numeral : (n : ℕ) → n < 10000000000 → IsNumeral (decimal n) (pos n)
-decimal_numeral n lt = subst (λ m. IsNumeral (decimal n) (pos m)) (decimal_value n lt) (numeral (decimal n) (is_digits_decimal n lt))
+decimal_numeral n lt =
+    subst (λ m. IsNumeral (decimal n) (pos m)) (decimal_value n lt) (numeral (decimal n) (is_digits_decimal n lt))
 
 pub signed_numeral : (z : ℤ) → is_wide z ≡ true → IsNumeral (signed_decimal z) z
 signed_numeral (pos n) h = decimal_numeral n (let top = leb-true n 4294967295 h in omega arith)
@@ -42,7 +46,8 @@ signed_numeral (negsuc n) h =
 pub signed_word : (z : ℤ) → is_wide z ≡ true → is_word (signed_decimal z) ≡ true
 signed_word (pos n) h = decimal_word n (let top = leb-true n 4294967295 h in omega arith)
 signed_word (negsuc n) h =
-    and_from (nat_le 1 (length (signed_decimal (negsuc n)))) (list_all is_word_byte (signed_decimal (negsuc n))) (le-leb 1 (length (signed_decimal (negsuc n))) (omega arith)) (signed_words (negsuc n) h)
+    and_from (nat_le 1 (length (signed_decimal (negsuc n)))) (list_all is_word_byte (signed_decimal (negsuc n)))
+    (le-leb 1 (length (signed_decimal (negsuc n))) (omega arith)) (signed_words (negsuc n) h)
 
 pub wide_low : (z : ℤ) → is_wide z ≡ true → negsuc 2147483647 ≤ℤ z
 wide_low (pos n) h = omega (arith, ints)

@@ -1,5 +1,6 @@
 -- The arguments of a row read back as they are written.
-use Rattle.std.proofs.Common.{◌≡◌, ℕ, List, [], ◌∷◌, ◌++◌, append-nil, refl, sym, ap, subst, ◌∙◌, Bool, true, false, inl}
+use Rattle.std.proofs.Common.{◌≡◌, ℕ, List, [], ◌∷◌, ◌++◌, append-nil, refl, sym, ap, subst, ◌∙◌, Bool, true, false}
+use Rattle.std.proofs.Common.{inl}
 use Rattle.std.specs.Prelude.{◌&&◌, not, nat_le, is_some, Option, Some, None}
 use Rattle.std.proofs.lemmas.Bool.{and_parts, or_parts}
 use Rattle.line_words.specs.Kinds.{is_some_word}
@@ -14,7 +15,8 @@ use Rattle.command_forms.proofs.Taken.{EachFits}
 use Rattle.reply_kinds.specs.Kinds.{optional_text, words_text, pairs_text}
 use Rattle.request_printer.specs.Faults.{is_absent, all_absent, has_gap}
 use Rattle.request_printer.specs.Writing.{written, mark_behind, all_written}
-use Rattle.request_printer.proofs.Back.{word_back, optional_back, name_back, natural_back, wide_back, flag_back, sentence_back, pairs_back, words_back}
+use Rattle.request_printer.proofs.Back.{word_back, optional_back, name_back, natural_back, wide_back, flag_back}
+use Rattle.request_printer.proofs.Back.{sentence_back, pairs_back, words_back}
 
 -- What a row may be
 
@@ -52,7 +54,8 @@ pub absent_text : (mark : ℕ) (ks : List Kind) (xs : Values ks) → all_absent 
 absent_text mark [] xs h = refl
 absent_text mark (k ∷ ks) xs h =
     let p = and_parts (is_absent k xs.0) (all_absent ks xs.1) h in
-    ap (λ (t : List ℕ). t ++ all_written (mark_behind k mark) ks xs.1) (one k xs.0 mark p.0) ∙ absent_text (mark_behind k mark) ks xs.1 p.1
+    ap (λ (t : List ℕ). t ++ all_written (mark_behind k mark) ks xs.1) (one k xs.0 mark p.0)
+    ∙ absent_text (mark_behind k mark) ks xs.1 p.1
   where
     one : (k : Kind) (x : Value k) (mark : ℕ) → is_absent k x ≡ true → written mark k x ≡ []
     one kind.OptionalWord None mark h = refl
@@ -116,20 +119,27 @@ sentence_ends (_ ∷ ks) xs r = absurd (let n : ⊥ = cc in n)
 -- Rows
 
 -- nothing behind it
-nothing_back : (k : Kind) (maker : Value k → Command) (x : Value k) (text : List ℕ) → Argument k (λ y rest c. c ≡ maker y) text (maker x) → Argument k (λ y rest c. c ≡ maker y) (text ++ []) (maker x)
-nothing_back k maker x text h = subst (λ (t : List ℕ). Argument k (λ y rest c. c ≡ maker y) t (maker x)) (sym (append-nil text)) h
+nothing_back : (k : Kind) (maker : Value k → Command) (x : Value k) (text : List ℕ)
+    → Argument k (λ y rest c. c ≡ maker y) text (maker x) → Argument k (λ y rest c. c ≡ maker y) (text ++ []) (maker x)
+nothing_back k maker x text h =
+    subst (λ (t : List ℕ). Argument k (λ y rest c. c ≡ maker y) t (maker x)) (sym (append-nil text)) h
 
-optional_text_back : (maker : Option (List ℕ) → Command) (o : Option (List ℕ)) → Argument kind.OptionalText (λ y rest c. c ≡ maker y) (optional_text o) (maker o)
+optional_text_back : (maker : Option (List ℕ) → Command) (o : Option (List ℕ))
+    → Argument kind.OptionalText (λ y rest c. c ≡ maker y) (optional_text o) (maker o)
 optional_text_back maker None = refl
 optional_text_back maker (Some t) = refl
 
-flags_back : (maker : Bool → Command) (b : Bool) → Argument kind.LoginFlags (λ y rest c. c ≡ maker y) (written 9 kind.LoginFlags b) (maker b)
+flags_back : (maker : Bool → Command) (b : Bool)
+    → Argument kind.LoginFlags (λ y rest c. c ≡ maker y) (written 9 kind.LoginFlags b) (maker b)
 flags_back maker true = refl
 flags_back maker false = refl
 
-sentences_back : (ks : List Kind) (maker : Maker ks) (xs : Values ks) → sentences_only ks ≡ true → EachFits ks xs → Row ks maker (all_written 9 ks xs) (applied ks maker xs)
+sentences_back : (ks : List Kind) (maker : Maker ks) (xs : Values ks) → sentences_only ks ≡ true → EachFits ks xs
+    → Row ks maker (all_written 9 ks xs) (applied ks maker xs)
 sentences_back [] maker xs r f = refl
-sentences_back (kind.Sentence ∷ ks) maker xs r f = sentence_back (λ s. Row ks (maker s)) 9 xs.0 (all_written 9 ks xs.1) _ f.0 (sentence_ends ks xs.1 r) (sentences_back ks (maker xs.0) xs.1 r f.1)
+sentences_back (kind.Sentence ∷ ks) maker xs r f =
+    sentence_back (λ s. Row ks (maker s)) 9 xs.0 (all_written 9 ks xs.1) _ f.0 (sentence_ends ks xs.1 r)
+    (sentences_back ks (maker xs.0) xs.1 r f.1)
 sentences_back (kind.LoginFlags ∷ []) maker xs r f = nothing_back kind.LoginFlags maker xs.0 _ (flags_back maker xs.0)
 sentences_back (_ ∷ ks) maker xs r f = absurd (let n : ⊥ = cc in n)
 
@@ -137,33 +147,52 @@ gone : (t : Bool) → (not t && true) ≡ false → t ≡ true
 gone true h = refl
 gone false h = absurd (let n : ⊥ = cc in n)
 
-pub row_back : (ks : List Kind) (maker : Maker ks) (xs : Values ks) → is_written_row ks ≡ true → EachFits ks xs → has_gap ks xs ≡ false → Row ks maker (all_written 32 ks xs) (applied ks maker xs)
+pub row_back : (ks : List Kind) (maker : Maker ks) (xs : Values ks) → is_written_row ks ≡ true → EachFits ks xs
+    → has_gap ks xs ≡ false → Row ks maker (all_written 32 ks xs) (applied ks maker xs)
 row_back [] maker xs r f g = refl
-row_back (kind.Word ∷ ks) maker xs r f g = word_back (λ x. Row ks (maker x)) xs.0 (all_written 32 ks xs.1) _ f.0 (word_ends ks xs.1 r) (row_back ks (maker xs.0) xs.1 r f.1 g)
+row_back (kind.Word ∷ ks) maker xs r f g =
+    word_back (λ x. Row ks (maker x)) xs.0 (all_written 32 ks xs.1) _ f.0 (word_ends ks xs.1 r)
+    (row_back ks (maker xs.0) xs.1 r f.1 g)
 row_back (kind.OptionalWord ∷ ks) maker xs r f g =
     let p = or_parts (not (all_absent ks xs.1) && not (is_some xs.0)) (has_gap ks xs.1) g in
     by xs.0 (row_back ks (maker xs.0) xs.1 r f.1 p.1) f.0 p.0
   where
-    by : (o : Option (List ℕ)) → Row ks (maker o) (all_written 32 ks xs.1) (applied ks (maker o) xs.1) → is_some_word o ≡ true → (not (all_absent ks xs.1) && not (is_some o)) ≡ false
-        → Argument kind.OptionalWord (λ x. Row ks (maker x)) (optional_text o ++ all_written 32 ks xs.1) (applied ks (maker o) xs.1)
-    by (Some w) h fit none = optional_back (λ x. Row ks (maker x)) w (all_written 32 ks xs.1) _ fit (word_ends ks xs.1 r) h
+    by : (o : Option (List ℕ)) → Row ks (maker o) (all_written 32 ks xs.1) (applied ks (maker o) xs.1)
+        → is_some_word o ≡ true → (not (all_absent ks xs.1) && not (is_some o)) ≡ false
+        → Argument kind.OptionalWord (λ x. Row ks (maker x)) (optional_text o ++ all_written 32 ks xs.1)
+        (applied ks (maker o) xs.1)
+    by (Some w) h fit none =
+        optional_back (λ x. Row ks (maker x)) w (all_written 32 ks xs.1) _ fit (word_ends ks xs.1 r) h
     by None h fit none =
         let e : all_written 32 ks xs.1 ≡ [] = absent_text 32 ks xs.1 (gone (all_absent ks xs.1) none) in
-        subst (λ (t : List ℕ). Argument kind.OptionalWord (λ x. Row ks (maker x)) t (applied ks (maker None) xs.1)) (sym e)
+        subst (λ (t : List ℕ). Argument kind.OptionalWord (λ x. Row ks (maker x)) t (applied ks (maker None) xs.1))
+        (sym e)
         (inl (refl, subst (λ (t : List ℕ). Row ks (maker None) t (applied ks (maker None) xs.1)) e h))
-row_back (kind.Name ∷ ks) maker xs r f g = name_back (λ x. Row ks (maker x)) xs.0 (all_written 32 ks xs.1) _ f.0 (word_ends ks xs.1 r) (row_back ks (maker xs.0) xs.1 r f.1 g)
+row_back (kind.Name ∷ ks) maker xs r f g =
+    name_back (λ x. Row ks (maker x)) xs.0 (all_written 32 ks xs.1) _ f.0 (word_ends ks xs.1 r)
+    (row_back ks (maker xs.0) xs.1 r f.1 g)
 row_back (kind.Natural high ∷ ks) maker xs r f g =
     let p = and_parts (nat_le high 4294967295) (is_written_row ks) r in
-    natural_back high (λ x. Row ks (maker x)) xs.0 (all_written 32 ks xs.1) _ p.0 f.0 (word_ends ks xs.1 p.1) (row_back ks (maker xs.0) xs.1 p.1 f.1 g)
-row_back (kind.Wide ∷ ks) maker xs r f g = wide_back (λ x. Row ks (maker x)) xs.0 (all_written 32 ks xs.1) _ f.0 (word_ends ks xs.1 r) (row_back ks (maker xs.0) xs.1 r f.1 g)
-row_back (kind.Flag ∷ ks) maker xs r f g = flag_back (λ x. Row ks (maker x)) xs.0 (all_written 32 ks xs.1) _ (word_ends ks xs.1 r) (row_back ks (maker xs.0) xs.1 r f.1 g)
-row_back (kind.Sentence ∷ ks) maker xs r f g = sentence_back (λ x. Row ks (maker x)) 32 xs.0 (all_written 9 ks xs.1) _ f.0 (sentence_ends ks xs.1 r) (sentences_back ks (maker xs.0) xs.1 r f.1)
+    natural_back high (λ x. Row ks (maker x)) xs.0 (all_written 32 ks xs.1) _ p.0 f.0 (word_ends ks xs.1 p.1)
+    (row_back ks (maker xs.0) xs.1 p.1 f.1 g)
+row_back (kind.Wide ∷ ks) maker xs r f g =
+    wide_back (λ x. Row ks (maker x)) xs.0 (all_written 32 ks xs.1) _ f.0 (word_ends ks xs.1 r)
+    (row_back ks (maker xs.0) xs.1 r f.1 g)
+row_back (kind.Flag ∷ ks) maker xs r f g =
+    flag_back (λ x. Row ks (maker x)) xs.0 (all_written 32 ks xs.1) _ (word_ends ks xs.1 r)
+    (row_back ks (maker xs.0) xs.1 r f.1 g)
+row_back (kind.Sentence ∷ ks) maker xs r f g =
+    sentence_back (λ x. Row ks (maker x)) 32 xs.0 (all_written 9 ks xs.1) _ f.0 (sentence_ends ks xs.1 r)
+    (sentences_back ks (maker xs.0) xs.1 r f.1)
 row_back (kind.Text ∷ []) maker xs r f g = nothing_back kind.Text maker xs.0 (32 ∷ xs.0) refl
 row_back (kind.Text ∷ k ∷ ks) maker xs r f g = absurd (let n : ⊥ = cc in n)
-row_back (kind.OptionalText ∷ []) maker xs r f g = nothing_back kind.OptionalText maker xs.0 (optional_text xs.0) (optional_text_back maker xs.0)
+row_back (kind.OptionalText ∷ []) maker xs r f g =
+    nothing_back kind.OptionalText maker xs.0 (optional_text xs.0) (optional_text_back maker xs.0)
 row_back (kind.OptionalText ∷ k ∷ ks) maker xs r f g = absurd (let n : ⊥ = cc in n)
 row_back (kind.LoginFlags ∷ ks) maker xs r f g = absurd (let n : ⊥ = cc in n)
-row_back (kind.Pairs ∷ []) maker xs r f g = nothing_back kind.Pairs maker xs.0 (pairs_text 32 xs.0) (pairs_back (λ ps c. c ≡ maker ps) xs.0 _ f.0 refl)
+row_back (kind.Pairs ∷ []) maker xs r f g =
+    nothing_back kind.Pairs maker xs.0 (pairs_text 32 xs.0) (pairs_back (λ ps c. c ≡ maker ps) xs.0 _ f.0 refl)
 row_back (kind.Pairs ∷ k ∷ ks) maker xs r f g = absurd (let n : ⊥ = cc in n)
-row_back (kind.Words ∷ []) maker xs r f g = nothing_back kind.Words maker xs.0 (words_text xs.0) (words_back (λ ws c. c ≡ maker ws) xs.0 _ f.0 refl)
+row_back (kind.Words ∷ []) maker xs r f g =
+    nothing_back kind.Words maker xs.0 (words_text xs.0) (words_back (λ ws c. c ≡ maker ws) xs.0 _ f.0 refl)
 row_back (kind.Words ∷ k ∷ ks) maker xs r f g = absurd (let n : ⊥ = cc in n)

@@ -1,15 +1,18 @@
 -- What keeps a request from being printed.
-use Rattle.std.specs.Prelude.{◌≡◌, ℕ, ◌<◌, ◌≤◌, Bool, true, false, not, ◌&&◌, ◌||◌, nat_le, if◌then◌else◌, is_some, List, [], ◌∷◌, ◌++◌, length, Option, Some, None, IsTrue}
+use Rattle.std.specs.Prelude.{◌≡◌, ℕ, ◌<◌, ◌≤◌, Bool, true, false, not, ◌&&◌, ◌||◌, nat_le, if◌then◌else◌, is_some}
+use Rattle.std.specs.Prelude.{List, [], ◌∷◌, ◌++◌, length, Option, Some, None, IsTrue}
 use Rattle.line_words.specs.Kinds.{is_wide}
 use Rattle.command_forms.specs.declared.command.Command.{Command}
 use Rattle.command_forms.specs.declared.command.Command.TheVariants as command
 use Rattle.command_forms.specs.declared.command.ReadFault.{ReadFault}
 use Rattle.command_forms.specs.declared.command.Request.{Request}
 use Rattle.command_forms.specs.Kinds.{keeps_kinds}
-use Rattle.command_forms.specs.Table.{Kind, OptionalWord, Natural, Wide, OptionalText, LoginFlags, Pairs, Words, Value, Values, arguments_of}
+use Rattle.command_forms.specs.Table.{Kind, OptionalWord, Natural, Wide, OptionalText, LoginFlags, Pairs, Words, Value}
+use Rattle.command_forms.specs.Table.{Values, arguments_of}
 use Rattle.command_grammar.specs.Reads.{id_limit, Reads}
 use Rattle.request_printer.specs.declared.error.PrintError.{PrintError}
-use Rattle.request_printer.specs.declared.error.PrintError.TheVariants.{Unread, OutOfRange, NothingListed, Skipped, TooLong, Memory}
+use Rattle.request_printer.specs.declared.error.PrintError.TheVariants.{Unread, OutOfRange, NothingListed, Skipped}
+use Rattle.request_printer.specs.declared.error.PrintError.TheVariants.{TooLong, Memory}
 use Rattle.request_printer.specs.Writing.{Writes}
 
 -- the most bytes of a line before its LF
@@ -50,7 +53,8 @@ has_gap (k ∷ ks) xs = has_gap ks xs.1
 -- what keeps arguments from being read back
 abbrev pub fault_in : (ks : List Kind) → Values ks → Option PrintError
 fault_in ks xs =
-    if in_range true ks xs then (if all_listed true ks xs then (if has_gap ks xs then Some Skipped else None) else Some NothingListed) else Some OutOfRange
+    if in_range true ks xs then (if all_listed true ks xs then (if has_gap ks xs then Some Skipped else None) else Some
+    NothingListed) else Some OutOfRange
 
 abbrev pub argument_fault : Command → Option PrintError
 argument_fault c = fault_in (arguments_of c).kinds (arguments_of c).values
@@ -88,7 +92,7 @@ LineRefused e line = ⊥
 
 -- what an error says of the request
 abbrev pub Refuses : PrintError → Request → Type 0
-Refuses Memory r = fault_of r ≡ None
+Refuses Memory r = (fault_of r ≡ None) × (IsUnread r.command → ⊥)
 Refuses TooLong r = (fault_of r ≡ None) × NoneFits r
 Refuses Unread r = IsUnread r.command
 Refuses e r = (fault_of r ≡ Some e) × ((line : List ℕ) → Reads line r → ⊥)

@@ -5,11 +5,13 @@ use Rattle.command_forms.specs.declared.command.Command.{Command}
 use Rattle.command_forms.specs.declared.command.Command.TheVariants as command
 use Rattle.command_forms.specs.declared.command.Request.{Request}
 use Rattle.command_forms.specs.Forms.{applied, command_named}
-use Rattle.command_forms.specs.Table.{Kind, Word, OptionalWord, Name, Natural, Wide, Flag, Sentence, Text, OptionalText, LoginFlags, Pairs, Words, Value, Values, Entry, arguments_of}
+use Rattle.command_forms.specs.Table.{Kind, Word, OptionalWord, Name, Natural, Wide, Flag, Sentence, Text, OptionalText}
+use Rattle.command_forms.specs.Table.{LoginFlags, Pairs, Words, Value, Values, Entry, arguments_of}
 use Rattle.reply_kinds.specs.Kinds.{words_text, pairs_text, optional_text}
 use Rattle.reply_kinds.specs.Replies.{id_text}
 
--- an argument with what stands before it: a sentence stands behind this mark, all else behind spaces, and a login's flags behind two tabs
+-- an argument with what stands before it: a sentence stands behind this mark, a login's flags behind two tabs, all else
+-- behind spaces
 abbrev pub written : ℕ → (k : Kind) → Value k → List ℕ
 written mark Word w = 32 ∷ w
 written mark OptionalWord o = optional_text o

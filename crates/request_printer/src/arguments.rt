@@ -4,16 +4,17 @@
 ghost use Rattle.std.specs.Prelude.{◌≡◌, ◌∷◌, ◌++◌, IfOk, decimal};
 ghost use Rattle.std.specs.Fmt.{signed_decimal};
 ghost use Rattle.command_forms.specs.Table as kind;
-ghost use Rattle.command_forms.specs.Table.{add_bot_row, add_rectangle_row, arguments_of, battle_info_row, battle_status_row, color_row, deny_row, join_battle_row, join_row, login_row, name_and_number, name_and_text, open_battle_row, update_bot_row};
-ghost use Rattle.reply_kinds.specs.Kinds.{pairs_text, words_text};
+ghost use Rattle.command_forms.specs.Table.{add_bot_row, add_rectangle_row, arguments_of, battle_info_row};
+ghost use Rattle.command_forms.specs.Table.{battle_status_row, color_row, deny_row, join_battle_row, join_row};
+ghost use Rattle.command_forms.specs.Table.{login_row, name_and_number, name_and_text, open_battle_row, update_bot_row};
 ghost use Rattle.reply_printer.specs.Fronts.{Keeps};
 ghost use Rattle.request_printer.specs.Writing.{all_written, argument_text, written};
 
 use command_forms::Command;
-use line_words::{NameBuf, PairList, SentenceBuf, TextBuf, WordBuf, WordList};
+use line_words::{NameBuf, SentenceBuf, TextBuf, WordBuf};
 use reply_printer::pieces::{
     put_behind, put_flag, put_name, put_next_sentence, put_number, put_optional, put_pairs,
-    put_sentence, put_wide, put_word, put_words,
+    put_sentence, put_text, put_wide, put_word, put_words,
 };
 use std::alloc::AllocError;
 
@@ -46,8 +47,8 @@ pub(crate) fn put_arguments(out: &mut Vec<u8>, command: &Command) -> Result<(), 
             battle_status,
             team_color,
         } => put_battle_status(out, *battle_status, team_color),
-        Command::SayBattle { text } => put_text(out, text),
-        Command::SayBattleEx { text } => put_text(out, text),
+        Command::SayBattle { text } => put_text(out, &text.as_text()),
+        Command::SayBattleEx { text } => put_text(out, &text.as_text()),
         Command::AddBot { .. } => put_add_bot(out, command),
         Command::UpdateBot {
             bot,
@@ -56,11 +57,11 @@ pub(crate) fn put_arguments(out: &mut Vec<u8>, command: &Command) -> Result<(), 
         } => put_bot(out, bot, *battle_status, team_color),
         Command::RemoveBot { bot } => put_word(out, bot),
         Command::AddStartRect { .. } => put_add_start_rect(out, command),
-        Command::RemoveStartRect { ally_no } => put_small(out, *ally_no),
-        Command::SetScriptTags { pairs } => put_tags(out, pairs),
-        Command::RemoveScriptTags { keys } => put_list(out, keys),
-        Command::DisableUnits { units } => put_list(out, units),
-        Command::EnableUnits { units } => put_list(out, units),
+        Command::RemoveStartRect { ally_no } => put_number(out, u32::from(*ally_no)),
+        Command::SetScriptTags { pairs } => put_pairs(out, pairs.as_slice()),
+        Command::RemoveScriptTags { keys } => put_words(out, keys.as_slice()),
+        Command::DisableUnits { units } => put_words(out, units.as_slice()),
+        Command::EnableUnits { units } => put_words(out, units.as_slice()),
         Command::Handicap { user, value } => put_name_and_number(out, user, *value),
         Command::ForceTeamNo { user, number } => put_name_and_number(out, user, *number),
         Command::ForceAllyNo { user, number } => put_name_and_number(out, user, *number),
@@ -100,7 +101,8 @@ fn put_account(
     password: &WordBuf,
     cpu: &i64,
 ) -> Result<(), AllocError>
-    ensures ok { IfOk result (λ _. out.new.items ≡ out.old.items ++ ((32 ∷ user_name.now) ++ ((32 ∷ password.now) ++ (32 ∷ signed_decimal cpu.now)))) }
+    ensures ok { IfOk result (λ _. out.new.items ≡ out.old.items
+        ++ ((32 ∷ user_name.now) ++ ((32 ∷ password.now) ++ (32 ∷ signed_decimal cpu.now)))) }
     ensures kept { Keeps out.old.items out.new.items }
 {
     put_word(out, user_name)?;
@@ -116,7 +118,8 @@ fn put_client(
     lobby: &SentenceBuf,
     authorises: bool,
 ) -> Result<(), AllocError>
-    ensures ok { IfOk result (λ _. out.new.items ≡ out.old.items ++ ((32 ∷ local_ip.now) ++ ((32 ∷ lobby.now) ++ written 9 kind.LoginFlags authorises))) }
+    ensures ok { IfOk result (λ _. out.new.items ≡ out.old.items
+        ++ ((32 ∷ local_ip.now) ++ ((32 ∷ lobby.now) ++ written 9 kind.LoginFlags authorises))) }
     ensures kept { Keeps out.old.items out.new.items }
 {
     put_word(out, local_ip)?;
@@ -137,7 +140,8 @@ fn put_login_flags(out: &mut Vec<u8>, authorises: bool) -> Result<(), AllocError
 }
 
 fn put_join(out: &mut Vec<u8>, channel: &NameBuf, key: &Option<WordBuf>) -> Result<(), AllocError>
-    ensures ok { IfOk result (λ _. out.new.items ≡ out.old.items ++ all_written 32 join_row (channel.now, (key.now, tt))) }
+    ensures ok { IfOk result (λ _. out.new.items ≡ out.old.items
+        ++ all_written 32 join_row (channel.now, (key.now, tt))) }
     ensures kept { Keeps out.old.items out.new.items }
 {
     put_name(out, channel)?;
@@ -146,19 +150,13 @@ fn put_join(out: &mut Vec<u8>, channel: &NameBuf, key: &Option<WordBuf>) -> Resu
 }
 
 fn put_said(out: &mut Vec<u8>, name: &NameBuf, text: &TextBuf) -> Result<(), AllocError>
-    ensures ok { IfOk result (λ _. out.new.items ≡ out.old.items ++ all_written 32 name_and_text (name.now, (text.now, tt))) }
+    ensures ok { IfOk result (λ _. out.new.items ≡ out.old.items
+        ++ all_written 32 name_and_text (name.now, (text.now, tt))) }
     ensures kept { Keeps out.old.items out.new.items }
 {
     put_name(out, name)?;
-    put_text(out, text)?;
+    put_text(out, &text.as_text())?;
     Ok(())
-}
-
-fn put_text(out: &mut Vec<u8>, text: &TextBuf) -> Result<(), AllocError>
-    ensures ok { IfOk result (λ _. out.new.items ≡ out.old.items ++ (32 ∷ text.now)) }
-    ensures kept { Keeps out.old.items out.new.items }
-{
-    put_behind(out, b' ', text.as_slice())
 }
 
 // The command is OPENBATTLE.
@@ -200,7 +198,9 @@ fn put_host(
     port: u16,
     max_players: u16,
 ) -> Result<(), AllocError>
-    ensures ok { IfOk result (λ _. out.new.items ≡ out.old.items ++ ((32 ∷ decimal battle_type) ++ ((32 ∷ decimal nat_type) ++ ((32 ∷ password.now) ++ ((32 ∷ decimal port) ++ (32 ∷ decimal max_players)))))) }
+    ensures ok { IfOk result (λ _. out.new.items ≡ out.old.items
+        ++ ((32 ∷ decimal battle_type)
+        ++ ((32 ∷ decimal nat_type) ++ ((32 ∷ password.now) ++ ((32 ∷ decimal port) ++ (32 ∷ decimal max_players)))))) }
     ensures kept { Keeps out.old.items out.new.items }
 {
     put_number(out, u32::from(battle_type))?;
@@ -217,7 +217,9 @@ fn put_hashes(
     rank: &i64,
     map_hash: &i64,
 ) -> Result<(), AllocError>
-    ensures ok { IfOk result (λ _. out.new.items ≡ out.old.items ++ ((32 ∷ signed_decimal game_hash.now) ++ ((32 ∷ signed_decimal rank.now) ++ (32 ∷ signed_decimal map_hash.now)))) }
+    ensures ok { IfOk result (λ _. out.new.items ≡ out.old.items
+        ++ ((32 ∷ signed_decimal game_hash.now)
+        ++ ((32 ∷ signed_decimal rank.now) ++ (32 ∷ signed_decimal map_hash.now)))) }
     ensures kept { Keeps out.old.items out.new.items }
 {
     put_wide(out, game_hash)?;
@@ -234,7 +236,9 @@ fn put_titles(
     title: &SentenceBuf,
     game_name: &SentenceBuf,
 ) -> Result<(), AllocError>
-    ensures ok { IfOk result (λ _. out.new.items ≡ out.old.items ++ ((32 ∷ engine_name.now) ++ ((9 ∷ engine_version.now) ++ ((9 ∷ map.now) ++ ((9 ∷ title.now) ++ (9 ∷ game_name.now)))))) }
+    ensures ok { IfOk result (λ _. out.new.items ≡ out.old.items
+        ++ ((32 ∷ engine_name.now) ++ ((9 ∷ engine_version.now)
+        ++ ((9 ∷ map.now) ++ ((9 ∷ title.now) ++ (9 ∷ game_name.now)))))) }
     ensures kept { Keeps out.old.items out.new.items }
 {
     put_sentence(out, engine_name)?;
@@ -268,7 +272,8 @@ fn put_passwords(
     password: &Option<WordBuf>,
     script_password: &Option<WordBuf>,
 ) -> Result<(), AllocError>
-    ensures ok { IfOk result (λ _. out.new.items ≡ out.old.items ++ all_written 32 join_battle_row (battle, (password.now, (script_password.now, tt)))) }
+    ensures ok { IfOk result (λ _. out.new.items ≡ out.old.items
+        ++ all_written 32 join_battle_row (battle, (password.now, (script_password.now, tt)))) }
     ensures kept { Keeps out.old.items out.new.items }
 {
     put_number(out, battle)?;
@@ -278,13 +283,14 @@ fn put_passwords(
 }
 
 fn put_deny(out: &mut Vec<u8>, user: &NameBuf, reason: &Option<TextBuf>) -> Result<(), AllocError>
-    ensures ok { IfOk result (λ _. out.new.items ≡ out.old.items ++ all_written 32 deny_row (user.now, (reason.now, tt))) }
+    ensures ok { IfOk result (λ _. out.new.items ≡ out.old.items
+        ++ all_written 32 deny_row (user.now, (reason.now, tt))) }
     ensures kept { Keeps out.old.items out.new.items }
 {
     put_name(out, user)?;
     match reason {
         None => Ok(()),
-        Some(reason) => put_text(out, reason),
+        Some(reason) => put_text(out, &reason.as_text()),
     }
 }
 
@@ -313,7 +319,8 @@ fn put_battle_info(
     map_hash: &i64,
     map: &SentenceBuf,
 ) -> Result<(), AllocError>
-    ensures ok { IfOk result (λ _. out.new.items ≡ out.old.items ++ all_written 32 battle_info_row (spectator_count, (locked, (map_hash.now, (map.now, tt))))) }
+    ensures ok { IfOk result (λ _. out.new.items ≡ out.old.items
+        ++ all_written 32 battle_info_row (spectator_count, (locked, (map_hash.now, (map.now, tt))))) }
     ensures kept { Keeps out.old.items out.new.items }
 {
     put_number(out, u32::from(spectator_count))?;
@@ -328,7 +335,8 @@ fn put_battle_status(
     battle_status: u32,
     team_color: &i64,
 ) -> Result<(), AllocError>
-    ensures ok { IfOk result (λ _. out.new.items ≡ out.old.items ++ all_written 32 battle_status_row (battle_status, (team_color.now, tt))) }
+    ensures ok { IfOk result (λ _. out.new.items ≡ out.old.items
+        ++ all_written 32 battle_status_row (battle_status, (team_color.now, tt))) }
     ensures kept { Keeps out.old.items out.new.items }
 {
     put_number(out, battle_status)?;
@@ -342,7 +350,8 @@ fn put_bot(
     battle_status: u32,
     team_color: &i64,
 ) -> Result<(), AllocError>
-    ensures ok { IfOk result (λ _. out.new.items ≡ out.old.items ++ all_written 32 update_bot_row (bot.now, (battle_status, (team_color.now, tt)))) }
+    ensures ok { IfOk result (λ _. out.new.items ≡ out.old.items
+        ++ all_written 32 update_bot_row (bot.now, (battle_status, (team_color.now, tt)))) }
     ensures kept { Keeps out.old.items out.new.items }
 {
     put_word(out, bot)?;
@@ -375,7 +384,8 @@ fn put_added_bot(
     team_color: &i64,
     ai: &SentenceBuf,
 ) -> Result<(), AllocError>
-    ensures ok { IfOk result (λ _. out.new.items ≡ out.old.items ++ all_written 32 add_bot_row (bot.now, (battle_status, (team_color.now, (ai.now, tt))))) }
+    ensures ok { IfOk result (λ _. out.new.items ≡ out.old.items
+        ++ all_written 32 add_bot_row (bot.now, (battle_status, (team_color.now, (ai.now, tt))))) }
     ensures kept { Keeps out.old.items out.new.items }
 {
     put_word(out, bot)?;
@@ -412,7 +422,8 @@ fn put_rectangle(
     right: u8,
     bottom: u8,
 ) -> Result<(), AllocError>
-    ensures ok { IfOk result (λ _. out.new.items ≡ out.old.items ++ all_written 32 add_rectangle_row (ally_no, (left, (top, (right, (bottom, tt)))))) }
+    ensures ok { IfOk result (λ _. out.new.items ≡ out.old.items
+        ++ all_written 32 add_rectangle_row (ally_no, (left, (top, (right, (bottom, tt)))))) }
     ensures kept { Keeps out.old.items out.new.items }
 {
     put_number(out, u32::from(ally_no))?;
@@ -424,7 +435,8 @@ fn put_rectangle(
 }
 
 fn put_name_and_number(out: &mut Vec<u8>, name: &NameBuf, number: u8) -> Result<(), AllocError>
-    ensures ok { IfOk result (λ _. out.new.items ≡ out.old.items ++ all_written 32 (name_and_number 100) (name.now, (number, tt))) }
+    ensures ok { IfOk result (λ _. out.new.items ≡ out.old.items
+        ++ all_written 32 (name_and_number 100) (name.now, (number, tt))) }
     ensures kept { Keeps out.old.items out.new.items }
 {
     put_name(out, name)?;
@@ -433,34 +445,11 @@ fn put_name_and_number(out: &mut Vec<u8>, name: &NameBuf, number: u8) -> Result<
 }
 
 fn put_color(out: &mut Vec<u8>, user: &NameBuf, team_color: &i64) -> Result<(), AllocError>
-    ensures ok { IfOk result (λ _. out.new.items ≡ out.old.items ++ all_written 32 color_row (user.now, (team_color.now, tt))) }
+    ensures ok { IfOk result (λ _. out.new.items ≡ out.old.items
+        ++ all_written 32 color_row (user.now, (team_color.now, tt))) }
     ensures kept { Keeps out.old.items out.new.items }
 {
     put_name(out, user)?;
     put_wide(out, team_color)?;
-    Ok(())
-}
-
-fn put_small(out: &mut Vec<u8>, number: u8) -> Result<(), AllocError>
-    ensures ok { IfOk result (λ _. out.new.items ≡ out.old.items ++ (32 ∷ decimal number)) }
-    ensures kept { Keeps out.old.items out.new.items }
-{
-    put_number(out, u32::from(number))?;
-    Ok(())
-}
-
-fn put_list(out: &mut Vec<u8>, words: &WordList) -> Result<(), AllocError>
-    ensures ok { IfOk result (λ _. out.new.items ≡ out.old.items ++ words_text words.now) }
-    ensures kept { Keeps out.old.items out.new.items }
-{
-    put_words(out, words.as_slice())?;
-    Ok(())
-}
-
-fn put_tags(out: &mut Vec<u8>, pairs: &PairList) -> Result<(), AllocError>
-    ensures ok { IfOk result (λ _. out.new.items ≡ out.old.items ++ pairs_text 32 pairs.now) }
-    ensures kept { Keeps out.old.items out.new.items }
-{
-    put_pairs(out, pairs.as_slice())?;
     Ok(())
 }

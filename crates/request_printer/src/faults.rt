@@ -1,10 +1,9 @@
 //! What keeps a request from being printed.
 
-ghost use Rattle.std.specs.Prelude.{◌≡◌, nat_le, if◌then◌else◌, Some, None};
+ghost use Rattle.std.specs.Prelude.{◌≡◌, ◌&&◌, true, nat_le, [], ◌∷◌};
 ghost use Rattle.line_words.specs.Kinds.{is_wide};
-ghost use Rattle.command_forms.specs.Table.{add_rectangle_row, arguments_of, join_battle_row, open_battle_row};
-ghost use Rattle.request_printer.specs.declared.error.PrintError.TheVariants as fault;
-ghost use Rattle.request_printer.specs.Faults.{argument_fault, fault_in, fault_of, is_id};
+ghost use Rattle.command_forms.specs.Table.{OptionalWord, add_rectangle_row, arguments_of, open_battle_row};
+ghost use Rattle.request_printer.specs.Faults.{all_listed, argument_fault, fault_of, has_gap, in_range, is_id};
 
 use crate::error::PrintError;
 use command_forms::{Command, Request};
@@ -36,91 +35,101 @@ fn is_id(id: Option<u32>) -> bool
 fn argument_fault(command: &Command) -> Option<PrintError>
     ensures { result ≡ argument_fault command.now }
 {
+    if !has_numbers_in_range(command) {
+        Some(PrintError::OutOfRange)
+    } else if !has_something_listed(command) {
+        Some(PrintError::NothingListed)
+    } else if skips_a_word(command) {
+        Some(PrintError::Skipped)
+    } else {
+        None
+    }
+}
+
+// Each number is in the range of its argument.
+fn has_numbers_in_range(command: &Command) -> bool
+    ensures { result ≡ in_range true (arguments_of command.now).kinds (arguments_of command.now).values }
+{
     match command {
-        Command::Login { cpu, .. } => unless(is_wide(cpu)),
-        Command::MyStatus { status } => unless(is_up_to(*status, u32::MAX)),
-        Command::OpenBattle { .. } => open_battle_fault(command),
-        Command::JoinBattle {
-            battle,
-            password,
-            script_password,
-        } => join_battle_fault(*battle, password, script_password),
+        Command::Login { cpu, .. } => is_wide(cpu),
+        Command::MyStatus { status } => is_up_to(*status, u32::MAX),
+        Command::OpenBattle { .. } => is_battle_in_range(command),
+        Command::JoinBattle { battle, .. } => is_up_to(*battle, LARGEST),
         Command::UpdateBattleInfo {
             spectator_count,
             map_hash,
             ..
-        } => unless(is_up_to(u32::from(*spectator_count), 65535) & is_wide(map_hash)),
+        } => is_up_to(u32::from(*spectator_count), 65535) & is_wide(map_hash),
         Command::MyBattleStatus {
             battle_status,
             team_color,
-        } => unless(is_up_to(*battle_status, u32::MAX) & is_wide(team_color)),
+        } => is_status(*battle_status, team_color),
         Command::AddBot {
             battle_status,
             team_color,
             ..
-        } => unless(is_up_to(*battle_status, u32::MAX) & is_wide(team_color)),
+        } => is_status(*battle_status, team_color),
         Command::UpdateBot {
             battle_status,
             team_color,
             ..
-        } => unless(is_up_to(*battle_status, u32::MAX) & is_wide(team_color)),
+        } => is_status(*battle_status, team_color),
         Command::AddStartRect {
             ally_no,
             left,
             top,
             right,
             bottom,
-        } => rectangle_fault(*ally_no, *left, *top, *right, *bottom),
-        Command::RemoveStartRect { ally_no } => unless(is_up_to(u32::from(*ally_no), 15)),
-        Command::SetScriptTags { pairs } => unless_none(pairs.as_slice().len()),
-        Command::RemoveScriptTags { keys } => unless_none(keys.as_slice().len()),
-        Command::DisableUnits { units } => unless_none(units.as_slice().len()),
-        Command::EnableUnits { units } => unless_none(units.as_slice().len()),
-        Command::Handicap { value, .. } => unless(is_up_to(u32::from(*value), 100)),
-        Command::ForceTeamNo { number, .. } => unless(is_up_to(u32::from(*number), 15)),
-        Command::ForceAllyNo { number, .. } => unless(is_up_to(u32::from(*number), 15)),
-        Command::ForceTeamColor { team_color, .. } => unless(is_wide(team_color)),
-        Command::Blank
-        | Command::Unread(_)
-        | Command::Ping
-        | Command::Exit
-        | Command::Channels
-        | Command::Join { .. }
-        | Command::Leave { .. }
-        | Command::Say { .. }
-        | Command::SayEx { .. }
-        | Command::SayPrivate { .. }
-        | Command::JoinBattleAccept { .. }
-        | Command::JoinBattleDeny { .. }
-        | Command::LeaveBattle
-        | Command::SayBattle { .. }
-        | Command::SayBattleEx { .. }
-        | Command::RemoveBot { .. }
-        | Command::EnableAllUnits
-        | Command::ForceSpectatorMode { .. }
-        | Command::KickFromBattle { .. }
-        | Command::Ring { .. } => None,
+        } => is_rectangle(*ally_no, *left, *top, *right, *bottom),
+        Command::RemoveStartRect { ally_no } => is_up_to(u32::from(*ally_no), 15),
+        Command::Handicap { value, .. } => is_up_to(u32::from(*value), 100),
+        Command::ForceTeamNo { number, .. } => is_up_to(u32::from(*number), 15),
+        Command::ForceAllyNo { number, .. } => is_up_to(u32::from(*number), 15),
+        Command::ForceTeamColor { team_color, .. } => is_wide(team_color),
+        _ => true,
     }
 }
 
-fn unless(in_range: bool) -> Option<PrintError>
-    ensures { result ≡ (if in_range then None else Some fault.OutOfRange) }
+// Each list has something in it.
+fn has_something_listed(command: &Command) -> bool
+    ensures { result ≡ all_listed true (arguments_of command.now).kinds (arguments_of command.now).values }
 {
-    if in_range {
-        None
-    } else {
-        Some(PrintError::OutOfRange)
+    match command {
+        Command::SetScriptTags { pairs } => is_some_of(pairs.as_slice().len()),
+        Command::RemoveScriptTags { keys } => is_some_of(keys.as_slice().len()),
+        Command::DisableUnits { units } => is_some_of(units.as_slice().len()),
+        Command::EnableUnits { units } => is_some_of(units.as_slice().len()),
+        _ => true,
     }
 }
 
-fn unless_none(count: usize) -> Option<PrintError>
-    ensures { result ≡ (if nat_le 1 count then None else Some fault.NothingListed) }
+// An optional word is missing before an argument that is there.
+fn skips_a_word(command: &Command) -> bool
+    ensures { result ≡ has_gap (arguments_of command.now).kinds (arguments_of command.now).values }
 {
-    if count == 0 {
-        Some(PrintError::NothingListed)
-    } else {
-        None
+    match command {
+        Command::JoinBattle {
+            password,
+            script_password,
+            ..
+        } => is_second_alone(password, script_password),
+        _ => false,
     }
+}
+
+fn is_second_alone(first: &Option<WordBuf>, second: &Option<WordBuf>) -> bool
+    ensures { result ≡ has_gap (OptionalWord ∷ OptionalWord ∷ []) (first.now, (second.now, tt)) }
+{
+    match (first, second) {
+        (None, Some(_)) => true,
+        _ => false,
+    }
+}
+
+fn is_some_of(count: usize) -> bool
+    ensures { result ≡ nat_le 1 count }
+{
+    1 <= count
 }
 
 fn is_up_to(n: u32, high: u32) -> bool
@@ -135,10 +144,16 @@ fn is_wide(z: &i64) -> bool
     -2147483648 <= *z && *z <= 4294967295
 }
 
+fn is_status(battle_status: u32, team_color: &i64) -> bool
+    ensures { result ≡ (nat_le battle_status 4294967295 && is_wide team_color.now) }
+{
+    is_up_to(battle_status, u32::MAX) & is_wide(team_color)
+}
+
 // The command is OPENBATTLE.
-fn open_battle_fault(command: &Command) -> Option<PrintError>
+fn is_battle_in_range(command: &Command) -> bool
     requires { (arguments_of command.now).kinds ≡ open_battle_row }
-    ensures { result ≡ argument_fault command.now }
+    ensures { result ≡ in_range true (arguments_of command.now).kinds (arguments_of command.now).values }
 {
     let Command::OpenBattle {
         battle_type,
@@ -153,41 +168,21 @@ fn open_battle_fault(command: &Command) -> Option<PrintError>
     else {
         unreachable!()
     };
-    unless(
-        is_up_to(u32::from(*battle_type), 1)
-            & is_up_to(u32::from(*nat_type), 2)
-            & is_up_to(u32::from(*port), 65535)
-            & is_up_to(u32::from(*max_players), 65535)
-            & is_wide(game_hash)
-            & is_wide(rank)
-            & is_wide(map_hash),
-    )
+    is_up_to(u32::from(*battle_type), 1)
+        & is_up_to(u32::from(*nat_type), 2)
+        & is_up_to(u32::from(*port), 65535)
+        & is_up_to(u32::from(*max_players), 65535)
+        & is_wide(game_hash)
+        & is_wide(rank)
+        & is_wide(map_hash)
 }
 
-fn join_battle_fault(
-    battle: u32,
-    password: &Option<WordBuf>,
-    script_password: &Option<WordBuf>,
-) -> Option<PrintError>
-    ensures { result ≡ fault_in join_battle_row (battle, (password.now, (script_password.now, tt))) }
+fn is_rectangle(ally_no: u8, left: u8, top: u8, right: u8, bottom: u8) -> bool
+    ensures { result ≡ in_range true add_rectangle_row (ally_no, (left, (top, (right, (bottom, tt))))) }
 {
-    if !is_up_to(battle, LARGEST) {
-        return Some(PrintError::OutOfRange);
-    }
-    match (password, script_password) {
-        (None, Some(_)) => Some(PrintError::Skipped),
-        _ => None,
-    }
-}
-
-fn rectangle_fault(ally_no: u8, left: u8, top: u8, right: u8, bottom: u8) -> Option<PrintError>
-    ensures { result ≡ fault_in add_rectangle_row (ally_no, (left, (top, (right, (bottom, tt))))) }
-{
-    unless(
-        is_up_to(u32::from(ally_no), 15)
-            & is_up_to(u32::from(left), 200)
-            & is_up_to(u32::from(top), 200)
-            & is_up_to(u32::from(right), 200)
-            & is_up_to(u32::from(bottom), 200),
-    )
+    is_up_to(u32::from(ally_no), 15)
+        & is_up_to(u32::from(left), 200)
+        & is_up_to(u32::from(top), 200)
+        & is_up_to(u32::from(right), 200)
+        & is_up_to(u32::from(bottom), 200)
 }

@@ -1,14 +1,16 @@
 //! The word of each command.
+#![tactic(auto, using(crate::proofs::Named::named))]
 
-ghost use Rattle.std.specs.Prelude.{◌≡◌};
-ghost use Rattle.std.specs.Option.{option_map};
-ghost use Rattle.request_printer.specs.Words.{word_named};
+ghost use Rattle.std.specs.Prelude.{IfSome, IsNone};
+ghost use Rattle.request_printer.specs.Faults.{IsUnread};
+ghost use Rattle.request_printer.specs.Writing.{HasWord};
 
 use command_forms::Command;
 
 /// The word of a command; no byte for a blank line, and None for one that was not read.
 pub(crate) fn word_of(command: &Command) -> Option<&'static [u8]>
-    ensures { option_map (λ word. word.now) result ≡ word_named command.now }
+    ensures word { IfSome result (λ word. HasWord command.now word.now) }
+    ensures none { IsNone result → IsUnread command.now }
 {
     match command {
         Command::Blank => Some(b""),

@@ -1,4 +1,4 @@
-use Rattle.std.proofs.Common.{append-nil}
+use Rattle.std.proofs.Common.{append-nil, sym}
 use Rattle.request_printer.proofs.arguments.put_arguments.Goals as goal
 
 pub returns-in-MyStatus-clause-ok : goal.returns-in-MyStatus-clause-ok
@@ -8,34 +8,42 @@ pub returns-in-Leave-clause-ok : goal.returns-in-Leave-clause-ok
 returns-in-Leave-clause-ok c = rw (c.in-Leave.is, append-nil) c.put_name.ensures.ok
 
 pub returns-in-JoinBattleAccept-clause-ok : goal.returns-in-JoinBattleAccept-clause-ok
-returns-in-JoinBattleAccept-clause-ok c = rw (c.in-JoinBattleAccept.is, append-nil) c.put_name-in-JoinBattleAccept.ensures.ok
+returns-in-JoinBattleAccept-clause-ok c =
+    rw (c.in-JoinBattleAccept.is, append-nil) c.put_name-in-JoinBattleAccept.ensures.ok
 
 pub returns-in-SayBattle-clause-ok : goal.returns-in-SayBattle-clause-ok
-returns-in-SayBattle-clause-ok c = rw (c.in-SayBattle.is, append-nil) c.put_text.ensures.ok
+returns-in-SayBattle-clause-ok c = rw (c.in-SayBattle.is, append-nil, sym c.as_text.ensures) c.put_text.ensures.ok
 
 pub returns-in-SayBattleEx-clause-ok : goal.returns-in-SayBattleEx-clause-ok
-returns-in-SayBattleEx-clause-ok c = rw (c.in-SayBattleEx.is, append-nil) c.put_text-in-SayBattleEx.ensures.ok
+returns-in-SayBattleEx-clause-ok c =
+    rw (c.in-SayBattleEx.is, append-nil, sym c.as_text-in-SayBattleEx.ensures) c.put_text-in-SayBattleEx.ensures.ok
 
 pub returns-in-RemoveBot-clause-ok : goal.returns-in-RemoveBot-clause-ok
 returns-in-RemoveBot-clause-ok c = rw (c.in-RemoveBot.is, append-nil) c.put_word.ensures.ok
 
 pub returns-in-RemoveStartRect-clause-ok : goal.returns-in-RemoveStartRect-clause-ok
-returns-in-RemoveStartRect-clause-ok c = rw (c.in-RemoveStartRect.is, append-nil) c.put_small.ensures.ok
+returns-in-RemoveStartRect-clause-ok c =
+    rw (c.in-RemoveStartRect.is, append-nil, sym c.from.ensures) c.put_number-in-RemoveStartRect.ensures.ok
 
 pub returns-in-SetScriptTags-clause-ok : goal.returns-in-SetScriptTags-clause-ok
-returns-in-SetScriptTags-clause-ok c = rw (c.in-SetScriptTags.is, append-nil) c.put_tags.ensures.ok
+returns-in-SetScriptTags-clause-ok c =
+    rw (c.in-SetScriptTags.is, append-nil, sym c.as_slice.ensures) c.put_pairs.ensures.ok
 
 pub returns-in-RemoveScriptTags-clause-ok : goal.returns-in-RemoveScriptTags-clause-ok
-returns-in-RemoveScriptTags-clause-ok c = rw (c.in-RemoveScriptTags.is, append-nil) c.put_list.ensures.ok
+returns-in-RemoveScriptTags-clause-ok c =
+    rw (c.in-RemoveScriptTags.is, append-nil, sym c.as_slice-in-RemoveScriptTags.ensures) c.put_words.ensures.ok
 
 pub returns-in-DisableUnits-clause-ok : goal.returns-in-DisableUnits-clause-ok
-returns-in-DisableUnits-clause-ok c = rw (c.in-DisableUnits.is, append-nil) c.put_list-in-DisableUnits.ensures.ok
+returns-in-DisableUnits-clause-ok c =
+    rw (c.in-DisableUnits.is, append-nil, sym c.as_slice-in-DisableUnits.ensures) c.put_words-in-DisableUnits.ensures.ok
 
 pub returns-in-EnableUnits-clause-ok : goal.returns-in-EnableUnits-clause-ok
-returns-in-EnableUnits-clause-ok c = rw (c.in-EnableUnits.is, append-nil) c.put_list-in-EnableUnits.ensures.ok
+returns-in-EnableUnits-clause-ok c =
+    rw (c.in-EnableUnits.is, append-nil, sym c.as_slice-in-EnableUnits.ensures) c.put_words-in-EnableUnits.ensures.ok
 
 pub returns-in-ForceSpectatorMode-clause-ok : goal.returns-in-ForceSpectatorMode-clause-ok
-returns-in-ForceSpectatorMode-clause-ok c = rw (c.in-ForceSpectatorMode.is, append-nil) c.put_name-in-ForceSpectatorMode.ensures.ok
+returns-in-ForceSpectatorMode-clause-ok c =
+    rw (c.in-ForceSpectatorMode.is, append-nil) c.put_name-in-ForceSpectatorMode.ensures.ok
 
 pub returns-in-KickFromBattle-clause-ok : goal.returns-in-KickFromBattle-clause-ok
 returns-in-KickFromBattle-clause-ok c = rw (c.in-KickFromBattle.is, append-nil) c.put_name-in-KickFromBattle.ensures.ok

@@ -9,4 +9,5 @@ pub returns-clause-ok : goal.returns-clause-ok
 returns-clause-ok c =
     let b = c.in-Login in
     rw (b.is, c.in_ok-put_client.ensures.ok, c.in_ok-put_account.ensures.ok)
-    (logged_in c.args.out.now.items (32 ∷ b.user_name) (32 ∷ b.password) (32 ∷ signed_decimal b.cpu) (32 ∷ b.local_ip) (32 ∷ b.lobby) (written 9 kind.LoginFlags b.authorises))
+    (logged_in c.args.out.now.items (32 ∷ b.user_name) (32 ∷ b.password) (32 ∷ signed_decimal b.cpu) (32 ∷ b.local_ip)
+    (32 ∷ b.lobby) (written 9 kind.LoginFlags b.authorises))

@@ -2,4 +2,15 @@ use Rattle.std.proofs.Common.{append_assoc}
 use Rattle.request_printer.proofs.arguments.put_titles.Goals as goal
 
 pub returns-clause-ok : goal.returns-clause-ok
-returns-clause-ok c = rw (c.in_ok-put_next_sentence-4.ensures.ok, c.in_ok-put_next_sentence-3.ensures.ok, append_assoc, c.in_ok-put_next_sentence-2.ensures.ok, append_assoc, c.in_ok-put_next_sentence.ensures.ok, append_assoc, c.in_ok-put_sentence.ensures.ok, append_assoc)
+returns-clause-ok c =
+    rw (
+      c.in_ok-put_next_sentence-4.ensures.ok,
+      c.in_ok-put_next_sentence-3.ensures.ok,
+      append_assoc,
+      c.in_ok-put_next_sentence-2.ensures.ok,
+      append_assoc,
+      c.in_ok-put_next_sentence.ensures.ok,
+      append_assoc,
+      c.in_ok-put_sentence.ensures.ok,
+      append_assoc,
+    )
