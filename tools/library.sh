@@ -1,6 +1,7 @@
 #!/usr/bin/env bash
 # library.sh : proves lobby_c and what it stands on, over what earlier runs kept, and builds bin/liblobby.a and bin/liblobby.so. Both have the
 # heap's three calls in them, by which memory comes from the program's malloc; the shared one shows only what include/lobby.h declares.
+# With AS_BUILT set, as the gate sets it, lobby_c stands on the libraries that the gate's own run has just left.
 set -euo pipefail
 root=$(cd "$(dirname "$0")/.." && pwd)
 kit=$(dirname "$(dirname "$(realpath "$(command -v rt)")")")
@@ -9,7 +10,8 @@ heap=$kit/c/liblibc_c.a
 room=$(mktemp -d)
 trap 'rm -rf "$room"' EXIT
 
-(cd "$root/crates/lobby_c" && rt lib) > "$room/told" 2>&1 || { tail -20 "$room/told"; exit 1; }
+if [ -n "${AS_BUILT:-}" ]; then prove=("$root/tools/over_built.py"); else prove=(rt lib); fi
+(cd "$root/crates/lobby_c" && "${prove[@]}") > "$room/told" 2>&1 || { tail -20 "$room/told"; exit 1; }
 mkdir -p "$root/bin"
 printf 'CREATE %s\nADDLIB %s\nADDLIB %s\nSAVE\nEND\n' "$room/liblobby.a" "$archive" "$heap" | ar -M
 printf '{ global: lobby_*; local: *; };\n' > "$room/lobby.map"
