@@ -106,8 +106,8 @@ class Server:
     def told(self):
         if not self.errors.seekable():
             return ""
-        self.errors.seek(0)
-        return self.errors.read().decode(errors="replace")
+        # Not by a seek: the server writes at the same place of the file.
+        return os.pread(self.errors.fileno(), os.fstat(self.errors.fileno()).st_size, 0).decode(errors="replace")
 
     def __enter__(self):
         return self
