@@ -8,5 +8,5 @@ mod connections;
 mod poll_timeout;
 
 pub use connection::Connection;
-pub use connections::{Connections, NAMES_IN_HOLD};
+pub use connections::{Connections, NAMES_IN_HOLD, TURN};
 pub use poll_timeout::PollTimeout;

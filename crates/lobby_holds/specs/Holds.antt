@@ -68,12 +68,13 @@ abbrev pub HasNoLineNext : Serving → Type 0
 HasNoLineNext session = IsNextOf (Some session) Nothing ⊎ IsNextOf (Some session) Spoilt
 
 -- Why it said no line more: memory was refused for the line that is next, or nothing was refused, and all that were asked for were
--- said, no whole line is next, or the hold is full
-pub data StopsAt (most : ℕ) (session : Serving) (said : Said) : Type 0 where
-  short : said.refused ≡ true → HasLineNext session → StopsAt most session said
-  all_said : said.refused ≡ false → said.lines ≡ most → StopsAt most session said
-  none_left : said.refused ≡ false → HasNoLineNext session → StopsAt most session said
-  full : said.refused ≡ false → said.lines ≡ 32 → StopsAt most session said
+-- said, no whole line is next, the hold is full, or as many pieces were told as may be
+pub data StopsAt (most allowance : ℕ) (session : Serving) (said : Said) : Type 0 where
+  short : said.refused ≡ true → HasLineNext session → StopsAt most allowance session said
+  all_said : said.refused ≡ false → said.lines ≡ most → StopsAt most allowance session said
+  none_left : said.refused ≡ false → HasNoLineNext session → StopsAt most allowance session said
+  full : said.refused ≡ false → said.lines ≡ 32 → StopsAt most allowance session said
+  enough : said.refused ≡ false → allowance ≤ said.told → HasLineNext session → StopsAt most allowance session said
 
 -- it drained for its client, eight times at most and never into an empty slice: whether nothing will ever come of it; where it is dry,
 -- the last drain gave nothing

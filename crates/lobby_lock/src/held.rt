@@ -148,6 +148,11 @@ impl Held {
         self.lobby.next_dirty(home)
     }
 
+    /// How many pieces the lobby's events so far told, as `Lobby::told` says.
+    pub fn told(&self) -> u64 {
+        self.lobby.told()
+    }
+
     /// How many bytes a client has not read; 0 where it is not there.
     pub fn unread(&self, client: u64) -> usize
         ensures { result ≡ length (unread_of self.now.lobby.plain client) }

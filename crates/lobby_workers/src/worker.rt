@@ -299,12 +299,11 @@ impl WorkerLoop {
         } else {
             pass
         };
+        let pass = self.turn_ready(rt, shared, pass);
         let registry = self.poll.registry();
         let connections = &mut self.connections;
-        // Before all other turns: whom these leave over is left for the next round.
-        let pass = turns::turn_left(rt, shared, pass, connections, registry);
         let pass = turns::turn_named(rt, shared, pass, connections, registry);
-        self.turn_ready(rt, shared, pass)
+        turns::turn_left(rt, shared, pass, connections, registry)
     }
 
     /// Ends all connections in order. Nobody is accepted and no client is read any more. Each is sent what waits for it, is shut, and

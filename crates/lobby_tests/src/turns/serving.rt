@@ -50,7 +50,14 @@ pub fn take_turns<R: Wait, L: Link, G: Gate>(
         if !link.fresh() {
             return (pass, None);
         }
-        let (next, Turn { state, wakes: _ }) = serve(rt, conn, link, desk, pass, gate);
+        let (
+            next,
+            Turn {
+                state,
+                wakes: _,
+                told: _,
+            },
+        ) = serve(rt, conn, link, desk, pass, gate, u64::MAX);
         pass = next;
         last = Some(state);
         if state == TurnState::Closed {
