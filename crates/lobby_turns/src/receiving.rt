@@ -51,7 +51,7 @@ pub(crate) struct Received {
 impl Received {
     /// The same, and these lines more.
     fn and(self, said: Said) -> Received
-        ensures wakes { (home : ℕ) → has_home result.wakes home ≡ (has_home self.wakes home || has_home said.wakes home) }
+        ensures { (home : ℕ) → has_home result.wakes home ≡ (has_home self.wakes home || has_home said.wakes home) }
     {
         Received {
             wakes: self.wakes.union(said.wakes),

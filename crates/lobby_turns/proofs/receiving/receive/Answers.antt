@@ -4,7 +4,7 @@ use Rattle.lobby_turns.proofs.receiving.receive.Goals.{then-loop-lines-test+else
 use Rattle.lobby_turns.proofs.receiving.receive.Goals as goal
 
 pub loop-lines-init : goal.loop-lines-init
-loop-lines-init g c = begins _ _ c.none-wakes.ensures
+loop-lines-init g c = begins _ _ c.none.ensures
 
 pub returns-in-All : goal.returns-in-All
 returns-in-All g c = receives_all _ _ _ _ _ _ _ _ c.in-All.is c.if-reads-lt-READS.true c.loop-lines.invariant c.receive_next-next.ensures.received
@@ -21,12 +21,12 @@ returns-in-Enough g c = receives_enough _ _ _ _ _ _ _ _ c.in-Enough.is c.if-read
 pub returns-then-said : goal.returns-then-said
 returns-then-said g c =
     let s = c.receive_next-next.ensures in
-    receives_refused _ _ _ _ _ _ _ _ _ _ _ c.in-Said.is c.if-said.true s.within c.loop-lines.invariant s.received c.and.ensures
+    receives_refused _ _ _ _ _ _ _ _ _ _ _ c.in-Said.is c.if-said.true s.within c.loop-lines.invariant s.received c.and-all.ensures
 
 pub loop-lines-preserved-else-said : goal.loop-lines-preserved-else-said
 loop-lines-preserved-else-said g c =
     let s = c.receive_next-next.ensures in
-    goes_on_said _ _ _ _ _ _ _ _ _ _ c.in-Said.is s.within c.loop-lines.invariant s.received c.and.ensures
+    goes_on_said _ _ _ _ _ _ _ _ _ _ c.in-Said.is s.within c.loop-lines.invariant s.received c.and-all.ensures
 
 pub loop-lines-preserved : goal.loop-lines-preserved
 loop-lines-preserved g c = goes_on_read _ _ _ _ _ _ _ c.in-Read.is c.if-reads-lt-READS.true c.loop-lines.invariant c.receive_next-next.ensures.received
