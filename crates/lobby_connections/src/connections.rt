@@ -9,7 +9,7 @@ use crate::connection::Connection;
 use crate::poll_timeout::PollTimeout;
 use lobby_lock::{Held, MOST_EVENTS};
 use lobby_machine::Wakes;
-use lobby_turns::{Conn, TurnState};
+use lobby_turns::{Conn, Rooms, TurnState};
 use mio::event::Event;
 use mio::net::TcpStream;
 use mio::{Registry, Token};
@@ -48,6 +48,8 @@ pub struct Connections {
     // those whose clients were shut
     lingering: Lingering,
     timeout: PollTimeout,
+    // buffers for who has its turn
+    rooms: Rooms,
 }
 
 impl Drop for Connections {
@@ -68,6 +70,7 @@ impl Drop for Connections {
             is_short: _,
             lingering,
             timeout: _,
+            rooms,
         } = self;
         drop(slab);
         drop(keys);
@@ -75,6 +78,7 @@ impl Drop for Connections {
         drop(due);
         drop(left);
         drop(lingering);
+        drop(rooms);
     }
 }
 
@@ -113,6 +117,7 @@ impl Connections {
             is_short: false,
             lingering: Lingering::new(alloc),
             timeout: PollTimeout::Endless,
+            rooms: Rooms::new(alloc),
         }
     }
 
@@ -262,14 +267,25 @@ impl Connections {
         }
     }
 
-    /// The connection under a key, whose turn of this round begins. None where there is none, or it had its turn.
+    /// The connection under a key, whose turn of this round begins, with buffers that are lent to it. None where there is none, or it
+    /// had its turn.
     pub fn begin_turn(&mut self, key: usize) -> Option<&mut Connection> {
         let connection = self.slab.get_mut(key)?;
         if connection.round == self.round {
             return None;
         }
         connection.round = self.round;
+        connection.conn.lend(&mut self.rooms);
         Some(connection)
+    }
+
+    /// A turn is over: takes back the buffers that were lent to the connection under a key.
+    pub fn settle(&mut self, key: usize)
+        ensures { self.new ≡ self.old }
+    {
+        if let Some(connection) = self.slab.get_mut(key) {
+            connection.conn.settle(&mut self.rooms);
+        }
     }
 
     /// Sees to it that a connection goes on as its turn ended: where it stopped at a limit or for want of memory, it is left for the
@@ -280,6 +296,7 @@ impl Connections {
         ensures idle { state ≡ TurnState.Idle → self.new ≡ self.old }
         ensures closed { state ≡ TurnState.Closed → Stays self.old self.new }
     {
+        self.settle(key);
         match state {
             TurnState::Idle => {}
             TurnState::Again => self.leave(key, PollTimeout::Zero),

@@ -11,9 +11,11 @@ mod gate;
 mod gated_desk;
 pub mod holds;
 mod link;
+mod room;
 mod visit;
 
-pub use conn::{Conn, PIECE};
+pub use conn::Conn;
 pub use gate::Gate;
 pub use gated_desk::GatedDesk;
 pub use link::{Got, Link, Sent};
+pub use room::{PIECE, Rooms};

@@ -24,6 +24,7 @@ pub fn send_rests<R: Wait, G: Gate>(
     for key in 0..connections.key_bound() {
         if let Some(connection) = connections.begin_turn(key) {
             pass = send_rest(rt, shared, pass, connection);
+            connections.settle(key);
         }
     }
     pass
