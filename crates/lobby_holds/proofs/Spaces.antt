@@ -30,11 +30,11 @@ part_behind from to count n xs into rest more order within few long =
     let all : (take to xs ++ (into ++ rest)) ++ more ≡ take to xs ++ (into ++ (rest ++ more)) =
     append_assoc (take to xs) (into ++ rest) more ∙ ap (λ l. take to xs ++ l) (append_assoc into rest more) in
     ap (drop from) (
-      take-take (to + count) n _ less
-      ∙ ap (take (to + count)) all
-      ∙ ap (λ k. take (k + count) (take to xs ++ (into ++ (rest ++ more)))) (sym front)
-      ∙ take-append-add (take to xs) (into ++ (rest ++ more)) count
-      ∙ ap (λ l. take to xs ++ l) (take-append-le count into (rest ++ more) few))
+    take-take (to + count) n _ less
+    ∙ ap (take (to + count)) all
+    ∙ ap (λ k. take (k + count) (take to xs ++ (into ++ (rest ++ more)))) (sym front)
+    ∙ take-append-add (take to xs) (into ++ (rest ++ more)) count
+    ∙ ap (λ l. take to xs ++ l) (take-append-le count into (rest ++ more) few))
     ∙ drop-append-le from (take to xs) (take count into) inside
 
 -- a part of a slice that has n bytes behind its place

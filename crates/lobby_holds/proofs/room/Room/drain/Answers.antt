@@ -18,6 +18,6 @@ returns-clause-drained c =
     let long : to + length into ≤ c.self.inside.buffer.len = omega (arith, room, slice, c.drain_all-piece.auto.into, c.deref_mut.ensures.len) in
     let e = c.drain_all-piece.ensures.drained in
     drained_behind _ _ _ _ into _ _ c.drain_all-piece.result (omega (arith, slice)) e (
-      part_behind from to count c.self.inside.buffer.len d into _ _ c.self.invariant.0 within e.few long
-      ∙ ap (λ (xs : List ℕ). drop from (take to xs) ++ take count into) c.deref_mut.ensures.value
-      ∙ ap (λ (w : Waiting). w.bytes ++ take count into) c.self.view_is)
+    part_behind from to count c.self.inside.buffer.len d into _ _ c.self.invariant.0 within e.few long
+    ∙ ap (λ (xs : List ℕ). drop from (take to xs) ++ take count into) c.deref_mut.ensures.value
+    ∙ ap (λ (w : Waiting). w.bytes ++ take count into) c.self.view_is)
