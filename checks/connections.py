@@ -640,8 +640,9 @@ def all_gone(workers):
 def refusing(workers):
     """A server with Anna, to which all memory is refused while a file is there: it, the file, and one that gets a line for each refusal."""
     with tempfile.TemporaryDirectory(prefix="lobby-check-") as folder:
+        here = Path(__file__).parent
         library, switch, told = (Path(folder) / it for it in ("refuse.so", "switch", "told"))
-        subprocess.run([Path(__file__).parent / "refuse_allocation.sh", str(library)], check=True)
+        subprocess.run([here / "build_library.sh", here / "refuse_allocation.c", library], check=True)
         told.touch()
         words = {"LD_PRELOAD": str(library), "REFUSED_WHILE": str(switch), "REFUSED_TOLD": str(told)}
         with Server(workers, [ANNA, BERT], **words) as server:

@@ -1,8 +1,9 @@
 #!/usr/bin/env python3
-"""log.py [PROGRAM]: what the server as the gate built it, or another build of it, tells operators on standard error: each happening
-but two refusals (busy, system) once, in its form; names that try to forge a line; each level; and that clients are served where standard error is closed or nobody
-reads it. What is wanted stands here by hand."""
+"""log.py [PROGRAM [CHECK..]]: what the server as the gate built it, or another build of it, tells operators on standard error: each
+happening once, in its form; names that try to forge a line; each level; and that clients are served where standard
+error is closed or nobody reads it. What is wanted stands here by hand."""
 import contextlib
+import ctypes
 import fcntl
 import os
 import re
@@ -17,7 +18,8 @@ from pathlib import Path
 from lobby_server import ADDRESS, GREETING, PATIENCE, WORD, Account, Client, Difference, Server, greeted, logged_in
 
 ANNA, BERT, EVE = Account("Anna", 1), Account("Bert", 2), Account("Eve[x]_9", 3)
-VERSION = re.search(r"(?m)^## ([0-9.]+)$", (Path(__file__).resolve().parent.parent / "CHANGELOG.md").read_text())[1]
+HERE = Path(__file__).resolve().parent
+VERSION = re.search(r"(?m)^## ([0-9.]+)$", (HERE.parent / "CHANGELOG.md").read_text())[1]
 INVALID = "DENIED Invalid username or password\n"
 # The most lines that wait to be written, and the bytes that a pipe is made to hold.
 WAITING, PIPE = 1_024, 4_096
@@ -50,6 +52,22 @@ def stopped(server):
     return [f"stopped worker={worker} events={count}" for worker, count in enumerate(server.counts)]
 
 
+def stop(server, *clients):
+    """Stops a server. Its clients read to the end, and end their connections, so that it waits for none."""
+    server.end_input()
+    for client in clients:
+        with contextlib.suppress(OSError):
+            while client.receive():
+                pass
+        client.close()
+    return server.stop()
+
+
+def whole(server, wanted):
+    """All that it has told: these lines, then the counts."""
+    same(server.told().splitlines(), wanted + stopped(server))
+
+
 def each_happening(workers):
     """A login, each denial and each log out has its line, in the order in which they came, and no other line comes."""
     with Server(workers, [ANNA, BERT], log="all") as server:
@@ -69,6 +87,7 @@ def each_happening(workers):
         wanted += ["denied name=x reason=invalid client=2", "login name=Bert client=2"]
         same(lines_of(server, len(wanted)), wanted)
         leavers = [("exit", lambda it: it.send("EXIT bye\n")), ("closed", Client.close), ("line_too_long", lambda it: it.send("x" * 8_193)),
+                   ("line_too_long", lambda it: it.send("x" * 8_193 + "\nEXIT\n")), ("exit", lambda it: it.send("EXIT\n" + "x" * 8_193)),
                    ("fault", Client.reset), ("closed", lambda it: it.socket.shutdown(1))]
         for number, (cause, leave) in enumerate(leavers, 2):
             leave(bert)
@@ -82,8 +101,8 @@ def each_happening(workers):
         for _, leave in leavers:
             leave(greeted(server))
         same(lines_of(server, len(wanted)), wanted)
-        server.stop()
-        same(server.told().splitlines(), wanted + stopped(server))
+        stop(server, anna, bert)
+        whole(server, wanted)
 
 
 def too_slow(workers):
@@ -105,8 +124,8 @@ def too_slow(workers):
                 break
         wanted = [started(server, 2, 65_536), "login name=Anna client=1", "login name=Bert client=2", "logout name=Bert cause=too_slow client=2"]
         same(lines_of(server, 4), wanted)
-        server.stop()
-        same(server.told().splitlines(), wanted + stopped(server))
+        stop(server, anna, slow)
+        whole(server, wanted)
 
 
 def cut_by_its_login(workers):
@@ -117,6 +136,7 @@ def cut_by_its_login(workers):
         client.expect_end()
         wanted = [started(server, 1, 65_536), "login name=Anna client=1", "logout name=Anna cause=too_slow client=1"]
         same(lines_of(server, 3), wanted)
+        client.close()
 
 
 def harmless(name):
@@ -139,6 +159,7 @@ def forged(workers):
         told = server.told()
         if not re.fullmatch(r"(?:[ -~]*\n)*", told) or "%0Alogin" in told or wanted[1] != "denied name=Anna%250Alogin reason=invalid client=1":
             raise Difference(f"a byte that is not harmless: {told!r}")
+        client.close()
 
 
 def levels(workers):
@@ -147,14 +168,16 @@ def levels(workers):
         with Server(workers, [ANNA, BERT], log=log) as server:
             anna = logged_in(server, ANNA, [])
             bert = logged_in(server, BERT, [ANNA])
-            denied(greeted(server), "x")
+            other = greeted(server)
+            denied(other, "x")
             anna.send("EXIT\n")
             anna.expect(BERT.arrival())
             anna.expect_end()
             bert.expect("REMOVEUSER Anna\n")
             bert.send("x" * 8_193)
             bert.expect_end()
-            server.stop()
+            rest = [logged_in(server, ANNA, []), other]
+            stop(server, anna, bert, *rest)
             wanted = [started(server, 2), "denied name=x reason=invalid client=3", "logout name=Bert cause=line_too_long client=2", *stopped(server)]
             same(server.told().splitlines(), [] if log == "none" else wanted)
 
@@ -171,6 +194,9 @@ def refused(workers):
             client.close()
         client = Client(server)
         client.expect(GREETING)
+        client.close()
+    if workers > 1:
+        return
     files = 10_100
     allowed = resource.getrlimit(resource.RLIMIT_NOFILE)[1]
     if allowed < files:
@@ -185,15 +211,14 @@ def refused(workers):
         # An inbox may have been full meanwhile.
         told = [it for it in lines_of(server, count + 2) if it != "refused reason=busy"]
         same(told, [started(server, 0), *["refused reason=full"] * 2])
-        for client in clients:
-            client.close()
+        stop(server, *clients)
 
 
 def no_memory(workers):
     """While all memory is refused that is told, and each who is refused for it."""
     with tempfile.TemporaryDirectory(prefix="lobby-check-") as folder:
         library, switch = Path(folder) / "refuse.so", Path(folder) / "switch"
-        subprocess.run([Path(__file__).parent / "refuse_allocation.sh", str(library)], check=True)
+        subprocess.run([HERE / "build_library.sh", HERE / "refuse_allocation.c", library], check=True)
         with Server(workers, [ANNA], log="all", LD_PRELOAD=str(library), REFUSED_WHILE=str(switch)) as server:
             anna = logged_in(server, ANNA, [])
             switch.touch()
@@ -204,6 +229,78 @@ def no_memory(workers):
             same(server.told().splitlines(), told)
             switch.unlink()
             anna.expect("PONG\n")
+            anna.close()
+
+
+def not_accepted(workers):
+    """While the system accepts no connection, for a cause that is not want of files or memory, that is told once, and again once one was
+    accepted; who waits is greeted then."""
+    with tempfile.TemporaryDirectory(prefix="lobby-check-") as folder:
+        source, library, switch = Path(folder) / "accept.c", Path(folder) / "accept.so", Path(folder) / "switch"
+        source.write_text(NOT_ACCEPTED)
+        subprocess.run([HERE / "build_library.sh", source, library], check=True)
+        with Server(workers, [], log="all", LD_PRELOAD=str(library), REFUSED_WHILE=str(switch)) as server:
+            for count in (1, 2):
+                switch.touch()
+                client = Client(server)
+                wanted = [started(server, 0)] + ["refused reason=system"] * count
+                same(lines_of(server, 1 + count), wanted)
+                time.sleep(0.1)
+                same(server.told().splitlines(), wanted)
+                switch.unlink()
+                client.expect(GREETING)
+                client.close()
+
+
+# The system's call as the C library has it, but that it answers 1, EPERM, while the file is there.
+NOT_ACCEPTED = """
+extern char *getenv(const char *name);
+extern int access(const char *path, int mode);
+extern int *__errno_location(void);
+extern long syscall(long number, ...);
+int accept4(int socket, void *address, unsigned *length, int flags) {
+    const char *file = getenv("REFUSED_WHILE");
+    if (file && access(file, 0) == 0) {
+        *__errno_location() = 1;
+        return -1;
+    }
+    return syscall(288, socket, address, length, flags);
+}
+"""
+# The inbox of a worker, and what a tracer asks of the system.
+INBOX, ATTACH, DETACH, ALL_THREADS = 256, 16, 17, 0x40000000
+
+
+@contextlib.contextmanager
+def held(server):
+    """Meanwhile a thread of a server does nothing: that of the last worker, which is the first that it makes behind the log's."""
+    system = ctypes.CDLL(None, use_errno=True)
+    system.ptrace.argtypes = [ctypes.c_long, ctypes.c_long, ctypes.c_void_p, ctypes.c_void_p]
+    thread = sorted(int(it.name) for it in Path(f"/proc/{server.process.pid}/task").iterdir())[2]
+    if system.ptrace(ATTACH, thread, None, None) != 0:
+        raise Difference(f"the system does not let one hold a thread: {os.strerror(ctypes.get_errno())}")
+    os.waitpid(thread, ALL_THREADS)
+    try:
+        yield
+    finally:
+        system.ptrace(DETACH, thread, None, None)
+
+
+def busy(workers):
+    """A worker that does nothing has 256 connections wait for it, and those behind are refused. One worker alone is never so far behind."""
+    if workers == 1:
+        return
+    with Server(workers, [], log="all", files=4_096) as server, contextlib.ExitStack() as crowd:
+        with held(server):
+            clients = [crowd.enter_context(contextlib.closing(Client(server))) for _ in range(workers * (INBOX + 3))]
+            wanted = [started(server, 0)] + ["refused reason=busy"] * 3
+            same(lines_of(server, 4), wanted)
+            for client in clients[workers - 1 :: workers][INBOX:]:
+                client.expect_end()
+        for client in clients[workers - 1 :: workers][:INBOX] + clients[::workers]:
+            client.expect(GREETING)
+        same(server.told().splitlines(), wanted)
+        stop(server, *clients)
 
 
 def closed(workers):
@@ -211,9 +308,15 @@ def closed(workers):
     for error in ("2>&-", "2> /dev/full"):
         with Shell(workers, error) as server:
             anna = logged_in(server, ANNA, [])
-            for _ in range(2 * WAITING):
-                denied(anna, "x", "DENIED Already logged in\n")
+            denied_often(anna, 2 * WAITING)
             anna.expect_nothing_more()
+            stop(server, anna)
+
+
+def denied_often(client, count):
+    """One who is logged in logs in again and again."""
+    client.send(f"LOGIN x {WORD} 0 * C\n" * count)
+    client.expect("DENIED Already logged in\n" * count)
 
 
 class Shell(Server):
@@ -240,8 +343,7 @@ def unread(workers):
     count = 4 * WAITING
     with Server(workers, [ANNA], log="all", errors=os.fdopen(writer, "wb", buffering=0)) as server:
         anna = logged_in(server, ANNA, [])
-        for _ in range(count):
-            denied(anna, "x", "DENIED Already logged in\n")
+        denied_often(anna, count)
         server.errors.close()
         told = bytearray()
         takes = threading.Thread(target=lambda: take(reader, told))
@@ -252,6 +354,7 @@ def unread(workers):
             time.sleep(0.01)
         anna.send("EXIT\n")
         anna.expect_end()
+        anna.close()
         server.errors = open(os.devnull, "rb")
         server.stop()
         takes.join()
@@ -271,12 +374,12 @@ def take(reader, told):
     os.close(reader)
 
 
-CHECKS = [each_happening, too_slow, cut_by_its_login, forged, levels, refused, no_memory, closed, unread]
+CHECKS = [each_happening, too_slow, cut_by_its_login, forged, levels, refused, not_accepted, busy,
+          no_memory, closed, unread]
 
 
 def main():
-    here = Path(__file__).resolve().parent.parent
-    built = sys.argv[1] if len(sys.argv) > 1 else here / "crates/lobby_main/out/lobby_main"
+    built = sys.argv[1] if len(sys.argv) > 1 else HERE.parent / "crates/lobby_main/out/lobby_main"
     os.environ["LOBBY_MAIN"] = str(Path(built).resolve())
     names = sys.argv[2:]
     passed = failed = 0

@@ -9,7 +9,7 @@ folder=${1:+$(realpath -m "$1")}
 cd "$(dirname "$0")/.."
 room=$(mktemp -d)
 trap 'rm -rf "$room"' EXIT
-checks/refuse_allocation.sh "$room/refuse_allocation.so"
+checks/build_library.sh checks/refuse_allocation.c "$room/refuse_allocation.so"
 # How much memory there is where it is scarce, in kB.
 limit=16384
 scarce() { ulimit -d "$limit" && exec timeout 300 "$program" scarce; }

@@ -9,7 +9,7 @@ program=$(realpath -m "${1:-$(dirname "$0")/../crates/memory_trials/out/memory_t
 cd "$(dirname "$0")/.."
 room=$(mktemp -d)
 trap 'rm -rf "$room"' EXIT
-checks/refuse_allocation.sh "$room/refuse_allocation.so"
+checks/build_library.sh checks/refuse_allocation.c "$room/refuse_allocation.so"
 got=0
 LD_PRELOAD="$room/refuse_allocation.so" timeout 120 "$program" bounds > "$room/bounds" 2> "$room/counts" || got=$?
 paste -d ' ' "$room/counts" "$room/bounds" | awk -v status="$got" '

@@ -9,7 +9,7 @@ program=$(realpath -m "${1:-$(dirname "$0")/../crates/lobby_main/out/lobby_main}
 cd "$(dirname "$0")/.."
 room=$(mktemp -d)
 trap 'rm -rf "$room"' EXIT
-checks/refuse_allocation.sh "$room/refuse_allocation.so"
+checks/build_library.sh checks/refuse_allocation.c "$room/refuse_allocation.so"
 printf 'address = "127.0.0.1:0"\nworkers = 2\nmotd = ["Welcome"]\nstop_at_input_end = true\nlog = "none"\n' > "$room/settings.toml"
 # start NUMBER : who asked for this allocation, which is refused to a server, its status, and what it says.
 start() {
