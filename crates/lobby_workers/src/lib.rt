@@ -18,6 +18,6 @@ pub use error::ServerError;
 pub use inboxes::{Arrival, Inboxes};
 pub use lobby_turns::{Conn, Gate, Got, Link, Sent, Turn, TurnState, serve};
 pub use logged::{Log, run_server_logged};
-pub use server::{run_server, run_server_behind};
+pub use server::{Service, run_server, run_service};
 pub use wakers::Wakers;
 pub use worker::{WorkerListener, run_worker};
