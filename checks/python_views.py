@@ -1,0 +1,114 @@
+#!/usr/bin/env python3
+"""Has lobby_play play each row and example once more, and folds the bytes of each client that was accepted, as checks/views.sh does,
+by the view of the package: whole, and in pieces of some prime lengths. All have to be what view_show shows.
+
+    checks/python_views.py [LOBBY_PLAY [VIEW_SHOW [SESSIONS]]]
+
+They are the gate's and no sessions if left out; the package is as checks/python_view.py says. SESSIONS is a number of recorded
+sessions, made of lines of all kinds by chance, that are folded as well."""
+import random
+import re
+import subprocess
+import sys
+import tempfile
+from pathlib import Path
+
+import python_view
+from lobby_server import ROOT, Difference, run
+from rudderraisin import LineTooLong, View
+
+LENGTHS = (1, 3, 61, 1021, 4093)
+ACCEPTED = re.compile(rb"(?m)^(#[0-9]+ )?ACCEPTED ")
+# Who comes in the places of NAME, CHANNEL and so on of a line by chance.
+WORDS = {"NAME": ["Anna", "Bert", "Cleo", "D[x]", "Emil_9"], "CHANNEL": ["main", "x", "[y]"], "BATTLE": ["1", "2", "7", "2147483647"],
+         "NUMBER": ["0", "1", "1024", "4294967295"], "WIDE": ["-2147483648", "0", "255", "4294967295"], "SMALL": ["0", "7", "15"],
+         "BOT": ["Robo", "Rex", "\xff\xfe"], "KEY": ["a", "map/x", "="], "UNIT": ["armcom", "corak", "u"], "TEXT": ["", "a  b", "\xe4=", " "],
+         "FLAG": ["0", "1"], "PORT": ["0", "8452", "65535"], "SIDE": ["0", "100", "200"],
+         "TITLE": ["", "Comet Catcher", "\xff", " x "]}
+LINES = [
+    "ADDUSER NAME DE WIDE NUMBER", "CLIENTSTATUS NAME NUMBER", "REMOVEUSER NAME", "JOIN CHANNEL", "CLIENTS CHANNEL NAME NAME",
+    "JOINED CHANNEL NAME", "LEFT CHANNEL NAME", "LEFT CHANNEL Anna", "SAID CHANNEL NAME TEXT", "BATTLECLOSED BATTLE", "OPENBATTLE BATTLE",
+    "BATTLEOPENED BATTLE FLAG 2 NAME 10.0.0.1 PORT PORT FLAG WIDE WIDE Spring\t104\tTITLE\tTITLE\tBA", "JOINBATTLE BATTLE WIDE",
+    "UPDATEBATTLEINFO BATTLE PORT FLAG WIDE TITLE", "JOINEDBATTLE BATTLE NAME", "LEFTBATTLE BATTLE NAME", "LEFTBATTLE BATTLE Anna",
+    "CLIENTBATTLESTATUS NAME NUMBER WIDE", "ADDBOT BATTLE BOT NAME NUMBER WIDE TITLE", "UPDATEBOT BATTLE BOT NUMBER WIDE",
+    "REMOVEBOT BATTLE BOT", "ADDSTARTRECT SMALL SIDE SIDE SIDE SIDE", "REMOVESTARTRECT SMALL", "SETSCRIPTTAGS KEY=TEXT",
+    "REMOVESCRIPTTAGS KEY KEY", "DISABLEUNITS UNIT UNIT", "ENABLEUNITS UNIT", "ENABLEALLUNITS", "PONG", "NOTHING NAME", "PONG ", "MOTD TEXT",
+]
+
+
+def scripts(room):
+    """The name and the text of each script of rows and examples that does not end badly."""
+    for row in sorted((ROOT / "rows").glob("*/*.row")):
+        with tempfile.TemporaryDirectory(dir=room) as parts:
+            subprocess.run(["awk", "-v", f"FOLDER={parts}", "-f", ROOT / "checks/row.awk", row], env={"LC_ALL": "C"}, check=True)
+            for script in sorted(Path(parts).glob("*.script")):
+                if script.with_suffix(".status").read_text().strip() == "0":
+                    yield f"{row.name} {script.stem}", script.read_bytes()
+    for script in sorted((ROOT / "examples").glob("*.play")):
+        yield script.name, script.read_bytes()
+
+
+def clients(player, text):
+    """The bytes that each client of a script was put, all shown at its end."""
+    lines = [it for it in text.split(b"\n") if not it.startswith(b"show ")]
+    labels = [it.split(b" ")[1] for it in lines if it.startswith(b"open ")]
+    lines = [*lines[:-1], *([lines[-1]] if lines[-1] else []), *(b"show " + it for it in labels)]
+    played = subprocess.run([player], input=b"\n".join(lines) + b"\n", stdout=subprocess.PIPE, timeout=60, check=True).stdout
+    told = dict.fromkeys(labels, b"")
+    for line in played.split(b"\n")[:-1]:
+        label, _, rest = line.partition(b"> ")
+        told[label] += rest + b"\n"
+    return told
+
+
+def folded(pieces):
+    """What a view shows that is fed these pieces, up to a line that is too long."""
+    with View() as view:
+        for it in pieces:
+            try:
+                view.feed(it)
+            except LineTooLong:
+                break
+        return python_view.shown(view)
+
+
+def compare(name, shower, told):
+    wanted = subprocess.run([shower, "whole"], input=told, stdout=subprocess.PIPE, timeout=60, check=True).stdout
+    for length in (len(told) or 1, *LENGTHS):
+        found = folded(told[at:at + length] for at in range(0, len(told), length))
+        if found != wanted:
+            raise Difference(f"{name}: pieces of {length} show\n{found.decode('latin-1')}\nand view_show\n{wanted.decode('latin-1')}")
+
+
+def session(choice):
+    """A session of lines by chance, in a room whose founder is Anna."""
+    lines = ["ACCEPTED Anna", "BATTLEOPENED 1 0 0 Anna 10.0.0.1 0 8 0 0 0 a\tb\tc\td\te", "OPENBATTLE 1"]
+    for _ in range(choice.randrange(5, 120)):
+        line = choice.choice(LINES)
+        for word in WORDS:
+            while word in line:
+                line = line.replace(word, choice.choice(WORDS[word]), 1)
+        lines.append(("#7 " if choice.random() < 0.1 else "") + line + ("\r" if choice.random() < 0.1 else ""))
+    return ("\n".join(lines) + choice.choice(("\n", ""))).encode("latin-1")
+
+
+def check(player, shower, sessions):
+    count = 0
+    with tempfile.TemporaryDirectory() as room:
+        for name, text in scripts(room):
+            for label, told in clients(player, text).items():
+                if ACCEPTED.search(told):
+                    compare(f"{name}, client {label.decode()}", shower, told)
+                    count += 1
+    choice = random.Random(1)
+    for number in range(sessions):
+        compare(f"session {number}", shower, session(choice))
+    if count < 500:
+        raise Difference(f"{count} clients are too few")
+    print(f"python views: {count} clients and {sessions} sessions, each folded in {1 + len(LENGTHS)} ways", flush=True)
+
+
+if __name__ == "__main__":
+    built = [ROOT / "crates" / it / "out" / it for it in ("lobby_play", "view_show")]
+    programs = [str(Path(it).resolve()) for it in sys.argv[1:3] + built[len(sys.argv) - 1:]]
+    run(check, [*programs, int(sys.argv[3]) if sys.argv[3:] else 0])
