@@ -193,16 +193,34 @@ logins() {
     done
 }
 
+# threads NAME : the milliseconds of processors of all threads of the server, and of its second one, which writes the log where there is one.
+threads() {
+    local thread
+    for thread in $(ls "/proc/$server/task" | sort -n); do cat "/proc/$server/task/$thread/schedstat"; done |
+        awk '{ total += $1 } NR == 2 { second = $1 } END { printf "total %.3f log %.3f\n", total / 1e6, second / 1e6 }' >> "$room/$1"
+}
+
 log() {
-    local how name
-    echo '2,000 logins with `log = "none"` and with `log = "all"`: processor seconds of the server, until each is told of all'
-    echo '| How | None | All | All / none |'
-    echo '|---|---|---|---|'
-    for how in one all; do
-        in_turn "silent telling" logins 2000 "$how"
-        printf '| %s ' "$how"
-        for name in silent telling; do figure '| %.3f ' "$name.logins.2000.$how" 'of["user"] + of["system"]'; done
-        echo "| $(ratio "telling.logins.2000.$how" "silent.logins.2000.$how" 'of["user"] + of["system"]') |"
+    local run clients how name
+    echo 'Logins with `log = "none"` and with `log = "all"`, in turn: processor milliseconds of the server, of the thread that writes, and its share'
+    echo '| Logins | How | None | All | All / none | The thread | Share |'
+    echo '|---|---|---|---|---|---|---|'
+    for clients in 50 400 2000; do
+        how=$([ "$clients" = 2000 ] && echo all || echo one)
+        for run in $(seq 1 "$runs"); do
+            for name in silent telling; do
+                start "$name"
+                timeout 90 "$room/load" logins "$port" "$server" "$clients" "$how" > "$room/load.out" || { echo "$name: the load failed"; exit 1; }
+                sleep 0.1
+                threads "$name.threads.$clients"
+                stop
+            done
+        done
+        printf '| %d | %s ' "$clients" "$how"
+        for name in silent telling; do figure '| %.1f ' "$name.threads.$clients" 'of["total"]'; done
+        printf '| %s ' "$(ratio "telling.threads.$clients" "silent.threads.$clients" 'of["total"]')"
+        figure '| %.2f ' "telling.threads.$clients" 'of["log"]'
+        figure '| %.4f |\n' "telling.threads.$clients" 'of["log"] / of["total"]'
     done
 }
 

@@ -1,6 +1,6 @@
 #!/usr/bin/env python3
 """log.py [PROGRAM [CHECK..]]: what the server as the gate built it, or another build of it, tells operators on standard error: each
-happening once, in its form; names that try to forge a line; each level; and that clients are served where standard
+happening once, in its form; names that try to forge a line; each level; and that clients are served, and the server stops, where standard
 error is closed or nobody reads it. What is wanted stands here by hand."""
 import contextlib
 import ctypes
@@ -8,6 +8,7 @@ import fcntl
 import os
 import re
 import resource
+import signal
 import subprocess
 import sys
 import tempfile
@@ -21,8 +22,9 @@ ANNA, BERT, EVE = Account("Anna", 1), Account("Bert", 2), Account("Eve[x]_9", 3)
 HERE = Path(__file__).resolve().parent
 VERSION = re.search(r"(?m)^## ([0-9.]+)$", (HERE.parent / "CHANGELOG.md").read_text())[1]
 INVALID = "DENIED Invalid username or password\n"
-# The most lines that wait to be written, and the bytes that a pipe is made to hold.
-WAITING, PIPE = 1_024, 4_096
+# The most lines that wait to be written, the bytes that a pipe is made to hold, and the seconds within which a server stops whose standard
+# error takes nothing, also on a busy machine.
+WAITING, PIPE, LATEST = 1_024, 4_096, 8.0
 
 
 def denied(client, name, answer=INVALID):
@@ -44,8 +46,8 @@ def lines_of(server, count):
 
 
 def started(server, accounts, limit=4_194_304):
-    return (f"started version={VERSION} address={ADDRESS}:{server.port} workers={server.workers} outbox_limit={limit}"
-            f" accounts={accounts}")
+    return (f"started version={VERSION} address={ADDRESS}:{server.port} workers={server.workers} client_limit=10000"
+            f" outbox_limit={limit} accounts={accounts}")
 
 
 def stopped(server):
@@ -63,9 +65,11 @@ def stop(server, *clients):
     return server.stop()
 
 
-def whole(server, wanted):
-    """All that it has told: these lines, then the counts."""
-    same(server.told().splitlines(), wanted + stopped(server))
+def whole(server, wanted, users=()):
+    """All that it has told: these lines; then, in any order, that these users are logged out by the stop; then the counts."""
+    out = [f"logout name={name} cause=stop client={client}" for name, client in users]
+    lines, front = server.told().splitlines(), len(wanted)
+    same(lines[:front] + sorted(lines[front : front + len(out)]) + lines[front + len(out) :], wanted + sorted(out) + stopped(server))
 
 
 def each_happening(workers):
@@ -102,7 +106,7 @@ def each_happening(workers):
             leave(greeted(server))
         same(lines_of(server, len(wanted)), wanted)
         stop(server, anna, bert)
-        whole(server, wanted)
+        whole(server, wanted, [("Anna", 1), ("Bert", number + 1)])
 
 
 def too_slow(workers):
@@ -125,7 +129,7 @@ def too_slow(workers):
         wanted = [started(server, 2, 65_536), "login name=Anna client=1", "login name=Bert client=2", "logout name=Bert cause=too_slow client=2"]
         same(lines_of(server, 4), wanted)
         stop(server, anna, slow)
-        whole(server, wanted)
+        whole(server, wanted, [("Anna", 1)])
 
 
 def cut_by_its_login(workers):
@@ -137,6 +141,44 @@ def cut_by_its_login(workers):
         wanted = [started(server, 1, 65_536), "login name=Anna client=1", "logout name=Anna cause=too_slow client=1"]
         same(lines_of(server, 3), wanted)
         client.close()
+
+
+def cut_before_its_exit(workers):
+    """The EXIT of one who was cut before it says nothing: it was too slow. So it is with others there and alone."""
+    for others in (1, 0):
+        with Server(workers, [ANNA, BERT], "outbox_limit = 65536\n", log="all") as server:
+            wanted = [started(server, 2, 65_536)]
+            annas = [logged_in(server, ANNA, []) for _ in range(others)]
+            wanted += ["login name=Anna client=1"] * others
+            bert = logged_in(server, BERT, [ANNA] * others)
+            for anna in annas:
+                anna.expect(BERT.arrival())
+            # All of it is there when the server looks, and comes to 80 kB for one who is told both sides of what it says.
+            server.process.send_signal(signal.SIGSTOP)
+            bert.send(f"SAYPRIVATE Bert {'x' * 8_000}\n" * 5 + "EXIT\n")
+            server.process.send_signal(signal.SIGCONT)
+            wanted += [f"login name=Bert client={1 + others}", f"logout name=Bert cause=too_slow client={1 + others}"]
+            same(lines_of(server, len(wanted)), wanted)
+            stop(server, bert, *annas)
+            whole(server, wanted, [("Anna", 1)] * others)
+
+
+def many_at_a_stop(workers):
+    """Each who is logged in at a stop is told as logged out, once: there are as many log outs as logins. One who exits before it is not."""
+    users = [Account(f"u{number}", number) for number in range(1, 401)]
+    with Server(workers, users, log="all") as server:
+        clients = [greeted(server) for _ in users]
+        for client, user in zip(clients, users):
+            client.send(user.login())
+        logins = {f"login name=u{number} client={number}" for number in range(1, 401)}
+        same(set(lines_of(server, 401)[1:]), logins)
+        clients[0].send("EXIT\n")
+        lines_of(server, 402)
+        greeted(server).close()
+        stop(server, *clients)
+        lines = server.told().splitlines()
+        same((len(lines), lines[401], lines[-workers:]), (801 + workers, "logout name=u1 cause=exit client=1", stopped(server)))
+        same(set(lines[402:-workers]), {f"logout name=u{number} cause=stop client={number}" for number in range(2, 401)})
 
 
 def harmless(name):
@@ -344,6 +386,8 @@ def unread(workers):
     with Server(workers, [ANNA], log="all", errors=os.fdopen(writer, "wb", buffering=0)) as server:
         anna = logged_in(server, ANNA, [])
         denied_often(anna, count)
+        # The server has tried to write, and waited for as long as it does at its end.
+        time.sleep(1.5)
         server.errors.close()
         told = bytearray()
         takes = threading.Thread(target=lambda: take(reader, told))
@@ -367,6 +411,23 @@ def unread(workers):
             raise Difference(f"of {count} lines {kept} came, and {lost} were told as lost")
 
 
+def never_read(workers):
+    """Nobody ever reads standard error, which is full, from the start or after a while: a stop waits for it for a moment and no longer."""
+    for count in (0, 2 * WAITING):
+        reader, writer = os.pipe()
+        fcntl.fcntl(writer, fcntl.F_SETPIPE_SZ, PIPE)
+        if not count:
+            os.write(writer, b"x" * PIPE)
+        with Server(workers, [ANNA], log="all", errors=os.fdopen(writer, "wb", buffering=0)) as server:
+            anna = logged_in(server, ANNA, [])
+            denied_often(anna, count)
+            begun = time.monotonic()
+            stop(server, anna)
+            if time.monotonic() - begun > LATEST:
+                raise Difference(f"the server ended after {time.monotonic() - begun:.1f} s")
+        os.close(reader)
+
+
 def take(reader, told):
     """Takes all that comes of a pipe."""
     while piece := os.read(reader, 65_536):
@@ -374,8 +435,8 @@ def take(reader, told):
     os.close(reader)
 
 
-CHECKS = [each_happening, too_slow, cut_by_its_login, forged, levels, refused, not_accepted, busy,
-          no_memory, closed, unread]
+CHECKS = [each_happening, too_slow, cut_by_its_login, cut_before_its_exit, many_at_a_stop, forged, levels, refused, not_accepted, busy,
+          no_memory, closed, unread, never_read]
 
 
 def main():

@@ -2,8 +2,8 @@
 # Runs the trials of memory, as the gate built them, where memory is refused: once where it is scarce, and each call is
 # made with more and more of it, and once where one growth of a call is refused, the first one and then the next ones,
 # until none is. After each refusal all is compared. They must show what they show where memory is plenty, and memory
-# must have been refused often. `checks/memory.sh FOLDER` takes other builds of memory_trials and turn_trials, which lie
-# there, than the gate's.
+# must have been refused often. `checks/memory.sh FOLDER` takes other builds of the three programs, which lie there, than the
+# gate's.
 set -euo pipefail
 folder=${1:+$(realpath -m "$1")}
 cd "$(dirname "$0")/.."
@@ -34,8 +34,10 @@ refuse() {
         status=1
     fi
 }
-refuse memory_trials scarce 12000
-refuse memory_trials counted 3000
+refuse leaf_trials scarce 3500
+refuse leaf_trials counted 550
+refuse memory_trials scarce 9000
+refuse memory_trials counted 2500
 refuse turn_trials scarce 3500
 refuse turn_trials counted 150
 exit "$status"

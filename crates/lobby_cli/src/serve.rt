@@ -2,11 +2,11 @@
 
 ghost use Rattle.std.specs.Prelude.{◌≤◌, IfOk};
 
-use crate::output::PatientOutput;
+use crate::output::{ErrorWriter, Output, PatientOutput};
 use account_book::AccountBook;
-use lobby_files::{FileError, accounts_at, settings_at};
+use lobby_files::{CLIENT_LIMIT, FileError, accounts_at, settings_at};
 use lobby_setup::Setup;
-use lobby_workers::{Gate, Log, ServerError, run_server_logged};
+use lobby_workers::{Gate, Log, ServerError, Service, run_server_logged};
 use mio::net::TcpListener;
 use program_help::VERSION;
 use server_log::{ShortText, Started};
@@ -88,22 +88,29 @@ where
         version: VERSION,
         address,
         workers,
+        client_limit: CLIENT_LIMIT as u64,
         outbox_limit: settings.outbox_limit() as u64,
         accounts: accounts.len() as u64,
     };
     let mut input = rt.reader();
-    let mut output = PatientOutput::new(rt, rt.alloc(), io::writer(rt))?;
-    let status = run_server_logged(
-        rt,
-        rt.alloc(),
+    let results = io::writer(rt);
+    let mut output = PatientOutput::new(rt, rt.alloc(), Output::Results, results)?;
+    let errors = PatientOutput::new(rt, rt.alloc(), Output::Errors, ErrorWriter { rt })?;
+    let service = Service {
         settings,
         workers,
         stop_at_input_end,
         proxies,
         accounts,
+    };
+    let status = run_server_logged(
+        rt,
+        rt.alloc(),
+        service,
         listener,
         &mut input,
         &mut output,
+        errors,
         &OpenGate,
         Log {
             level: log,

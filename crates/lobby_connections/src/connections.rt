@@ -254,12 +254,9 @@ impl Connections {
         }
     }
 
-    /// The client of the connection under a key.
-    pub fn conn_at(&self, key: usize) -> Option<&Conn> {
-        match self.slab.get(key) {
-            Some(connection) => Some(&connection.conn),
-            None => None,
-        }
+    /// The connection under a key.
+    pub fn at(&self, key: usize) -> Option<&Connection> {
+        self.slab.get(key)
     }
 
     /// The connection under a key, whose turn of this round begins. None where there is none, or it had its turn.
@@ -316,14 +313,6 @@ impl Connections {
         self.keys.remove(&conn.client());
         drop(conn);
         Some(link)
-    }
-
-    /// The client of the connection under a key, where it was sent all that waited for it.
-    pub fn told_at(&self, key: usize) -> Option<&Conn> {
-        match self.slab.get(key) {
-            Some(connection) if connection.is_told => Some(&connection.conn),
-            _ => None,
-        }
     }
 
     /// A connection ends with its worker: its client was shut, and it lingers beside all others.

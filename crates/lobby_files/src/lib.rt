@@ -8,4 +8,4 @@ mod report;
 
 pub use error::{AccountsFault, FileError};
 pub use files::{accounts_at, settings_at};
-pub use report::check;
+pub use report::{CLIENT_LIMIT, check};

@@ -10,9 +10,9 @@ use std::rt::{Env, Files};
 
 const USAGE: &str = "usage: lobby_check SETTINGS ACCOUNTS";
 
-/// The most clients that a lobby takes. The lobby has this limit itself; it is said once more here, since the program that looks at
-/// files is built without a lobby.
-const CLIENTS: usize = 10_000;
+/// The most clients that a lobby takes. The lobby has this limit itself; it is said once more here, since the programs that look at
+/// files are built without a lobby.
+pub const CLIENT_LIMIT: usize = 10_000;
 
 /// What a client takes that is logged in, in a channel of 1,000, and reads, in bytes, as it was measured (docs/OPERATING.md).
 const CLIENT_BYTES: usize = 2_863;
@@ -22,7 +22,7 @@ fn waiting_megabytes(outbox_limit: usize) -> usize
     requires { outbox_limit ≤ 67108864 }
     ensures { result ≡ 10000 * (2863 + outbox_limit) / 1000000 }
 {
-    CLIENTS * (CLIENT_BYTES + outbox_limit) / 1_000_000
+    CLIENT_LIMIT * (CLIENT_BYTES + outbox_limit) / 1_000_000
 }
 
 /// Says what a file of settings sets the server up to, or why it cannot be used. The settings where it can.
@@ -45,7 +45,7 @@ fn check_settings<R: Files + Print + AllocGlobal>(rt: &R, path: &str) -> Option<
         "memory: some {CLIENT_BYTES} bytes a client, and up to {unread} more for one that does not read"
     );
     let _ = println!(rt;
-        "memory: some {most} MB if {CLIENTS} clients read nothing, and more where buffers have room to spare"
+        "memory: some {most} MB if {CLIENT_LIMIT} clients read nothing, and more where buffers have room to spare"
     );
     Some(setup.settings)
 }
@@ -66,7 +66,7 @@ fn check_accounts<R: Files + Print + AllocGlobal>(rt: &R, path: &str) -> Option<
 
 /// Says what a login is sent at most, and warns where the limit of an outbox is below that.
 fn check_burst<R: Print>(rt: &R, settings: &Settings, accounts: usize) {
-    let users = accounts.min(CLIENTS);
+    let users = accounts.min(CLIENT_LIMIT);
     let burst = longest_burst(settings, users);
     let _ = println!(rt;
         "login: up to {burst} bytes, if each other user has opened a battle with the longest texts"

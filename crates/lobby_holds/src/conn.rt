@@ -12,14 +12,14 @@ ghost use Rattle.lobby_holds.specs.Holds.{HasNoSpoiltNext};
 
 use crate::gate::Gate;
 use crate::link::{Got, Link, Sent};
-use crate::visit::{Asked, Visit};
+use crate::login_log::{Asked, Visit};
 use byte_queue::ByteQueue;
 use client_session::{Next, Session};
 use command_grammar::Command;
 use line_framer::FeedError;
 use lobby_lock::Held;
 use lobby_machine::Wakes;
-use server_log::Happening;
+use server_log::{Cause, Happening};
 use std::alloc::{AllocError, Global};
 use std::marker::Model;
 
@@ -198,12 +198,16 @@ impl Conn {
         self.visit.finish();
     }
 
-    /// What operators are told where the client was shut now, over this link: that its user, if it had one, is logged out, and why.
-    pub fn logout<L: Link>(&self, link: &L) -> Option<Happening> {
+    /// What operators are told where the client was shut now, over this link: that its user, if it had one, is logged out, and why; by
+    /// this cause where neither client nor link gave one.
+    pub fn logout<L: Link>(&self, link: &L, otherwise: Cause) -> Option<Happening> {
         let has_failed = link.last_got() == Some(Got::Fault)
             || link.last_sent() == Some(Sent::Fault);
-        self.visit
-            .logout(self.client(), self.is_spoilt_next(), has_failed)
+        let cause = self
+            .visit
+            .cause(self.is_spoilt_next(), has_failed)
+            .unwrap_or(otherwise);
+        self.visit.logout(self.client(), cause)
     }
 }
 

@@ -11,7 +11,7 @@ mod gate;
 mod gated_desk;
 pub mod holds;
 mod link;
-mod visit;
+mod login_log;
 
 pub use conn::{Conn, PIECE};
 pub use gate::Gate;

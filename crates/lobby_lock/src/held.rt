@@ -4,6 +4,7 @@ ghost use Rattle.std.specs.Prelude.{◌≡◌, ◌-◌, ◌<◌, ◌≤◌, ◌�
 ghost use Rattle.command_forms.specs.Kinds.{keeps_kinds};
 ghost use Rattle.lobby_model.specs.declared.event.Event.TheVariants as event;
 ghost use Rattle.lobby_model.specs.Sessions.{has_place};
+ghost use Rattle.lobby_model.specs.State.{hears};
 ghost use Rattle.lobby_post.specs.Mail.{IsWakes};
 ghost use Rattle.lobby_machine.specs.Shown.{Applies, HasNoNumber, IsFull, IsNextNumber, KeepsOthers, ListsOpened, ListsTouched, Opens, TakesFirst, count_into, filled, dirty_at, unread_of, is_finished};
 ghost use Rattle.lobby_lock.specs.Passes.{AddsEvent, lobby_after, pass_after};
@@ -146,6 +147,13 @@ impl Held {
         ensures rest { self.new ≡ record self.old { lobby = self.new.lobby } }
     {
         self.lobby.next_dirty(home)
+    }
+
+    /// Whether a client hears, as `Lobby::hears` says. It is no event.
+    pub fn hears(&self, client: u64) -> bool
+        ensures { result ≡ hears self.now.lobby.plain client }
+    {
+        self.lobby.hears(client)
     }
 
     /// How many bytes a client has not read; 0 where it is not there.

@@ -4,7 +4,7 @@ ghost use Rattle.std.specs.Prelude.{◌≡◌, ℕ, ◌-◌, ◌^◌, ◌<◌, �
 ghost use Rattle.command_forms.specs.Kinds.{keeps_kinds};
 ghost use Rattle.line_words.specs.Table.{at_number};
 ghost use Rattle.lobby_model.specs.declared.event.Event.TheVariants as event;
-ghost use Rattle.lobby_model.specs.State.{empty_lobby};
+ghost use Rattle.lobby_model.specs.State.{empty_lobby, hears};
 ghost use Rattle.lobby_model.specs.Sessions.{has_place};
 ghost use Rattle.lobby_post.specs.Mail.{IsWakes};
 ghost use Rattle.lobby_maps.specs.Calls.{Applies, HasNoNumber, IsFull, IsNextNumber, KeepsOthers, ListsTouched, ListsOpened, Opens, TakesFirst, count_into, filled};
@@ -186,6 +186,13 @@ impl Lobby {
         ensures { result ≡ is_some (at_number self.now.plain.clients client) }
     {
         self.parts.maps.has_client(client)
+    }
+
+    /// Whether a client hears: it is there, was not cut and has not said EXIT.
+    pub fn hears(&self, client: u64) -> bool
+        ensures { result ≡ hears self.now.plain client }
+    {
+        self.parts.maps.issuer(client).is_some()
     }
 
     /// How many bytes a client has not read; 0 where it is not there.

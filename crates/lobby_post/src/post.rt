@@ -207,6 +207,13 @@ impl Post {
         Ok(())
     }
 
+    /// How many pieces are told: one for each client that an audience has.
+    pub fn count(&self) -> usize
+        ensures { result ≡ length self.now.sent }
+    {
+        self.pieces.len()
+    }
+
     /// Makes room for all that is told, in each outbox that takes it: all of that is due then, and
     /// `deliver` cannot fail. No client sees a difference. Where memory is refused, nothing is due.
     pub fn reserve(&self, slots: &mut Slots, pool: &mut BufferPool) -> Result<(), AllocError>

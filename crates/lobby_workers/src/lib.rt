@@ -4,12 +4,11 @@
 #![tactic(auto)]
 
 mod error;
-mod log;
 mod logged;
 mod server;
 
 pub use error::ServerError;
 pub use lobby_turns::{Conn, Gate, Got, Link, Sent, Turn, TurnState, serve};
 pub use logged::{Log, run_server_logged};
-pub use server::{run_server, run_server_behind};
+pub use server::{Service, run_server, run_service};
 pub use worker_loop::{Arrival, Inboxes, ListenError, Wakers, WorkerListener, run_worker};

@@ -4,19 +4,17 @@ ghost use Rattle.std.specs.Prelude.{◌≡◌, ◌≤◌};
 ghost use Rattle.lobby_workers.specs.Statuses.{IsEnd};
 
 use crate::error::ServerError;
-use crate::log::{LogQueue, Reporter};
-use crate::server::run_server_behind;
-use account_book::AccountBook;
-use lobby_model::{Settings, WORKERS};
+use crate::server::{Service, run_service};
+use lobby_model::WORKERS;
 use lobby_turns::Gate;
+use log_queue::{Lines, LogQueue, Reporter};
 use mio::net::TcpListener;
-use proxy_line::Proxies;
 use server_log::{LogLevel, Started};
-use std::alloc::Global;
+use std::alloc::{AllocError, Global};
 use std::io::{Read, Write};
 use std::net::Net;
 use std::sync::Wait;
-use std::thread::{self, Scope, Threads};
+use std::thread::{self, JoinHandle, Scope, Threads};
 
 /// What operators are told.
 #[derive(Drop)]
@@ -27,150 +25,185 @@ pub struct Log {
     pub started: Started,
 }
 
-/// What a server is run with.
+/// What the first thread listens with, reads and writes, and what is told what workers do.
 #[derive(Drop)]
-struct Run<'a, I, O, G> {
-    settings: Settings,
-    stop_at_input_end: bool,
-    proxies: Proxies,
-    accounts: AccountBook,
+struct Ends<'a, I, O, G> {
     listener: TcpListener,
     input: &'a mut I,
     output: &'a mut O,
     gate: &'a G,
 }
 
-/// Runs a server as [`run_server_behind`] does, and tells operators on standard error what happens, a line each, from a thread of its
-/// own. Lines are written whole and in their order. No worker waits for one: what comes while 1,024 wait is lost, and its number is told.
-/// The thread has written all that it was given when the server ends; so a server whose standard error takes nothing ends once that does.
-/// With the level `None` there is no such thread. The status is 3 also where the system makes no thread for it, and 4 where there is no
-/// memory for it.
+/// Runs a server as [`run_service`] does, and tells operators on `errors` what happens, a line each, from a thread of
+/// its own. Lines are written whole and in their order. No worker waits for one: what comes while 1,024 wait is lost,
+/// and its number is told.
+///
+/// A write to `errors` that fails by `WouldBlock` is tried again at once, so it has to wait a while before it does; any
+/// other that fails, behind what happens next. Once the server has ended, what a try does not write is given up; else
+/// the thread has written all that it was given. With the level `None` there is no such thread. The status is 3 also
+/// where the system makes no thread for it, and 4 where there is no memory for it.
 pub fn run_server_logged<
-    R: Threads + Wait + Net + Eprint + Sync,
+    R: Threads + Wait + Net + Sync,
     I: Read,
     O: Write,
+    E: Write + Send + Drop,
     G: Gate + Sync,
 >(
     rt: &R,
     alloc: Global,
-    settings: Settings,
-    workers: u32,
-    stop_at_input_end: bool,
-    proxies: Proxies,
-    accounts: AccountBook,
+    service: Service,
     listener: TcpListener,
     input: &mut I,
     output: &mut O,
+    errors: E,
     gate: &G,
     log: Log,
 ) -> u8
-    requires { (1 ≤ workers) × (workers ≤ WORKERS) }
+    requires { (1 ≤ service.workers) × (service.workers ≤ WORKERS) }
     ensures { IsEnd result }
 {
-    let run = Run {
-        settings,
-        stop_at_input_end,
-        proxies,
-        accounts,
+    let Log { level, started } = log;
+    if level == LogLevel::None {
+        drop(errors);
+        return run_service(rt, alloc, service, listener, input, output, gate);
+    }
+    let ends = Ends {
         listener,
         input,
         output,
         gate,
     };
-    let Log { level, started } = log;
-    if level == LogLevel::None {
-        return run_told(rt, alloc, run, workers, gate);
-    }
-    match LogQueue::new(alloc, level, started) {
-        Ok(queue) => run_scope(rt, alloc, run, workers, &queue),
+    match new_log(alloc, level, started) {
+        Ok((queue, lines)) => run_scope(rt, alloc, service, ends, errors, &queue, lines),
         Err(_) => {
-            drop(run);
+            drop(service);
+            drop(ends);
+            drop(errors);
             ServerError::Memory.status()
         }
     }
 }
 
-/// Runs a server whose workers are told of to this gate.
-fn run_told<R: Threads + Wait + Net + Sync, I: Read, O: Write, G, H: Gate + Sync>(
+/// Runs a server that puts what operators are told into a queue.
+fn run_reported<R: Threads + Wait + Net + Sync, I: Read, O: Write, G: Gate + Sync>(
     rt: &R,
     alloc: Global,
-    run: Run<'_, I, O, G>,
-    workers: u32,
-    gate: &H,
+    service: Service,
+    ends: Ends<'_, I, O, G>,
+    queue: &LogQueue,
 ) -> u8
-    requires { (1 ≤ workers) × (workers ≤ WORKERS) }
+    requires { (1 ≤ service.workers) × (service.workers ≤ WORKERS) }
     ensures { IsEnd result }
 {
-    let Run {
-        settings,
-        stop_at_input_end,
-        proxies,
-        accounts,
-        listener,
-        input,
-        output,
-        gate: _,
-    } = run;
-    run_server_behind(
-        rt,
-        alloc,
-        settings,
-        workers,
-        stop_at_input_end,
-        proxies,
-        accounts,
+    let Ends {
         listener,
         input,
         output,
         gate,
-    )
+    } = ends;
+    let reporter = Reporter {
+        rt,
+        gate,
+        log: queue,
+    };
+    run_service(rt, alloc, service, listener, input, output, &reporter)
+}
+
+/// Runs no server, since the thread that writes could not be made.
+fn give_up<I, O, G>(service: Service, ends: Ends<'_, I, O, G>) -> u8
+    ensures { IsEnd result }
+{
+    drop(service);
+    drop(ends);
+    ServerError::Listener.status()
+}
+
+/// A log with nothing in it.
+fn new_log(
+    alloc: Global,
+    level: LogLevel,
+    started: Started,
+) -> Result<(LogQueue, Lines), AllocError> {
+    let queue = LogQueue::new(alloc, level, started)?;
+    let lines = Lines::new(alloc)?;
+    Ok((queue, lines))
 }
 
 /// Runs a server, and beside it the thread that writes.
-fn run_scope<R: Threads + Wait + Net + Eprint + Sync, I: Read, O: Write, G: Gate + Sync>(
+fn run_scope<
+    R: Threads + Wait + Net + Sync,
+    I: Read,
+    O: Write,
+    E: Write + Send + Drop,
+    G: Gate + Sync,
+>(
     rt: &R,
     alloc: Global,
-    run: Run<'_, I, O, G>,
-    workers: u32,
+    service: Service,
+    ends: Ends<'_, I, O, G>,
+    errors: E,
     queue: &LogQueue,
+    lines: Lines,
 ) -> u8
-    requires { (1 ≤ workers) × (workers ≤ WORKERS) }
+    requires { (1 ≤ service.workers) × (service.workers ≤ WORKERS) }
     ensures { IsEnd result }
 {
     thread::scope(
         thread::scope_env(),
         rt,
         move |scope| -> u8
-            requires { (1 ≤ workers) × (workers ≤ WORKERS) }
+            requires { (1 ≤ service.workers) × (service.workers ≤ WORKERS) }
             ensures { IsEnd result }
-        { run_beside(scope, rt, alloc, run, workers, queue) },
+        { run_beside(scope, rt, alloc, service, ends, errors, queue, lines) },
     )
 }
 
-/// Starts the thread that writes, runs the server, and waits until all is written.
-fn run_beside<'s, 'e, R: Threads + Wait + Net + Eprint + Sync, I: Read, O: Write, G: Gate + Sync>(
+/// Starts the thread that writes. None where the system makes no thread.
+fn start_writer<'s, 'e, R: Wait + Sync, E: Write + Send + Drop + 'e>(
+    scope: &Scope<'s, &'e ()>,
+    rt: &'e R,
+    errors: E,
+    queue: &'e LogQueue,
+    lines: Lines,
+) -> Option<JoinHandle<()>> {
+    match scope.spawn(move || queue.write_until_end(rt, errors, lines)) {
+        Ok(writer) => Some(writer),
+        Err(refused) => {
+            drop(refused);
+            None
+        }
+    }
+}
+
+/// Starts the thread that writes, runs the server, and waits until all is written or given up.
+fn run_beside<
+    's,
+    'e,
+    R: Threads + Wait + Net + Sync,
+    I: Read,
+    O: Write,
+    E: Write + Send + Drop + 'e,
+    G: Gate + Sync,
+>(
     scope: &Scope<'s, &'e ()>,
     rt: &'e R,
     alloc: Global,
-    run: Run<'_, I, O, G>,
-    workers: u32,
+    service: Service,
+    ends: Ends<'_, I, O, G>,
+    errors: E,
     queue: &'e LogQueue,
+    lines: Lines,
 ) -> u8
-    requires { (1 ≤ workers) × (workers ≤ WORKERS) }
+    requires { (1 ≤ service.workers) × (service.workers ≤ WORKERS) }
     ensures { IsEnd result }
 {
-    let Ok(writer) = scope.spawn(move || queue.write_until_end(rt, alloc)) else {
-        drop(run);
-        return ServerError::Listener.status();
-    };
-    let gate = run.gate;
-    let reporter = Reporter {
-        rt,
-        gate,
-        log: queue,
-    };
-    let status = run_told(rt, alloc, run, workers, &reporter);
-    queue.end();
-    writer.join(rt);
-    status
+    match start_writer(scope, rt, errors, queue, lines) {
+        Some(writer) => {
+            let status = run_reported(rt, alloc, service, ends, queue);
+            queue.end();
+            writer.join(rt);
+            status
+        }
+        None => give_up(service, ends),
+    }
 }

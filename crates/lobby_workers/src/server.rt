@@ -25,12 +25,17 @@ use worker_loop::{Inboxes, Shared, Wakers, WorkerListener, run_worker};
 
 /// What a server serves, and how.
 #[derive(Drop)]
-struct Service {
-    settings: Settings,
-    workers: u32,
-    stop_at_input_end: bool,
-    proxies: Proxies,
-    accounts: AccountBook,
+pub struct Service {
+    /// What its lobby is set to.
+    pub settings: Settings,
+    /// How many workers it has, 1 to 64.
+    pub workers: u32,
+    /// Whether it stops where its input ends.
+    pub stop_at_input_end: bool,
+    /// From where fronts connect.
+    pub proxies: Proxies,
+    /// Who may log in.
+    pub accounts: AccountBook,
 }
 
 /// How the workers of a server are reached, whether they are to end, and from where fronts connect.
@@ -123,46 +128,30 @@ pub fn run_server<R: Threads + Wait + Net + Sync, I: Read, O: Write, G: Gate + S
     requires { (1 ≤ workers) × (workers ≤ WORKERS) }
     ensures { IsEnd result }
 {
-    run_server_behind(
-        rt,
-        alloc,
+    let service = Service {
         settings,
         workers,
         stop_at_input_end,
-        Proxies::new(),
+        proxies: Proxies::new(),
         accounts,
-        listener,
-        input,
-        output,
-        gate,
-    )
+    };
+    run_service(rt, alloc, service, listener, input, output, gate)
 }
 
-/// Runs a server as [`run_server`] does, where fronts connect from these addresses: a connection from one of them begins with its
-/// line, and its client is opened with the address that the line gives.
-pub fn run_server_behind<R: Threads + Wait + Net + Sync, I: Read, O: Write, G: Gate + Sync>(
+/// Runs a server as [`run_server`] does, where fronts may connect: a connection from one of them begins with its line, and its client
+/// is opened with the address that the line gives.
+pub fn run_service<R: Threads + Wait + Net + Sync, I: Read, O: Write, G: Gate + Sync>(
     rt: &R,
     alloc: Global,
-    settings: Settings,
-    workers: u32,
-    stop_at_input_end: bool,
-    proxies: Proxies,
-    accounts: AccountBook,
+    service: Service,
     listener: TcpListener,
     input: &mut I,
     output: &mut O,
     gate: &G,
 ) -> u8
-    requires { (1 ≤ workers) × (workers ≤ WORKERS) }
+    requires { (1 ≤ service.workers) × (service.workers ≤ WORKERS) }
     ensures { IsEnd result }
 {
-    let service = Service {
-        settings,
-        workers,
-        stop_at_input_end,
-        proxies,
-        accounts,
-    };
     match serve_until_end(rt, alloc, service, listener, input, output, gate) {
         Ok(()) => 0,
         Err(error) => error.status(),

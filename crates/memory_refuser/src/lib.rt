@@ -2,6 +2,7 @@
 #![tactic(auto)]
 
 pub mod counted;
+pub mod deeds;
 mod hog;
 pub mod notes;
 pub mod refuser;

@@ -1,9 +1,9 @@
 //! A battle whose founder is asked by those who would join it, and in which units are disabled.
 
 use crate::crowd::Crowd;
-use crate::deeds::{Deed, try_deeds};
-use crate::notes::Notes;
-use crate::refuser::Refuser;
+use memory_refuser::deeds::{Deed, try_deeds};
+use memory_refuser::notes::Notes;
+use memory_refuser::refuser::Refuser;
 use std::io;
 
 /// The first user opens a battle, which nineteen ask to join. It lets eleven of them in and denies it two, and one asks no more. An

@@ -3,10 +3,10 @@
 //! with the counts.
 
 use crate::crowd::Crowd;
-use crate::deeds::Subject;
 use crate::lobbies::{read_some, say};
 use lobby_machine::Lobby;
 use memory_refuser::counted::Counted;
+use memory_refuser::deeds::Subject;
 use std::alloc::{AllocError, Global};
 use std::io;
 use test_lobby::GREETING;

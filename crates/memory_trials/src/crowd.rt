@@ -1,11 +1,11 @@
 //! A crowd of users who are logged in, and a channel of 33 whose last one joins.
 
-use crate::deeds::{Deed, Subject, try_deeds};
 use crate::lobbies::{HOME, act, are_alike, read_some, say, show_unread, use_buffer_up};
-use crate::notes::Notes;
-use crate::refuser::Refuser;
 use account_book::{Account, AccountBook};
 use lobby_machine::Lobby;
+use memory_refuser::deeds::{Deed, Subject, try_deeds};
+use memory_refuser::notes::Notes;
+use memory_refuser::refuser::Refuser;
 use std::alloc::Global;
 use std::io;
 use test_lobby::{WORD, lobby_of};

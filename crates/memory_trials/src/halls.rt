@@ -3,13 +3,13 @@
 ghost use Rattle.std.specs.Prelude.{IfOk, IfSome};
 ghost use Rattle.lobby_hall.specs.Standing.{HasHome};
 
-use crate::deeds::{Deed, Subject, try_deeds};
-use crate::notes::Notes;
-use crate::refuser::Refuser;
 use lobby_hall::{Hall, HallError, Record};
 use lobby_model::Step;
 use lobby_model::schedule::Piece;
 use lobby_model::settings::LEAST_OUTBOX_LIMIT;
+use memory_refuser::deeds::{Deed, Subject, try_deeds};
+use memory_refuser::notes::Notes;
+use memory_refuser::refuser::Refuser;
 use std::alloc::{AllocError, Global};
 use std::io;
 use std::io::Write;
@@ -180,11 +180,15 @@ fn reads_all(hall: &mut Hall, client: u64) -> bool {
     hall.step(&Step::Read { client, count }).is_ok()
 }
 
-impl Subject for Hall {
-    fn new(alloc: Global) -> Option<Hall> {
+/// A hall under trial.
+#[derive(Drop)]
+struct TriedHall(Hall);
+
+impl Subject for TriedHall {
+    fn new(alloc: Global) -> Option<TriedHall> {
         let accounts = book_with_onlookers(alloc)?;
         match settings(alloc, LEAST_OUTBOX_LIMIT) {
-            Some(settings) => Hall::new(alloc, settings, accounts).ok(),
+            Some(settings) => Some(TriedHall(Hall::new(alloc, settings, accounts).ok()?)),
             None => {
                 drop(accounts);
                 None
@@ -194,33 +198,33 @@ impl Subject for Hall {
 
     fn act(&mut self, alloc: Global, client: u64, deed: Deed) -> bool {
         match step_of(alloc, client, deed) {
-            Ok(Some(step)) => self.step(&step) != Err(HallError::Memory),
-            Ok(None) => self.record().is_ok(),
+            Ok(Some(step)) => self.0.step(&step) != Err(HallError::Memory),
+            Ok(None) => self.0.record().is_ok(),
             Err(_) => false,
         }
     }
 
     fn use_up(&mut self, alloc: Global) -> bool {
-        let dora = self.last_client().saturating_add(1);
-        let is_said = say_all(self, alloc, dora).is_ok();
-        is_said && (1..=dora).all(|client| reads_all(self, client))
+        let dora = self.0.last_client().saturating_add(1);
+        let is_said = say_all(&mut self.0, alloc, dora).is_ok();
+        is_said && (1..=dora).all(|client| reads_all(&mut self.0, client))
     }
 
-    fn is_as(&mut self, other: &mut Hall) -> bool {
-        let last = self.last_client();
-        let are_ready = (0..=last).all(|client| self.ready(client) == other.ready(client));
-        if !are_ready || other.last_client() != last {
+    fn is_as(&mut self, other: &mut TriedHall) -> bool {
+        let last = self.0.last_client();
+        let are_ready = (0..=last).all(|client| self.0.ready(client) == other.0.ready(client));
+        if !are_ready || other.0.last_client() != last {
             return false;
         }
-        match (self.record(), other.record()) {
+        match (self.0.record(), other.0.record()) {
             (Ok(record), Ok(theirs)) => are_alike(record, theirs, last),
             _ => false,
         }
     }
 
     fn show<R: Print>(&mut self, rt: &R) -> io::Result<()> {
-        let last = self.last_client();
-        match self.record() {
+        let last = self.0.last_client();
+        match self.0.record() {
             Ok(record) => {
                 for client in 1..=last {
                     show_log(rt, record, client)?;
@@ -237,5 +241,5 @@ pub fn try_out<R: Print + AllocGlobal>(
     refuser: &mut Refuser,
     notes: &mut Notes,
 ) -> io::Result<()> {
-    try_deeds::<Hall, R>(rt, &DEEDS, &LOOKS, refuser, notes)
+    try_deeds::<TriedHall, R>(rt, &DEEDS, &LOOKS, refuser, notes)
 }

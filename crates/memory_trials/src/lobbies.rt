@@ -1,9 +1,9 @@
 //! A lobby of three users who talk, and gather in a battle.
 
-use crate::deeds::{Deed, Subject, try_deeds};
-use crate::notes::Notes;
-use crate::refuser::Refuser;
 use lobby_machine::{Lobby, OpenError};
+use memory_refuser::deeds::{Deed, Subject, try_deeds};
+use memory_refuser::notes::Notes;
+use memory_refuser::refuser::Refuser;
 use std::alloc::{AllocError, Global};
 use std::io;
 use std::io::Write;
@@ -216,30 +216,35 @@ pub fn show_unread<R: Print>(rt: &R, lobby: &Lobby) -> io::Result<()> {
     Ok(())
 }
 
-impl Subject for Lobby {
-    fn new(alloc: Global) -> Option<Lobby> {
-        lobby_of(alloc, book_with_onlookers(alloc)?)
+/// A lobby under trial.
+#[derive(Drop)]
+struct TriedLobby(Lobby);
+
+impl Subject for TriedLobby {
+    fn new(alloc: Global) -> Option<TriedLobby> {
+        let accounts = book_with_onlookers(alloc)?;
+        Some(TriedLobby(lobby_of(alloc, accounts)?))
     }
 
     fn act(&mut self, alloc: Global, client: u64, deed: Deed) -> bool {
-        act(self, alloc, client, deed)
+        act(&mut self.0, alloc, client, deed)
     }
 
     fn use_up(&mut self, alloc: Global) -> bool {
-        for client in 1..=self.last_client() {
-            if !use_buffer_up(self, alloc, client) {
+        for client in 1..=self.0.last_client() {
+            if !use_buffer_up(&mut self.0, alloc, client) {
                 return false;
             }
         }
         true
     }
 
-    fn is_as(&mut self, other: &mut Lobby) -> bool {
-        are_alike(self, other)
+    fn is_as(&mut self, other: &mut TriedLobby) -> bool {
+        are_alike(&mut self.0, &mut other.0)
     }
 
     fn show<R: Print>(&mut self, rt: &R) -> io::Result<()> {
-        show_unread(rt, self)
+        show_unread(rt, &mut self.0)
     }
 }
 
@@ -248,5 +253,5 @@ pub fn try_out<R: Print + AllocGlobal>(
     refuser: &mut Refuser,
     notes: &mut Notes,
 ) -> io::Result<()> {
-    try_deeds::<Lobby, R>(rt, &DEEDS, &LOOKS, refuser, notes)
+    try_deeds::<TriedLobby, R>(rt, &DEEDS, &LOOKS, refuser, notes)
 }

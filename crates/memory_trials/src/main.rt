@@ -1,5 +1,5 @@
-//! Plays fixed schedules, and shows what came of them. With the argument `scarce` each call that wants memory is made
-//! with none first, and then with more and more until it suffices; with `counted`, and the library
+//! Plays fixed schedules of lobbies, and shows what came of them. With the argument `scarce` each call that wants
+//! memory is made with none first, and then with more and more until it suffices; with `counted`, and the library
 //! checks/refuse_allocation.c, with its first growth refused, and then with the next one, until none is. After each
 //! refusal what public calls tell is compared with what they tell of one to which nothing was refused. It shows the
 //! same then, but for the count of the refusals. With `bounds` it shows the most memory that parts of a script may
@@ -9,17 +9,12 @@
 mod asking;
 mod bounds;
 mod crowd;
-mod deeds;
 mod halls;
 mod lobbies;
-mod requests;
 mod scripts;
-mod sessions;
-mod views;
 
-use memory_refuser::{notes, refuser};
-use notes::Notes;
-use refuser::Refuser;
+use memory_refuser::notes::Notes;
+use memory_refuser::refuser::Refuser;
 use std::rt::Env;
 use std::{env, io};
 
@@ -33,10 +28,7 @@ fn try_all<R: Print + AllocGlobal>(
     crowd::try_out(rt, refuser, notes)?;
     asking::try_out(rt, refuser, notes)?;
     halls::try_out(rt, refuser, notes)?;
-    sessions::try_out(rt, refuser, notes)?;
-    views::try_out(rt, refuser, notes)?;
-    scripts::try_out(rt, refuser, notes)?;
-    requests::try_out(rt, refuser, notes)
+    scripts::try_out(rt, refuser, notes)
 }
 
 /// Whether the argument asks for what memory is asked for and kept.

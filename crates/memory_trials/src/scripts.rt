@@ -1,8 +1,8 @@
 //! A script, which is begun again where memory was refused.
 
-use crate::notes::Notes;
-use crate::refuser::Refuser;
 use lobby_script::{PlayFault, play};
+use memory_refuser::notes::Notes;
+use memory_refuser::refuser::Refuser;
 use std::alloc::Global;
 use std::io;
 use std::io::Write;

@@ -4,7 +4,7 @@ use Rattle.server_log.specs.Lines.{line}
 use Rattle.server_log.specs.declared.happening.Denial.{Denial}
 use Rattle.server_log.specs.declared.happening.Denial.TheVariants.{Invalid, InUse, Again}
 use Rattle.server_log.specs.declared.happening.Cause.{Cause}
-use Rattle.server_log.specs.declared.happening.Cause.TheVariants.{Exit, Closed, TooSlow, LineTooLong, Fault}
+use Rattle.server_log.specs.declared.happening.Cause.TheVariants.{Exit, Closed, TooSlow, LineTooLong, Fault, Stop}
 use Rattle.server_log.specs.declared.happening.Refusal.{Refusal}
 use Rattle.server_log.specs.declared.happening.Refusal.TheVariants.{Full, Files, Memory, System, Busy}
 use Rattle.server_log.specs.declared.happening.Started.{Started}
@@ -22,6 +22,7 @@ cause_word Closed = codes "closed"
 cause_word TooSlow = codes "too_slow"
 cause_word LineTooLong = codes "line_too_long"
 cause_word Fault = codes "fault"
+cause_word Stop = codes "stop"
 
 abbrev pub refusal_word : Refusal → List ℕ
 refusal_word Full = codes "full"
@@ -50,8 +51,8 @@ count_word None = codes "full"
 abbrev pub fields_of : Happening → List (List ℕ × List ℕ)
 fields_of (happening.Started started) =
     (codes "version", started.version.now) ∷ (codes "address", started.address)
-    ∷ (codes "workers", decimal started.workers) ∷ (codes "outbox_limit", decimal started.outbox_limit)
-    ∷ (codes "accounts", decimal started.accounts) ∷ []
+    ∷ (codes "workers", decimal started.workers) ∷ (codes "client_limit", decimal started.client_limit)
+    ∷ (codes "outbox_limit", decimal started.outbox_limit) ∷ (codes "accounts", decimal started.accounts) ∷ []
 fields_of (happening.Login client name) = (codes "name", name) ∷ (codes "client", decimal client) ∷ []
 fields_of (happening.Denied client name reason) =
     (codes "name", name) ∷ (codes "reason", denial_word reason) ∷ (codes "client", decimal client) ∷ []

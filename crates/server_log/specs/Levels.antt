@@ -1,19 +1,20 @@
 -- How much operators are told.
 use Rattle.std.specs.Prelude.{Bool, true, false}
 use Rattle.server_log.specs.declared.happening.Cause.{Cause}
-use Rattle.server_log.specs.declared.happening.Cause.TheVariants.{Exit, Closed, TooSlow, LineTooLong, Fault}
+use Rattle.server_log.specs.declared.happening.Cause.TheVariants.{Exit, Closed, TooSlow, LineTooLong, Fault, Stop}
 use Rattle.server_log.specs.declared.happening.Happening.{Happening}
 use Rattle.server_log.specs.declared.happening.Happening.TheVariants as happening
 use Rattle.server_log.specs.declared.level.LogLevel.{LogLevel}
 use Rattle.server_log.specs.declared.level.LogLevel.TheVariants as level
 
--- a log out that neither the client asked for nor its end brought
+-- a log out that the client did not ask for, nor its end or that of the server brought
 abbrev pub is_forced : Cause → Bool
 is_forced Exit = false
 is_forced Closed = false
 is_forced TooSlow = true
 is_forced LineTooLong = true
 is_forced Fault = true
+is_forced Stop = false
 
 -- all but logins and the log outs that clients bring about in good order
 abbrev pub is_important : Happening → Bool

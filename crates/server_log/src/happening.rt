@@ -29,6 +29,8 @@ pub enum Cause {
     LineTooLong,
     /// The connection failed.
     Fault,
+    /// The server stopped.
+    Stop,
 }
 
 /// Why a connection was refused, or has to wait.
@@ -55,6 +57,8 @@ pub struct Started {
     pub address: ShortText,
     /// How many threads serve clients.
     pub workers: u32,
+    /// The most clients at a time.
+    pub client_limit: u64,
     /// The most bytes that may wait unread for a client.
     pub outbox_limit: u64,
     /// How many accounts can log in.
@@ -107,6 +111,7 @@ impl Started {
             version: self.version,
             address: self.address.copy(),
             workers: self.workers,
+            client_limit: self.client_limit,
             outbox_limit: self.outbox_limit,
             accounts: self.accounts,
         }
@@ -137,6 +142,7 @@ impl Cause {
             Cause::TooSlow => "too_slow",
             Cause::LineTooLong => "line_too_long",
             Cause::Fault => "fault",
+            Cause::Stop => "stop",
         }
     }
 }

@@ -10,7 +10,7 @@ use crate::happening::{Cause, Happening};
 pub enum LogLevel {
     /// Nothing.
     None,
-    /// All but who logs in, and who logs out by EXIT or by ending the connection.
+    /// All but who logs in, and who logs out by EXIT, by ending the connection or at a stop.
     Important,
     /// All.
     All,
@@ -37,7 +37,7 @@ impl Happening {
         match self {
             Happening::Login { .. } => false,
             Happening::Logout { cause, .. } => match cause {
-                Cause::Exit | Cause::Closed => false,
+                Cause::Exit | Cause::Closed | Cause::Stop => false,
                 Cause::TooSlow | Cause::LineTooLong | Cause::Fault => true,
             },
             Happening::Started(_)

@@ -57,9 +57,10 @@ fn put_started(out: &mut Vec<u8>, started: &Started) -> Result<(), AllocError>
 
 /// Appends how large a server is that has started.
 fn put_sizes(out: &mut Vec<u8>, started: &Started) -> Result<(), AllocError>
-    ensures { OnOk result (out.new.items ≡ out.old.items ++ flat_map field ((codes "workers", decimal started.now.workers) ∷ (codes "outbox_limit", decimal started.now.outbox_limit) ∷ (codes "accounts", decimal started.now.accounts) ∷ [])) }
+    ensures { OnOk result (out.new.items ≡ out.old.items ++ flat_map field ((codes "workers", decimal started.now.workers) ∷ (codes "client_limit", decimal started.now.client_limit) ∷ (codes "outbox_limit", decimal started.now.outbox_limit) ∷ (codes "accounts", decimal started.now.accounts) ∷ [])) }
 {
     put_number(out, "workers", u64::from(started.workers))?;
+    put_number(out, "client_limit", started.client_limit)?;
     put_number(out, "outbox_limit", started.outbox_limit)?;
     put_number(out, "accounts", started.accounts)?;
     Ok(())

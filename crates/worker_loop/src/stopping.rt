@@ -1,19 +1,34 @@
-//! What a worker does for its connections before it ends: clients are sent what waits for them and shut, and none of them is read.
+//! What a worker does for its connections before it ends: clients are sent what waits for them and shut, and none of
+//! them is read.
 
 ghost use Rattle.std.specs.Prelude.{◌≡◌};
 
-use crate::turns::{Shared, shut};
+use crate::turns::{Shared, shut, tell_logout};
 use lobby_connections::{Connection, Connections};
 use lobby_lock::Pass;
 use lobby_turns::{self, Gate, Link, SendState, TurnState};
+use server_log::Cause;
 use std::sync::Wait;
 
-/// Sends to the clients of all connections what waits for them, as much as a turn may, and notes who was sent all.
-pub fn send_rests<R: Wait, G: Gate>(
+/// What a worker that ends does for each of its connections.
+#[derive(Clone, Copy, PartialEq, Eq, Debug)]
+pub enum Step {
+    /// Sends to its client what waits for it, as much as a turn may, and notes whether that was all.
+    Send,
+    /// Shuts its client, if that was sent all. From then on the connection lingers. One whose shut is refused memory
+    /// stays.
+    ShutTold,
+    /// Shuts its client. One whose shut is refused memory is left out.
+    Shut,
+}
+
+/// Takes a step for each connection.
+pub fn step_all<R: Wait, G: Gate>(
     rt: &R,
     shared: &Shared<'_, G>,
     pass: Pass,
     connections: &mut Connections,
+    step: Step,
 ) -> Pass
     requires { pass.desk ≡ shared.now.desk.now }
     ensures desk { result.desk ≡ pass.desk }
@@ -22,14 +37,20 @@ pub fn send_rests<R: Wait, G: Gate>(
     connections.begin_round();
     let mut pass = pass;
     for key in 0..connections.key_bound() {
-        if let Some(connection) = connections.begin_turn(key) {
-            pass = send_rest(rt, shared, pass, connection);
-        }
+        pass = match step {
+            Step::Send => match connections.begin_turn(key) {
+                Some(connection) => send_rest(rt, shared, pass, connection),
+                None => pass,
+            },
+            Step::ShutTold => shut_at(rt, shared, pass, connections, key, true),
+            Step::Shut => shut_at(rt, shared, pass, connections, key, false),
+        };
     }
     pass
 }
 
-/// Sends to a client what waits for it, and notes whether that was all. To one whose link is gone there is nothing to send.
+/// Sends to a client what waits for it, and notes whether that was all. To one whose link is gone there is nothing to
+/// send.
 fn send_rest<R: Wait, G: Gate>(
     rt: &R,
     shared: &Shared<'_, G>,
@@ -51,52 +72,37 @@ fn send_rest<R: Wait, G: Gate>(
         SendState::Finished => connection.conn.is_written(),
         SendState::WouldBlock | SendState::Again | SendState::Memory => false,
     };
-    pass
-}
-
-/// Shuts the clients that were sent all, whose connections linger from then on. One whose shut is refused memory stays.
-pub fn shut_told<R: Wait, G: Gate>(
-    rt: &R,
-    shared: &Shared<'_, G>,
-    pass: Pass,
-    connections: &mut Connections,
-) -> Pass
-    requires { pass.desk ≡ shared.now.desk.now }
-    ensures desk { result.desk ≡ pass.desk }
-    ensures number { result.worker.number ≡ pass.worker.number }
-{
-    let mut pass = pass;
-    for key in 0..connections.key_bound() {
-        if let Some(conn) = connections.told_at(key) {
-            let (after, turn) = shut(rt, shared, pass, conn);
-            pass = after;
-            shared.wakers.wake_others(pass.number(), turn.wakes);
-            if turn.state == TurnState::Closed {
-                connections.end(key);
-            }
-        }
+    if matches!(sent, SendState::Finished) {
+        connection.conn.finish();
     }
     pass
 }
 
-/// Shuts the clients of all connections. A client whose shut is refused memory is left out.
-pub fn shut_all<R: Wait, G: Gate>(
+/// Shuts the client of the connection under a key, if there is one, or only one that was sent all. Operators are told
+/// that its user is logged out.
+fn shut_at<R: Wait, G: Gate>(
     rt: &R,
     shared: &Shared<'_, G>,
     pass: Pass,
-    connections: &Connections,
+    connections: &mut Connections,
+    key: usize,
+    only_told: bool,
 ) -> Pass
     requires { pass.desk ≡ shared.now.desk.now }
     ensures desk { result.desk ≡ pass.desk }
     ensures number { result.worker.number ≡ pass.worker.number }
 {
-    let mut pass = pass;
-    for key in 0..connections.key_bound() {
-        if let Some(conn) = connections.conn_at(key) {
-            let (after, turn) = shut(rt, shared, pass, conn);
-            pass = after;
-            shared.wakers.wake_others(pass.number(), turn.wakes);
-        }
+    let Some(connection) = connections.at(key) else {
+        return pass;
+    };
+    if only_told && !connection.is_told {
+        return pass;
+    }
+    let (pass, turn) = shut(rt, shared, pass, &connection.conn);
+    tell_logout(shared.gate, connection, turn.state, Cause::Stop);
+    shared.wakers.wake_others(pass.number(), turn.wakes);
+    if turn.state == TurnState::Closed {
+        connections.end(key);
     }
     pass
 }

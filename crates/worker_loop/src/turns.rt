@@ -13,7 +13,7 @@ use lobby_machine::{OpenError, Wakes};
 use lobby_model::WORKERS;
 use lobby_turns::{Conn, Gate, Link, Turn, TurnState, close, serve};
 use mio::{Registry, Token};
-use server_log::{Happening, Refusal};
+use server_log::{Cause, Happening, Refusal};
 use std::sync::Wait;
 use std::sync::atomic::{AtomicBool, Ordering};
 use wire_link::Newcomers;
@@ -101,17 +101,22 @@ pub fn turn<R: Wait, G: Gate>(
         return pass;
     };
     let (pass, turn) = serve_or_shut(rt, shared, pass, connection);
-    tell_logout(shared.gate, connection, turn.state);
+    tell_logout(shared.gate, connection, turn.state, Cause::Closed);
     tell_refused(shared.gate, connections, pass.number(), turn.state);
     connections.end_turn(registry, key, turn.state);
     pass_on(shared, connections, pass.number(), turn.wakes);
     pass
 }
 
-/// Tells operators of the log out where a turn shut its client.
-fn tell_logout<G: Gate>(gate: &G, connection: &Connection, state: TurnState) {
+/// Tells operators of the log out where a turn shut its client: by this cause where neither client nor link gave one.
+pub(crate) fn tell_logout<G: Gate>(
+    gate: &G,
+    connection: &Connection,
+    state: TurnState,
+    otherwise: Cause,
+) {
     if state == TurnState::Closed
-        && let Some(logout) = connection.conn.logout(&connection.link)
+        && let Some(logout) = connection.conn.logout(&connection.link, otherwise)
     {
         gate.tell(logout);
     }

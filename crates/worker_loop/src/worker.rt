@@ -4,7 +4,7 @@ ghost use Rattle.std.specs.Prelude.{◌≡◌};
 
 use crate::error::ListenError;
 use crate::inboxes::{Arrival, Inboxes};
-use crate::stopping;
+use crate::stopping::{Step, step_all};
 use crate::turns::{self, Shared};
 use crate::wakers::Wakers;
 use lobby_connections::{Connections, PollTimeout};
@@ -317,15 +317,15 @@ impl WorkerLoop {
         drop(mem::replace(&mut self.listener, None));
         let mut pass = pass;
         for _ in 0..LAST_ROUNDS {
-            pass = stopping::send_rests(rt, shared, pass, &mut self.connections);
-            pass = stopping::shut_told(rt, shared, pass, &mut self.connections);
+            pass = step_all(rt, shared, pass, &mut self.connections, Step::Send);
+            pass = step_all(rt, shared, pass, &mut self.connections, Step::ShutTold);
             if !self.connections.let_all_go() && self.connections.len() == 0 {
                 return pass;
             }
             let pause = Some(Duration::from_millis(PAUSE));
             let _ = self.pause.poll(&mut self.events, pause);
         }
-        stopping::shut_all(rt, shared, pass, &self.connections)
+        step_all(rt, shared, pass, &mut self.connections, Step::Shut)
     }
 }
 

@@ -1,12 +1,12 @@
 //! A framer and a session that are fed lines, some of them in pieces.
 
-use crate::deeds::{Deed, Subject, try_deeds};
-use crate::notes::Notes;
-use crate::refuser::Refuser;
 use client_session::{Next, Session};
 use command_grammar::Command;
 use line_framer::{FeedError, Framer};
 use line_words::Pair;
+use memory_refuser::deeds::{Deed, Subject, try_deeds};
+use memory_refuser::notes::Notes;
+use memory_refuser::refuser::Refuser;
 use std::alloc::{AllocError, Global};
 use std::io;
 use std::io::Write;
@@ -42,18 +42,22 @@ static LOOKS: [(u64, Deed); 4] = [
     (1, Deed::Take),
 ];
 
-impl Subject for Framer {
-    fn new(alloc: Global) -> Option<Framer> {
-        Some(Framer::new(alloc, 8192))
+/// A framer under trial.
+#[derive(Drop)]
+struct TriedFramer(Framer);
+
+impl Subject for TriedFramer {
+    fn new(alloc: Global) -> Option<TriedFramer> {
+        Some(TriedFramer(Framer::new(alloc, 8192)))
     }
 
     fn act(&mut self, alloc: Global, client: u64, deed: Deed) -> bool {
         let _ = (alloc, client);
         match deed {
-            Deed::Send(bytes) => self.feed(bytes) != Err(FeedError::Memory),
+            Deed::Send(bytes) => self.0.feed(bytes) != Err(FeedError::Memory),
             Deed::Take => {
-                if self.peek().is_some() {
-                    self.drop_line();
+                if self.0.peek().is_some() {
+                    self.0.drop_line();
                 }
                 true
             }
@@ -66,21 +70,21 @@ impl Subject for Framer {
         true
     }
 
-    fn is_as(&mut self, other: &mut Framer) -> bool {
-        self.is_spoilt() == other.is_spoilt()
-            && self.next_len() == other.next_len()
-            && self.peek() == other.peek()
+    fn is_as(&mut self, other: &mut TriedFramer) -> bool {
+        self.0.is_spoilt() == other.0.is_spoilt()
+            && self.0.next_len() == other.0.next_len()
+            && self.0.peek() == other.0.peek()
     }
 
     fn show<R: Print>(&mut self, rt: &R) -> io::Result<()> {
-        println!(rt; "a framer, spoilt: {}", self.is_spoilt())?;
+        println!(rt; "a framer, spoilt: {}", self.0.is_spoilt())?;
         for _ in 0..9 {
-            let Some(line) = self.peek() else {
+            let Some(line) = self.0.peek() else {
                 return Ok(());
             };
             io::writer(rt).write_all(line)?;
             println!(rt; "")?;
-            self.drop_line();
+            self.0.drop_line();
         }
         Ok(())
     }
@@ -171,19 +175,23 @@ fn next_is_same(session: &Session, other: &Session) -> bool {
     are_same
 }
 
-impl Subject for Session {
-    fn new(alloc: Global) -> Option<Session> {
-        Some(Session::new(alloc, 7))
+/// A session under trial.
+#[derive(Drop)]
+struct TriedSession(Session);
+
+impl Subject for TriedSession {
+    fn new(alloc: Global) -> Option<TriedSession> {
+        Some(TriedSession(Session::new(alloc, 7)))
     }
 
     fn act(&mut self, alloc: Global, client: u64, deed: Deed) -> bool {
         let _ = (alloc, client);
         match deed {
-            Deed::Send(bytes) => self.feed(bytes) != Err(FeedError::Memory),
+            Deed::Send(bytes) => self.0.feed(bytes) != Err(FeedError::Memory),
             Deed::Take => {
-                let is_read = next_id(self).is_ok();
+                let is_read = next_id(&self.0).is_ok();
                 if is_read {
-                    self.accept_next();
+                    self.0.accept_next();
                 }
                 is_read
             }
@@ -196,18 +204,18 @@ impl Subject for Session {
         true
     }
 
-    fn is_as(&mut self, other: &mut Session) -> bool {
-        self.client() == other.client()
-            && self.is_ready() == other.is_ready()
-            && self.has_line() == other.has_line()
-            && next_is_same(self, other)
+    fn is_as(&mut self, other: &mut TriedSession) -> bool {
+        self.0.client() == other.0.client()
+            && self.0.is_ready() == other.0.is_ready()
+            && self.0.has_line() == other.0.has_line()
+            && next_is_same(&self.0, &other.0)
     }
 
     fn show<R: Print>(&mut self, rt: &R) -> io::Result<()> {
-        println!(rt; "the session of client {}", self.client())?;
+        println!(rt; "the session of client {}", self.0.client())?;
         for _ in 0..9 {
-            println!(rt; "ready: {}, id: {:?}", self.is_ready(), next_id(self))?;
-            self.accept_next();
+            println!(rt; "ready: {}, id: {:?}", self.0.is_ready(), next_id(&self.0))?;
+            self.0.accept_next();
         }
         Ok(())
     }
@@ -218,6 +226,6 @@ pub fn try_out<R: Print + AllocGlobal>(
     refuser: &mut Refuser,
     notes: &mut Notes,
 ) -> io::Result<()> {
-    try_deeds::<Framer, R>(rt, &DEEDS, &LOOKS, refuser, notes)?;
-    try_deeds::<Session, R>(rt, &DEEDS, &LOOKS, refuser, notes)
+    try_deeds::<TriedFramer, R>(rt, &DEEDS, &LOOKS, refuser, notes)?;
+    try_deeds::<TriedSession, R>(rt, &DEEDS, &LOOKS, refuser, notes)
 }

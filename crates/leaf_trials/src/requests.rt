@@ -1,8 +1,8 @@
 //! Requests that are printed, one line behind another.
 
-use crate::deeds::{Deed, Subject, try_deeds};
-use crate::notes::Notes;
-use crate::refuser::Refuser;
+use memory_refuser::deeds::{Deed, Subject, try_deeds};
+use memory_refuser::notes::Notes;
+use memory_refuser::refuser::Refuser;
 use request_printer::{PrintError, print_request, read_request};
 use std::alloc::Global;
 use std::io;

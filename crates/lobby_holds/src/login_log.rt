@@ -1,5 +1,5 @@
-//! Who is logged in at a connection, and how that ends, as operators are told it. What a line brings about is read off the lobby's
-//! answer to it, in the hold in which it was said; no contract speaks of it.
+//! What the log tells of logins: who is logged in at a connection, and how that ends. What a line brings about is read
+//! off the lobby's answer to it, in the hold in which it was said; no contract speaks of it.
 
 use crate::gate::Gate;
 use command_grammar::Command;
@@ -19,7 +19,7 @@ const LEAST_LIMIT: usize = 65_536;
 pub(crate) enum Asked {
     /// A login under this name, behind so many bytes that wait for the client.
     Login { name: ShortText, waiting: usize },
-    /// To log out.
+    /// To log out, while it hears.
     Exit,
     /// Anything else.
     Other,
@@ -33,7 +33,7 @@ impl Asked {
                 name: ShortText::of(user_name.as_slice()),
                 waiting: held.unread(client),
             },
-            Command::Exit => Asked::Exit,
+            Command::Exit if held.hears(client) => Asked::Exit,
             _ => Asked::Other,
         }
     }
@@ -99,20 +99,25 @@ impl Visit {
         self.is_finished = true;
     }
 
-    /// The log out of the user, if there is one, by the shut of its client, at which a line over the limit may be next and whose link may
-    /// have failed.
-    pub(crate) fn logout(
-        &self,
-        client: u64,
-        is_spoilt: bool,
-        has_failed: bool,
-    ) -> Option<Happening> {
+    /// Why the client is shut, if it gave a cause: it said EXIT, it was cut, a line over the limit is next, or its link
+    /// has failed.
+    pub(crate) fn cause(&self, is_spoilt: bool, has_failed: bool) -> Option<Cause> {
+        if self.has_exited {
+            Some(Cause::Exit)
+        } else if self.is_finished {
+            Some(Cause::TooSlow)
+        } else if is_spoilt {
+            Some(Cause::LineTooLong)
+        } else if has_failed {
+            Some(Cause::Fault)
+        } else {
+            None
+        }
+    }
+
+    /// The log out of the user, if there is one, by the shut of its client.
+    pub(crate) fn logout(&self, client: u64, cause: Cause) -> Option<Happening> {
         let user = self.user.as_ref()?;
-        let cause = match (self.has_exited, self.is_finished) {
-            (true, _) => Cause::Exit,
-            (false, true) => Cause::TooSlow,
-            (false, false) => cause_of(is_spoilt, has_failed),
-        };
         let name = ShortText::of(user.as_slice());
         Some(Happening::Logout {
             client,
@@ -122,17 +127,8 @@ impl Visit {
     }
 }
 
-/// Why a client is shut that the lobby would go on with.
-fn cause_of(is_spoilt: bool, has_failed: bool) -> Cause {
-    match (is_spoilt, has_failed) {
-        (true, _) => Cause::LineTooLong,
-        (false, true) => Cause::Fault,
-        (false, false) => Cause::Closed,
-    }
-}
-
-/// How a login was answered behind so many bytes that waited before it. A client that was cut by it has no answer: where a denial had
-/// room, it was let in.
+/// How a login was answered behind so many bytes that waited before it. A client that was cut by it has no answer:
+/// where a denial had room, it was let in.
 fn answer_in(held: &Held, client: u64, waiting: usize, wakes: Wakes) -> Answer {
     let mut front = [0u8; DENIED];
     let count = held.copy_unread(client, waiting, &mut front);

@@ -1,11 +1,11 @@
 //! A client's view that is fed pieces of several lines, some of them cut in two.
 
-use crate::deeds::{Deed, Subject, try_deeds};
-use crate::notes::Notes;
-use crate::refuser::Refuser;
 use crate::sessions::pairs_are_same;
 use client_view::{Battle, Battles, Bot, Channels, Member, OwnRoom, User, Users, View, ViewError};
 use line_words::NameBuf;
+use memory_refuser::deeds::{Deed, Subject, try_deeds};
+use memory_refuser::notes::Notes;
+use memory_refuser::refuser::Refuser;
 use std::alloc::Global;
 use std::io;
 
@@ -224,16 +224,20 @@ fn rooms_are_same(ours: Option<&OwnRoom>, theirs: Option<&OwnRoom>) -> bool {
     }
 }
 
-impl Subject for View {
-    fn new(alloc: Global) -> Option<View> {
-        Some(View::new(alloc))
+/// A view under trial.
+#[derive(Drop)]
+struct TriedView(View);
+
+impl Subject for TriedView {
+    fn new(alloc: Global) -> Option<TriedView> {
+        Some(TriedView(View::new(alloc)))
     }
 
     fn act(&mut self, alloc: Global, client: u64, deed: Deed) -> bool {
         let _ = (alloc, client);
         match deed {
-            Deed::Send(bytes) => self.feed(bytes) != Err(ViewError::Memory),
-            Deed::Shut => feed_too_long(self) != Err(ViewError::Memory),
+            Deed::Send(bytes) => self.0.feed(bytes) != Err(ViewError::Memory),
+            Deed::Shut => feed_too_long(&mut self.0) != Err(ViewError::Memory),
             Deed::Open | Deed::Take | Deed::Read(_) | Deed::Record => true,
         }
     }
@@ -243,23 +247,23 @@ impl Subject for View {
         true
     }
 
-    fn is_as(&mut self, other: &mut View) -> bool {
-        self.me() == other.me()
-            && users_are_same(&self.users(), &other.users())
-            && battles_are_same(&self.battles(), &other.battles())
-            && channels_are_same(&self.channels(), &other.channels())
-            && rooms_are_same(self.room(), other.room())
-            && self.feed(b"") == other.feed(b"")
+    fn is_as(&mut self, other: &mut TriedView) -> bool {
+        self.0.me() == other.0.me()
+            && users_are_same(&self.0.users(), &other.0.users())
+            && battles_are_same(&self.0.battles(), &other.0.battles())
+            && channels_are_same(&self.0.channels(), &other.0.channels())
+            && rooms_are_same(self.0.room(), other.0.room())
+            && self.0.feed(b"") == other.0.feed(b"")
     }
 
     fn show<R: Print>(&mut self, rt: &R) -> io::Result<()> {
         println!(rt;
             "a view: {} users, {} battles, {} channels, in a room: {}, more: {:?}",
-            self.users().len(),
-            self.battles().len(),
-            self.channels().len(),
-            self.room().is_some(),
-            self.feed(b"")
+            self.0.users().len(),
+            self.0.battles().len(),
+            self.0.channels().len(),
+            self.0.room().is_some(),
+            self.0.feed(b"")
         )
     }
 }
@@ -269,5 +273,5 @@ pub fn try_out<R: Print + AllocGlobal>(
     refuser: &mut Refuser,
     notes: &mut Notes,
 ) -> io::Result<()> {
-    try_deeds::<View, R>(rt, &DEEDS, &LOOKS, refuser, notes)
+    try_deeds::<TriedView, R>(rt, &DEEDS, &LOOKS, refuser, notes)
 }
