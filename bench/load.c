@@ -4,11 +4,15 @@
 //   load fanout PORT PID CLIENTS WINDOW SECONDS [QUIET [BYTES]]   the first client speaks in a channel of all, with WINDOW lines unanswered
 //   load ping PORT PID CLIENTS DEPTH SECONDS [QUIET]              each client keeps DEPTH times PING unanswered
 //   load logins PORT PID CLIENTS one|all                          greeted clients log in, one after another or all at once
+//   load crowd PORT PID CLIENTS talk|channels|reset COUNT [BUSY]  so many of them, all if left out, do much at once: they say COUNT lines
+//                                                                 to a channel of all, join and leave COUNT channels, or found COUNT battles
+//                                                                 of eight and reset their connections. One more, who is quiet, sends PING
 //   load memory PORT PID CLIENTS                                  what the server holds: before, with greeted clients, with members of a channel
 //
 // Clients log in as u0001, u0002 and so on. QUIET more are greeted, and do nothing. BYTES has a delivered line, 60 if left out. gcc -O2.
 #define _GNU_SOURCE
 #include <arpa/inet.h>
+#include <dirent.h>
 #include <errno.h>
 #include <fcntl.h>
 #include <netinet/in.h>
@@ -22,6 +26,7 @@
 #include <string.h>
 #include <sys/epoll.h>
 #include <sys/socket.h>
+#include <sys/wait.h>
 #include <time.h>
 #include <unistd.h>
 
@@ -458,6 +463,140 @@ static void run_logins(const char *how) {
     print_usage(from, to);
 }
 
+// ---- a crowd, and a quiet client beside
+
+struct quiet {
+    double worst, worst_busy, sum;
+    uint64_t answers;
+};
+
+// The seconds for which the server's threads ran so far: what a busy machine adds to a wait is not in them.
+static double busy(void) {
+    char path[96];
+    double all = 0;
+    snprintf(path, sizeof path, "/proc/%d/task", server);
+    DIR *tasks = opendir(path);
+    for (struct dirent *task; tasks != NULL && (task = readdir(tasks)) != NULL;) {
+        unsigned long ran;
+        snprintf(path, sizeof path, "/proc/%d/task/%.20s/schedstat", server, task->d_name);
+        FILE *file = fopen(path, "r");
+        if (file == NULL) continue;
+        if (fscanf(file, "%lu", &ran) == 1) all += (double)ran / 1e9;
+        fclose(file);
+    }
+    if (tasks != NULL) closedir(tasks);
+    return all;
+}
+
+// The quiet client, a process of its own: it tells that it is here, sends PING a millisecond after each answer, from the first byte that
+// it is told by until the second, and then tells what it saw.
+static void be_quiet(const struct client *client, int told_by, int tell_to) {
+    struct quiet seen = { 0 };
+    struct pollfd end = { .fd = told_by, .events = POLLIN };
+    char byte = 'h', answer[5];
+    // A connection is reset by its last holder alone.
+    for (unsigned place = 0; place < client_count; place++) close(clients[place].socket);
+    if (write(tell_to, &byte, 1) != 1 || read(told_by, &byte, 1) != 1) _exit(1);
+    fcntl(client->socket, F_SETFL, 0);
+    while (poll(&end, 1, 1) == 0) {
+        double ran = busy(), at = now();
+        if (write(client->socket, "PING\n", 5) != 5) _exit(1);
+        for (size_t held = 0; held < sizeof answer;) {
+            ssize_t length = read(client->socket, answer, sizeof answer - held);
+            if (length <= 0) _exit(1);
+            held += (size_t)length;
+        }
+        double taken = now() - at, ran_more = busy() - ran;
+        if (ran_more > seen.worst_busy) seen.worst_busy = ran_more;
+        seen.sum += taken;
+        seen.answers++;
+        if (taken > seen.worst) seen.worst = taken;
+    }
+    _exit(write(tell_to, &seen, sizeof seen) == sizeof seen ? 0 : 1);
+}
+
+static uint64_t crowd_bytes, crowd_lines;
+static unsigned marks;
+
+// Counts what comes. A line with an id answers one of the marks.
+static void take_crowd(struct client *client, const char *bytes, size_t count) {
+    crowd_bytes += count;
+    for (size_t place = 0; place < count; place++) crowd_lines += bytes[place] == '\n';
+    if (memchr(bytes, '#', count) != NULL) marks++;
+    client->bytes += count;
+}
+
+// What one of the crowd does at once. Its last line asks for a mark.
+static size_t write_deed(char *text, const char *deed, unsigned count) {
+    size_t length = 0;
+    for (unsigned place = 0; place < count; place++)
+        if (strcmp(deed, "talk") == 0) length += (size_t)sprintf(text + length, "SAY " CHANNEL " %06u a line for all who listen, and ........\n", place);
+        else length += (size_t)sprintf(text + length, "JOIN c%u\n", place);
+    for (unsigned place = 0; strcmp(deed, "channels") == 0 && place < count; place++) length += (size_t)sprintf(text + length, "LEAVE c%u\n", place);
+    return length + (size_t)sprintf(text + length, "#1 PING\n");
+}
+
+static void reset(struct client *client) {
+    struct linger at_once = { .l_onoff = 1, .l_linger = 0 };
+    setsockopt(client->socket, SOL_SOCKET, SO_LINGER, &at_once, sizeof at_once);
+    close(client->socket);
+    client->socket = -1;
+}
+
+// Opens so many battles of eight, of which the first of each eight is the founder.
+static void open_battles(unsigned count) {
+    for (unsigned place = 0; place < count; place++) {
+        tell(&clients[8 * place], "OPENBATTLE 0 0 * 8452 8 0 0 0 Spring\t105\tmap\ttitle\tgame\n");
+        pump(5);
+        for (unsigned member = 1; member < 8; member++) tell(&clients[8 * place + member], "JOINBATTLE %u\n", place + 1);
+        pump(5);
+    }
+}
+
+static void run_crowd(const char *deed, unsigned count, unsigned busy_count) {
+    int go[2], end[2];
+    struct quiet seen;
+    struct client *quiet = &clients[client_count];
+    bool resets = strcmp(deed, "reset") == 0;
+    log_all_in(true);
+    if (!resets) join_all();
+    take = take_crowd;
+    if (resets) open_battles(count);
+    for (unsigned round = 0; round < 20; round++) pump(20);
+    if (pipe(go) != 0 || pipe(end) != 0) fail("no pipe");
+    epoll_ctl(poll_set, EPOLL_CTL_DEL, quiet->socket, NULL);
+    pid_t child = fork();
+    if (child == 0) be_quiet(quiet, go[0], end[1]);
+    char here;
+    if (read(end[0], &here, 1) != 1) fail("no quiet client");
+    char *text = malloc((size_t)count * 128 + 64);
+    if (text == NULL) fail("no memory");
+    size_t length = resets ? (size_t)sprintf(text, "#1 PING\n") : write_deed(text, deed, count);
+    crowd_bytes = crowd_lines = 0;
+    for (unsigned place = 0; place < client_count; place++) clients[place].bytes = 0;
+    struct usage from = usage();
+    if (write(go[1], "g", 1) != 1) fail("no quiet client");
+    for (unsigned round = 0; round < 2; round++) {
+        unsigned asked = 0;
+        marks = 0;
+        for (unsigned place = 0; place < client_count; place++) {
+            struct client *client = &clients[place];
+            if (round == 0 && resets && place % 8 == 0 && place / 8 < count) reset(client);
+            if (client->socket < 0 || (round == 0 && place >= busy_count)) continue;
+            if (round > 0) tell(client, "#2 PING\n");
+            else if (write(client->socket, text, length) != (ssize_t)length) fail("client %u cannot write", client->number);
+            asked++;
+        }
+        pump_until(&marks, asked);
+    }
+    struct usage to = usage();
+    if (write(go[1], "e", 1) != 1 || read(end[0], &seen, sizeof seen) != sizeof seen) fail("the quiet client ended");
+    waitpid(child, NULL, 0);
+    printf("lines %lu answers %lu mean %.2f worst %.1f worst_busy %.1f", crowd_lines, seen.answers, seen.sum / (double)seen.answers * 1e3, seen.worst * 1e3,
+           seen.worst_busy * 1e3);
+    print_usage(from, to);
+}
+
 // A while in which the server gives back what it needs no more.
 static void rest(void) {
     double end = now() + 1.0;
@@ -492,6 +631,7 @@ int main(int count, char **words) {
     server = (int)number_at(3, count, words, 1 << 30);
     client_count = (unsigned)number_at(4, count, words, CLIENTS_MOST);
     quiet_count = count > 7 && strcmp(words[7], "0") != 0 ? (unsigned)number_at(7, count, words, CLIENTS_MOST) : 0;
+    if (strcmp(mode, "crowd") == 0) quiet_count = 1;
     clients = calloc(client_count + quiet_count, sizeof *clients);
     poll_set = epoll_create1(0);
     if (clients == NULL || poll_set < 0) fail("no memory or poll");
@@ -506,6 +646,7 @@ int main(int count, char **words) {
     open_clients(port);
     if (strcmp(mode, "fanout") == 0) run_fanout((uint64_t)number_at(5, count, words, WINDOW_MOST), (double)number_at(6, count, words, 30), bytes);
     else if (strcmp(mode, "ping") == 0) run_ping((unsigned)number_at(5, count, words, DEPTH_MOST), (double)number_at(6, count, words, 30));
+    else if (strcmp(mode, "crowd") == 0) run_crowd(words[5], (unsigned)number_at(6, count, words, 512), count > 7 ? (unsigned)number_at(7, count, words, CLIENTS_MOST) : client_count);
     else if (strcmp(mode, "logins") == 0 && count > 5) run_logins(words[5]);
     else fail("no such mode");
     return 0;

@@ -4,13 +4,13 @@
 # Runs the server that `make build` leaves, or the one at LOBBY_MAIN, with so many workers (1), and the bare loop with one write a
 # client and round and with one write a line: all in turn, a new process each time, so many runs (5), a measured time of so many
 # seconds (3) where a mode has one. Prints medians of the runs, and of the ratios of each turn. MODES, some of
-# "fanout lengths ping quiet logins log memory calls", leaves the others out.
+# "fanout lengths ping quiet crowd logins log memory calls", leaves the others out.
 set -euo pipefail
 cd "$(dirname "$0")/.."
 workers=${1:-1}
 runs=${2:-5}
 seconds=${3:-3}
-modes=${MODES:-fanout lengths ping quiet logins log memory calls}
+modes=${MODES:-fanout lengths ping quiet crowd logins log memory calls}
 main=${LOBBY_MAIN:-$PWD/bin/lobby_main}
 [ -x "$main" ] || { echo "there is no $main: make build makes it"; exit 1; }
 ulimit -n 8192
@@ -173,6 +173,22 @@ quiet() {
         for name in ours bare; do figure '| %.1f ' "$name.ping.1.1" '(of["user"] + of["system"]) / of["answers"] * 1e6'; done
         for name in ours bare; do figure '| %.2f ' "$name.fanout.50.4" "$fanout_cost"; done
         echo '|'
+    done
+}
+
+# What one waits who sends PING while others do much at once.
+crowd() {
+    local load words
+    echo 'A quiet client beside a crowd: how long it waits for PONG in ms, the mean and the longest wait, and the longest in ms that the server ran; processor seconds of the server for all'
+    echo '| Crowd | Mean | Longest | Longest, of the server | All |'
+    echo '|---|---|---|---|---|'
+    for load in "500 talk 64 1" "500 talk 64" "500 channels 200 1" "500 channels 200" "1600 reset 200"; do
+        read -r -a words <<< "$load"
+        rm -f "$room/ours.crowd.${words[0]}.${words[1]}"
+        in_turn ours crowd "${words[@]}"
+        printf '| %s ' "$load"
+        for name in mean worst worst_busy; do figure '| %.1f ' "ours.crowd.${words[0]}.${words[1]}" 'of["'$name'"]'; done
+        figure '| %.2f |\n' "ours.crowd.${words[0]}.${words[1]}" 'of["user"] + of["system"]'
     done
 }
 

@@ -17,6 +17,10 @@ pub struct Connection {
     pub is_told: bool,
     // the last round in which it got a turn
     pub(crate) round: u64,
+    // whether it waits among those who are left over
+    pub(crate) is_left: bool,
+    // a poll told that the other side ended
+    is_ending: bool,
     // a poll told that its link is gone
     is_gone: bool,
     // its link is gone and memory was refused since
@@ -31,6 +35,8 @@ impl Connection {
             link,
             is_told: false,
             round,
+            is_left: false,
+            is_ending: false,
             is_gone: false,
             is_over: false,
         }
@@ -38,8 +44,15 @@ impl Connection {
 
     /// Notes what a poll told of its link.
     pub(crate) fn note(&mut self, event: &Event) {
+        self.is_ending |= event.is_read_closed() || event.is_write_closed();
         self.is_gone |= event.is_write_closed();
         self.link.note(event);
+    }
+
+    /// Whether its next turn likely costs much, whatever its client asks: a poll told that the other side ended, so that the client is
+    /// shut, or its link took no more at the last write, so that much waits to be sent.
+    pub(crate) fn is_dear(&self) -> bool {
+        self.is_ending || self.link.last_sent() == Some(Sent::Later)
     }
 
     /// Whether its client is only to be shut, and no more to be served: its link is gone, and memory was refused since.

@@ -1,8 +1,9 @@
 //! The connections of a worker, and who gets the next turn.
 
-ghost use Rattle.std.specs.Prelude.{◌≡◌, ◌+◌, ◌<◌, ◌≤◌, ◌||◌, [], true, false, length, slice_index_or, IfSome, OnOk, OnSome};
+ghost use Rattle.std.specs.Prelude.{◌≡◌, ◌⊎◌, ◌↔◌, ◌+◌, ◌-◌, ◌*◌, ◌^◌, ◌<◌, ◌≤◌, ◌||◌, [], ◌++◌, true, false, length, min, None, IfSome, IsTrue, OnOk, OnSome};
+ghost use Rattle.std.specs.Option.{option_to_list};
 ghost use Rattle.lobby_post.specs.Mask.{has_home};
-ghost use Rattle.lobby_connections.specs.Table.{Leaves, Stays};
+ghost use Rattle.lobby_connections.specs.Table.{Leaves, Stays, due_count, next_key, with_left};
 ghost use Rattle.lobby_connections.specs.Timeouts.{shorter};
 
 use crate::connection::Connection;
@@ -23,6 +24,12 @@ use wire_link::{Lingering, WireLink};
 /// The most names that are taken in a hold, so that no other worker waits long for the lobby.
 pub const NAMES_IN_HOLD: usize = 64;
 
+/// The most pieces that a turn tells, and one line's more, where its worker has the lobby for itself.
+const TURN: u64 = 2_000;
+
+/// The most pieces that a round tells, and one turn's more, where its worker has the lobby for itself.
+const ROUND: u64 = 8_000;
+
 /// The connections of a worker, each under the key that its events bear. A worker goes round again
 /// and again, and gives each connection one turn in a round at most.
 pub struct Connections {
@@ -37,6 +44,8 @@ pub struct Connections {
     is_marked: bool,
     // who stopped at a limit or for want of memory in the round before, and so gets a turn though nothing new comes
     due: Vec<usize>,
+    // how many of them had it
+    served: usize,
     // whether someone found no place in that list
     is_each_due: bool,
     // the same of this round
@@ -48,6 +57,11 @@ pub struct Connections {
     // those whose clients were shut
     lingering: Lingering,
     timeout: PollTimeout,
+    // how much this round told
+    told: u64,
+    // the most that a turn and a round tell
+    turn_most: u64,
+    round_most: u64,
 }
 
 impl Drop for Connections {
@@ -61,6 +75,7 @@ impl Drop for Connections {
             named,
             is_marked: _,
             due,
+            served: _,
             is_each_due: _,
             left,
             is_each_left: _,
@@ -68,6 +83,9 @@ impl Drop for Connections {
             is_short: _,
             lingering,
             timeout: _,
+            told: _,
+            turn_most: _,
+            round_most: _,
         } = self;
         drop(slab);
         drop(keys);
@@ -86,13 +104,19 @@ impl Model for Connections {
 
     ghost Value = { Table };
 
-    ghost view = { λ c. record { due = c.due.items; is_each_due = c.is_each_due; left = c.left.items; is_each_left = c.is_each_left; named = c.named.items; is_marked = c.is_marked; timeout = c.timeout; count = slab_len c.slab; key_bound = c.slab.capacity; room = min (c.slab.capacity - slab_len c.slab) (spare c.keys) } };
+    ghost view = { λ c. record { due = c.due.items; is_each_due = c.is_each_due; served = c.served; left = c.left.items; is_each_left = c.is_each_left; told = c.told; turn_most = c.turn_most; round_most = c.round_most; named = c.named.items; is_marked = c.is_marked; timeout = c.timeout; count = slab_len c.slab; key_bound = c.slab.capacity; room = min (c.slab.capacity - slab_len c.slab) (spare c.keys) } };
 }
 
 impl Connections {
-    /// No connection.
-    pub fn new(alloc: Global) -> Connections
-        ensures due { (result.due ≡ []) × (result.is_each_due ≡ false) }
+    /// No connection, at one of so many workers, 1 to 64, who have one lobby in turn. Together they tell as much as one of them would
+    /// alone.
+    pub fn new(alloc: Global, workers: u64) -> Connections
+        requires some { 1 ≤ workers }
+        requires few { workers ≤ 64 }
+        ensures due { (result.due ≡ []) × (result.is_each_due ≡ false) × (result.served ≡ 0) }
+        ensures told { result.told ≡ 0 }
+        ensures limits { (result.turn_most * workers ≤ TURN) × (result.round_most * workers ≤ ROUND) }
+        ensures some { (1 ≤ result.turn_most) × (result.turn_most ≤ result.round_most) }
         ensures left { (result.left ≡ []) × (result.is_each_left ≡ false) }
         ensures named { (result.named ≡ []) × (result.is_marked ≡ false) }
         ensures none { result.count ≡ 0 }
@@ -106,6 +130,7 @@ impl Connections {
             named: Vec::new(alloc),
             is_marked: false,
             due: Vec::new(alloc),
+            served: 0,
             is_each_due: false,
             left: Vec::new(alloc),
             is_each_left: false,
@@ -113,6 +138,9 @@ impl Connections {
             is_short: false,
             lingering: Lingering::new(alloc),
             timeout: PollTimeout::Endless,
+            told: 0,
+            turn_most: TURN / workers,
+            round_most: ROUND / workers,
         }
     }
 
@@ -130,16 +158,21 @@ impl Connections {
         self.timeout = self.timeout.or(timeout);
     }
 
-    /// A round begins: those are due who were left in the round before.
+    /// A round begins, in which nothing was told yet. Where each of those who were due had its turn, those are due who were left over.
     pub fn begin_round(&mut self)
-        ensures { self.new ≡ record self.old { due = self.old.left; is_each_due = self.old.is_each_left; left = []; is_each_left = false; timeout = PollTimeout.Endless } }
+        ensures over { due_count self.old ≤ self.old.served → self.new ≡ record (with_left self.old) { timeout = PollTimeout.Endless; told = 0 } }
+        ensures goes_on { self.old.served < due_count self.old → self.new ≡ record self.old { timeout = PollTimeout.Endless; told = 0 } }
     {
         self.round = self.round.wrapping_add(1);
         self.timeout = PollTimeout::Endless;
-        self.due.clear();
-        mem::swap(&mut self.due, &mut self.left);
-        self.is_each_due = self.is_each_left;
-        self.is_each_left = false;
+        self.told = 0;
+        if self.served >= self.due() {
+            self.due.clear();
+            mem::swap(&mut self.due, &mut self.left);
+            self.is_each_due = self.is_each_left;
+            self.is_each_left = false;
+            self.served = 0;
+        }
         self.is_short = self.is_refused;
         self.is_refused = false;
     }
@@ -167,10 +200,9 @@ impl Connections {
         self.slab.capacity()
     }
 
-    /// How many are due in this round. Where someone found no place in the list of those, each is.
+    /// How many are due, those among them who had their turn. Where someone found no place in the list of those, each is.
     pub fn due(&self) -> usize
-        ensures each { self.now.is_each_due ≡ true → result ≡ self.now.key_bound }
-        ensures listed { self.now.is_each_due ≡ false → result ≡ length self.now.due }
+        ensures { result ≡ due_count self.now }
     {
         if self.is_each_due {
             self.slab.capacity()
@@ -179,18 +211,78 @@ impl Connections {
         }
     }
 
-    /// The key of one that is due in this round, by its index. Of an index that is not below `due` it is 0.
-    pub fn due_key(&self, index: usize) -> usize
-        ensures each { self.now.is_each_due ≡ true → result ≡ index }
-        ensures listed { self.now.is_each_due ≡ false → result ≡ slice_index_or self.now.due index 0 }
+    /// The key of the next one that is due. Where there is none it is 0, or no key.
+    fn next_key(&self) -> usize
+        ensures { result ≡ next_key self.now }
     {
         if self.is_each_due {
-            return index;
+            return self.served;
         }
-        match self.due.get(index) {
+        match self.due.get(self.served) {
             Some(key) => *key,
             None => 0,
         }
+    }
+
+    /// The key of the next one that is due, who is left over no more. None where each had its turn.
+    pub fn next_due(&mut self) -> Option<usize>
+        ensures some { IfSome result (λ key. (key ≡ next_key self.old) × (self.old.served < due_count self.old) × (self.new ≡ record self.old { served = self.old.served + 1 })) }
+        ensures none { result ≡ None → (due_count self.old ≤ self.old.served) × (self.new ≡ self.old) }
+    {
+        if self.served >= self.due() {
+            return None;
+        }
+        let key = self.next_key();
+        self.served += 1;
+        if let Some(connection) = self.slab.get_mut(key) {
+            connection.is_left = false;
+        }
+        Some(key)
+    }
+
+    /// Whether some are due who had no turn yet.
+    pub fn has_due(&self) -> bool
+        ensures { IsTrue result ↔ (self.now.served < due_count self.now) }
+    {
+        self.served < self.due()
+    }
+
+    /// How many pieces a turn may tell before it says no line more that may tell others.
+    pub fn turn_most(&self) -> u64
+        ensures { result ≡ self.now.turn_most }
+    {
+        self.turn_most
+    }
+
+    /// How many pieces the next turn of this round may tell.
+    pub fn allowance(&self) -> u64
+        ensures { result ≡ min (self.now.round_most - self.now.told) self.now.turn_most }
+    {
+        let left = self.round_most.saturating_sub(self.told);
+        left.min(self.turn_most)
+    }
+
+    /// Turns of this round told so many pieces, or cost as much. The count stays at its most, 2^64 - 1.
+    pub fn count_told(&mut self, told: u64)
+        ensures { self.new ≡ record self.old { told = min (self.old.told + told) (2 ^ 64 - 1) } }
+    {
+        self.told = self.told.saturating_add(told);
+    }
+
+    /// Whether the connection under a key waits for its turn among those who are left over. Where the round told enough and the turn
+    /// would likely cost much, it does so from now on.
+    pub fn is_put_off(&mut self, key: usize) -> bool
+        ensures now { result ≡ false → self.new ≡ self.old }
+        ensures then { (self.new ≡ self.old) ⊎ ((self.old.round_most ≤ self.old.told) × Leaves self.old self.new key PollTimeout.Zero) }
+    {
+        let is_enough = self.told >= self.round_most;
+        match self.slab.get_mut(key) {
+            Some(connection) if connection.is_left => return true,
+            Some(connection) if is_enough && connection.is_dear() => {}
+            _ => return false,
+        }
+        self.leave(key, PollTimeout::Zero);
+        true
     }
 
     /// Room for one connection more: for itself, its key and its name. Fails only where memory is refused.
@@ -290,6 +382,9 @@ impl Connections {
         ensures { Leaves self.old self.new key timeout }
     {
         self.hurry(timeout);
+        if let Some(connection) = self.slab.get_mut(key) {
+            connection.is_left = true;
+        }
         if self.left.push(key).is_err() {
             self.is_each_left = true;
         }
@@ -370,18 +465,17 @@ impl Connections {
         self.named.len()
     }
 
-    /// The key of the connection of one that is named, by its index. None where there is none: it has gone meanwhile.
-    pub fn named_key(&self, index: usize) -> Option<usize>
-        ensures { IfSome result (λ _. index < length self.now.named) }
+    /// A client that is named, and is so no more. None where nobody is.
+    pub fn next_named(&mut self) -> Option<u64>
+        ensures named { self.old.named ≡ self.new.named ++ option_to_list result }
+        ensures rest { self.new ≡ record self.old { named = self.new.named } }
     {
-        self.keys.get(self.named.get(index)?).copied()
+        self.named.pop()
     }
 
-    /// Nobody is named any more.
-    pub fn forget_named(&mut self)
-        ensures { self.new ≡ record self.old { named = [] } }
-    {
-        self.named.clear();
+    /// The key of a client's connection. None where there is none: it has gone.
+    pub fn key_of(&self, client: u64) -> Option<usize> {
+        self.keys.get(&client).copied()
     }
 }
 

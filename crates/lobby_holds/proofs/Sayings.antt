@@ -1,7 +1,7 @@
 -- How lines are said to the lobby in a hold, one after another.
 use Rattle.std.proofs.Common.{◌≡◌, ◌⊎◌, ℕ, ◌+◌, ◌≤◌, true, false, List, [], ◌∷◌, ◌++◌, length, refl, sym, ap, ◌∙◌, subst, inl, inr, arith, length-append, true≢false}
 use Rattle.std.proofs.Math.Bool.{or-false}
-use Rattle.std.specs.Prelude.{◌||◌, Option, Some, IfSome}
+use Rattle.std.specs.Prelude.{◌||◌, Bool, Option, Some, IfSome}
 use Rattle.command_forms.specs.declared.command.Request.{Request}
 use Rattle.lobby_model.specs.declared.event.Event.{Event}
 use Rattle.lobby_model.specs.declared.event.Event.TheVariants as event
@@ -16,7 +16,7 @@ use Rattle.lobby_holds.specs.declared.holds.Said.{Said}
 use Rattle.lobby_holds.specs.Wire.{Wire}
 use Rattle.lobby_holds.specs.Moments.{Moment, moment, requests, touched}
 use Rattle.lobby_holds.specs.Snapshot.{Carried, Snapshot, snapshot}
-use Rattle.lobby_holds.specs.Holds.{IsTaken, Made, AreSaid, SaysLines, HasNoLineNext, StopsAt, short, all_said, none_left, full}
+use Rattle.lobby_holds.specs.Holds.{IsTaken, Made, AreSaid, SaysLines, HasNoLineNext, HasLoudNext, StopsAt, short, all_said, none_left, full, enough}
 use Rattle.lobby_holds.proofs.Joins.{held_none}
 use Rattle.lobby_holds.proofs.Parts.{requests-append, went_none, went_then, went_held}
 use Rattle.lobby_holds.proofs.Talks.{are_talk-append, touched-append, calm-append}
@@ -88,17 +88,24 @@ says_held old new wire p q h k lines wakes taken is s =
 pub refused_line : (x y : Carried) (request : Request) → y ≡ x → IsNextOf (Some x.session) (Line request) → HasLineNext y.session
 refused_line x y request same next = subst (λ (z : Carried). HasLineNext z.session) (sym same) (asks_line x.session request next)
 
-pub stops_none : (most : ℕ) (session : Serving) (said : Said) (events : List Event) → said.refused ≡ false → length events ≡ said.lines → said.lines ≤ 32
-    → (32 ≤ length events) ⊎ HasNoLineNext session → StopsAt most session said
-stops_none most session said events accepted lines few (inl many) = full accepted (omega (arith, lines, few, many))
-stops_none most session said events accepted lines few (inr none) = none_left accepted none
+pub stops_none : (most allowance : ℕ) (is_enough : Bool) (session : Serving) (said : Said) (events : List Event) → said.refused ≡ false → length events ≡ said.lines → said.lines ≤ 32
+    → (is_enough ≡ true → allowance ≤ said.told)
+    → (32 ≤ length events) ⊎ (HasNoLineNext session ⊎ ((is_enough ≡ true) × HasLoudNext session)) → StopsAt most allowance session said
+stops_none most allowance is_enough session said events accepted lines few told (inl many) = full accepted (omega (arith, lines, few, many))
+stops_none most allowance is_enough session said events accepted lines few told (inr (inl none)) = none_left accepted none
+stops_none most allowance is_enough session said events accepted lines few told (inr (inr next)) = enough accepted (told next.0) next.1
+
+-- what is not quiet is a line
+pub loud_is_line : (session : Serving) → HasLoudNext session → HasLineNext session
+loud_is_line session loud = asks_line session loud.0 loud.1
 
 -- what a hold stopped at refused tells what is next
-pub stays_next : (most : ℕ) (session : Serving) (said : Said) → StopsAt most session said → said.refused ≡ true → HasLineNext session
-stays_next most session said (short refused next) is = next
-stays_next most session said (all_said accepted e) is = absurd (true≢false (sym is ∙ accepted))
-stays_next most session said (none_left accepted e) is = absurd (true≢false (sym is ∙ accepted))
-stays_next most session said (full accepted e) is = absurd (true≢false (sym is ∙ accepted))
+pub stays_next : (most allowance : ℕ) (session : Serving) (said : Said) → StopsAt most allowance session said → said.refused ≡ true → HasLineNext session
+stays_next most allowance session said (short refused next) is = next
+stays_next most allowance session said (all_said accepted e) is = absurd (true≢false (sym is ∙ accepted))
+stays_next most allowance session said (none_left accepted e) is = absurd (true≢false (sym is ∙ accepted))
+stays_next most allowance session said (full accepted e) is = absurd (true≢false (sym is ∙ accepted))
+stays_next most allowance session said (enough accepted told next) is = absurd (true≢false (sym is ∙ accepted))
 
 -- what a clause says of a value that is known
 pub from_some : {A : Type 0} (o : Option A) (x : A) (P : A → Type 0) → o ≡ Some x → IfSome o P → P x

@@ -1,5 +1,8 @@
 -- What a hold of a turn did.
 use Rattle.std.specs.Prelude.{◌≡◌, ◌⊎◌, ℕ, ◌<◌, ◌≤◌, Bool, true, false, List, [], ◌∷◌, ◌++◌, length, take, Some}
+use Rattle.command_forms.specs.declared.command.Command.{Command}
+use Rattle.command_forms.specs.declared.command.Command.TheVariants as command
+use Rattle.command_forms.specs.declared.command.Request.{Request}
 use Rattle.lobby_model.specs.declared.event.Event.{Event}
 use Rattle.lobby_model.specs.declared.event.Event.TheVariants as event
 use Rattle.lobby_model.specs.State.{State}
@@ -10,7 +13,7 @@ use Rattle.lobby_lock.specs.History.{after_history, made_by, Begins}
 use Rattle.lobby_lock.specs.Rule.{seen_by}
 use Rattle.lobby_lock.specs.Passes.{ShownPass, ShownHold, lobby_after}
 use Rattle.client_session.specs.Serving.{Serving}
-use Rattle.client_session.specs.declared.session.Next.TheVariants.{Nothing, Spoilt}
+use Rattle.client_session.specs.declared.session.Next.TheVariants.{Line, Nothing, Spoilt}
 use Rattle.client_session.specs.OneSession.{HasLineNext, IsNextOf}
 use Rattle.client_session.specs.Sessions.{Heard, IsNext}
 use Rattle.lobby_holds.specs.declared.holds.Said.{Said}
@@ -67,13 +70,26 @@ HasNoSpoiltNext session = (bytes : List ℕ) (accepted : ℕ) → Heard session.
 abbrev pub HasNoLineNext : Serving → Type 0
 HasNoLineNext session = IsNextOf (Some session) Nothing ⊎ IsNextOf (Some session) Spoilt
 
+-- a command that tells its issuer alone, or one user more, and little
+abbrev pub is_quiet : Command → Bool
+is_quiet command.Ping = true
+is_quiet (command.SayPrivate user text) = true
+is_quiet command.Blank = true
+is_quiet (command.Unread fault) = true
+is_quiet other = false
+
+-- a whole line is next that is not quiet
+abbrev pub HasLoudNext : Serving → Type 0
+HasLoudNext session = (request : Request) × IsNextOf (Some session) (Line request) × (is_quiet request.command ≡ false)
+
 -- Why it said no line more: memory was refused for the line that is next, or nothing was refused, and all that were asked for were
--- said, no whole line is next, or the hold is full
-pub data StopsAt (most : ℕ) (session : Serving) (said : Said) : Type 0 where
-  short : said.refused ≡ true → HasLineNext session → StopsAt most session said
-  all_said : said.refused ≡ false → said.lines ≡ most → StopsAt most session said
-  none_left : said.refused ≡ false → HasNoLineNext session → StopsAt most session said
-  full : said.refused ≡ false → said.lines ≡ 32 → StopsAt most session said
+-- said, no whole line is next, the hold is full, or as many pieces were told as may be and the line that is next is not quiet
+pub data StopsAt (most allowance : ℕ) (session : Serving) (said : Said) : Type 0 where
+  short : said.refused ≡ true → HasLineNext session → StopsAt most allowance session said
+  all_said : said.refused ≡ false → said.lines ≡ most → StopsAt most allowance session said
+  none_left : said.refused ≡ false → HasNoLineNext session → StopsAt most allowance session said
+  full : said.refused ≡ false → said.lines ≡ 32 → StopsAt most allowance session said
+  enough : said.refused ≡ false → allowance ≤ said.told → HasLoudNext session → StopsAt most allowance session said
 
 -- it drained for its client, eight times at most and never into an empty slice: whether nothing will ever come of it; where it is dry,
 -- the last drain gave nothing

@@ -11,6 +11,9 @@ pub trait Gate {
     /// The worker wrote these bytes to a link.
     fn after_write(&self, worker: u8, bytes: &[u8]);
 
+    /// The worker gave a connection a turn, whose events told so many pieces. A gate that counts nothing does nothing.
+    fn after_turn(&self, _worker: u8, _told: u64) {}
+
     /// The worker was woken.
     fn woken(&self, worker: u8);
 

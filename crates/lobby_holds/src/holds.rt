@@ -2,7 +2,7 @@
 //! or written in it. A hold has place for 32 events (`MOST_EVENTS`): so many lines of a burst cost one take and one give, and who
 //! waits for the lobby waits for no more of them.
 
-ghost use Rattle.std.specs.Prelude.{◌≡◌, ◌≢◌, ◌⊎◌, ◌+◌, ◌<◌, ◌≤◌, [], length, OnOk, OnErr, IfOk, IfSome, IsTrue, Some, None, false};
+ghost use Rattle.std.specs.Prelude.{◌≡◌, ◌≢◌, ◌⊎◌, ◌+◌, ◌<◌, ◌≤◌, [], length, OnOk, OnErr, IfOk, IfSome, IsTrue, Some, None, true, false};
 ghost use Rattle.command_forms.specs.Kinds.{keeps_kinds};
 ghost use Rattle.lobby_model.specs.declared.event.Event.TheVariants as event;
 ghost use Rattle.lobby_lock.specs.Passes.{pass_after};
@@ -11,14 +11,14 @@ ghost use Rattle.client_session.specs.OneSession.{IsNextOf, HasLineNext};
 ghost use Rattle.lobby_holds.specs.Wire.{Wire};
 ghost use Rattle.lobby_holds.specs.Snapshot.{snapshot};
 ghost use Rattle.lobby_holds.specs.Went.{Went};
-ghost use Rattle.lobby_holds.specs.Holds.{Stands, Made, SaysLines, IsWithin, HasNoLineNext, StopsAt, Drains, Asks, DrainedInto, DrainedBehind, LetsGo};
+ghost use Rattle.lobby_holds.specs.Holds.{Stands, Made, SaysLines, IsWithin, HasNoLineNext, HasLoudNext, StopsAt, is_quiet, Drains, Asks, DrainedInto, DrainedBehind, LetsGo};
 
 use crate::conn::{Conn, PIECE};
 use crate::gate::Gate;
 use crate::gated_desk::GatedDesk;
 use byte_queue::ByteQueue;
 use client_session::Next;
-use command_grammar::Request;
+use command_grammar::{Command, Request};
 use lobby_lock::{Desk, Held, MOST_EVENTS, Pass};
 use lobby_machine::Wakes;
 use std::alloc::AllocError;
@@ -37,6 +37,8 @@ pub struct Said {
     pub wakes: Wakes,
     /// Whether memory was refused behind them. The line that it was refused for stays next.
     pub refused: bool,
+    /// How many pieces they told.
+    pub told: u64,
 }
 
 /// What was drained in a hold.
@@ -79,16 +81,27 @@ fn say_line<G: Gate>(
     }
 }
 
+/// Whether a command tells its issuer alone, or one user more, and little.
+pub fn is_quiet(command: &Command) -> bool
+    ensures { result ≡ is_quiet command.now }
+{
+    matches!(
+        command,
+        Command::Ping | Command::SayPrivate { .. } | Command::Blank | Command::Unread(_)
+    )
+}
+
 /// Reads the next line and says it to the lobby, where one is there and the hold has place for it.
 fn say_next<G: Gate>(
     conn: &mut Conn,
     held: &mut Held,
     gate: &G,
+    is_enough: bool,
 ) -> Result<Option<Wakes>, AllocError>
     ensures says { IfOk result (λ said. IfSome said (λ wakes. (wire : Wire) → SaysLines (snapshot conn.old wire (pass_after held.old)) (snapshot conn.new wire (pass_after held.new)) 1 wakes)) }
     ensures count { IfOk result (λ said. IfSome said (λ wakes. (length held.new.events ≡ length held.old.events + 1) × (length held.new.events ≤ MOST_EVENTS))) }
     ensures none { IfOk result (λ said. said ≡ None → (conn.new ≡ conn.old) × (held.new ≡ held.old)) }
-    ensures stops { IfOk result (λ said. said ≡ None → (MOST_EVENTS ≤ length held.old.events) ⊎ HasNoLineNext conn.new.session) }
+    ensures stops { IfOk result (λ said. said ≡ None → (MOST_EVENTS ≤ length held.old.events) ⊎ (HasNoLineNext conn.new.session ⊎ ((is_enough ≡ true) × HasLoudNext conn.new.session))) }
     ensures err { OnErr result ((conn.new ≡ conn.old) × (held.new ≡ held.old)) }
     ensures line { OnErr result (HasLineNext conn.new.session) }
     ensures pass { held.new.pass ≡ held.old.pass }
@@ -97,10 +110,16 @@ fn say_next<G: Gate>(
         return Ok(None);
     }
     match conn.next_request() {
-        Ok(Next::Line(request)) => match say_line(conn, held, gate, request) {
-            Ok(wakes) => Ok(Some(wakes)),
-            Err(error) => Err(error),
-        },
+        Ok(Next::Line(request)) => {
+            if is_enough && !is_quiet(&request.command) {
+                request.discard();
+                return Ok(None);
+            }
+            match say_line(conn, held, gate, request) {
+                Ok(wakes) => Ok(Some(wakes)),
+                Err(error) => Err(error),
+            }
+        }
         Ok(Next::Nothing) | Ok(Next::Spoilt) => Ok(None),
         Err(error) => Err(error),
     }
@@ -113,6 +132,7 @@ fn say_lines<G: Gate>(
     gate: &G,
     request: Request,
     most: usize,
+    allowance: u64,
 ) -> Said
     requires new { held.old.events ≡ [] }
     requires stands { Stands held.old }
@@ -121,9 +141,10 @@ fn say_lines<G: Gate>(
     requires some { 1 ≤ most }
     ensures says { (wire : Wire) → SaysLines (snapshot conn.old wire (pass_after held.old)) (snapshot conn.new wire (pass_after held.new)) result.lines result.wakes }
     ensures within { IsWithin most result }
-    ensures stops { StopsAt most conn.new.session result }
+    ensures stops { StopsAt most allowance conn.new.session result }
     ensures pass { held.new.pass ≡ held.old.pass }
 {
+    let before = held.told();
     let mut wakes = match say_line(conn, held, gate, request) {
         Ok(wakes) => wakes,
         Err(_) => {
@@ -131,17 +152,20 @@ fn say_lines<G: Gate>(
                 lines: 0,
                 wakes: Wakes::none(),
                 refused: true,
+                told: 0,
             };
         }
     };
     for lines in 1..most {
-        match say_next(conn, held, gate) {
+        let told = held.told().wrapping_sub(before);
+        match say_next(conn, held, gate, told >= allowance) {
             Ok(Some(more)) => wakes = wakes.union(more),
             Ok(None) => {
                 return Said {
                     lines,
                     wakes,
                     refused: false,
+                    told,
                 };
             }
             Err(_) => {
@@ -149,6 +173,7 @@ fn say_lines<G: Gate>(
                     lines,
                     wakes,
                     refused: true,
+                    told,
                 };
             }
         }
@@ -157,6 +182,7 @@ fn say_lines<G: Gate>(
         lines: most,
         wakes,
         refused: false,
+        told: held.told().wrapping_sub(before),
     }
 }
 
@@ -169,6 +195,7 @@ pub fn say<R: Wait, G: Gate>(
     pass: Pass,
     request: Request,
     most: usize,
+    allowance: u64,
 ) -> (Pass, Said)
     requires desk { pass.desk ≡ desk.now.desk.now }
     requires kinds { IsTrue (keeps_kinds request.command) }
@@ -176,10 +203,10 @@ pub fn say<R: Wait, G: Gate>(
     requires some { 1 ≤ most }
     ensures says { (wire : Wire) → SaysLines (snapshot conn.old wire pass) (snapshot conn.new wire result.0) result.1.lines result.1.wakes }
     ensures within { IsWithin most result.1 }
-    ensures stops { StopsAt most conn.new.session result.1 }
+    ensures stops { StopsAt most allowance conn.new.session result.1 }
 {
     let mut held = desk.take(rt, pass);
-    let said = say_lines(conn, &mut held, desk.gate, request, most);
+    let said = say_lines(conn, &mut held, desk.gate, request, most, allowance);
     (held.give(rt, desk.desk), said)
 }
 
@@ -349,16 +376,18 @@ pub fn shut<R: Wait, G: Gate>(
     conn: &Conn,
     desk: &GatedDesk<'_, G>,
     pass: Pass,
-) -> (Pass, Result<Wakes, AllocError>)
+) -> (Pass, Result<Wakes, AllocError>, u64)
     requires { pass.desk ≡ desk.now.desk.now }
     ensures ok { IfOk result.1 (λ wakes. (wire : Wire) → Made (snapshot conn.now wire pass) (snapshot conn.now wire result.0) (event.Shut conn.now.session.client) wakes) }
     ensures err { OnErr result.1 ((wire : Wire) → Went (snapshot conn.now wire pass) (snapshot conn.now wire result.0) []) }
 {
     let mut held = desk.take(rt, pass);
+    let before = held.told();
     let shut = held.shut(conn.client());
+    let told = held.told().wrapping_sub(before);
     let pass = held.give(rt, desk.desk);
     match shut {
-        Ok(wakes) => (pass, Ok(wakes)),
-        Err(error) => (pass, Err(error)),
+        Ok(wakes) => (pass, Ok(wakes), told),
+        Err(error) => (pass, Err(error), told),
     }
 }

@@ -156,6 +156,11 @@ impl Held {
         self.lobby.hears(client)
     }
 
+    /// How many pieces the lobby's events so far told, as `Lobby::told` says.
+    pub fn told(&self) -> u64 {
+        self.lobby.told()
+    }
+
     /// How many bytes a client has not read; 0 where it is not there.
     pub fn unread(&self, client: u64) -> usize
         ensures { result ≡ length (unread_of self.now.lobby.plain client) }

@@ -47,6 +47,8 @@ struct Parts {
     maps: Maps,
     // what the event at hand tells; its buffers are kept from event to event
     post: Post,
+    // how many pieces the events so far told
+    told: u64,
 }
 
 impl Drop for Lobby {
@@ -77,7 +79,12 @@ impl Lobby {
     {
         let maps = Maps::new(alloc, settings, accounts)?;
         let post = Post::new(alloc);
-        match Box::new(alloc, Parts { maps, post }) {
+        let parts = Parts {
+            maps,
+            post,
+            told: 0,
+        };
+        match Box::new(alloc, parts) {
             Ok(parts) => Ok(Lobby { parts }),
             Err(failed) => {
                 drop(failed);
@@ -120,11 +127,12 @@ impl Lobby {
         ensures dirty { OnOk result (ListsTouched self.old self.new (event.Say client request.now)) }
         ensures err { OnErr result (self.new ≡ self.old) }
     {
-        let Parts { maps, post } = &mut *self.parts;
+        let Parts { maps, post, told } = &mut *self.parts;
         let Some(me) = maps.issuer(client) else {
             return Ok(Wakes::none());
         };
         let change = rules::decide(maps, client, me, request.id, &request.command, post)?;
+        *told = told.wrapping_add(post.count() as u64);
         maps.commit(client, change, post)
     }
 
@@ -137,8 +145,9 @@ impl Lobby {
         ensures dirty { OnOk result (ListsTouched self.old self.new (event.Shut client)) }
         ensures err { OnErr result (self.new ≡ self.old) }
     {
-        let Parts { maps, post } = &mut *self.parts;
+        let Parts { maps, post, told } = &mut *self.parts;
         let change = rules::close(maps, client, post)?;
+        *told = told.wrapping_add(post.count() as u64);
         maps.commit(client, change, post)
     }
 
@@ -165,6 +174,12 @@ impl Lobby {
         ensures others { KeepsOthers self.old self.new home }
     {
         self.parts.maps.next_dirty(home)
+    }
+
+    /// How many pieces its events so far told, those counted whose memory was refused: one for each client that an audience has. The
+    /// count begins anew behind 2^64. No contract speaks of it: it says how much work events are.
+    pub fn told(&self) -> u64 {
+        self.parts.told
     }
 
     /// Whether an open would get a number.

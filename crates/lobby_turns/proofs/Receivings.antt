@@ -14,12 +14,13 @@ use Rattle.lobby_holds.specs.Wire.{Wire, ReadsSome, and_more}
 use Rattle.lobby_holds.specs.Snapshot.{Snapshot}
 use Rattle.client_session.specs.Serving.{Serving}
 use Rattle.lobby_holds.specs.Went.{Went}
-use Rattle.lobby_holds.specs.Holds.{AreSaid, SaysLines, IsWithin, StopsAt}
+use Rattle.lobby_holds.specs.Holds.{AreSaid, SaysLines, IsWithin, HasLoudNext, StopsAt}
 use Rattle.client_session.specs.declared.session.Next.TheVariants.{Nothing, Spoilt}
 use Rattle.client_session.specs.OneSession.{IsNextOf}
-use Rattle.lobby_turns.specs.Receiving.{OnlyReads, IsAllReceived, IsBytes, NoReadFailed, LimitIs, MayRead, HasToReceive, has_bytes, has_line, has_more, SaysWithin, StepIs, ReceivesNext, ReceivedIs, Receives}
+use Rattle.lobby_turns.specs.Receiving.{OnlyReads, IsAllReceived, IsBytes, NoReadFailed, LimitIs, MayRead, HasToReceive, has_bytes, has_line, has_more, SaysWithin, ToldEnough, StepIs, ReceivesNext, ReceivedIs, Receives}
 use Rattle.lobby_holds.proofs.Parts.{went_then, more_none, more_twice}
-use Rattle.lobby_holds.proofs.Sayings.{says_none, says_then, stays_next}
+use Rattle.lobby_holds.proofs.Nexts.{line_is_sound}
+use Rattle.lobby_holds.proofs.Sayings.{says_none, says_then, loud_is_line, stays_next}
 use Rattle.std.proofs.Math.Nat.{add-zero, zero-add}
 
 -- so many lines were said to the lobby and so many reads were made, and these workers are to be woken
@@ -112,23 +113,23 @@ unread b c (suc n) may end = absurd ((may (omega arith)).on end)
 end_stays : (a b c : Snapshot) (k n : ℕ) → OnlyReads a b k → (a.wire.last_got ≡ Some got.End → k ≡ 0) → (0 < n → MayRead b c) → a.wire.last_got ≡ Some got.End → k + n ≡ 0
 end_stays a b c k n only first may end = omega (arith, first end, unread b c n may (only.still (first end) ∙ end))
 
-said_within : (m : ℕ) (session : Serving) (how : Step) (said : Said) → how ≡ step.Said said → SaysWithin (64 - m) session how → IsWithin (64 - m) said × StopsAt (64 - m) session said
-said_within m session how said is within = subst (λ (x : Step). SaysWithin (64 - m) session x) is within
+said_within : (m left : ℕ) (session : Serving) (how : Step) (said : Said) → how ≡ step.Said said → SaysWithin (64 - m) left session how → IsWithin (64 - m) said × StopsAt (64 - m) left session said
+said_within m left session how said is within = subst (λ (x : Step). SaysWithin (64 - m) left session x) is within
 
 lines_fit : (m : ℕ) (said : Said) → m ≤ 64 → IsWithin (64 - m) said → m + said.lines ≤ 64
 lines_fit m said few fits = omega (arith, few, fits.0)
 
-pub goes_on_said : (a b c : Snapshot) (m k wakes : ℕ) (said : Said) (all : ℕ) (how : Step) → how ≡ step.Said said → SaysWithin (64 - m) c.conn.session how
+pub goes_on_said : (a b c : Snapshot) (m k left wakes : ℕ) (said : Said) (all : ℕ) (how : Step) → how ≡ step.Said said → SaysWithin (64 - m) left c.conn.session how
     → IsReceiving a b m k wakes → ReceivesNext b c how
     → ((home : ℕ) → has_home all home ≡ (has_home wakes home || has_home said.wakes home)) → IsReceiving a c (m + said.lines) k all
-goes_on_said a b c m k wakes said all how is within h found both =
+goes_on_said a b c m k left wakes said all how is within h found both =
     let s : ReceivesNext b c (step.Said said) = subst (λ (x : Step). ReceivesNext b c x) is found in
     record {
       receiving = receiving_said a b c m k wakes said all h.receiving s both;
       late = λ e. s.only.reads_are ∙ ap (λ n. b.wire.reads + n) s.step_is.0 ∙ add-zero b.wire.reads ∙ h.late (sym (s.only.still s.step_is.0) ∙ e);
       sound = no_fault_then a b c s.reads s.step_is.0 s.only h.sound;
       after_end = h.after_end;
-      few_lines = lines_fit m said h.few_lines (said_within m c.conn.session how said is within).0;
+      few_lines = lines_fit m said h.few_lines (said_within m left c.conn.session how said is within).0;
       few_reads = h.few_reads;
     }
 
@@ -146,8 +147,8 @@ goes_on_read a b c m k wakes how is few h found =
 
 -- ---- where receiving ends
 
-ended : (a c : Snapshot) (m k wakes : ℕ) (how : ReceiveState) → m ≤ 64 → k ≤ 16 → (a.wire.last_got ≡ Some got.End → k ≡ 0) → (h : Receiving a c m k wakes) → ReceivedIs a c h.says.talk how → Receives a c how wakes
-ended a c m k wakes how few_lines few after_end h is = record {
+ended : (a c : Snapshot) (m k left wakes : ℕ) (how : ReceiveState) → m ≤ 64 → k ≤ 16 → (a.wire.last_got ≡ Some got.End → k ≡ 0) → (h : Receiving a c m k wakes) → ReceivedIs a c left h.says.talk how → Receives a c left how wakes
+ended a c m k left wakes how few_lines few after_end h is = record {
   talk = h.says.talk;
   went = h.says.went;
   own = h.says.said.own;
@@ -163,11 +164,11 @@ ended a c m k wakes how few_lines few after_end h is = record {
 }
 
 -- by a step without a line
-stops : (a b c : Snapshot) (m k wakes : ℕ) (how : Step) (state : ReceiveState) → k < 16 → IsReceiving a b m k wakes → (s : ReceivesNext b c how) → s.talk ≡ []
-    → ((talk : List Moment) → ReceivedIs a c talk state) → Receives a c state wakes
-stops a b c m k wakes how state few h s none is =
+stops : (a b c : Snapshot) (m k left wakes : ℕ) (how : Step) (state : ReceiveState) → k < 16 → IsReceiving a b m k wakes → (s : ReceivesNext b c how) → s.talk ≡ []
+    → ((talk : List Moment) → ReceivedIs a c left talk state) → Receives a c left state wakes
+stops a b c m k left wakes how state few h s none is =
     let all : Receiving a c m (k + s.reads) wakes = quietly a b c m k s.reads wakes s.talk h.receiving s.went s.only none in
-    ended a c m (k + s.reads) wakes state h.few_lines (omega (arith, few, s.few)) (end_stays a b c k s.reads h.receiving.only h.after_end s.may_read) all (is all.says.talk)
+    ended a c m (k + s.reads) left wakes state h.few_lines (omega (arith, few, s.few)) (end_stays a b c k s.reads h.receiving.only h.after_end s.may_read) all (is all.says.talk)
 
 since_last : (a b c : Snapshot) → a.wire.reads ≤ b.wire.reads → (c.wire.last_got ≡ Some got.End) ⊎ ((c.wire.last_got ≡ Some got.Later) × (b.wire.reads < c.wire.reads))
     → (c.wire.last_got ≡ Some got.End) ⊎ ((c.wire.last_got ≡ Some got.Later) × (a.wire.reads < c.wire.reads))
@@ -181,15 +182,15 @@ since a b c rises h = record { fed = h.fed; nothing = h.nothing; last = since_la
 rises : (a b : Snapshot) (k : ℕ) → OnlyReads a b k → a.wire.reads ≤ b.wire.reads
 rises a b k only = omega (arith, only.reads_are)
 
-pub receives_all : (a b c : Snapshot) (m k wakes : ℕ) (how : Step) → how ≡ step.All → k < 16 → IsReceiving a b m k wakes → ReceivesNext b c how → Receives a c receive.All wakes
-receives_all a b c m k wakes how is few h found =
+pub receives_all : (a b c : Snapshot) (m k left wakes : ℕ) (how : Step) → how ≡ step.All → k < 16 → IsReceiving a b m k wakes → ReceivesNext b c how → Receives a c left receive.All wakes
+receives_all a b c m k left wakes how is few h found =
     let s : ReceivesNext b c step.All = subst (λ (x : Step). ReceivesNext b c x) is found in
-    stops a b c m k wakes step.All receive.All few h s s.step_is.0 (λ talk. (λ _. no_fault_all b c s.step_is.1, since a b c (rises a b k h.receiving.only) s.step_is.1))
+    stops a b c m k left wakes step.All receive.All few h s s.step_is.0 (λ talk. (λ _. no_fault_all b c s.step_is.1, since a b c (rises a b k h.receiving.only) s.step_is.1))
 
-pub receives_stop : (a b c : Snapshot) (m k wakes : ℕ) (how : Step) → how ≡ step.Stop → k < 16 → IsReceiving a b m k wakes → ReceivesNext b c how → Receives a c receive.Stop wakes
-receives_stop a b c m k wakes how is few h found =
+pub receives_stop : (a b c : Snapshot) (m k left wakes : ℕ) (how : Step) → how ≡ step.Stop → k < 16 → IsReceiving a b m k wakes → ReceivesNext b c how → Receives a c left receive.Stop wakes
+receives_stop a b c m k left wakes how is few h found =
     let s : ReceivesNext b c step.Stop = subst (λ (x : Step). ReceivesNext b c x) is found in
-    stops a b c m k wakes step.Stop receive.Stop few h s s.step_is.0 (λ talk. s.step_is.1)
+    stops a b c m k left wakes step.Stop receive.Stop few h s s.step_is.0 (λ talk. s.step_is.1)
 
 -- without a read in between there is the same to receive since an earlier place
 to_receive : (a b c : Snapshot) → (b.wire.last_got ≡ Some got.Later → b.wire.reads ≡ a.wire.reads) → c.wire.last_got ≡ b.wire.last_got → HasToReceive b c → HasToReceive a c
@@ -197,32 +198,41 @@ to_receive a b c late still (has_bytes some unspoilt) = has_bytes some unspoilt
 to_receive a b c late still (has_line h) = has_line h
 to_receive a b c late still (has_more h) = has_more (record { fed = h.fed; nothing = h.nothing; on = h.on; sound = h.sound; late = λ e. h.late e ∙ late (sym still ∙ e) })
 
-pub receives_memory : (a b c : Snapshot) (m k wakes : ℕ) (how : Step) → how ≡ step.Memory → k < 16 → IsReceiving a b m k wakes → ReceivesNext b c how → Receives a c receive.Memory wakes
-receives_memory a b c m k wakes how is few h found =
+pub receives_memory : (a b c : Snapshot) (m k left wakes : ℕ) (how : Step) → how ≡ step.Memory → k < 16 → IsReceiving a b m k wakes → ReceivesNext b c how → Receives a c left receive.Memory wakes
+receives_memory a b c m k left wakes how is few h found =
     let s : ReceivesNext b c step.Memory = subst (λ (x : Step). ReceivesNext b c x) is found in
-    stops a b c m k wakes step.Memory receive.Memory few h s s.step_is.0
+    stops a b c m k left wakes step.Memory receive.Memory few h s s.step_is.0
     (λ talk. (no_fault_then a b c s.reads s.step_is.1 s.only h.sound, to_receive a b c h.late (s.only.still s.step_is.1) s.step_is.2))
 
 -- where memory was refused behind some lines
-pub receives_refused : (a b c : Snapshot) (m k wakes : ℕ) (said : Said) (all : ℕ) (how : Step) → how ≡ step.Said said → said.refused ≡ true → SaysWithin (64 - m) c.conn.session how
+pub receives_refused : (a b c : Snapshot) (m k before left wakes : ℕ) (said : Said) (all : ℕ) (how : Step) → how ≡ step.Said said → said.refused ≡ true → SaysWithin (64 - m) before c.conn.session how
     → IsReceiving a b m k wakes → ReceivesNext b c how
-    → ((home : ℕ) → has_home all home ≡ (has_home wakes home || has_home said.wakes home)) → Receives a c receive.Memory all
-receives_refused a b c m k wakes said all how is refused within h found both =
+    → ((home : ℕ) → has_home all home ≡ (has_home wakes home || has_home said.wakes home)) → Receives a c left receive.Memory all
+receives_refused a b c m k before left wakes said all how is refused within h found both =
     let s : ReceivesNext b c (step.Said said) = subst (λ (x : Step). ReceivesNext b c x) is found in
-    let fits = said_within m c.conn.session how said is within in
-    ended a c (m + said.lines) k all receive.Memory (lines_fit m said h.few_lines fits.0) h.few_reads h.after_end (receiving_said a b c m k wakes said all h.receiving s both)
-    (no_fault_then a b c s.reads s.step_is.0 s.only h.sound, has_line (stays_next (64 - m) c.conn.session said fits.1 refused))
+    let fits = said_within m before c.conn.session how said is within in
+    ended a c (m + said.lines) k left all receive.Memory (lines_fit m said h.few_lines fits.0) h.few_reads h.after_end (receiving_said a b c m k wakes said all h.receiving s both)
+    (no_fault_then a b c s.reads s.step_is.0 s.only h.sound, has_line (stays_next (64 - m) before c.conn.session said fits.1 refused))
+
+-- where the turn told enough
+pub receives_enough : (a b c : Snapshot) (m k before left wakes : ℕ) (how : Step) → before ≡ left → how ≡ step.Enough → k < 16 → SaysWithin (64 - m) before c.conn.session how
+    → IsReceiving a b m k wakes → ReceivesNext b c how → Receives a c left receive.Again wakes
+receives_enough a b c m k before left wakes how same is few within h found =
+    let s : ReceivesNext b c step.Enough = subst (λ (x : Step). ReceivesNext b c x) is found in
+    let none : left ≡ 0 = sym same ∙ subst (λ (x : Step). SaysWithin (64 - m) before c.conn.session x) is within in
+    stops a b c m k left wakes step.Enough receive.Again few h s s.step_is.0
+    (λ talk. (no_fault_then a b c s.reads s.step_is.1 s.only h.sound, record { limit = inr (inr (none, s.step_is.3)); fed = s.step_is.2; unspoilt = line_is_sound c.conn.session (loud_is_line c.conn.session s.step_is.3) }))
 
 -- at a limit
-most_are : (a c : Snapshot) (m k wakes : ℕ) → (m ≡ 64) ⊎ (k ≡ 16) → (h : Receiving a c m k wakes) → (length (requests h.says.talk) ≡ 64) ⊎ (c.wire.reads ≡ a.wire.reads + 16)
-most_are a c m k wakes (inl lines) h = inl (h.says.said.lines_are ∙ lines)
-most_are a c m k wakes (inr reads) h = inr (h.only.reads_are ∙ ap (λ n. a.wire.reads + n) reads)
+most_are : (a c : Snapshot) (m k left wakes : ℕ) → (m ≡ 64) ⊎ (k ≡ 16) → (h : Receiving a c m k wakes) → (length (requests h.says.talk) ≡ 64) ⊎ ((c.wire.reads ≡ a.wire.reads + 16) ⊎ ToldEnough left c)
+most_are a c m k left wakes (inl lines) h = inl (h.says.said.lines_are ∙ lines)
+most_are a c m k left wakes (inr reads) h = inr (inl (h.only.reads_are ∙ ap (λ n. a.wire.reads + n) reads))
 
-limit_is : (a c : Snapshot) (m k wakes : ℕ) (how : ReceiveState) → (m ≡ 64) ⊎ (k ≡ 16) → NoReadFailed a c → (h : Receiving a c m k wakes) → LimitIs c.conn how → ReceivedIs a c h.says.talk how
-limit_is a c m k wakes receive.All met sound h limit = absurd limit
-limit_is a c m k wakes receive.Again met sound h limit = (sound, record { limit = most_are a c m k wakes met h; fed = limit.0; unspoilt = limit.1 })
-limit_is a c m k wakes receive.Stop met sound h limit = inl limit
-limit_is a c m k wakes receive.Memory met sound h limit = (sound, has_bytes limit.0 limit.1)
+limit_is : (a c : Snapshot) (m k left wakes : ℕ) (how : ReceiveState) → (m ≡ 64) ⊎ (k ≡ 16) → NoReadFailed a c → (h : Receiving a c m k wakes) → LimitIs c.conn how → ReceivedIs a c left h.says.talk how
+limit_is a c m k left wakes receive.All met sound h limit = absurd limit
+limit_is a c m k left wakes receive.Again met sound h limit = (sound, record { limit = most_are a c m k left wakes met h; fed = limit.0; unspoilt = limit.1 })
+limit_is a c m k left wakes receive.Stop met sound h limit = inl limit
+limit_is a c m k left wakes receive.Memory met sound h limit = (sound, has_bytes limit.0 limit.1)
 
 pub only_none : (a c : Snapshot) → c.wire ≡ a.wire → c.conn.unwritten ≡ a.conn.unwritten → OnlyReads a c 0
 only_none a c same unwritten = record {
@@ -241,12 +251,12 @@ met : (m k : ℕ) → m ≤ 64 → k ≤ 16 → (64 ≤ m) ⊎ (16 ≤ k) → (m
 met m k few_lines few (inl many) = inl (omega (arith, many, few_lines))
 met m k few_lines few (inr many) = inr (omega (arith, many, few))
 
-pub receives_limit : (a b c : Snapshot) (m k wakes : ℕ) (how : ReceiveState) → (64 ≤ m) ⊎ (16 ≤ k) → IsReceiving a b m k wakes → Went b c [] → c.wire ≡ b.wire → c.conn.unwritten ≡ b.conn.unwritten
-    → LimitIs c.conn how → Receives a c how wakes
-receives_limit a b c m k wakes how many h went same unwritten limit =
+pub receives_limit : (a b c : Snapshot) (m k left wakes : ℕ) (how : ReceiveState) → (64 ≤ m) ⊎ (16 ≤ k) → IsReceiving a b m k wakes → Went b c [] → c.wire ≡ b.wire → c.conn.unwritten ≡ b.conn.unwritten
+    → LimitIs c.conn how → Receives a c left how wakes
+receives_limit a b c m k left wakes how many h went same unwritten limit =
     let only : OnlyReads b c 0 = only_none b c same unwritten in
     let all : Receiving a c m k wakes = subst (λ (n : ℕ). Receiving a c m n wakes) (add-zero k) (quietly a b c m k 0 wakes [] h.receiving went only refl) in
-    ended a c m k wakes how h.few_lines h.few_reads h.after_end all (limit_is a c m k wakes how (met m k h.few_lines h.few_reads many) (no_fault_then a b c 0 refl only h.sound) all limit)
+    ended a c m k left wakes how h.few_lines h.few_reads h.after_end all (limit_is a c m k left wakes how (met m k h.few_lines h.few_reads many) (no_fault_then a b c 0 refl only h.sound) all limit)
 
 -- ---- single steps
 
@@ -260,6 +270,7 @@ unasked a c some = absurd (omega (arith, some))
 step_behind : (a b c : Snapshot) (talk : List Moment) (reads : ℕ) (how : Step) → b.wire ≡ a.wire → b.conn.unwritten ≡ a.conn.unwritten → b.conn.session.client ≡ a.conn.session.client → OnlyReads b c reads
     → StepIs b c talk reads how → StepIs a c talk reads how
 step_behind a b c talk reads (step.Said said) same unwritten client only is = (is.0, subst (λ (d : ℕ). AreSaid d talk said.lines said.wakes) client is.1)
+step_behind a b c talk reads step.Enough same unwritten client only is = is
 step_behind a b c talk reads step.Read same unwritten client only is = is
 step_behind a b c talk reads step.All same unwritten client only is = (is.0, since a b c (rises a b 0 (only_none a b same unwritten)) is.1)
 step_behind a b c talk reads step.Stop same unwritten client only is = is
@@ -292,6 +303,9 @@ said_next a b said same s = record {
 
 pub none_done : (a b : Snapshot) → b.wire ≡ a.wire → b.conn.unwritten ≡ a.conn.unwritten → Went a b [] → HasToReceive a b → ReceivesNext a b step.Memory
 none_done a b same unwritten went left = next_quiet a b 0 step.Memory (omega arith) (unasked a b) went (only_none a b same unwritten) (refl, refl, left)
+
+pub put_off : (a b : Snapshot) → b.wire ≡ a.wire → b.conn.unwritten ≡ a.conn.unwritten → Went a b [] → b.conn.unfed ≡ [] → HasLoudNext b.conn.session → ReceivesNext a b step.Enough
+put_off a b same unwritten went fed next = next_quiet a b 0 step.Enough (omega arith) (unasked a b) went (only_none a b same unwritten) (refl, refl, fed, next)
 
 pub none_left : (a b : Snapshot) → b.wire ≡ a.wire → b.conn.unwritten ≡ a.conn.unwritten → Went a b [] → IsNextOf (Some b.conn.session) Spoilt → ReceivesNext a b step.Stop
 none_left a b same unwritten went next = next_quiet a b 0 step.Stop (omega arith) (unasked a b) went (only_none a b same unwritten) (refl, inl next)

@@ -1,5 +1,5 @@
 -- How a turn is put together.
-use Rattle.std.proofs.Common.{◌≡◌, ◌⊎◌, ◌≢◌, ℕ, ◌+◌, ◌*◌, ◌<◌, ◌≤◌, true, false, List, [], ◌∷◌, ◌++◌, length, refl, sym, ap, ◌∙◌, subst, inl, inr, arith, append-nil, length-append, true≢false}
+use Rattle.std.proofs.Common.{◌≡◌, ◌⊎◌, ◌≢◌, ℕ, ◌+◌, ◌-◌, ◌*◌, ◌<◌, ◌≤◌, true, false, List, [], ◌∷◌, ◌++◌, length, refl, sym, ap, ◌∙◌, subst, inl, inr, arith, append-nil, length-append, true≢false}
 use Rattle.std.proofs.Math.Bool.{or-false}
 use Rattle.std.specs.Prelude.{◌||◌, Option, Some}
 use Rattle.lobby_model.specs.declared.event.Event.TheVariants as event
@@ -20,72 +20,72 @@ use Rattle.lobby_holds.specs.Moments.{Moment, moment, requests, questions, touch
 use Rattle.lobby_holds.specs.Wire.{Wire, ReadsSome}
 use Rattle.lobby_holds.specs.Snapshot.{Snapshot}
 use Rattle.lobby_holds.specs.Talk.{AreTalk, AreDrains, EndsDry}
-use Rattle.lobby_turns.specs.Receiving.{IsAllReceived, HasToReceive, has_bytes, has_line, has_more, IsOver, NoReadFailed, ReceivesMost, ReceivedIs, Receives}
+use Rattle.lobby_turns.specs.Receiving.{IsAllReceived, HasToReceive, has_bytes, has_line, has_more, IsOver, NoReadFailed, ToldEnough, ReceivesMost, ReceivedIs, Receives}
 use Rattle.lobby_turns.specs.Sending.{OnlyWrites, IsSound, IsStop, IsWrittenOut, all_written, stopped, spent, IsAllSent, MustWait, SendsMost, SentIs, Sends}
 use Rattle.lobby_holds.specs.Went.{Went}
-use Rattle.lobby_holds.specs.Holds.{Made, HasNoSpoiltNext}
+use Rattle.lobby_holds.specs.Holds.{Made, HasNoSpoiltNext, HasLoudNext}
 use Rattle.lobby_turns.specs.Turned.{GoesOn, MayShut, spoilt, unread, unsent, finished, ended, HasReceived, received_all, received_most, HasSent, sent_all, put_off, sent_most, IsIdle, IsAtLimit, of_receiving, of_sending, IsShort, to_receive, to_drain, to_go_on, to_shut, IsAsked, Ends, Turned, ClosesTo}
 use Rattle.lobby_holds.proofs.Nexts.{line_is_sound, nothing_is_sound}
 use Rattle.lobby_holds.proofs.Parts.{requests-append, questions-append, went_then}
 use Rattle.lobby_holds.proofs.Talks.{only_requests, are_talk-append, drains_are_talk, drains_ask, touched-append, touched_drained, calm-append, finished-append, dry_behind}
 
 -- what came from a client was received, and then what is for it was sent
-pub record Served (a b c : Snapshot) (how : ReceiveState) (far : SendState) (wakes : ℕ) : Type 0 where
-  pub receives : Receives a b how wakes
+pub record Served (a b c : Snapshot) (left : ℕ) (how : ReceiveState) (far : SendState) (wakes : ℕ) : Type 0 where
+  pub receives : Receives a b left how wakes
   pub sends : Sends b c far
 
-talk_of : (a b c : Snapshot) (how : ReceiveState) (far : SendState) (wakes : ℕ) → Served a b c how far wakes → List Moment
-talk_of a b c how far wakes s = s.receives.talk ++ s.sends.talk
+talk_of : (a b c : Snapshot) (left : ℕ) (how : ReceiveState) (far : SendState) (wakes : ℕ) → Served a b c left how far wakes → List Moment
+talk_of a b c left how far wakes s = s.receives.talk ++ s.sends.talk
 
-went_both : (a b c : Snapshot) (how : ReceiveState) (far : SendState) (wakes : ℕ) → (s : Served a b c how far wakes) → Went a c (s.receives.talk ++ s.sends.talk)
-went_both a b c how far wakes s = went_then a b c s.receives.talk s.sends.talk s.receives.went s.sends.went
+went_both : (a b c : Snapshot) (left : ℕ) (how : ReceiveState) (far : SendState) (wakes : ℕ) → (s : Served a b c left how far wakes) → Went a c (s.receives.talk ++ s.sends.talk)
+went_both a b c left how far wakes s = went_then a b c s.receives.talk s.sends.talk s.receives.went s.sends.went
 
-own_both : (a b c : Snapshot) (how : ReceiveState) (far : SendState) (wakes : ℕ) → (s : Served a b c how far wakes) → AreTalk c.conn.session.client (s.receives.talk ++ s.sends.talk)
-own_both a b c how far wakes s =
+own_both : (a b c : Snapshot) (left : ℕ) (how : ReceiveState) (far : SendState) (wakes : ℕ) → (s : Served a b c left how far wakes) → AreTalk c.conn.session.client (s.receives.talk ++ s.sends.talk)
+own_both a b c left how far wakes s =
     let u : List Moment = s.sends.talk in
     let same : c.conn.session.client ≡ a.conn.session.client = s.sends.went.client ∙ s.receives.went.client in
     are_talk-append c.conn.session.client s.receives.talk u
     (subst (λ (x : ℕ). AreTalk x s.receives.talk) (sym same) s.receives.own)
     (drains_are_talk c.conn.session.client u (subst (λ (x : ℕ). AreDrains x u) (sym s.sends.went.client) s.sends.own))
 
-lines_both : (a b c : Snapshot) (how : ReceiveState) (far : SendState) (wakes : ℕ) → (s : Served a b c how far wakes) → requests (s.receives.talk ++ s.sends.talk) ≡ requests s.receives.talk
-lines_both a b c how far wakes s =
+lines_both : (a b c : Snapshot) (left : ℕ) (how : ReceiveState) (far : SendState) (wakes : ℕ) → (s : Served a b c left how far wakes) → requests (s.receives.talk ++ s.sends.talk) ≡ requests s.receives.talk
+lines_both a b c left how far wakes s =
     requests-append s.receives.talk s.sends.talk ∙ ap (λ l. requests s.receives.talk ++ l) (drains_ask b.conn.session.client s.sends.talk s.sends.own) ∙ append-nil (requests s.receives.talk)
 
-drains_both : (a b c : Snapshot) (how : ReceiveState) (far : SendState) (wakes : ℕ) → (s : Served a b c how far wakes)
+drains_both : (a b c : Snapshot) (left : ℕ) (how : ReceiveState) (far : SendState) (wakes : ℕ) → (s : Served a b c left how far wakes)
     → length (s.receives.talk ++ s.sends.talk) ≤ length (requests (s.receives.talk ++ s.sends.talk)) + 136
-drains_both a b c how far wakes s =
-    omega (arith, length-append s.receives.talk s.sends.talk, s.receives.only_lines, s.sends.drains, ap length (lines_both a b c how far wakes s))
+drains_both a b c left how far wakes s =
+    omega (arith, length-append s.receives.talk s.sends.talk, s.receives.only_lines, s.sends.drains, ap length (lines_both a b c left how far wakes s))
 
 -- who only says lines asks nothing
-unasked_both : (a b c : Snapshot) (how : ReceiveState) (far : SendState) (wakes : ℕ) → (s : Served a b c how far wakes) → questions (s.receives.talk ++ s.sends.talk) ≡ questions s.sends.talk
-unasked_both a b c how far wakes s =
+unasked_both : (a b c : Snapshot) (left : ℕ) (how : ReceiveState) (far : SendState) (wakes : ℕ) → (s : Served a b c left how far wakes) → questions (s.receives.talk ++ s.sends.talk) ≡ questions s.sends.talk
+unasked_both a b c left how far wakes s =
     questions-append s.receives.talk s.sends.talk ∙ ap (λ l. l ++ questions s.sends.talk) (only_requests s.receives.talk s.receives.only_lines)
 
-once_both : (a b c : Snapshot) (how : ReceiveState) (far : SendState) (wakes : ℕ) → (s : Served a b c how far wakes) → length (questions (s.receives.talk ++ s.sends.talk)) ≤ 1
-once_both a b c how far wakes s = omega (arith, ap length (unasked_both a b c how far wakes s), s.sends.asks.once)
+once_both : (a b c : Snapshot) (left : ℕ) (how : ReceiveState) (far : SendState) (wakes : ℕ) → (s : Served a b c left how far wakes) → length (questions (s.receives.talk ++ s.sends.talk)) ≤ 1
+once_both a b c left how far wakes s = omega (arith, ap length (unasked_both a b c left how far wakes s), s.sends.asks.once)
 
-never_both : (a b c : Snapshot) (how : ReceiveState) (far : SendState) (wakes : ℕ) → (s : Served a b c how far wakes) → a.conn.unwritten ≡ [] → questions (s.receives.talk ++ s.sends.talk) ≡ []
-never_both a b c how far wakes s written = unasked_both a b c how far wakes s ∙ s.sends.asks.written (s.receives.only.unwritten ∙ written)
+never_both : (a b c : Snapshot) (left : ℕ) (how : ReceiveState) (far : SendState) (wakes : ℕ) → (s : Served a b c left how far wakes) → a.conn.unwritten ≡ [] → questions (s.receives.talk ++ s.sends.talk) ≡ []
+never_both a b c left how far wakes s written = unasked_both a b c left how far wakes s ∙ s.sends.asks.written (s.receives.only.unwritten ∙ written)
 
-reads_both : (a b c : Snapshot) (how : ReceiveState) (far : SendState) (wakes : ℕ) → Served a b c how far wakes → c.wire.reads ≤ a.wire.reads + 16
-reads_both a b c how far wakes s = omega (arith, s.receives.only.reads_are, s.receives.few, s.sends.only.reads)
+reads_both : (a b c : Snapshot) (left : ℕ) (how : ReceiveState) (far : SendState) (wakes : ℕ) → Served a b c left how far wakes → c.wire.reads ≤ a.wire.reads + 16
+reads_both a b c left how far wakes s = omega (arith, s.receives.only.reads_are, s.receives.few, s.sends.only.reads)
 
-pieces_both : (a b c : Snapshot) (how : ReceiveState) (far : SendState) (wakes : ℕ) → Served a b c how far wakes → ReadsSome a.wire c.wire 65536
-pieces_both a b c how far wakes s =
+pieces_both : (a b c : Snapshot) (left : ℕ) (how : ReceiveState) (far : SendState) (wakes : ℕ) → Served a b c left how far wakes → ReadsSome a.wire c.wire 65536
+pieces_both a b c left how far wakes s =
     let h : ReadsSome a.wire b.wire (4096 * s.receives.reads) = s.receives.only.pieces in
     record { more = h.more; read = s.sends.only.read ∙ h.read; few = omega (arith, h.few, s.receives.few) }
 
-ended_both : (a b c : Snapshot) (how : ReceiveState) (far : SendState) (wakes : ℕ) → Served a b c how far wakes → a.wire.last_got ≡ Some got.End → c.wire.reads ≡ a.wire.reads
-ended_both a b c how far wakes s end = omega (arith, s.receives.only.reads_are, s.receives.after_end end, s.sends.only.reads)
+ended_both : (a b c : Snapshot) (left : ℕ) (how : ReceiveState) (far : SendState) (wakes : ℕ) → Served a b c left how far wakes → a.wire.last_got ≡ Some got.End → c.wire.reads ≡ a.wire.reads
+ended_both a b c left how far wakes s end = omega (arith, s.receives.only.reads_are, s.receives.after_end end, s.sends.only.reads)
 
-writes_both : (a b c : Snapshot) (how : ReceiveState) (far : SendState) (wakes : ℕ) → Served a b c how far wakes → c.wire.writes ≤ a.wire.writes + 16
-writes_both a b c how far wakes s = omega (arith, s.receives.only.writes, s.sends.only.writes_are, s.sends.few)
+writes_both : (a b c : Snapshot) (left : ℕ) (how : ReceiveState) (far : SendState) (wakes : ℕ) → Served a b c left how far wakes → c.wire.writes ≤ a.wire.writes + 16
+writes_both a b c left how far wakes s = omega (arith, s.receives.only.writes, s.sends.only.writes_are, s.sends.few)
 
 -- ---- why a client is shut
 
-all_received : (a b : Snapshot) (talk : List Moment) (how : ReceiveState) → how ≡ receive.All → ReceivedIs a b talk how → IsAllReceived a b
-all_received a b talk how e h = (subst (λ (x : ReceiveState). ReceivedIs a b talk x) e h).1
+all_received : (a b : Snapshot) (left : ℕ) (talk : List Moment) (how : ReceiveState) → how ≡ receive.All → ReceivedIs a b left talk how → IsAllReceived a b
+all_received a b left talk how e h = (subst (λ (x : ReceiveState). ReceivedIs a b left talk x) e h).1
 
 all_sent : (b c : Snapshot) (talk : List Moment) (far : SendState) → far ≡ send.All → SentIs b c talk far → IsAllSent c talk
 all_sent b c talk far e h = (subst (λ (x : SendState). SentIs b c talk x) e h).1
@@ -113,25 +113,25 @@ over a b c talk calm session last (inl next) = spoilt calm (subst (λ (x : Servi
 over a b c talk calm session last (inr fault) = unread calm (last ∙ fault)
 
 -- where no drain said that nothing will come
-shut_else : (a b c : Snapshot) (how : ReceiveState) (far : SendState) (wakes : ℕ) → (s : Served a b c how far wakes) → told_end (s.receives.talk ++ s.sends.talk) ≡ false
+shut_else : (a b c : Snapshot) (left : ℕ) (how : ReceiveState) (far : SendState) (wakes : ℕ) → (s : Served a b c left how far wakes) → told_end (s.receives.talk ++ s.sends.talk) ≡ false
     → ((told_end s.sends.talk ≡ true) → ⊥) → MustShut c how far → MayShut a c (s.receives.talk ++ s.sends.talk)
-shut_else a b c how far wakes s calm goes_on (inl e) = absurd (goes_on (subst (λ (x : SendState). SentIs b c s.sends.talk x) e s.sends.sent_is).0)
-shut_else a b c how far wakes s calm goes_on (inr (inl e)) = unsent calm (subst (λ (x : SendState). SentIs b c s.sends.talk x) e s.sends.sent_is).1
-shut_else a b c how far wakes s calm goes_on (inr (inr (inl e))) =
-    over a b c (s.receives.talk ++ s.sends.talk) calm s.sends.only.session s.sends.only.last_got (subst (λ (x : ReceiveState). ReceivedIs a b s.receives.talk x) e s.receives.received_is)
-shut_else a b c how far wakes s calm goes_on (inr (inr (inr e))) =
-    let h : IsAllReceived a b = all_received a b s.receives.talk how e.0 s.receives.received_is in
+shut_else a b c left how far wakes s calm goes_on (inl e) = absurd (goes_on (subst (λ (x : SendState). SentIs b c s.sends.talk x) e s.sends.sent_is).0)
+shut_else a b c left how far wakes s calm goes_on (inr (inl e)) = unsent calm (subst (λ (x : SendState). SentIs b c s.sends.talk x) e s.sends.sent_is).1
+shut_else a b c left how far wakes s calm goes_on (inr (inr (inl e))) =
+    over a b c (s.receives.talk ++ s.sends.talk) calm s.sends.only.session s.sends.only.last_got (subst (λ (x : ReceiveState). ReceivedIs a b left s.receives.talk x) e s.receives.received_is)
+shut_else a b c left how far wakes s calm goes_on (inr (inr (inr e))) =
+    let h : IsAllReceived a b = all_received a b left s.receives.talk how e.0 s.receives.received_is in
     let t : IsAllSent c s.sends.talk = all_sent b c s.sends.talk far e.1 s.sends.sent_is in
     ended calm
     (record { fed = s.sends.only.unfed ∙ h.fed; nothing = subst (λ (x : Serving). IsNextOf (Some x) Nothing) (sym s.sends.only.session) h.nothing; last = e.2 })
     (record { written = t.written; dry = dry_behind c.conn.session.client s.receives.talk s.sends.talk t.dry })
 
-may_shut : (a b c : Snapshot) (how : ReceiveState) (far : SendState) (wakes : ℕ) → (s : Served a b c how far wakes) → MustShut c how far → MayShut a c (s.receives.talk ++ s.sends.talk)
-may_shut a b c how far wakes s must = by_drains (finished_or_not b c s.sends.talk far s.sends.sent_is)
+may_shut : (a b c : Snapshot) (left : ℕ) (how : ReceiveState) (far : SendState) (wakes : ℕ) → (s : Served a b c left how far wakes) → MustShut c how far → MayShut a c (s.receives.talk ++ s.sends.talk)
+may_shut a b c left how far wakes s must = by_drains (finished_or_not b c s.sends.talk far s.sends.sent_is)
   where
     by_drains : ((told_end s.sends.talk ≡ true) × IsWrittenOut b c 16) ⊎ (told_end s.sends.talk ≡ false) → MayShut a c (s.receives.talk ++ s.sends.talk)
     by_drains (inl e) = finished (finished-append s.receives.talk s.sends.talk e.0) (out_before a b c s.receives.only.writes e.1)
-    by_drains (inr calm) = shut_else a b c how far wakes s (calm-append s.receives.talk s.sends.talk s.receives.calm calm) (λ told. true≢false (sym told ∙ calm)) must
+    by_drains (inr calm) = shut_else a b c left how far wakes s (calm-append s.receives.talk s.sends.talk s.receives.calm calm) (λ told. true≢false (sym told ∙ calm)) must
 
 -- ---- a turn that shuts nobody
 
@@ -158,11 +158,11 @@ left_to_receive a b c session unfed last reads (has_line h) = has_line (subst Ha
 left_to_receive a b c session unfed last reads (has_more h) =
     has_more (record { fed = unfed ∙ h.fed; nothing = subst (λ (x : Serving). IsNextOf (Some x) Nothing) (sym session) h.nothing; on = λ e. h.on (sym last ∙ e); sound = λ e. h.sound (sym last ∙ e); late = λ e. reads ∙ h.late (sym last ∙ e) })
 
-sound_received : (a b : Snapshot) (talk : List Moment) (how : ReceiveState) → how ≢ receive.Stop → ReceivedIs a b talk how → NoReadFailed a b
-sound_received a b talk receive.All on h = h.0
-sound_received a b talk receive.Again on h = h.0
-sound_received a b talk receive.Stop on h = absurd (on refl)
-sound_received a b talk receive.Memory on h = h.0
+sound_received : (a b : Snapshot) (left : ℕ) (talk : List Moment) (how : ReceiveState) → how ≢ receive.Stop → ReceivedIs a b left talk how → NoReadFailed a b
+sound_received a b left talk receive.All on h = h.0
+sound_received a b left talk receive.Again on h = h.0
+sound_received a b left talk receive.Stop on h = absurd (on refl)
+sound_received a b left talk receive.Memory on h = h.0
 
 -- nor is a spoilt place next
 left_unspoilt : (a b : Snapshot) → HasToReceive a b → HasNoSpoiltNext b.conn.session
@@ -170,11 +170,11 @@ left_unspoilt a b (has_bytes some unspoilt) = unspoilt
 left_unspoilt a b (has_line h) = line_is_sound b.conn.session h
 left_unspoilt a b (has_more h) = nothing_is_sound b.conn.session h.nothing
 
-unspoilt_received : (a b : Snapshot) (talk : List Moment) (how : ReceiveState) → how ≢ receive.Stop → ReceivedIs a b talk how → HasNoSpoiltNext b.conn.session
-unspoilt_received a b talk receive.All on h = nothing_is_sound b.conn.session h.1.nothing
-unspoilt_received a b talk receive.Again on h = h.1.unspoilt
-unspoilt_received a b talk receive.Stop on h = absurd (on refl)
-unspoilt_received a b talk receive.Memory on h = left_unspoilt a b h.1
+unspoilt_received : (a b : Snapshot) (left : ℕ) (talk : List Moment) (how : ReceiveState) → how ≢ receive.Stop → ReceivedIs a b left talk how → HasNoSpoiltNext b.conn.session
+unspoilt_received a b left talk receive.All on h = nothing_is_sound b.conn.session h.1.nothing
+unspoilt_received a b left talk receive.Again on h = h.1.unspoilt
+unspoilt_received a b left talk receive.Stop on h = absurd (on refl)
+unspoilt_received a b left talk receive.Memory on h = left_unspoilt a b h.1
 
 sound_sent : (b c : Snapshot) (talk : List Moment) (far : SendState) → far ≢ send.Finished → far ≢ send.Fault → SentIs b c talk far → IsSound b c talk
 sound_sent b c talk send.All on sound h = h.0
@@ -184,46 +184,47 @@ sound_sent b c talk send.Finished on sound h = absurd (on refl)
 sound_sent b c talk send.Fault on sound h = absurd (sound refl)
 sound_sent b c talk send.Memory on sound h = h.0
 
-module _ (a b c : Snapshot) (how : ReceiveState) (far : SendState) (wakes : ℕ) (s : Served a b c how far wakes) where
+module _ (a b c : Snapshot) (left : ℕ) (how : ReceiveState) (far : SendState) (wakes : ℕ) (s : Served a b c left how far wakes) where
   abbrev spoken : List Moment
   spoken = s.receives.talk ++ s.sends.talk
 
   goes_on : MayGo how far → GoesOn a c spoken
   goes_on on =
       let sound : IsSound b c s.sends.talk = sound_sent b c s.sends.talk far on.1 on.2 s.sends.sent_is in
-      let read : NoReadFailed a b = sound_received a b s.receives.talk how on.0 s.receives.received_is in
+      let read : NoReadFailed a b = sound_received a b left s.receives.talk how on.0 s.receives.received_is in
       record {
         calm = calm-append s.receives.talk s.sends.talk s.receives.calm sound.calm;
-        unspoilt = subst HasNoSpoiltNext (sym s.sends.only.session) (unspoilt_received a b s.receives.talk how on.0 s.receives.received_is);
+        unspoilt = subst HasNoSpoiltNext (sym s.sends.only.session) (unspoilt_received a b left s.receives.talk how on.0 s.receives.received_is);
         read = λ rose failed. read (omega (arith, rose, s.sends.only.reads)) (sym s.sends.only.last_got ∙ failed);
         written = λ rose. sound.no_fault (omega (arith, rose, s.receives.only.writes));
       }
 
   received : how ≡ receive.All → IsAllReceived a c
   received e =
-      let h : IsAllReceived a b = all_received a b s.receives.talk how e s.receives.received_is in
+      let h : IsAllReceived a b = all_received a b left s.receives.talk how e s.receives.received_is in
       record {
         fed = s.sends.only.unfed ∙ h.fed;
         nothing = subst (λ (x : Serving). IsNextOf (Some x) Nothing) (sym s.sends.only.session) h.nothing;
         last = still_received a b c (sym s.sends.only.reads) s.sends.only.last_got h.last;
       }
 
-  limit_since : (length (requests s.receives.talk) ≡ 64) ⊎ (b.wire.reads ≡ a.wire.reads + 16) → (length (requests spoken) ≡ 64) ⊎ (c.wire.reads ≡ a.wire.reads + 16)
-  limit_since (inl lines) = inl (ap length (lines_both a b c how far wakes s) ∙ lines)
-  limit_since (inr reads) = inr (s.sends.only.reads ∙ reads)
+  limit_since : (length (requests s.receives.talk) ≡ 64) ⊎ ((b.wire.reads ≡ a.wire.reads + 16) ⊎ ToldEnough left b) → (length (requests spoken) ≡ 64) ⊎ ((c.wire.reads ≡ a.wire.reads + 16) ⊎ ToldEnough left c)
+  limit_since (inl lines) = inl (ap length (lines_both a b c left how far wakes s) ∙ lines)
+  limit_since (inr (inl reads)) = inr (inl (s.sends.only.reads ∙ reads))
+  limit_since (inr (inr told)) = inr (inr (told.0, subst HasLoudNext (sym s.sends.only.session) told.1))
 
-  most_since : ReceivesMost a b s.receives.talk → ReceivesMost a c spoken
+  most_since : ReceivesMost a b left s.receives.talk → ReceivesMost a c left spoken
   most_since h = record { limit = limit_since h.limit; fed = s.sends.only.unfed ∙ h.fed; unspoilt = subst HasNoSpoiltNext (sym s.sends.only.session) h.unspoilt }
 
-  most : how ≡ receive.Again → ReceivesMost a c spoken
-  most e = most_since (subst (λ (x : ReceiveState). ReceivedIs a b s.receives.talk x) e s.receives.received_is).1
+  most : how ≡ receive.Again → ReceivesMost a c left spoken
+  most e = most_since (subst (λ (x : ReceiveState). ReceivedIs a b left s.receives.talk x) e s.receives.received_is).1
 
   refused : how ≡ receive.Memory → HasToReceive a c
   refused e =
       let only : OnlyWrites b c s.sends.writes = s.sends.only in
-      left_to_receive a b c only.session only.unfed only.last_got only.reads (subst (λ (x : ReceiveState). ReceivedIs a b s.receives.talk x) e s.receives.received_is).1
+      left_to_receive a b c only.session only.unfed only.last_got only.reads (subst (λ (x : ReceiveState). ReceivedIs a b left s.receives.talk x) e s.receives.received_is).1
 
-  so_far : (x : ReceiveState) → how ≡ x → x ≢ receive.Stop → x ≢ receive.Memory → HasReceived a c spoken
+  so_far : (x : ReceiveState) → how ≡ x → x ≢ receive.Stop → x ≢ receive.Memory → HasReceived a c left spoken
   so_far receive.All e on fits = received_all (received e)
   so_far receive.Again e on fits = received_most (most e)
   so_far receive.Stop e on fits = absurd (on refl)
@@ -269,16 +270,16 @@ module _ (a b c : Snapshot) (how : ReceiveState) (far : SendState) (wakes : ℕ)
       quiet (inr e) = inr (sent_to e.0, e.1)
 
   -- a half came to its limit, and the other one did not fail
-  limit : HasReceived a c spoken → HasSent a c spoken → (how ≡ receive.Again) ⊎ (far ≡ send.Again) → IsAtLimit a c spoken
+  limit : HasReceived a c left spoken → HasSent a c spoken → (how ≡ receive.Again) ⊎ (far ≡ send.Again) → IsAtLimit a c left spoken
   limit before behind (inl e) = of_receiving (most e) behind
   limit (received_all all) behind (inr e) = of_sending all (wrote_most e)
   limit (received_most reached) behind (inr e) = of_receiving reached behind
 
-  at_limit : MayGo how far → MayRest c how far state.Again → IsAtLimit a c spoken
+  at_limit : MayGo how far → MayRest c how far state.Again → IsAtLimit a c left spoken
   at_limit on rest = limit (so_far how refl on.0 rest.1) (has_sent far refl on.1 on.2 rest.2) rest.0
 
   -- receiving was refused memory, or it was not
-  short : MayGo how far → (x : ReceiveState) → how ≡ x → (how ≡ receive.Memory) ⊎ (far ≡ send.Memory) → IsShort a c spoken
+  short : MayGo how far → (x : ReceiveState) → how ≡ x → (how ≡ receive.Memory) ⊎ (far ≡ send.Memory) → IsShort a c left spoken
   short on receive.Memory e rest = to_receive (refused e) (sent_so_far far refl on.1 on.2)
   short on receive.All e (inr none) = to_drain (received_all (received e)) (nothing_left none)
   short on receive.Again e (inr none) = to_drain (received_most (most e)) (nothing_left none)
@@ -286,7 +287,7 @@ module _ (a b c : Snapshot) (how : ReceiveState) (far : SendState) (wakes : ℕ)
   short on receive.All e (inl f) = absurd (cc (e, f))
   short on receive.Again e (inl f) = absurd (cc (e, f))
 
-  rests : (x : TurnState) → MayGo how far → MayRest c how far x → Ends a c spoken [] x
+  rests : (x : TurnState) → MayGo how far → MayRest c how far x → Ends a c left spoken [] x
   rests state.Idle on rest = (refl, goes_on on, idle rest)
   rests state.Again on rest = (refl, goes_on on, at_limit on rest)
   rests state.Closed on rest = absurd rest
@@ -300,25 +301,26 @@ module _ (a b c : Snapshot) (how : ReceiveState) (far : SendState) (wakes : ℕ)
       subst (λ (d : ℕ). IsAsked d spoken) same
       (s.receives.talk, first.0, first.1, ap (λ l. s.receives.talk ++ l) first.2, (subst (λ (l : List Moment). AreDrains b.conn.session.client l) first.2 s.sends.own).1)
 
-pub turned_open : (a b c : Snapshot) (how : ReceiveState) (far : SendState) (wakes : ℕ) (x : TurnState) → Receives a b how wakes → Sends b c far → MayGo how far → MayRest c how far x
-    → Turned a c (record { state = x; wakes = wakes })
-turned_open a b c how far wakes x h t on rest =
-    let s : Served a b c how far wakes = record { receives = h; sends = t } in
+pub turned_open : (a b c : Snapshot) (allowance told : ℕ) (how : ReceiveState) (far : SendState) (wakes : ℕ) (x : TurnState) → Receives a b (allowance - told) how wakes → Sends b c far → MayGo how far → MayRest c how far x
+    → Turned a c allowance (record { state = x; wakes = wakes; told = told })
+turned_open a b c allowance told how far wakes x h t on rest =
+    let left : ℕ = allowance - told in
+    let s : Served a b c left how far wakes = record { receives = h; sends = t } in
     record {
       talk = h.talk ++ t.talk;
       end = [];
-      went = subst (λ (l : List Moment). Went a c l) (sym (append-nil (h.talk ++ t.talk))) (went_both a b c how far wakes s);
-      own = own_both a b c how far wakes s;
-      asked = asked a b c how far wakes s;
-      unasked = never_both a b c how far wakes s;
-      once = once_both a b c how far wakes s;
-      ends = rests a b c how far wakes s x on rest;
-      lines = subst (λ (l : List _). length l ≤ 64) (sym (lines_both a b c how far wakes s)) h.lines;
-      drains = drains_both a b c how far wakes s;
-      reads = reads_both a b c how far wakes s;
-      pieces = pieces_both a b c how far wakes s;
-      after_end = ended_both a b c how far wakes s;
-      writes = writes_both a b c how far wakes s;
+      went = subst (λ (l : List Moment). Went a c l) (sym (append-nil (h.talk ++ t.talk))) (went_both a b c left how far wakes s);
+      own = own_both a b c left how far wakes s;
+      asked = asked a b c left how far wakes s;
+      unasked = never_both a b c left how far wakes s;
+      once = once_both a b c left how far wakes s;
+      ends = rests a b c left how far wakes s x on rest;
+      lines = subst (λ (l : List _). length l ≤ 64) (sym (lines_both a b c left how far wakes s)) h.lines;
+      drains = drains_both a b c left how far wakes s;
+      reads = reads_both a b c left how far wakes s;
+      pieces = pieces_both a b c left how far wakes s;
+      after_end = ended_both a b c left how far wakes s;
+      writes = writes_both a b c left how far wakes s;
       wakes_are = λ home.
           h.wakes_are home ∙ sym (touched_drained b.conn.session.client h.talk t.talk home t.own)
           ∙ ap (λ l. touched l home) (sym (append-nil (h.talk ++ t.talk)));
@@ -344,57 +346,57 @@ moved_on a c d talk conn wire (ended calm h t) =
 one_more : (t : List Moment) (m : Moment) (home : ℕ) → touched (t ++ m ∷ []) home ≡ (touched t home || touches m.met m.event home)
 one_more t m home = touched-append t (m ∷ []) home ∙ ap (λ b. touched t home || b) (or-false (touches m.met m.event home))
 
-pub turned_closed : (a b c d : Snapshot) (how : ReceiveState) (far : SendState) (wakes more : ℕ) (x : TurnState) → Receives a b how wakes → Sends b c far → MustShut c how far
-    → d.conn ≡ c.conn → d.wire ≡ c.wire → ClosesTo c d wakes more x → Turned a d (record { state = x; wakes = more })
-turned_closed a b c d how far wakes more state.Closed h t must conn wire closes =
-    let s : Served a b c how far wakes = record { receives = h; sends = t } in
+pub turned_closed : (a b c d : Snapshot) (left allowance told : ℕ) (how : ReceiveState) (far : SendState) (wakes more : ℕ) (x : TurnState) → Receives a b left how wakes → Sends b c far → MustShut c how far
+    → d.conn ≡ c.conn → d.wire ≡ c.wire → ClosesTo c d wakes more x → Turned a d allowance (record { state = x; wakes = more; told = told })
+turned_closed a b c d left allowance told how far wakes more state.Closed h t must conn wire closes =
+    let s : Served a b c left how far wakes = record { receives = h; sends = t } in
     let talk : List Moment = h.talk ++ t.talk in
     let last : Moment = moment closes.0 (event.Shut c.conn.session.client) in
     record {
       talk = talk;
       end = last ∷ [];
-      went = went_then a c d talk (last ∷ []) (went_both a b c how far wakes s) closes.1;
-      own = subst (λ (x : ℕ). AreTalk x talk) (sym closes.1.client) (own_both a b c how far wakes s);
-      asked = λ waiting. subst (λ (x : ℕ). IsAsked x talk) (sym closes.1.client) (asked a b c how far wakes s waiting);
-      unasked = never_both a b c how far wakes s;
-      once = once_both a b c how far wakes s;
-      ends = (closes.0, ap (λ x. moment closes.0 (event.Shut x) ∷ []) (sym closes.1.client), moved_on a c d talk conn wire (may_shut a b c how far wakes s must));
-      lines = subst (λ (l : List _). length l ≤ 64) (sym (lines_both a b c how far wakes s)) h.lines;
-      drains = drains_both a b c how far wakes s;
-      reads = subst (λ (w : _). w.reads ≤ a.wire.reads + 16) (sym wire) (reads_both a b c how far wakes s);
-      pieces = subst (λ (w : Wire). ReadsSome a.wire w 65536) (sym wire) (pieces_both a b c how far wakes s);
-      after_end = λ end. ap (λ w. w.reads) wire ∙ ended_both a b c how far wakes s end;
-      writes = subst (λ (w : _). w.writes ≤ a.wire.writes + 16) (sym wire) (writes_both a b c how far wakes s);
+      went = went_then a c d talk (last ∷ []) (went_both a b c left how far wakes s) closes.1;
+      own = subst (λ (x : ℕ). AreTalk x talk) (sym closes.1.client) (own_both a b c left how far wakes s);
+      asked = λ waiting. subst (λ (x : ℕ). IsAsked x talk) (sym closes.1.client) (asked a b c left how far wakes s waiting);
+      unasked = never_both a b c left how far wakes s;
+      once = once_both a b c left how far wakes s;
+      ends = (closes.0, ap (λ x. moment closes.0 (event.Shut x) ∷ []) (sym closes.1.client), moved_on a c d talk conn wire (may_shut a b c left how far wakes s must));
+      lines = subst (λ (l : List _). length l ≤ 64) (sym (lines_both a b c left how far wakes s)) h.lines;
+      drains = drains_both a b c left how far wakes s;
+      reads = subst (λ (w : _). w.reads ≤ a.wire.reads + 16) (sym wire) (reads_both a b c left how far wakes s);
+      pieces = subst (λ (w : Wire). ReadsSome a.wire w 65536) (sym wire) (pieces_both a b c left how far wakes s);
+      after_end = λ end. ap (λ w. w.reads) wire ∙ ended_both a b c left how far wakes s end;
+      writes = subst (λ (w : _). w.writes ≤ a.wire.writes + 16) (sym wire) (writes_both a b c left how far wakes s);
       wakes_are = λ home.
           closes.2 home
           ∙ ap (λ y. y || touches last.met last.event home) (h.wakes_are home ∙ sym (touched_drained b.conn.session.client h.talk t.talk home t.own))
           ∙ sym (one_more talk last home);
     }
-turned_closed a b c d how far wakes more state.Memory h t must conn wire closes =
-    let s : Served a b c how far wakes = record { receives = h; sends = t } in
+turned_closed a b c d left allowance told how far wakes more state.Memory h t must conn wire closes =
+    let s : Served a b c left how far wakes = record { receives = h; sends = t } in
     let talk : List Moment = h.talk ++ t.talk in
     record {
       talk = talk;
       end = [];
-      went = went_then a c d talk [] (went_both a b c how far wakes s) closes.0;
-      own = subst (λ (x : ℕ). AreTalk x talk) (sym closes.0.client) (own_both a b c how far wakes s);
-      asked = λ waiting. subst (λ (x : ℕ). IsAsked x talk) (sym closes.0.client) (asked a b c how far wakes s waiting);
-      unasked = never_both a b c how far wakes s;
-      once = once_both a b c how far wakes s;
-      ends = (refl, to_shut (moved_on a c d talk conn wire (may_shut a b c how far wakes s must)));
-      lines = subst (λ (l : List _). length l ≤ 64) (sym (lines_both a b c how far wakes s)) h.lines;
-      drains = drains_both a b c how far wakes s;
-      reads = subst (λ (w : _). w.reads ≤ a.wire.reads + 16) (sym wire) (reads_both a b c how far wakes s);
-      pieces = subst (λ (w : Wire). ReadsSome a.wire w 65536) (sym wire) (pieces_both a b c how far wakes s);
-      after_end = λ end. ap (λ w. w.reads) wire ∙ ended_both a b c how far wakes s end;
-      writes = subst (λ (w : _). w.writes ≤ a.wire.writes + 16) (sym wire) (writes_both a b c how far wakes s);
+      went = went_then a c d talk [] (went_both a b c left how far wakes s) closes.0;
+      own = subst (λ (x : ℕ). AreTalk x talk) (sym closes.0.client) (own_both a b c left how far wakes s);
+      asked = λ waiting. subst (λ (x : ℕ). IsAsked x talk) (sym closes.0.client) (asked a b c left how far wakes s waiting);
+      unasked = never_both a b c left how far wakes s;
+      once = once_both a b c left how far wakes s;
+      ends = (refl, to_shut (moved_on a c d talk conn wire (may_shut a b c left how far wakes s must)));
+      lines = subst (λ (l : List _). length l ≤ 64) (sym (lines_both a b c left how far wakes s)) h.lines;
+      drains = drains_both a b c left how far wakes s;
+      reads = subst (λ (w : _). w.reads ≤ a.wire.reads + 16) (sym wire) (reads_both a b c left how far wakes s);
+      pieces = subst (λ (w : Wire). ReadsSome a.wire w 65536) (sym wire) (pieces_both a b c left how far wakes s);
+      after_end = λ end. ap (λ w. w.reads) wire ∙ ended_both a b c left how far wakes s end;
+      writes = subst (λ (w : _). w.writes ≤ a.wire.writes + 16) (sym wire) (writes_both a b c left how far wakes s);
       wakes_are = λ home.
           ap (λ w. has_home w home) closes.1
           ∙ h.wakes_are home ∙ sym (touched_drained b.conn.session.client h.talk t.talk home t.own)
           ∙ ap (λ l. touched l home) (sym (append-nil talk));
     }
-turned_closed a b c d how far wakes more state.Idle h t must conn wire closes = absurd closes
-turned_closed a b c d how far wakes more state.Again h t must conn wire closes = absurd closes
+turned_closed a b c d left allowance told how far wakes more state.Idle h t must conn wire closes = absurd closes
+turned_closed a b c d left allowance told how far wakes more state.Again h t must conn wire closes = absurd closes
 
 pub closes_shut : (a b : Snapshot) (wakes more all : ℕ) → Made a b (event.Shut a.conn.session.client) more
     → ((home : ℕ) → has_home all home ≡ (has_home wakes home || has_home more home)) → ClosesTo a b wakes all state.Closed

@@ -15,7 +15,7 @@ use Rattle.lobby_holds.specs.Moments.{Moment, requests, touched, told_end}
 use Rattle.lobby_holds.specs.Snapshot.{Carried, Snapshot}
 use Rattle.lobby_holds.specs.Talk.{AreTalk}
 use Rattle.lobby_holds.specs.Went.{Went}
-use Rattle.lobby_holds.specs.Holds.{AreSaid, IsWithin, HasNoSpoiltNext, StopsAt}
+use Rattle.lobby_holds.specs.Holds.{AreSaid, IsWithin, HasNoSpoiltNext, HasLoudNext, StopsAt}
 
 -- So many reads were made, of 4,096 bytes at most, and no write, and each failed at most once. Without a read its last answer is as it
 -- was. What is to be written is as it was
@@ -58,9 +58,13 @@ IsBytes (Some got.Fault) = ⊥
 abbrev pub NoReadFailed : Snapshot → Snapshot → Type 0
 NoReadFailed old new = old.wire.reads < new.wire.reads → new.wire.last_got ≢ Some got.Fault
 
--- 64 lines were said to the lobby, or 16 reads were made; and all that was read was fed, and no spoilt place is next
-pub record ReceivesMost (old new : Snapshot) (talk : List Moment) : Type 0 where
-  pub limit : (length (requests talk) ≡ 64) ⊎ (new.wire.reads ≡ old.wire.reads + 16)
+-- nothing is left of what may be told, and a line is next that is not quiet
+abbrev pub ToldEnough : ℕ → Snapshot → Type 0
+ToldEnough left new = (left ≡ 0) × HasLoudNext new.conn.session
+
+-- 64 lines were said to the lobby, or 16 reads were made, or it told enough; and all that was read was fed, and no spoilt place is next
+pub record ReceivesMost (old new : Snapshot) (left : ℕ) (talk : List Moment) : Type 0 where
+  pub limit : (length (requests talk) ≡ 64) ⊎ ((new.wire.reads ≡ old.wire.reads + 16) ⊎ ToldEnough left new)
   pub fed : new.conn.unfed ≡ []
   pub unspoilt : HasNoSpoiltNext new.conn.session
 
@@ -77,17 +81,20 @@ pub record MayRead (old new : Snapshot) : Type 0 where
   pub on : old.wire.last_got ≢ Some got.End
   pub sound : old.wire.last_got ≢ Some got.Fault
 
--- a step that said lines said so many at most in one hold, and stopped before for want of a line, of memory or of place in the hold alone
-abbrev pub SaysWithin : ℕ → Serving → Step → Type 0
-SaysWithin most session (step.Said said) = IsWithin most said × StopsAt most session said
-SaysWithin most session step.Read = Unit {0}
-SaysWithin most session step.All = Unit {0}
-SaysWithin most session step.Stop = Unit {0}
-SaysWithin most session step.Memory = Unit {0}
+-- a step that said lines said so many at most in one hold, and stopped before for want of a line, of memory or of place in the hold alone,
+-- or where nothing was left of what it might tell; and there alone a line was put off
+abbrev pub SaysWithin : ℕ → ℕ → Serving → Step → Type 0
+SaysWithin most left session (step.Said said) = IsWithin most said × StopsAt most left session said
+SaysWithin most left session step.Enough = left ≡ 0
+SaysWithin most left session step.Read = Unit {0}
+SaysWithin most left session step.All = Unit {0}
+SaysWithin most left session step.Stop = Unit {0}
+SaysWithin most left session step.Memory = Unit {0}
 
 -- what a step did, in so many reads
 abbrev pub StepIs : Snapshot → Snapshot → List Moment → ℕ → Step → Type 0
 StepIs old new talk reads (step.Said said) = (reads ≡ 0) × AreSaid old.conn.session.client talk said.lines said.wakes
+StepIs old new talk reads step.Enough = (talk ≡ []) × (reads ≡ 0) × (new.conn.unfed ≡ []) × HasLoudNext new.conn.session
 StepIs old new talk reads step.Read = (talk ≡ []) × (reads ≡ 1) × IsBytes new.wire.last_got
 StepIs old new talk reads step.All = (talk ≡ []) × IsAllReceived old new
 StepIs old new talk reads step.Stop = (talk ≡ []) × IsOver new
@@ -110,13 +117,13 @@ LimitIs conn receive.Stop = IsNextOf (Some conn.session) Spoilt
 LimitIs conn receive.Memory = (conn.unfed ≢ []) × HasNoSpoiltNext conn.session
 
 -- how far a turn received from the client
-abbrev pub ReceivedIs : Snapshot → Snapshot → List Moment → ReceiveState → Type 0
-ReceivedIs old new talk receive.All = NoReadFailed old new × IsAllReceived old new
-ReceivedIs old new talk receive.Again = NoReadFailed old new × ReceivesMost old new talk
-ReceivedIs old new talk receive.Stop = IsOver new
-ReceivedIs old new talk receive.Memory = NoReadFailed old new × HasToReceive old new
+abbrev pub ReceivedIs : Snapshot → Snapshot → ℕ → List Moment → ReceiveState → Type 0
+ReceivedIs old new left talk receive.All = NoReadFailed old new × IsAllReceived old new
+ReceivedIs old new left talk receive.Again = NoReadFailed old new × ReceivesMost old new left talk
+ReceivedIs old new left talk receive.Stop = IsOver new
+ReceivedIs old new left talk receive.Memory = NoReadFailed old new × HasToReceive old new
 
-pub record Receives (old new : Snapshot) (state : ReceiveState) (wakes : ℕ) : Type 0 where
+pub record Receives (old new : Snapshot) (left : ℕ) (state : ReceiveState) (wakes : ℕ) : Type 0 where
   pub talk : List Moment
   pub went : Went old new talk
   pub own : AreTalk old.conn.session.client talk
@@ -128,4 +135,4 @@ pub record Receives (old new : Snapshot) (state : ReceiveState) (wakes : ℕ) : 
   pub after_end : old.wire.last_got ≡ Some got.End → reads ≡ 0
   pub only : OnlyReads old new reads
   pub wakes_are : (home : ℕ) → has_home wakes home ≡ touched talk home
-  pub received_is : ReceivedIs old new talk state
+  pub received_is : ReceivedIs old new left talk state

@@ -1,5 +1,5 @@
 -- What a turn did.
-use Rattle.std.specs.Prelude.{◌≡◌, ◌≢◌, ◌⊎◌, ℕ, ◌+◌, ◌≤◌, true, false, ◌||◌, List, [], ◌∷◌, ◌++◌, length, Some}
+use Rattle.std.specs.Prelude.{◌≡◌, ◌≢◌, ◌⊎◌, ℕ, ◌+◌, ◌-◌, ◌≤◌, true, false, ◌||◌, List, [], ◌∷◌, ◌++◌, length, Some}
 use Rattle.lobby_model.specs.declared.event.Event.TheVariants as event
 use Rattle.lobby_model.specs.State.{State}
 use Rattle.lobby_model.specs.Touched.{touches}
@@ -43,9 +43,9 @@ pub data MayShut (old at : Snapshot) (talk : List Moment) : Type 0 where
   ended : told_end talk ≡ false → HasEnded at → IsAllSent at talk → MayShut old at talk
 
 -- how far a turn received: all that the link has now, or as much as a turn may
-pub data HasReceived (old new : Snapshot) (talk : List Moment) : Type 0 where
-  received_all : IsAllReceived old new → HasReceived old new talk
-  received_most : ReceivesMost old new talk → HasReceived old new talk
+pub data HasReceived (old new : Snapshot) (left : ℕ) (talk : List Moment) : Type 0 where
+  received_all : IsAllReceived old new → HasReceived old new left talk
+  received_most : ReceivesMost old new left talk → HasReceived old new left talk
 
 -- how far a turn sent: all that there is, until its last write was taken in no part, or as much as a turn may
 pub data HasSent (old new : Snapshot) (talk : List Moment) : Type 0 where
@@ -60,27 +60,27 @@ pub record IsIdle (old new : Snapshot) (talk : List Moment) : Type 0 where
   pub sent : MustWait old new ⊎ (IsAllSent new talk × (new.wire.last_got ≢ Some got.End))
 
 -- a turn came to a limit of receiving, and then sent as far as it could; or it received all, and came to the limit of sending
-pub data IsAtLimit (old new : Snapshot) (talk : List Moment) : Type 0 where
-  of_receiving : ReceivesMost old new talk → HasSent old new talk → IsAtLimit old new talk
-  of_sending : IsAllReceived old new → SendsMost old new → IsAtLimit old new talk
+pub data IsAtLimit (old new : Snapshot) (left : ℕ) (talk : List Moment) : Type 0 where
+  of_receiving : ReceivesMost old new left talk → HasSent old new talk → IsAtLimit old new left talk
+  of_sending : IsAllReceived old new → SendsMost old new → IsAtLimit old new left talk
 
 -- Memory was refused to the half of a turn that receives, or to a piece that was to be drained; the other half went as far as it could,
 -- or was refused memory too
-pub data IsShort (old new : Snapshot) (talk : List Moment) : Type 0 where
-  to_receive : HasToReceive old new → HasSent old new talk ⊎ (new.conn.unwritten ≡ []) → IsShort old new talk
-  to_drain : HasReceived old new talk → new.conn.unwritten ≡ [] → IsShort old new talk
+pub data IsShort (old new : Snapshot) (left : ℕ) (talk : List Moment) : Type 0 where
+  to_receive : HasToReceive old new → HasSent old new talk ⊎ (new.conn.unwritten ≡ []) → IsShort old new left talk
+  to_drain : HasReceived old new left talk → new.conn.unwritten ≡ [] → IsShort old new left talk
 
 -- memory was refused to a turn that goes on, or to the shut of its client
-pub data TakesMemory (old new : Snapshot) (talk : List Moment) : Type 0 where
-  to_go_on : GoesOn old new talk → IsShort old new talk → TakesMemory old new talk
-  to_shut : MayShut old new talk → TakesMemory old new talk
+pub data TakesMemory (old new : Snapshot) (left : ℕ) (talk : List Moment) : Type 0 where
+  to_go_on : GoesOn old new talk → IsShort old new left talk → TakesMemory old new left talk
+  to_shut : MayShut old new talk → TakesMemory old new left talk
 
--- how a turn ended: by shutting its client, or without one event more
-abbrev pub Ends : Snapshot → Snapshot → List Moment → List Moment → TurnState → Type 0
-Ends old new talk end state.Idle = (end ≡ []) × GoesOn old new talk × IsIdle old new talk
-Ends old new talk end state.Again = (end ≡ []) × GoesOn old new talk × IsAtLimit old new talk
-Ends old new talk end state.Closed = (met : State) × (end ≡ moment met (event.Shut new.conn.session.client) ∷ []) × MayShut old new talk
-Ends old new talk end state.Memory = (end ≡ []) × TakesMemory old new talk
+-- how a turn ended, with so much left of what it might tell: by shutting its client, or without one event more
+abbrev pub Ends : Snapshot → Snapshot → ℕ → List Moment → List Moment → TurnState → Type 0
+Ends old new left talk end state.Idle = (end ≡ []) × GoesOn old new talk × IsIdle old new talk
+Ends old new left talk end state.Again = (end ≡ []) × GoesOn old new talk × IsAtLimit old new left talk
+Ends old new left talk end state.Closed = (met : State) × (end ≡ moment met (event.Shut new.conn.session.client) ∷ []) × MayShut old new talk
+Ends old new left talk end state.Memory = (end ≡ []) × TakesMemory old new left talk
 
 -- behind all that was said, client c was drained into an empty slice, which tells whether nothing will ever come of it
 abbrev pub IsAsked : ℕ → List Moment → Type 0
@@ -89,8 +89,8 @@ IsAsked c talk =
 
 -- A turn: the client's next lines were said to the lobby and bytes were drained for it, and then it ended. Where drained bytes waited to
 -- be written, and only there, the lobby was asked once whether the client is finished. The woken workers are those whose clients its
--- events touched
-pub record Turned (old new : Snapshot) (turn : Turn) : Type 0 where
+-- events touched. It may tell so many pieces before it puts a line off
+pub record Turned (old new : Snapshot) (allowance : ℕ) (turn : Turn) : Type 0 where
   pub talk : List Moment
   pub end : List Moment
   pub went : Went old new (talk ++ end)
@@ -98,7 +98,7 @@ pub record Turned (old new : Snapshot) (turn : Turn) : Type 0 where
   pub asked : old.conn.unwritten ≢ [] → IsAsked new.conn.session.client talk
   pub unasked : old.conn.unwritten ≡ [] → questions talk ≡ []
   pub once : length (questions talk) ≤ 1
-  pub ends : Ends old new talk end turn.state
+  pub ends : Ends old new (allowance - turn.told) talk end turn.state
   pub lines : length (requests talk) ≤ 64
   pub drains : length talk ≤ length (requests talk) + 136
   pub reads : new.wire.reads ≤ old.wire.reads + 16

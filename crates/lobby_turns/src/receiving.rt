@@ -1,13 +1,14 @@
 //! The half of a turn that receives from the client: what its link gives is fed to its session, whole lines are said to the lobby,
 //! and where none is left, the link is read.
 
-ghost use Rattle.std.specs.Prelude.{◌≡◌, ℕ, ◌≤◌, [], Some};
+ghost use Rattle.std.specs.Prelude.{◌≡◌, ℕ, ◌-◌, ◌≤◌, ◌||◌, [], Some};
 ghost use Rattle.lobby_lock.specs.Passes.{ShownPass};
 ghost use Rattle.client_session.specs.declared.session.Next.TheVariants.{Nothing};
 ghost use Rattle.client_session.specs.OneSession.{IsNextOf};
 ghost use Rattle.lobby_holds.specs.Wire.{Wire, MayGoOn, IsFresh};
 ghost use Rattle.lobby_holds.specs.Snapshot.{snapshot};
 ghost use Rattle.lobby_holds.specs.Went.{Went};
+ghost use Rattle.lobby_post.specs.Mask.{has_home};
 ghost use Rattle.lobby_turns.specs.Receiving.{SaysWithin, LimitIs, ReceivesNext, Receives};
 
 use client_session::Next;
@@ -30,7 +31,7 @@ const READS: usize = 16;
 pub(crate) enum ReceiveState {
     /// All that the link gave was said to the lobby.
     All,
-    /// A limit was met.
+    /// A limit was met, or what may be told was told.
     Again,
     /// Nothing can come any more: the stream is spoilt, or the link failed.
     Stop,
@@ -38,11 +39,34 @@ pub(crate) enum ReceiveState {
     Memory,
 }
 
+/// What the lines of a turn came to.
+#[derive(Clone, Copy)]
+pub(crate) struct Received {
+    /// The workers whose clients they touched.
+    pub(crate) wakes: Wakes,
+    /// How many pieces they told.
+    pub(crate) told: u64,
+}
+
+impl Received {
+    /// The same, and lines more, which touched the clients of these workers and told so many pieces.
+    fn and(self, wakes: Wakes, told: u64) -> Received
+        ensures { (home : ℕ) → has_home result.wakes home ≡ (has_home self.wakes home || has_home wakes home) }
+    {
+        Received {
+            wakes: self.wakes.union(wakes),
+            told: self.told.saturating_add(told),
+        }
+    }
+}
+
 /// One step of receiving.
 #[derive(Clone, Copy)]
 pub(crate) enum Step {
     /// Lines were said to the lobby, until a hold was over or memory was refused.
     Said(Said),
+    /// The next line is no quiet one, and the turn told enough.
+    Enough,
     /// Bytes were read.
     Read,
     /// There is nothing more now.
@@ -59,7 +83,7 @@ fn receive_link<L: Link>(conn: &mut Conn, link: &mut L, pass: Pass) -> (Pass, St
     requires wire { MayGoOn (L.wire link.old) }
     requires next { IsNextOf (Some conn.old.session) Nothing }
     ensures received { ReceivesNext (snapshot conn.old (L.wire link.old) pass) (snapshot conn.new (L.wire link.new) result.0) result.1 }
-    ensures within { (most : ℕ) → SaysWithin most conn.new.session result.1 }
+    ensures within { (most left : ℕ) → SaysWithin most left conn.new.session result.1 }
 {
     match link.last_got() {
         Some(Got::End) => return (pass, Step::All),
@@ -75,8 +99,8 @@ fn receive_link<L: Link>(conn: &mut Conn, link: &mut L, pass: Pass) -> (Pass, St
     }
 }
 
-/// Feeds what was read, and then says the next lines to the lobby, so many at most; where none is left,
-/// reads the link.
+/// Feeds what was read, and then says the next lines to the lobby, so many at most, as long as they told less than the allowance; where
+/// none is left, reads the link.
 fn receive_next<R: Wait, L: Link, G: Gate>(
     rt: &R,
     conn: &mut Conn,
@@ -84,12 +108,13 @@ fn receive_next<R: Wait, L: Link, G: Gate>(
     desk: &GatedDesk<'_, G>,
     pass: Pass,
     most: usize,
+    allowance: u64,
 ) -> (Pass, Step)
     requires desk { pass.desk ≡ desk.now.desk.now }
     requires wire { MayGoOn (L.wire link.old) }
     requires some { 1 ≤ most }
     ensures received { ReceivesNext (snapshot conn.old (L.wire link.old) pass) (snapshot conn.new (L.wire link.new) result.0) result.1 }
-    ensures within { SaysWithin most conn.new.session result.1 }
+    ensures within { SaysWithin most allowance conn.new.session result.1 }
 {
     match conn.feed() {
         Ok(()) => {}
@@ -97,7 +122,11 @@ fn receive_next<R: Wait, L: Link, G: Gate>(
     }
     match conn.next_request() {
         Ok(Next::Line(request)) => {
-            let (pass, said) = holds::say(rt, conn, desk, pass, request, most);
+            if allowance == 0 && !holds::is_quiet(&request.command) {
+                request.discard();
+                return (pass, Step::Enough);
+            }
+            let (pass, said) = holds::say(rt, conn, desk, pass, request, most, allowance);
             (pass, Step::Said(said))
         }
         Ok(Next::Nothing) => receive_link(conn, link, pass),
@@ -122,38 +151,51 @@ fn stop_at_limit(conn: &mut Conn) -> ReceiveState
     ReceiveState::Again
 }
 
-/// Receives from the client, as far as a turn may.
+/// Receives from the client, as far as a turn may that may tell so many pieces.
 pub(crate) fn receive<R: Wait, L: Link, G: Gate>(
     rt: &R,
     conn: &mut Conn,
     link: &mut L,
     desk: &GatedDesk<'_, G>,
     pass: Pass,
-) -> (Pass, ReceiveState, Wakes)
+    allowance: u64,
+) -> (Pass, ReceiveState, Received)
     requires desk { pass.desk ≡ desk.now.desk.now }
     requires fresh { IsFresh (L.wire link.old) }
-    ensures { Receives (snapshot conn.old (L.wire link.old) pass) (snapshot conn.new (L.wire link.new) result.0) result.1 result.2 }
+    ensures { Receives (snapshot conn.old (L.wire link.old) pass) (snapshot conn.new (L.wire link.new) result.0) (allowance - result.2.told) result.1 result.2.wakes }
 {
     let mut pass = pass;
-    let mut wakes = Wakes::none();
+    let mut all = Received {
+        wakes: Wakes::none(),
+        told: 0,
+    };
     let mut lines = 0;
     let mut reads = 0;
     while lines < LINES && reads < READS {
-        let (next, step) = receive_next(rt, conn, link, desk, pass, LINES - lines);
+        let (next, step) = receive_next(
+            rt,
+            conn,
+            link,
+            desk,
+            pass,
+            LINES - lines,
+            allowance.saturating_sub(all.told),
+        );
         pass = next;
         match step {
             Step::Said(said) => {
-                wakes = wakes.union(said.wakes);
+                all = all.and(said.wakes, said.told);
                 lines += said.lines;
                 if said.refused {
-                    return (pass, ReceiveState::Memory, wakes);
+                    return (pass, ReceiveState::Memory, all);
                 }
             }
+            Step::Enough => return (pass, ReceiveState::Again, all),
             Step::Read => reads += 1,
-            Step::All => return (pass, ReceiveState::All, wakes),
-            Step::Stop => return (pass, ReceiveState::Stop, wakes),
-            Step::Memory => return (pass, ReceiveState::Memory, wakes),
+            Step::All => return (pass, ReceiveState::All, all),
+            Step::Stop => return (pass, ReceiveState::Stop, all),
+            Step::Memory => return (pass, ReceiveState::Memory, all),
         }
     }
-    (pass, stop_at_limit(conn), wakes)
+    (pass, stop_at_limit(conn), all)
 }

@@ -47,7 +47,7 @@ fn note_end(conn: &mut Conn, sent: SendState)
 }
 
 /// Shuts the client of a connection, in a hold of its own. The state is `Closed`, and the workers whose clients that touched are to
-/// be woken besides these. Where memory is refused, the client is not shut, and the state is `Memory`.
+/// be woken besides these, and it told so many pieces besides. Where memory is refused, the client is not shut, and the state is `Memory`.
 pub fn close<R: Wait, G: Gate>(
     rt: &R,
     conn: &Conn,
@@ -55,6 +55,7 @@ pub fn close<R: Wait, G: Gate>(
     pass: Pass,
     gate: &G,
     wakes: Wakes,
+    told: u64,
 ) -> (Pass, Turn)
     requires { pass.desk ≡ desk.now }
     ensures closes { (wire : Wire) → Closes (snapshot conn.now wire pass) (snapshot conn.now wire result.0) wakes result.1 }
@@ -62,12 +63,13 @@ pub fn close<R: Wait, G: Gate>(
     ensures number { result.0.worker.number ≡ pass.worker.number }
 {
     let gated = GatedDesk { desk, gate };
-    let (pass, shut) = holds::shut(rt, conn, &gated, pass);
+    let (pass, shut, more_told) = holds::shut(rt, conn, &gated, pass);
     match shut {
         Ok(more) => {
             let turn = Turn {
                 state: TurnState::Closed,
                 wakes: wakes.union(more),
+                told: told.saturating_add(more_told),
             };
             (pass, turn)
         }
@@ -75,6 +77,7 @@ pub fn close<R: Wait, G: Gate>(
             let turn = Turn {
                 state: TurnState::Memory,
                 wakes,
+                told: told.saturating_add(more_told),
             };
             (pass, turn)
         }
@@ -85,7 +88,8 @@ pub fn close<R: Wait, G: Gate>(
 /// read where no whole line is left; then what the lobby has for its client is drained, up to four
 /// pieces of at most 4,096 bytes in a hold, and written. A hold whose piece is the last also sees that
 /// nothing is left. A turn makes at most 16 reads of as many bytes, 64 lines and 16 writes, and nothing in it
-/// waits but the desk.
+/// waits but the desk. Once it told as many pieces as it may, it says only lines that tell nobody else, or one user, and ends before
+/// any other.
 ///
 /// The client is shut, as the last event of the turn, where its stream is spoilt at the place that is
 /// next, its link failed, the lobby said that nothing will ever come of it, or its link has ended and
@@ -97,21 +101,29 @@ pub fn serve<R: Wait, L: Link, G: Gate>(
     desk: &Desk,
     pass: Pass,
     gate: &G,
+    allowance: u64,
 ) -> (Pass, Turn)
     requires desk { pass.desk ≡ desk.now }
     requires fresh { IsFresh (L.wire link.old) }
-    ensures turned { Turned (snapshot conn.old (L.wire link.old) pass) (snapshot conn.new (L.wire link.new) result.0) result.1 }
+    ensures turned { Turned (snapshot conn.old (L.wire link.old) pass) (snapshot conn.new (L.wire link.new) result.0) allowance result.1 }
     ensures desk { result.0.desk ≡ pass.desk }
     ensures number { result.0.worker.number ≡ pass.worker.number }
 {
     let gated = GatedDesk { desk, gate };
-    let (pass, received, wakes) = receive(rt, conn, link, &gated, pass);
+    let (pass, received, all) = receive(rt, conn, link, &gated, pass, allowance);
     let (pass, sent) = send(rt, conn, link, &gated, pass);
     match state_of(link.last_got(), received, sent) {
-        Some(state) => (pass, Turn { state, wakes }),
+        Some(state) => {
+            let turn = Turn {
+                state,
+                wakes: all.wakes,
+                told: all.told,
+            };
+            (pass, turn)
+        }
         None => {
             note_end(conn, sent);
-            close(rt, conn, desk, pass, gate, wakes)
+            close(rt, conn, desk, pass, gate, all.wakes, all.told)
         }
     }
 }

@@ -25,6 +25,10 @@ impl<R: Wait, G: Gate> Gate for Reporter<'_, '_, R, G> {
         self.gate.after_write(worker, bytes);
     }
 
+    fn after_turn(&self, worker: u8, told: u64) {
+        self.gate.after_turn(worker, told);
+    }
+
     fn woken(&self, worker: u8) {
         self.gate.woken(worker);
     }

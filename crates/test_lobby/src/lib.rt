@@ -8,9 +8,12 @@ mod texts;
 mod users;
 
 pub use link::MemoryLink;
-pub use lobbies::{book, book_with_onlookers, lobby_of, new_lobby, read, settings};
+pub use lobbies::{
+    CROWD, book, book_with_crowd, book_with_onlookers, crowd_name, lobby_of, new_lobby, read,
+    settings,
+};
 pub use texts::{Text, written};
 pub use users::{
     ANNA_IS_IN, ANNA_LOGS_IN, ANNA_SAYS, BERT_COMES, BERT_IS_IN, BERT_LOGS_IN, BERT_SAYS,
-    CLEO_LOGS_IN, GREETING, WORD,
+    CLEO_LOGS_IN, CROWD_COMES_IN, GREETING, WORD,
 };

@@ -36,6 +36,26 @@ pub fn book_with_onlookers(alloc: Global) -> Option<AccountBook> {
     }
 }
 
+/// How many a crowd has.
+pub const CROWD: u8 = 40;
+
+/// The name of one of a crowd, by its place from 0.
+pub fn crowd_name(place: u8) -> [u8; 3] {
+    [b'c', b'0' + place / 10 % 10, b'0' + place % 10]
+}
+
+/// The book of the users' accounts, and of a crowd.
+pub fn book_with_crowd(alloc: Global) -> Option<AccountBook> {
+    let mut accounts = book(alloc)?;
+    for place in 0..CROWD {
+        if !add_user(&mut accounts, alloc, &crowd_name(place), 100 + place as u32) {
+            drop(accounts);
+            return None;
+        }
+    }
+    Some(accounts)
+}
+
 /// The default settings, but for a message of the day, `Welcome`, and this limit of an outbox, from 65,536 to 67,108,864 bytes; none
 /// where the limit is another.
 pub fn settings(alloc: Global, outbox_limit: usize) -> Option<Settings> {

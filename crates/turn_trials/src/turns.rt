@@ -75,7 +75,15 @@ fn turn<R: Wait>(rt: &R, desk: &Desk, pass: Pass, side: &mut Side) -> (Pass, Cam
     if !side.link.fresh() {
         return (pass, Came::Wrong);
     }
-    let (pass, turn) = serve(rt, &mut side.conn, &mut side.link, desk, pass, &Open);
+    let (pass, turn) = serve(
+        rt,
+        &mut side.conn,
+        &mut side.link,
+        desk,
+        pass,
+        &Open,
+        u64::MAX,
+    );
     let came = match turn.state {
         TurnState::Idle | TurnState::Again => Came::Done,
         TurnState::Memory => Came::Short,

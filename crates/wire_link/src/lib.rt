@@ -79,6 +79,13 @@ impl WireLink {
         )
     }
 
+    /// How many writes it made.
+    pub fn writes(&self) -> u64
+        ensures { result ≡ (⟦<WireLink as Link>⟧.wire self.now).writes }
+    {
+        self.writes
+    }
+
     /// Notes what a poll told of the socket. It is to be called before the next read, with each event of each poll.
     pub fn note(&mut self, event: &Event)
         ensures { ⟦<WireLink as Link>⟧.wire self.new ≡ ⟦<WireLink as Link>⟧.wire self.old }

@@ -97,14 +97,40 @@ pub fn turn<R: Wait, G: Gate>(
     ensures desk { result.desk ≡ pass.desk }
     ensures number { result.worker.number ≡ pass.worker.number }
 {
+    if connections.is_put_off(key) {
+        return pass;
+    }
+    let allowance = connections.allowance();
+    turn_within(rt, shared, pass, connections, registry, key, allowance)
+}
+
+/// The connection under a key gets its turn of this round, in which it may tell so many pieces. Nothing happens where there is none.
+fn turn_within<R: Wait, G: Gate>(
+    rt: &R,
+    shared: &Shared<'_, G>,
+    pass: Pass,
+    connections: &mut Connections,
+    registry: &Registry,
+    key: usize,
+    allowance: u64,
+) -> Pass
+    requires { pass.desk ≡ shared.now.desk.now }
+    ensures desk { result.desk ≡ pass.desk }
+    ensures number { result.worker.number ≡ pass.worker.number }
+{
     let Some(connection) = connections.begin_turn(key) else {
         return pass;
     };
-    let (pass, turn) = serve_or_shut(rt, shared, pass, connection);
+    let written = connection.link.writes();
+    let (pass, turn) = serve_or_shut(rt, shared, pass, connection, allowance);
+    let writes = connection.link.writes().wrapping_sub(written);
     tell_logout(shared.gate, connection, turn.state, Cause::Closed);
     tell_refused(shared.gate, connections, pass.number(), turn.state);
     connections.end_turn(registry, key, turn.state);
+    connections.count_told(turn.told);
+    connections.count_told(writes.saturating_sub(1).saturating_mul(WRITE));
     pass_on(shared, connections, pass.number(), turn.wakes);
+    shared.gate.after_turn(pass.number(), turn.told);
     pass
 }
 
@@ -184,12 +210,35 @@ pub fn turn_left<R: Wait, G: Gate>(
     ensures number { result.worker.number ≡ pass.worker.number }
 {
     let mut pass = pass;
-    for index in 0..connections.due() {
-        let key = connections.due_key(index);
-        pass = turn(rt, shared, pass, connections, registry, key);
+    for round in 0..=connections.due() {
+        let allowance = if round == 0 {
+            connections.turn_most()
+        } else {
+            connections.allowance()
+        };
+        if allowance == 0 {
+            break;
+        }
+        let Some(key) = connections.next_due() else {
+            break;
+        };
+        pass = turn_within(rt, shared, pass, connections, registry, key, allowance);
+        connections.count_told(LEFT_TURN);
+    }
+    if connections.has_due() {
+        connections.hurry(PollTimeout::Zero);
     }
     pass
 }
+
+/// What a turn of one who was left over costs beside what it tells, in pieces.
+const LEFT_TURN: u64 = 100;
+
+/// What each write of a turn costs behind the first, in pieces: it carries up to 16 KiB.
+const WRITE: u64 = 50;
+
+/// The most turns that those get in a round who were named.
+const NAMED_TURNS: usize = 32;
 
 /// Those get their turn who were named.
 pub fn turn_named<R: Wait, G: Gate>(
@@ -204,12 +253,21 @@ pub fn turn_named<R: Wait, G: Gate>(
     ensures number { result.worker.number ≡ pass.worker.number }
 {
     let mut pass = pass;
-    for index in 0..connections.named() {
-        if let Some(key) = connections.named_key(index) {
+    let mut turns = 0;
+    for _ in 0..connections.named() {
+        if turns >= NAMED_TURNS {
+            break;
+        }
+        let Some(client) = connections.next_named() else {
+            break;
+        };
+        if let Some(key) = connections.key_of(client)
+            && !connections.is_put_off(key)
+        {
             pass = turn(rt, shared, pass, connections, registry, key);
+            turns += 1;
         }
     }
-    connections.forget_named();
     pass
 }
 
@@ -225,7 +283,7 @@ pub fn look_for_own<R: Wait, G: Gate>(
     ensures desk { result.desk ≡ pass.desk }
     ensures number { result.worker.number ≡ pass.worker.number }
 {
-    if !connections.is_marked() {
+    if !connections.is_marked() && connections.named() == 0 {
         return pass;
     }
     let pass = take_names(rt, shared, pass, connections);
@@ -248,6 +306,10 @@ pub fn take_names<R: Wait, G: Gate>(
     ensures desk { result.desk ≡ pass.desk }
     ensures number { result.worker.number ≡ pass.worker.number }
 {
+    if connections.named() > 0 {
+        connections.set_marked(true);
+        return pass;
+    }
     connections.set_marked(false);
     let count = connections.len();
     // Without a connection nobody is named.
@@ -323,6 +385,7 @@ fn serve_or_shut<R: Wait, G: Gate>(
     shared: &Shared<'_, G>,
     pass: Pass,
     connection: &mut Connection,
+    allowance: u64,
 ) -> (Pass, Turn)
     requires { pass.desk ≡ shared.now.desk.now }
     ensures desk { result.0.desk ≡ pass.desk }
@@ -332,7 +395,7 @@ fn serve_or_shut<R: Wait, G: Gate>(
         shut(rt, shared, pass, &connection.conn)
     } else {
         let (conn, link) = (&mut connection.conn, &mut connection.link);
-        serve(rt, conn, link, shared.desk, pass, shared.gate)
+        serve(rt, conn, link, shared.desk, pass, shared.gate, allowance)
     };
     if turn.state != TurnState::Memory || !connection.refuse() {
         return (pass, turn);
@@ -352,5 +415,5 @@ pub(crate) fn shut<R: Wait, G: Gate>(
     ensures desk { result.0.desk ≡ pass.desk }
     ensures number { result.0.worker.number ≡ pass.worker.number }
 {
-    close(rt, conn, shared.desk, pass, shared.gate, Wakes::none())
+    close(rt, conn, shared.desk, pass, shared.gate, Wakes::none(), 0)
 }

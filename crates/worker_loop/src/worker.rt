@@ -1,6 +1,6 @@
 //! A worker: it waits for news of its connections, and gives turns to those that may have some.
 
-ghost use Rattle.std.specs.Prelude.{◌≡◌};
+ghost use Rattle.std.specs.Prelude.{◌≡◌, ◌≤◌};
 
 use crate::error::ListenError;
 use crate::inboxes::{Arrival, Inboxes};
@@ -129,8 +129,11 @@ impl WorkerListener {
 }
 
 impl WorkerLoop {
-    /// Without a connection yet.
-    fn new(alloc: Global, listener: WorkerListener) -> WorkerLoop {
+    /// Without a connection yet, at one of so many workers, 1 to 64.
+    fn new(alloc: Global, listener: WorkerListener, workers: u64) -> WorkerLoop
+        requires some { 1 ≤ workers }
+        requires few { workers ≤ 64 }
+    {
         let WorkerListener {
             poll,
             pause,
@@ -148,7 +151,7 @@ impl WorkerLoop {
             is_stuck: false,
             proxies,
             newcomers: Newcomers::new(alloc),
-            connections: Connections::new(alloc),
+            connections: Connections::new(alloc, workers),
         }
     }
 
@@ -299,12 +302,11 @@ impl WorkerLoop {
         } else {
             pass
         };
+        let pass = self.turn_ready(rt, shared, pass);
         let registry = self.poll.registry();
         let connections = &mut self.connections;
-        // Before all other turns: whom these leave over is left for the next round.
-        let pass = turns::turn_left(rt, shared, pass, connections, registry);
         let pass = turns::turn_named(rt, shared, pass, connections, registry);
-        self.turn_ready(rt, shared, pass)
+        turns::turn_left(rt, shared, pass, connections, registry)
     }
 
     /// Ends all connections in order. Nobody is accepted and no client is read any more. Each is sent what waits for it, is shut, and
@@ -413,7 +415,8 @@ pub fn run_worker<R: Wait, G: Gate>(
         stop,
         gate,
     };
-    go_round_until_stopped(rt, &shared, WorkerLoop::new(alloc, listener), pass)
+    let worker = WorkerLoop::new(alloc, listener, inboxes.workers());
+    go_round_until_stopped(rt, &shared, worker, pass)
 }
 
 fn go_round_until_stopped<R: Wait, G: Gate>(

@@ -50,6 +50,17 @@ fn are_among(text: &[u8], line: &[u8], times: usize, other: &[u8]) -> bool {
     rest.is_empty() && others == 1
 }
 
+/// How many bytes of a text's beginning end what came, with one byte more, where so many did before. Its first byte stands in it once.
+fn met_with(text: &[u8], met: usize, byte: u8) -> usize {
+    if text.get(met) == Some(&byte) {
+        met.saturating_add(1)
+    } else if text.first() == Some(&byte) {
+        1
+    } else {
+        0
+    }
+}
+
 /// A client that reads what it expects and nothing else.
 #[derive(Drop)]
 pub struct Client {
@@ -138,6 +149,27 @@ impl Client {
             Some(came) => self.fills(clock, came) && are_among(came, line, times, other),
             None => false,
         }
+    }
+
+    /// Whether these bytes come last, within so many looks, behind whatever others. Their first byte stands in them once.
+    pub fn reads_up_to<C: Clock>(&mut self, clock: &C, last: &[u8]) -> bool {
+        let mut met = 0usize;
+        let mut piece = [0u8; PIECE];
+        for _ in 0..LOOKS {
+            match outcome(self.stream.read(&mut piece)) {
+                Moved::Some(count) => {
+                    for byte in piece.get(..count).unwrap_or(&[]) {
+                        met = met_with(last, met, *byte);
+                    }
+                    if met == last.len() {
+                        return true;
+                    }
+                }
+                Moved::Nothing => thread::sleep(clock, Duration::from_millis(1)),
+                Moved::Ended | Moved::Broken => return false,
+            }
+        }
+        false
     }
 
     /// Ends what is sent, and goes on reading. Whether the system allowed it.

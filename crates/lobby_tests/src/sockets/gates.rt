@@ -30,11 +30,17 @@ pub enum Hold {
     Takes,
     /// Worker 0 where it has written an answer to PING, until it may go on.
     Write,
+    /// Worker 0 where it has written an answer to PING, until it may go on, and then behind the first turn that told much, until it may
+    /// go on again.
+    Crowd,
     /// Worker 1, once the gate is shut, where it was woken and before it looks into its inbox, until it may go on.
     Wake,
 }
 
-/// A gate that keeps workers at one place, and sees who greets and who is woken.
+/// So many pieces are much: more than any turn tells of which a play does not say that it does.
+const MUCH: u64 = 1_000;
+
+/// A gate that keeps workers, and sees who greets, who is woken and what is told.
 #[derive(Drop)]
 pub struct Watch {
     clock: HostRuntime,
@@ -49,6 +55,14 @@ pub struct Watch {
     is_woken: AtomicBool,
     greetings: AtomicU64,
     last_greeter: AtomicU8,
+    // a turn that told much is kept, or was
+    is_turn_there: AtomicBool,
+    // it may go on
+    may_turn_go: AtomicBool,
+    // how many pieces turns told behind it
+    told: AtomicU64,
+    // the same when the last PING was answered behind it; 2^64 - 1 before
+    told_before: AtomicU64,
 }
 
 impl Watch {
@@ -63,6 +77,10 @@ impl Watch {
             is_woken: AtomicBool::new(false),
             greetings: AtomicU64::new(0),
             last_greeter: AtomicU8::new(0),
+            is_turn_there: AtomicBool::new(false),
+            may_turn_go: AtomicBool::new(false),
+            told: AtomicU64::new(0),
+            told_before: AtomicU64::new(u64::MAX),
         }
     }
 
@@ -88,6 +106,22 @@ impl Watch {
     pub fn lets_go(&self) -> bool {
         self.may_go.store(true, Ordering::SeqCst);
         !self.is_missed.load(Ordering::SeqCst)
+    }
+
+    /// Whether a turn told much and is kept, within so many looks.
+    pub fn is_turn_kept(&self) -> bool {
+        is_set_soon(&self.clock, &self.is_turn_there)
+    }
+
+    /// Lets the worker go on that was kept behind its turn. Whether it was kept until now.
+    pub fn lets_turn_go(&self) -> bool {
+        self.may_turn_go.store(true, Ordering::SeqCst);
+        !self.is_missed.load(Ordering::SeqCst)
+    }
+
+    /// Whether a PING was answered behind the turn that was kept, and turns told so many pieces at most before.
+    pub fn has_told_at_most(&self, most: u64) -> bool {
+        self.told_before.load(Ordering::SeqCst) <= most
     }
 
     /// Whether each worker found the other there.
@@ -138,8 +172,26 @@ impl Gate for Watch {
             self.last_greeter.store(worker, Ordering::SeqCst);
             self.greetings.fetch_add(1, Ordering::SeqCst);
         }
-        if matches!(self.hold, Hold::Write) && worker == 0 && bytes == PONG {
+        if bytes != PONG || worker != 0 {
+            return;
+        }
+        if matches!(self.hold, Hold::Write | Hold::Crowd) {
             self.keep(&self.is_there, &self.may_go);
+        }
+        if self.is_turn_there.load(Ordering::SeqCst) {
+            let told = self.told.load(Ordering::SeqCst);
+            self.told_before.store(told, Ordering::SeqCst);
+        }
+    }
+
+    fn after_turn(&self, _worker: u8, told: u64) {
+        if !matches!(self.hold, Hold::Crowd) || !self.may_go.load(Ordering::SeqCst) {
+            return;
+        }
+        if self.is_turn_there.load(Ordering::SeqCst) {
+            self.told.fetch_add(told, Ordering::SeqCst);
+        } else if told >= MUCH {
+            self.keep(&self.is_turn_there, &self.may_turn_go);
         }
     }
 

@@ -9,7 +9,7 @@ use crate::sockets::running::{ANNA, BERT, PING, PONG, TEXT, THIRD};
 /// So often Bert says something to Anna.
 const LINES: u32 = 64;
 
-/// Behind the answer to his PING the line was written to Anna's link, since her turn comes before his.
+/// Behind the answer to his PING the line is written to Anna's link in the same round, if it was not before.
 const BERT_SAYS: Act = Act {
     times: LINES,
     steps: &[

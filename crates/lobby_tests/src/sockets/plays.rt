@@ -16,7 +16,10 @@ use std::process::Abort;
 use std::sync::Wait;
 use std::sync::atomic::{AtomicBool, Ordering};
 use std::thread::{self, Threads};
-use test_lobby::{ANNA_IS_IN, ANNA_LOGS_IN, BERT_COMES, BERT_IS_IN, BERT_LOGS_IN, GREETING};
+use test_lobby::{
+    ANNA_IS_IN, ANNA_LOGS_IN, BERT_COMES, BERT_IS_IN, BERT_LOGS_IN, CROWD_COMES_IN, GREETING,
+    crowd_name,
+};
 
 /// A step of a play. The test fails where a step does not come out as it says, or not within so many looks. Numbers are
 /// given to clients in order, from 0, and given again: a number stands for the last client that connected under it.
@@ -50,12 +53,22 @@ pub enum Step {
     JoinsCrowd,
     /// Each client of the crowd is greeted.
     CrowdIsGreeted,
+    /// Each client of the crowd logs in and joins the channel `main`, one after another.
+    CrowdComesIn,
+    /// Each client of the crowd sends these bytes so many times over, and reads nothing meanwhile.
+    CrowdSends(&'static [u8], usize),
     /// The gate is shut.
     GateShuts,
     /// Who the gate keeps comes there.
     IsKept,
     /// Who the gate keeps may go on, and was kept until now.
     GoesOn,
+    /// A worker is kept behind a turn that told much.
+    TurnIsKept,
+    /// It may go on, and was kept until now.
+    TurnGoesOn,
+    /// Turns told so many pieces at most, behind the one that was kept and before the last answer to PING.
+    ToldAtMost(u64),
     /// Each of two workers found the other at the gate.
     WorkersMet,
     /// Worker 1 was woken.
@@ -220,6 +233,32 @@ impl Cast<'_> {
         true
     }
 
+    fn crowd_comes_in(&mut self) -> bool {
+        let mut place = 0u8;
+        for client in &mut self.crowd {
+            let is_sent = client.sends(&self.clock, b"LOGIN ")
+                && client.sends(&self.clock, &crowd_name(place))
+                && client.sends(&self.clock, CROWD_COMES_IN);
+            if !is_sent || !client.reads_up_to(&self.clock, b"#7 PONG\n") {
+                return false;
+            }
+            place = place.saturating_add(1);
+        }
+        true
+    }
+
+    fn crowd_sends(&mut self, bytes: &[u8], times: usize) -> bool {
+        let Ok(all) = times_over(self.clock.alloc(), bytes, times) else {
+            return false;
+        };
+        for client in &mut self.crowd {
+            if !client.sends(&self.clock, all.as_slice()) {
+                return false;
+            }
+        }
+        true
+    }
+
     /// Whether a step comes out as it says.
     fn takes<R: Net>(&mut self, rt: &R, step: Step) -> bool {
         match step {
@@ -240,9 +279,14 @@ impl Cast<'_> {
             Step::IsBrokenOff(who, bytes, times) => self.is_broken_off(who, bytes, times),
             Step::JoinsCrowd => self.joins_crowd(rt),
             Step::CrowdIsGreeted => self.crowd_is_greeted(),
+            Step::CrowdComesIn => self.crowd_comes_in(),
+            Step::CrowdSends(bytes, times) => self.crowd_sends(bytes, times),
             Step::GateShuts => self.stage.gate.shut(),
             Step::IsKept => self.stage.gate.is_reached(),
             Step::GoesOn => self.stage.gate.lets_go(),
+            Step::TurnIsKept => self.stage.gate.is_turn_kept(),
+            Step::TurnGoesOn => self.stage.gate.lets_turn_go(),
+            Step::ToldAtMost(most) => self.stage.gate.has_told_at_most(most),
             Step::WorkersMet => self.stage.gate.did_meet(),
             Step::SecondWasWoken => self.stage.gate.was_woken(),
             Step::Greeted(greetings, worker) => self.stage.gate.is_greeter(greetings, worker),

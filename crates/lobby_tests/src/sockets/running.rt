@@ -14,7 +14,7 @@ use std::sync::Wait;
 use std::sync::atomic::{AtomicBool, Ordering};
 use std::thread::{self, Threads};
 use std::time::Duration;
-use test_lobby::{book, settings};
+use test_lobby::{book_with_crowd, settings};
 
 /// Anna's number in a play.
 pub const ANNA: usize = 0;
@@ -61,11 +61,11 @@ pub struct Service {
     pub accounts: AccountBook,
 }
 
-/// A service for the users, with so many workers and a large limit of an outbox. None where memory is refused.
+/// A service for the users and a crowd, with so many workers and a large limit of an outbox. None where memory is refused.
 pub fn new_service(alloc: Global, workers: u32) -> Option<Service>
     ensures { IfSome result (λ service. service.workers ≡ workers) }
 {
-    let accounts = book(alloc)?;
+    let accounts = book_with_crowd(alloc)?;
     match settings(alloc, OUTBOX_LIMIT) {
         Some(settings) => Some(Service {
             settings,

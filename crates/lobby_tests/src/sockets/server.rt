@@ -231,8 +231,8 @@ static NAMED: [Act; 2] = [
     },
 ];
 
-/// Bert is logged out in the turn in which he got his last answer, while more lines of Anna's lie there than a turn hears. So the turn
-/// that she gets as one who is named stops at its limit, and no byte comes any more to have the poll tell of her.
+/// Bert is logged out in the turn in which he got his last answer, while more lines of Anna's lie there than a turn hears. So the poll
+/// tells of her while she is named, her turn stops at its limit, and no byte comes any more to have the poll tell of her again.
 #[test]
 fn who_is_named_and_stops_at_a_limit_gets_the_next_turn(rt: HostRuntime) {
     drop(play(&rt, rt, 1, Hold::Write, &NAMED));

@@ -1,12 +1,12 @@
 //! One worker and its client over a link in memory.
 
-use crate::turns::plays::Step::{Enters, Reads, Takes, Turns};
-use crate::turns::plays::{Caller, End, play};
+use crate::turns::plays::Step::{Enters, Reads, Takes, TurnWithin, Turns};
+use crate::turns::plays::{Caller, End, Step, play};
 use lobby_turns::TurnState;
 use std::alloc::Global;
 use std::process::Abort;
 use std::sync::Wait;
-use test_lobby::{GREETING, Text};
+use test_lobby::{ANNA_IS_IN, ANNA_LOGS_IN, GREETING, Text};
 
 const GREETED: Text = &[(GREETING, 1)];
 
@@ -203,4 +203,69 @@ static EXITS: [Case; 3] = [
 #[test]
 fn who_exits_is_told_what_its_link_takes(rt: HostRuntime) {
     check(&rt, rt.alloc(), &EXITS);
+}
+
+/// One who speaks in a channel, and asks in between.
+const SPEAKER: Caller = Caller {
+    sends: &[
+        (ANNA_LOGS_IN, 1),
+        (b"JOIN main\n", 1),
+        (b"SAY main a\nSAY main b\nPING\nSAY main c\n#7 PING\n", 1),
+    ],
+    piece: 1_000,
+    room: 1_000,
+    end: End::Open,
+};
+
+const IN_MAIN: &[u8] = b"JOIN main\nCLIENTS main Anna\n";
+
+static TOLD_ENOUGH: [Step; 14] = [
+    Enters(SPEAKER),
+    TurnWithin(0, 0, TurnState::Again),
+    Reads(0, GREETED),
+    TurnWithin(0, 1, TurnState::Again),
+    Reads(0, &[(GREETING, 1), (ANNA_IS_IN, 1)]),
+    TurnWithin(0, 1, TurnState::Again),
+    Reads(0, &[(GREETING, 1), (ANNA_IS_IN, 1), (IN_MAIN, 1)]),
+    TurnWithin(0, 1, TurnState::Again),
+    TurnWithin(0, 0, TurnState::Again),
+    Reads(
+        0,
+        &[
+            (GREETING, 1),
+            (ANNA_IS_IN, 1),
+            (IN_MAIN, 1),
+            (b"SAID main Anna a\n", 1),
+        ],
+    ),
+    TurnWithin(0, 1, TurnState::Again),
+    Reads(
+        0,
+        &[
+            (GREETING, 1),
+            (ANNA_IS_IN, 1),
+            (IN_MAIN, 1),
+            (b"SAID main Anna a\nSAID main Anna b\nPONG\n", 1),
+        ],
+    ),
+    TurnWithin(0, 2, TurnState::Idle),
+    Reads(
+        0,
+        &[
+            (GREETING, 1),
+            (ANNA_IS_IN, 1),
+            (IN_MAIN, 1),
+            (
+                b"SAID main Anna a\nSAID main Anna b\nPONG\nSAID main Anna c\n#7 PONG\n",
+                1,
+            ),
+        ],
+    ),
+];
+
+/// Only a line that tells nobody else is said behind what a turn may tell; the others stay for later turns. The events are an open,
+/// seven lines, and two drains a turn, the second of which sees that nothing is left: but one in the fifth, which has nothing to send.
+#[test]
+fn a_turn_that_told_enough_puts_lines_off(rt: HostRuntime) {
+    play(&rt, rt.alloc(), &TOLD_ENOUGH, 1 + 7 + 13);
 }

@@ -46,6 +46,8 @@ pub enum Step {
     Enters(Caller),
     /// A client gets so many turns, or fewer where one shuts it, and the last one comes to this.
     Turns(usize, u64, TurnState),
+    /// A client gets a turn that may tell so many pieces, and it comes to this.
+    TurnWithin(usize, u64, TurnState),
     /// What was written to a client is just this.
     Reads(usize, Text),
     /// So often the lobby was taken in turns.
@@ -177,6 +179,7 @@ impl Cast {
         pass: Pass,
         who: usize,
         turns: u64,
+        allowance: u64,
         state: TurnState,
     ) -> Pass
         requires { pass.desk ≡ desk.now }
@@ -193,6 +196,7 @@ impl Cast {
                     &mut client.link,
                     &self.gate,
                     turns,
+                    allowance,
                 );
                 client.is_shut = state == TurnState::Closed;
                 same(rt, last, Some(state));
@@ -226,7 +230,18 @@ impl Cast {
     {
         match step {
             Step::Enters(caller) => self.enters(rt, desk, pass, caller),
-            Step::Turns(who, turns, state) => self.turns(rt, desk, pass, *who, *turns, *state),
+            Step::Turns(who, turns, state) => self.turns(
+                rt,
+                desk,
+                pass,
+                *who,
+                *turns,
+                u64::MAX,
+                *state,
+            ),
+            Step::TurnWithin(who, allowance, state) => self.turns(
+                rt, desk, pass, *who, 1, *allowance, *state,
+            ),
             Step::Reads(who, text) => {
                 self.reads(rt, *who, *text);
                 pass

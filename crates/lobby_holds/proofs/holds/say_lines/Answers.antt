@@ -1,4 +1,4 @@
-use Rattle.std.proofs.Common.{length, refl, ap, ◌∙◌, arith}
+use Rattle.std.proofs.Common.{length, refl, ap, ◌∙◌, arith, rules}
 use Rattle.lobby_holds.specs.Holds.{short, all_said}
 use Rattle.lobby_holds.proofs.Sayings.{says_none, says_one, says_then, says_still, from_some, refused_line, stops_none}
 use Rattle.lobby_holds.proofs.holds.say_lines.Goals as goal
@@ -28,7 +28,7 @@ pub returns-in-Err-clause-stops : goal.returns-in-Err-clause-stops
 returns-in-Err-clause-stops g c = short refl (refused_line _ _ _ c.in-Err.ensures.err.0 c.requires.next)
 
 pub returns-in-Ok-None-clause-stops : goal.returns-in-Ok-None-clause-stops
-returns-in-Ok-None-clause-stops g c = stops_none _ _ _ c.loop-lines.held.events refl c.loop-lines.invariant.2 c.loop-lines.invariant.3 (c.in-Ok-None.ensures.stops c.in-Ok-None.field-0-is)
+returns-in-Ok-None-clause-stops g c = stops_none _ _ _ _ _ c.loop-lines.held.events refl c.loop-lines.invariant.2 c.loop-lines.invariant.3 (λ e. search rules) (c.in-Ok-None.ensures.stops c.in-Ok-None.field-0-is)
 
 pub returns-in-Err-say_next-clause-stops : goal.returns-in-Err-say_next-clause-stops
 returns-in-Err-say_next-clause-stops g c = short refl c.in-Err-say_next.ensures.line

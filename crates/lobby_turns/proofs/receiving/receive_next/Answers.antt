@@ -1,11 +1,11 @@
-use Rattle.std.proofs.Common.{refl, sym, subst, Some}
+use Rattle.std.proofs.Common.{refl, sym, subst, rules, Some}
 use Rattle.lobby_turns.specs.declared.receiving.Step.TheVariants as step
 use Rattle.client_session.specs.declared.session.Next.{Next}
 use Rattle.client_session.specs.OneSession.{IsNextOf}
 use Rattle.lobby_holds.specs.Snapshot.{Carried, snapshot}
 use Rattle.lobby_turns.specs.Receiving.{has_bytes, has_line, ReceivesNext}
 use Rattle.lobby_holds.proofs.Parts.{went_none}
-use Rattle.lobby_turns.proofs.Receivings.{said_next, none_done, none_left, fed_first}
+use Rattle.lobby_turns.proofs.Receivings.{said_next, none_done, none_left, put_off, fed_first}
 use Rattle.lobby_turns.proofs.receiving.receive_next.Goals as goal
 
 pub returns-in-Err-clause-received : goal.returns-in-Err-clause-received
@@ -13,8 +13,13 @@ returns-in-Err-clause-received g c =
     let before = snapshot c.args.conn.now (g.L.Link.wire c.args.link.now) c.args.pass in
     subst (λ (x : Carried). ReceivesNext before (snapshot x (g.L.Link.wire c.args.link.now) c.args.pass) step.Memory) (sym c.in-Err.ensures.err.0) (none_done _ _ refl refl (went_none before) (has_bytes c.in-Err.ensures.err.1 c.in-Err.ensures.err.2))
 
-pub returns-in-Ok-Line-clause-received : goal.returns-in-Ok-Line-clause-received
-returns-in-Ok-Line-clause-received g c = fed_first _ _ _ _ (c.in-Ok.ensures.went (g.L.Link.wire c.args.link.now) c.args.pass) refl c.in-Ok.ensures.unwritten (said_next _ _ _ refl (c.say-pass.ensures.says (g.L.Link.wire c.args.link.now)))
+pub returns-then-not-is_quiet-clause-received : goal.returns-then-not-is_quiet-clause-received
+returns-then-not-is_quiet-clause-received g c =
+    put_off _ _ refl c.in-Ok.ensures.unwritten (c.in-Ok.ensures.went (g.L.Link.wire c.args.link.now) c.args.pass) c.in-Ok.ensures.fed
+    (c.in-Ok-Line.request, subst (λ (x : Next). IsNextOf (Some c.feed.new.self.session) x) c.in-Ok-Line.field-0-is c.in-Ok-Line.ensures.ok, search rules)
+
+pub returns-else-allowance-eq0-clause-received : goal.returns-else-allowance-eq0-clause-received
+returns-else-allowance-eq0-clause-received g c = fed_first _ _ _ _ (c.in-Ok.ensures.went (g.L.Link.wire c.args.link.now) c.args.pass) refl c.in-Ok.ensures.unwritten (said_next _ _ _ refl (c.say-pass.ensures.says (g.L.Link.wire c.args.link.now)))
 
 pub returns-in-Ok-Nothing-clause-received : goal.returns-in-Ok-Nothing-clause-received
 returns-in-Ok-Nothing-clause-received g c = fed_first _ _ _ _ (c.in-Ok.ensures.went (g.L.Link.wire c.args.link.now) c.args.pass) refl c.in-Ok.ensures.unwritten c.receive_link.ensures.received
@@ -28,4 +33,4 @@ pub returns-in-Err-next_request-clause-received : goal.returns-in-Err-next_reque
 returns-in-Err-next_request-clause-received g c = none_done _ _ refl c.in-Ok.ensures.unwritten (c.in-Ok.ensures.went (g.L.Link.wire c.args.link.now) c.args.pass) (has_line c.in-Err-next_request.ensures.line)
 
 pub returns-in-Ok-Nothing-clause-within : goal.returns-in-Ok-Nothing-clause-within
-returns-in-Ok-Nothing-clause-within g c = c.receive_link.ensures.within c.args.most
+returns-in-Ok-Nothing-clause-within g c = c.receive_link.ensures.within c.args.most c.args.allowance

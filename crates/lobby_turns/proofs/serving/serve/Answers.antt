@@ -8,13 +8,13 @@ pub returns-in-Some-clause-turned : goal.returns-in-Some-clause-turned
 returns-in-Some-clause-turned g c =
     let e = c.in-Some.ensures in
     let after = snapshot c.send-pass.new.conn (g.L.Link.wire c.send-pass.new.link) c.send-pass.result.0 in
-    turned_open _ _ _ _ _ _ _ c.receive-pass.ensures c.send-pass.ensures (e.goes_on (λ none. absurd (cc (none)))) (may_rest after _ _ _ c.last_got.result c.last_got.ensures e.idle e.again e.memory e.closed)
+    turned_open _ _ _ _ _ _ _ _ _ c.receive-pass.ensures c.send-pass.ensures (e.goes_on (λ none. absurd (cc (none)))) (may_rest after _ _ _ c.last_got.result c.last_got.ensures e.idle e.again e.memory e.closed)
 
 pub returns-in-None-clause-turned : goal.returns-in-None-clause-turned
 returns-in-None-clause-turned g c =
     let wire = g.L.Link.wire c.send-pass.new.link in
     let after = snapshot c.send-pass.new.conn wire c.send-pass.result.0 in
-    rw c.note_end.ensures (turned_closed _ _ _ _ _ _ _ _ _ c.receive-pass.ensures c.send-pass.ensures
+    rw c.note_end.ensures (turned_closed _ _ _ _ _ _ _ _ _ _ _ _ c.receive-pass.ensures c.send-pass.ensures
     (must_shut after _ _ c.last_got.result c.last_got.ensures (c.in-None.ensures.shut refl)) refl refl (rw c.note_end.ensures at (c.close.ensures.closes wire)))
 
 pub returns-in-None-clause-desk : goal.returns-in-None-clause-desk
