@@ -1,6 +1,6 @@
 #!/usr/bin/env python3
 """Compares include/lobby.h with what lobby_c exports: each function with its parameters and result, each struct with its fields in their
-order, each status with its number. `checks/header.py LIBRARY` also compares the names with the symbols of a built library."""
+order, each status, kind of field, reply and request with its number. `checks/header.py LIBRARY` also compares the names with the symbols of a built library."""
 import re
 import subprocess
 import sys
@@ -8,7 +8,13 @@ from pathlib import Path
 
 ROOT = Path(__file__).resolve().parent.parent
 HEADER = ROOT / "include/lobby.h"
-SOURCES = [*sorted((ROOT / "crates/lobby_c/src").glob("*.rt")), *sorted((ROOT / "crates/lobby_tables/src").glob("*.rt"))]
+CRATES = ["lobby_c", "lobby_lines", "lobby_tables", "lent_tables"]
+SOURCES = [path for crate in CRATES for path in sorted((ROOT / "crates" / crate / "src").glob("*.rt"))]
+# The tables by which replies and requests are numbered, from 1 on: each word in its order.
+NUMBERED = [
+    ("LOBBY_REPLY_", "crates/reply_kinds/src/command_word.rt", r'=> b"([A-Z]+)"'),
+    ("LOBBY_ASK_", "crates/request_lines/src/request_table.rt", r'word: b"([A-Z]+)"'),
+]
 # What a type of the crates is called in C.
 NUMBERS = {"usize": "size_t", **{f"{sign}{bits}": f"{'u' * (sign == 'u')}int{bits}_t" for sign in "ui" for bits in (8, 16, 32, 64)}}
 STRUCTS = {"Slot": "lobby_view", "Place": "lobby_text", "Size": "lobby_size"}
@@ -42,8 +48,8 @@ def without_comments(text):
 
 
 def exported(text):
-    """Functions, structs and statuses of the crates, as C sees them."""
-    functions, structs, statuses = {}, {}, {}
+    """Functions, structs and named numbers of the crates, as C sees them."""
+    functions, structs, numbers = {}, {}, {}
     for name, inside, result in re.findall(r'pub extern "C" fn (\w+)\((.*?)\)\s*(?:-> (\w+)\s*)?(?=requires|ensures|\{)', text, re.S):
         parameters = []
         for parameter in filter(None, map(str.strip, inside.split(","))):
@@ -53,24 +59,27 @@ def exported(text):
         fields = re.findall(r"^\s*(?:pub )?(\w+): ([^,{]+),$", inside, re.M)
         structs[c_type(name)] = [("void *" if kind == "*mut u8" else c_type(kind), field) for field, kind in fields]
     for name, number in re.findall(r"pub const (\w+): u32 = (\d+);", text):
-        statuses["LOBBY_" + name] = int(number)
-    return functions, structs, statuses
+        numbers["LOBBY_" + name] = int(number)
+    for prefix, table, word in NUMBERED:
+        words = re.findall(word, (ROOT / table).read_text(encoding="utf-8"))
+        numbers.update((prefix + word, number) for number, word in enumerate(words, 1))
+    return functions, structs, numbers
 
 
 def declared(text):
     """The same of the header."""
-    functions, structs, statuses = {}, {}, {}
+    functions, structs, numbers = {}, {}, {}
     for name, inside, again in re.findall(r"typedef struct (\w+) \{(.*?)\} (\w+);", text, re.S):
         fields = re.findall(r"([\w ]+?[ *]+)(\w+);", inside)
         structs[name] = [(spaced(kind), field) for kind, field in fields]
         if name != again:
             sys.exit(f"header: struct {name} is called {again}")
     for inside in re.findall(r"enum \{(.*?)\};", text, re.S):
-        statuses.update((name, int(number)) for name, number in re.findall(r"(\w+) = (\d+)", inside))
+        numbers.update((name, int(number)) for name, number in re.findall(r"(\w+) = (\d+)", inside))
     for result, name, inside in re.findall(r"^(\w+) (lobby_\w+)\((.*?)\);", text, re.S | re.M):
         parameters = [re.fullmatch(r"(.*?)(\w+)", it.strip(), re.S).groups() for it in inside.split(",")]
         functions[name] = (result, [(spaced(kind), parameter) for kind, parameter in parameters])
-    return functions, structs, statuses
+    return functions, structs, numbers
 
 
 def spaced(kind):
@@ -98,8 +107,8 @@ def main():
     differences, told = [], []
     ours = exported("\n".join(without_comments(path.read_text(encoding="utf-8")) for path in SOURCES))
     theirs = declared(without_comments(HEADER.read_text(encoding="utf-8")))
-    for what, there, here in zip(("function", "struct", "status"), ours, theirs):
-        told.append(f"{len(here)} {what}{'es' if what == 'status' else 's'}")
+    for what, there, here in zip(("function", "struct", "number"), ours, theirs):
+        told.append(f"{len(here)} {what}s")
         for name in sorted({*there, *here}):
             if name not in here or name not in there:
                 differences.append(f"{what} {name}: only {'exported' if name in there else 'in the header'}")

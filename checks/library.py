@@ -1,17 +1,20 @@
 #!/usr/bin/env python3
 """Tries the C library: builds it by tools/library.sh, or takes another, compares its names with the header, and compiles that as C and as C++.
 Builds checks/view.c, which shows each view of rows/ and examples/ as checks/views.sh wants view_show to. Under the address sanitiser it
-shows what members of a battle of a running server know, fed whole and in pieces, and examples/battles.c prints the battles of that server.
+shows what members of a battle of a running server know, fed whole and in pieces, examples/battles.c prints the battles of that server, and
+checks/lines.c takes each reply apart and prints each request. checks/refused_calls.c is refused each allocation of each call.
 
     checks/library.py [LIBRARY]
 
 The programs are those that the gate built; $LOBBY_MAIN and $LOBBY_PLAY name others."""
 import os
+import re
 import subprocess
 import sys
 import tempfile
 from pathlib import Path
 
+import lines_wanted
 from lobby_server import ADDRESS, ROOT, Account, Difference, Server, logged_in, run
 
 COMPILER = os.environ.get("CC", "cc")
@@ -31,7 +34,8 @@ WANTED = """1 Open to all, Delta Siege, 2 of 16: Anna Bert
 
 def called(words, **how):
     """What a command prints. It is to end with status 0 and tell nothing of errors."""
-    done = subprocess.run(words, stdout=subprocess.PIPE, stderr=subprocess.PIPE, text=True, errors="replace", timeout=3600, **how)
+    how = {"stdout": subprocess.PIPE, "stderr": subprocess.PIPE, "timeout": 3600, **how}
+    done = subprocess.run(words, encoding="utf-8", errors="replace", **how)
     if done.returncode or done.stderr:
         raise Difference(f"{' '.join(map(str, words))} ends with status {done.returncode}:\n{done.stdout[-2000:]}{done.stderr[-4000:]}")
     return done.stdout
@@ -46,6 +50,8 @@ def programs(library, room):
         ("plain", "checks/view.c", ["-O2"]),
         ("view", "checks/view.c", SANITISED),
         ("battles", "examples/battles.c", SANITISED),
+        ("lines", "checks/lines.c", SANITISED),
+        ("refused_calls", "checks/refused_calls.c", ["-O1"]),
     ]:
         called([COMPILER, "-std=c11", *STRICT, *words, ROOT / source, library, "-o", room / name])
 
@@ -85,6 +91,71 @@ def print_battles(room):
     show_views(room, bytes(hosts[1].heard))
 
 
+def numbers():
+    """The numbers that the header names."""
+    header = (ROOT / "include/lobby.h").read_text()
+    return {name: int(number) for name, number in re.findall(r"LOBBY_(\w+) = (\d+)", header)}
+
+
+def written(kind, message_id, fields):
+    """A line's head and fields as checks/lines.c reads and writes them."""
+    rows = [f"{kind} {'-' if message_id is None else message_id}"]
+    for field in fields:
+        raw = isinstance(field, int) or field is not None and field[:1] in (">", "?")
+        rows.append("-" if field is None else str(field) if raw else ":" + field)
+    return "".join(row + "\n" for row in [*rows, ""])
+
+
+def spoken(program, mode, given, wanted):
+    """What checks/lines.c makes of each of these, all at once."""
+    said = called([program, mode], input="".join(given))
+    if said != "".join(wanted):
+        for one, want in zip(given, wanted):
+            found = called([program, mode], input=one)
+            if found != want:
+                raise Difference(f"lines {mode} of {one!r} gives {found!r}, wanted {want!r}")
+        raise Difference(f"lines {mode} gives {said!r}, wanted {wanted!r}")
+    return len(given)
+
+
+def take_lines(program):
+    """Each reply taken apart, with an id and without; each request printed so; what is no reply, and what is refused."""
+    named = numbers()
+    given, wanted = [], []
+    for line, fields in lines_wanted.REPLIES + lines_wanted.SHORTER:
+        for front, message_id in [("", None), ("#0 ", 0), ("#2147483647 ", 2147483647)]:
+            given.append(f"{front}{line}\n")
+            wanted.append(written(named["REPLY_" + line.split(" ")[0]], message_id, fields))
+    given += [line + "\n" for line in lines_wanted.NO_REPLIES]
+    wanted += [f"status {named['NO_REPLY']}\n\n" for _ in lines_wanted.NO_REPLIES]
+    read = spoken(program, "read", given, wanted)
+    given, wanted = [], []
+    for word, fields, behind in lines_wanted.REQUESTS + lines_wanted.OTHERS:
+        for message_id in (None, 0, 2147483647) if len(behind) < 8000 else (None,):
+            given.append(written(named["ASK_" + word], message_id, fields))
+            wanted.append(f"{'' if message_id is None else f'#{message_id} '}{word}{behind}\n")
+    for kind, message_id, fields, status in lines_wanted.REFUSED:
+        given.append(written(named["ASK_" + kind] if isinstance(kind, str) else kind, message_id, fields))
+        wanted.append(f"status {named[status]}\n")
+    printed = spoken(program, "print", given, wanted)
+    kinds = {name for name in named if name.startswith(("REPLY_", "ASK_"))}
+    tried = {"REPLY_" + line.split(" ")[0] for line, _ in lines_wanted.REPLIES} | {"ASK_" + word for word, *_ in lines_wanted.REQUESTS}
+    if kinds != tried:
+        raise Difference(f"not tried, or of no kind: {sorted(kinds ^ tried)}")
+    print(f"lines: {read} read and {printed} printed or refused as docs/PROTOCOL.md has them")
+
+
+def refuse_memory(room):
+    """Each allocation of each call is refused in turn."""
+    preloaded = room / "refuse_allocation.so"
+    called([ROOT / "checks/build_library.sh", ROOT / "checks/refuse_allocation.c", preloaded])
+    told = called([room / "refused_calls"], env={**os.environ, "LD_PRELOAD": str(preloaded)}).split("\n")
+    refused = {row.rsplit(" ", 1)[0]: int(row.rsplit(" ", 1)[1]) for row in told[:-2]}
+    if not all(refused[call] for call in ("new", "feed", "table", "read", "print")):
+        raise Difference(f"a call that takes memory was refused none: {refused}")
+    print(f"calls of the library: {told[-2]}, and nothing changed")
+
+
 def check(library=None):
     if library is None:
         print(called([ROOT / "tools/library.sh"]), end="")
@@ -95,6 +166,8 @@ def check(library=None):
     with tempfile.TemporaryDirectory(prefix="lobby-library-") as folder:
         room = Path(folder)
         programs(Path(library).resolve(), room)
+        take_lines(room / "lines")
+        refuse_memory(room)
         print_battles(room)
         print(called([ROOT / "checks/views.sh", player, room / "plain"]), end="")
 

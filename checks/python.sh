@@ -1,13 +1,15 @@
 #!/usr/bin/env bash
 # python.sh [FOLDER [LIBRARY]] : makes the wheel of the Python package, installs it into a fresh environment in which there
 # is no compiler, and runs from there the tests of the package, examples/autohost.py beside players at a server, and views of
-# all rows' clients. The programs are those that the gate built, or those of a folder; the library is that which
-# tools/library.sh makes, or another one.
+# all rows' clients and of recorded sessions. The programs are those that the gate built, or those of a folder; the library is
+# that which tools/library.sh makes, or another one. In the gate it is the one that library.py has just had made.
 set -euo pipefail
 cd "$(dirname "$0")/.."
 program() { if [ -n "$1" ]; then realpath "$1/$2"; else realpath "crates/$2/out/$2"; fi; }
 folder=${1:-}
-if [ -z "${2:-}" ]; then tools/library.sh > /dev/null; fi
+if [ -z "${2:-}" ] && ! { [ -n "${AS_BUILT:-}" ] && [ bin/liblobby.so -nt crates/lobby_c/out/liblobby_c.a ]; }; then
+    tools/library.sh > /dev/null
+fi
 library=$(realpath "${2:-bin/liblobby.so}")
 server=$(program "$folder" lobby_main) player=$(program "$folder" lobby_play) shower=$(program "$folder" view_show)
 passed=0
@@ -41,5 +43,6 @@ passes "the package is the wheel's" \
 passes "its tests" inside -W error::ResourceWarning -m unittest discover -s "$root/python/tests"
 passes "a bot hosts" inside "$root/checks/python_host.py" "$server" "$shower"
 passes "views" inside "$root/checks/python_views.py" "$player" "$shower" 100
+passes "recorded sessions" inside "$root/checks/python_sessions.py" "$server" "$shower" 1000
 echo "python: $passed passed, $failed failed"
 [ "$failed" -eq 0 ]

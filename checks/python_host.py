@@ -11,7 +11,6 @@ import os
 import subprocess
 import sys
 import threading
-import time
 from pathlib import Path
 
 import python_view
@@ -19,7 +18,7 @@ from lobby_server import ADDRESS, PATIENCE, ROOT, Account, Difference, Server, g
 
 sys.path.insert(0, str(ROOT / "examples"))
 import autohost  # noqa: E402
-from rudderraisin import Client  # noqa: E402
+from rudderraisin import Client, request  # noqa: E402
 
 ACCOUNTS = [Account(name, number, number) for number, name in enumerate(("Host", "Anna", "Bert", "Cleo", "Dora"), 1)]
 READY_PLAYER, PLAYER = 1 << 10 | 1 << 1, 1 << 10
@@ -50,7 +49,7 @@ class Bot(threading.Thread):
     def look(self, what):
         """What a function makes of its view, behind all that the server said so far."""
         async def looked():
-            await self.client.ask("PING")
+            await self.client.ask(request.PING())
             return what(self.client.view)
         return asyncio.run_coroutine_threadsafe(looked(), self.loop).result(PATIENCE)
 

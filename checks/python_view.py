@@ -2,12 +2,14 @@
 
 It is no check itself. The package is that of python/, with the library that $LIBLOBBY names, if none is installed."""
 import importlib.util
+import subprocess
 import sys
 
-from lobby_server import ROOT
+from lobby_server import ROOT, Difference
 
 if importlib.util.find_spec("rudderraisin") is None:
     sys.path.insert(0, str(ROOT / "python"))
+from rudderraisin import LineTooLong, View  # noqa: E402
 
 
 def listed(view):
@@ -41,3 +43,24 @@ def shown(view):
     for it in view.channels.values():
         lines += [f"channel {it.name}", *(f"  member {name}" for name in it.members)]
     return "".join(it + "\n" for it in [*lines, *inside(view.room)]).encode("utf-8", "surrogateescape")
+
+
+def folded(pieces):
+    """What a view shows that is fed these pieces, up to a line that is too long."""
+    with View() as view:
+        for it in pieces:
+            try:
+                view.feed(it)
+            except LineTooLong:
+                break
+        return shown(view)
+
+
+def compare(name, shower, told, lengths):
+    """The bytes that a client was told show what view_show shows, fed whole and in pieces of these lengths."""
+    wanted = subprocess.run([shower, "whole"], input=told, stdout=subprocess.PIPE, timeout=60, check=True).stdout
+    for length in (len(told) or 1, *lengths):
+        found = folded(told[at:at + length] for at in range(0, len(told), length))
+        if found != wanted:
+            texts = (it.decode("latin-1") for it in (found, wanted))
+            raise Difference(f"{name}: pieces of {length} show\n" + "\nand view_show\n".join(texts))

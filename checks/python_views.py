@@ -15,9 +15,8 @@ import sys
 import tempfile
 from pathlib import Path
 
-import python_view
 from lobby_server import ROOT, Difference, run
-from rudderraisin import LineTooLong, View
+from python_view import compare
 
 LENGTHS = (1, 3, 61, 1021, 4093)
 ACCEPTED = re.compile(rb"(?m)^(#[0-9]+ )?ACCEPTED ")
@@ -87,26 +86,6 @@ def clients(player, text):
     return told
 
 
-def folded(pieces):
-    """What a view shows that is fed these pieces, up to a line that is too long."""
-    with View() as view:
-        for it in pieces:
-            try:
-                view.feed(it)
-            except LineTooLong:
-                break
-        return python_view.shown(view)
-
-
-def compare(name, shower, told):
-    wanted = subprocess.run([shower, "whole"], input=told, stdout=subprocess.PIPE, timeout=60, check=True).stdout
-    for length in (len(told) or 1, *LENGTHS):
-        found = folded(told[at:at + length] for at in range(0, len(told), length))
-        if found != wanted:
-            texts = (it.decode("latin-1") for it in (found, wanted))
-            raise Difference(f"{name}: pieces of {length} show\n" + "\nand view_show\n".join(texts))
-
-
 def session(choice):
     """A session of lines by chance, in a room whose founder is Anna."""
     lines = ["ACCEPTED Anna", "BATTLEOPENED 1 0 0 Anna 10.0.0.1 0 8 0 0 0 a\tb\tc\td\te", "OPENBATTLE 1"]
@@ -125,11 +104,11 @@ def check(player, shower, sessions):
         for name, text in scripts(room):
             for label, told in clients(player, text).items():
                 if ACCEPTED.search(told):
-                    compare(f"{name}, client {label.decode()}", shower, told)
+                    compare(f"{name}, client {label.decode()}", shower, told, LENGTHS)
                     count += 1
     choice = random.Random(1)
     for number in range(sessions):
-        compare(f"session {number}", shower, session(choice))
+        compare(f"session {number}", shower, session(choice), LENGTHS)
     if count < 500:
         raise Difference(f"{count} clients are too few")
     print(f"python views: {count} clients and {sessions} sessions, each folded in {1 + len(LENGTHS)} ways", flush=True)

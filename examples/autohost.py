@@ -12,54 +12,54 @@ import argparse
 import asyncio
 import contextlib
 
-from rudderraisin import BadLine, BattleStatus, Client, Refused, Status
+from rudderraisin import BattleStatus, CannotPrint, Client, Refused, Status, reply, request
 
 
 class Host:
     def __init__(self, client: Client, guests: set[str]) -> None:
         self.client, self.guests = client, guests
+        self.battle = 0                         # its number
         self.passwords: dict[str, str] = {}     # script passwords, which the engine is to know
 
     async def open(self, title: str) -> None:
-        # type natType password port maxPlayers gameHash rank mapHash, and sentences: engine, version, map, title, game
-        await self.client.ask(f"OPENBATTLE 0 0 * 8452 8 -1 0 123 Spring\t104.0\tComet Catcher\t{title}\tBA 9.46")
-        await self.client.ask(f"MYBATTLESTATUS {BattleStatus.of(sync=1):d} 0")   # a spectator
+        answer = await self.client.ask(request.OPENBATTLE(
+            type=0, natType=0, password="*", port=8452, maxPlayers=8, gameHash=-1, rank=0, mapHash=123,
+            engineName="Spring", engineVersion="104.0", map="Comet Catcher", title=title, gameName="BA 9.46"))
+        self.battle = next(it.battleID for it in answer if isinstance(it, reply.OPENBATTLE))
+        await self.client.ask(request.MYBATTLESTATUS(BattleStatus.of(sync=1), teamColor=0))     # a spectator
 
     async def run(self) -> None:
         """Serves the battle until somebody says !close."""
-        async for line in self.client:
-            words = line.rest.split(" ")
-            if line.command == "JOINBATTLEREQUEST":
-                await self.answer(words[0])
-            elif line.command == "JOINEDBATTLE" and self.is_own(int(words[0])):
-                self.passwords[words[1]] = words[2] if words[2:] else ""
-                await self.say(f"Welcome, {words[1]}! Say !start when all are ready.")
-            elif line.command == "SAIDBATTLE" and words[0] in self.guests and words[1].startswith("!"):
-                if words[1] == "!close":
-                    await self.client.ask("LEAVEBATTLE")
+        async for it in self.client:
+            if isinstance(it, reply.JOINBATTLEREQUEST):
+                await self.answer(it.user)
+            elif isinstance(it, reply.JOINEDBATTLE) and it.battleID == self.battle:
+                self.passwords[it.user] = it.scriptPassword or ""
+                await self.say(f"Welcome, {it.user}! Say !start when all are ready.")
+            elif isinstance(it, reply.SAIDBATTLE) and it.user in self.guests and it.text.startswith("!"):
+                command, _, rest = it.text.partition(" ")
+                if command == "!close":
+                    await self.client.ask(request.LEAVEBATTLE())
                     return
                 try:
-                    await self.obey(words[1], " ".join(words[2:]))
-                except (Refused, BadLine) as refused:
-                    await self.say(f"{words[1]}: {refused}")
+                    await self.obey(command, rest)
+                except (Refused, CannotPrint) as refused:
+                    await self.say(f"{command}: {refused}")
 
     async def say(self, text: str) -> None:
-        await self.client.send(f"SAYBATTLE {text}")
-
-    def is_own(self, battle: int) -> bool:
-        room = self.client.view.room
-        return room is not None and room.battleID == battle
+        await self.client.send(request.SAYBATTLE(text))
 
     async def answer(self, user: str) -> None:
-        is_guest = user in self.guests
+        deny = request.JOINBATTLEDENY(user, "You are no guest")
         with contextlib.suppress(Refused):      # it asks no more
-            await self.client.ask(f"JOINBATTLEACCEPT {user}" if is_guest else f"JOINBATTLEDENY {user} You are no guest")
+            await self.client.ask(request.JOINBATTLEACCEPT(user) if user in self.guests else deny)
 
     async def obey(self, command: str, rest: str) -> None:
         if command == "!set":
-            await self.client.ask(f"SETSCRIPTTAGS {rest}")
+            key, _, value = rest.partition("=")
+            await self.client.ask(request.SETSCRIPTTAGS(((key, value),)))
         elif command == "!kick":
-            await self.client.ask(f"KICKFROMBATTLE {rest}")
+            await self.client.ask(request.KICKFROMBATTLE(rest))
         elif command == "!start":
             await self.start()
         else:
@@ -72,7 +72,7 @@ class Host:
         if idle or not players:
             await self.say("Not ready: " + (", ".join(idle) or "nobody plays"))
         else:   # here the engine would start, with a script made of `room` and `passwords`
-            await self.client.ask(f"MYSTATUS {Status.of(in_game=True):d}")
+            await self.client.ask(request.MYSTATUS(Status.of(in_game=True)))
 
 
 async def main() -> None:

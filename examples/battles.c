@@ -88,32 +88,59 @@ static int connected(const char *host, const char *port) {
     return at;
 }
 
-static void log_in(int at, const char *name, const char *password) {
-    uint8_t word[24];
-    char line[256];
-    if (lobby_password_word((const uint8_t *)password, strlen(password), word, sizeof word) != LOBBY_OK) fail("no word");
-    int length = snprintf(line, sizeof line, "LOGIN %s %.24s 0 * battles\n", name, (const char *)word);
-    if (length < 0 || (size_t)length >= sizeof line) fail("the name is too long");
-    for (int sent = 0; sent < length;) {
-        ssize_t more = write(at, line + sent, (size_t)(length - sent));
+static void send_line(int at, const uint8_t *line, size_t length) {
+    for (size_t sent = 0; sent < length;) {
+        ssize_t more = write(at, line + sent, length - sent);
         if (more <= 0) fail("cannot send");
-        sent += (int)more;
+        sent += (size_t)more;
     }
 }
 
-/* Whether a line that ends in these bytes begins with the word. `last` keeps the beginning of a line from call
- * to call. */
-static int has_line(const uint8_t *bytes, size_t length, const char *word, char last[32], size_t *count) {
+/* Prints LOGIN from its fields, whose texts stand one behind the other. */
+static void log_in(int at, const char *name, const char *password) {
+    uint8_t text[256], line[8193];
+    size_t end = strlen(name), length = 0;
+    if (end > 200) fail("the name is too long");
+    memcpy(text, name, end);
+    if (lobby_password_word((const uint8_t *)password, strlen(password), text + end, 24) != LOBBY_OK) fail("no word");
+    memcpy(text + end + 24, "*battles", 8);
+    const lobby_head head = {LOBBY_ASK_LOGIN, 0, 0};
+    const lobby_field fields[] = {
+        {{0, end}, 0, LOBBY_TEXT, 0},      {{end, 24}, 0, LOBBY_TEXT, 0},     {{0, 0}, 0, LOBBY_NUMBER, 0},
+        {{end + 24, 1}, 0, LOBBY_TEXT, 0}, {{end + 25, 7}, 0, LOBBY_TEXT, 0}, {{0, 0}, 0, LOBBY_NUMBER, 0},
+    };
+    uint32_t status = lobby_print_request(&head, fields, 6, text, end + 32, line, sizeof line, &length);
+    if (status != LOBBY_OK) fail(status == LOBBY_NO_MEMORY ? "no memory" : "the name is no word");
+    send_line(at, line, length);
+}
+
+/* The kind of a line, or 0. None that this program looks for has more fields than there is room for. */
+static uint32_t kind_of(const uint8_t *line, size_t length) {
+    static lobby_field fields[64];
+    static uint8_t text[20480];
+    lobby_head head;
+    lobby_size size;
+    uint32_t status = lobby_read_reply(line, length, &head, fields, 64, text, sizeof text, &size);
+    if (status == LOBBY_NO_MEMORY) fail("no memory");
+    return status == LOBBY_OK ? head.kind : 0;
+}
+
+/* Whether the login's last line ends in these bytes. What stands behind the last LF is kept for the next call. */
+static int is_logged_in(const uint8_t *bytes, size_t length) {
+    static uint8_t line[20480];
+    static size_t count;
+    int is_over = 0;
     for (size_t i = 0; i < length; i++) {
         if (bytes[i] == '\n') {
-            last[*count] = 0;
-            *count = 0;
-            if (strncmp(last, word, strlen(word)) == 0) return 1;
-        } else if (*count < 31) {
-            last[(*count)++] = (char)bytes[i];
+            uint32_t kind = kind_of(line, count);
+            count = 0;
+            if (kind == LOBBY_REPLY_DENIED) fail("the login was denied");
+            if (kind == LOBBY_REPLY_LOGININFOEND) is_over = 1;
+        } else if (count < sizeof line) {
+            line[count++] = bytes[i];
         }
     }
-    return 0;
+    return is_over;
 }
 
 int main(int count, char **words) {
@@ -123,14 +150,12 @@ int main(int count, char **words) {
     lobby_view view = LOBBY_VIEW_EMPTY;
     if (lobby_view_new(&view) != LOBBY_OK) fail("no memory");
     uint8_t piece[4096];
-    char last[32];
-    size_t kept = 0, folded = 0;
+    size_t folded = 0;
     for (int is_over = 0; !is_over;) {
         ssize_t length = read(at, piece, sizeof piece);
         if (length <= 0) fail("the server ended the connection");
         if (lobby_view_feed(&view, piece, (size_t)length, &folded) != LOBBY_OK) fail("no memory, or a line is too long");
-        is_over = has_line(piece, (size_t)length, "LOGININFOEND", last, &kept);
-        if (!is_over && kept == 0 && strncmp(last, "DENIED", 6) == 0) fail("the login was denied");
+        is_over = is_logged_in(piece, (size_t)length);
     }
     print_battles(&view);
     lobby_view_free(&view);

@@ -1,8 +1,8 @@
-/* The lobby for C: what a client knows, folded from the bytes that it was sent.
+/* The lobby for C: what a client knows, folded from the bytes that it was sent, and lines taken apart and made.
  *
  * A view is fed each piece that a client reads from its connection, however the piece is cut, and tables show
  * what the client knows then: users, battles, channels and the room of its own battle. docs/PROTOCOL.md tells
- * the words and fields.
+ * the words and fields. One line of the server is read as its fields, and a client's line printed from its own.
  *
  * Each function is proved for every call that keeps these rules. Nothing tests them.
  *   - A view begins as LOBBY_VIEW_EMPTY. lobby_view_new fills an empty view. The other functions take a view
@@ -36,7 +36,14 @@ enum {
     LOBBY_NO_MEMORY = 1,     /* memory was refused, and nothing has changed */
     LOBBY_LINE_TOO_LONG = 2, /* a line has more than 20,479 bytes: the lines before it are folded, and none after */
     LOBBY_NO_ROOM = 3,       /* the table has more rows or text than there is room for: `size` says how much */
-    LOBBY_NOT_THERE = 4      /* there is no such battle, channel of the client or rectangle, or no own room */
+    LOBBY_NOT_THERE = 4,     /* there is no such battle, channel of the client or rectangle, or no own room */
+    LOBBY_NO_REPLY = 5,      /* no reply of the server prints so */
+    LOBBY_NO_COMMAND = 6,    /* the kind is none of a request */
+    LOBBY_BAD_FIELDS = 7,    /* no request of the kind has these fields */
+    LOBBY_OUT_OF_RANGE = 8,  /* the message id, or a number, is outside its range */
+    LOBBY_NOTHING_LISTED = 9,     /* a list has no field */
+    LOBBY_WORD_SKIPPED = 10,      /* an optional word is absent before one that is there */
+    LOBBY_REQUEST_TOO_LONG = 11   /* the line would have more than 8,192 bytes before its LF */
 };
 
 /* What a client knows. */
@@ -185,6 +192,141 @@ uint32_t lobby_view_room_units(lobby_view *view, lobby_text *rows, size_t rows_r
 /* The word that stands for a password in LOGIN: the base64 text of its MD5. `word_room` is 24. LOBBY_OK;
  * LOBBY_NO_ROOM where it is not, and nothing changes. */
 uint32_t lobby_password_word(const uint8_t *password, size_t length, uint8_t *word, size_t word_room);
+
+/* Lines. A line is a head and fields, those of a reply of the server as those of a request of a client. The
+ * fields are the arguments in the order of docs/PROTOCOL.md, one for each: words, names, sentences and texts are
+ * texts, all others numbers, and an argument that is left out is an absent field. But a list has a field for each
+ * of its words or names, and two for each of its pairs, the key and the value. EXIT has no field. LOGIN has six;
+ * the last is a number, 1 if who joins a battle of the user asks it first, and 0 if not. */
+
+/* What a field holds. */
+enum {
+    LOBBY_ABSENT = 0,
+    LOBBY_TEXT = 1,
+    LOBBY_NUMBER = 2
+};
+
+/* A field of a line. */
+typedef struct lobby_field {
+    lobby_text text; /* of a text its place; else its length is 0 */
+    int64_t number;  /* of a number; else 0 */
+    uint32_t holds;  /* LOBBY_ABSENT, LOBBY_TEXT or LOBBY_NUMBER */
+    uint32_t unused; /* 0 */
+} lobby_field;
+
+/* The head of a line. */
+typedef struct lobby_head {
+    uint32_t kind;     /* LOBBY_REPLY_.. of a reply, LOBBY_ASK_.. of a request */
+    uint32_t numbered; /* 1 if the line has a message id, 0 if not */
+    uint32_t id;       /* 0 to 2147483647; 0 if there is none */
+} lobby_head;
+
+/* The kinds of replies. */
+enum {
+    LOBBY_REPLY_TASSERVER = 1,
+    LOBBY_REPLY_ACCEPTED = 2,
+    LOBBY_REPLY_DENIED = 3,
+    LOBBY_REPLY_MOTD = 4,
+    LOBBY_REPLY_SERVERMSG = 5,
+    LOBBY_REPLY_ADDUSER = 6,
+    LOBBY_REPLY_REMOVEUSER = 7,
+    LOBBY_REPLY_CLIENTSTATUS = 8,
+    LOBBY_REPLY_LOGININFOEND = 9,
+    LOBBY_REPLY_PONG = 10,
+    LOBBY_REPLY_JOIN = 11,
+    LOBBY_REPLY_CLIENTS = 12,
+    LOBBY_REPLY_JOINED = 13,
+    LOBBY_REPLY_LEFT = 14,
+    LOBBY_REPLY_JOINFAILED = 15,
+    LOBBY_REPLY_SAID = 16,
+    LOBBY_REPLY_SAIDEX = 17,
+    LOBBY_REPLY_SAYPRIVATE = 18,
+    LOBBY_REPLY_SAIDPRIVATE = 19,
+    LOBBY_REPLY_CHANNEL = 20,
+    LOBBY_REPLY_ENDOFCHANNELS = 21,
+    LOBBY_REPLY_OPENBATTLE = 22,
+    LOBBY_REPLY_OPENBATTLEFAILED = 23,
+    LOBBY_REPLY_BATTLEOPENED = 24,
+    LOBBY_REPLY_BATTLECLOSED = 25,
+    LOBBY_REPLY_JOINBATTLE = 26,
+    LOBBY_REPLY_JOINBATTLEFAILED = 27,
+    LOBBY_REPLY_JOINEDBATTLE = 28,
+    LOBBY_REPLY_LEFTBATTLE = 29,
+    LOBBY_REPLY_UPDATEBATTLEINFO = 30,
+    LOBBY_REPLY_REQUESTBATTLESTATUS = 31,
+    LOBBY_REPLY_CLIENTBATTLESTATUS = 32,
+    LOBBY_REPLY_SAIDBATTLE = 33,
+    LOBBY_REPLY_SAIDBATTLEEX = 34,
+    LOBBY_REPLY_ADDBOT = 35,
+    LOBBY_REPLY_UPDATEBOT = 36,
+    LOBBY_REPLY_REMOVEBOT = 37,
+    LOBBY_REPLY_ADDSTARTRECT = 38,
+    LOBBY_REPLY_REMOVESTARTRECT = 39,
+    LOBBY_REPLY_SETSCRIPTTAGS = 40,
+    LOBBY_REPLY_REMOVESCRIPTTAGS = 41,
+    LOBBY_REPLY_FORCEQUITBATTLE = 42,
+    LOBBY_REPLY_RING = 43,
+    LOBBY_REPLY_JOINBATTLEREQUEST = 44,
+    LOBBY_REPLY_DISABLEUNITS = 45,
+    LOBBY_REPLY_ENABLEUNITS = 46,
+    LOBBY_REPLY_ENABLEALLUNITS = 47
+};
+
+/* The kinds of requests. */
+enum {
+    LOBBY_ASK_PING = 1,
+    LOBBY_ASK_EXIT = 2,
+    LOBBY_ASK_LOGIN = 3,
+    LOBBY_ASK_MYSTATUS = 4,
+    LOBBY_ASK_CHANNELS = 5,
+    LOBBY_ASK_JOIN = 6,
+    LOBBY_ASK_LEAVE = 7,
+    LOBBY_ASK_SAY = 8,
+    LOBBY_ASK_SAYEX = 9,
+    LOBBY_ASK_SAYPRIVATE = 10,
+    LOBBY_ASK_OPENBATTLE = 11,
+    LOBBY_ASK_JOINBATTLE = 12,
+    LOBBY_ASK_JOINBATTLEACCEPT = 13,
+    LOBBY_ASK_JOINBATTLEDENY = 14,
+    LOBBY_ASK_LEAVEBATTLE = 15,
+    LOBBY_ASK_UPDATEBATTLEINFO = 16,
+    LOBBY_ASK_MYBATTLESTATUS = 17,
+    LOBBY_ASK_SAYBATTLE = 18,
+    LOBBY_ASK_SAYBATTLEEX = 19,
+    LOBBY_ASK_ADDBOT = 20,
+    LOBBY_ASK_UPDATEBOT = 21,
+    LOBBY_ASK_REMOVEBOT = 22,
+    LOBBY_ASK_ADDSTARTRECT = 23,
+    LOBBY_ASK_REMOVESTARTRECT = 24,
+    LOBBY_ASK_SETSCRIPTTAGS = 25,
+    LOBBY_ASK_REMOVESCRIPTTAGS = 26,
+    LOBBY_ASK_DISABLEUNITS = 27,
+    LOBBY_ASK_ENABLEUNITS = 28,
+    LOBBY_ASK_ENABLEALLUNITS = 29,
+    LOBBY_ASK_HANDICAP = 30,
+    LOBBY_ASK_FORCETEAMNO = 31,
+    LOBBY_ASK_FORCEALLYNO = 32,
+    LOBBY_ASK_FORCETEAMCOLOR = 33,
+    LOBBY_ASK_FORCESPECTATORMODE = 34,
+    LOBBY_ASK_KICKFROMBATTLE = 35,
+    LOBBY_ASK_RING = 36
+};
+
+/* Reads a line of the server, without its LF, as the reply that prints so: `head`, and a table of its fields.
+ * LOBBY_OK, LOBBY_NO_ROOM or LOBBY_NO_MEMORY, as for each table; LOBBY_NO_REPLY, and nothing changes. `head` is
+ * written where the table is. */
+uint32_t lobby_read_reply(const uint8_t *line, size_t length, lobby_head *head, lobby_field *rows, size_t rows_room,
+                          uint8_t *text, size_t text_room, lobby_size *size);
+
+/* Prints the request of this kind, message id and fields as its line with the LF, of at most 8,193 bytes. The
+ * texts of the fields are places in `text`; what a field does not hold is not looked at. LOBBY_OK, and the line
+ * stands at the beginning of `line`, what is behind as it was; `size` says how long it is. LOBBY_NO_ROOM: nothing
+ * but `size` changes, which says how long `line` is to be. Else nothing changes: LOBBY_NO_COMMAND;
+ * LOBBY_OUT_OF_RANGE for the id; for the first field from the left that is to blame LOBBY_BAD_FIELDS (too few or
+ * too many, a text where a number is to be, one that is not as docs/PROTOCOL.md has it, or outside `text`),
+ * LOBBY_OUT_OF_RANGE, LOBBY_NOTHING_LISTED or LOBBY_WORD_SKIPPED; LOBBY_REQUEST_TOO_LONG; LOBBY_NO_MEMORY. */
+uint32_t lobby_print_request(const lobby_head *head, const lobby_field *fields, size_t fields_length,
+                             const uint8_t *text, size_t text_length, uint8_t *line, size_t line_room, size_t *size);
 
 #ifdef __cplusplus
 }

@@ -16,11 +16,11 @@ kind() {
     echo "$1: $(grep -c . <<< "$found" || true)"
     sed 's/^./  &/' <<< "$found"
 }
-tests='^crates/(leaf_tests|lobby_tests|leaf_trials|memory_trials|turn_trials|test_lobby)/|^(rows|bench|checks|front)/'
-files=$(git grep -lE "\b$word\b|\b$variant\b|$name" | sort)
+tests='^crates/(leaf_tests|lobby_tests|leaf_trials|memory_trials|turn_trials|test_lobby)/|^(rows|bench|checks|front|python/tests)/'
+files=$(git grep -lE "(\b|_)$word\b|\b$variant\b|$name" | sort)
 kind tests "$tests" <<< "$files"
 files=$(grep -vE "$tests" <<< "$files" || true)
-kind code '^crates/[^/]+/src/' <<< "$files"
+kind code '^crates/[^/]+/src/|^(include|python/rudderraisin)/' <<< "$files"
 kind definitions '^crates/[^/]+/specs/' <<< "$files"
 kind proofs '^crates/[^/]+/proofs/' <<< "$files"
 kind else '^[^/]+$|^(docs|examples|packaging|tools)/|/must-fail/' <<< "$files"

@@ -15,9 +15,12 @@ from ctypes import c_char_p, c_size_t, c_uint8, c_uint32, c_void_p
 from pathlib import Path
 from typing import Any, Iterator, NamedTuple, Sequence, Tuple
 
-from .errors import LineTooLong, NoMemory, ViewClosed
+from .errors import CannotPrint, LineTooLong, NoMemory, PrintFault, ViewClosed
+from .kinds import Field
 
-OK, NO_MEMORY, LINE_TOO_LONG, NO_ROOM, NOT_THERE = range(5)
+OK, NO_MEMORY, LINE_TOO_LONG, NO_ROOM, NOT_THERE, NO_REPLY, NO_COMMAND = range(7)
+FAULTS = dict(enumerate(PrintFault, 7))     # the statuses behind these
+ABSENT, TEXT_FIELD, NUMBER_FIELD = range(3)     # what a field holds
 
 
 class Row(NamedTuple):
@@ -37,6 +40,7 @@ BATTLE = Row.of(7, "2qI3H4BH")
 MEMBER = Row.of(1, "q2I")
 BOT = Row.of(3, "q2I")
 TAG = Row.of(2)
+FIELD = Row.of(1, "q2I")
 
 
 class _View(ctypes.Structure):
@@ -51,7 +55,11 @@ class _Rectangle(ctypes.Structure):
     _fields_ = [("left", c_uint8), ("top", c_uint8), ("right", c_uint8), ("bottom", c_uint8)]
 
 
-_OF_VIEW = ctypes.POINTER(_View)
+class _Head(ctypes.Structure):
+    _fields_ = [("kind", c_uint32), ("numbered", c_uint32), ("id", c_uint32)]
+
+
+_OF_VIEW, _OF_HEAD = ctypes.POINTER(_View), ctypes.POINTER(_Head)
 _TABLE = [c_void_p, c_size_t, c_void_p, c_size_t, ctypes.POINTER(_Size)]
 _FUNCTIONS: dict[str, tuple[Any, list[Any]]] = {
     "lobby_view_new": (c_uint32, [_OF_VIEW]),
@@ -69,6 +77,9 @@ _FUNCTIONS: dict[str, tuple[Any, list[Any]]] = {
     "lobby_view_room_rect": (c_uint32, [_OF_VIEW, c_uint8, ctypes.POINTER(_Rectangle)]),
     "lobby_view_room_tags": (c_uint32, [_OF_VIEW, *_TABLE]),
     "lobby_view_room_units": (c_uint32, [_OF_VIEW, *_TABLE]),
+    "lobby_read_reply": (c_uint32, [c_char_p, c_size_t, _OF_HEAD, *_TABLE]),
+    "lobby_print_request": (c_uint32, [_OF_HEAD, c_char_p, c_size_t, c_char_p, c_size_t, c_void_p, c_size_t,
+                                       ctypes.POINTER(c_size_t)]),
 }
 
 
@@ -121,17 +132,41 @@ def encoded(text: str) -> bytes:
     return text.encode("utf-8", "surrogateescape")
 
 
+class _Room:
+    """Room for tables, which grows as they ask for it. `none` is the status that says that there is no table."""
+
+    def __init__(self, none: int) -> None:
+        self._none = none
+        # All rows are of whole words of 8 bytes, and begin where such a word may.
+        self._rows = (ctypes.c_uint64 * 64)()
+        self._text = (c_uint8 * 1024)()
+        self._size = _Size()
+
+    def copied(self, name: str, row: Row, *of: Any) -> tuple[bytes, bytes] | None:
+        """Rows and text of the table that the function `lobby_NAME` gives, or None where there is none. NoMemory."""
+        function, size = getattr(_LIBRARY, "lobby_" + name), self._size
+        while True:
+            rows, text = self._rows, self._text
+            status = function(*of, rows, ctypes.sizeof(rows) // row.layout.size, text, len(text), size)
+            if status == OK:
+                return ctypes.string_at(rows, size.rows * row.layout.size), ctypes.string_at(text, size.text)
+            if status == self._none:
+                return None
+            if status != NO_ROOM:
+                _checked(status)
+            # A quarter more than is wanted now, so that not each newcomer asks for more.
+            self._rows = (ctypes.c_uint64 * max(len(rows), size.rows * row.layout.size * 5 // 32))()
+            self._text = (c_uint8 * max(len(text), size.text * 5 // 4))()
+
+
 class NativeView:
     """A view of the library, with the room into which its tables are copied."""
 
     def __init__(self) -> None:
         self._view = _View()
-        self._size = _Size()
+        self._tables = _Room(NOT_THERE)
         self._thread = threading.get_ident()
         self._is_open = False
-        # All rows are of whole words of 8 bytes, and begin where such a word may.
-        self._rows = (ctypes.c_uint64 * 64)()
-        self._text = (c_uint8 * 1024)()
         _checked(_LIBRARY.lobby_view_new(self._view))
         self._is_open = True
 
@@ -167,20 +202,8 @@ class NativeView:
     def table(self, name: str, row: Row, *of: Any) -> Table:
         """The table that the function `lobby_view_NAME` gives, without rows where there is nothing of that name.
         NoMemory."""
-        function, size = getattr(_LIBRARY, "lobby_view_" + name), self._size
-        while True:
-            rows, text = self._rows, self._text
-            status = function(self.opened(), *of, rows, ctypes.sizeof(rows) // row.layout.size, text, len(text), size)
-            if status == OK:
-                given = ctypes.string_at(rows, size.rows * row.layout.size)
-                return Table(row, given, ctypes.string_at(text, size.text))
-            if status == NOT_THERE:
-                return Table(row, b"", b"")
-            if status != NO_ROOM:
-                _checked(status)
-            # A quarter more than is wanted now, so that not each newcomer asks for more.
-            self._rows = (ctypes.c_uint64 * max(len(rows), size.rows * row.layout.size * 5 // 32))()
-            self._text = (c_uint8 * max(len(text), size.text * 5 // 4))()
+        found = self._tables.copied("view_" + name, row, self.opened(), *of)
+        return Table(row, *found) if found else Table(row, b"", b"")
 
     def room(self) -> int | None:
         """The number of the battle that the client is in."""
@@ -192,6 +215,60 @@ class NativeView:
         it = _Rectangle()
         found = _LIBRARY.lobby_view_room_rect(self.opened(), ally, it) == OK
         return (it.left, it.top, it.right, it.bottom) if found else None
+
+
+class _Lines(threading.local):
+    """What a thread lends to the library for lines."""
+
+    def __init__(self) -> None:
+        self.tables = _Room(NO_REPLY)
+        self.head = _Head()
+        self.line = (c_uint8 * 8_193)()     # the longest line of a client, with its LF
+
+
+_LINES = _Lines()
+
+
+def read_reply(line: bytes) -> tuple[int, int | None, list[Field]] | None:
+    """The kind, the message id and the fields of the reply that prints as this line. NoMemory."""
+    head = _LINES.head
+    found = _LINES.tables.copied("read_reply", FIELD, line, len(line), head)
+    if found is None:
+        return None
+    rows, text = found
+    fields = [decoded(text[start:start + length]) if holds == TEXT_FIELD else number if holds == NUMBER_FIELD else None
+              for start, length, number, holds, _ in FIELD.layout.iter_unpack(rows)]
+    return head.kind, head.id if head.numbered else None, fields
+
+
+def print_request(kind: int, id: int | None, fields: Sequence[Field]) -> bytes:
+    """The line of the request of this kind, with its LF. CannotPrint; NoMemory; TypeError."""
+    rows, text = bytearray(), bytearray()
+    for it in fields:
+        said, number, holds = b"", 0, ABSENT
+        if isinstance(it, str):
+            said, holds = _said(it), TEXT_FIELD
+        elif isinstance(it, int):   # one without room in the row is in no range, and neither is the nearest that fits
+            number, holds = min(max(it, -1 << 63), (1 << 63) - 1), NUMBER_FIELD
+        elif it is not None:
+            raise TypeError(f"an argument is a {type(it).__name__}")
+        rows += FIELD.layout.pack(len(text), len(said), number, holds, 0)
+        text += said
+    head = _Head(kind, id is not None, 0 if id is None else id if 0 <= id < 1 << 32 else (1 << 32) - 1)
+    line, size = _LINES.line, c_size_t()
+    said_fields = bytes(rows), len(fields), bytes(text), len(text)
+    status = _LIBRARY.lobby_print_request(head, *said_fields, line, len(line), size)
+    if status in FAULTS:
+        raise CannotPrint(FAULTS[status])
+    _checked(status)
+    return ctypes.string_at(line, size.value)
+
+
+def _said(text: str) -> bytes:
+    try:
+        return encoded(text)
+    except UnicodeEncodeError as error:
+        raise CannotPrint(PrintFault.BAD_FIELDS) from error
 
 
 def _checked(status: int) -> None:

@@ -6,8 +6,8 @@ import contextlib
 import unittest
 from typing import Any, Awaitable, Callable, TypeVar
 
-from rudderraisin import (BadLine, Client, ConnectionLost, Denied, Line, LineTooLong, Refused, ViewClosed,
-                          client as module, password_word)
+from rudderraisin import (CannotPrint, Client, ConnectionLost, Denied, LineTooLong, PrintFault, Refused, Request,
+                          ViewClosed, client as module, password_word, reply, request)
 
 GREETING = b"TASSERVER 0.38 * 8201 0\n"
 T = TypeVar("T")
@@ -22,11 +22,6 @@ def number(line: bytes) -> bytes:
 async def soon(what: Awaitable[T]) -> T:
     """What is awaited, within some seconds."""
     return await asyncio.wait_for(what, 20)
-
-
-def texts(lines: list[Line]) -> list[str]:
-    """Lines without their ids."""
-    return [f"{it.command} {it.rest}".rstrip() for it in lines]
 
 
 class Served(unittest.IsolatedAsyncioTestCase):
@@ -66,7 +61,7 @@ async def quiet(reader: asyncio.StreamReader, _: asyncio.StreamWriter) -> None:
 class Answers(Served):
     async def test_greeting(self) -> None:
         client = await self.served(quiet)
-        self.assertEqual(client.greeting, Line("TASSERVER", "0.38 * 8201 0"))
+        self.assertEqual(client.greeting, reply.TASSERVER("0.38", "*", 8201, 0))
 
     async def test_no_greeting(self) -> None:
         for greeting in (b"", b"PONG\n", b"TASSERVER 0.38"):
@@ -83,8 +78,8 @@ class Answers(Served):
             await quiet(reader, writer)
         client = await self.served(peer)
         told = await soon(client.login("Anna", "password", b=True, lobby="Test 1.0"))
-        self.assertEqual(said, [b"LOGIN Anna X03MO1qnZdYdgyfeuILPmQ== 0 * Test 1.0\t0\tb\n"])
-        self.assertEqual(texts(told), ["ACCEPTED Anna", "ADDUSER Anna DE 0 1", "LOGININFOEND"])
+        self.assertEqual(said, [b"LOGIN Anna X03MO1qnZdYdgyfeuILPmQ== 0 * Test 1.0\t\tb\n"])
+        self.assertEqual(told, [reply.ACCEPTED("Anna"), reply.ADDUSER("Anna", "DE", 0, 1), reply.LOGININFOEND()])
         self.assertEqual(client.view.me, "Anna")
         self.assertEqual(client.view.users["Anna"].country, "DE")
 
@@ -109,10 +104,9 @@ class Answers(Served):
                 await answer(reader, writer, it)
         client = await self.served(peer)
         for it in lines:
-            with self.subTest(it), self.assertRaisesRegex(Refused, "No such user$") as caught:
-                await soon(client.ask("CHANNELS"))
-            self.assertEqual(texts([caught.exception.line]), [it[1:].decode()])
-            self.assertEqual(str(caught.exception), caught.exception.line.rest)
+            with self.subTest(it), self.assertRaisesRegex(Refused, "^No such user$") as caught:
+                await soon(client.ask(request.CHANNELS()))
+            self.assertEqual(caught.exception.reply, reply.Reply.read(it[1:]))
 
     async def test_answer_is_what_has_its_id(self) -> None:
         """What others say meanwhile is no answer, nor is the refusal of another line. The iterator has all in order."""
@@ -121,9 +115,11 @@ class Answers(Served):
                          b"@CLIENTS main Anna")
             await quiet(reader, writer)
         client = await self.served(peer)
-        self.assertEqual(texts(await soon(client.ask("JOIN main"))), ["JOIN main", "CLIENTS main Anna"])
+        answer_of = [reply.JOIN("main"), reply.CLIENTS("main", ("Anna",))]
+        self.assertEqual(await soon(client.ask(request.JOIN("main"))), answer_of)
         came = [await soon(client.__anext__()) for _ in range(4)]
-        self.assertEqual(texts(came), ["SAID main Bert hi", "JOIN main", "SERVERMSG Bad name", "CLIENTS main Anna"])
+        self.assertEqual(came, [reply.SAID("main", "Bert", "hi"), answer_of[0], reply.SERVERMSG("Bad name"),
+                                answer_of[1]])
         self.assertEqual([came[0].id, came[2].id], [None, 7])
 
     async def test_answers_to_many_at_once(self) -> None:
@@ -131,15 +127,15 @@ class Answers(Served):
             for _ in range(3):
                 await answer(reader, writer, b"@PONG")
         client = await self.served(peer)
-        answers = await asyncio.gather(*(client.ask("PING") for _ in range(3)))
-        self.assertEqual([*map(texts, answers)], [["PONG"]] * 3)
+        answers = await asyncio.gather(*(client.ask(request.PING()) for _ in range(3)))
+        self.assertEqual(answers, [[reply.PONG()]] * 3)
         self.assertEqual(len({it[0].id for it in answers}), 3)
 
     async def test_nothing_answers(self) -> None:
         async def peer(reader: asyncio.StreamReader, writer: asyncio.StreamWriter) -> None:
             await answer(reader, writer)
         client = await self.served(peer)
-        self.assertEqual(await soon(client.ask("LEAVEBATTLE")), [])
+        self.assertEqual(await soon(client.ask(request.LEAVEBATTLE())), [])
 
     async def test_who_gives_up_gets_no_later_answer(self) -> None:
         go = asyncio.Event()
@@ -151,30 +147,36 @@ class Answers(Served):
             await answer(reader, writer, b"@PONG")
         client = await self.served(peer)
         with self.assertRaises(asyncio.TimeoutError):
-            await asyncio.wait_for(client.ask("SAYPRIVATE Zoe hi"), 0.05)
+            await asyncio.wait_for(client.ask(request.SAYPRIVATE("Zoe", "hi")), 0.05)
         go.set()
-        self.assertEqual(texts(await soon(client.ask("PING"))), ["PONG"])
-        self.assertEqual(texts([await soon(client.__anext__()) for _ in range(2)]), ["SERVERMSG No such user", "PONG"])
+        self.assertEqual(await soon(client.ask(request.PING())), [reply.PONG()])
+        self.assertEqual([await soon(client.__anext__()) for _ in range(2)],
+                         [reply.SERVERMSG("No such user"), reply.PONG()])
 
-    async def test_bad_lines(self) -> None:
-        """Nothing of them is said, and an id counts among the bytes."""
+    async def test_what_cannot_be_printed(self) -> None:
+        """Nothing of it is sent, and an id counts among the bytes."""
         said = []
 
         async def peer(reader: asyncio.StreamReader, writer: asyncio.StreamWriter) -> None:
             said.append(await reader.readuntil(b"\n"))
             said.append(await answer(reader, writer, b"@PONG"))
         client = await self.served(peer)
-        for bad in ("SAY main a\nEXIT", "SAY main a\r", "\n", "x" * 8_193, "\ud800"):
+        bad: list[tuple[Request, PrintFault]] = [
+            (request.SAY("main", "a\nEXIT"), PrintFault.BAD_FIELDS),
+            (request.HANDICAP("Bert", 101), PrintFault.OUT_OF_RANGE),
+            (request.SAYBATTLE("x" * 8_192), PrintFault.REQUEST_TOO_LONG)]
+        for it, fault in bad:
             for call in (client.ask, client.send):
-                with self.subTest(bad[:20]), self.assertRaises(BadLine):
-                    await soon(call(bad))
-        with self.assertRaises(BadLine):
-            await client.send("x" * 8_190, 1)
-        for name, lobby in (("Anna x", "y"), ("Anna\tx", "y"), ("Anna", "x\ty"), ("Anna", "x\ny")):
-            with self.assertRaises(BadLine):
+                with self.subTest(fault), self.assertRaises(CannotPrint) as caught:
+                    await soon(call(it))
+                self.assertIs(caught.exception.fault, fault)
+        with self.assertRaises(CannotPrint):
+            await client.send(request.SAYBATTLE("x" * 8_180), 1)
+        for name, lobby in (("Anna x", "y"), ("Anna\tx", "y"), ("", "y"), ("Anna", "x\ty"), ("Anna", "x\ny")):
+            with self.assertRaises(CannotPrint):
                 await soon(client.login(name, "password", lobby=lobby))
-        await client.send("SAY main \udcff" + "\xe4" * 4_091)
-        await soon(client.ask("PING"))
+        await client.send(request.SAY("main", "\udcff" + "\xe4" * 4_091))
+        await soon(client.ask(request.PING()))
         self.assertEqual(said, [b"SAY main \xff" + "\xe4".encode() * 4_091 + b"\n", b"PING\n"])
 
     async def test_own_ids(self) -> None:
@@ -183,11 +185,12 @@ class Answers(Served):
             writer.write(b"#5 PONG\r\n")
             await quiet(reader, writer)
         client = await self.served(peer)
-        await client.send("PING", 5)
-        self.assertEqual(await soon(client.__anext__()), Line("PONG", "", 5))
+        await client.send(request.PING(), 5)
+        it = await soon(client.__anext__())
+        self.assertEqual((it, it.id), (reply.PONG(), 5))
         for fault in (-1, 1 << 30):
             with self.assertRaises(ValueError):
-                await client.send("PING", fault)
+                await client.send(request.PING(), fault)
 
 
 class Ends(Served):
@@ -206,12 +209,12 @@ class Ends(Served):
         await client.close()
         self.assertEqual(said, [b"EXIT\n", b"end"])
         with contextlib.suppress(StopAsyncIteration):
-            self.assertEqual(await waiting, Line("PONG"))
+            self.assertEqual(await waiting, reply.PONG())
         self.assertEqual([it async for it in client][1:], [])
         with self.assertRaises(ViewClosed):
             client.view.feed(b"")
         with self.assertRaises(ConnectionLost):
-            await soon(client.ask("PING"))
+            await soon(client.ask(request.PING()))
         await client.close()
 
     async def test_close_of_a_server_that_does_not_end(self) -> None:
@@ -228,13 +231,13 @@ class Ends(Served):
             writer.write(b"SAID main Bert hi\n")
         client = await self.served(peer)
         with self.assertRaises(ConnectionLost):
-            await soon(client.ask("PING"))
-        self.assertEqual(await soon(client.__anext__()), Line("SAID", "main Bert hi"))
+            await soon(client.ask(request.PING()))
+        self.assertEqual(await soon(client.__anext__()), reply.SAID("main", "Bert", "hi"))
         with self.assertRaises(ConnectionLost) as caught:
             await soon(client.__anext__())
         self.assertIsInstance(caught.exception.__cause__, EOFError)
         with self.assertRaises(ConnectionLost):
-            await client.send("PING")
+            await client.send(request.PING())
 
     async def test_line_too_long(self) -> None:
         """The lines before it come, and none after."""
@@ -242,8 +245,8 @@ class Ends(Served):
             writer.write(b"RING Bert\nMOTD " + b"x" * 20_474 + b"\nMOTD " + b"x" * 20_475 + b"\nRING Anna\n")
             await quiet(reader, writer)
         client = await self.served(peer)
-        self.assertEqual(await soon(client.__anext__()), Line("RING", "Bert"))
-        self.assertEqual(await soon(client.__anext__()), Line("MOTD", "x" * 20_474))
+        self.assertEqual(await soon(client.__anext__()), reply.RING("Bert"))
+        self.assertEqual(await soon(client.__anext__()), reply.MOTD("x" * 20_474))
         with self.assertRaises(ConnectionLost) as caught:
             await soon(client.__anext__())
         self.assertIsInstance(caught.exception.__cause__, LineTooLong)
@@ -260,17 +263,19 @@ class Ends(Served):
 
 class Flow(Served):
     async def test_pieces(self) -> None:
-        """Lines are whole however they are cut, and no byte of them is lost but LF and one CR before it."""
+        """Lines are whole however they are cut, without one CR at their end. Those that are no reply are left out."""
+        lines = b"RING Bert\r\nHELLO\n\nRING  Bert\nRING A\r\r\nSAID main Bert \xe4  b \n#12 RING Bert\nRING An"
+
         async def peer(reader: asyncio.StreamReader, writer: asyncio.StreamWriter) -> None:
-            for it in b"RING Bert\r\nHELLO\n\nSAID main B\xe4rt a  b\r \n#12 RING \nRING An":
+            for it in lines:
                 writer.write(bytes([it]))
                 await writer.drain()
                 await asyncio.sleep(0)
             await quiet(reader, writer)
         client = await self.served(peer)
-        came = [await soon(client.__anext__()) for _ in range(5)]
-        self.assertEqual(came, [Line("RING", "Bert"), Line("HELLO"), Line(""), Line("SAID", "main B\udce4rt a  b\r "),
-                                Line("RING", "", 12)])
+        came = [await soon(client.__anext__()) for _ in range(3)]
+        self.assertEqual(came, [reply.RING("Bert"), reply.SAID("main", "Bert", "\udce4  b "), reply.RING("Bert")])
+        self.assertEqual([it.id for it in came], [None, None, 12])
 
     async def test_view_is_not_behind(self) -> None:
         async def peer(reader: asyncio.StreamReader, writer: asyncio.StreamWriter) -> None:
@@ -282,7 +287,8 @@ class Flow(Served):
         await soon(client.__anext__())
         for it in range(500):
             told = await soon(client.__anext__())
-            self.assertIn(told.rest.split()[0], client.view.users)
+            assert isinstance(told, reply.ADDUSER)
+            self.assertIn(told.user, client.view.users)
 
     async def test_who_does_not_iterate_slows_the_server_down(self) -> None:
         """What waits is bounded; an answer comes all the same, and who iterates then gets all."""
@@ -302,12 +308,13 @@ class Flow(Served):
         await asyncio.sleep(0.2)
         self.assertLess(client._held, module.ROOM + module.PIECE + 20_480)
         self.assertLess(len(sent), lines)
-        asked = asyncio.create_task(client.ask("PING"))
-        self.assertEqual(texts(await soon(asked)), ["PONG"])
+        asked = asyncio.create_task(client.ask(request.PING()))
+        self.assertEqual(await soon(asked), [reply.PONG()])
         for it in range(lines):
             told = await soon(client.__anext__())
-            self.assertEqual((told.command, told.rest[:5]), ("MOTD", "%05d" % it))
-        self.assertEqual(texts([await soon(client.__anext__())]), ["PONG"])
+            assert isinstance(told, reply.MOTD)
+            self.assertEqual(told.text[:5], "%05d" % it)
+        self.assertEqual(await soon(client.__anext__()), reply.PONG())
         self.assertEqual(client._held, 0)
 
     async def test_most_that_may_wait(self) -> None:
@@ -320,18 +327,18 @@ class Flow(Served):
                 await writer.drain()
         client = await self.served(peer)
         with self.assertRaisesRegex(ConnectionLost, "bytes of lines wait"):
-            await soon(client.ask("PING"))
+            await soon(client.ask(request.PING()))
 
     async def test_skip(self) -> None:
         async def peer(reader: asyncio.StreamReader, writer: asyncio.StreamWriter) -> None:
             await answer(reader, writer, b"@PONG", b"RING Bert")
             await answer(reader, writer, b"@PONG")
         client = await self.served(peer)
-        await soon(client.ask("PING"))
+        await soon(client.ask(request.PING()))
         client.skip()
         self.assertEqual(client._held, 0)
-        await soon(client.ask("PING"))
-        self.assertEqual(texts([await soon(client.__anext__())]), ["PONG"])
+        await soon(client.ask(request.PING()))
+        self.assertEqual(await soon(client.__anext__()), reply.PONG())
         self.assertEqual(client._held, 0)
 
     async def test_a_server_that_reads_slowly_holds_the_sender_up(self) -> None:
@@ -343,7 +350,7 @@ class Flow(Served):
 
         async def flood() -> None:
             for _ in range(2_000):      # more than the system keeps for the server
-                await client.send("SAYBATTLE " + "x" * 8_000)
+                await client.send(request.SAYBATTLE("x" * 8_000))
                 await asyncio.sleep(0)
         flooding = [asyncio.create_task(flood()) for _ in range(2)]
         await asyncio.wait(flooding, timeout=0.5)

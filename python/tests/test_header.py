@@ -6,14 +6,14 @@ import re
 import unittest
 from pathlib import Path
 
-from rudderraisin import _native, password_word
+from rudderraisin import PrintFault, _native, password_word, reply, request
 
 HEADER = Path(__file__).resolve().parents[2] / "include/lobby.h"
 NUMBERS = {"int64_t": "q", "uint32_t": "I", "uint16_t": "H", "uint8_t": "B", "size_t": "N", "lobby_text": "NN"}
 VALUES = {"uint32_t": ctypes.c_uint32, "uint8_t": ctypes.c_uint8, "size_t": ctypes.c_size_t, "void": None}
 LENT = {"lobby_view": _native._View, "lobby_size": _native._Size, "lobby_rect": _native._Rectangle,
-        "size_t": ctypes.c_size_t, "uint32_t": ctypes.c_uint32}
-LETTERS = {ctypes.c_size_t: "N", ctypes.c_uint8: "B", ctypes.c_void_p: "P"}
+        "lobby_head": _native._Head, "size_t": ctypes.c_size_t, "uint32_t": ctypes.c_uint32}
+LETTERS = {ctypes.c_size_t: "N", ctypes.c_uint32: "I", ctypes.c_uint8: "B", ctypes.c_void_p: "P"}
 
 
 def source() -> str:
@@ -32,26 +32,33 @@ def letters(layout: str) -> str:
 
 
 def argument(text: str) -> object:
-    """The ctypes type of a parameter: rows and texts of a table are any memory, bytes that are read a char pointer."""
-    kind, star, _ = re.fullmatch(r"\s*((?:const )?\w+)\s+(\*?)(\w+)\s*", text).groups()  # type: ignore[union-attr]
+    """The ctypes type of a parameter: rows and texts of a table are any memory, bytes and rows that are read a char
+    pointer."""
+    const, kind, star = re.fullmatch(r"\s*(const )?(\w+)\s+(\*?)\w+\s*", text).groups()  # type: ignore[union-attr]
     if not star:
         return VALUES[kind]
-    if kind.startswith("const"):
-        return ctypes.c_char_p
-    return ctypes.POINTER(LENT[kind]) if kind in LENT else ctypes.c_void_p
+    if kind in LENT:
+        return ctypes.POINTER(LENT[kind])
+    return ctypes.c_char_p if const else ctypes.c_void_p
+
+
+def numbers(prefix: str) -> dict[str, int]:
+    """The numbers that the header gives to the names that begin so, without that beginning."""
+    return {name: int(value) for name, value in re.findall(rf"\b{prefix}(\w+) = (\d+)", source())}
 
 
 class Header(unittest.TestCase):
     def test_rows(self) -> None:
         rows = {"lobby_text": _native.TEXT, "lobby_user": _native.USER, "lobby_battle": _native.BATTLE,
-                "lobby_member": _native.MEMBER, "lobby_bot": _native.BOT, "lobby_tag": _native.TAG}
+                "lobby_member": _native.MEMBER, "lobby_bot": _native.BOT, "lobby_tag": _native.TAG,
+                "lobby_field": _native.FIELD}
         declared = structs()
         for name, row in rows.items():
             with self.subTest(name):
                 self.assertEqual(letters(row.layout.format), declared[name])
                 self.assertTrue(declared[name].startswith("NN" * row.texts))
                 self.assertEqual(row.layout.size % 8, 0)
-        for name in ("lobby_size", "lobby_rect", "lobby_view"):
+        for name in ("lobby_size", "lobby_rect", "lobby_view", "lobby_head"):
             self.assertEqual(declared[name], "".join(LETTERS[kind] for _, kind in LENT[name]._fields_))
 
     def test_functions(self) -> None:
@@ -70,9 +77,18 @@ class Header(unittest.TestCase):
             self.assertEqual(bytes(word).decode(), password_word(password))
 
     def test_statuses(self) -> None:
-        declared = {name: int(value) for name, value in re.findall(r"LOBBY_(\w+) = (\d+)", source())}
-        names = ("OK", "NO_MEMORY", "LINE_TOO_LONG", "NO_ROOM", "NOT_THERE")
-        self.assertEqual(declared, {name: getattr(_native, name) for name in names})
+        names = ("OK", "NO_MEMORY", "LINE_TOO_LONG", "NO_ROOM", "NOT_THERE", "NO_REPLY", "NO_COMMAND")
+        wanted = {name: getattr(_native, name) for name in names}
+        wanted.update({fault.name: status for status, fault in _native.FAULTS.items()})
+        held = {"ABSENT": _native.ABSENT, "TEXT": _native.TEXT_FIELD, "NUMBER": _native.NUMBER_FIELD}
+        found = {name: number for name, number in numbers("LOBBY_").items() if not name.startswith(("REPLY_", "ASK_"))}
+        self.assertEqual(found, {**wanted, **held})
+        self.assertEqual({*_native.FAULTS.values()}, {*PrintFault})
+
+    def test_kinds(self) -> None:
+        for prefix, classes in (("LOBBY_REPLY_", reply.KINDS), ("LOBBY_ASK_", request.KINDS)):
+            self.assertEqual(numbers(prefix), {it.__name__: number for number, it in enumerate(classes, 1)})
+            self.assertEqual([it.kind for it in classes], [*range(1, len(classes) + 1)])
 
 
 if __name__ == "__main__":

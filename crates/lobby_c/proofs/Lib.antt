@@ -1,3 +1,4 @@
 mod Callee
+mod Reading
 pub mod Showing
 mod Values

@@ -1,11 +1,10 @@
 //! The rows of each table.
 
 ghost use Rattle.std.specs.Prelude.{◌≡◌, ◌++◌, ℕ, List, IfOk, OnOk, length};
-ghost use Rattle.lobby_tables.specs.Layout.{place, itself};
 ghost use Rattle.lobby_tables.specs.Rows.{user_row, user_shown, battle_row, battle_shown, member_row, member_shown, bot_row, bot_shown, tag_row, tag_shown, rect_row};
 
-use crate::table::{Listed, Place, put_text};
-use line_words::{NameBuf, Pair, WordBuf};
+use lent_tables::{Listed, Place, put_text};
+use line_words::{NameBuf, Pair};
 use room_lists::Rect;
 use std::alloc::AllocError;
 use view_lists::{Battle, User};
@@ -129,26 +128,6 @@ pub(crate) fn put_battle(
         locked: u8::from(battle.locked),
         unused: 0,
     })
-}
-
-impl Listed<Place> for NameBuf {
-    ghost row_at = { place };
-
-    ghost shown = { itself };
-
-    fn put(&self, text: &mut Vec<u8>) -> Result<Place, AllocError> {
-        put_text(text, self.as_slice())
-    }
-}
-
-impl Listed<Place> for WordBuf {
-    ghost row_at = { place };
-
-    ghost shown = { itself };
-
-    fn put(&self, text: &mut Vec<u8>) -> Result<Place, AllocError> {
-        put_text(text, self.as_slice())
-    }
 }
 
 impl Listed<MemberRow> for Member {

@@ -1,0 +1,4 @@
+mod Adding
+mod Going
+mod Numbers
+mod Telling
