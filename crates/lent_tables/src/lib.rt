@@ -1,13 +1,15 @@
-//! Tables for C: rows of numbers and of places in one text, written into memory that the caller lends, and what a call answers.
-//! It knows nothing of what the tables show.
+//! Tables for C: rows of numbers and of places in one text, written into memory that the caller lends, and what a call
+//! answers. It knows nothing of what the tables show, but that a line has a head and fields, each of which is a row.
 #![tactic(auto)]
 
 mod answering;
+mod fields;
 mod status;
 mod table;
 mod words;
 
 pub use answering::answer;
+pub use fields::{ABSENT, FieldRow, Fields, HeadRow, NUMBER, TEXT};
 pub use status::{
     BAD_FIELDS, LINE_TOO_LONG, NO_COMMAND, NO_MEMORY, NO_REPLY, NO_ROOM, NOT_THERE, NOTHING_LISTED,
     OK, OUT_OF_RANGE, REQUEST_TOO_LONG, WORD_SKIPPED,

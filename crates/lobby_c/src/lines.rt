@@ -4,21 +4,21 @@ ghost use Rattle.std.specs.Prelude.{◌≡◌, ◌∷◌, [], IsTrue, nat_eq};
 ghost use Rattle.std.specs.List.{list_any};
 ghost use Rattle.lent_tables.specs.Answers.{lent, no_memory, no_reply, ok, Shows};
 ghost use Rattle.reply_kinds.specs.Replies.{Line, ReadsAs};
-ghost use Rattle.lobby_lines.specs.Fields.{field_row, field_shown};
+ghost use Rattle.lent_tables.specs.Fields.{field_row, field_shown};
 ghost use Rattle.lobby_lines.specs.Replies.{fields_of, HeadOf};
 ghost use Rattle.request_lines.specs.Requests.{request_of};
 ghost use Rattle.lobby_c.specs.Lines.{Gave, Told, status_of};
 
 use lent_tables::{
-    BAD_FIELDS, NO_COMMAND, NO_MEMORY, NO_REPLY, NO_ROOM, NOTHING_LISTED, OK, OUT_OF_RANGE,
-    REQUEST_TOO_LONG, Size, WORD_SKIPPED, answer,
+    BAD_FIELDS, FieldRow, HeadRow, NO_COMMAND, NO_MEMORY, NO_REPLY, NO_ROOM, NOTHING_LISTED, OK,
+    OUT_OF_RANGE, REQUEST_TOO_LONG, Size, WORD_SKIPPED, answer,
 };
-use lobby_lines::{FieldRow, HeadRow, ReplyRead, read_reply};
+use lobby_lines::{ReplyRead, read_reply};
 use request_lines::{RequestError, print_request};
-use std::alloc::Global;
+use std::alloc::{AllocError, Global};
 
-/// The head and the fields of the reply that a line, without its LF, reads as: `OK`, `NO_ROOM` or `NO_MEMORY`, as for a table. `NO_REPLY`
-/// where it reads as none. `head` is written with the table alone.
+/// The head and the fields of the reply that a line, without its LF, reads as: `OK`, `NO_ROOM` or `NO_MEMORY`, as for
+/// a table. `NO_REPLY` where it reads as none. `head` is written with the table alone.
 #[unsafe(no_mangle)]
 pub extern "C" fn lobby_read_reply(
     alloc: Global,
@@ -28,9 +28,11 @@ pub extern "C" fn lobby_read_reply(
     text: &mut [u8],
     size: &mut Size,
 ) -> u32
-    ensures shown { (pair : Line) → ReadsAs line.now pair → Shows field_row field_shown (fields_of pair.1) result (lent rows.old text.old size.old) (lent rows.new text.new size.new) }
+    ensures shown { (pair : Line) → ReadsAs line.now pair → Shows field_row field_shown (fields_of pair.1)
+        result (lent rows.old text.old size.old) (lent rows.new text.new size.new) }
     ensures head { (pair : Line) → ReadsAs line.now pair → result ≡ ok → HeadOf head.new pair }
-    ensures other { ((pair : Line) → ReadsAs line.now pair → ⊥) → IsTrue (list_any (nat_eq result) (no_reply ∷ no_memory ∷ [])) }
+    ensures other { ((pair : Line) → ReadsAs line.now pair → ⊥)
+        → IsTrue (list_any (nat_eq result) (no_reply ∷ no_memory ∷ [])) }
     ensures kept { (result ≡ ok → ⊥) → head.new ≡ head.old }
     ensures none { result ≡ no_reply → lent rows.new text.new size.new ≡ lent rows.old text.old size.old }
     ensures refused { result ≡ no_memory → lent rows.new text.new size.new ≡ lent rows.old text.old size.old }
@@ -51,12 +53,13 @@ pub extern "C" fn lobby_read_reply(
             status
         }
         Ok(None) => NO_REPLY,
-        Err(_) => NO_MEMORY,
+        Err(AllocError) => NO_MEMORY,
     }
 }
 
-/// Prints the request of this kind, message id and fields into the front of `line`: `OK`, and `size` is the length of its line.
-/// `NO_ROOM`, and `size` alone changes. Where there is no such request, or memory is refused, the answer says why, and nothing changes.
+/// Prints the request of this kind, message id and fields into the front of `line`: `OK`, and `size` is the length of
+/// its line. `NO_ROOM`, and `size` alone changes. Where there is no such request, or memory is refused, the answer
+/// says why, and nothing changes.
 #[unsafe(no_mangle)]
 pub extern "C" fn lobby_print_request(
     alloc: Global,

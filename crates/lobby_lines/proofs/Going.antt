@@ -1,16 +1,13 @@
 -- Arguments that are read one behind the other.
-use Rattle.std.proofs.Common.{◌≡◌, ◌++◌, ◌+◌, ◌<◌, ◌≤◌, List, [], ◌∷◌, ℕ, length, refl, sym, ap, ◌∙◌, subst, map, drop, get_or, cond}
-use Rattle.std.proofs.lemmas.List.{drop_more, drop_all}
+use Rattle.std.proofs.Common.{◌≡◌, ◌++◌, List, [], ◌∷◌, ℕ, length, refl, sym, ap, ◌∙◌, subst, cond}
 use Rattle.std.specs.Prelude.{Option, Some, None, Bool, true, false, ◌==◌, Result, Ok, Err, IfOk, IfErr}
 use Rattle.reply_kinds.specs.Kinds.{Kind}
 use Rattle.reply_fields.specs.Fields.{◌>>=◌, Fails, Gives, if_end}
 use Rattle.reply_fields.specs.declared.error.ReadError.{ReadError}
 use Rattle.reply_fields.specs.declared.error.ReadError.TheVariants as errors
-use Rattle.lobby_lines.specs.declared.reply_table.ReplyKind.{ReplyKind}
-use Rattle.lobby_lines.specs.Replies.{kind_of}
-use Rattle.lobby_lines.specs.Fields.{Field, Laid, Adds}
+use Rattle.lent_tables.specs.Fields.{Field, Laid, Adds}
 use Rattle.lobby_lines.specs.Reading.{field_seen, seen_from, Took, TookAll}
-use Rattle.lobby_lines.proofs.Adding.{adds_none, adds_both}
+use Rattle.lent_tables.proofs.Adding.{adds_none, adds_both}
 
 -- these kinds and bytes are left of all, and the fields of the others were added
 pub record Going (ks all : List Kind) (rest bytes : List ℕ) (old new : Laid) : Type 0 where
@@ -63,11 +60,3 @@ pub ends_so : (r : Result (Unit {0}) ReadError) (all : List Kind) (rest bytes : 
     → IfOk r (λ _. TookAll (seen_from [] all bytes) old now) × IfErr r (λ e. Fails e (seen_from [] all bytes))
 ends_so (Ok u) all rest bytes old now end g = (ends all rest bytes old now g end, tt)
 ends_so (Err e) all rest bytes old now end g = (tt, left_over e all rest bytes old now g end)
-
--- the next kind that a loop takes
-pub next_kind : (kinds : List ReplyKind) (i : ℕ) (d : ReplyKind) → i < length kinds
-    → map kind_of (drop i kinds) ≡ kind_of (get_or kinds i d) ∷ map kind_of (drop (i + 1) kinds)
-next_kind kinds i d within = ap (map kind_of) (drop_more kinds i d within)
-
-pub no_kind : (kinds : List ReplyKind) (i : ℕ) → length kinds ≤ i → map kind_of (drop i kinds) ≡ []
-no_kind kinds i past = ap (map kind_of) (drop_all i kinds past)

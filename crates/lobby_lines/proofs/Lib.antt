@@ -1,4 +1,3 @@
-mod Adding
 mod Going
 mod Numbers
 mod Telling

@@ -12,9 +12,9 @@ use Rattle.reply_reader.specs.Reading.{field, fields, shaped}
 use Rattle.reply_reader.specs.Lines.{read_arguments, read_line, reply_of_values}
 use Rattle.reply_reader.specs.Heads.{with_id}
 use Rattle.reply_reader.proofs.Behind.{reads_reply, reads_none}
-use Rattle.lobby_lines.specs.declared.fields.FieldRow.{FieldRow}
-use Rattle.lobby_lines.specs.declared.fields.HeadRow.{HeadRow}
-use Rattle.lobby_lines.specs.Fields.{Field, Laid, laid, Adds, field_row, field_shown}
+use Rattle.lent_tables.specs.declared.fields.FieldRow.{FieldRow}
+use Rattle.lent_tables.specs.declared.fields.HeadRow.{HeadRow}
+use Rattle.lent_tables.specs.Fields.{Field, Laid, laid, Adds, field_row, field_shown}
 use Rattle.lobby_lines.specs.Reading.{seen_from, TookAll}
 use Rattle.lobby_lines.specs.Replies.{shown, all_shown, fields_of, numbered, IdIs, HeadOf}
 

@@ -1,14 +1,18 @@
 -- A line read as fields.
 use Rattle.std.specs.Prelude.{◌≡◌, ◌++◌, ℕ, List, [], ◌∷◌, Option, Some, None}
 use Rattle.reply_kinds.specs.Kinds.{Kind}
-use Rattle.reply_fields.specs.Fields.{◌>>=◌, if_end}
+use Rattle.reply_fields.specs.Fields.{◌>>=◌, if_end, sentence_at}
 use Rattle.reply_reader.specs.Reading.{field}
-use Rattle.lobby_lines.specs.Fields.{Field, Laid, Adds}
-use Rattle.lobby_lines.specs.Replies.{shown}
+use Rattle.lent_tables.specs.Fields.{Field, Laid, Adds}
+use Rattle.lobby_lines.specs.Replies.{one_text, shown}
 
 -- the fields of one argument, and the bytes behind it
 abbrev pub field_seen : Kind → List ℕ → Option (List Field × List ℕ)
 field_seen k bytes = field k bytes >>= λ x. Some (shown k x.0, x.1)
+
+-- the same of a sentence behind this mark
+abbrev pub sentence_seen : ℕ → List ℕ → Option (List Field × List ℕ)
+sentence_seen mark bytes = sentence_at mark bytes >>= λ x. Some (one_text x.0, x.1)
 
 -- the fields of arguments of these kinds, to the end, behind those that are there
 abbrev pub seen_from : List Field → List Kind → List ℕ → Option (List Field)

@@ -7,10 +7,10 @@ use Rattle.reply_kinds.specs.Kinds as kind
 use Rattle.reply_kinds.specs.Kinds.{Kind, Value, Values}
 use Rattle.reply_kinds.specs.Replies.{battle_number, status_word, port_number, command_of, kinds_of, values_of, Line}
 use Rattle.reply_reader.specs.Lines.{commands}
-use Rattle.lobby_lines.specs.declared.fields.HeadRow.{HeadRow}
+use Rattle.lent_tables.specs.declared.fields.HeadRow.{HeadRow}
 use Rattle.lobby_lines.specs.declared.reply_table.ReplyKind.{ReplyKind}
 use Rattle.lobby_lines.specs.declared.reply_table.ReplyKind.TheVariants as ours
-use Rattle.lobby_lines.specs.Fields.{Field, Absent, Text, Number}
+use Rattle.lent_tables.specs.Fields.{Field, Absent, Text, Number}
 
 -- what a kind is called in the protocol's table
 abbrev pub kind_of : ReplyKind → Kind

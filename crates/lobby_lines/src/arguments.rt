@@ -4,12 +4,12 @@ ghost use Rattle.std.specs.Prelude.{IfErr, IfOk, [], flat_map, map};
 ghost use Rattle.reply_kinds.specs.Kinds as kind;
 ghost use Rattle.reply_kinds.specs.Replies.{battle_number, port_number, status_word};
 ghost use Rattle.reply_fields.specs.Fields.{Fails};
-ghost use Rattle.lobby_lines.specs.Fields.{Adds};
-ghost use Rattle.lobby_lines.specs.Reading.{field_seen, seen_from, Took, TookAll};
+ghost use Rattle.lent_tables.specs.Fields.{Adds};
+ghost use Rattle.lobby_lines.specs.Reading.{field_seen, seen_from, sentence_seen, Took, TookAll};
 ghost use Rattle.lobby_lines.specs.Replies.{kind_of, one_text, two_texts};
 
-use crate::fields::Fields;
 use crate::reply_table::ReplyKind;
+use lent_tables::Fields;
 use line_words::{NameBuf, Pair, WordBuf};
 use reply_fields::{
     ReadError, battle_at, ended, flag_at, name_at, names_at, optional_at, pairs_at, sentence_at,
@@ -41,7 +41,8 @@ fn put_argument<'a>(
     bytes: &'a [u8],
     fields: &mut Fields,
 ) -> Result<&'a [u8], ReadError>
-    ensures read { IfOk result (λ rest. Took (field_seen (kind_of kind) bytes.entry.now) rest.now fields.old fields.new) }
+    ensures read { IfOk result (λ rest. Took (field_seen (kind_of kind) bytes.entry.now)
+        rest.now fields.old fields.new) }
     ensures unread { IfErr result (λ e. Fails e (field_seen (kind_of kind) bytes.entry.now)) }
 {
     match kind {
@@ -56,8 +57,8 @@ fn put_argument<'a>(
         ReplyKind::OptionalWord => put_optional(alloc, bytes, fields),
         ReplyKind::Words => put_words(alloc, bytes, fields),
         ReplyKind::Names => put_names(alloc, bytes, fields),
-        ReplyKind::Sentence => put_sentence(alloc, bytes, fields),
-        ReplyKind::NextSentence => put_next_sentence(alloc, bytes, fields),
+        ReplyKind::Sentence => put_sentence(alloc, bytes, b' ', fields),
+        ReplyKind::NextSentence => put_sentence(alloc, bytes, b'\t', fields),
         ReplyKind::Text => put_text(alloc, bytes, fields),
         ReplyKind::Pairs => put_pairs(alloc, bytes, fields),
     }
@@ -82,7 +83,8 @@ fn put_name<'a>(alloc: Global, bytes: &'a [u8], fields: &mut Fields) -> Result<&
 }
 
 fn put_battle<'a>(bytes: &'a [u8], fields: &mut Fields) -> Result<&'a [u8], ReadError>
-    ensures read { IfOk result (λ rest. Took (field_seen battle_number bytes.entry.now) rest.now fields.old fields.new) }
+    ensures read { IfOk result (λ rest. Took (field_seen battle_number bytes.entry.now)
+        rest.now fields.old fields.new) }
     ensures unread { IfErr result (λ e. Fails e (field_seen battle_number bytes.entry.now)) }
 {
     let (battle, rest) = battle_at(bytes)?;
@@ -109,7 +111,8 @@ fn put_port<'a>(bytes: &'a [u8], fields: &mut Fields) -> Result<&'a [u8], ReadEr
 }
 
 fn put_small<'a>(bytes: &'a [u8], high: u8, fields: &mut Fields) -> Result<&'a [u8], ReadError>
-    ensures read { IfOk result (λ rest. Took (field_seen (kind.Number 0 high) bytes.entry.now) rest.now fields.old fields.new) }
+    ensures read { IfOk result (λ rest. Took (field_seen (kind.Number 0 high) bytes.entry.now)
+        rest.now fields.old fields.new) }
     ensures unread { IfErr result (λ e. Fails e (field_seen (kind.Number 0 high) bytes.entry.now)) }
 {
     let (number, rest) = small_at(bytes, high)?;
@@ -140,7 +143,8 @@ fn put_optional<'a>(
     bytes: &'a [u8],
     fields: &mut Fields,
 ) -> Result<&'a [u8], ReadError>
-    ensures read { IfOk result (λ rest. Took (field_seen kind.OptionalWord bytes.entry.now) rest.now fields.old fields.new) }
+    ensures read { IfOk result (λ rest. Took (field_seen kind.OptionalWord bytes.entry.now)
+        rest.now fields.old fields.new) }
     ensures unread { IfErr result (λ e. Fails e (field_seen kind.OptionalWord bytes.entry.now)) }
 {
     let (word, rest) = optional_at(alloc, bytes)?;
@@ -151,28 +155,17 @@ fn put_optional<'a>(
     Ok(rest)
 }
 
+// A sentence behind this mark.
 fn put_sentence<'a>(
     alloc: Global,
     bytes: &'a [u8],
+    mark: u8,
     fields: &mut Fields,
 ) -> Result<&'a [u8], ReadError>
-    ensures read { IfOk result (λ rest. Took (field_seen kind.Sentence bytes.entry.now) rest.now fields.old fields.new) }
-    ensures unread { IfErr result (λ e. Fails e (field_seen kind.Sentence bytes.entry.now)) }
+    ensures read { IfOk result (λ rest. Took (sentence_seen mark bytes.entry.now) rest.now fields.old fields.new) }
+    ensures unread { IfErr result (λ e. Fails e (sentence_seen mark bytes.entry.now)) }
 {
-    let (sentence, rest) = sentence_at(alloc, bytes, b' ')?;
-    fields.put_text(sentence.as_slice())?;
-    Ok(rest)
-}
-
-fn put_next_sentence<'a>(
-    alloc: Global,
-    bytes: &'a [u8],
-    fields: &mut Fields,
-) -> Result<&'a [u8], ReadError>
-    ensures read { IfOk result (λ rest. Took (field_seen kind.NextSentence bytes.entry.now) rest.now fields.old fields.new) }
-    ensures unread { IfErr result (λ e. Fails e (field_seen kind.NextSentence bytes.entry.now)) }
-{
-    let (sentence, rest) = sentence_at(alloc, bytes, b'\t')?;
+    let (sentence, rest) = sentence_at(alloc, bytes, mark)?;
     fields.put_text(sentence.as_slice())?;
     Ok(rest)
 }

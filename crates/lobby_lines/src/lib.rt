@@ -4,9 +4,7 @@
 #![tactic(auto)]
 
 mod arguments;
-mod fields;
 mod reading;
 mod reply_table;
 
-pub use fields::{ABSENT, FieldRow, HeadRow, NUMBER, TEXT};
 pub use reading::{ReplyRead, read_reply};

@@ -3,13 +3,12 @@
 ghost use Rattle.std.specs.Prelude.{◌≡◌, ℕ, List, IfNone, IfOk, IfSome};
 ghost use Rattle.lent_tables.specs.Layout.{IsTable};
 ghost use Rattle.reply_kinds.specs.Replies.{Line, ReadsAs};
-ghost use Rattle.lobby_lines.specs.Fields.{field_row, field_shown};
+ghost use Rattle.lent_tables.specs.Fields.{field_row, field_shown};
 ghost use Rattle.lobby_lines.specs.Replies.{fields_of, HeadOf, IdIs};
 
 use crate::arguments::put_arguments;
-use crate::fields::{FieldRow, Fields, HeadRow};
 use crate::reply_table::{kinds_of, number_of};
-use lent_tables::Table;
+use lent_tables::{FieldRow, Fields, HeadRow, Table};
 use reply_fields::ReadError;
 use reply_reader::read_head;
 use std::alloc::{AllocError, Global};
@@ -22,10 +21,11 @@ pub struct ReplyRead {
     pub fields: Table<FieldRow>,
 }
 
-/// The head and the fields of the reply that a line, without its LF, reads as, as `read_reply` of `reply_reader`: it keeps
-/// its kinds and prints as the line. None where there is no such reply. Fails only where memory is refused.
+/// The head and the fields of the reply that a line, without its LF, reads as, as `read_reply` of `reply_reader`: it
+/// keeps its kinds and prints as the line. None where there is no such reply. Fails only where memory is refused.
 pub fn read_reply(alloc: Global, line: &[u8]) -> Result<Option<ReplyRead>, AllocError>
-    ensures some { IfOk result (λ found. IfSome found (λ read. (pair : Line) × ReadsAs line.now pair × HeadOf read.head pair
+    ensures some { IfOk result
+        (λ found. IfSome found (λ read. (pair : Line) × ReadsAs line.now pair × HeadOf read.head pair
         × IsTable field_row field_shown (fields_of pair.1) read.fields.rows.items read.fields.text.items)) }
     ensures none { IfOk result (λ found. IfNone found ((pair : Line) → ReadsAs line.now pair → ⊥)) }
 {

@@ -9,6 +9,15 @@ use crate::reply_table::ReplyKind::{
     Text, Wide, Word, Words,
 };
 use reply_kinds::CommandWord;
+use reply_kinds::CommandWord::{
+    Accepted, AddBot, AddStartRect, AddUser, BattleClosed, BattleOpened, Channel,
+    ClientBattleStatus, ClientStatus, Clients, Denied, DisableUnits, EnableAllUnits, EnableUnits,
+    EndOfChannels, ForceQuitBattle, Join, JoinBattle, JoinBattleFailed, JoinBattleRequest,
+    JoinFailed, Joined, JoinedBattle, Left, LeftBattle, LoginInfoEnd, Motd, OpenBattle,
+    OpenBattleFailed, Pong, RemoveBot, RemoveScriptTags, RemoveStartRect, RemoveUser,
+    RequestBattleStatus, Ring, Said, SaidBattle, SaidBattleEx, SaidEx, SaidPrivate, SayPrivate,
+    ServerMsg, SetScriptTags, TasServer, UpdateBattleInfo, UpdateBot,
+};
 
 /// The kind of an argument of a reply, as docs/PROTOCOL.md has them.
 #[derive(Clone, Copy)]
@@ -38,6 +47,25 @@ pub(crate) enum ReplyKind {
     Pairs,
 }
 
+/// The arguments of `BATTLEOPENED`.
+static BATTLE_OPENED: [ReplyKind; 15] = [
+    Battle,
+    Small(1),
+    Small(2),
+    Name,
+    Word,
+    Port,
+    Port,
+    Flag,
+    Wide,
+    Wide,
+    Sentence,
+    NextSentence,
+    NextSentence,
+    NextSentence,
+    NextSentence,
+];
+
 /// The number of a reply's command word, from 1 on, in the order of `CommandWord`.
 pub(crate) fn number_of(command: CommandWord) -> u32
     ensures { numbered result ≡ Some command }
@@ -50,62 +78,35 @@ pub(crate) fn kinds_of(command: CommandWord) -> &'static [ReplyKind]
     ensures { map kind_of result.now ≡ kinds_of command }
 {
     match command {
-        CommandWord::TasServer => &[Word, Word, Port, Small(1)],
-        CommandWord::AddUser => &[Name, Word, Wide, Status],
-        CommandWord::ClientStatus | CommandWord::Channel => &[Name, Status],
-        CommandWord::Denied
-        | CommandWord::Motd
-        | CommandWord::ServerMsg
-        | CommandWord::OpenBattleFailed
-        | CommandWord::JoinBattleFailed => &[Text],
-        CommandWord::Accepted | CommandWord::RemoveUser | CommandWord::Join | CommandWord::Ring =>
-            &[Name],
-        CommandWord::Clients => &[Name, Names],
-        CommandWord::Joined | CommandWord::Left => &[Name, Name],
-        CommandWord::Said | CommandWord::SaidEx => &[Name, Name, Text],
-        CommandWord::JoinFailed
-        | CommandWord::SayPrivate
-        | CommandWord::SaidPrivate
-        | CommandWord::SaidBattle
-        | CommandWord::SaidBattleEx => &[Name, Text],
-        CommandWord::BattleOpened => &[
-            Battle,
-            Small(1),
-            Small(2),
-            Name,
-            Word,
-            Port,
-            Port,
-            Flag,
-            Wide,
-            Wide,
-            Sentence,
-            NextSentence,
-            NextSentence,
-            NextSentence,
-            NextSentence,
-        ],
-        CommandWord::OpenBattle | CommandWord::BattleClosed => &[Battle],
-        CommandWord::JoinBattle => &[Battle, Wide],
-        CommandWord::JoinBattleRequest => &[Name, Word],
-        CommandWord::JoinedBattle => &[Battle, Name, OptionalWord],
-        CommandWord::LeftBattle => &[Battle, Name],
-        CommandWord::UpdateBattleInfo => &[Battle, Port, Flag, Wide, Sentence],
-        CommandWord::ClientBattleStatus => &[Name, Status, Wide],
-        CommandWord::AddBot => &[Battle, Word, Name, Status, Wide, Sentence],
-        CommandWord::UpdateBot => &[Battle, Word, Status, Wide],
-        CommandWord::RemoveBot => &[Battle, Word],
-        CommandWord::AddStartRect => &[Small(15), Small(200), Small(200), Small(200), Small(200)],
-        CommandWord::RemoveStartRect => &[Small(15)],
-        CommandWord::SetScriptTags => &[Pairs],
-        CommandWord::RemoveScriptTags | CommandWord::DisableUnits | CommandWord::EnableUnits => &[
-            Words,
-        ],
-        CommandWord::LoginInfoEnd
-        | CommandWord::Pong
-        | CommandWord::EndOfChannels
-        | CommandWord::RequestBattleStatus
-        | CommandWord::ForceQuitBattle
-        | CommandWord::EnableAllUnits => &[],
+        TasServer => &[Word, Word, Port, Small(1)],
+        AddUser => &[Name, Word, Wide, Status],
+        ClientStatus | Channel => &[Name, Status],
+        Denied | Motd | ServerMsg | OpenBattleFailed | JoinBattleFailed => &[Text],
+        Accepted | RemoveUser | Join | Ring => &[Name],
+        Clients => &[Name, Names],
+        Joined | Left => &[Name, Name],
+        Said | SaidEx => &[Name, Name, Text],
+        JoinFailed | SayPrivate | SaidPrivate | SaidBattle | SaidBattleEx => &[Name, Text],
+        BattleOpened => &BATTLE_OPENED,
+        OpenBattle | BattleClosed => &[Battle],
+        JoinBattle => &[Battle, Wide],
+        JoinBattleRequest => &[Name, Word],
+        JoinedBattle => &[Battle, Name, OptionalWord],
+        LeftBattle => &[Battle, Name],
+        UpdateBattleInfo => &[Battle, Port, Flag, Wide, Sentence],
+        ClientBattleStatus => &[Name, Status, Wide],
+        AddBot => &[Battle, Word, Name, Status, Wide, Sentence],
+        UpdateBot => &[Battle, Word, Status, Wide],
+        RemoveBot => &[Battle, Word],
+        AddStartRect => &[Small(15), Small(200), Small(200), Small(200), Small(200)],
+        RemoveStartRect => &[Small(15)],
+        SetScriptTags => &[Pairs],
+        RemoveScriptTags | DisableUnits | EnableUnits => &[Words],
+        LoginInfoEnd
+        | Pong
+        | EndOfChannels
+        | RequestBattleStatus
+        | ForceQuitBattle
+        | EnableAllUnits => &[],
     }
 }

@@ -1,6 +1,6 @@
 -- Arguments that are written one behind the other.
-use Rattle.std.proofs.Common.{◌≡◌, ◌++◌, ◌+◌, ◌<◌, ◌≤◌, ◌∙◌, ℕ, List, [], ◌∷◌, length, refl, sym, ap, subst, append_assoc, map, drop, get_or, arith}
-use Rattle.std.proofs.lemmas.List.{append-nil, drop_more, drop_all}
+use Rattle.std.proofs.Common.{◌≡◌, ◌++◌, ◌+◌, ◌<◌, ◌∙◌, ℕ, List, [], ◌∷◌, length, refl, sym, ap, subst, append_assoc, arith}
+use Rattle.std.proofs.lemmas.List.{append-nil}
 use Rattle.std.specs.Prelude.{Bool, true, false, ◌||◌, ◌==◌, Result, Ok, Err}
 use Rattle.line_words.specs.Bytes.{is_key, is_sentence, is_word}
 use Rattle.line_words.specs.declared.lists.Pair.{Pair}
@@ -8,11 +8,10 @@ use Rattle.command_forms.specs.Table as kind
 use Rattle.command_forms.specs.Table.{Kind}
 use Rattle.reply_kinds.specs.Kinds.{words_text, pairs_text}
 use Rattle.request_printer.specs.Writing.{mark_behind}
-use Rattle.lobby_lines.specs.declared.fields.FieldRow.{FieldRow}
+use Rattle.lent_tables.specs.declared.fields.FieldRow.{FieldRow}
 use Rattle.request_lines.specs.declared.error.RequestError.{RequestError}
 use Rattle.request_lines.specs.declared.error.RequestError.TheVariants as error
-use Rattle.request_lines.specs.declared.request_table.RequestKind.{RequestKind}
-use Rattle.request_lines.specs.Requests.{◌>>=◌, all_pairs, all_words, kind_of, listed, text_of, unless_skipped}
+use Rattle.request_lines.specs.Requests.{◌>>=◌, all_pairs, all_words, listed, text_of, unless_skipped}
 use Rattle.request_lines.specs.Writing.{Part, Blames, Put, PutAll, pair_part, pairs_put, part, parts, words_put}
 
 -- what is left of all is to be written behind what stands
@@ -223,11 +222,3 @@ module _ (all : Result (List ℕ) RequestError) (m absent n : Bool) (mark : ℕ)
           let is_p = subst (λ a. unless_skipped m a (Ok (m || a)) ≡ Err e) put.1 is in
           stops e all _ old now g
           (skipped_so m p.absent e (parts (m || p.absent) (mark_behind k mark) text ks p.behind >>= λ t. Ok (p.text ++ t)) is_p)
-
--- the next kind that a loop takes
-pub next_kind : (kinds : List RequestKind) (i : ℕ) (d : RequestKind) → i < length kinds
-    → map kind_of (drop i kinds) ≡ kind_of (get_or kinds i d) ∷ map kind_of (drop (i + 1) kinds)
-next_kind kinds i d within = ap (map kind_of) (drop_more kinds i d within)
-
-pub no_kind : (kinds : List RequestKind) (i : ℕ) → length kinds ≤ i → map kind_of (drop i kinds) ≡ []
-no_kind kinds i past = ap (map kind_of) (drop_all i kinds past)

@@ -15,8 +15,8 @@ use Rattle.request_printer.specs.Faults.{is_absent, all_absent, has_gap, in_rang
 use Rattle.request_printer.specs.Writing.{written, mark_behind, all_written, HasWord, line_under}
 use Rattle.request_printer.specs.declared.error.PrintError.TheVariants as print
 use Rattle.request_printer.proofs.Told.{printed, line_refused}
-use Rattle.lobby_lines.specs.declared.fields.FieldRow.{FieldRow}
-use Rattle.lobby_lines.specs.declared.fields.HeadRow.{HeadRow}
+use Rattle.lent_tables.specs.declared.fields.FieldRow.{FieldRow}
+use Rattle.lent_tables.specs.declared.fields.HeadRow.{HeadRow}
 use Rattle.request_lines.specs.declared.error.RequestError.{RequestError}
 use Rattle.request_lines.specs.declared.error.RequestError.TheVariants as error
 use Rattle.request_lines.specs.declared.request_table.RequestRow.{RequestRow}

@@ -1,6 +1,6 @@
 -- The request that a head and rows of fields are.
-use Rattle.std.specs.Prelude.{◌+◌, ℕ, zero, suc, ℤ, pos, negsuc, Bool, false, not, ◌&&◌, ◌||◌, ◌==◌, nat_le, if◌then◌else◌}
-use Rattle.std.specs.Prelude.{List, [], ◌∷◌, length, take, drop, slice_get, Option, Some, None, Result, Ok, Err}
+use Rattle.std.specs.Prelude.{ℕ, zero, suc, ℤ, pos, negsuc, Bool, false, not, ◌&&◌, ◌||◌, ◌==◌, nat_le, if◌then◌else◌}
+use Rattle.std.specs.Prelude.{List, [], ◌∷◌, slice_get, Option, Some, None, ok_or, Result, Ok, Err}
 use Rattle.line_words.specs.Bytes.{is_word, is_name, is_key, is_sentence, is_text}
 use Rattle.line_words.specs.Kinds.{is_wide}
 use Rattle.line_words.specs.declared.lists.Pair.{Pair}
@@ -10,10 +10,13 @@ use Rattle.command_forms.specs.Table as kind
 use Rattle.command_forms.specs.Table.{Kind, Value, Values, Entry, entries}
 use Rattle.command_grammar.specs.Reads.{id_limit}
 use Rattle.request_printer.specs.Faults.{is_absent}
-use Rattle.lobby_lines.specs.declared.fields.FieldRow.{FieldRow}
-use Rattle.lobby_lines.specs.declared.fields.HeadRow.{HeadRow}
+use Rattle.lent_tables.specs.declared.fields.FieldRow.{FieldRow}
+use Rattle.lent_tables.specs.declared.fields.HeadRow.{HeadRow}
+use Rattle.lent_tables.specs.Fields.{number_in, text_in}
 use Rattle.request_lines.specs.declared.error.RequestError.{RequestError}
 use Rattle.request_lines.specs.declared.error.RequestError.TheVariants as error
+use Rattle.request_lines.specs.declared.given.TextKind.{TextKind}
+use Rattle.request_lines.specs.declared.given.TextKind.TheVariants as texts
 use Rattle.request_lines.specs.declared.request_table.RequestKind.{RequestKind}
 use Rattle.request_lines.specs.declared.request_table.RequestKind.TheVariants as ours
 
@@ -48,17 +51,21 @@ abbrev pub seen : {X Y : Type 0} → (X → Y) → Result X RequestError → Res
 seen view (Ok x) = Ok (view x)
 seen view (Err e) = Err e
 
--- the bytes that a field has in the text, if it holds a text whose place lies inside
-abbrev pub bytes_in : List ℕ → FieldRow → Option (List ℕ)
-bytes_in text f = if f.holds == 1 && nat_le (f.text.start + f.text.length) (length text) then Some (take f.text.length (drop f.text.start text)) else None
+-- what a text of this kind is tested by
+abbrev pub test_of : TextKind → List ℕ → Bool
+test_of texts.Word = is_word
+test_of texts.Name = is_name
+test_of texts.Key = is_key
+test_of texts.Sentence = is_sentence
+test_of texts.Text = is_text
 
--- those of a field that pass the test
+-- the bytes of a field that pass the test
 abbrev pub if_is : (List ℕ → Bool) → Option (List ℕ) → Result (List ℕ) RequestError
 if_is test None = Err error.BadFields
 if_is test (Some w) = if test w then Ok w else Err error.BadFields
 
 abbrev pub text_of : (List ℕ → Bool) → List ℕ → FieldRow → Result (List ℕ) RequestError
-text_of test text f = if_is test (bytes_in text f)
+text_of test text f = if_is test (text_in text f)
 
 -- the same, or nothing where the field is absent
 abbrev pub optional_of : (List ℕ → Bool) → List ℕ → FieldRow → Result (Option (List ℕ)) RequestError
@@ -70,7 +77,7 @@ if_natural high (pos n) = if nat_le n high then Ok n else Err error.OutOfRange
 if_natural high (negsuc n) = Err error.OutOfRange
 
 abbrev pub number_of : FieldRow → Result ℤ RequestError
-number_of f = if f.holds == 2 then Ok f.number else Err error.BadFields
+number_of f = ok_or (number_in f) error.BadFields
 
 abbrev pub natural_of : ℕ → FieldRow → Result ℕ RequestError
 natural_of high f = number_of f >>= if_natural high

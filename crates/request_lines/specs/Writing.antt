@@ -1,16 +1,16 @@
 -- A request written from its fields.
-use Rattle.std.specs.Prelude.{◌≡◌, ◌++◌, ℕ, Bool, false, ◌||◌, List, [], ◌∷◌, Result, Ok, Err}
+use Rattle.std.specs.Prelude.{◌≡◌, ◌++◌, ℕ, Bool, false, not, ◌||◌, List, [], ◌∷◌, Result, Ok, Err, is_some}
 use Rattle.line_words.specs.Bytes.{is_key, is_sentence}
 use Rattle.command_forms.specs.Table.{Kind}
 use Rattle.command_forms.specs.declared.command.Request.{Request}
-use Rattle.reply_kinds.specs.Kinds.{words_text, pairs_text}
+use Rattle.reply_kinds.specs.Kinds.{optional_text, words_text, pairs_text}
 use Rattle.request_printer.specs.Faults.{is_absent, Printed, Refuses}
 use Rattle.request_printer.specs.Writing.{written, mark_behind}
 use Rattle.request_printer.specs.declared.error.PrintError.TheVariants as print
-use Rattle.lobby_lines.specs.declared.fields.FieldRow.{FieldRow}
+use Rattle.lent_tables.specs.declared.fields.FieldRow.{FieldRow}
 use Rattle.request_lines.specs.declared.error.RequestError.{RequestError}
 use Rattle.request_lines.specs.declared.error.RequestError.TheVariants as error
-use Rattle.request_lines.specs.Requests.{◌>>=◌, all_words, all_pairs, argument, first, text_of, unless_skipped}
+use Rattle.request_lines.specs.Requests.{◌>>=◌, all_words, all_pairs, argument, first, one, optional_of, text_of, unless_skipped}
 
 -- what is written of one argument, whether it is absent, and the fields behind its own
 pub record Part : Type 0 where
@@ -21,7 +21,14 @@ pub record Part : Type 0 where
 abbrev pub part : ℕ → List ℕ → Kind → List FieldRow → Result Part RequestError
 part mark text k fs = argument text k fs >>= λ x. Ok (record { text = written mark k x.0; absent = is_absent k x.0; behind = x.1 })
 
--- the same of arguments of these kinds, to the last field
+-- the same of a text behind this mark, and of one that may be absent
+abbrev pub text_part : (List ℕ → Bool) → ℕ → List ℕ → List FieldRow → Result Part RequestError
+text_part test mark text fs = one (text_of test text) fs >>= λ x. Ok (record { text = mark ∷ x.0; absent = false; behind = x.1 })
+
+abbrev pub optional_part : (List ℕ → Bool) → List ℕ → List FieldRow → Result Part RequestError
+optional_part test text fs = one (optional_of test text) fs >>= λ x. Ok (record { text = optional_text x.0; absent = not (is_some x.0); behind = x.1 })
+
+-- and of arguments of these kinds, to the last field
 abbrev pub parts : Bool → ℕ → List ℕ → List Kind → List FieldRow → Result (List ℕ) RequestError
 parts missing mark text [] [] = Ok []
 parts missing mark text [] (f ∷ fs) = Err error.BadFields

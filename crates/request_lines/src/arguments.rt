@@ -1,20 +1,19 @@
 //! The arguments of a request, written one behind the other from its fields.
 //!
-//! Each function takes its fields from the front, and tells the fields that are left and whether the argument is absent. Where it
-//! fails a part may be written.
+//! Each function takes its fields from the front, and tells the fields that are left and whether the argument is
+//! absent. Where it fails a part may be written.
 
 ghost use Rattle.std.specs.Prelude.{◌≡◌, ◌||◌, [], IfErr, IfOk, Ok, false, map};
 ghost use Rattle.command_forms.specs.Table as kind;
 ghost use Rattle.request_printer.specs.Writing.{mark_behind};
-ghost use Rattle.request_lines.specs.Requests.{kind_of, unless_skipped};
-ghost use Rattle.request_lines.specs.Writing.{Blames, Put, PutAll, pair_part, pairs_put, part, parts, words_put};
+ghost use Rattle.request_lines.specs.Requests.{kind_of, test_of, unless_skipped};
+ghost use Rattle.request_lines.specs.Writing.{Blames, Put, PutAll, pairs_put, parts, words_put};
+ghost use Rattle.request_lines.specs.Writing.{optional_part, pair_part, part, text_part};
 
 use crate::error::RequestError;
-use crate::given::{
-    first, flag_of, is_absent, key_of, line_of, name_of, natural_of, sentence_of, wide_of, word_of,
-};
+use crate::given::{TextKind, first, flag_of, natural_of, text_of, wide_of};
 use crate::request_table::RequestKind;
-use lobby_lines::FieldRow;
+use lent_tables::FieldRow;
 use reply_printer::pieces;
 
 /// Writes arguments of these kinds, whose fields these are, all of them.
@@ -24,7 +23,8 @@ pub(crate) fn put_arguments(
     text: &[u8],
     line: &mut Vec<u8>,
 ) -> Result<(), RequestError>
-    ensures put { IfOk result (λ _. PutAll (parts false 32 text.now (map kind_of kinds.now) fields.now) line.old.items line.new.items) }
+    ensures put { IfOk result (λ _. PutAll (parts false 32 text.now (map kind_of kinds.now) fields.now)
+        line.old.items line.new.items) }
     ensures blamed { IfErr result (λ e. Blames e (parts false 32 text.now (map kind_of kinds.now) fields.now)) }
 {
     let mut rest = fields;
@@ -70,64 +70,59 @@ fn put_argument<'a>(
     text: &[u8],
     line: &mut Vec<u8>,
 ) -> Result<(&'a [FieldRow], bool), RequestError>
-    ensures put { IfOk result (λ x. Put (part mark text.now (kind_of kind) fields.entry.now) x.0.now x.1 line.old.items line.new.items) }
+    ensures put { IfOk result (λ x. Put (part mark text.now (kind_of kind) fields.entry.now)
+        x.0.now x.1 line.old.items line.new.items) }
     ensures blamed { IfErr result (λ e. Blames e (part mark text.now (kind_of kind) fields.entry.now)) }
 {
     match kind {
-        RequestKind::Word => put_word(fields, text, line),
-        RequestKind::OptionalWord => put_optional_word(fields, text, line),
-        RequestKind::Name => put_name(fields, text, line),
+        RequestKind::Word => put_text(TextKind::Word, b' ', fields, text, line),
+        RequestKind::OptionalWord => put_optional(TextKind::Word, fields, text, line),
+        RequestKind::Name => put_text(TextKind::Name, b' ', fields, text, line),
         RequestKind::Natural(high) => put_natural(high, fields, line),
         RequestKind::Wide => put_wide(fields, line),
         RequestKind::Flag => put_flag(fields, line),
-        RequestKind::Sentence => put_sentence(mark, fields, text, line),
-        RequestKind::Text => put_text(fields, text, line),
-        RequestKind::OptionalText => put_optional_text(fields, text, line),
+        RequestKind::Sentence => put_text(TextKind::Sentence, mark, fields, text, line),
+        RequestKind::Text => put_text(TextKind::Text, b' ', fields, text, line),
+        RequestKind::OptionalText => put_optional(TextKind::Text, fields, text, line),
         RequestKind::LoginFlags => put_login_flags(fields, line),
         RequestKind::Pairs => put_pairs(fields, text, line),
         RequestKind::Words => put_words(fields, text, line),
     }
 }
 
-fn put_word<'a>(
+// A text behind this mark.
+fn put_text<'a>(
+    kind: TextKind,
+    mark: u8,
     fields: &'a [FieldRow],
     text: &[u8],
     line: &mut Vec<u8>,
 ) -> Result<(&'a [FieldRow], bool), RequestError>
-    ensures put { IfOk result (λ x. Put (part 32 text.now kind.Word fields.entry.now) x.0.now x.1 line.old.items line.new.items) }
-    ensures blamed { IfErr result (λ e. Blames e (part 32 text.now kind.Word fields.entry.now)) }
+    ensures put { IfOk result (λ x. Put (text_part (test_of kind) mark text.now fields.entry.now)
+        x.0.now x.1 line.old.items line.new.items) }
+    ensures blamed { IfErr result (λ e. Blames e (text_part (test_of kind) mark text.now fields.entry.now)) }
 {
     let (field, behind) = first(fields)?;
-    pieces::put_behind(line, b' ', word_of(field, text)?)?;
+    pieces::put_behind(line, mark, text_of(kind, field, text)?)?;
     Ok((behind, false))
 }
 
-fn put_optional_word<'a>(
+// A text behind a space, or nothing.
+fn put_optional<'a>(
+    kind: TextKind,
     fields: &'a [FieldRow],
     text: &[u8],
     line: &mut Vec<u8>,
 ) -> Result<(&'a [FieldRow], bool), RequestError>
-    ensures put { IfOk result (λ x. Put (part 32 text.now kind.OptionalWord fields.entry.now) x.0.now x.1 line.old.items line.new.items) }
-    ensures blamed { IfErr result (λ e. Blames e (part 32 text.now kind.OptionalWord fields.entry.now)) }
+    ensures put { IfOk result (λ x. Put (optional_part (test_of kind) text.now fields.entry.now)
+        x.0.now x.1 line.old.items line.new.items) }
+    ensures blamed { IfErr result (λ e. Blames e (optional_part (test_of kind) text.now fields.entry.now)) }
 {
     let (field, behind) = first(fields)?;
-    if is_absent(field) {
+    if field.is_absent() {
         return Ok((behind, true));
     }
-    pieces::put_behind(line, b' ', word_of(field, text)?)?;
-    Ok((behind, false))
-}
-
-fn put_name<'a>(
-    fields: &'a [FieldRow],
-    text: &[u8],
-    line: &mut Vec<u8>,
-) -> Result<(&'a [FieldRow], bool), RequestError>
-    ensures put { IfOk result (λ x. Put (part 32 text.now kind.Name fields.entry.now) x.0.now x.1 line.old.items line.new.items) }
-    ensures blamed { IfErr result (λ e. Blames e (part 32 text.now kind.Name fields.entry.now)) }
-{
-    let (field, behind) = first(fields)?;
-    pieces::put_behind(line, b' ', name_of(field, text)?)?;
+    pieces::put_behind(line, b' ', text_of(kind, field, text)?)?;
     Ok((behind, false))
 }
 
@@ -136,7 +131,8 @@ fn put_natural<'a>(
     fields: &'a [FieldRow],
     line: &mut Vec<u8>,
 ) -> Result<(&'a [FieldRow], bool), RequestError>
-    ensures put { IfOk result (λ x. Put (part 32 [] (kind.Natural high) fields.entry.now) x.0.now x.1 line.old.items line.new.items) }
+    ensures put { IfOk result (λ x. Put (part 32 [] (kind.Natural high) fields.entry.now)
+        x.0.now x.1 line.old.items line.new.items) }
     ensures blamed { IfErr result (λ e. Blames e (part 32 [] (kind.Natural high) fields.entry.now)) }
 {
     let (field, behind) = first(fields)?;
@@ -148,7 +144,8 @@ fn put_wide<'a>(
     fields: &'a [FieldRow],
     line: &mut Vec<u8>,
 ) -> Result<(&'a [FieldRow], bool), RequestError>
-    ensures put { IfOk result (λ x. Put (part 32 [] kind.Wide fields.entry.now) x.0.now x.1 line.old.items line.new.items) }
+    ensures put { IfOk result (λ x. Put (part 32 [] kind.Wide fields.entry.now)
+        x.0.now x.1 line.old.items line.new.items) }
     ensures blamed { IfErr result (λ e. Blames e (part 32 [] kind.Wide fields.entry.now)) }
 {
     let (field, behind) = first(fields)?;
@@ -160,7 +157,8 @@ fn put_flag<'a>(
     fields: &'a [FieldRow],
     line: &mut Vec<u8>,
 ) -> Result<(&'a [FieldRow], bool), RequestError>
-    ensures put { IfOk result (λ x. Put (part 32 [] kind.Flag fields.entry.now) x.0.now x.1 line.old.items line.new.items) }
+    ensures put { IfOk result (λ x. Put (part 32 [] kind.Flag fields.entry.now)
+        x.0.now x.1 line.old.items line.new.items) }
     ensures blamed { IfErr result (λ e. Blames e (part 32 [] kind.Flag fields.entry.now)) }
 {
     let (field, behind) = first(fields)?;
@@ -168,54 +166,12 @@ fn put_flag<'a>(
     Ok((behind, false))
 }
 
-fn put_sentence<'a>(
-    mark: u8,
-    fields: &'a [FieldRow],
-    text: &[u8],
-    line: &mut Vec<u8>,
-) -> Result<(&'a [FieldRow], bool), RequestError>
-    ensures put { IfOk result (λ x. Put (part mark text.now kind.Sentence fields.entry.now) x.0.now x.1 line.old.items line.new.items) }
-    ensures blamed { IfErr result (λ e. Blames e (part mark text.now kind.Sentence fields.entry.now)) }
-{
-    let (field, behind) = first(fields)?;
-    pieces::put_behind(line, mark, sentence_of(field, text)?)?;
-    Ok((behind, false))
-}
-
-fn put_text<'a>(
-    fields: &'a [FieldRow],
-    text: &[u8],
-    line: &mut Vec<u8>,
-) -> Result<(&'a [FieldRow], bool), RequestError>
-    ensures put { IfOk result (λ x. Put (part 32 text.now kind.Text fields.entry.now) x.0.now x.1 line.old.items line.new.items) }
-    ensures blamed { IfErr result (λ e. Blames e (part 32 text.now kind.Text fields.entry.now)) }
-{
-    let (field, behind) = first(fields)?;
-    pieces::put_behind(line, b' ', line_of(field, text)?)?;
-    Ok((behind, false))
-}
-
-fn put_optional_text<'a>(
-    fields: &'a [FieldRow],
-    text: &[u8],
-    line: &mut Vec<u8>,
-) -> Result<(&'a [FieldRow], bool), RequestError>
-    ensures put { IfOk result (λ x. Put (part 32 text.now kind.OptionalText fields.entry.now) x.0.now x.1 line.old.items line.new.items) }
-    ensures blamed { IfErr result (λ e. Blames e (part 32 text.now kind.OptionalText fields.entry.now)) }
-{
-    let (field, behind) = first(fields)?;
-    if is_absent(field) {
-        return Ok((behind, true));
-    }
-    pieces::put_behind(line, b' ', line_of(field, text)?)?;
-    Ok((behind, false))
-}
-
 fn put_login_flags<'a>(
     fields: &'a [FieldRow],
     line: &mut Vec<u8>,
 ) -> Result<(&'a [FieldRow], bool), RequestError>
-    ensures put { IfOk result (λ x. Put (part 32 [] kind.LoginFlags fields.entry.now) x.0.now x.1 line.old.items line.new.items) }
+    ensures put { IfOk result (λ x. Put (part 32 [] kind.LoginFlags fields.entry.now)
+        x.0.now x.1 line.old.items line.new.items) }
     ensures blamed { IfErr result (λ e. Blames e (part 32 [] kind.LoginFlags fields.entry.now)) }
 {
     let (field, behind) = first(fields)?;
@@ -231,7 +187,8 @@ fn put_pairs<'a>(
     text: &[u8],
     line: &mut Vec<u8>,
 ) -> Result<(&'a [FieldRow], bool), RequestError>
-    ensures put { IfOk result (λ x. Put (part 32 text.now kind.Pairs fields.entry.now) x.0.now x.1 line.old.items line.new.items) }
+    ensures put { IfOk result (λ x. Put (part 32 text.now kind.Pairs fields.entry.now)
+        x.0.now x.1 line.old.items line.new.items) }
     ensures blamed { IfErr result (λ e. Blames e (part 32 text.now kind.Pairs fields.entry.now)) }
 {
     if fields.is_empty() {
@@ -246,7 +203,8 @@ fn put_words<'a>(
     text: &[u8],
     line: &mut Vec<u8>,
 ) -> Result<(&'a [FieldRow], bool), RequestError>
-    ensures put { IfOk result (λ x. Put (part 32 text.now kind.Words fields.entry.now) x.0.now x.1 line.old.items line.new.items) }
+    ensures put { IfOk result (λ x. Put (part 32 text.now kind.Words fields.entry.now)
+        x.0.now x.1 line.old.items line.new.items) }
     ensures blamed { IfErr result (λ e. Blames e (part 32 text.now kind.Words fields.entry.now)) }
 {
     if fields.is_empty() {
@@ -262,7 +220,7 @@ fn add_words(fields: &[FieldRow], text: &[u8], line: &mut Vec<u8>) -> Result<(),
     ensures blamed { IfErr result (λ e. Blames e (words_put text.now fields.now)) }
 {
     for field in fields {
-        pieces::put_behind(line, b' ', word_of(field, text)?)?;
+        pieces::put_behind(line, b' ', text_of(TextKind::Word, field, text)?)?;
     }
     Ok(())
 }
@@ -288,12 +246,13 @@ fn put_pair<'a>(
     text: &[u8],
     line: &mut Vec<u8>,
 ) -> Result<&'a [FieldRow], RequestError>
-    ensures put { IfOk result (λ behind. Put (pair_part mark text.now fields.entry.now) behind.now false line.old.items line.new.items) }
+    ensures put { IfOk result (λ behind. Put (pair_part mark text.now fields.entry.now)
+        behind.now false line.old.items line.new.items) }
     ensures blamed { IfErr result (λ e. Blames e (pair_part mark text.now fields.entry.now)) }
 {
     let (key, others) = first(fields)?;
     let (value, behind) = first(others)?;
-    pieces::put_behind(line, mark, key_of(key, text)?)?;
-    pieces::put_behind(line, b'=', sentence_of(value, text)?)?;
+    pieces::put_behind(line, mark, text_of(TextKind::Key, key, text)?)?;
+    pieces::put_behind(line, b'=', text_of(TextKind::Sentence, value, text)?)?;
     Ok(behind)
 }

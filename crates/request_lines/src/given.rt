@@ -1,13 +1,36 @@
-//! What one field gives: bytes, a number or nothing.
+//! What one field gives: a text of a kind, or a number.
 
-ghost use Rattle.std.specs.Prelude.{◌≡◌, ◌==◌};
-ghost use Rattle.std.specs.Option.{option_map};
-ghost use Rattle.request_lines.specs.Requests.{bytes_in, first, flag_of, natural_of, number_of, seen, text_of, wide_of};
-ghost use Rattle.line_words.specs.Bytes.{is_key, is_name, is_sentence, is_text, is_word};
+ghost use Rattle.std.specs.Prelude.{◌≡◌};
+ghost use Rattle.request_lines.specs.Requests.{first, flag_of, natural_of, number_of, seen, test_of, text_of, wide_of};
 
 use crate::error::RequestError;
+use lent_tables::FieldRow;
 use line_words::{is_key, is_name, is_sentence, is_text, is_word};
-use lobby_lines::{ABSENT, FieldRow, NUMBER, TEXT};
+
+/// A kind of text.
+#[derive(Clone, Copy)]
+pub(crate) enum TextKind {
+    Word,
+    Name,
+    Key,
+    Sentence,
+    Text,
+}
+
+impl TextKind {
+    // Whether bytes are of this kind.
+    fn is_of(self, bytes: &[u8]) -> bool
+        ensures { result ≡ test_of self bytes.now }
+    {
+        match self {
+            TextKind::Word => is_word(bytes),
+            TextKind::Name => is_name(bytes),
+            TextKind::Key => is_key(bytes),
+            TextKind::Sentence => is_sentence(bytes),
+            TextKind::Text => is_text(bytes),
+        }
+    }
+}
 
 /// The first of the fields, and the others.
 pub(crate) fn first<'a>(
@@ -21,65 +44,17 @@ pub(crate) fn first<'a>(
     }
 }
 
-/// The bytes of a field that holds a text, if its place lies in the text.
-pub(crate) fn bytes_in<'a>(field: &FieldRow, text: &'a [u8]) -> Option<&'a [u8]>
-    ensures { option_map (λ b. b.now) result ≡ bytes_in text.entry.now field.now }
+/// The bytes of a field that holds a text of this kind.
+pub(crate) fn text_of<'a>(
+    kind: TextKind,
+    field: &FieldRow,
+    text: &'a [u8],
+) -> Result<&'a [u8], RequestError>
+    ensures { seen (λ b. b.now) result ≡ text_of (test_of kind) text.entry.now field.now }
 {
-    let start = field.text.start;
-    let length = field.text.length;
-    if field.holds != TEXT || text.len() < start || text.len() - start < length {
-        return None;
-    }
-    Some(&text[start..start + length])
-}
-
-/// A word.
-pub(crate) fn word_of<'a>(field: &FieldRow, text: &'a [u8]) -> Result<&'a [u8], RequestError>
-    ensures { seen (λ w. w.now) result ≡ text_of is_word text.entry.now field.now }
-{
-    match bytes_in(field, text) {
-        Some(bytes) if is_word(bytes) => Ok(bytes),
-        _ => Err(RequestError::BadFields),
-    }
-}
-
-/// A name.
-pub(crate) fn name_of<'a>(field: &FieldRow, text: &'a [u8]) -> Result<&'a [u8], RequestError>
-    ensures { seen (λ b. b.now) result ≡ text_of is_name text.entry.now field.now }
-{
-    match bytes_in(field, text) {
-        Some(bytes) if is_name(bytes) => Ok(bytes),
-        _ => Err(RequestError::BadFields),
-    }
-}
-
-/// A key.
-pub(crate) fn key_of<'a>(field: &FieldRow, text: &'a [u8]) -> Result<&'a [u8], RequestError>
-    ensures { seen (λ b. b.now) result ≡ text_of is_key text.entry.now field.now }
-{
-    match bytes_in(field, text) {
-        Some(bytes) if is_key(bytes) => Ok(bytes),
-        _ => Err(RequestError::BadFields),
-    }
-}
-
-/// A sentence.
-pub(crate) fn sentence_of<'a>(field: &FieldRow, text: &'a [u8]) -> Result<&'a [u8], RequestError>
-    ensures { seen (λ b. b.now) result ≡ text_of is_sentence text.entry.now field.now }
-{
-    match bytes_in(field, text) {
-        Some(bytes) if is_sentence(bytes) => Ok(bytes),
-        _ => Err(RequestError::BadFields),
-    }
-}
-
-/// A text.
-pub(crate) fn line_of<'a>(field: &FieldRow, text: &'a [u8]) -> Result<&'a [u8], RequestError>
-    ensures { seen (λ b. b.now) result ≡ text_of is_text text.entry.now field.now }
-{
-    match bytes_in(field, text) {
-        Some(bytes) if is_text(bytes) => Ok(bytes),
-        _ => Err(RequestError::BadFields),
+    match field.text_in(text) {
+        Some(bytes) if kind.is_of(bytes) => Ok(bytes),
+        Some(_) | None => Err(RequestError::BadFields),
     }
 }
 
@@ -87,11 +62,7 @@ pub(crate) fn line_of<'a>(field: &FieldRow, text: &'a [u8]) -> Result<&'a [u8], 
 fn number_of(field: &FieldRow) -> Result<i64, RequestError>
     ensures { result ≡ number_of field.now }
 {
-    if field.holds == NUMBER {
-        Ok(field.number)
-    } else {
-        Err(RequestError::BadFields)
-    }
+    field.number().ok_or(RequestError::BadFields)
 }
 
 /// A number from 0 to `high`.
@@ -121,11 +92,4 @@ pub(crate) fn flag_of(field: &FieldRow) -> Result<bool, RequestError>
     ensures { result ≡ flag_of field.now }
 {
     Ok(natural_of(field, 1)? == 1)
-}
-
-/// Whether a field holds nothing.
-pub(crate) fn is_absent(field: &FieldRow) -> bool
-    ensures { result ≡ (field.now.holds == 0) }
-{
-    field.holds == ABSENT
 }

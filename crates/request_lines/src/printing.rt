@@ -7,16 +7,16 @@ ghost use Rattle.request_lines.specs.Writing.{IsLine, IsRefused};
 use crate::arguments::put_arguments;
 use crate::error::RequestError;
 use crate::request_table::row_of;
-use lobby_lines::{FieldRow, HeadRow};
+use lent_tables::{FieldRow, HeadRow};
 use reply_printer::pieces::{put_end, put_id};
 use std::alloc::Global;
 
 /// The most bytes that a line of a client has before its LF.
 const LINE_LIMIT: usize = 8192;
 
-/// The line, with its LF, of the request of this kind, message id and fields, as `print_request` of `request_printer` prints it. The
-/// fields stand in the order of docs/PROTOCOL.md, section 3, and their texts are places in `text`. Fails where there is no such
-/// request, where it has no line, or where memory is refused.
+/// The line, with its LF, of the request of this kind, message id and fields, as `print_request` of `request_printer`
+/// prints it. The fields stand in the order of docs/PROTOCOL.md, section 3, and their texts are places in `text`.
+/// Fails where there is no such request, where it has no line, or where memory is refused.
 pub fn print_request(
     alloc: Global,
     head: &HeadRow,

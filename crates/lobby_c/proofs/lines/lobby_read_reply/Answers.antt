@@ -4,7 +4,7 @@ use Rattle.std.specs.List.{list_any}
 use Rattle.lent_tables.specs.Answers.{Answers, lent, ok, no_memory, no_room}
 use Rattle.lent_tables.specs.Layout.{rows_from}
 use Rattle.reply_kinds.specs.Replies.{Line}
-use Rattle.lobby_lines.specs.Fields.{field_row, field_shown}
+use Rattle.lent_tables.specs.Fields.{field_row, field_shown}
 use Rattle.lobby_lines.specs.Replies.{fields_of, HeadOf}
 use Rattle.lobby_c.proofs.Reading.{same_reply}
 use Rattle.lobby_c.proofs.lines.lobby_read_reply.Goals as goal

@@ -1,8 +1,8 @@
 use Rattle.std.proofs.lemmas.Option.{slice_get_read}
 use Rattle.std.proofs.Common.{refl, subst}
-use Rattle.lobby_lines.specs.Fields.{Adds}
+use Rattle.lent_tables.specs.Fields.{Adds}
 use Rattle.lobby_lines.specs.Replies.{one_text}
-use Rattle.lobby_lines.proofs.Adding.{adds_next}
+use Rattle.lent_tables.proofs.Adding.{adds_next}
 use Rattle.lobby_lines.proofs.arguments.add_names.Goals as goal
 
 pub loop-name-preserved : goal.loop-name-preserved

@@ -1,8 +1,8 @@
 use Rattle.std.proofs.lemmas.Option.{slice_get_read}
 use Rattle.std.proofs.Common.{refl, subst, [], ◌∷◌}
-use Rattle.lobby_lines.specs.Fields.{Adds, Text}
+use Rattle.lent_tables.specs.Fields.{Adds, Text}
 use Rattle.lobby_lines.specs.Replies.{one_text, two_texts}
-use Rattle.lobby_lines.proofs.Adding.{adds_both, adds_next}
+use Rattle.lent_tables.proofs.Adding.{adds_both, adds_next}
 use Rattle.lobby_lines.proofs.arguments.add_pairs.Goals as goal
 
 pub loop-pair-preserved : goal.loop-pair-preserved

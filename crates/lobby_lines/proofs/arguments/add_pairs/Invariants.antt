@@ -1,6 +1,6 @@
 use Rattle.std.proofs.Common.{take}
 use Rattle.std.specs.Prelude.{flat_map}
-use Rattle.lobby_lines.specs.Fields.{Adds}
+use Rattle.lent_tables.specs.Fields.{Adds}
 use Rattle.lobby_lines.specs.Replies.{two_texts}
 use Rattle.lobby_lines.proofs.arguments.add_pairs.Given as goal
 

@@ -73,10 +73,10 @@ pub returns-in-Sentence-clause-unread : goal.returns-in-Sentence-clause-unread
 returns-in-Sentence-clause-unread c = rw (c.in-Sentence.is) c.put_sentence.ensures.unread
 
 pub returns-in-NextSentence-clause-read : goal.returns-in-NextSentence-clause-read
-returns-in-NextSentence-clause-read c = rw (c.in-NextSentence.is) c.put_next_sentence.ensures.read
+returns-in-NextSentence-clause-read c = rw (c.in-NextSentence.is) c.put_sentence-in-NextSentence.ensures.read
 
 pub returns-in-NextSentence-clause-unread : goal.returns-in-NextSentence-clause-unread
-returns-in-NextSentence-clause-unread c = rw (c.in-NextSentence.is) c.put_next_sentence.ensures.unread
+returns-in-NextSentence-clause-unread c = rw (c.in-NextSentence.is) c.put_sentence-in-NextSentence.ensures.unread
 
 pub returns-in-Text-clause-read : goal.returns-in-Text-clause-read
 returns-in-Text-clause-read c = rw (c.in-Text.is) c.put_text.ensures.read

@@ -1,22 +1,22 @@
 use Rattle.request_lines.proofs.arguments.put_argument.Goals as goal
 
 pub returns-in-Word-clause-put : goal.returns-in-Word-clause-put
-returns-in-Word-clause-put c = rw (c.in-Word.is) c.put_word.ensures.put
+returns-in-Word-clause-put c = rw (c.in-Word.is) c.put_text.ensures.put
 
 pub returns-in-Word-clause-blamed : goal.returns-in-Word-clause-blamed
-returns-in-Word-clause-blamed c = rw (c.in-Word.is) c.put_word.ensures.blamed
+returns-in-Word-clause-blamed c = rw (c.in-Word.is) c.put_text.ensures.blamed
 
 pub returns-in-OptionalWord-clause-put : goal.returns-in-OptionalWord-clause-put
-returns-in-OptionalWord-clause-put c = rw (c.in-OptionalWord.is) c.put_optional_word.ensures.put
+returns-in-OptionalWord-clause-put c = rw (c.in-OptionalWord.is) c.put_optional.ensures.put
 
 pub returns-in-OptionalWord-clause-blamed : goal.returns-in-OptionalWord-clause-blamed
-returns-in-OptionalWord-clause-blamed c = rw (c.in-OptionalWord.is) c.put_optional_word.ensures.blamed
+returns-in-OptionalWord-clause-blamed c = rw (c.in-OptionalWord.is) c.put_optional.ensures.blamed
 
 pub returns-in-Name-clause-put : goal.returns-in-Name-clause-put
-returns-in-Name-clause-put c = rw (c.in-Name.is) c.put_name.ensures.put
+returns-in-Name-clause-put c = rw (c.in-Name.is) c.put_text-in-Name.ensures.put
 
 pub returns-in-Name-clause-blamed : goal.returns-in-Name-clause-blamed
-returns-in-Name-clause-blamed c = rw (c.in-Name.is) c.put_name.ensures.blamed
+returns-in-Name-clause-blamed c = rw (c.in-Name.is) c.put_text-in-Name.ensures.blamed
 
 pub returns-in-Natural-clause-put : goal.returns-in-Natural-clause-put
 returns-in-Natural-clause-put c = rw (c.in-Natural.is) c.put_natural.ensures.put
@@ -37,22 +37,22 @@ pub returns-in-Flag-clause-blamed : goal.returns-in-Flag-clause-blamed
 returns-in-Flag-clause-blamed c = rw (c.in-Flag.is) c.put_flag.ensures.blamed
 
 pub returns-in-Sentence-clause-put : goal.returns-in-Sentence-clause-put
-returns-in-Sentence-clause-put c = rw (c.in-Sentence.is) c.put_sentence.ensures.put
+returns-in-Sentence-clause-put c = rw (c.in-Sentence.is) c.put_text-in-Sentence.ensures.put
 
 pub returns-in-Sentence-clause-blamed : goal.returns-in-Sentence-clause-blamed
-returns-in-Sentence-clause-blamed c = rw (c.in-Sentence.is) c.put_sentence.ensures.blamed
+returns-in-Sentence-clause-blamed c = rw (c.in-Sentence.is) c.put_text-in-Sentence.ensures.blamed
 
 pub returns-in-Text-clause-put : goal.returns-in-Text-clause-put
-returns-in-Text-clause-put c = rw (c.in-Text.is) c.put_text.ensures.put
+returns-in-Text-clause-put c = rw (c.in-Text.is) c.put_text-in-Text.ensures.put
 
 pub returns-in-Text-clause-blamed : goal.returns-in-Text-clause-blamed
-returns-in-Text-clause-blamed c = rw (c.in-Text.is) c.put_text.ensures.blamed
+returns-in-Text-clause-blamed c = rw (c.in-Text.is) c.put_text-in-Text.ensures.blamed
 
 pub returns-in-OptionalText-clause-put : goal.returns-in-OptionalText-clause-put
-returns-in-OptionalText-clause-put c = rw (c.in-OptionalText.is) c.put_optional_text.ensures.put
+returns-in-OptionalText-clause-put c = rw (c.in-OptionalText.is) c.put_optional-in-OptionalText.ensures.put
 
 pub returns-in-OptionalText-clause-blamed : goal.returns-in-OptionalText-clause-blamed
-returns-in-OptionalText-clause-blamed c = rw (c.in-OptionalText.is) c.put_optional_text.ensures.blamed
+returns-in-OptionalText-clause-blamed c = rw (c.in-OptionalText.is) c.put_optional-in-OptionalText.ensures.blamed
 
 pub returns-in-LoginFlags-clause-put : goal.returns-in-LoginFlags-clause-put
 returns-in-LoginFlags-clause-put c = rw (c.in-LoginFlags.is) c.put_login_flags.ensures.put

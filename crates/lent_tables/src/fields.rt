@@ -1,10 +1,11 @@
 //! Fields of a line as rows.
 
-ghost use Rattle.std.specs.Prelude.{◌≡◌, ◌++◌, IfOk, [], ◌∷◌, length};
+ghost use Rattle.std.specs.Prelude.{◌≡◌, ◌++◌, ◌==◌, IfOk, [], ◌∷◌, length};
+ghost use Rattle.std.specs.Option.{option_map};
 ghost use Rattle.lent_tables.specs.Layout.{place};
-ghost use Rattle.lobby_lines.specs.Fields.{Laid, laid, Absent, Text, Number, Adds, row};
+ghost use Rattle.lent_tables.specs.Fields.{Laid, laid, Absent, Text, Number, Adds, row, text_in, number_in};
 
-use lent_tables::{Place, Table, put_text};
+use crate::table::{Place, Table, put_text};
 use std::alloc::{AllocError, Global};
 use std::marker::Model;
 
@@ -29,6 +30,38 @@ pub struct FieldRow {
     pub unused: u32,
 }
 
+impl FieldRow {
+    /// Whether it holds nothing.
+    pub fn is_absent(&self) -> bool
+        ensures { result ≡ (self.now.holds == 0) }
+    {
+        self.holds == ABSENT
+    }
+
+    /// The bytes of its text, if it holds one and its place lies in `text`.
+    pub fn text_in<'a>(&self, text: &'a [u8]) -> Option<&'a [u8]>
+        ensures { option_map (λ b. b.now) result ≡ text_in text.entry.now self.now }
+    {
+        let start = self.text.start;
+        let length = self.text.length;
+        if self.holds != TEXT || text.len() < start || text.len() - start < length {
+            return None;
+        }
+        Some(&text[start..start + length])
+    }
+
+    /// The number that it holds, if it holds one.
+    pub fn number(&self) -> Option<i64>
+        ensures { result ≡ number_in self.now }
+    {
+        if self.holds == NUMBER {
+            Some(self.number)
+        } else {
+            None
+        }
+    }
+}
+
 /// The head of a line.
 #[repr(C)]
 #[derive(Clone, Copy)]
@@ -43,7 +76,7 @@ pub struct HeadRow {
 
 /// Fields that stand one behind the other, as a table that is not finished.
 #[derive(Drop)]
-pub(crate) struct Fields {
+pub struct Fields {
     rows: Vec<FieldRow>,
     text: Vec<u8>,
 }
@@ -56,7 +89,7 @@ impl Model for Fields {
 
 impl Fields {
     /// No field yet.
-    pub(crate) fn new(alloc: Global) -> Fields
+    pub fn new(alloc: Global) -> Fields
         ensures { result ≡ laid [] [] }
     {
         Fields {
@@ -67,7 +100,9 @@ impl Fields {
 
     // Adds a field. Fails only where memory is refused, as each that adds one.
     fn put(&mut self, bytes: &[u8], number: i64, holds: u32) -> Result<(), AllocError>
-        ensures { IfOk result (λ _. self.new ≡ laid (self.old.rows ++ row (place (length self.old.text) bytes.now) number holds ∷ []) (self.old.text ++ bytes.now)) }
+        ensures { IfOk result (λ _. self.new
+            ≡ laid (self.old.rows ++ row (place (length self.old.text) bytes.now) number holds ∷ [])
+            (self.old.text ++ bytes.now)) }
     {
         let text = put_text(&mut self.text, bytes)?;
         self.rows.push(FieldRow {
@@ -80,28 +115,28 @@ impl Fields {
     }
 
     /// Adds a field that holds nothing.
-    pub(crate) fn put_absent(&mut self) -> Result<(), AllocError>
+    pub fn put_absent(&mut self) -> Result<(), AllocError>
         ensures { IfOk result (λ _. Adds (Absent ∷ []) self.old self.new) }
     {
         self.put(b"", 0, ABSENT)
     }
 
     /// Adds a text.
-    pub(crate) fn put_text(&mut self, bytes: &[u8]) -> Result<(), AllocError>
+    pub fn put_text(&mut self, bytes: &[u8]) -> Result<(), AllocError>
         ensures { IfOk result (λ _. Adds (Text bytes.now ∷ []) self.old self.new) }
     {
         self.put(bytes, 0, TEXT)
     }
 
     /// Adds a number.
-    pub(crate) fn put_number(&mut self, number: i64) -> Result<(), AllocError>
+    pub fn put_number(&mut self, number: i64) -> Result<(), AllocError>
         ensures { IfOk result (λ _. Adds (Number number ∷ []) self.old self.new) }
     {
         self.put(b"", number, NUMBER)
     }
 
     /// The finished table.
-    pub(crate) fn finish(self) -> Table<FieldRow>
+    pub fn finish(self) -> Table<FieldRow>
         ensures { laid result.rows.items result.text.items ≡ self }
     {
         let Fields { rows, text } = self;

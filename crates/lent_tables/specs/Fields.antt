@@ -1,8 +1,8 @@
 -- The fields of a line, and how they lie in a table.
-use Rattle.std.specs.Prelude.{◌≡◌, ◌++◌, ℕ, ℤ, pos, List, [], length, flat_map}
+use Rattle.std.specs.Prelude.{◌≡◌, ◌+◌, ◌++◌, ◌==◌, ◌&&◌, ℕ, ℤ, pos, nat_le, if◌then◌else◌, List, [], length, take, drop, flat_map, Option, Some, None}
 use Rattle.lent_tables.specs.declared.table.Place.{Place}
 use Rattle.lent_tables.specs.Layout.{place, rows_from}
-use Rattle.lobby_lines.specs.declared.fields.FieldRow.{FieldRow}
+use Rattle.lent_tables.specs.declared.fields.FieldRow.{FieldRow}
 
 pub data Field : Type 0 where
   -- an argument that was left out
@@ -38,3 +38,12 @@ laid rows text = record { rows = rows; text = text }
 pub record Adds (fields : List Field) (old new : Laid) : Type 0 where
   pub rows : new.rows ≡ old.rows ++ rows_from field_row field_shown (length old.text) fields
   pub text : new.text ≡ old.text ++ flat_map field_shown fields
+
+-- the bytes of a row's text, if it holds one whose place lies inside
+abbrev pub text_in : List ℕ → FieldRow → Option (List ℕ)
+text_in text f = if f.holds == 1 && nat_le (f.text.start + f.text.length) (length text)
+    then Some (take f.text.length (drop f.text.start text)) else None
+
+-- the number that a row holds
+abbrev pub number_in : FieldRow → Option ℤ
+number_in f = if f.holds == 2 then Some f.number else None
