@@ -1,5 +1,5 @@
 -- What is told of battles, where one function tells what several commands owe.
-use Rattle.std.specs.Prelude.{ℕ, ℤ, ◌<◌, ◌≤◌, Bool, true, false, List, [], ◌∷◌, map, flat_map, Option}
+use Rattle.std.specs.Prelude.{ℕ, ℤ, ◌<◌, ◌≤◌, List, [], ◌∷◌, map, flat_map, Option}
 use Rattle.reply_kinds.specs.declared.Reply.{Reply}
 use Rattle.reply_kinds.specs.declared.Reply.TheVariants as reply
 use Rattle.status_bits.specs.Fields.{with_number}
@@ -10,11 +10,8 @@ use Rattle.lobby_model.specs.Outcome.{Happening, Letter, Outcome, tell, users}
 use Rattle.lobby_model.specs.Sessions.{to_others, unseen}
 use Rattle.lobby_model.specs.Battles.{leaves_own}
 use Rattle.lobby_model.specs.Rooms.{force_number, force_colour, removed_line, disabled_line, enabled_line}
-use Rattle.lobby_post.specs.Posted.{Posted, with_others, with_own}
 use Rattle.battle_rules.specs.declared.battles.Leaving.{Leaving}
 use Rattle.battle_rules.specs.declared.battles.Leaving.TheVariants.{Seen, Unseen}
-use Rattle.battle_rules.specs.declared.joining.Recipient.{Recipient}
-use Rattle.battle_rules.specs.declared.joining.Recipient.TheVariants.{Issuer, Other}
 use Rattle.battle_rules.specs.declared.rooms.Wording.{Wording}
 use Rattle.battle_rules.specs.declared.rooms.Wording.TheVariants.{TagsGone, UnitsDisabled, UnitsEnabled}
 use Rattle.battle_rules.specs.declared.rooms.Force.{Force}
@@ -48,16 +45,6 @@ stops_asking number name = InBattles (StopAsking number name)
 -- the change that gives a member a status and a colour
 abbrev pub status_change : ℕ → List ℕ → ℕ → ℤ → Change
 status_change number name status colour = InBattles (InRoom number (room.Status name status colour))
-
--- lines for one reader, behind those that were written for it
-abbrev pub written : Recipient → Posted → List Reply → Posted
-written Issuer = with_own
-written Other = with_others
-
--- the recipient of lines for the user of a name
-abbrev pub is_issuer : Recipient → Bool
-is_issuer Issuer = true
-is_issuer Other = false
 
 -- what the members are told of words, and what they are told where there may be none
 abbrev pub words_line : Wording → List (List ℕ) → Reply

@@ -1,41 +1,30 @@
 //! Joining a battle: at once, or by asking its founder, who lets one in or denies it: docs/PROTOCOL.md,
 //! "What the server does", from "JOINBATTLE" to "JOINBATTLEDENY".
 
-ghost use Rattle.std.specs.Prelude.{◌≡◌, [], ◌∷◌, ◌++◌, map, OnOk, IfOk, None, Some, option_copied};
+ghost use Rattle.std.specs.Prelude.{◌≡◌, [], ◌∷◌, ◌++◌, OnOk, IfOk, None, Some, option_copied};
 ghost use Rattle.reply_kinds.specs.declared.Reply.TheVariants as reply;
-ghost use Rattle.reply_kinds.specs.Lent.{reply_of};
 ghost use Rattle.line_words.specs.Table.{at_number, same_name};
 ghost use Rattle.lobby_model.specs.State.{name_of};
 ghost use Rattle.lobby_model.specs.Outcome.{is_named, tell, user};
-ghost use Rattle.lobby_model.specs.Battles.{accept, address, asks_to_join, bot_line, deny, join_battle, joining, rect_line, reason_or_default, room_lines, status_line};
+ghost use Rattle.lobby_model.specs.Battles.{accept, address, asks_to_join, deny, join_battle, joining, reason_or_default, room_lines};
 ghost use Rattle.lobby_post.specs.Posted.{Told};
 ghost use Rattle.lobby_guards.specs.Answers.{Answers};
 ghost use Rattle.lobby_maps.specs.declared.change.Change.TheVariants.{InBattles};
 ghost use Rattle.lobby_battles.specs.declared.battles.BattleChange.TheVariants.{Ask};
-ghost use Rattle.battle_rules.specs.BattleTalk.{is_issuer, written};
+ghost use Rattle.lobby_burst.specs.Recipients.{is_issuer};
 
 use crate::battles::{address_of, stop_asking};
-use battle_room::{ALLY_COUNT, Room};
 use line_words::{NameBuf, Text, TextBuf, WordBuf};
+use lobby_burst::{Recipient, write_line, write_room};
 use lobby_guards::battle_guards::{
     asker_named, asks_nowhere, battle_numbered, founded_by, in_no_battle, not_locked, own_battle,
     right_password,
 };
 use lobby_guards::{Issuer, Refusal, Stop};
 use lobby_maps::{Battle, BattleChange, Change, Maps};
-use lobby_post::{ClientKey, Post};
+use lobby_post::Post;
 use reply_kinds::LentReply;
 use std::alloc::{AllocError, Global};
-use std::slice;
-
-/// For whom lines are written.
-#[derive(Clone, Copy)]
-pub enum Recipient {
-    /// The one whose event it is: each line has the id of its request.
-    Issuer,
-    /// Another one.
-    Other,
-}
 
 /// `JOINBATTLE`: the user is in no battle and asks to join none; there is a battle of that number,
 /// which is not locked and lets it in. It joins, or, where the founder authorises who does, it asks.
@@ -190,15 +179,15 @@ fn tell_joiner(
         battle: number,
         game_hash: battle.game_hash,
     };
-    write(recipient, line, post)?;
+    write_line(recipient, line, post)?;
     let line = LentReply::JoinedBattle {
         battle: number,
         user: name,
         script_password: None,
     };
-    write(recipient, line, post)?;
+    write_line(recipient, line, post)?;
     write_room(recipient, number, &battle.room, post)?;
-    write(recipient, LentReply::RequestBattleStatus, post)?;
+    write_line(recipient, LentReply::RequestBattleStatus, post)?;
     maps.address_user(name, post)?;
     Ok(())
 }
@@ -221,138 +210,4 @@ fn copy_word(alloc: Global, word: Option<&WordBuf>) -> Result<Option<WordBuf>, A
         Some(word) => Ok(Some(WordBuf::copy_of(alloc, word.as_slice())?)),
         None => Ok(None),
     }
-}
-
-/// Writes one more line for its recipient.
-fn write(recipient: Recipient, line: LentReply, post: &mut Post) -> Result<(), AllocError>
-    ensures { OnOk result (post.new ≡ written recipient post.old (reply_of line.entry ∷ [])) }
-{
-    match recipient {
-        Recipient::Issuer => post.write_own(line),
-        Recipient::Other => post.write_more_for_others(line),
-    }
-}
-
-/// Writes what the members of a battle share, behind a line.
-fn write_room(
-    recipient: Recipient,
-    number: u32,
-    room: &Room<ClientKey>,
-    post: &mut Post,
-) -> Result<(), AllocError>
-    requires { written recipient post.old [] ≡ post.old }
-    ensures { OnOk result (post.new ≡ written recipient post.old (room_lines number room.now)) }
-{
-    write_statuses(recipient, room, post)?;
-    write_bots(recipient, number, room, post)?;
-    write_rects(recipient, room, post)?;
-    write_tags(recipient, room, post)?;
-    write_units(recipient, room, post)
-}
-
-/// Writes the status of each member of a battle, behind a line.
-fn write_statuses(
-    recipient: Recipient,
-    room: &Room<ClientKey>,
-    post: &mut Post,
-) -> Result<(), AllocError>
-    requires { written recipient post.old [] ≡ post.old }
-    ensures { OnOk result (post.new ≡ written recipient post.old (map status_line room.now.members)) }
-{
-    for member in room.members() {
-        let status = member.status().word();
-        let line = LentReply::ClientBattleStatus {
-            user: member.name(),
-            battle_status: status,
-            team_color: member.colour(),
-        };
-        write(recipient, line, post)?;
-    }
-    Ok(())
-}
-
-/// Writes the bots of a battle, behind a line.
-fn write_bots(
-    recipient: Recipient,
-    number: u32,
-    room: &Room<ClientKey>,
-    post: &mut Post,
-) -> Result<(), AllocError>
-    requires { written recipient post.old [] ≡ post.old }
-    ensures { OnOk result (post.new ≡ written recipient post.old (map (bot_line number) room.now.bots)) }
-{
-    for bot in room.bots() {
-        let status = bot.status().word();
-        let line = LentReply::AddBot {
-            battle: number,
-            bot: bot.name(),
-            owner: bot.owner(),
-            battle_status: status,
-            team_color: bot.colour(),
-            ai: bot.ai(),
-        };
-        write(recipient, line, post)?;
-    }
-    Ok(())
-}
-
-/// Writes the start rectangles of a battle, behind a line.
-fn write_rects(
-    recipient: Recipient,
-    room: &Room<ClientKey>,
-    post: &mut Post,
-) -> Result<(), AllocError>
-    requires { written recipient post.old [] ≡ post.old }
-    ensures { OnOk result (post.new ≡ written recipient post.old (map (λ e. rect_line e.0 e.1) room.now.rects)) }
-{
-    let places = room.rects();
-    for ally in 0..ALLY_COUNT as u8 {
-        if let Some(rect) = places[usize::from(ally)] {
-            let line = LentReply::AddStartRect {
-                ally_no: ally,
-                left: rect.left,
-                top: rect.top,
-                right: rect.right,
-                bottom: rect.bottom,
-            };
-            write(recipient, line, post)?;
-        }
-    }
-    Ok(())
-}
-
-/// Writes the script tags of a battle, each in a line, behind a line.
-fn write_tags(
-    recipient: Recipient,
-    room: &Room<ClientKey>,
-    post: &mut Post,
-) -> Result<(), AllocError>
-    requires { written recipient post.old [] ≡ post.old }
-    ensures { OnOk result (post.new ≡ written recipient post.old (map (λ t. reply.SetScriptTags (t ∷ [])) room.now.tags)) }
-{
-    for pair in room.tags() {
-        let line = LentReply::SetScriptTags {
-            pairs: slice::from_ref(pair),
-        };
-        write(recipient, line, post)?;
-    }
-    Ok(())
-}
-
-/// Writes the disabled units of a battle, each in a line, behind a line.
-fn write_units(
-    recipient: Recipient,
-    room: &Room<ClientKey>,
-    post: &mut Post,
-) -> Result<(), AllocError>
-    requires { written recipient post.old [] ≡ post.old }
-    ensures { OnOk result (post.new ≡ written recipient post.old (map (λ unit. reply.DisableUnits (unit ∷ [])) room.now.units)) }
-{
-    for unit in room.units() {
-        let line = LentReply::DisableUnits {
-            units: slice::from_ref(unit),
-        };
-        write(recipient, line, post)?;
-    }
-    Ok(())
 }

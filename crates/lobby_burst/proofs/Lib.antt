@@ -1,2 +1,3 @@
 pub mod Newcomer
 pub mod Rooms
+pub mod Written

@@ -7,8 +7,8 @@ use Rattle.room_lists.specs.Tags.{with_tags}
 use Rattle.lobby_model.specs.Texts.{too_many_tags}
 use Rattle.lobby_model.specs.State.{Battle}
 use Rattle.lobby_post.specs.Posted.{Told}
-use Rattle.lobby_model.specs.Outcome.{done, happens, message, refuse_if, tell, users}
-use Rattle.lobby_model.specs.Battles.{change_room, in_room}
+use Rattle.lobby_model.specs.Outcome.{done, message, refuse_if, tell, users}
+use Rattle.lobby_model.specs.Battles.{in_room}
 use Rattle.lobby_battles.specs.declared.battles.RoomChange.TheVariants.{SetTags}
 use Rattle.battle_rules.proofs.Founders.{shared_so}
 use Rattle.battle_rules.proofs.rooms.set_script_tags.Goals as goal

@@ -2,10 +2,10 @@ use Rattle.std.proofs.Common.{to_z, of_z, ◌≡◌, ◌∙◌, [], ◌∷◌, a
 use Rattle.reply_kinds.specs.declared.Reply.TheVariants as reply
 use Rattle.lobby_model.specs.Battles.{bot_line}
 use Rattle.std.proofs.lemmas.List.{take_all}
-use Rattle.battle_rules.specs.BattleTalk.{written}
-use Rattle.battle_rules.proofs.Joins.{written_more}
+use Rattle.lobby_burst.specs.Recipients.{written}
+use Rattle.lobby_burst.proofs.Written.{written_more}
 use Rattle.lobby_burst.proofs.Rooms.{put_one_line}
-use Rattle.battle_rules.proofs.joining.write_bots.Goals as goal
+use Rattle.lobby_burst.proofs.room.write_bots.Goals as goal
 
 pub loop-bot-init : goal.loop-bot-init
 loop-bot-init c = sym c.requires
@@ -13,9 +13,9 @@ loop-bot-init c = sym c.requires
 pub loop-bot-preserved : goal.loop-bot-preserved
 loop-bot-preserved c =
     let kept : to_z w64 (of_z w64 c.colour.result) ≡ c.colour.result = search rules in
-    put_one_line (written c.args.recipient) (written_more c.args.recipient) (bot_line c.args.number) c.args.post.now c.loop-bot.post c.write.new.post
+    put_one_line (written c.args.recipient) (written_more c.args.recipient) (bot_line c.args.number) c.args.post.now c.loop-bot.post c.write_line.new.post
     c.bots-bot-items.result.now c.loop-bot.bot-index c.bot-item.result c.loop-bot-test.true c.bot-item.is c.loop-bot.invariant
-    (c.in_ok-write.ensures ∙ (λ i. written c.args.recipient c.loop-bot.post
+    (c.in_ok-write_line.ensures ∙ (λ i. written c.args.recipient c.loop-bot.post
     (reply.AddBot c.args.number (c.name.ensures i) (c.owner.ensures i) ((c.word-status.ensures.same ∙ c.status.ensures) i) ((kept ∙ c.colour.ensures) i)
     (c.ai.ensures i) ∷ [])))
 

@@ -3,11 +3,11 @@ use Rattle.std.specs.Prelude.{None, Some}
 use Rattle.std.proofs.lemmas.List.{take_all}
 use Rattle.room_lists.specs.Room.{Rect}
 use Rattle.lobby_model.specs.Battles.{rect_line}
-use Rattle.battle_rules.specs.BattleTalk.{written}
-use Rattle.battle_rules.proofs.Joins.{settled, written_more}
+use Rattle.lobby_burst.specs.Recipients.{written}
+use Rattle.lobby_burst.proofs.Written.{settled, written_more}
 use Rattle.lobby_burst.proofs.Rooms.{rect_told, rects_told, placed, same_place}
-use Rattle.battle_rules.proofs.joining.write_rects.Goals as goal
-use Rattle.battle_rules.proofs.joining.write_rects.Goals.{in-Some+in_ok-write, in_default}
+use Rattle.lobby_burst.proofs.room.write_rects.Goals as goal
+use Rattle.lobby_burst.proofs.room.write_rects.Goals.{in-Some+in_ok-write_line, in_default}
 
 pub loop-ally-init : goal.loop-ally-init
 loop-ally-init c = record { all = λ h. absurd (omega (arith, h)); told = sym c.requires }
@@ -19,7 +19,7 @@ loop-ally-preserved c =
       all = λ h. c.type_inv.places;
       told = rect_told (written c.args.recipient) (written_more c.args.recipient) c.args.post.now c.loop-ally.post c.match-places-from.post c.rects-places.result.now c.loop-ally.ally None within
           c.loop-ally.invariant.told (elim c.match-places-from.branch [
-            | in-Some+in_ok-write w ↦ w.post-is ∙ w.in_ok-write.ensures
+            | in-Some+in_ok-write_line w ↦ w.post-is ∙ w.in_ok-write_line.ensures
                 ∙ ap (λ (r : Rect). written c.args.recipient c.loop-ally.post (rect_line c.loop-ally.ally r ∷ [])) w.rect.view_is
                 ∙ ap (λ o. written c.args.recipient c.loop-ally.post (map (λ (e : ℕ × Rect). rect_line e.0 e.1) (placed c.loop-ally.ally o)))
                 (sym (same_place c.rects-places.result.now c.loop-ally.ally c.from.result None _ (Some w.in-Some.rect) within c.from.ensures w.in-Some.is))

@@ -1,5 +1,5 @@
-use Rattle.battle_rules.proofs.Joins.{settled}
-use Rattle.battle_rules.proofs.joining.write_room.Goals as goal
+use Rattle.lobby_burst.proofs.Written.{settled}
+use Rattle.lobby_burst.proofs.room.write_room.Goals as goal
 
 pub write_bots-requires : goal.write_bots-requires
 write_bots-requires c = settled c.args.recipient _ _ _ c.in_ok-write_statuses.ensures
