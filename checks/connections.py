@@ -7,6 +7,7 @@ without end. Run by hand, behind `make build`:
 
 WORKERS is 4 if left out, and the names are those of some of the checks below. $LOBBY_MAIN names another build of the server."""
 import contextlib
+import ctypes
 import errno
 import os
 import re
@@ -25,6 +26,8 @@ from lobby_server import ADDRESS, GREETING, PATIENCE, Account, Client, Differenc
 
 ANNA, BERT, EVE = Account("Anna", 1, 0, "DE"), Account("Bert", 2, 3), Account("Eve", 9, 1, "FR")
 CROWD = [Account(f"Eve{number:02}", 100 + number) for number in range(20)]
+# Words of ptrace, and of a wait for one thread.
+SEIZE, INTERRUPT, DETACH, OF_A_THREAD = 0x4206, 0x4207, 17, 0x40000000
 OPEN = "OPENBATTLE 0 0 * 8452 8 -1 0 123 Spring\t104.0\tComet Catcher\tEve's game\tBA 9.46\n"
 
 
@@ -425,24 +428,25 @@ class Burst:
 
 @contextlib.contextmanager
 def held_up(server):
-    """Holds all workers up but the first, which accepts: they share one processor with a program that needs it whole."""
-    threads = sorted(int(it.name) for it in Path(f"/proc/{server.process.pid}/task").iterdir())
-    place = {min(os.sched_getaffinity(0))}
-    # The first thread waits for the input, and the second is the first worker's.
-    for thread in threads[2:]:
-        os.sched_setaffinity(thread, place)
-        os.sched_setscheduler(thread, os.SCHED_IDLE, os.sched_param(0))
-    busy = subprocess.Popen([sys.executable, "-c", "while True: pass"])
+    """Stops all workers but the first, which accepts. Nobody is connected yet, so none of them has the lobby."""
+    trace = ctypes.CDLL(None).ptrace
+    trace.argtypes, trace.restype = [ctypes.c_long] * 4, ctypes.c_long
+    # The first thread waits for the input, and the last is the first worker's.
+    threads = sorted(int(it.name) for it in Path(f"/proc/{server.process.pid}/task").iterdir())[1:-1]
+    for thread in threads:
+        if trace(SEIZE, thread, 0, 0) or trace(INTERRUPT, thread, 0, 0):
+            raise Difference("the system lets no worker be stopped")
+        os.waitpid(thread, OF_A_THREAD)
     try:
-        os.sched_setaffinity(busy.pid, place)
         yield
     finally:
-        busy.kill()
-        busy.wait()
+        for thread in threads:
+            trace(DETACH, thread, 0, 0)
 
 
-def one_burst(workers):
-    """Three thousand connections come at once, to workers that are held up. How many of them met a full inbox."""
+def burst(workers):
+    """Three thousand connect at once, to workers that are held up: each is greeted, or closed without a byte as it meets a full inbox,
+    and comes again."""
     with Server(workers, []) as server:
         begun = time.monotonic()
         with held_up(server):
@@ -458,17 +462,8 @@ def one_burst(workers):
             raise Difference("one who was greeted is not served")
         for link in crowd.open.values():
             link.close()
-        return crowd.closed
-
-
-def burst(workers):
-    """Many connect at once: each is greeted, or closed without a byte as it meets a full inbox, and comes again. Workers that keep
-    up have none that is full, so it is tried a few times until one was; a worker that is held up while it has the lobby holds the
-    first up too. The gate's tests fill an inbox each time."""
-    for _ in range(5):
-        if one_burst(workers) or workers == 1:
-            return
-    print("  no inbox was full, so of that nothing is seen here")
+        if workers > 1 and not crowd.closed:
+            raise Difference("no inbox was full")
 
 
 def restarts(workers):
