@@ -4,9 +4,10 @@
 //   load fanout PORT PID CLIENTS WINDOW SECONDS [QUIET [BYTES]]   the first client speaks in a channel of all, with WINDOW lines unanswered
 //   load ping PORT PID CLIENTS DEPTH SECONDS [QUIET]              each client keeps DEPTH times PING unanswered
 //   load logins PORT PID CLIENTS one|all                          greeted clients log in, one after another or all at once
-//   load crowd PORT PID CLIENTS talk|channels|reset COUNT [BUSY]  so many of them, all if left out, do much at once: they say COUNT lines
-//                                                                 to a channel of all, join and leave COUNT channels, or found COUNT battles
-//                                                                 of eight and reset their connections. One more, who is quiet, sends PING
+//   load crowd PORT PID CLIENTS talk|channels|reset|units COUNT [BUSY]  so many of them, all if left out, do much at once: they say COUNT
+//                                                                 lines to a channel of all, join and leave COUNT channels, found COUNT battles
+//                                                                 of eight and reset their connections, or found a battle each and send COUNT
+//                                                                 DISABLEUNITS of 2,720 words, which are refused. One more, who is quiet, sends PING
 //   load memory PORT PID CLIENTS                                  what the server holds: before, with greeted clients, with members of a channel
 //
 // Clients log in as u0001, u0002 and so on. QUIET more are greeted, and do nothing. BYTES has a delivered line, 60 if left out. gcc -O2.
@@ -48,6 +49,7 @@ enum {
     SAY_FRONT = 9,         // the same of the line as it is spoken, which does not name the speaker
     DEPTH_MOST = 1024,
     BUCKETS = 1000000,     // of a tenth of a microsecond
+    UNITS = 2720,
 };
 
 struct client {
@@ -526,11 +528,20 @@ static void take_crowd(struct client *client, const char *bytes, size_t count) {
     client->bytes += count;
 }
 
+// A DISABLEUNITS of as many distinct words as a line holds, which are more than a battle takes.
+static size_t write_units(char *text) {
+    static const char letters[] = "abcdefghijklmnopqrstuvwxyzABCDEFGHIJKLMNOPQRSTUVWXYZ0123456789";
+    size_t length = (size_t)sprintf(text, "DISABLEUNITS");
+    for (unsigned word = 0; word < UNITS; word++) length += (size_t)sprintf(text + length, " %c%c", letters[word / 62], letters[word % 62]);
+    return length + (size_t)sprintf(text + length, "\n");
+}
+
 // What one of the crowd does at once. Its last line asks for a mark.
 static size_t write_deed(char *text, const char *deed, unsigned count) {
     size_t length = 0;
     for (unsigned place = 0; place < count; place++)
-        if (strcmp(deed, "talk") == 0) length += (size_t)sprintf(text + length, "SAY " CHANNEL " %06u a line for all who listen, and ........\n", place);
+        if (strcmp(deed, "units") == 0) length += write_units(text + length);
+        else if (strcmp(deed, "talk") == 0) length += (size_t)sprintf(text + length, "SAY " CHANNEL " %06u a line for all who listen, and ........\n", place);
         else length += (size_t)sprintf(text + length, "JOIN c%u\n", place);
     for (unsigned place = 0; strcmp(deed, "channels") == 0 && place < count; place++) length += (size_t)sprintf(text + length, "LEAVE c%u\n", place);
     return length + (size_t)sprintf(text + length, "#1 PING\n");
@@ -543,13 +554,24 @@ static void reset(struct client *client) {
     client->socket = -1;
 }
 
-// Opens so many battles of eight, of which the first of each eight is the founder.
-static void open_battles(unsigned count) {
+// Opens so many battles of so many members, the first of which is the founder.
+static void open_battles(unsigned count, unsigned members) {
     for (unsigned place = 0; place < count; place++) {
-        tell(&clients[8 * place], "OPENBATTLE 0 0 * 8452 8 0 0 0 Spring\t105\tmap\ttitle\tgame\n");
+        tell(&clients[members * place], "OPENBATTLE 0 0 * 8452 8 0 0 0 Spring\t105\tmap\ttitle\tgame\n");
         pump(5);
-        for (unsigned member = 1; member < 8; member++) tell(&clients[8 * place + member], "JOINBATTLE %u\n", place + 1);
+        for (unsigned member = 1; member < members; member++) tell(&clients[members * place + member], "JOINBATTLE %u\n", place + 1);
         pump(5);
+    }
+}
+
+// Sends all of it, as the socket takes it.
+static void tell_all(const struct client *client, const char *text, size_t length) {
+    while (length > 0) {
+        ssize_t written = write(client->socket, text, length);
+        if (written < 0 && errno != EAGAIN) fail("client %u cannot write", client->number);
+        if (written < 0) pump(1);
+        text += written < 0 ? 0 : written;
+        length -= written < 0 ? 0 : (size_t)written;
     }
 }
 
@@ -561,7 +583,8 @@ static void run_crowd(const char *deed, unsigned count, unsigned busy_count) {
     log_all_in(true);
     if (!resets) join_all();
     take = take_crowd;
-    if (resets) open_battles(count);
+    if (resets) open_battles(count, 8);
+    if (strcmp(deed, "units") == 0) open_battles(client_count, 1);
     for (unsigned round = 0; round < 20; round++) pump(20);
     if (pipe(go) != 0 || pipe(end) != 0) fail("no pipe");
     epoll_ctl(poll_set, EPOLL_CTL_DEL, quiet->socket, NULL);
@@ -569,7 +592,7 @@ static void run_crowd(const char *deed, unsigned count, unsigned busy_count) {
     if (child == 0) be_quiet(quiet, go[0], end[1]);
     char here;
     if (read(end[0], &here, 1) != 1) fail("no quiet client");
-    char *text = malloc((size_t)count * 128 + 64);
+    char *text = malloc((size_t)(count + 1) * SAID_MOST + (size_t)count * LINE_MOST);
     if (text == NULL) fail("no memory");
     size_t length = resets ? (size_t)sprintf(text, "#1 PING\n") : write_deed(text, deed, count);
     crowd_bytes = crowd_lines = 0;
@@ -584,7 +607,7 @@ static void run_crowd(const char *deed, unsigned count, unsigned busy_count) {
             if (round == 0 && resets && place % 8 == 0 && place / 8 < count) reset(client);
             if (client->socket < 0 || (round == 0 && place >= busy_count)) continue;
             if (round > 0) tell(client, "#2 PING\n");
-            else if (write(client->socket, text, length) != (ssize_t)length) fail("client %u cannot write", client->number);
+            else tell_all(client, text, length);
             asked++;
         }
         pump_until(&marks, asked);

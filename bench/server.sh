@@ -4,7 +4,8 @@
 # Runs the server that `make build` leaves, or the one at LOBBY_MAIN, with so many workers (1), and the bare loop with one write a
 # client and round and with one write a line: all in turn, a new process each time, so many runs (5), a measured time of so many
 # seconds (3) where a mode has one. Prints medians of the runs, and of the ratios of each turn. MODES, some of
-# "fanout lengths ping quiet crowd logins log memory calls", leaves the others out.
+# "fanout lengths ping quiet crowd logins log memory calls", leaves the others out. Two more, "waits marks", run another build too,
+# the one at LOBBY_BEFORE, and compare both in turn.
 set -euo pipefail
 cd "$(dirname "$0")/.."
 workers=${1:-1}
@@ -12,7 +13,8 @@ runs=${2:-5}
 seconds=${3:-3}
 modes=${MODES:-fanout lengths ping quiet crowd logins log memory calls}
 main=${LOBBY_MAIN:-$PWD/bin/lobby_main}
-[ -x "$main" ] || { echo "there is no $main: make build makes it"; exit 1; }
+before=${LOBBY_BEFORE:-$main}
+for program in "$main" "$before"; do [ -x "$program" ] || { echo "there is no $program: make build makes bin/lobby_main"; exit 1; }; done
 ulimit -n 8192
 room=$(mktemp -d)
 server=
@@ -41,6 +43,7 @@ launch() {
     printf 'address = "127.0.0.1:%d"\nworkers = %d\nlog = "%s"\n' "$2" "$workers" "$log" > "$room/settings.toml"
     case $1 in
         ours | silent | telling) exec "$main" serve "$room/settings.toml" "$room/accounts.toml" ;;
+        before) exec "$before" serve "$room/settings.toml" "$room/accounts.toml" ;;
         bare) exec "$room/bare_fanout" "$2" ;;
         bare_lines) exec "$room/bare_fanout" "$2" lines ;;
     esac
@@ -190,6 +193,60 @@ crowd() {
         for name in mean worst worst_busy; do figure '| %.1f ' "ours.crowd.${words[0]}.${words[1]}" 'of["'$name'"]'; done
         figure '| %.2f |\n' "ours.crowd.${words[0]}.${words[1]}" 'of["user"] + of["system"]'
     done
+}
+
+# runs_of FORM FILE EXPRESSION : the figure of each run.
+runs_of() { each "$2" "$3" | awk -v form="$1" '{ printf (NR > 1 ? ", " : "") form, $1 }'; }
+
+# The longest waits beside a crowd of two builds, with one worker and with four.
+waits() {
+    local load words file name
+    echo 'A quiet client beside a crowd, before and after, in turn: its longest wait for PONG in ms in each run; processor seconds of the server for all, the median'
+    echo '| Crowd | Workers | Longest before | After | Processors before | After |'
+    echo '|---|---|---|---|---|---|'
+    for load in "500 talk 64 1" "500 talk 64" "500 channels 200" "1600 reset 200" "20 units 8"; do
+        read -r -a words <<< "$load"
+        file=crowd.${words[0]}.${words[1]}
+        for workers in 1 4; do
+            rm -f "$room/before.$file" "$room/ours.$file"
+            in_turn "before ours" crowd "${words[@]}"
+            printf '| %s | %d ' "$load" "$workers"
+            for name in before ours; do printf '| %s ' "$(runs_of %.0f "$name.$file" 'of["worst"]')"; done
+            for name in before ours; do figure '| %.2f ' "$name.$file" 'of["user"] + of["system"]'; done
+            echo '|'
+        done
+    done
+}
+
+# mark WHAT FORM EXPRESSION MODE WORD.. : a row of both builds and the bare loop.
+mark() {
+    local what=$1 form=$2 expression=$3 file=$4.$5.$6 name
+    shift 3
+    for name in before ours bare; do rm -f "$room/$name.$file"; done
+    in_turn "before ours bare" "$@"
+    printf '| %s ' "$what"
+    for name in before ours bare; do figure "| $form " "$name.$file" "$expression"; done
+    for name in before ours; do printf '| %s ' "$(ratio "$name.$file" "bare.$file" "$expression")"; done
+    echo '|'
+}
+
+marks() {
+    local window members others
+    local ping_cost='(of["user"] + of["system"]) / of["answers"] * 1e6'
+    echo "Two builds beside the bare loop, in turn, with $workers worker(s): medians, and medians of the ratios of each turn"
+    echo '| | Before | After | Bare | Before / bare | After / bare |'
+    echo '|---|---|---|---|---|---|'
+    for window in 256 4; do
+        for members in 50 200 1000; do
+            mark "Channel of $members, $window in flight: seconds a million delivered lines" %.3f "$fanout_cost" fanout "$members" "$window" "$seconds"
+        done
+    done
+    mark 'PING, 50 clients, 1 in flight each: seconds a million' %.2f "$ping_cost" ping 50 1 "$seconds"
+    mark 'PING, 50 clients, 20 in flight each: million a second' %.2f 'of["answers"] / of["seconds"] / 1e6' ping 50 20 "$seconds"
+    for others in 50 1000; do
+        mark "PING, 1 client beside $others quiet: median us" %.1f 'of["median"]' ping 1 1 "$seconds" "$others"
+    done
+    mark '2,000 logins at once: seconds until each is in' %.2f 'of["seconds"]' logins 2000 all
 }
 
 logins() {
