@@ -10,7 +10,7 @@ use crate::connection::Connection;
 use crate::poll_timeout::PollTimeout;
 use lobby_lock::{Held, MOST_EVENTS};
 use lobby_machine::Wakes;
-use lobby_turns::{Conn, TurnState};
+use lobby_turns::{Buffers, Conn, TurnState};
 use mio::event::Event;
 use mio::net::TcpStream;
 use mio::{Registry, Token};
@@ -62,6 +62,8 @@ pub struct Connections {
     // the most that a turn and a round tell
     turn_most: u64,
     round_most: u64,
+    // buffers for who has its turn
+    buffers: Buffers,
 }
 
 impl Drop for Connections {
@@ -86,6 +88,7 @@ impl Drop for Connections {
             told: _,
             turn_most: _,
             round_most: _,
+            buffers,
         } = self;
         drop(slab);
         drop(keys);
@@ -93,6 +96,7 @@ impl Drop for Connections {
         drop(due);
         drop(left);
         drop(lingering);
+        drop(buffers);
     }
 }
 
@@ -141,6 +145,7 @@ impl Connections {
             told: 0,
             turn_most: TURN / workers,
             round_most: ROUND / workers,
+            buffers: Buffers::new(alloc),
         }
     }
 
@@ -351,14 +356,25 @@ impl Connections {
         self.slab.get(key)
     }
 
-    /// The connection under a key, whose turn of this round begins. None where there is none, or it had its turn.
+    /// The connection under a key, whose turn of this round begins, with buffers that are lent to it. None where there is none, or it
+    /// had its turn.
     pub fn begin_turn(&mut self, key: usize) -> Option<&mut Connection> {
         let connection = self.slab.get_mut(key)?;
         if connection.round == self.round {
             return None;
         }
         connection.round = self.round;
+        connection.conn.lend(&mut self.buffers);
         Some(connection)
+    }
+
+    /// A turn is over: takes back the buffers that were lent to the connection under a key.
+    pub fn settle(&mut self, key: usize)
+        ensures { self.new ≡ self.old }
+    {
+        if let Some(connection) = self.slab.get_mut(key) {
+            connection.conn.settle(&mut self.buffers);
+        }
     }
 
     /// Sees to it that a connection goes on as its turn ended: where it stopped at a limit or for want of memory, it is left for the
@@ -369,6 +385,7 @@ impl Connections {
         ensures idle { state ≡ TurnState.Idle → self.new ≡ self.old }
         ensures closed { state ≡ TurnState.Closed → Stays self.old self.new }
     {
+        self.settle(key);
         match state {
             TurnState::Idle => {}
             TurnState::Again => self.leave(key, PollTimeout::Zero),

@@ -3,6 +3,7 @@ pub mod Joins
 pub mod Lines
 pub mod Nexts
 pub mod Parts
+pub mod Spaces
 pub mod Drains
 pub mod Talks
 pub mod Sayings

@@ -10,10 +10,10 @@ ghost use Rattle.lobby_holds.specs.Snapshot.{snapshot, Carries};
 ghost use Rattle.lobby_holds.specs.Went.{Went};
 ghost use Rattle.lobby_holds.specs.Holds.{HasNoSpoiltNext};
 
+use crate::buffer::{Buffer, Buffers, PIECE};
 use crate::gate::Gate;
 use crate::link::{Got, Link, Sent};
 use crate::login_log::{Asked, Visit};
-use byte_queue::ByteQueue;
 use client_session::{Next, Session};
 use command_grammar::Command;
 use line_framer::FeedError;
@@ -23,32 +23,24 @@ use server_log::{Cause, Happening};
 use std::alloc::{AllocError, Global};
 use std::marker::Model;
 
-/// The most bytes that one read or one drain moves: a page. A buffer of so many is made for each, so it is small enough to be had
-/// where memory is short, and nearly all that a client sends at once fits.
-pub const PIECE: usize = 4_096;
-
 /// The connection of one client: its session, and the bytes that are on their way. Contracts see
-/// those that were read and not yet fed, and those that were drained and not yet written. While none
-/// are to be written, it holds no buffer for them.
+/// those that were read and not yet fed, and those that were drained and not yet written. In a turn it
+/// has buffers for both, which are lent to it. Between turns it has one only for bytes that wait.
 #[derive(Drop)]
 pub struct Conn {
-    pub(crate) alloc: Global,
     pub(crate) session: Session,
-    pub(crate) unfed: Vec<u8>,
-    pub(crate) unwritten: ByteQueue,
+    pub(crate) unfed: Buffer,
+    pub(crate) unwritten: Buffer,
     // for operators
     visit: Visit,
 }
 
 impl Model for Conn {
-    ghost use Rattle.std.specs.Prelude.{◌≡◌, []};
     ghost use Rattle.lobby_holds.specs.Snapshot.{Carried};
 
     ghost Value = { Carried };
 
-    ghost view = { λ c. record { session = c.session; unfed = c.unfed.items; unwritten = c.unwritten.bytes } };
-
-    ghost invariant = { λ c. c.unwritten.bytes ≡ [] → c.unwritten.room ≡ 0 };
+    ghost view = { λ c. record { session = c.session; unfed = c.unfed.bytes; unwritten = c.unwritten.bytes } };
 }
 
 impl Conn {
@@ -60,10 +52,9 @@ impl Conn {
         ensures unwritten { result.unwritten ≡ [] }
     {
         Conn {
-            alloc,
             session: Session::new(alloc, client),
-            unfed: Vec::new(alloc),
-            unwritten: ByteQueue::new(alloc),
+            unfed: Buffer::new(alloc),
+            unwritten: Buffer::new(alloc),
             visit: Visit::new(),
         }
     }
@@ -109,21 +100,28 @@ impl Conn {
         self.rest().is_empty()
     }
 
-    /// Has these bytes wait to be written, and no others.
-    pub(crate) fn set_drained(&mut self, mut drained: ByteQueue)
-        ensures { self.new ≡ record self.old { unwritten = drained.bytes } }
-    {
-        drained.release(0);
-        self.unwritten = drained;
-    }
-
     /// So many bytes more were written.
     pub fn count_written(&mut self, count: usize)
         requires { count ≤ length self.old.unwritten }
         ensures { self.new ≡ record self.old { unwritten = drop count self.old.unwritten } }
     {
         self.unwritten.consume(count);
-        self.unwritten.release(0);
+    }
+
+    /// A turn begins: it is lent buffers, where it has none.
+    pub fn lend(&mut self, buffers: &mut Buffers)
+        ensures { self.new ≡ self.old }
+    {
+        self.unfed.take(&mut buffers.unfed);
+        self.unwritten.take(&mut buffers.unwritten);
+    }
+
+    /// A turn is over: it gives back each buffer in which no bytes wait.
+    pub fn settle(&mut self, buffers: &mut Buffers)
+        ensures { self.new ≡ self.old }
+    {
+        self.unfed.give_back(&mut buffers.unfed);
+        self.unwritten.give_back(&mut buffers.unwritten);
     }
 
     /// Feeds what was read and not yet fed. Where memory is refused, nothing changes, and no spoilt place is next.
@@ -136,8 +134,8 @@ impl Conn {
         if self.unfed.is_empty() {
             return Ok(());
         }
-        feed_session(&mut self.session, &self.unfed)?;
-        self.unfed = Vec::new(self.alloc);
+        feed_session(&mut self.session, self.unfed.as_slice())?;
+        self.unfed.clear();
         Ok(())
     }
 
@@ -157,14 +155,8 @@ impl Conn {
         ensures last_sent { (L.wire link.new).last_sent ≡ (L.wire link.old).last_sent }
         ensures err { OnErr result ((self.new ≡ self.old) × (L.wire link.new ≡ L.wire link.old)) }
     {
-        let mut unfed = Vec::with_capacity(self.alloc, PIECE)?;
-        let mut piece = [0u8; PIECE];
-        let got = link.read(&mut piece);
-        if let Got::Bytes(count) = got {
-            let _ = unfed.extend_from_slice(&piece[..count]);
-            self.unfed = unfed;
-        }
-        Ok(got)
+        self.unfed.make_room()?;
+        Ok(self.unfed.read(link))
     }
 
     /// Accepts the next line, where one is there; else nothing changes.

@@ -13,10 +13,10 @@ ghost use Rattle.lobby_holds.specs.Snapshot.{snapshot};
 ghost use Rattle.lobby_holds.specs.Went.{Went};
 ghost use Rattle.lobby_holds.specs.Holds.{Stands, Made, SaysLines, IsWithin, HasNoLineNext, HasLoudNext, StopsAt, is_quiet, Drains, Asks, DrainedInto, DrainedBehind, LetsGo};
 
-use crate::conn::{Conn, PIECE};
+use crate::buffer::{Buffer, PIECE};
+use crate::conn::Conn;
 use crate::gate::Gate;
 use crate::gated_desk::GatedDesk;
-use byte_queue::ByteQueue;
 use client_session::Next;
 use command_grammar::{Command, Request};
 use lobby_lock::{Desk, Held, MOST_EVENTS, Pass};
@@ -230,7 +230,7 @@ fn drain_once(held: &mut Held, client: u64, into: &mut [u8]) -> Piece
 
 /// Drains into a slice, in a hold that goes on, and where less came than it has room for, once more
 /// into the rest of it: that a client has been told everything is known by a drain that gives nothing.
-fn drain_all(held: &mut Held, client: u64, into: &mut [u8]) -> Piece
+pub(crate) fn drain_all(held: &mut Held, client: u64, into: &mut [u8]) -> Piece
     requires few { length held.old.events + 2 ≤ MOST_EVENTS }
     requires small { length into.old ≤ PIECE }
     requires stands { Stands held.old }
@@ -251,26 +251,9 @@ fn drain_all(held: &mut Held, client: u64, into: &mut [u8]) -> Piece
     }
 }
 
-/// Drains a piece behind what stands in a buffer, in a hold that goes on. The piece comes by way of a
-/// slice of its length.
-fn drain_behind(held: &mut Held, client: u64, bytes: &mut [u8], unwritten: &mut ByteQueue) -> Piece
-    requires few { length held.old.events + 2 ≤ MOST_EVENTS }
-    requires stands { Stands held.old }
-    requires piece { length bytes.old ≡ PIECE }
-    requires room { PIECE ≤ unwritten.old.room }
-    ensures drained { DrainedBehind (pass_after held.old) (pass_after held.new) client unwritten.old.bytes unwritten.new.bytes result }
-    ensures stands { Stands held.new }
-    ensures count { length held.new.events ≤ length held.old.events + 2 }
-    ensures pass { held.new.pass ≡ held.old.pass }
-{
-    let piece = drain_all(held, client, bytes);
-    unwritten.append(&bytes[..piece.count]);
-    piece
-}
-
 /// Drains behind what stands in a buffer that has room for a piece, in a new hold: one piece, and as long
 /// as they are full and memory is there, further ones, so that one write carries more.
-fn drain_pieces(held: &mut Held, client: u64, unwritten: &mut ByteQueue) -> Piece
+fn drain_pieces(held: &mut Held, client: u64, unwritten: &mut Buffer) -> Piece
     requires new { held.old.events ≡ [] }
     requires stands { Stands held.old }
     requires room { PIECE ≤ unwritten.old.room }
@@ -278,13 +261,12 @@ fn drain_pieces(held: &mut Held, client: u64, unwritten: &mut ByteQueue) -> Piec
     ensures count { length held.new.events ≤ 8 }
     ensures pass { held.new.pass ≡ held.old.pass }
 {
-    let mut bytes = [0u8; PIECE];
-    let mut piece = drain_behind(held, client, &mut bytes, unwritten);
+    let mut piece = unwritten.drain(held, client);
     for _ in 1..PIECES {
-        if piece.finished || piece.count < PIECE || unwritten.reserve(PIECE).is_err() {
+        if piece.finished || piece.count < PIECE || unwritten.make_room().is_err() {
             return piece;
         }
-        piece = drain_behind(held, client, &mut bytes, unwritten);
+        piece = unwritten.drain(held, client);
     }
     piece
 }
@@ -321,15 +303,13 @@ pub fn drain<R: Wait, G: Gate>(
     ensures came { IfOk result.1 (λ piece. piece.dry ≡ false → conn.new.unwritten ≢ []) }
     ensures err { OnErr result.1 ((conn.new ≡ conn.old) × (result.0 ≡ pass)) }
 {
-    let mut unwritten = ByteQueue::new(conn.alloc);
-    if unwritten.reserve(PIECE).is_err() {
+    if conn.unwritten.make_room().is_err() {
         return (pass, Err(AllocError));
     }
+    let client = conn.client();
     let mut held = desk.take(rt, pass);
-    let piece = drain_pieces(&mut held, conn.client(), &mut unwritten);
-    let pass = held.give(rt, desk.desk);
-    conn.set_drained(unwritten);
-    (pass, Ok(piece))
+    let piece = drain_pieces(&mut held, client, &mut conn.unwritten);
+    (held.give(rt, desk.desk), Ok(piece))
 }
 
 /// Asks whether nothing will ever come of the client, without draining a byte.

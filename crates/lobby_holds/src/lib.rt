@@ -6,6 +6,7 @@
 //! crate above.
 #![tactic(auto)]
 
+mod buffer;
 mod conn;
 mod gate;
 mod gated_desk;
@@ -13,7 +14,8 @@ pub mod holds;
 mod link;
 mod login_log;
 
-pub use conn::{Conn, PIECE};
+pub use buffer::{Buffers, PIECE};
+pub use conn::Conn;
 pub use gate::Gate;
 pub use gated_desk::GatedDesk;
 pub use link::{Got, Link, Sent};

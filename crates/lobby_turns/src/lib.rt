@@ -13,7 +13,7 @@ mod serving;
 mod turn;
 
 pub use lobby_holds::holds::let_go;
-pub use lobby_holds::{Conn, Gate, Got, Link, PIECE, Sent};
+pub use lobby_holds::{Buffers, Conn, Gate, Got, Link, PIECE, Sent};
 pub use sending::SendState;
 pub use serving::{close, send_rest, serve};
 pub use turn::{Turn, TurnState};

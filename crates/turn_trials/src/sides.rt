@@ -15,6 +15,7 @@ pub struct Caller {
 
 /// A client's connection, the link over which it comes, and all that is told over that in the end.
 pub struct Side {
+    pub alloc: Global,
     pub conn: Conn,
     pub link: MemoryLink,
     pub told: Vec<u8>,
@@ -22,7 +23,12 @@ pub struct Side {
 
 impl Drop for Side {
     fn drop(self) {
-        let Side { conn, link, told } = self;
+        let Side {
+            alloc: _,
+            conn,
+            link,
+            told,
+        } = self;
         drop(conn);
         drop(link);
         drop(told);
@@ -37,6 +43,7 @@ impl Side {
         let link = MemoryLink::new(alloc, sent, caller.piece, caller.room);
         match link.with_place(told.len()) {
             Ok(link) => Ok(Side {
+                alloc,
                 conn: Conn::new(alloc, client),
                 link,
                 told,

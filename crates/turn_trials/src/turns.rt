@@ -7,7 +7,7 @@ use crate::places;
 use crate::sides::{Caller, Side, Sides};
 use lobby_lock::{Desk, Pass};
 use lobby_machine::OpenError;
-use lobby_turns::{Gate, Link, PIECE, TurnState, serve};
+use lobby_turns::{Buffers, Gate, Link, PIECE, TurnState, serve};
 use memory_refuser::notes::Notes;
 use memory_refuser::refuser::Refuser;
 use std::sync::Wait;
@@ -67,7 +67,7 @@ fn connect<R: Wait>(rt: &R, desk: &Desk, pass: Pass, client: u64) -> (Pass, Came
     (held.give(rt, desk), came)
 }
 
-/// A client gets a turn.
+/// A client gets a turn, for which no buffers are lent to it: it makes its own, and keeps none in which nothing waits.
 fn turn<R: Wait>(rt: &R, desk: &Desk, pass: Pass, side: &mut Side) -> (Pass, Came)
     requires { pass.desk ≡ desk.now }
     ensures { result.0.desk ≡ desk.now }
@@ -84,6 +84,9 @@ fn turn<R: Wait>(rt: &R, desk: &Desk, pass: Pass, side: &mut Side) -> (Pass, Cam
         &Open,
         u64::MAX,
     );
+    let mut buffers = Buffers::new(side.alloc);
+    side.conn.settle(&mut buffers);
+    drop(buffers);
     let came = match turn.state {
         TurnState::Idle | TurnState::Again => Came::Done,
         TurnState::Memory => Came::Short,

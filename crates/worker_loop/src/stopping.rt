@@ -38,14 +38,31 @@ pub fn step_all<R: Wait, G: Gate>(
     let mut pass = pass;
     for key in 0..connections.key_bound() {
         pass = match step {
-            Step::Send => match connections.begin_turn(key) {
-                Some(connection) => send_rest(rt, shared, pass, connection),
-                None => pass,
-            },
+            Step::Send => send_at(rt, shared, pass, connections, key),
             Step::ShutTold => shut_at(rt, shared, pass, connections, key, true),
             Step::Shut => shut_at(rt, shared, pass, connections, key, false),
         };
     }
+    pass
+}
+
+/// Sends to the client of the connection under a key what waits for it, if there is one.
+fn send_at<R: Wait, G: Gate>(
+    rt: &R,
+    shared: &Shared<'_, G>,
+    pass: Pass,
+    connections: &mut Connections,
+    key: usize,
+) -> Pass
+    requires { pass.desk ≡ shared.now.desk.now }
+    ensures desk { result.desk ≡ pass.desk }
+    ensures number { result.worker.number ≡ pass.worker.number }
+{
+    let Some(connection) = connections.begin_turn(key) else {
+        return pass;
+    };
+    let pass = send_rest(rt, shared, pass, connection);
+    connections.settle(key);
     pass
 }
 

@@ -1,6 +1,6 @@
 //! One worker and its client over a link in memory.
 
-use crate::turns::plays::Step::{Enters, Reads, Takes, TurnWithin, Turns};
+use crate::turns::plays::Step::{Enters, Keeps, Reads, Takes, TurnWithin, Turns};
 use crate::turns::plays::{Caller, End, Step, play};
 use lobby_turns::TurnState;
 use std::alloc::Global;
@@ -166,6 +166,39 @@ fn each_take_passes_the_gate_and_a_hold_says_up_to_32_lines(rt: HostRuntime) {
         let steps = [Enters(caller), Turns(0, *turns, *state), Takes(*takes)];
         play(&rt, rt.alloc(), &steps, *events);
     }
+}
+
+/// A client whose link takes nothing.
+const DEAF: Caller = Caller {
+    sends: PING,
+    piece: 4_096,
+    room: 0,
+    end: End::Open,
+};
+
+const HEARING: Caller = Caller {
+    sends: PING,
+    piece: 4_096,
+    room: 4_096,
+    end: End::Open,
+};
+
+/// The one who reads all gives back both buffers, the other keeps the one in which bytes wait for it.
+static LENT: [Step; 9] = [
+    Keeps(0),
+    Enters(HEARING),
+    Turns(0, 1, TurnState::Idle),
+    Keeps(8_192),
+    Enters(DEAF),
+    Turns(1, 1, TurnState::Idle),
+    Keeps(4_096),
+    Turns(0, 1, TurnState::Idle),
+    Keeps(8_192),
+];
+
+#[test]
+fn a_quiet_client_holds_no_buffer(rt: HostRuntime) {
+    play(&rt, rt.alloc(), &LENT, 9);
 }
 
 const LATE_EXIT: Text = &[(b"                EXIT\n", 1)];

@@ -7,7 +7,7 @@ use crate::turns::desks::open;
 use crate::turns::serving::take_turns;
 use crate::verdict::{fail, same};
 use lobby_lock::{Closing, Count, Desk, Pass};
-use lobby_turns::{Conn, Gate, TurnState};
+use lobby_turns::{Buffers, Conn, Gate, TurnState};
 use std::alloc::{AllocError, Global};
 use std::process::Abort;
 use std::sync::Wait;
@@ -52,6 +52,8 @@ pub enum Step {
     Reads(usize, Text),
     /// So often the lobby was taken in turns.
     Takes(u64),
+    /// So many bytes of memory do the buffers take that are lent for turns, while they are lent to nobody.
+    Keeps(usize),
 }
 
 /// A gate that counts how often the lobby is taken in turns, and how many bytes it is told were written.
@@ -90,6 +92,7 @@ struct Client {
 struct Cast {
     alloc: Global,
     gate: Counting,
+    buffers: Buffers,
     clients: Vec<Client>,
 }
 
@@ -143,6 +146,7 @@ impl Cast {
                 takes: AtomicU64::new(0),
                 written: AtomicU64::new(0),
             },
+            buffers: Buffers::new(alloc),
             clients: Vec::new(alloc),
         }
     }
@@ -188,6 +192,7 @@ impl Cast {
     {
         match self.clients.get_mut(who) {
             Some(client) => {
+                client.conn.lend(&mut self.buffers);
                 let (pass, last) = take_turns(
                     rt,
                     desk,
@@ -198,6 +203,7 @@ impl Cast {
                     turns,
                     allowance,
                 );
+                client.conn.settle(&mut self.buffers);
                 client.is_shut = state == TurnState::Closed;
                 same(rt, last, Some(state));
                 pass
@@ -248,6 +254,10 @@ impl Cast {
             }
             Step::Takes(takes) => {
                 same(rt, self.gate.takes.load(Ordering::SeqCst), *takes);
+                pass
+            }
+            Step::Keeps(kept) => {
+                same(rt, self.buffers.kept(), *kept);
                 pass
             }
         }

@@ -7,11 +7,10 @@ use Rattle.lobby_holds.proofs.holds.drain_pieces.Goals as goal
 pub loop-preserved : goal.loop-preserved
 loop-preserved c =
     let h = c.loop.invariant in
-    let d = c.drain_behind-piece-in-loop.ensures in (
+    let d = c.drain-piece-in-loop.ensures in (
       drained_further _ _ _ _ _ _ _ _ _ c.if-piece.false h.0
-          (subst (λ (l : List ℕ). DrainedBehind (pass_after c.loop.held) (pass_after c.drain_behind-piece-in-loop.new.held) c.args.client l c.drain_behind-piece-in-loop.new.unwritten.bytes c.drain_behind-piece-in-loop.result) c.reserve.ensures.bytes d.drained),
+          (subst (λ (l : List ℕ). DrainedBehind (pass_after c.loop.held) (pass_after c.drain-piece-in-loop.new.held) c.args.client l c.drain-piece-in-loop.new.self.bytes c.drain-piece-in-loop.result) c.make_room.ensures.bytes d.drained),
       d.stands,
       omega (arith, h.2, d.count),
       d.pass ∙ h.3,
-      c.drain_behind-piece-in-loop.auto.bytes ∙ h.4,
     )

@@ -9,4 +9,3 @@ invariant-loop l =
     × Stands l.held
     × (length l.held.events ≤ l.counter + l.counter)
     × (l.held.pass ≡ l.fn.held.pass)
-    × (length l.bytes ≡ 4096)

@@ -7,8 +7,8 @@ use Rattle.lobby_holds.proofs.conn.Conn.feed.Goals as goal
 
 pub returns-clause-went : goal.returns-clause-went
 returns-clause-went c = λ wire pass.
-    let old : Carried = record { session = c.self.inside.session; unfed = c.self.inside.unfed.items; unwritten = c.self.inside.unwritten.bytes } in
-    let new : Carried = record { session = c.feed_session.new.session; unfed = c.new.result.items; unwritten = c.self.inside.unwritten.bytes } in
+    let old : Carried = record { session = c.self.inside.session; unfed = c.self.inside.unfed.bytes; unwritten = c.self.inside.unwritten.bytes } in
+    let new : Carried = record { session = c.feed_session.new.session; unfed = c.clear.new.self.bytes; unwritten = c.self.inside.unwritten.bytes } in
     subst (λ (x : Carried). Went (snapshot x wire pass) (snapshot new wire pass) []) c.self.view_is (
-    went_fed old new wire pass c.in_ok-feed_session.ensures.client c.new.ensures.items refl (λ bytes accepted heard.
-    subst (λ (piece : List ℕ). Heard c.feed_session.new.session.framed (bytes ++ piece) accepted) c.deref.ensures.value (c.in_ok-feed_session.ensures.heard bytes accepted heard)))
+    went_fed old new wire pass c.in_ok-feed_session.ensures.client c.clear.ensures refl (λ bytes accepted heard.
+    subst (λ (piece : List ℕ). Heard c.feed_session.new.session.framed (bytes ++ piece) accepted) c.as_slice.ensures (c.in_ok-feed_session.ensures.heard bytes accepted heard)))
