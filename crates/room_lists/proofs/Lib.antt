@@ -3,6 +3,7 @@ pub mod Entries
 pub mod Indexed
 pub mod Listed
 pub mod Picked
+pub mod Placed
 pub mod Removed
 pub mod Room
 pub mod Seen

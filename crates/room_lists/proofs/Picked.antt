@@ -9,7 +9,6 @@ use Rattle.room_lists.specs.Keyed.{has_key, without_key, keys_there}
 use Rattle.room_lists.specs.Units.{words_new}
 use Rattle.room_lists.proofs.Entries.{has_key_is}
 use Rattle.room_lists.proofs.Tests.{and_neither, neither}
-use mathlib.Core.Bool.{beq}
 use Rattle.std.proofs.Math.Bool.{and-true, and-false, or-false, or_assoc}
 
 module _ (test : List ℕ → Bool) where
@@ -118,24 +117,18 @@ picked_new test (word ∷ words) units seen same =
           ∙ sym (neither (is_among other units) (same_name other word)) ∙ ap not (sym (among_more other units word))))
     ]
 
-beq_true : (b : Bool) → beq b true ≡ b
-beq_true true = refl
-beq_true false = refl
+-- the keys that are there, and those that are not
+module _ {T : Type 0} (key_of : T → List ℕ) (items : List T) where
+  abbrev pub is_there : List ℕ → Bool
+  is_there key = has_key key_of key items
 
-beq_false : (b : Bool) → beq b false ≡ not b
-beq_false true = refl
-beq_false false = refl
+  abbrev pub is_missing : List ℕ → Bool
+  is_missing key = not (has_key key_of key items)
 
--- the keys that are there, or those that are not
-abbrev pub asked : {T : Type 0} → (T → List ℕ) → List T → Bool → List ℕ → Bool
-asked key_of items are_there key = beq (has_key key_of key items) are_there
+  module _ (keys : List (List ℕ)) where
+    pub all_there : picked is_there [] keys ≡ keys_there key_of items keys
+    all_there = picked_there key_of is_there keys items [] (λ key. and-true (is_there key))
 
-module _ {T : Type 0} (key_of : T → List ℕ) (items : List T) (keys : List (List ℕ)) (are_there : Bool) where
-  pub asked_there : are_there ≡ true → picked (asked key_of items are_there) [] keys ≡ keys_there key_of items keys
-  asked_there is = picked_there key_of (asked key_of items are_there) keys items []
-      (λ key. and-true (asked key_of items are_there key) ∙ ap (beq (has_key key_of key items)) is ∙ beq_true (has_key key_of key items))
-
-  pub asked_new : are_there ≡ false → picked (asked key_of items are_there) [] keys ≡ words_new (map key_of items) keys
-  asked_new is = picked_new (asked key_of items are_there) keys (map key_of items) []
-      (λ key. and-true (asked key_of items are_there key) ∙ ap (beq (has_key key_of key items)) is ∙ beq_false (has_key key_of key items)
-      ∙ ap not (sym (has_key_is key_of key items)))
+    pub all_missing : picked is_missing [] keys ≡ words_new (map key_of items) keys
+    all_missing = picked_new is_missing keys (map key_of items) []
+        (λ key. and-true (is_missing key) ∙ ap not (sym (has_key_is key_of key items)))

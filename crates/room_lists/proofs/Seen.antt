@@ -1,5 +1,5 @@
 -- Keys that were seen, each once, in the order in which they came.
-use Rattle.std.proofs.Common.{◌≡◌, ℕ, List, [], ◌∷◌, ◌++◌, map, refl, sym, ap, ◌∙◌, Bool, true, false, not, nat_eq}
+use Rattle.std.proofs.Common.{◌≡◌, ◌<◌, ◌+◌, ℕ, List, [], ◌∷◌, ◌++◌, map, refl, sym, ap, ◌∙◌, Bool, true, false, not, nat_eq, length, drop, get_or}
 use Rattle.std.specs.Prelude.{◌||◌, if◌then◌else◌}
 use Rattle.std.specs.Borrow.{Bor}
 use Rattle.std.specs.Cmp.Lexicographic.{pointwise, texts_ties}
@@ -8,7 +8,7 @@ use Rattle.std.proofs.lemmas.List.{map-append}
 use Rattle.indexmap.specs.IndexSet.{insert_key}
 use Rattle.line_words.specs.Table.{same_name, is_among}
 use Rattle.line_words.proofs.Tables.{same_name_is}
-use Rattle.room_lists.proofs.Picked.{among_more}
+use Rattle.room_lists.proofs.Picked.{among_more, picked, passed_again, passed_other}
 use Rattle.std.proofs.Math.Bool.{or-false, or-true}
 
 abbrev pub same_bytes : Bor (List ℕ) → Bor (List ℕ) → Bool
@@ -30,21 +30,6 @@ pub seen_before : (added b : Bool) → added ≡ not b → added ≡ false → b
 seen_before added true is e = refl
 seen_before added false is e = let never : true ≡ false = sym is ∙ e in absurd (cc)
 
--- a key that comes, among those that were seen before it
-module _ (seen : List (Bor (List ℕ))) (there : List (List ℕ)) (held : words_of seen ≡ there) (key : Bor (List ℕ)) (word : List ℕ) (same : key.now ≡ word) where
-  among : list_any (same_bytes key) seen ≡ is_among word there
-  among = was_seen key seen ∙ ap (is_among key.now) held ∙ ap (λ w. is_among w there) same
-
-  pub seen_more : list_any (same_bytes key) seen ≡ false → (is_among word there ≡ false) × (words_of (insert_key same_bytes seen key) ≡ there ++ word ∷ [])
-  seen_more new = (
-    sym among ∙ new,
-    ap (λ b. words_of (if b then seen else seen ++ key ∷ [])) new ∙ map-append (λ k. k.now) seen (key ∷ [])
-        ∙ ap (λ words. words ++ key.now ∷ []) held ∙ ap (λ w. there ++ w ∷ []) same,
-  )
-
-  pub seen_again : list_any (same_bytes key) seen ≡ true → (is_among word there ≡ true) × (words_of (insert_key same_bytes seen key) ≡ there)
-  seen_again old = (sym among ∙ old, ap (λ b. words_of (if b then seen else seen ++ key ∷ [])) old ∙ held)
-
 -- a key more in an index
 pub among_inserted : (seen : List (Bor (List ℕ))) (key : Bor (List ℕ)) (other : List ℕ)
     → is_among other (words_of (insert_key same_bytes seen key)) ≡ (is_among other (words_of seen) || same_name other key.now)
@@ -60,3 +45,38 @@ among_inserted seen key other =
       | true ↦ λ same. ap (λ w. is_among w (words_of seen)) (same_name_is other key.now same) ∙ there ∙ sym (or-true (is_among other (words_of seen)))
       | false ↦ λ apart. sym (or-false (is_among other (words_of seen)))
     ] refl
+
+-- a key that comes, where of the keys that pass a test those are found that were seen
+module _ (test : List ℕ → Bool) (seen : List (Bor (List ℕ))) (found : List (List ℕ)) (key : Bor (List ℕ)) (word : List ℕ) (same : key.now ≡ word)
+    (held : (other : List ℕ) → test other ≡ true → is_among other (words_of seen) ≡ is_among other found) where
+  known : test word ≡ true → list_any (same_bytes key) seen ≡ is_among word found
+  known passes = was_seen key seen ∙ ap (λ w. is_among w (words_of seen)) same ∙ held word passes
+
+  inserted : (other : List ℕ) → is_among other (words_of (insert_key same_bytes seen key)) ≡ (is_among other (words_of seen) || same_name other word)
+  inserted other = among_inserted seen key other ∙ ap (λ w. is_among other (words_of seen) || same_name other w) same
+
+  pub is_new : list_any (same_bytes key) seen ≡ false → test word ≡ true → is_among word found ≡ false
+  is_new new passes = sym (known passes) ∙ new
+
+  pub seen_new : (other : List ℕ) → test other ≡ true → is_among other (words_of (insert_key same_bytes seen key)) ≡ is_among other (found ++ word ∷ [])
+  seen_new other passes = inserted other ∙ ap (λ b. b || same_name other word) (held other passes) ∙ sym (among_more other found word)
+
+  pub seen_other : test word ≡ false → (other : List ℕ) → test other ≡ true
+      → is_among other (words_of (insert_key same_bytes seen key)) ≡ is_among other found
+  seen_other fails other passes = inserted other ∙ elim (same_name other word) as (λ b. same_name other word ≡ b
+      → (is_among other (words_of seen) || b) ≡ is_among other found) [
+        | true ↦ λ is. let never : true ≡ false = sym passes ∙ ap test (same_name_is other word is) ∙ fails in absurd (cc)
+        | false ↦ λ apart. or-false (is_among other (words_of seen)) ∙ held other passes
+      ] refl
+
+  module _ (old : list_any (same_bytes key) seen ≡ true) where
+    pub seen_again : (other : List ℕ) → test other ≡ true → is_among other (words_of (insert_key same_bytes seen key)) ≡ is_among other found
+    seen_again other passes = ap (λ b. is_among other (words_of (if b then seen else seen ++ key ∷ []))) old ∙ held other passes
+
+    pub passes_over : (words : List (List ℕ)) (i : ℕ) → i < length words → word ≡ get_or words i word
+        → found ++ picked test found (drop (i + 1) words) ≡ found ++ picked test found (drop i words)
+    passes_over words i inside is =
+        elim (test word) as (λ b. test word ≡ b → found ++ picked test found (drop (i + 1) words) ≡ found ++ picked test found (drop i words)) [
+          | true ↦ λ passes. passed_again test found words i word inside is (sym (known passes) ∙ old)
+          | false ↦ λ fails. passed_other test found words i word inside is fails
+        ] refl

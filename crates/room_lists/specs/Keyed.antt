@@ -2,12 +2,16 @@
 use Rattle.std.specs.Prelude.{◌≡◌, ◌<◌, ◌≤◌, ℕ, Bool, not, if◌then◌else◌, List, [], ◌∷◌, filter, map, length, Option, Some, None, Vec}
 use Rattle.std.specs.declared.alloc.Global.{Global}
 use Rattle.std.specs.Borrow.{Bor}
-use Rattle.std.specs.List.{list_any}
+use Rattle.std.specs.List.{list_any, position_or_len}
 use Rattle.line_words.specs.Table.{same_name}
 
 module _ {T : Type 0} (key_of : T → List ℕ) where
   abbrev pub has_key : List ℕ → List T → Bool
   has_key key items = list_any (λ t. same_name key (key_of t)) items
+
+  -- how many items stand before the one of a key
+  abbrev pub place_of : List ℕ → List T → ℕ
+  place_of key items = position_or_len (λ t. same_name key (key_of t)) items
 
   -- a key that is there keeps its place
   abbrev pub with_item : List T → T → List T

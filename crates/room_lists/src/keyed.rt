@@ -166,6 +166,14 @@ impl<T: Keyed> KeyedList<T> {
         self.by_key.contains_key(key)
     }
 
+    /// Where the item of this key stands, from 0 on; None where it is not there.
+    fn place_of(&self, key: &[u8]) -> Option<usize>
+        ensures there { is_some result ≡ keyed.has_key T.key_of key.now self.now }
+        ensures place { IfSome result (λ place. (place < length self.now) × (place ≡ keyed.place_of T.key_of key.now self.now)) }
+    {
+        self.by_key.get_index_of(key)
+    }
+
     /// Whether there would be at most `limit` items, if these were put. Where memory for an index of those
     /// that are new is refused, it walks for each of them those before it.
     pub(crate) fn has_room_for(&self, items: &[T], limit: usize) -> bool
@@ -219,8 +227,7 @@ impl<T: Keyed> KeyedList<T> {
     }
 
     /// The items whose keys are not there, the first of each key, in their order; None where there would be
-    /// more than `limit` items, if these were put. Fails only where memory is refused, and asks for none
-    /// where the list is full.
+    /// more than `limit` items, if these were put. Fails only where memory is refused.
     pub(crate) fn new_items<'a>(
         &self,
         alloc: Global,
@@ -232,7 +239,7 @@ impl<T: Keyed> KeyedList<T> {
         ensures room { IfOk result (λ new. is_some new ≡ not (nat_lt limit (length (keyed.with_items T.key_of self.now items.now)))) }
     {
         match limit.checked_sub(self.by_key.len()) {
-            Some(most) => self.firsts(alloc, items, false, most),
+            Some(most) => self.firsts_new(alloc, items, most),
             None => Ok(None),
         }
     }
@@ -253,7 +260,8 @@ impl<T: Keyed> KeyedList<T> {
         let Some(most) = limit.checked_sub(self.by_key.len()) else {
             return Ok(None);
         };
-        let mut last = IndexMap::new(alloc);
+        let capacity = items.len().min(limit);
+        let mut last = IndexMap::with_capacity(alloc, capacity)?;
         let mut new = 0;
         for item in items {
             let key = item.key();
@@ -328,37 +336,52 @@ impl<T: Keyed> KeyedList<T> {
     pub(crate) fn keys_there(&self, alloc: Global, keys: &[WordBuf]) -> Result<WordList, AllocError>
         ensures { IfOk result (λ there. there ≡ keyed.keys_there T.key_of self.now keys.now) }
     {
-        match self.firsts(alloc, keys, true, keys.len())? {
-            Some(firsts) => Ok(WordList::new(copies_of_lent(alloc, &firsts)?)),
-            None => unreachable!(), // they are no more than the keys
-        }
+        let firsts = self.firsts_there(alloc, keys)?;
+        Ok(WordList::new(copies_of_lent(alloc, &firsts)?))
     }
 
-    /// The items whose keys are here, or those whose keys are not, the first of each key, in their order; None
-    /// where these are more than `most`. One look-up an item, and an index of those that are given. It
-    /// grows only for one that is given.
-    fn firsts<'a, U: Keyed>(
+    /// Each of the keys that is there, once, in the order of the list of keys. One look-up a key: where it
+    /// stands says whether it was met before.
+    fn firsts_there<'a>(
         &self,
         alloc: Global,
-        items: &'a [U],
-        are_there: bool,
-        most: usize,
-    ) -> Result<Option<Vec<&'a U>>, AllocError>
-        ensures there { are_there ≡ true → IfOk result (keyed.AreFirsts U.key_of most (keyed.keys_there T.key_of self.now (map U.key_of items.now))) }
-        ensures new { are_there ≡ false → IfOk result (keyed.AreFirsts U.key_of most (words_new (map T.key_of self.now) (map U.key_of items.now))) }
+        keys: &'a [WordBuf],
+    ) -> Result<Vec<&'a WordBuf>, AllocError>
+        ensures { IfOk result (λ firsts. map (λ first. first.now) firsts.items ≡ keyed.keys_there T.key_of self.now keys.now) }
     {
-        let mut seen = IndexSet::new(alloc);
+        let mut is_met = Vec::from_elem(alloc, false, self.by_key.len())?;
+        let mut firsts = Vec::new(alloc);
+        for key in keys {
+            if let Some(place) = self.place_of(key.as_slice())
+                && !is_met[place]
+            {
+                is_met[place] = true;
+                firsts.push(key)?;
+            }
+        }
+        Ok(firsts)
+    }
+
+    /// The first item of each key that is not there, in their order; None where these are more than `most`.
+    /// One look-up an item, one for each key, and an index of those.
+    fn firsts_new<'a>(
+        &self,
+        alloc: Global,
+        items: &'a [T],
+        most: usize,
+    ) -> Result<Option<Vec<&'a T>>, AllocError>
+        ensures { IfOk result (keyed.AreFirsts T.key_of most (words_new (map T.key_of self.now) (map T.key_of items.now))) }
+    {
+        let distinct = items.len().min(self.by_key.len().saturating_add(most));
+        let mut seen = IndexSet::with_capacity(alloc, distinct)?;
         let mut firsts = Vec::new(alloc);
         for item in items {
             let key = item.key();
-            if self.has_bytes(key) == are_there {
-                if firsts.len() < most {
-                    if seen.insert(key)? {
-                        firsts.push(item)?;
-                    }
-                } else if !seen.contains(&key) {
+            if seen.insert(key)? && !self.has_bytes(key) {
+                if firsts.len() >= most {
                     return Ok(None);
                 }
+                firsts.push(item)?;
             }
         }
         Ok(Some(firsts))
