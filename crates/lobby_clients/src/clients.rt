@@ -14,6 +14,7 @@ ghost use Rattle.lobby_post.specs.Mask.{has_home};
 ghost use Rattle.lobby_clients.specs.Crowd.{all_but_client, waits, Known, KeepsNothing};
 ghost use Rattle.lobby_post.specs.Mail.{AreDue, AreReady, WantsMemory, bytes_for, deliver, parted, plain, wakes_home};
 ghost use Rattle.lobby_post.specs.Unread.{is_over, unread_in};
+ghost use Rattle.lobby_post.specs.Weights.{counted_on, work};
 
 use line_words::NameBuf;
 use lobby_post::{BufferPool, ClientKey, DirtyLists, Post, Slot, Slots, Wakes};
@@ -274,18 +275,19 @@ impl Clients {
     }
 
     /// Puts all that an event tells, to each client whole or not at all. Gives the workers of those that
-    /// it touched. Nothing is told any more then.
-    pub fn deliver(&mut self, post: &mut Post) -> Wakes
+    /// it touched, and adds to `told` how much work that is. Nothing is told any more then.
+    pub fn deliver(&mut self, post: &mut Post, told: &mut u64) -> Wakes
         requires due { AreDue post.old.sent self.old.slots }
         requires ready { AreReady self.old.slots }
         ensures limit { self.new.limit ≡ self.old.limit }
         ensures clients { plain self.new.slots ≡ deliver self.old.limit post.old.sent (plain self.old.slots) }
         ensures due { AreDue [] self.new.slots }
+        ensures told { told.new ≡ counted_on told.old (work post.old) }
         ensures wakes { (home : ℕ) → has_home result home ≡ wakes_home self.old.limit post.old.sent (plain self.old.slots) home }
         ensures known { (n : ℕ) → Known self.old n → Known self.new n }
         ensures newly { (n home : ℕ) → Known self.old n → home < 64 → IsNewly post.old.sent self.old.slots home (waits self.old home) (waits self.new home) }
     {
-        post.deliver(&mut self.slots, &mut self.dirty)
+        post.deliver(&mut self.slots, &mut self.dirty, told)
     }
 
     /// Takes the first client of a worker's list out. Of the worker's clients that are there, those wait

@@ -156,7 +156,7 @@ impl Held {
         self.lobby.hears(client)
     }
 
-    /// How many pieces the lobby's events so far told, as `Lobby::told` says.
+    /// How much work the lobby's events so far were, as `Lobby::told` says.
     pub fn told(&self) -> u64 {
         self.lobby.told()
     }

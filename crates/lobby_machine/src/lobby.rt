@@ -47,7 +47,7 @@ struct Parts {
     maps: Maps,
     // what the event at hand tells; its buffers are kept from event to event
     post: Post,
-    // how many pieces the events so far told
+    // how much work the events so far were
     told: u64,
 }
 
@@ -132,8 +132,7 @@ impl Lobby {
             return Ok(Wakes::none());
         };
         let change = rules::decide(maps, client, me, request.id, &request.command, post)?;
-        *told = told.wrapping_add(post.count() as u64);
-        maps.commit(client, change, post)
+        maps.commit(client, change, post, told)
     }
 
     /// A client's connection is closed: it is removed, and its user, if it was logged in, is logged
@@ -147,8 +146,7 @@ impl Lobby {
     {
         let Parts { maps, post, told } = &mut *self.parts;
         let change = rules::close(maps, client, post)?;
-        *told = told.wrapping_add(post.count() as u64);
-        maps.commit(client, change, post)
+        maps.commit(client, change, post, told)
     }
 
     /// Takes bytes that a client has not read into a slice, as many as fit, and tells whether
@@ -176,8 +174,9 @@ impl Lobby {
         self.parts.maps.next_dirty(home)
     }
 
-    /// How many pieces its events so far told, those counted whose memory was refused: one for each client that an audience has. The
-    /// count begins anew behind 2^64. No contract speaks of it: it says how much work events are.
+    /// How much work its events so far were, but for those that were refused memory: one for each 32 bytes
+    /// that were printed, one for each piece that a client was told, and one more for each 1,024 bytes of it.
+    /// The count begins anew behind 2^64 - 1.
     pub fn told(&self) -> u64 {
         self.parts.told
     }

@@ -7,6 +7,7 @@ ghost use Rattle.lobby_model.specs.declared.event.Event.TheVariants as event;
 ghost use Rattle.lobby_model.specs.State.{Battle, asked_by, battle_of, empty_lobby, hears, name_of};
 ghost use Rattle.lobby_model.specs.Sessions.{has_place};
 ghost use Rattle.lobby_post.specs.Mail.{IsWakes};
+ghost use Rattle.lobby_post.specs.Weights.{counted_on, work};
 ghost use Rattle.lobby_battles.specs.Battles.{AskOutside, ChangesAlike, IsOnly};
 ghost use Rattle.lobby_maps.specs.Calls.{Applies, HasNoNumber, IsFull, IsNextNumber, KeepsOthers, ListsTouched, ListsOpened, TakesFirst, count_into, filled};
 ghost use Rattle.lobby_maps.specs.Changes.{CanBe, OfEvent};
@@ -135,19 +136,22 @@ impl Maps {
         self.clients.heard(client)
     }
 
-    /// Makes room for all that is told, changes the maps, and delivers. Where memory is refused,
-    /// nothing changes.
+    /// Makes room for all that is told, changes the maps, and delivers. Adds to `told` how much work the
+    /// delivery is. Where memory is refused, nothing changes.
     pub fn commit(
         &mut self,
         client: u64,
         change: Change,
         post: &mut Post,
+        told: &mut u64,
     ) -> Result<Wakes, AllocError>
         requires { CanBe self.old.plain.clients self.old.plain.users self.old.plain.channels self.old.plain.battles client change }
         ensures ok { OnOk result (OfEvent self.old.plain client change post.old (λ e. Applies self.old self.new e)) }
         ensures wakes { IfOk result (λ wakes. OfEvent self.old.plain client change post.old (λ e. IsWakes self.old.plain e wakes)) }
         ensures dirty { OnOk result (OfEvent self.old.plain client change post.old (λ e. ListsTouched self.old self.new e)) }
+        ensures told { OnOk result (told.new ≡ counted_on told.old (work post.old)) }
         ensures err { OnErr result (self.new ≡ self.old) }
+        ensures untold { OnErr result (told.new ≡ told.old) }
     {
         match self.clients.reserve(post) {
             Ok(()) => {}
@@ -165,7 +169,7 @@ impl Maps {
             change,
         );
         match done {
-            Ok(()) => Ok(self.clients.deliver(post)),
+            Ok(()) => Ok(self.clients.deliver(post, told)),
             Err(refused) => {
                 self.clients.cancel(post);
                 Err(refused)

@@ -1,5 +1,5 @@
 -- One round of the loops over the pieces.
-use Rattle.std.proofs.Common.{◌≡◌, ◌⊎◌, inl, inr, ℕ, ◌+◌, ◌-◌, ◌^◌, ◌<◌, ◌≤◌, List, [], ◌∷◌, ◌++◌, length, take, drop, refl, sym, ap, subst, ◌∙◌, Bool, true, false, map, slice_index_or, drop-cons, add-one, arith}
+use Rattle.std.proofs.Common.{◌≡◌, ◌⊎◌, inl, inr, ℕ, ◌+◌, ◌-◌, ◌%◌, ◌^◌, ◌<◌, ◌≤◌, List, [], ◌∷◌, ◌++◌, length, take, drop, refl, sym, ap, subst, ◌∙◌, Bool, true, false, map, slice_index_or, drop-cons, add-one, arith}
 use Rattle.std.specs.Prelude.{Some, None, ◌&&◌, ◌||◌}
 use Rattle.std.specs.Ordering.{nat_cmp}
 use Rattle.std.specs.List.{AllByRecursion, list_any}
@@ -18,6 +18,8 @@ use Rattle.lobby_post.specs.declared.delivery.Piece.{Piece}
 use Rattle.lobby_post.specs.declared.due.Due.{Due}
 use Rattle.lobby_post.specs.Dues.{counted, due_and, due_but, count_for, nothing_due, shares_of, shared_pieces_in, Covers}
 use Rattle.lobby_post.specs.Pieces.{LiesIn, bytes_of, pieces_of}
+use Rattle.lobby_post.specs.Weights.{counted_on, weight, weight_of}
+use Rattle.std.proofs.Math.Nat.{mod-add-mod, mod-eq_of_lt}
 use Rattle.lobby_post.specs.Mail.{Held, plain, bytes_for, due_for, deliver, wakes_one, wakes_home, AllSlots, AwaitsPiece, HaveLimit, PutsFirst, AreDue, IsDue, IsReady, AreReady, IsShort, WantsMemory}
 use Rattle.lobby_post.proofs.Crowds.{IsWritten, all_written, all_past}
 use Rattle.lobby_post.proofs.Dues.{bytes_front, copied_within, count_front, counted_less, due_covers, due_grown, due_left, due_other, due_same}
@@ -25,6 +27,12 @@ use Rattle.lobby_post.proofs.Parcels.{deliver_step, deliver_past, deliver_nil, t
 
 abbrev pub blank : Piece
 blank = record { key = record { number = 0; slot = 0 }; from = 0; to = 0 }
+
+-- a count that goes on twice
+pub counted_twice : (count a b : ℕ) → counted_on (counted_on count a) b ≡ counted_on count (a + b)
+counted_twice count a b =
+    let same : (count + a) + b ≡ count + (a + b) = omega arith in
+    mod-add-mod (count + a) (2 ^ 64) b ∙ ap (λ n. n % 2 ^ 64) same
 
 or_first : (a p b w : Bool) → (p || b) ≡ w → ((a || p) || b) ≡ (a || w)
 or_first true p b w e = refl
@@ -199,6 +207,11 @@ module _ (text : List ℕ) (pieces : List Piece) (i : ℕ) (within : i < length 
   pub pieces_is : pieces_of text (drop i pieces) ≡ (piece.key.number, bytes) ∷ rest
   pieces_is = ap (pieces_of text) drop_is
 
+  -- the piece is counted, and those behind it
+  pub told_next : (told : ℕ) → counted_on (counted_on told (weight_of (length bytes))) (weight rest) ≡ counted_on told (weight (pieces_of text (drop i pieces)))
+  told_next told =
+      counted_twice told (weight_of (length bytes)) (weight rest) ∙ ap (λ ps. counted_on told (weight ps)) (sym pieces_is)
+
   pub pieces_done : pieces_of text (take (i + 1) pieces) ≡ pieces_of text (take i pieces) ++ (piece.key.number, bytes) ∷ []
   pieces_done =
       let taken : take (i + 1) pieces ≡ take i pieces ++ (piece ∷ []) = rw add-one (take-suc pieces i blank within) in
@@ -289,6 +302,11 @@ module _ (text : List ℕ) (pieces : List Piece) (i : ℕ) (past : length pieces
 
   pub no_shares : shares_of (pieces_of text (drop i pieces)) ≡ []
   no_shares = ap shares_of none_left
+
+  pub told_end : (told : ℕ) → told < 2 ^ 64 → told ≡ counted_on told (weight (pieces_of text (drop i pieces)))
+  told_end told small =
+      let none : told ≡ told + 0 = omega arith in
+      sym (mod-eq_of_lt small) ∙ ap (λ n. n % 2 ^ 64) none ∙ ap (λ ps. counted_on told (weight ps)) (sym none_left)
 
   pub clients_end : (limit : ℕ) (m : ByNumber Client) → deliver limit (pieces_of text (drop i pieces)) m ≡ m
   clients_end limit m = ap (λ ps. deliver limit ps m) none_left ∙ deliver_nil limit m

@@ -10,6 +10,7 @@ ghost use Rattle.lobby_post.specs.Mail.{AreDue, AreReady, AwaitsPiece, HaveLimit
 ghost use Rattle.lobby_post.specs.Dirty.{line_of, marks_of, pushed, stands, AreKnown, IsNewly};
 ghost use Rattle.lobby_post.specs.Dues.{due_but, share_of, shares_of};
 ghost use Rattle.lobby_post.specs.Pieces.{LiesIn, pieces_of};
+ghost use Rattle.lobby_post.specs.Weights.{counted_on, weight};
 
 use crate::buffer_pool::BufferPool;
 use crate::dirty::DirtyLists;
@@ -18,6 +19,7 @@ use crate::shares::next_share;
 use crate::slot::Slot;
 use crate::slots::Slots;
 use crate::wakes::Wakes;
+use crate::weight::with_piece;
 use bytes::Bytes;
 use std::alloc::AllocError;
 use std::collections::VecDeque;
@@ -116,13 +118,14 @@ fn put(
 
 /// Puts each piece, or cuts its client where not all its pieces fit. Those that it touched and that did
 /// not wait do so from then on. The shares of the long pieces are used up. Gives the workers of those
-/// that it touched.
+/// that it touched, and adds to `told` what the pieces count.
 pub fn deliver(
     clients: &mut Slots,
     dirty: &mut DirtyLists,
     text: &[u8],
     pieces: &[Piece],
     shares: &mut VecDeque<Bytes>,
+    told: &mut u64,
 ) -> Wakes
     requires inside { AllByRecursion (LiesIn text.now) pieces.now }
     requires shares { shares.old.items ≡ shares_of (pieces_of text.now pieces.now) }
@@ -132,14 +135,17 @@ pub fn deliver(
     ensures limits { (limit : ℕ) → HaveLimit limit clients.old → HaveLimit limit clients.new }
     ensures due { AreDue [] clients.new }
     ensures shares { shares.new.items ≡ [] }
+    ensures told { told.new ≡ counted_on told.old (weight (pieces_of text.now pieces.now)) }
     ensures wakes { (limit home : ℕ) → has_home result home ≡ wakes_home limit (pieces_of text.now pieces.now) (plain clients.old) home }
     ensures homes { (home c : ℕ) → stands (marks_of clients.new) home c ≡ stands (marks_of clients.old) home c }
     ensures known { (n : ℕ) → AreKnown (marks_of clients.old) (line_of dirty.old) n → AreKnown (marks_of clients.new) (line_of dirty.new) n }
     ensures newly { (n home : ℕ) → AreKnown (marks_of clients.old) (line_of dirty.old) n → home < 64 → IsNewly (pieces_of text.now pieces.now) clients.old home (line_of dirty.old home).waiting (line_of dirty.new home).waiting }
 {
     let mut wakes = Wakes::none();
+    let mut count = *told;
     for piece in pieces {
         let bytes = &text[piece.from..piece.to];
+        count = with_piece(count, bytes.len());
         match clients.get_mut_at(piece.key) {
             Some(slot) => {
                 let share = next_share(bytes, shares);
@@ -152,5 +158,6 @@ pub fn deliver(
         }
     }
     dirty.settle();
+    *told = count;
     wakes
 }

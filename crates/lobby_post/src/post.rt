@@ -7,6 +7,7 @@ ghost use Rattle.lobby_post.specs.Mask.{has_home};
 ghost use Rattle.lobby_post.specs.Mail.{AreDue, AreReady, HaveLimit, WantsMemory, plain, deliver, wakes_home};
 ghost use Rattle.lobby_post.specs.Dirty.{line_of, marks_of, stands, AreKnown, IsNewly};
 ghost use Rattle.lobby_post.specs.Posted.{begun, blank, telling, with_own, with_others, copy_to, addressed, Told};
+ghost use Rattle.lobby_post.specs.Weights.{counted_on, work};
 ghost use Rattle.lobby_model.specs.State.{State};
 ghost use Rattle.lobby_model.specs.Outcome.{tell, issuer};
 
@@ -18,6 +19,7 @@ use crate::key::ClientKey;
 use crate::shares::{add_share, add_share_of_line, forget_line};
 use crate::slots::Slots;
 use crate::wakes::Wakes;
+use crate::weight::with_printed;
 use bytes::Bytes;
 use reply_kinds::LentReply;
 use reply_printer::{print_id, print_lent};
@@ -207,13 +209,6 @@ impl Post {
         Ok(())
     }
 
-    /// How many pieces are told: one for each client that an audience has.
-    pub fn count(&self) -> usize
-        ensures { result ≡ length self.now.sent }
-    {
-        self.pieces.len()
-    }
-
     /// Makes room for all that is told, in each outbox that takes it: all of that is due then, and
     /// `deliver` cannot fail. No client sees a difference. Where memory is refused, nothing is due.
     pub fn reserve(&self, slots: &mut Slots, pool: &mut BufferPool) -> Result<(), AllocError>
@@ -241,20 +236,31 @@ impl Post {
     }
 
     /// Puts all that is told, to each client whole or not at all. Those that it touched and that did
-    /// not wait do so from then on. Gives the workers of those that it touched. Nothing is told any more
-    /// then, and no share is kept.
-    pub fn deliver(&mut self, slots: &mut Slots, dirty: &mut DirtyLists) -> Wakes
+    /// not wait do so from then on. Gives the workers of those that it touched, and adds to `told` how much
+    /// work the event is: one for each 32 bytes that were printed, one for each piece, and one more for each
+    /// 1,024 bytes of it. That count begins anew behind 2^64 - 1. Nothing is told any more then, and no share
+    /// is kept.
+    pub fn deliver(&mut self, slots: &mut Slots, dirty: &mut DirtyLists, told: &mut u64) -> Wakes
         requires due { AreDue self.old.sent slots.old }
         requires ready { AreReady slots.old }
         ensures clients { (limit : ℕ) → HaveLimit limit slots.old → plain slots.new ≡ deliver limit self.old.sent (plain slots.old) }
         ensures limits { (limit : ℕ) → HaveLimit limit slots.old → HaveLimit limit slots.new }
         ensures due { AreDue [] slots.new }
+        ensures told { told.new ≡ counted_on told.old (work self.old) }
         ensures wakes { (limit home : ℕ) → has_home result home ≡ wakes_home limit self.old.sent (plain slots.old) home }
         ensures homes { (home c : ℕ) → stands (marks_of slots.new) home c ≡ stands (marks_of slots.old) home c }
         ensures known { (n : ℕ) → AreKnown (marks_of slots.old) (line_of dirty.old) n → AreKnown (marks_of slots.new) (line_of dirty.new) n }
         ensures newly { (n home : ℕ) → AreKnown (marks_of slots.old) (line_of dirty.old) n → home < 64 → IsNewly self.old.sent slots.old home (line_of dirty.old home).waiting (line_of dirty.new home).waiting }
     {
-        let wakes = delivery::deliver(slots, dirty, &self.text, &self.pieces, &mut self.shares);
+        *told = with_printed(*told, self.text.len());
+        let wakes = delivery::deliver(
+            slots,
+            dirty,
+            &self.text,
+            &self.pieces,
+            &mut self.shares,
+            told,
+        );
         self.pieces.clear();
         forget_line(&mut self.line);
         wakes

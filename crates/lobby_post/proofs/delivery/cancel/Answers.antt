@@ -1,4 +1,4 @@
-use Rattle.std.proofs.Common.{◌∙◌, ap, sym, refl, subst}
+use Rattle.std.proofs.Common.{◌∙◌, sym, refl, subst}
 use Rattle.line_words.proofs.Ties.{none_of}
 use Rattle.lobby_post.proofs.Crowds.{written_through}
 use Rattle.lobby_post.proofs.Rounds.{AreLeft, all_forgotten, all_left, forgets, forgets_past, inside_next, pieces_is, limits_next, plain_same, none_left}

@@ -1,9 +1,10 @@
-use Rattle.std.proofs.Common.{◌≡◌, ℕ, drop}
+use Rattle.std.proofs.Common.{◌≡◌, ℕ, ◌^◌, ◌<◌, drop}
 use Rattle.std.specs.Prelude.{◌||◌}
 use Rattle.std.specs.List.{AllByRecursion}
 use Rattle.lobby_post.specs.Mask.{has_home}
 use Rattle.lobby_post.specs.Dues.{shares_of}
 use Rattle.lobby_post.specs.Pieces.{LiesIn, pieces_of}
+use Rattle.lobby_post.specs.Weights.{counted_on, weight}
 use Rattle.lobby_post.specs.Mail.{AreDue, AreReady, HaveLimit, plain, deliver, wakes_home}
 use Rattle.lobby_post.specs.Dirty.{AreKnown, line_of, marks_of, stands}
 use Rattle.lobby_post.proofs.Underway.{IsUnderway}
@@ -15,6 +16,8 @@ invariant-loop-piece l = record {
   due : AreDue (pieces_of l.text (drop l.piece-index l.pieces)) l.clients;
   ready : AreReady l.clients;
   shares : l.shares.items ≡ shares_of (pieces_of l.text (drop l.piece-index l.pieces));
+  told : counted_on l.count (weight (pieces_of l.text (drop l.piece-index l.pieces))) ≡ counted_on l.initial.told (weight (pieces_of l.text l.pieces));
+  small : l.count < 2 ^ 64;
   limits : (limit : ℕ) → HaveLimit limit l.initial.clients → HaveLimit limit l.clients;
   clients : (limit : ℕ) → HaveLimit limit l.initial.clients
       → deliver limit (pieces_of l.text (drop l.piece-index l.pieces)) (plain l.clients)
