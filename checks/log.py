@@ -264,13 +264,14 @@ def no_memory(workers):
         with Server(workers, [ANNA], log="all", LD_PRELOAD=str(library), REFUSED_WHILE=str(switch)) as server:
             anna = logged_in(server, ANNA, [])
             switch.touch()
-            anna.send("PING\n")
+            # A channel takes memory, which a PING need not.
+            anna.send("JOIN main\n")
             told = lines_of(server, 3)
             same(told, [started(server, 1), "login name=Anna client=1", "memory_refused worker=0"])
             time.sleep(0.1)
             same(server.told().splitlines(), told)
             switch.unlink()
-            anna.expect("PONG\n")
+            anna.expect("JOIN main\nCLIENTS main Anna\n")
             anna.close()
 
 
