@@ -4,4 +4,3 @@
 
 pub mod battles;
 pub mod joining;
-pub mod rooms;

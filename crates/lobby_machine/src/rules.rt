@@ -13,14 +13,14 @@ mod channels;
 mod session;
 
 use battle_room::Rect;
-use battle_rules::rooms::Force;
-use battle_rules::{battles, joining, rooms};
+use battle_rules::{battles, joining};
 use command_grammar::Command;
 use line_words::NameBuf;
 use lobby_guards::{Issuer, Refusal, Stop};
 use lobby_maps::{Change, Maps};
 use lobby_post::Post;
 use reply_kinds::LentReply;
+use room_rules::rooms::{self, Force};
 pub use session::close;
 use std::alloc::AllocError;
 

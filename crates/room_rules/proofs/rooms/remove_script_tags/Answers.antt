@@ -8,8 +8,8 @@ use Rattle.lobby_model.specs.Battles.{change_room}
 use Rattle.lobby_model.specs.Rooms.{removed_line}
 use Rattle.lobby_post.specs.Posted.{Told}
 use Rattle.lobby_battles.specs.declared.battles.RoomChange.TheVariants.{RemoveTags}
-use Rattle.battle_rules.proofs.Founders.{shared_so}
-use Rattle.battle_rules.proofs.rooms.remove_script_tags.Goals as goal
+use Rattle.room_rules.proofs.Forced.{shared_so}
+use Rattle.room_rules.proofs.rooms.remove_script_tags.Goals as goal
 
 pub returns : goal.returns
 returns c =
@@ -25,7 +25,7 @@ returns c =
       subst (λ (ws : List (List ℕ)). Told s c.args.post.now c.tell_words.new.post (tell (users (member_names c.battle.inside.room)) (removed_line ws) ∷ [])) line
           c.in_ok-tell_words.ensures,
     ) in
-    shared_so s c.args.by.now.me.now c.args.by.now.me.now c.in_ok-number.number battle c.in_ok-number.ensures.ok c.in_ok-founded_by.ensures.ok
+    shared_so s c.args.by.now.me.now c.in_ok-number.number battle c.in_ok-number.ensures.ok c.in_ok-founded_by.ensures.ok
     c.args.by.now.client c.args.post.now c.tell_words.new.post c.in_room.result (RemoveTags c.in_ok-there.there) (remove_tags keys)
     (told (keys_there battle.room.tags keys))
     (λ id b. done (happens (λ t. change_room t id (remove_tags keys)) (tell (users (member_names b.room)) (removed_line (keys_there b.room.tags keys)) ∷ [])))

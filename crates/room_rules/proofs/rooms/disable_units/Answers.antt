@@ -9,8 +9,8 @@ use Rattle.lobby_model.specs.Battles.{change_room}
 use Rattle.lobby_model.specs.Rooms.{disabled_line}
 use Rattle.lobby_post.specs.Posted.{Told}
 use Rattle.lobby_battles.specs.declared.battles.RoomChange.TheVariants.{DisableUnits}
-use Rattle.battle_rules.proofs.Founders.{shared_so}
-use Rattle.battle_rules.proofs.rooms.disable_units.Goals as goal
+use Rattle.room_rules.proofs.Forced.{shared_so}
+use Rattle.room_rules.proofs.rooms.disable_units.Goals as goal
 
 pub returns : goal.returns
 returns c =
@@ -25,7 +25,7 @@ returns c =
     c.battle.view_is
     (subst (λ (ws : List (List ℕ)). Told s c.args.post.now c.tell_words.new.post (tell (users (member_names c.battle.inside.room)) (disabled_line ws) ∷ [])) line
     c.in_ok-tell_words.ensures) in
-    shared_so s c.args.by.now.me.now c.args.by.now.me.now c.in_ok-number.number battle c.in_ok-number.ensures.ok c.in_ok-founded_by.ensures.ok
+    shared_so s c.args.by.now.me.now c.in_ok-number.number battle c.in_ok-number.ensures.ok c.in_ok-founded_by.ensures.ok
     c.args.by.now.client c.args.post.now c.tell_words.new.post c.in_room.result (DisableUnits c.in_ok-new.new) (disable_units words)
     (told (words_new battle.room.units words))
     (λ id b. refuse_if (has_too_many_units (with_units b.room.units words)) (message too_many_units)

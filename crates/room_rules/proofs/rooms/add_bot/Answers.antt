@@ -16,7 +16,7 @@ use Rattle.lobby_guards.specs.Answers.{Obeyed}
 use Rattle.lobby_maps.specs.Changes.{CanBe, changed}
 use Rattle.battle_rules.proofs.InBattles.{in_battle_so}
 use Rattle.lobby_guards.proofs.Obeying.{passes}
-use Rattle.battle_rules.proofs.rooms.add_bot.Goals as goal
+use Rattle.room_rules.proofs.rooms.add_bot.Goals as goal
 
 -- one who adds a bot to its battle
 bot_added : (s : State) (c : ℕ) (old new : Posted) (me : List ℕ) (number : ℕ) (battle : Battle) (bot made : Bot) (change : Change)

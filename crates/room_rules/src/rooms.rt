@@ -8,10 +8,10 @@ ghost use Rattle.lobby_model.specs.Outcome.{tell, users};
 ghost use Rattle.lobby_model.specs.Rooms.{add_bot, add_rect, disable, enable, enable_every, kick, new_bot, remove_bot, remove_rect, remove_script_tags, ring, set_script_tags, update_bot};
 ghost use Rattle.lobby_post.specs.Posted.{Told};
 ghost use Rattle.lobby_guards.specs.Answers.{Answers};
-ghost use Rattle.battle_rules.specs.BattleTalk.{FitsForce, forced, forced_colour, forced_status, words_line, words_told};
+ghost use Rattle.room_rules.specs.RoomTalk.{FitsForce, forced, forced_colour, forced_status, words_line, words_told};
 
-use crate::battles::{Leaving, give_status, in_room, tell_leaving};
 use battle_room::{Bot, Member, Rect, Room};
+use battle_rules::battles::{Leaving, give_status, in_room, tell_leaving};
 use line_words::{NameBuf, PairList, SentenceBuf, WordBuf, WordList};
 use lobby_guards::battle_guards::{
     bot_named, founded_by, free_bot_name, last_tags, may_change, member_named, new_units,

@@ -10,8 +10,8 @@ use Rattle.lobby_post.specs.Posted.{Told}
 use Rattle.lobby_model.specs.Outcome.{done, message, refuse_if, tell, users}
 use Rattle.lobby_model.specs.Battles.{in_room}
 use Rattle.lobby_battles.specs.declared.battles.RoomChange.TheVariants.{SetTags}
-use Rattle.battle_rules.proofs.Founders.{shared_so}
-use Rattle.battle_rules.proofs.rooms.set_script_tags.Goals as goal
+use Rattle.room_rules.proofs.Forced.{shared_so}
+use Rattle.room_rules.proofs.rooms.set_script_tags.Goals as goal
 
 pub returns : goal.returns
 returns c =
@@ -24,7 +24,7 @@ returns c =
     c.battle.view_is
     (subst (λ (ps : List Pair). Told s c.args.post.now c.tell_room.new.post (tell (users (member_names c.battle.inside.room)) (reply.SetScriptTags ps ∷ []) ∷ []))
     c.as_slice-2.ensures c.in_ok-tell_room.ensures) in
-    shared_so s c.args.by.now.me.now c.args.by.now.me.now c.in_ok-number.number battle c.in_ok-number.ensures.ok c.in_ok-founded_by.ensures.ok
+    shared_so s c.args.by.now.me.now c.in_ok-number.number battle c.in_ok-number.ensures.ok c.in_ok-founded_by.ensures.ok
     c.args.by.now.client c.args.post.now c.tell_room.new.post c.in_room.result (SetTags c.in_ok-last.last) (set_tags pairs)
     (tell (users (member_names battle.room)) (reply.SetScriptTags pairs ∷ []))
     (λ id b. refuse_if (has_too_many_tags (with_tags b.room.tags pairs)) (message too_many_tags) (done (in_room id b (set_tags pairs) (reply.SetScriptTags pairs))))
