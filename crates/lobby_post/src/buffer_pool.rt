@@ -4,27 +4,47 @@ ghost use Rattle.std.specs.Prelude.{◌≡◌, ◌≤◌, []};
 
 use outbox::Outbox;
 use std::alloc::{AllocError, Global};
+use std::collections::VecDeque;
 
-/// The room, in bytes, that a buffer may have to be kept once all in it is read. They hold some forty
-/// lines of talk, so that only a burst, as that of a login, makes a larger one; and the buffers that
-/// 10,000 clients can leave behind take 41 MB at most.
-pub const KEPT_ROOM: usize = 4_096;
+/// The room, in bytes, that a buffer may have to be kept once all in it is read. They hold what a turn of
+/// short lines tells one client, so that only a burst, as that of a login, makes a larger one.
+const KEPT_ROOM: usize = 16_384;
+
+/// The room, in bytes, of all buffers that are kept: 8,000 for each of 2,000 clients.
+const KEPT_BYTES: usize = 16_000_000;
+
+/// So many buffers come back at least between two looks at how many lay idle.
+const RETURNS: usize = 1_024;
 
 /// The buffers that outboxes handed over once all in them was read. The one that came last is lent
 /// first, since the processor still has it at hand: so the bytes that wait at one time lie close
-/// together, however many clients there are.
+/// together, however many clients there are. Those that lay idle while as many came back as there is
+/// room for are let go, one with each buffer that comes back.
 ///
 /// It keeps as many as it has room for, and no contract speaks of them.
 #[derive(Drop)]
 pub struct BufferPool {
-    buffers: Vec<Vec<u8>>,
+    /// In the order in which they came.
+    buffers: VecDeque<Vec<u8>>,
+    /// The room of all of them, in bytes.
+    bytes: usize,
+    /// How many came back since the last look.
+    returned: usize,
+    /// The fewest that were here at one time since the last look.
+    fewest: usize,
+    /// How many of the first lay idle between the last two looks, and are still here.
+    idle: usize,
 }
 
 impl BufferPool {
     /// No buffers.
     pub fn new(alloc: Global) -> BufferPool {
         BufferPool {
-            buffers: Vec::new(alloc),
+            buffers: VecDeque::new(alloc),
+            bytes: 0,
+            returned: 0,
+            fewest: 0,
+            idle: 0,
         }
     }
 
@@ -44,8 +64,9 @@ impl BufferPool {
     {
         if bytes > 0
             && !outbox.has_buffer()
-            && let Some(buffer) = self.buffers.pop()
+            && let Some(buffer) = self.buffers.pop_back()
         {
+            self.count_gone(buffer.capacity());
             outbox.adopt(buffer);
         }
     }
@@ -56,12 +77,45 @@ impl BufferPool {
         ensures unchanged { outbox.new ≡ record outbox.old { spare = outbox.new.spare; spare_pieces = outbox.new.spare_pieces } }
         ensures taken { outbox.old.unread ≡ [] → (outbox.new.spare ≡ 0) × (outbox.new.spare_pieces ≡ 0) }
     {
-        if let Some(buffer) = outbox.hand_over()
-            && buffer.capacity() > 0
+        if let Some(buffer) = outbox.hand_over() {
+            self.keep(buffer);
+            self.let_idle_go();
+        }
+    }
+
+    /// Keeps a buffer, unless it is large or there is no room for it.
+    fn keep(&mut self, buffer: Vec<u8>) {
+        let bytes = self.bytes.saturating_add(buffer.capacity());
+        if buffer.capacity() > 0
             && buffer.capacity() <= KEPT_ROOM
+            && bytes <= KEPT_BYTES
             && self.buffers.len() < self.buffers.capacity()
         {
-            let _ = self.buffers.push(buffer);
+            self.bytes = bytes;
+            self.buffers.push_back_reserved(buffer);
+        }
+    }
+
+    /// A buffer of so many bytes is not here any more.
+    fn count_gone(&mut self, bytes: usize) {
+        self.bytes = self.bytes.saturating_sub(bytes);
+        self.fewest = self.fewest.min(self.buffers.len());
+        self.idle = self.idle.min(self.buffers.len());
+    }
+
+    /// One came back: where it is time it is looked how many lay idle, and the first of these goes.
+    fn let_idle_go(&mut self) {
+        self.returned = self.returned.saturating_add(1);
+        if self.returned >= self.buffers.capacity().max(RETURNS) {
+            self.idle = self.fewest;
+            self.fewest = self.buffers.len();
+            self.returned = 0;
+        }
+        if self.idle > 0
+            && let Some(buffer) = self.buffers.pop_front()
+        {
+            self.idle -= 1;
+            self.count_gone(buffer.capacity());
         }
     }
 }

@@ -21,7 +21,7 @@ const MEMBERS: usize = MANY as usize - 1;
 /// The users of a small crowd.
 const FEW: u32 = 4;
 
-/// How long a line is as it is told, in bytes: one that is copied, of which a buffer that is kept has room for two, and
+/// How long a line is as it is told, in bytes: one that is copied, of which a buffer that is kept has room for eight, and
 /// the shortest that is shared.
 const SHORT: usize = 1_900;
 
@@ -48,8 +48,8 @@ enum Act {
     Long,
     /// Each in the channel reads up to so many bytes, and at most 4,096.
     Read(usize),
-    /// One connects at a worker of its own, which takes it from its list, reads its greeting, and goes.
-    Come,
+    /// So many connect at a worker of their own, one after another, which takes each from its list, read their greeting, and go.
+    Come(u32),
     /// One connects at that worker and goes before anything else is done.
     Vanish,
 }
@@ -67,7 +67,7 @@ struct Part {
 
 /// A line that is said takes one growth for itself, the text of its request. Where a buffer grows by doubling, four
 /// bytes at most are asked for to each that waits in the end.
-static MANY_PARTS: [Part; 4] = [
+static MANY_PARTS: [Part; 7] = [
     Part {
         rule: "equal rounds of a copied line take no buffer anew",
         acts: &[Act::Short, Act::Read(4_096)],
@@ -75,6 +75,21 @@ static MANY_PARTS: [Part; 4] = [
         times: 3,
         growths: 3,
         asked: 3 * SHORT,
+        kept: 0,
+    },
+    Part {
+        rule: "equal rounds of several copied lines take no buffer anew",
+        acts: &[
+            Act::Short,
+            Act::Short,
+            Act::Short,
+            Act::Read(4_096),
+            Act::Read(4_096),
+        ],
+        before: 10,
+        times: 3,
+        growths: 9,
+        asked: 9 * SHORT,
         kept: 0,
     },
     Part {
@@ -86,15 +101,58 @@ static MANY_PARTS: [Part; 4] = [
             Act::Short,
             Act::Short,
             Act::Short,
+            Act::Short,
+            Act::Short,
+            Act::Short,
+            Act::Read(4_096),
+            Act::Read(4_096),
             Act::Read(4_096),
             Act::Read(4_096),
             Act::Read(4_096),
         ],
         before: 0,
         times: 1,
-        growths: 6 * (MEMBERS + 1),
-        asked: 4 * 6 * SHORT * (MEMBERS + 1),
+        growths: 9 * (MEMBERS + 1),
+        asked: 4 * 9 * SHORT * (MEMBERS + 1),
         kept: 0,
+    },
+    Part {
+        rule: "buffers that lie idle are given back",
+        acts: &[
+            Act::Short,
+            Act::Short,
+            Act::Short,
+            Act::Read(4_096),
+            Act::Read(4_096),
+            Act::Come(8_000),
+        ],
+        before: 0,
+        times: 1,
+        growths: 3 * (MEMBERS + 2),
+        asked: 4 * 3 * SHORT * (MEMBERS + 1),
+        kept: 4 * SHORT + ROUNDED,
+    },
+    Part {
+        rule: "no more than 16,000,000 bytes of buffers are kept",
+        acts: &[
+            Act::Short,
+            Act::Short,
+            Act::Short,
+            Act::Short,
+            Act::Short,
+            Act::Short,
+            Act::Short,
+            Act::Short,
+            Act::Read(4_096),
+            Act::Read(4_096),
+            Act::Read(4_096),
+            Act::Read(4_096),
+        ],
+        before: 0,
+        times: 1,
+        growths: 8 * (MEMBERS + 1),
+        asked: 4 * 8 * SHORT * (MEMBERS + 1),
+        kept: 16_000_000 + 32 * MEMBERS,
     },
     Part {
         rule: "a long line is in memory once, and not at all once it is read",
@@ -137,7 +195,7 @@ static FEW_PARTS: [Part; 4] = [
     },
     Part {
         rule: "those who come and go take nothing anew",
-        acts: &[Act::Come],
+        acts: &[Act::Come(1)],
         before: 1_000,
         times: 3_000,
         growths: 0,
@@ -210,7 +268,7 @@ fn act_once(lobby: &mut Lobby, alloc: Global, lines: &Lines, members: u32, act: 
             }
             true
         }
-        Act::Come => come(lobby, true),
+        Act::Come(count) => (0..count).all(|_| come(lobby, true)),
         Act::Vanish => come(lobby, false),
     }
 }

@@ -1,6 +1,6 @@
 //! A crowd of users who are logged in, and a channel of 33 whose last one joins.
 
-use crate::lobbies::{HOME, act, are_alike, read_some, say, show_unread, use_buffer_up};
+use crate::lobbies::{HOME, READS, act, are_alike, read_some, say, show_unread, use_buffer_up};
 use account_book::{Account, AccountBook};
 use lobby_machine::Lobby;
 use memory_refuser::deeds::{Deed, Subject, try_deeds};
@@ -21,6 +21,9 @@ static LOOKS: [(u64, Deed); 3] = [
     (33, Deed::Send(b"CHANNELS")),
     (33, Deed::Send(b"EXIT")),
 ];
+
+/// So many lines of 1,900 bytes are more than a buffer has that is kept, 16,384 bytes.
+const LINES: u32 = 9;
 
 fn add_user(accounts: &mut AccountBook, alloc: Global, user: u32) -> bool {
     let Ok(name) = format!(in alloc; "u{user:02}") else {
@@ -88,11 +91,10 @@ fn use_buffers_up(lobby: &mut Lobby, alloc: Global, users: u32) -> bool {
         return false;
     };
     let is_said = line.resize(1_900, b'x').is_ok()
-        && say(lobby, alloc, 1, &line)
-        && say(lobby, alloc, 1, &line)
-        && say(lobby, alloc, 1, &line);
-    read_all(lobby, users);
-    read_all(lobby, users);
+        && (0..LINES).all(|_| say(lobby, alloc, 1, &line));
+    for _ in 0..READS {
+        read_all(lobby, users);
+    }
     is_said
 }
 

@@ -15,8 +15,11 @@ use std::io;
 use std::io::Write;
 use test_lobby::{book_with_onlookers, settings};
 
-/// More bytes than a buffer has that is kept, 4,096.
-const LONG: usize = 5_000;
+/// The bytes of a text that is copied to who hears it.
+const TEXT: usize = 1_900;
+
+/// So many of them are more than a buffer has that is kept, 16,384 bytes.
+const TEXTS: u32 = 9;
 
 const DORA_LOGS_IN: &[u8] = b"LOGIN Dora X03MO1qnZdYdgyfeuILPmQ== 0 * TestLobby 1.0\n";
 
@@ -150,18 +153,18 @@ fn say(hall: &mut Hall, client: u64, line: Vec<u8>) -> Result<(), HallError> {
     hall.step(&Step::Take { client })
 }
 
-/// A line to this user, of which more is told than a buffer has that is kept.
+/// A line to this user.
 fn long_line(alloc: Global, user: &[u8]) -> Result<Vec<u8>, AllocError> {
     let mut line = Vec::from_slice(alloc, b"SAYPRIVATE ")?;
     line.extend_from_slice(user)?;
     line.push(b' ')?;
-    let end = line.len().saturating_add(LONG);
+    let end = line.len().saturating_add(TEXT);
     line.resize(end, b'x')?;
     line.push(b'\n')?;
     Ok(line)
 }
 
-/// Dora connects under this number, logs in, and says a long line to each user.
+/// Dora connects under this number, logs in, and says more to each user than a buffer has that is kept.
 fn say_all(hall: &mut Hall, alloc: Global, dora: u64) -> Result<(), HallError> {
     hall.step(&Step::Open {
         ip: [10, 0, 0, 4],
@@ -169,7 +172,9 @@ fn say_all(hall: &mut Hall, alloc: Global, dora: u64) -> Result<(), HallError> {
     })?;
     say(hall, dora, Vec::from_slice(alloc, DORA_LOGS_IN)?)?;
     for user in [b"Anna", b"Bert", b"Cleo"] {
-        say(hall, dora, long_line(alloc, user)?)?;
+        for _ in 0..TEXTS {
+            say(hall, dora, long_line(alloc, user)?)?;
+        }
     }
     Ok(())
 }

@@ -12,8 +12,11 @@ use test_lobby::{ANNA_SAYS, BERT_SAYS, book_with_onlookers, lobby_of, read};
 /// The worker that serves all clients.
 pub const HOME: u8 = 0;
 
-/// So many answers of 17 bytes are more than a buffer has that is kept, 4,096 bytes.
-const ANSWERS: u32 = 250;
+/// So many answers of 17 bytes are more than a buffer has that is kept, 16,384 bytes.
+const ANSWERS: u32 = 1_000;
+
+/// So many reads of 4,096 bytes take more than a buffer has that is kept.
+pub const READS: u32 = 5;
 
 /// How many bytes are compared at a time.
 const PIECE: usize = 512;
@@ -133,8 +136,9 @@ pub fn use_buffer_up(lobby: &mut Lobby, alloc: Global, client: u64) -> bool {
             return false;
         }
     }
-    read_some(lobby, client, 4096);
-    read_some(lobby, client, 4096);
+    for _ in 0..READS {
+        read_some(lobby, client, 4096);
+    }
     true
 }
 
