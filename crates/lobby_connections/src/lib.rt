@@ -1,6 +1,6 @@
 //! The connections of a worker: each client's with its link, who gets the next turn, and those that linger.
 //!
-//! Nothing here waits: a worker takes the lobby itself, and makes the turns (`worker_loop`).
+//! Nothing here waits: a worker takes the lobby itself, and makes the turns (`worker_turns`).
 #![tactic(auto)]
 
 mod connection;

@@ -1,0 +1,1 @@
+pub use Rattle.lobby_holds.specs.Wire
