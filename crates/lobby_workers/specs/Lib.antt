@@ -1,2 +1,1 @@
 pub use Rattle.lobby_holds.specs.Wire
-pub mod Statuses

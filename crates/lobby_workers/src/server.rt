@@ -1,27 +1,24 @@
 //! The server: a lobby, its workers in threads of their own, and what ends them.
 
-ghost use Rattle.std.specs.Prelude.{◌≡◌, ◌≤◌, [], IfOk, IfErr, OnOk, vec_len, vec_capacity};
+ghost use Rattle.std.specs.Prelude.{◌≡◌, ◌≤◌, [], IfOk, IfErr, vec_len, vec_capacity};
 ghost use Rattle.std.specs.List.{All};
-ghost use Rattle.lobby_workers.specs.Statuses.{IsEnd};
+ghost use Rattle.new_workers.specs.Statuses.{IsEnd};
 
-use crate::error::ServerError;
 use account_book::AccountBook;
-use lobby_lock::{Closing, Count, Desk, DeskError, Pass};
-use lobby_machine::Lobby;
+use lobby_lock::{Closing, Count, Desk, Pass};
 use lobby_model::{Settings, WORKERS};
 use lobby_turns::Gate;
-use mio::Waker;
 use mio::net::TcpListener;
+use new_workers::{Handles, NewWorker, ServerError, new_workers, open_desk};
 use proxy_line::Proxies;
 use server_log::Happening;
-use std::alloc::{AllocError, Global};
+use std::alloc::Global;
 use std::io::{ErrorKind, Read, Write};
 use std::net::Net;
 use std::snapshot::Snapshot;
 use std::sync::Wait;
-use std::sync::atomic::AtomicBool;
 use std::thread::{self, Promise, PromisedHandle, Scope, Threads};
-use worker_loop::{Inboxes, Shared, Wakers, WorkerListener, run_worker};
+use worker_loop::{Shared, run_worker};
 
 /// What a server serves, and how.
 #[derive(Drop)]
@@ -36,40 +33,6 @@ pub struct Service {
     pub proxies: Proxies,
     /// Who may log in.
     pub accounts: AccountBook,
-}
-
-/// How the workers of a server are reached, whether they are to end, and from where fronts connect.
-#[derive(Drop)]
-struct Handles {
-    inboxes: Inboxes,
-    wakers: Wakers,
-    stop: AtomicBool,
-    proxies: Proxies,
-}
-
-impl Handles {
-    /// No worker yet.
-    fn new(alloc: Global, proxies: Proxies) -> Handles {
-        Handles {
-            inboxes: Inboxes::new(alloc),
-            wakers: Wakers::new(alloc),
-            stop: AtomicBool::new(false),
-            proxies,
-        }
-    }
-
-    /// The next worker gets its inbox, and is woken by this waker. Fails only where memory is refused.
-    fn join(&mut self, alloc: Global, waker: Waker) -> Result<(), AllocError> {
-        self.inboxes.add(alloc)?;
-        self.wakers.add(waker)
-    }
-}
-
-/// A worker before it starts.
-#[derive(Drop)]
-struct NewWorker {
-    listener: WorkerListener,
-    pass: Pass,
 }
 
 /// That a worker's pass comes back as that worker's.
@@ -255,156 +218,6 @@ fn tell_counts<O: Write, G: Gate>(closing: &Closing, output: &mut O, gate: &G) {
 fn announce<O: Write>(output: &mut O) {
     let _ = output.write_all(b"listening\n");
     let _ = output.flush();
-}
-
-/// A desk with a new lobby, and worker 0's pass.
-fn open_desk<R: Wait>(
-    rt: &R,
-    alloc: Global,
-    settings: Settings,
-    accounts: AccountBook,
-) -> Result<(Desk, Pass), ServerError>
-    ensures { IfOk result (λ r. (r.1.desk ≡ r.0) × (r.1.worker.number ≡ 0)) }
-{
-    let lobby = Lobby::new(alloc, settings, accounts)?;
-    match Desk::open(rt, alloc, lobby) {
-        Ok(opened) => Ok(opened),
-        Err(_) => Err(ServerError::Memory),
-    }
-}
-
-/// What the next worker listens with. It joins those that are reached by their handles.
-fn new_listener<R: Net>(
-    rt: &R,
-    alloc: Global,
-    handles: &mut Handles,
-    listener: Option<TcpListener>,
-) -> Result<WorkerListener, ServerError> {
-    match WorkerListener::new(rt, alloc, listener) {
-        Ok((listener, waker)) => match handles.join(alloc, waker) {
-            Ok(()) => Ok(listener.behind(handles.proxies)),
-            Err(_) => {
-                drop(listener);
-                Err(ServerError::Memory)
-            }
-        },
-        Err(error) => Err(error.into()),
-    }
-}
-
-/// All workers. The first has the listener.
-fn new_workers<R: Net>(
-    rt: &R,
-    alloc: Global,
-    desk: &Desk,
-    pass: Pass,
-    count: u32,
-    listener: TcpListener,
-    handles: &mut Handles,
-) -> Result<(NewWorker, Vec<NewWorker>), ServerError>
-    requires { (pass.desk ≡ desk.now) × (pass.worker.number ≡ 0) }
-    ensures first { IfOk result (λ r. (r.0.pass.desk ≡ desk.now) × (r.0.pass.worker.number ≡ 0)) }
-    ensures others { IfOk result (λ r. All (λ worker. worker.pass.desk ≡ desk.now) r.1.items) }
-{
-    let listener = match new_listener(rt, alloc, handles, Some(listener)) {
-        Ok(listener) => listener,
-        Err(error) => {
-            drop(pass);
-            return Err(error);
-        }
-    };
-    let mut others = Vec::new(alloc);
-    match add_workers(rt, alloc, desk, pass, count, handles, &mut others) {
-        Ok(pass) => Ok((NewWorker { listener, pass }, others)),
-        Err(error) => {
-            drop(listener);
-            drop(others);
-            Err(error)
-        }
-    }
-}
-
-/// Adds all workers but the first, whose pass comes back.
-fn add_workers<R: Net>(
-    rt: &R,
-    alloc: Global,
-    desk: &Desk,
-    pass: Pass,
-    count: u32,
-    handles: &mut Handles,
-    workers: &mut Vec<NewWorker>,
-) -> Result<Pass, ServerError>
-    requires pass { (pass.desk ≡ desk.now) × (pass.worker.number ≡ 0) }
-    requires workers { All (λ worker. worker.pass.desk ≡ desk.now) workers.old.items }
-    ensures pass { IfOk result (λ mine. (mine.desk ≡ desk.now) × (mine.worker.number ≡ 0)) }
-    ensures workers { OnOk result (All (λ worker. worker.pass.desk ≡ desk.now) workers.new.items) }
-{
-    let mut pass = pass;
-    for _ in 1..count {
-        let (mine, worker) = next_worker(rt, alloc, desk, pass, handles)?;
-        pass = mine;
-        match workers.push(worker) {
-            Ok(()) => {}
-            Err(failed) => {
-                drop(failed);
-                drop(pass);
-                return Err(ServerError::Memory);
-            }
-        }
-    }
-    Ok(pass)
-}
-
-/// The next worker, and the first worker's pass.
-fn next_worker<R: Net>(
-    rt: &R,
-    alloc: Global,
-    desk: &Desk,
-    pass: Pass,
-    handles: &mut Handles,
-) -> Result<(Pass, NewWorker), ServerError>
-    requires { (pass.desk ≡ desk.now) × (pass.worker.number ≡ 0) }
-    ensures mine { IfOk result (λ r. (r.0.desk ≡ desk.now) × (r.0.worker.number ≡ 0)) }
-    ensures worker { IfOk result (λ r. r.1.pass.desk ≡ desk.now) }
-{
-    let listener = match new_listener(rt, alloc, handles, None) {
-        Ok(listener) => listener,
-        Err(error) => {
-            drop(pass);
-            return Err(error);
-        }
-    };
-    match hand_out(desk, alloc, pass) {
-        Ok((mine, other)) => {
-            let worker = NewWorker {
-                listener,
-                pass: other,
-            };
-            Ok((mine, worker))
-        }
-        Err(error) => {
-            drop(listener);
-            Err(error)
-        }
-    }
-}
-
-fn hand_out(desk: &Desk, alloc: Global, pass: Pass) -> Result<(Pass, Pass), ServerError>
-    requires { (pass.desk ≡ desk.now) × (pass.worker.number ≡ 0) }
-    ensures mine { IfOk result (λ r. (r.0.desk ≡ desk.now) × (r.0.worker.number ≡ 0)) }
-    ensures other { IfOk result (λ r. r.1.desk ≡ desk.now) }
-{
-    match desk.hand_out(alloc, pass) {
-        Ok(passes) => Ok(passes),
-        Err((pass, error)) => {
-            drop(pass);
-            match error {
-                DeskError::Memory => Err(ServerError::Memory),
-                // There are 64 workers at most.
-                DeskError::TooManyWorkers => Err(ServerError::Listener),
-            }
-        }
-    }
 }
 
 /// Runs the workers until the input ends, where that stops the server. Fails only where memory is refused, and

@@ -1,7 +1,7 @@
 -- The exit statuses of the server's program.
 use Rattle.std.specs.Prelude.{◌≡◌, ◌⊎◌, ℕ}
-use Rattle.lobby_workers.specs.declared.error.ServerError.{ServerError}
-use Rattle.lobby_workers.specs.declared.error.ServerError.TheVariants.{Settings, Accounts, Input, Listener, Memory}
+use Rattle.new_workers.specs.declared.error.ServerError.{ServerError}
+use Rattle.new_workers.specs.declared.error.ServerError.TheVariants.{Settings, Accounts, Input, Listener, Memory}
 
 abbrev pub status_of : ServerError → ℕ
 status_of Settings = 2

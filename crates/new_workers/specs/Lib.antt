@@ -1,0 +1,2 @@
+pub use Rattle.lobby_holds.specs.Wire
+pub mod Statuses
