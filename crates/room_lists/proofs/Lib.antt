@@ -10,3 +10,4 @@ pub mod Seen
 pub mod Tests
 pub mod Copied
 pub mod Last
+pub mod Kept

@@ -1,9 +1,6 @@
 -- Where the items of keys stand, and which keys were met.
 use Rattle.std.proofs.Common.{◌≡◌, ◌<◌, ◌+◌, ℕ, suc, List, [], ◌∷◌, ◌++◌, refl, sym, ap, subst, ◌∙◌, Bool, true, false, cond, not, length, get_or, set, arith}
 use Rattle.std.specs.Prelude.{◌||◌, Option, Some, None, IfSome}
-use Rattle.std.specs.Cmp.Lexicographic.{texts_ties}
-use Rattle.std.specs.List.{position_or_len}
-use Rattle.std.specs.Map.{keys_of, values_of}
 use Rattle.std.proofs.lemmas.Option.{same_Some}
 use Rattle.std.proofs.lemmas.List.{get_or-set_other, get_or_default}
 use Rattle.std.proofs.lemmas.Grind.{get_or-set_at}
@@ -11,18 +8,8 @@ use Rattle.std.proofs.Math.Bool.{or-false, or-true}
 use Rattle.line_words.specs.Table.{same_name, is_among}
 use Rattle.line_words.proofs.Tables.{same_name_is}
 use Rattle.line_words.proofs.Once.{same_name_equiv}
-use Rattle.line_words.proofs.Keyed.{stands_for}
-use Rattle.room_lists.specs.Index.{IsIndex}
 use Rattle.room_lists.specs.Keyed.{place_of}
 use Rattle.room_lists.proofs.Picked.{among_more}
-
--- the place in an index is that among its values
-module _ {K V : Type 0} (bytes : K → List ℕ) (name : V → List ℕ) (key : List ℕ) where
-  pub value_place : (es : List (K × V)) → IsIndex bytes name es → position_or_len (stands_for bytes key) (keys_of es) ≡ place_of name key (values_of es)
-  value_place [] each = refl
-  value_place (e ∷ es) each =
-      ap (λ b. cond (not b) (1 + position_or_len (stands_for bytes key) (keys_of es)) 0) (texts_ties key (bytes e.0) ∙ ap (same_name key) each.0)
-      ∙ ap (λ n. cond (not (same_name key (name e.1))) (1 + n) 0) (value_place es each.1)
 
 pub place_in : (found : Option ℕ) (b : Bool) (place count : ℕ) → found ≡ cond b (Some place) None → IfSome found (λ i. i < count)
     → IfSome found (λ i. (i < count) × (i ≡ place))

@@ -2,10 +2,19 @@
 use Rattle.std.specs.Prelude.{◌≡◌, ◌<◌, ◌≤◌, ℕ, Bool, not, if◌then◌else◌, List, [], ◌∷◌, filter, map, length, Option, Some, None, Vec}
 use Rattle.std.specs.declared.alloc.Global.{Global}
 use Rattle.std.specs.Borrow.{Bor}
-use Rattle.std.specs.List.{list_any, position_or_len}
+use Rattle.std.specs.List.{AllByRecursion, list_any, position_or_len}
 use Rattle.line_words.specs.Table.{same_name}
 
+-- items that are kept as their keys and what there is beside
+module _ {T X : Type 0} (whole : List ℕ → X → T) where
+  abbrev pub items_of : List (List ℕ × X) → List T
+  items_of entries = map (λ e. whole e.0 e.1) entries
+
 module _ {T : Type 0} (key_of : T → List ℕ) where
+  -- each stands behind its own key
+  abbrev pub AreKept : {X : Type 0} → (List ℕ → X → T) → List (List ℕ × X) → Type 0
+  AreKept whole entries = AllByRecursion (λ e. e.0 ≡ key_of (whole e.0 e.1)) entries
+
   abbrev pub has_key : List ℕ → List T → Bool
   has_key key items = list_any (λ t. same_name key (key_of t)) items
 

@@ -1,8 +1,6 @@
 //! Items that are found by their keys, as the script tags and the disabled units of a room are.
 
 ghost use Rattle.std.specs.Prelude.{◌≡◌, ◌<◌, ◌≤◌, ◌^◌, ℕ, List, Vec, not, nat_lt, map, filter, length, [], true, false, OnOk, OnErr, IfOk, IfSome, is_some};
-ghost use Rattle.std.specs.Map.{values_of};
-ghost use Rattle.room_lists.specs.Index.{IsIndex};
 ghost use Rattle.room_lists.specs.Keyed as keyed;
 ghost use Rattle.room_lists.specs.Units.{words_new};
 ghost use Rattle.line_words.specs.Table.{is_among};
@@ -13,24 +11,44 @@ use line_words::{KeyBuf, Pair, SentenceBuf, WordBuf, WordList};
 use std::alloc::{AllocError, Global};
 use std::marker::Model;
 
-/// An item that is found by its key.
+/// An item that is found by its key. It is kept as that key and what there is beside it.
 pub(crate) trait Keyed: Drop {
+    /// What is kept beside the key.
+    type Kept: Drop;
+
     ghost key_of: { Self → List ℕ };
 
-    /// The bytes of the key.
-    fn key(&self) -> &[u8]
+    // The item that is kept so.
+    ghost whole: { List ℕ → Self.Kept → Self };
+
+    /// The key.
+    fn key(&self) -> &WordBuf
         ensures { result.now ≡ key_of self.now };
 
     /// A copy. Fails only where memory is refused.
     fn copy(&self, alloc: Global) -> Result<Self, AllocError>
         ensures { IfOk result (λ copy. copy ≡ self.now) };
+
+    /// The key, and what is kept beside it. Fails only where memory is refused.
+    fn into_entry(self, alloc: Global) -> Result<(WordBuf, Self::Kept), AllocError>
+        ensures whole { IfOk result (λ entry. whole entry.0 entry.1 ≡ self) }
+        ensures key { IfOk result (λ entry. entry.0 ≡ key_of self) };
+
+    /// The items that are kept.
+    fn items(index: &IndexMap<WordBuf, Self::Kept>) -> &[Self]
+        ensures { result.now ≡ map (λ entry. whole entry.0 entry.1) index.now.entries };
 }
 
+/// A tag is kept whole, behind a copy of its key.
 impl Keyed for Pair {
+    type Kept = Pair;
+
     ghost key_of = { λ pair. pair.key };
 
-    fn key(&self) -> &[u8] {
-        self.key.as_slice()
+    ghost whole = { λ key pair. pair };
+
+    fn key(&self) -> &WordBuf {
+        self.key.as_word()
     }
 
     fn copy(&self, alloc: Global) -> Result<Pair, AllocError> {
@@ -39,71 +57,93 @@ impl Keyed for Pair {
             value: SentenceBuf::copy_of(alloc, self.value.as_slice())?,
         })
     }
+
+    fn into_entry(self, alloc: Global) -> Result<(WordBuf, Pair), AllocError> {
+        let key = WordBuf::copy_of(alloc, self.key.as_word().as_slice())?;
+        Ok((key, self))
+    }
+
+    fn items(index: &IndexMap<WordBuf, Pair>) -> &[Pair] {
+        index.values().as_slice()
+    }
 }
 
+/// A word is its own key.
 impl Keyed for WordBuf {
+    type Kept = ();
+
     ghost key_of = { λ word. word };
 
-    fn key(&self) -> &[u8] {
-        self.as_slice()
+    ghost whole = { λ word kept. word };
+
+    fn key(&self) -> &WordBuf {
+        self
     }
 
     fn copy(&self, alloc: Global) -> Result<WordBuf, AllocError> {
         WordBuf::copy_of(alloc, self.as_slice())
     }
+
+    fn into_entry(self, _alloc: Global) -> Result<(WordBuf, ()), AllocError> {
+        Ok((self, ()))
+    }
+
+    fn items(index: &IndexMap<WordBuf, ()>) -> &[WordBuf] {
+        index.keys().as_slice()
+    }
 }
 
 /// Items in order of first putting, no two of one key.
 ///
-/// A look-up takes the same time however many there are. The index has a copy of each key.
+/// A look-up takes the same time however many there are.
 #[derive(Drop)]
 pub(crate) struct KeyedList<T: Keyed> {
-    by_key: IndexMap<Vec<u8>, T>,
+    by_key: IndexMap<WordBuf, T::Kept>,
 }
 
 impl<T: Keyed> Model for KeyedList<T> {
-    ghost use Rattle.std.specs.Prelude.{List, ℕ, Vec};
-    ghost use Rattle.std.specs.declared.alloc.Global.{Global};
-    ghost use Rattle.indexmap.specs.IndexMap.{values};
-    ghost use Rattle.room_lists.specs.Index.{IsIndex};
+    ghost use Rattle.std.specs.Prelude.{List, ℕ};
+    ghost use Rattle.room_lists.specs.Keyed.{items_of, AreKept};
 
     ghost Value = { List T };
 
-    ghost view = { λ l. values l.by_key };
+    ghost view = { λ l. items_of T.whole l.by_key.entries };
 
-    ghost invariant = { λ l. IsIndex (λ (key : Vec ℕ Global). key.items) T.key_of l.by_key.entries };
+    ghost invariant = { λ l. AreKept T.key_of T.whole l.by_key.entries };
 }
 
 /// So few keys are looked for one by one, since an index costs a walk of all items.
 const FEW_KEYS: usize = 8;
 
 /// An index of keys.
-fn index_of(alloc: Global, keys: &[WordBuf]) -> Result<IndexSet<&[u8]>, AllocError>
+fn index_of(alloc: Global, keys: &[WordBuf]) -> Result<IndexSet<&WordBuf>, AllocError>
     ensures { IfOk result (λ index. (key : List ℕ) → is_among key (map (λ key. key.now) index.keys) ≡ is_among key keys.now) }
 {
     let mut index = IndexSet::with_capacity(alloc, keys.len())?;
     for key in keys {
-        let _ = index.insert(key.as_slice())?;
+        let _ = index.insert(key)?;
     }
     Ok(index)
 }
 
 /// Whether a key is among those of items.
-fn has_key<T: Keyed>(key: &[u8], items: &[T]) -> bool
+fn has_key<T: Keyed>(key: &WordBuf, items: &[T]) -> bool
     ensures { result ≡ keyed.has_key T.key_of key.now items.now }
 {
-    items.iter().any(|item| is_same(key, item.key()))
+    items
+        .iter()
+        .any(|item| is_same(key.as_slice(), item.key().as_slice()))
 }
 
-/// Each item behind a copy of its key.
-fn entries_of<T: Keyed>(alloc: Global, items: Vec<T>) -> Result<Vec<(Vec<u8>, T)>, AllocError>
-    ensures items { IfOk result (λ entries. values_of entries.items ≡ items.items) }
-    ensures keys { IfOk result (λ entries. IsIndex (λ (key : Vec ℕ Global). key.items) T.key_of entries.items) }
+/// Each item as it is kept.
+fn entries_of<T: Keyed>(alloc: Global, items: Vec<T>) -> Result<Vec<(WordBuf, T::Kept)>, AllocError>
+    ensures items { IfOk result (λ entries. keyed.items_of T.whole entries.items ≡ items.items) }
+    ensures keys { IfOk result (λ entries. keyed.AreKept T.key_of T.whole entries.items) }
 {
     let mut entries = Vec::with_capacity(alloc, items.len())?;
     for item in items {
-        let key = Vec::from_slice(alloc, item.key())?;
-        entries.push((key, item))?;
+        let entry = item.into_entry(alloc)?;
+        entries.push(entry)?;
     }
     Ok(entries)
 }
@@ -144,7 +184,7 @@ impl<T: Keyed> KeyedList<T> {
     pub(crate) fn as_slice(&self) -> &[T]
         ensures { result.now ≡ self.now }
     {
-        self.by_key.values().as_slice()
+        T::items(&self.by_key)
     }
 
     /// A copy. Fails only where memory is refused.
@@ -160,14 +200,14 @@ impl<T: Keyed> KeyedList<T> {
     }
 
     /// Whether an item of this key is there.
-    fn has_bytes(&self, key: &[u8]) -> bool
+    fn has(&self, key: &WordBuf) -> bool
         ensures { result ≡ keyed.has_key T.key_of key.now self.now }
     {
         self.by_key.contains_key(key)
     }
 
     /// Where the item of this key stands, from 0 on; None where it is not there.
-    fn place_of(&self, key: &[u8]) -> Option<usize>
+    fn place_of(&self, key: &WordBuf) -> Option<usize>
         ensures there { is_some result ≡ keyed.has_key T.key_of key.now self.now }
         ensures place { IfSome result (λ place. (place < length self.now) × (place ≡ keyed.place_of T.key_of key.now self.now)) }
     {
@@ -200,7 +240,7 @@ impl<T: Keyed> KeyedList<T> {
             if most > limit {
                 return false;
             }
-            if !self.has_bytes(item.key()) {
+            if !self.has(item.key()) {
                 most += 1;
             }
         }
@@ -219,7 +259,7 @@ impl<T: Keyed> KeyedList<T> {
                 return false;
             }
             let key = items[k].key();
-            if !self.has_bytes(key) && !has_key(key, &items[..k]) {
+            if !self.has(key) && !has_key(key, &items[..k]) {
                 count += 1;
             }
         }
@@ -265,7 +305,7 @@ impl<T: Keyed> KeyedList<T> {
         let mut new = 0;
         for item in items {
             let key = item.key();
-            if last.insert(key, item)?.is_none() && !self.has_bytes(key) {
+            if last.insert(key, item)?.is_none() && !self.has(key) {
                 if new >= most {
                     return Ok(None);
                 }
@@ -282,8 +322,8 @@ impl<T: Keyed> KeyedList<T> {
     {
         let entries = entries_of(alloc, items)?;
         self.by_key.reserve(entries.len())?;
-        for (key, item) in entries {
-            self.by_key.insert(key, item)?; // there is room
+        for (key, kept) in entries {
+            self.by_key.insert(key, kept)?; // there is room
         }
         Ok(())
     }
@@ -304,13 +344,13 @@ impl<T: Keyed> KeyedList<T> {
     }
 
     /// Removes the items of the keys of an index, in one walk of all items.
-    fn remove_indexed(&mut self, index: &IndexSet<&[u8]>)
+    fn remove_indexed(&mut self, index: &IndexSet<&WordBuf>)
         ensures { self.new ≡ filter (λ item. not (is_among (T.key_of item) (map (λ key. key.now) index.now.keys))) self.old }
     {
         self.by_key.retain(
-            |key: &Vec<u8>, item: &mut T| -> bool
-                ensures { (result ≡ not (is_among key.now.items (map (λ key. key.now) index.entry.now.keys))) × (item.new ≡ item.old) }
-            { !index.contains(&key.as_slice()) },
+            |key: &WordBuf, kept: &mut T::Kept| -> bool
+                ensures { (result ≡ not (is_among key.now (map (λ key. key.now) index.entry.now.keys))) × (kept.new ≡ kept.old) }
+            { !index.contains(&key) },
         );
     }
 
@@ -321,7 +361,7 @@ impl<T: Keyed> KeyedList<T> {
         for key in keys {
             // Its contract says that no key stands twice, which the proof wants of the keys as they were.
             let _ = self.by_key.len();
-            let _ = self.by_key.shift_remove(key.as_slice());
+            let _ = self.by_key.shift_remove(key);
         }
     }
 
@@ -352,7 +392,7 @@ impl<T: Keyed> KeyedList<T> {
         let mut is_met = Vec::from_elem(alloc, false, self.by_key.len())?;
         let mut firsts = Vec::new(alloc);
         for key in keys {
-            if let Some(place) = self.place_of(key.as_slice())
+            if let Some(place) = self.place_of(key)
                 && !is_met[place]
             {
                 is_met[place] = true;
@@ -377,7 +417,7 @@ impl<T: Keyed> KeyedList<T> {
         let mut firsts = Vec::new(alloc);
         for item in items {
             let key = item.key();
-            if seen.insert(key)? && !self.has_bytes(key) {
+            if seen.insert(key)? && !self.has(key) {
                 if firsts.len() >= most {
                     return Ok(None);
                 }

@@ -10,9 +10,8 @@ pub loop-key-preserved : goal.loop-key-preserved
 loop-key-preserved c = λ other.
     let inside : c.loop-key.key-index < length c.args.keys.now = search rules in
     ap (λ keys. is_among other (words_of keys)) c.in_ok-insert.ensures.keys
-    ∙ among_inserted c.loop-key.index.keys c.as_slice.result other
-    ∙ ap (λ b. b || same_name other c.as_slice.result.now) (c.loop-key.invariant other)
-    ∙ ap (λ (k : List ℕ). is_among other (take c.loop-key.key-index c.args.keys.now) || same_name other k) c.as_slice.ensures.value
+    ∙ among_inserted c.loop-key.index.keys _ other
+    ∙ ap (λ b. b || same_name other c.key-item.result) (c.loop-key.invariant other)
     ∙ sym (among_more other (take c.loop-key.key-index c.args.keys.now) c.key-item.result)
     ∙ ap (λ (k : List ℕ). is_among other (take c.loop-key.key-index c.args.keys.now ++ k ∷ [])) c.key-item.is
     ∙ sym (ap (is_among other) (take_more c.args.keys.now c.loop-key.key-index c.key-item.result inside))

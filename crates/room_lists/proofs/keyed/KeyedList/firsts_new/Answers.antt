@@ -6,7 +6,7 @@ use Rattle.room_lists.specs.Keyed.{has_key}
 use Rattle.room_lists.proofs.Picked.{is_missing, picked, found_more, more_found, passed_other, all_picked, all_missing}
 use Rattle.room_lists.proofs.Seen.{words_of, not_seen, seen_before, is_new, seen_new, seen_other, seen_again, passes_over}
 use Rattle.room_lists.proofs.keyed.KeyedList.firsts_new.Goals as goal
-use Rattle.room_lists.proofs.keyed.KeyedList.firsts_new.Goals.{then-branch+then-not-has_bytes+else-len-most+in_ok-push, else-branch, else-branch-via-then-branch+else-not-has_bytes, else-branch-via-else-branch}
+use Rattle.room_lists.proofs.keyed.KeyedList.firsts_new.Goals.{then-branch+then-not-has+else-len-most+in_ok-push, else-branch, else-branch-via-then-branch+else-not-has, else-branch-via-else-branch}
 
 pub loop-item-preserved : goal.loop-item-preserved
 loop-item-preserved g c =
@@ -27,10 +27,10 @@ loop-item-preserved g c =
     let same = c.key-key.ensures in
     let held = c.loop-item.invariant.seen in
     elim c.if-branch.branch [
-      | then-branch+then-not-has_bytes+else-len-most+in_ok-push w ↦
-          let there : w.has_bytes.result ≡ has_key key_of word c.args.self.now =
-          w.has_bytes.ensures ∙ ap (λ (k : List ℕ). has_key key_of k c.args.self.now) c.key-key.ensures in
-          let passes : test word ≡ true = ap not (sym there ∙ w.if-not-has_bytes.true) in
+      | then-branch+then-not-has+else-len-most+in_ok-push w ↦
+          let there : w.has.result ≡ has_key key_of word c.args.self.now =
+          w.has.ensures ∙ ap (λ (k : List ℕ). has_key key_of k c.args.self.now) c.key-key.ensures in
+          let passes : test word ≡ true = ap not (sym there ∙ w.if-not-has.true) in
           let new = is_new test seen keys key word same held (not_seen _ _ c.in_ok-insert.ensures.added w.if-branch.true) passes in
           let made : map (λ first. key_of first.now) w.push.new.self.items ≡ keys ++ word ∷ [] =
           ap (map (λ first. key_of first.now)) w.in_ok-push.ensures.items ∙ map-append (λ first. key_of first.now) c.loop-item.firsts.items (_ ∷ []) in
@@ -42,17 +42,17 @@ loop-item-preserved g c =
           record {
             found = ap left after ∙ found_more test keys words i word inside is passes new ∙ c.loop-item.invariant.found;
             seen = λ other ok. put other ∙ seen_new test seen keys key word same held other ok ∙ sym (ap (is_among other) after);
-            few = omega (arith, counted, one, firsts, w.if-len-most.false, w.len-then-not-has_bytes.ensures);
+            few = omega (arith, counted, one, firsts, w.if-len-most.false, w.len-then-not-has.ensures);
           }
       | else-branch w ↦
           let after : map (λ first. key_of first.now) c.if-branch.firsts.items ≡ keys = λ j. map (λ first. key_of first.now) (w.firsts-is j).items in
           let counted = ap length after in
           let few : length (map (λ first. key_of first.now) c.if-branch.firsts.items) ≤ c.args.most = omega (arith, counted, c.loop-item.invariant.few) in
           elim w.else-branch.branch [
-            | else-branch-via-then-branch+else-not-has_bytes v ↦
-                let there : v.has_bytes.result ≡ has_key key_of word c.args.self.now =
-                v.has_bytes.ensures ∙ ap (λ (k : List ℕ). has_key key_of k c.args.self.now) c.key-key.ensures in
-                let fails : test word ≡ false = ap not (sym there ∙ v.if-not-has_bytes.false) in
+            | else-branch-via-then-branch+else-not-has v ↦
+                let there : v.has.result ≡ has_key key_of word c.args.self.now =
+                v.has.ensures ∙ ap (λ (k : List ℕ). has_key key_of k c.args.self.now) c.key-key.ensures in
+                let fails : test word ≡ false = ap not (sym there ∙ v.if-not-has.false) in
                 record {
                   found = ap left after ∙ passed_other test keys words i word inside is fails ∙ c.loop-item.invariant.found;
                   seen = λ other ok. put other ∙ seen_other test seen keys key word same held fails other ok ∙ sym (ap (is_among other) after);
@@ -80,9 +80,9 @@ returns-then-len-most g c =
     let same_length = length-map c.args.items.now key_of in
     let inside : i < length words = omega (arith, here, same_length) in
     let is : word ≡ get_or words i word = ap key_of c.item-item.is ∙ sym (get_or-map key_of c.args.items.now i c.item-item.result word here) in
-    let there : c.has_bytes.result ≡ has_key key_of word c.args.self.now =
-    c.has_bytes.ensures ∙ ap (λ (k : List ℕ). has_key key_of k c.args.self.now) c.key-key.ensures in
-    let passes : test word ≡ true = ap not (sym there ∙ c.if-not-has_bytes.true) in
+    let there : c.has.result ≡ has_key key_of word c.args.self.now =
+    c.has.ensures ∙ ap (λ (k : List ℕ). has_key key_of k c.args.self.now) c.key-key.ensures in
+    let passes : test word ≡ true = ap not (sym there ∙ c.if-not-has.true) in
     let new = is_new test c.loop-item.seen.keys keys c.key-key.result word c.key-key.ensures c.loop-item.invariant.seen
     (not_seen _ _ c.in_ok-insert.ensures.added c.if-branch.true) passes in
     let more = more_found test keys words i word inside is passes new c.loop-item.invariant.found in

@@ -25,10 +25,9 @@ loop-key-preserved g c =
     let places = c.loop-key.invariant.places in
     elim c.match-place_of.branch [
       | in-Some+then-not-index+in_ok-push w ↦
-          let passes : test word ≡ true = sym (w.in-Some.ensures.there ∙ ap test c.as_slice.ensures.value) in
+          let passes : test word ≡ true = sym (w.in-Some.ensures.there) in
           let within : w.in-Some.place < length items = w.in-Some.ensures.place.0 in
-          let placed : w.in-Some.place ≡ place_of key_of word items =
-          w.in-Some.ensures.place.1 ∙ ap (λ (k : List ℕ). place_of key_of k items) c.as_slice.ensures.value in
+          let placed : w.in-Some.place ≡ place_of key_of word items = w.in-Some.ensures.place.1 in
           let new : is_among word keys ≡ false =
           sym (met_before key_of items met keys word held places w.in-Some.place within placed w.index.result.now w.index.ensures) ∙ w.if-not-index.true in
           let made : map (λ first. first.now) w.push.new.self.items ≡ keys ++ word ∷ [] =
@@ -52,7 +51,7 @@ loop-key-preserved g c =
           elim w.in_default.branch [
             | in_default-via-in-None-1 v ↦
                 let none : c.place_of.result ≡ None = search rules in
-                let fails : test word ≡ false = sym (c.place_of.ensures.there ∙ ap test c.as_slice.ensures.value) ∙ ap is_some none in
+                let fails : test word ≡ false = sym (c.place_of.ensures.there) ∙ ap is_some none in
                 record {
                   found = ap left after ∙ passed_other test keys words i word inside is fails ∙ c.loop-key.invariant.found;
                   met = still;
@@ -60,8 +59,7 @@ loop-key-preserved g c =
                 }
             | in_default-via-in-Some+else-not-index v ↦
                 let within : v.in-Some.place < length items = v.in-Some.ensures.place.0 in
-                let placed : v.in-Some.place ≡ place_of key_of word items =
-                v.in-Some.ensures.place.1 ∙ ap (λ (k : List ℕ). place_of key_of k items) c.as_slice.ensures.value in
+                let placed : v.in-Some.place ≡ place_of key_of word items = v.in-Some.ensures.place.1 in
                 let old : is_among word keys ≡ true =
                 sym (met_before key_of items met keys word held places v.in-Some.place within placed v.index.result.now v.index.ensures) ∙ v.if-not-index.false in
                 record {
