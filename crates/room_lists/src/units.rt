@@ -17,7 +17,7 @@ pub const UNIT_LIMIT: usize = 1024;
 /// Units in order of first disabling, none of them twice. They may be more than `UNIT_LIMIT`: the rules of
 /// a room ask `has_room_for` before they disable any.
 ///
-/// A look-up takes the same time however many there are. The index has a copy of each word.
+/// A look-up takes the same time however many there are. Each word lies in memory once.
 #[derive(Drop)]
 pub struct Units {
     units: KeyedList<WordBuf>,
