@@ -2,6 +2,6 @@
 use Rattle.std.proofs.Common.{◌≡◌, ℕ, List, [], ◌++◌, append_assoc}
 
 pub regroup : (out id word battle kind nat founder ip port players flag rank hash engine version map title game end : List ℕ)
-    → ((((out ++ (id ++ word)) ++ (battle ++ (kind ++ (nat ++ (founder ++ (ip ++ port)))))) ++ (players ++ (flag ++ (rank ++ hash)))) ++ (engine ++ (version ++ (map ++ (title ++ game))))) ++ end
+    → ((out ++ (id ++ (word ++ (battle ++ (kind ++ (nat ++ (founder ++ (ip ++ port)))))))) ++ (players ++ (flag ++ (rank ++ hash)))) ++ (engine ++ (version ++ (map ++ (title ++ (game ++ end)))))
     ≡ out ++ ((id ++ (word ++ (battle ++ (kind ++ (nat ++ (founder ++ (ip ++ (port ++ (players ++ (flag ++ (rank ++ (hash ++ (engine ++ (version ++ (map ++ (title ++ (game ++ []))))))))))))))))) ++ end)
 regroup out id word battle kind nat founder ip port players flag rank hash engine version map title game end = simp append_assoc

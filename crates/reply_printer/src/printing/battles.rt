@@ -8,13 +8,13 @@ ghost use Rattle.reply_kinds.specs.declared.Reply.TheVariants as reply;
 ghost use Rattle.reply_kinds.specs.declared.command_word.CommandWord.TheVariants as command;
 ghost use Rattle.reply_printer.specs.Groups.{Battles, group_of};
 ghost use Rattle.reply_kinds.specs.Lent.{battle_opened, reply_of};
-ghost use Rattle.reply_kinds.specs.Replies.{command_of, printed_line};
+ghost use Rattle.reply_kinds.specs.Replies.{command_of, id_text, printed_line, word_of};
 
 use super::pieces::{
-    put_command, put_end, put_flag, put_name, put_next_sentence, put_number, put_optional,
-    put_sentence, put_wide, put_word,
+    put_end, put_flag, put_name, put_next_sentence, put_number, put_optional, put_sentence,
+    put_wide, put_word,
 };
-use super::shapes::{put_bare, put_only_number, put_only_text};
+use super::shapes::{put_bare, put_numbered, put_only_number};
 use line_words::{NameBuf, SentenceBuf, WordBuf};
 use reply_kinds::{CommandWord, LentReply, OpenedBattle, Reply};
 use std::alloc::AllocError;
@@ -126,12 +126,18 @@ pub(super) fn put_battle_opened(
     else {
         unreachable!()
     };
-    put_command(out, id, CommandWord::BattleOpened)?;
-    put_host(out, *battle, *battle_type, *nat_type, founder, ip, *port)?;
+    put_host(
+        out,
+        id,
+        *battle,
+        *battle_type,
+        *nat_type,
+        founder,
+        ip,
+        *port,
+    )?;
     put_entry(out, *max_players, *passworded, rank, map_hash)?;
-    put_titles(out, engine_name, engine_version, map, title, game_name)?;
-    put_end(out)?;
-    Ok(())
+    put_titles(out, engine_name, engine_version, map, title, game_name)
 }
 
 pub(super) fn put_opened_battle(
@@ -143,9 +149,9 @@ pub(super) fn put_opened_battle(
     ensures ok { IfOk result (λ _. out.new.items ≡ out.old.items ++ printed_line id (battle_opened battle opened.now)) }
     ensures kept { Keeps out.old.items out.new.items }
 {
-    put_command(out, id, CommandWord::BattleOpened)?;
     put_host(
         out,
+        id,
         battle,
         opened.battle_type,
         opened.nat_type,
@@ -167,14 +173,13 @@ pub(super) fn put_opened_battle(
         &opened.map,
         &opened.title,
         &opened.game_name,
-    )?;
-    put_end(out)?;
-    Ok(())
+    )
 }
 
-// What the battle is, and who hosts it where.
+// What the line begins with: what the battle is, and who hosts it where.
 fn put_host(
     out: &mut Vec<u8>,
+    id: Option<u32>,
     battle: u32,
     battle_type: u8,
     nat_type: u8,
@@ -182,16 +187,15 @@ fn put_host(
     ip: &WordBuf,
     port: u16,
 ) -> Result<(), AllocError>
-    ensures ok { IfOk result (λ _. out.new.items ≡ out.old.items ++ ((32 ∷ decimal battle) ++ ((32 ∷ decimal battle_type) ++ ((32 ∷ decimal nat_type) ++ ((32 ∷ founder.now) ++ ((32 ∷ ip.now) ++ (32 ∷ decimal port))))))) }
+    ensures ok { IfOk result (λ _. out.new.items ≡ out.old.items ++ (id_text id ++ (word_of command.BattleOpened ++ ((32 ∷ decimal battle) ++ ((32 ∷ decimal battle_type) ++ ((32 ∷ decimal nat_type) ++ ((32 ∷ founder.now) ++ ((32 ∷ ip.now) ++ (32 ∷ decimal port))))))))) }
     ensures kept { Keeps out.old.items out.new.items }
 {
-    put_number(out, battle)?;
+    put_numbered(out, id, CommandWord::BattleOpened, battle)?;
     put_number(out, u32::from(battle_type))?;
     put_number(out, u32::from(nat_type))?;
     put_name(out, founder)?;
     put_word(out, ip)?;
-    put_number(out, u32::from(port))?;
-    Ok(())
+    put_number(out, u32::from(port))
 }
 
 // Who may enter, and the map as its hash.
@@ -208,10 +212,10 @@ fn put_entry(
     put_number(out, u32::from(max_players))?;
     put_flag(out, passworded)?;
     put_wide(out, rank)?;
-    put_wide(out, map_hash)?;
-    Ok(())
+    put_wide(out, map_hash)
 }
 
+// The engine, the map, the title and the game, and the end of the line.
 fn put_titles(
     out: &mut Vec<u8>,
     engine_name: &SentenceBuf,
@@ -220,7 +224,7 @@ fn put_titles(
     title: &SentenceBuf,
     game_name: &SentenceBuf,
 ) -> Result<(), AllocError>
-    ensures ok { IfOk result (λ _. out.new.items ≡ out.old.items ++ ((32 ∷ engine_name.now) ++ ((9 ∷ engine_version.now) ++ ((9 ∷ map.now) ++ ((9 ∷ title.now) ++ (9 ∷ game_name.now)))))) }
+    ensures ok { IfOk result (λ _. out.new.items ≡ out.old.items ++ ((32 ∷ engine_name.now) ++ ((9 ∷ engine_version.now) ++ ((9 ∷ map.now) ++ ((9 ∷ title.now) ++ ((9 ∷ game_name.now) ++ 10 ∷ [])))))) }
     ensures kept { Keeps out.old.items out.new.items }
 {
     put_sentence(out, engine_name)?;
@@ -228,7 +232,7 @@ fn put_titles(
     put_next_sentence(out, map)?;
     put_next_sentence(out, title)?;
     put_next_sentence(out, game_name)?;
-    Ok(())
+    put_end(out)
 }
 
 fn put_join_battle(
@@ -240,11 +244,9 @@ fn put_join_battle(
     ensures ok { IfOk result (λ _. out.new.items ≡ out.old.items ++ printed_line id (reply.JoinBattle battle game_hash.now)) }
     ensures kept { Keeps out.old.items out.new.items }
 {
-    put_command(out, id, CommandWord::JoinBattle)?;
-    put_number(out, battle)?;
+    put_numbered(out, id, CommandWord::JoinBattle, battle)?;
     put_wide(out, game_hash)?;
-    put_end(out)?;
-    Ok(())
+    put_end(out)
 }
 
 fn put_joined_battle(
@@ -257,12 +259,10 @@ fn put_joined_battle(
     ensures ok { IfOk result (λ _. out.new.items ≡ out.old.items ++ printed_line id (reply.JoinedBattle battle user.now (option_copied script_password.entry))) }
     ensures kept { Keeps out.old.items out.new.items }
 {
-    put_command(out, id, CommandWord::JoinedBattle)?;
-    put_number(out, battle)?;
+    put_numbered(out, id, CommandWord::JoinedBattle, battle)?;
     put_name(out, user)?;
     put_optional(out, script_password)?;
-    put_end(out)?;
-    Ok(())
+    put_end(out)
 }
 
 fn put_left_battle(
@@ -274,11 +274,9 @@ fn put_left_battle(
     ensures ok { IfOk result (λ _. out.new.items ≡ out.old.items ++ printed_line id (reply.LeftBattle battle user.now)) }
     ensures kept { Keeps out.old.items out.new.items }
 {
-    put_command(out, id, CommandWord::LeftBattle)?;
-    put_number(out, battle)?;
+    put_numbered(out, id, CommandWord::LeftBattle, battle)?;
     put_name(out, user)?;
-    put_end(out)?;
-    Ok(())
+    put_end(out)
 }
 
 fn put_update_battle_info(
@@ -293,12 +291,10 @@ fn put_update_battle_info(
     ensures ok { IfOk result (λ _. out.new.items ≡ out.old.items ++ printed_line id (reply.UpdateBattleInfo battle spectator_count locked map_hash.now map.now)) }
     ensures kept { Keeps out.old.items out.new.items }
 {
-    put_command(out, id, CommandWord::UpdateBattleInfo)?;
-    put_number(out, battle)?;
+    put_numbered(out, id, CommandWord::UpdateBattleInfo, battle)?;
     put_number(out, u32::from(spectator_count))?;
     put_flag(out, locked)?;
     put_wide(out, map_hash)?;
     put_sentence(out, map)?;
-    put_end(out)?;
-    Ok(())
+    put_end(out)
 }

@@ -1,14 +1,15 @@
 //! Printing the replies on the bots of a battle.
 #![tactic(auto, using(crate::proofs::Kept::front_more, crate::proofs::Kept::front_all))]
 
-ghost use Rattle.std.specs.Prelude.{◌≡◌, ◌++◌, IfOk};
+ghost use Rattle.std.specs.Prelude.{◌≡◌, ◌∷◌, ◌++◌, IfOk, decimal};
 ghost use Rattle.reply_printer.specs.Fronts.{Keeps};
 ghost use Rattle.reply_kinds.specs.declared.Reply.TheVariants as reply;
 ghost use Rattle.reply_printer.specs.Groups.{Bots, group_of};
 ghost use Rattle.reply_kinds.specs.Lent.{reply_of};
-ghost use Rattle.reply_kinds.specs.Replies.{command_of, printed_line};
+ghost use Rattle.reply_kinds.specs.Replies.{command_of, id_text, printed_line, word_of};
 
-use super::pieces::{put_command, put_end, put_name, put_number, put_sentence, put_wide, put_word};
+use super::pieces::{put_end, put_name, put_sentence, put_word};
+use super::shapes::{put_numbered, put_status_and_color};
 use line_words::{NameBuf, SentenceBuf, WordBuf};
 use reply_kinds::{CommandWord, LentReply, Reply};
 use std::alloc::AllocError;
@@ -79,6 +80,22 @@ pub(super) fn put(out: &mut Vec<u8>, id: Option<u32>, reply: LentReply) -> Resul
     }
 }
 
+// What a line on a bot begins with.
+#[inline(always)]
+fn put_bot(
+    out: &mut Vec<u8>,
+    id: Option<u32>,
+    command: CommandWord,
+    battle: u32,
+    bot: &WordBuf,
+) -> Result<(), AllocError>
+    ensures ok { IfOk result (λ _. out.new.items ≡ out.old.items ++ (id_text id ++ (word_of command ++ ((32 ∷ decimal battle) ++ (32 ∷ bot.now))))) }
+    ensures kept { Keeps out.old.items out.new.items }
+{
+    put_numbered(out, id, command, battle)?;
+    put_word(out, bot)
+}
+
 fn put_add_bot(
     out: &mut Vec<u8>,
     id: Option<u32>,
@@ -92,15 +109,11 @@ fn put_add_bot(
     ensures ok { IfOk result (λ _. out.new.items ≡ out.old.items ++ printed_line id (reply.AddBot battle bot.now owner.now battle_status team_color.now ai.now)) }
     ensures kept { Keeps out.old.items out.new.items }
 {
-    put_command(out, id, CommandWord::AddBot)?;
-    put_number(out, battle)?;
-    put_word(out, bot)?;
+    put_bot(out, id, CommandWord::AddBot, battle, bot)?;
     put_name(out, owner)?;
-    put_number(out, battle_status)?;
-    put_wide(out, team_color)?;
+    put_status_and_color(out, battle_status, team_color)?;
     put_sentence(out, ai)?;
-    put_end(out)?;
-    Ok(())
+    put_end(out)
 }
 
 fn put_update_bot(
@@ -114,13 +127,9 @@ fn put_update_bot(
     ensures ok { IfOk result (λ _. out.new.items ≡ out.old.items ++ printed_line id (reply.UpdateBot battle bot.now battle_status team_color.now)) }
     ensures kept { Keeps out.old.items out.new.items }
 {
-    put_command(out, id, CommandWord::UpdateBot)?;
-    put_number(out, battle)?;
-    put_word(out, bot)?;
-    put_number(out, battle_status)?;
-    put_wide(out, team_color)?;
-    put_end(out)?;
-    Ok(())
+    put_bot(out, id, CommandWord::UpdateBot, battle, bot)?;
+    put_status_and_color(out, battle_status, team_color)?;
+    put_end(out)
 }
 
 fn put_remove_bot(
@@ -132,9 +141,6 @@ fn put_remove_bot(
     ensures ok { IfOk result (λ _. out.new.items ≡ out.old.items ++ printed_line id (reply.RemoveBot battle bot.now)) }
     ensures kept { Keeps out.old.items out.new.items }
 {
-    put_command(out, id, CommandWord::RemoveBot)?;
-    put_number(out, battle)?;
-    put_word(out, bot)?;
-    put_end(out)?;
-    Ok(())
+    put_bot(out, id, CommandWord::RemoveBot, battle, bot)?;
+    put_end(out)
 }

@@ -8,9 +8,9 @@ ghost use Rattle.reply_printer.specs.Groups.{Channels, group_of};
 ghost use Rattle.reply_kinds.specs.Lent.{reply_of};
 ghost use Rattle.reply_kinds.specs.Replies.{command_of, printed_line};
 
-use super::pieces::{put_command, put_count, put_end, put_name, put_names};
+use super::pieces::{put_count, put_end, put_name, put_names};
 use super::shapes::{
-    put_bare, put_name_and_text, put_only_name, put_two_names, put_two_names_and_text,
+    put_bare, put_name_and_text, put_named, put_only_name, put_two_names, put_two_names_and_text,
 };
 use line_words::NameBuf;
 use reply_kinds::{CommandWord, LentReply, Reply};
@@ -117,11 +117,9 @@ fn put_channel(
     ensures ok { IfOk result (λ _. out.new.items ≡ out.old.items ++ printed_line id (reply.Channel channel.now user_count)) }
     ensures kept { Keeps out.old.items out.new.items }
 {
-    put_command(out, id, CommandWord::Channel)?;
-    put_name(out, channel)?;
+    put_named(out, id, CommandWord::Channel, channel)?;
     put_count(out, user_count)?;
-    put_end(out)?;
-    Ok(())
+    put_end(out)
 }
 
 fn put_clients(
@@ -133,11 +131,9 @@ fn put_clients(
     ensures ok { IfOk result (λ _. out.new.items ≡ out.old.items ++ printed_line id (reply.Clients channel.now names.now)) }
     ensures kept { Keeps out.old.items out.new.items }
 {
-    put_command(out, id, CommandWord::Clients)?;
-    put_name(out, channel)?;
+    put_named(out, id, CommandWord::Clients, channel)?;
     put_names(out, names)?;
-    put_end(out)?;
-    Ok(())
+    put_end(out)
 }
 
 // The names and one more.
@@ -151,10 +147,8 @@ fn put_last_clients(
     ensures ok { IfOk result (λ _. out.new.items ≡ out.old.items ++ printed_line id (reply.Clients channel.now (names.now ++ last.now ∷ []))) }
     ensures kept { Keeps out.old.items out.new.items }
 {
-    put_command(out, id, CommandWord::Clients)?;
-    put_name(out, channel)?;
+    put_named(out, id, CommandWord::Clients, channel)?;
     put_names(out, names)?;
     put_name(out, last)?;
-    put_end(out)?;
-    Ok(())
+    put_end(out)
 }

@@ -18,8 +18,7 @@ pub fn put_behind(out: &mut Vec<u8>, mark: u8, bytes: &[u8]) -> Result<(), Alloc
     ensures kept { Keeps out.old.items out.new.items }
 {
     out.push(mark)?;
-    out.extend_from_slice(bytes)?;
-    Ok(())
+    out.extend_from_slice(bytes)
 }
 
 fn put_decimal(out: &mut Vec<u8>, mark: u8, n: i64) -> Result<(), AllocError>

@@ -8,8 +8,8 @@ ghost use Rattle.reply_printer.specs.Groups.{Room, group_of};
 ghost use Rattle.reply_kinds.specs.Lent.{reply_of};
 ghost use Rattle.reply_kinds.specs.Replies.{command_of, printed_line};
 
-use super::pieces::{put_command, put_end, put_name, put_number, put_wide, put_word};
-use super::shapes::{put_name_and_text, put_only_name};
+use super::pieces::{put_end, put_word};
+use super::shapes::{put_name_and_text, put_named, put_only_name, put_status_and_color};
 use line_words::{NameBuf, WordBuf};
 use reply_kinds::{CommandWord, LentReply, Reply};
 use std::alloc::AllocError;
@@ -71,12 +71,9 @@ fn put_client_battle_status(
     ensures ok { IfOk result (λ _. out.new.items ≡ out.old.items ++ printed_line id (reply.ClientBattleStatus user.now battle_status team_color.now)) }
     ensures kept { Keeps out.old.items out.new.items }
 {
-    put_command(out, id, CommandWord::ClientBattleStatus)?;
-    put_name(out, user)?;
-    put_number(out, battle_status)?;
-    put_wide(out, team_color)?;
-    put_end(out)?;
-    Ok(())
+    put_named(out, id, CommandWord::ClientBattleStatus, user)?;
+    put_status_and_color(out, battle_status, team_color)?;
+    put_end(out)
 }
 
 fn put_join_battle_request(
@@ -88,9 +85,7 @@ fn put_join_battle_request(
     ensures ok { IfOk result (λ _. out.new.items ≡ out.old.items ++ printed_line id (reply.JoinBattleRequest user.now ip.now)) }
     ensures kept { Keeps out.old.items out.new.items }
 {
-    put_command(out, id, CommandWord::JoinBattleRequest)?;
-    put_name(out, user)?;
+    put_named(out, id, CommandWord::JoinBattleRequest, user)?;
     put_word(out, ip)?;
-    put_end(out)?;
-    Ok(())
+    put_end(out)
 }

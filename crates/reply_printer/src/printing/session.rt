@@ -8,8 +8,8 @@ ghost use Rattle.reply_printer.specs.Groups.{Session, group_of};
 ghost use Rattle.reply_kinds.specs.Lent.{reply_of};
 ghost use Rattle.reply_kinds.specs.Replies.{command_of, printed_line};
 
-use super::pieces::{put_behind, put_command, put_end, put_name, put_number, put_wide, put_word};
-use super::shapes::{put_bare, put_only_name, put_only_text};
+use super::pieces::{put_behind, put_command, put_end, put_number, put_wide, put_word};
+use super::shapes::{put_bare, put_named, put_only_name, put_only_text};
 use line_words::{NameBuf, WordBuf};
 use reply_kinds::{CommandWord, LentReply, Reply};
 use std::alloc::AllocError;
@@ -109,8 +109,7 @@ fn put_tas_server(
     put_word(out, spring_version)?;
     put_number(out, u32::from(udp_port))?;
     put_number(out, u32::from(server_mode))?;
-    put_end(out)?;
-    Ok(())
+    put_end(out)
 }
 
 fn put_add_user(
@@ -124,13 +123,11 @@ fn put_add_user(
     ensures ok { IfOk result (λ _. out.new.items ≡ out.old.items ++ printed_line id (reply.AddUser user.now country.now cpu.now account)) }
     ensures kept { Keeps out.old.items out.new.items }
 {
-    put_command(out, id, CommandWord::AddUser)?;
-    put_name(out, user)?;
+    put_named(out, id, CommandWord::AddUser, user)?;
     put_behind(out, b' ', country)?;
     put_wide(out, cpu)?;
     put_number(out, account)?;
-    put_end(out)?;
-    Ok(())
+    put_end(out)
 }
 
 fn put_client_status(
@@ -142,9 +139,7 @@ fn put_client_status(
     ensures ok { IfOk result (λ _. out.new.items ≡ out.old.items ++ printed_line id (reply.ClientStatus user.now status)) }
     ensures kept { Keeps out.old.items out.new.items }
 {
-    put_command(out, id, CommandWord::ClientStatus)?;
-    put_name(out, user)?;
+    put_named(out, id, CommandWord::ClientStatus, user)?;
     put_number(out, status)?;
-    put_end(out)?;
-    Ok(())
+    put_end(out)
 }

@@ -1,7 +1,7 @@
 //! Printing the replies on what a founder sets up for the game.
 #![tactic(auto, using(crate::proofs::Kept::front_more, crate::proofs::Kept::front_all))]
 
-ghost use Rattle.std.specs.Prelude.{◌≡◌, ◌++◌, IfOk};
+ghost use Rattle.std.specs.Prelude.{◌≡◌, ◌∷◌, ◌++◌, IfOk, decimal};
 ghost use Rattle.reply_printer.specs.Fronts.{Keeps};
 ghost use Rattle.reply_kinds.specs.declared.Reply.TheVariants as reply;
 ghost use Rattle.reply_printer.specs.Groups.{Setup, group_of};
@@ -9,7 +9,7 @@ ghost use Rattle.reply_kinds.specs.Lent.{reply_of};
 ghost use Rattle.reply_kinds.specs.Replies.{command_of, printed_line};
 
 use super::pieces::{put_command, put_end, put_number, put_pairs};
-use super::shapes::{put_bare, put_only_number, put_only_words};
+use super::shapes::{put_bare, put_numbered, put_only_number, put_only_words};
 use line_words::Pair;
 use reply_kinds::{CommandWord, LentReply, Reply};
 use std::alloc::AllocError;
@@ -107,14 +107,20 @@ fn put_add_start_rect(
     ensures ok { IfOk result (λ _. out.new.items ≡ out.old.items ++ printed_line id (reply.AddStartRect ally_no left top right bottom)) }
     ensures kept { Keeps out.old.items out.new.items }
 {
-    put_command(out, id, CommandWord::AddStartRect)?;
-    put_number(out, u32::from(ally_no))?;
-    put_number(out, u32::from(left))?;
-    put_number(out, u32::from(top))?;
-    put_number(out, u32::from(right))?;
-    put_number(out, u32::from(bottom))?;
-    put_end(out)?;
-    Ok(())
+    put_numbered(out, id, CommandWord::AddStartRect, u32::from(ally_no))?;
+    put_corner(out, left, top)?;
+    put_corner(out, right, bottom)?;
+    put_end(out)
+}
+
+// A corner of a start rectangle.
+#[inline(always)]
+fn put_corner(out: &mut Vec<u8>, across: u8, down: u8) -> Result<(), AllocError>
+    ensures ok { IfOk result (λ _. out.new.items ≡ out.old.items ++ ((32 ∷ decimal across) ++ (32 ∷ decimal down))) }
+    ensures kept { Keeps out.old.items out.new.items }
+{
+    put_number(out, u32::from(across))?;
+    put_number(out, u32::from(down))
 }
 
 fn put_set_script_tags(out: &mut Vec<u8>, id: Option<u32>, pairs: &[Pair]) -> Result<(), AllocError>
@@ -123,6 +129,5 @@ fn put_set_script_tags(out: &mut Vec<u8>, id: Option<u32>, pairs: &[Pair]) -> Re
 {
     put_command(out, id, CommandWord::SetScriptTags)?;
     put_pairs(out, pairs)?;
-    put_end(out)?;
-    Ok(())
+    put_end(out)
 }
