@@ -1,6 +1,6 @@
 //! The connections of a worker, and who gets the next turn.
 
-ghost use Rattle.std.specs.Prelude.{◌≡◌, ◌⊎◌, ◌↔◌, ◌+◌, ◌-◌, ◌*◌, ◌^◌, ◌<◌, ◌≤◌, ◌||◌, [], ◌++◌, true, false, length, min, None, IfSome, IsTrue, OnOk, OnSome};
+ghost use Rattle.std.specs.Prelude.{◌≡◌, ◌⊎◌, ◌↔◌, ◌+◌, ◌-◌, ◌/◌, ◌^◌, ◌<◌, ◌≤◌, ◌||◌, [], ◌++◌, true, false, length, min, None, IfSome, IsTrue, OnOk, OnSome};
 ghost use Rattle.std.specs.Option.{option_to_list};
 ghost use Rattle.lobby_post.specs.Mask.{has_home};
 ghost use Rattle.lobby_connections.specs.Table.{Leaves, Stays, due_count, next_key, with_left};
@@ -113,13 +113,13 @@ impl Model for Connections {
 
 impl Connections {
     /// No connection, at one of so many workers, 1 to 64, who have one lobby in turn. Together they tell as much as one of them would
-    /// alone.
+    /// alone, but for a remainder.
     pub fn new(alloc: Global, workers: u64) -> Connections
         requires some { 1 ≤ workers }
         requires few { workers ≤ 64 }
         ensures due { (result.due ≡ []) × (result.is_each_due ≡ false) × (result.served ≡ 0) }
         ensures told { result.told ≡ 0 }
-        ensures limits { (result.turn_most * workers ≤ TURN) × (result.round_most * workers ≤ ROUND) }
+        ensures limits { (result.turn_most ≡ TURN / workers) × (result.round_most ≡ ROUND / workers) }
         ensures some { (1 ≤ result.turn_most) × (result.turn_most ≤ result.round_most) }
         ensures left { (result.left ≡ []) × (result.is_each_left ≡ false) }
         ensures named { (result.named ≡ []) × (result.is_marked ≡ false) }

@@ -44,6 +44,12 @@ pub record ReadsSome (old new : Wire) (most : ℕ) : Type 0 where
   pub read : new.read ≡ and_more old.read more
   pub few : length more ≤ most
 
+-- just so many bytes were read, where they are told
+pub record ReadsBytes (old new : Wire) (bytes : ℕ) : Type 0 where
+  pub more : List ℕ
+  pub read : new.read ≡ and_more old.read more
+  pub bytes_are : length more ≡ bytes
+
 -- each count may rise by one
 pub record MayGoOn (wire : Wire) : Type 0 where
   pub reads : wire.reads < 2 ^ 64 - 1

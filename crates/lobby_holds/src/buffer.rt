@@ -12,12 +12,15 @@ use std::alloc::{AllocError, Global};
 use std::marker::Model;
 use std::mem;
 
-/// The most bytes that one read or one drain moves: a page. So much room is made at once, so it is small enough to be had where memory
-/// is short, and nearly all that a client sends at once fits.
+/// The most bytes that one drain moves, and the room that a read has at least: a page. So much room is made at once, so it
+/// is small enough to be had where memory is short, and nearly all that a client sends at once fits.
 pub const PIECE: usize = 4_096;
 
-/// The longest buffer that a worker keeps, in bytes: what one write carries.
-const MOST_KEPT: usize = 16_384;
+/// The longest buffer that a worker keeps, in bytes: what one write carries, and one read gives at most.
+const LONGEST: usize = 16_384;
+
+/// What a buffer of a piece lacks for the longest.
+const BEHIND: usize = 12_288;
 
 /// Bytes that wait in a part of a buffer, in order. The buffer is as long as its memory, so that more can be written right behind them.
 /// Contracts see the bytes, and how many more fit behind.
@@ -98,11 +101,23 @@ impl Buffer {
         self.memory.extend_from_slice(&[0; PIECE])
     }
 
+    /// Makes room for a burst, where there is room for a piece: for as much as one read gives at most. Without memory for
+    /// that the room that there is does.
+    pub(crate) fn widen(&mut self)
+        requires room { PIECE ≤ self.old.room }
+        ensures bytes { self.new.bytes ≡ self.old.bytes }
+        ensures room { PIECE ≤ self.new.room }
+    {
+        if self.memory.len() - self.to < LONGEST {
+            let _ = self.memory.extend_from_slice(&[0; BEHIND]);
+        }
+    }
+
     /// Takes memory that is lent, where it has none.
     pub(crate) fn take(&mut self, lent: &mut Vec<u8>)
-        requires { vec_capacity lent.old ≤ MOST_KEPT }
+        requires { vec_capacity lent.old ≤ LONGEST }
         ensures bytes { self.new.bytes ≡ self.old.bytes }
-        ensures kept { vec_capacity lent.new ≤ MOST_KEPT }
+        ensures kept { vec_capacity lent.new ≤ LONGEST }
     {
         if self.memory.capacity() == 0 {
             mem::swap(&mut self.memory, lent);
@@ -111,27 +126,28 @@ impl Buffer {
 
     /// Gives its memory away where no bytes wait, in place of less.
     pub(crate) fn give_back(&mut self, lent: &mut Vec<u8>)
-        requires { vec_capacity lent.old ≤ MOST_KEPT }
+        requires { vec_capacity lent.old ≤ LONGEST }
         ensures bytes { self.new.bytes ≡ self.old.bytes }
         ensures given { self.old.bytes ≡ [] → self.new.room ≡ 0 }
-        ensures kept { vec_capacity lent.new ≤ MOST_KEPT }
+        ensures kept { vec_capacity lent.new ≤ LONGEST }
     {
         if self.is_empty() {
             let none = Buffer::new(*self.memory.allocator());
             let Buffer { memory, .. } = mem::replace(self, none);
-            if lent.len() < memory.len() && memory.capacity() <= MOST_KEPT {
+            if lent.len() < memory.len() && memory.capacity() <= LONGEST {
                 *lent = memory;
             }
         }
     }
 
-    /// Reads a piece into it, in which no bytes wait.
-    pub(crate) fn read<L: Link>(&mut self, link: &mut L) -> Got
+    /// Reads into it as many bytes as it has room for, and so many at most. No bytes wait in it.
+    pub(crate) fn read<L: Link>(&mut self, link: &mut L, most: usize) -> Got
         requires room { PIECE ≤ self.old.room }
+        requires some { 1 ≤ most }
         requires wire { MayGoOn (L.wire link.old) }
         ensures read { (L.wire link.new).read ≡ and_more (L.wire link.old).read self.new.bytes }
         ensures count { length self.new.bytes ≡ got_count result }
-        ensures few { got_count result ≤ PIECE }
+        ensures few { (got_count result ≤ most) × (got_count result ≤ LONGEST) }
         ensures written { (L.wire link.new).written ≡ (L.wire link.old).written }
         ensures reads { (L.wire link.new).reads ≡ (L.wire link.old).reads + 1 }
         ensures writes { (L.wire link.new).writes ≡ (L.wire link.old).writes }
@@ -139,7 +155,8 @@ impl Buffer {
         ensures last_got { (L.wire link.new).last_got ≡ Some result }
         ensures last_sent { (L.wire link.new).last_sent ≡ (L.wire link.old).last_sent }
     {
-        let got = read_front(&mut self.memory, PIECE, link);
+        let room = most.min(LONGEST).min(self.memory.len());
+        let got = read_front(&mut self.memory, room, link);
         self.from = 0;
         self.to = count_of(got);
         got
@@ -165,6 +182,7 @@ impl Buffer {
 /// Reads so many bytes at most to the front of a slice.
 fn read_front<L: Link>(into: &mut [u8], most: usize, link: &mut L) -> Got
     requires room { most ≤ length into.old }
+    requires some { 1 ≤ most }
     requires wire { MayGoOn (L.wire link.old) }
     ensures read { (L.wire link.new).read ≡ and_more (L.wire link.old).read (take (got_count result) into.new) }
     ensures few { got_count result ≤ most }

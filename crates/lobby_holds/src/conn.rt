@@ -5,7 +5,7 @@ ghost use Rattle.lobby_lock.specs.Passes.{ShownPass};
 ghost use Rattle.client_session.specs.declared.session.Next.TheVariants.{Spoilt};
 ghost use Rattle.client_session.specs.OneSession.{Accepted, HasLineNext, IsNextOf};
 ghost use Rattle.client_session.specs.Sessions.{Heard, KeepsKinds};
-ghost use Rattle.lobby_holds.specs.Wire.{Wire, ReadsSome, MayGoOn, got_count};
+ghost use Rattle.lobby_holds.specs.Wire.{Wire, ReadsBytes, MayGoOn, got_count};
 ghost use Rattle.lobby_holds.specs.Snapshot.{snapshot, Carries};
 ghost use Rattle.lobby_holds.specs.Went.{Went};
 ghost use Rattle.lobby_holds.specs.Holds.{HasNoSpoiltNext};
@@ -139,12 +139,15 @@ impl Conn {
         Ok(())
     }
 
-    /// Reads a piece. All that was read before was fed.
-    pub fn read<L: Link>(&mut self, link: &mut L) -> Result<Got, AllocError>
+    /// Reads so many bytes at most, and 16,384 at once where the last read gave a piece or more: so a burst comes in few
+    /// reads, and who sends little needs no more than a piece. All that was read before was fed.
+    pub fn read<L: Link>(&mut self, link: &mut L, most: usize) -> Result<Got, AllocError>
         requires fed { self.old.unfed ≡ [] }
+        requires some { 1 ≤ most }
         requires wire { MayGoOn (L.wire link.old) }
         ensures went { (pass : ShownPass) → Went (snapshot self.old (L.wire link.old) pass) (snapshot self.new (L.wire link.new) pass) [] }
-        ensures piece { ReadsSome (L.wire link.old) (L.wire link.new) PIECE }
+        ensures bytes { IfOk result (λ got. ReadsBytes (L.wire link.old) (L.wire link.new) (got_count got)) }
+        ensures few { IfOk result (λ got. (got_count got ≤ most) × (got_count got ≤ 16384)) }
         ensures session { self.new.session ≡ self.old.session }
         ensures unwritten { self.new.unwritten ≡ self.old.unwritten }
         ensures none { IfOk result (λ got. got_count got ≡ 0 → self.new ≡ self.old) }
@@ -156,7 +159,10 @@ impl Conn {
         ensures err { OnErr result ((self.new ≡ self.old) × (L.wire link.new ≡ L.wire link.old)) }
     {
         self.unfed.make_room()?;
-        Ok(self.unfed.read(link))
+        if is_burst(link.last_got()) {
+            self.unfed.widen();
+        }
+        Ok(self.unfed.read(link, most))
     }
 
     /// Accepts the next line, where one is there; else nothing changes.
@@ -201,6 +207,11 @@ impl Conn {
             .unwrap_or(otherwise);
         self.visit.logout(self.client(), cause)
     }
+}
+
+/// Whether more may wait behind what the last read gave than a buffer of one piece has room for.
+fn is_burst(last_got: Option<Got>) -> bool {
+    matches!(last_got, Some(Got::Bytes(count)) if count >= PIECE)
 }
 
 /// Feeds a piece to a session. Where memory is refused, nothing changes.

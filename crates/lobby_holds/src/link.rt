@@ -34,9 +34,10 @@ pub trait Link {
 
     ghost wire: { Self → Wire };
 
-    /// Reads up to as many bytes as the slice has.
+    /// Reads up to as many bytes as the slice has, which has some: so nothing that comes of it can be taken for an end.
     fn read(&mut self, into: &mut [u8]) -> Got
-        requires { MayGoOn (wire self.old) }
+        requires may { MayGoOn (wire self.old) }
+        requires some { into.old ≢ [] }
         ensures within { got_count result ≤ length into.old }
         ensures read { (wire self.new).read ≡ and_more (wire self.old).read (take (got_count result) into.new) }
         ensures written { (wire self.new).written ≡ (wire self.old).written }

@@ -1,53 +1,55 @@
 -- How receiving from a client goes on.
-use Rattle.std.proofs.Common.{◌≡◌, ◌≢◌, ◌⊎◌, ℕ, zero, suc, ◌+◌, ◌-◌, ◌*◌, ◌<◌, ◌≤◌, true, false, List, [], ◌++◌, length, refl, sym, ap, ◌∙◌, subst, inl, inr, arith, append-nil, length-append}
-use Rattle.std.specs.Prelude.{◌||◌, Option, Some}
+use Rattle.std.proofs.Common.{◌≡◌, ◌≢◌, ◌⊎◌, ℕ, zero, suc, ◌+◌, ◌-◌, ◌<◌, ◌≤◌, true, false, List, [], ◌++◌, length, refl, sym, ap, ◌∙◌, subst, inl, inr, arith, append-nil, length-append}
+use Rattle.std.specs.Prelude.{◌||◌, Some}
 use Rattle.lobby_post.specs.Mask.{has_home}
 use Rattle.lobby_holds.specs.declared.link.Got.{Got}
 use Rattle.lobby_holds.specs.declared.link.Got.TheVariants as got
 use Rattle.lobby_holds.specs.declared.holds.Said.{Said}
 use Rattle.lobby_turns.specs.declared.receiving.ReceiveState.{ReceiveState}
 use Rattle.lobby_turns.specs.declared.receiving.ReceiveState.TheVariants as receive
+use Rattle.lobby_turns.specs.declared.receiving.Left.{Left}
 use Rattle.lobby_turns.specs.declared.receiving.Step.{Step}
 use Rattle.lobby_turns.specs.declared.receiving.Step.TheVariants as step
-use Rattle.lobby_holds.specs.Moments.{Moment, requests}
-use Rattle.lobby_holds.specs.Wire.{Wire, ReadsSome, and_more}
+use Rattle.lobby_holds.specs.Moments.{Moment}
+use Rattle.lobby_holds.specs.Wire.{Wire, ReadsBytes, and_more}
 use Rattle.lobby_holds.specs.Snapshot.{Snapshot}
 use Rattle.client_session.specs.Serving.{Serving}
 use Rattle.lobby_holds.specs.Went.{Went}
 use Rattle.lobby_holds.specs.Holds.{AreSaid, SaysLines, IsWithin, HasLoudNext, StopsAt}
 use Rattle.client_session.specs.declared.session.Next.TheVariants.{Nothing, Spoilt}
 use Rattle.client_session.specs.OneSession.{IsNextOf}
-use Rattle.lobby_turns.specs.Receiving.{OnlyReads, IsAllReceived, IsBytes, NoReadFailed, LimitIs, MayRead, HasToReceive, has_bytes, has_line, has_more, SaysWithin, ToldEnough, StepIs, ReceivesNext, ReceivedIs, Receives}
+use Rattle.lobby_turns.specs.Receiving.{OnlyReads, IsAllReceived, NoReadFailed, LimitIs, MayRead, HasToReceive, has_bytes, has_line, has_more, StaysWithin, IsMost, most_lines, most_reads, most_bytes, most_told, bytes_of, StepIs, ReceivesNext, ReceivedIs, Receives}
 use Rattle.lobby_holds.proofs.Parts.{went_then, more_none, more_twice}
 use Rattle.lobby_holds.proofs.Nexts.{line_is_sound}
 use Rattle.lobby_holds.proofs.Sayings.{says_none, says_then, loud_is_line, stays_next}
 use Rattle.std.proofs.Math.Nat.{add-zero, zero-add}
 
--- so many lines were said to the lobby and so many reads were made, and these workers are to be woken
-pub record Receiving (old new : Snapshot) (lines reads wakes : ℕ) : Type 0 where
+-- so many lines were said to the lobby, so many reads were made, of so many bytes in all, and these workers are to be woken
+pub record Receiving (old new : Snapshot) (lines reads bytes wakes : ℕ) : Type 0 where
   pub says : SaysLines old new lines wakes
-  pub only : OnlyReads old new reads
+  pub only : OnlyReads old new reads bytes
 
-reads_none : (a b : Wire) → b ≡ a → ReadsSome a b 0
-reads_none a b same = record { more = []; read = ap (λ w. w.read) same ∙ more_none a.read; few = omega arith }
+reads_none : (a b : Wire) → b ≡ a → ReadsBytes a b 0
+reads_none a b same = record { more = []; read = ap (λ w. w.read) same ∙ more_none a.read; bytes_are = refl }
 
-reads_then : (a b c : Wire) (m n : ℕ) → ReadsSome a b (4096 * m) → ReadsSome b c (4096 * n) → ReadsSome a c (4096 * (m + n))
-reads_then a b c m n h k = record {
+reads_then : (a b c : Wire) (p q : ℕ) → ReadsBytes a b p → ReadsBytes b c q → ReadsBytes a c (p + q)
+reads_then a b c p q h k = record {
   more = h.more ++ k.more;
   read = k.read ∙ ap (λ o. and_more o k.more) h.read ∙ more_twice a.read h.more k.more;
-  few = omega (arith, h.few, k.few, length-append h.more k.more);
+  bytes_are = omega (arith, h.bytes_are, k.bytes_are, length-append h.more k.more);
 }
 
-pub receiving_none : (a : Snapshot) (wakes : ℕ) → ((home : ℕ) → has_home wakes home ≡ false) → Receiving a a 0 0 wakes
+pub receiving_none : (a : Snapshot) (wakes : ℕ) → ((home : ℕ) → has_home wakes home ≡ false) → Receiving a a 0 0 0 wakes
 receiving_none a wakes none = record {
   says = says_none a wakes none;
-  only = record { reads_are = omega arith; pieces = reads_none a.wire a.wire refl; writes = refl; failures = omega arith; still = λ _. refl; unwritten = refl };
+  only = record { reads_are = omega arith; bytes_are = reads_none a.wire a.wire refl; at_once = omega arith; writes = refl; failures = omega arith; still = λ _. refl; unwritten = refl };
 }
 
-only_then : (a b c : Snapshot) (m n : ℕ) → OnlyReads a b m → OnlyReads b c n → OnlyReads a c (m + n)
-only_then a b c m n h k = record {
+only_then : (a b c : Snapshot) (m n p q : ℕ) → OnlyReads a b m p → OnlyReads b c n q → OnlyReads a c (m + n) (p + q)
+only_then a b c m n p q h k = record {
   reads_are = omega (arith, h.reads_are, k.reads_are);
-  pieces = reads_then a.wire b.wire c.wire m n h.pieces k.pieces;
+  bytes_are = reads_then a.wire b.wire c.wire p q h.bytes_are k.bytes_are;
+  at_once = omega (arith, h.at_once, k.at_once);
   writes = k.writes ∙ h.writes;
   failures = omega (arith, h.failures, k.failures);
   still = λ e. k.still (omega (arith, e)) ∙ h.still (omega (arith, e));
@@ -55,8 +57,8 @@ only_then a b c m n h k = record {
 }
 
 -- what came without a line
-quietly : (a b c : Snapshot) (m k n wakes : ℕ) (u : List Moment) → Receiving a b m k wakes → Went b c u → OnlyReads b c n → u ≡ [] → Receiving a c m (k + n) wakes
-quietly a b c m k n wakes u h went only none =
+quietly : (a b c : Snapshot) (m k n p q wakes : ℕ) (u : List Moment) → Receiving a b m k p wakes → Went b c u → OnlyReads b c n q → u ≡ [] → Receiving a c m (k + n) (p + q) wakes
+quietly a b c m k n p q wakes u h went only none =
     let t : List Moment = h.says.talk in
     record {
       says = record {
@@ -65,23 +67,25 @@ quietly a b c m k n wakes u h went only none =
         said = h.says.said;
         unwritten = only.unwritten ∙ h.says.unwritten;
       };
-      only = only_then a b c k n h.only only;
+      only = only_then a b c k n p q h.only only;
     }
 
-pub receiving_read : (a b c : Snapshot) (m k wakes : ℕ) → Receiving a b m k wakes → ReceivesNext b c step.Read → Receiving a c m (k + 1) wakes
-receiving_read a b c m k wakes h s =
-    subst (λ (n : ℕ). Receiving a c m (k + n) wakes) s.step_is.1 (quietly a b c m k s.reads wakes s.talk h s.went s.only s.step_is.0)
+pub receiving_read : (a b c : Snapshot) (m k p q wakes : ℕ) → Receiving a b m k p wakes → ReceivesNext b c (step.Read q) → Receiving a c m (k + 1) (p + q) wakes
+receiving_read a b c m k p q wakes h s =
+    subst (λ (n : ℕ). Receiving a c m (k + n) (p + q) wakes) s.step_is.1 (quietly a b c m k s.reads p q wakes s.talk h s.went s.only s.step_is.0)
 
-pub receiving_said : (a b c : Snapshot) (m k wakes : ℕ) (said : Said) (all : ℕ) → Receiving a b m k wakes → ReceivesNext b c (step.Said said)
-    → ((home : ℕ) → has_home all home ≡ (has_home wakes home || has_home said.wakes home)) → Receiving a c (m + said.lines) k all
-receiving_said a b c m k wakes said all h s both = record {
+pub receiving_said : (a b c : Snapshot) (m k p wakes : ℕ) (said : Said) (all : ℕ) → Receiving a b m k p wakes → ReceivesNext b c (step.Said said)
+    → ((home : ℕ) → has_home all home ≡ (has_home wakes home || has_home said.wakes home)) → Receiving a c (m + said.lines) k p all
+receiving_said a b c m k p wakes said all h s both = record {
   says = says_then a b c m said.lines wakes said.wakes all h.says (record { talk = s.talk; went = s.went; said = s.step_is.1; unwritten = s.only.unwritten }) both;
-  only = subst (λ (n : ℕ). OnlyReads a c n) (ap (λ n. k + n) s.step_is.0 ∙ add-zero k) (only_then a b c k s.reads h.only s.only);
+  only =
+      subst (λ (n : ℕ). OnlyReads a c n p) (ap (λ n. k + n) s.step_is.0 ∙ add-zero k) (
+      subst (λ (n : ℕ). OnlyReads a c (k + s.reads) n) (add-zero p) (only_then a b c k s.reads p 0 h.only s.only));
 }
 
 -- without a read none failed that did not fail before
-no_fault_then : (a b c : Snapshot) (n : ℕ) → n ≡ 0 → OnlyReads b c n → NoReadFailed a b → NoReadFailed a c
-no_fault_then a b c n none only h = λ rose failed. h (omega (arith, rose, only.reads_are, none)) (sym (only.still none) ∙ failed)
+no_fault_then : (a b c : Snapshot) (n q : ℕ) → n ≡ 0 → OnlyReads b c n q → NoReadFailed a b → NoReadFailed a c
+no_fault_then a b c n q none only h = λ rose failed. h (omega (arith, rose, only.reads_are, none)) (sym (only.still none) ∙ failed)
 
 -- where all is received the last read did not fail
 no_fault_all : (a c : Snapshot) → IsAllReceived a c → c.wire.last_got ≢ Some got.Fault
@@ -93,62 +97,68 @@ no_fault_all a c h = last h.last
 
 -- ---- the whole of what a round of receiving keeps
 
-pub record IsReceiving (old new : Snapshot) (lines reads wakes : ℕ) : Type 0 where
-  pub receiving : Receiving old new lines reads wakes
+pub record IsReceiving (old new : Snapshot) (lines reads bytes wakes : ℕ) : Type 0 where
+  pub receiving : Receiving old new lines reads bytes wakes
   pub late : new.wire.last_got ≡ Some got.Later → new.wire.reads ≡ old.wire.reads
   pub sound : NoReadFailed old new
   pub after_end : old.wire.last_got ≡ Some got.End → reads ≡ 0
   pub few_lines : lines ≤ 64
   pub few_reads : reads ≤ 16
+  pub few_bytes : bytes ≤ 65536
 
-pub begins : (a : Snapshot) (wakes : ℕ) → ((home : ℕ) → has_home wakes home ≡ false) → IsReceiving a a 0 0 wakes
+pub begins : (a : Snapshot) (wakes : ℕ) → ((home : ℕ) → has_home wakes home ≡ false) → IsReceiving a a 0 0 0 wakes
 begins a wakes none =
-    record { receiving = receiving_none a wakes none; late = λ _. refl; sound = λ rose failed. absurd (omega (arith, rose)); after_end = λ _. refl; few_lines = omega arith; few_reads = omega arith }
+    record { receiving = receiving_none a wakes none; late = λ _. refl; sound = λ rose failed. absurd (omega (arith, rose)); after_end = λ _. refl; few_lines = omega arith; few_reads = omega arith; few_bytes = omega arith }
 
 -- behind its end no link is read
 unread : (b c : Snapshot) (n : ℕ) → (0 < n → MayRead b c) → b.wire.last_got ≡ Some got.End → n ≡ 0
 unread b c zero may end = refl
 unread b c (suc n) may end = absurd ((may (omega arith)).on end)
 
-end_stays : (a b c : Snapshot) (k n : ℕ) → OnlyReads a b k → (a.wire.last_got ≡ Some got.End → k ≡ 0) → (0 < n → MayRead b c) → a.wire.last_got ≡ Some got.End → k + n ≡ 0
-end_stays a b c k n only first may end = omega (arith, first end, unread b c n may (only.still (first end) ∙ end))
+end_stays : (a b c : Snapshot) (k n p : ℕ) → OnlyReads a b k p → (a.wire.last_got ≡ Some got.End → k ≡ 0) → (0 < n → MayRead b c) → a.wire.last_got ≡ Some got.End → k + n ≡ 0
+end_stays a b c k n p only first may end = omega (arith, first end, unread b c n may (only.still (first end) ∙ end))
 
-said_within : (m left : ℕ) (session : Serving) (how : Step) (said : Said) → how ≡ step.Said said → SaysWithin (64 - m) left session how → IsWithin (64 - m) said × StopsAt (64 - m) left session said
-said_within m left session how said is within = subst (λ (x : Step). SaysWithin (64 - m) left session x) is within
+said_within : (left : Left) (session : Serving) (how : Step) (said : Said) → how ≡ step.Said said → StaysWithin left session how → IsWithin left.lines said × StopsAt left.lines left.told session said
+said_within left session how said is within = subst (λ (x : Step). StaysWithin left session x) is within
 
-lines_fit : (m : ℕ) (said : Said) → m ≤ 64 → IsWithin (64 - m) said → m + said.lines ≤ 64
-lines_fit m said few fits = omega (arith, few, fits.0)
+lines_fit : (m : ℕ) (left : Left) (said : Said) → m ≤ 64 → left.lines ≡ 64 - m → IsWithin left.lines said → m + said.lines ≤ 64
+lines_fit m left said few left_is fits = omega (arith, few, left_is, fits.0)
 
-pub goes_on_said : (a b c : Snapshot) (m k left wakes : ℕ) (said : Said) (all : ℕ) (how : Step) → how ≡ step.Said said → SaysWithin (64 - m) left c.conn.session how
-    → IsReceiving a b m k wakes → ReceivesNext b c how
-    → ((home : ℕ) → has_home all home ≡ (has_home wakes home || has_home said.wakes home)) → IsReceiving a c (m + said.lines) k all
-goes_on_said a b c m k left wakes said all how is within h found both =
+pub goes_on_said : (a b c : Snapshot) (m k p wakes : ℕ) (left : Left) (said : Said) (all : ℕ) (how : Step) → how ≡ step.Said said → left.lines ≡ 64 - m → StaysWithin left c.conn.session how
+    → IsReceiving a b m k p wakes → ReceivesNext b c how
+    → ((home : ℕ) → has_home all home ≡ (has_home wakes home || has_home said.wakes home)) → IsReceiving a c (m + said.lines) k p all
+goes_on_said a b c m k p wakes left said all how is left_is within h found both =
     let s : ReceivesNext b c (step.Said said) = subst (λ (x : Step). ReceivesNext b c x) is found in
     record {
-      receiving = receiving_said a b c m k wakes said all h.receiving s both;
+      receiving = receiving_said a b c m k p wakes said all h.receiving s both;
       late = λ e. s.only.reads_are ∙ ap (λ n. b.wire.reads + n) s.step_is.0 ∙ add-zero b.wire.reads ∙ h.late (sym (s.only.still s.step_is.0) ∙ e);
-      sound = no_fault_then a b c s.reads s.step_is.0 s.only h.sound;
+      sound = no_fault_then a b c s.reads 0 s.step_is.0 s.only h.sound;
       after_end = h.after_end;
-      few_lines = lines_fit m said h.few_lines (said_within m left c.conn.session how said is within).0;
+      few_lines = lines_fit m left said h.few_lines left_is (said_within left c.conn.session how said is within).0;
       few_reads = h.few_reads;
+      few_bytes = h.few_bytes;
     }
 
-pub goes_on_read : (a b c : Snapshot) (m k wakes : ℕ) (how : Step) → how ≡ step.Read → k < 16 → IsReceiving a b m k wakes → ReceivesNext b c how → IsReceiving a c m (k + 1) wakes
-goes_on_read a b c m k wakes how is few h found =
-    let s : ReceivesNext b c step.Read = subst (λ (x : Step). ReceivesNext b c x) is found in
+pub goes_on_read : (a b c : Snapshot) (m k p q wakes : ℕ) (left : Left) (how : Step) → how ≡ step.Read q → k < 16 → left.bytes ≡ 65536 - p → StaysWithin left c.conn.session how
+    → IsReceiving a b m k p wakes → ReceivesNext b c how → IsReceiving a c m (k + 1) (p + q) wakes
+goes_on_read a b c m k p q wakes left how is few left_is within h found =
+    let s : ReceivesNext b c (step.Read q) = subst (λ (x : Step). ReceivesNext b c x) is found in
+    let fits : q ≤ left.bytes = subst (λ (x : Step). StaysWithin left c.conn.session x) is within in
     record {
-      receiving = receiving_read a b c m k wakes h.receiving s;
-      late = λ e. absurd (subst IsBytes e s.step_is.2);
-      sound = λ _ e. absurd (subst IsBytes e s.step_is.2);
-      after_end = λ end. ap (λ n. k + n) (sym s.step_is.1) ∙ end_stays a b c k s.reads h.receiving.only h.after_end s.may_read end;
+      receiving = receiving_read a b c m k p q wakes h.receiving s;
+      late = λ e. absurd (cc (e, s.step_is.2));
+      sound = λ _ e. absurd (cc (e, s.step_is.2));
+      after_end = λ end. ap (λ n. k + n) (sym s.step_is.1) ∙ end_stays a b c k s.reads p h.receiving.only h.after_end s.may_read end;
       few_lines = h.few_lines;
       few_reads = omega (arith, few);
+      few_bytes = omega (arith, fits, left_is, h.few_bytes);
     }
 
 -- ---- where receiving ends
 
-ended : (a c : Snapshot) (m k left wakes : ℕ) (how : ReceiveState) → m ≤ 64 → k ≤ 16 → (a.wire.last_got ≡ Some got.End → k ≡ 0) → (h : Receiving a c m k wakes) → ReceivedIs a c left h.says.talk how → Receives a c left how wakes
-ended a c m k left wakes how few_lines few after_end h is = record {
+ended : (a c : Snapshot) (m k p left wakes : ℕ) (how : ReceiveState) → m ≤ 64 → k ≤ 16 → p ≤ 65536 → (a.wire.last_got ≡ Some got.End → k ≡ 0) → (h : Receiving a c m k p wakes) → ReceivedIs a c left h.says.talk how
+    → Receives a c left how wakes
+ended a c m k p left wakes how few_lines few few_bytes after_end h is = record {
   talk = h.says.talk;
   went = h.says.went;
   own = h.says.said.own;
@@ -158,17 +168,20 @@ ended a c m k left wakes how few_lines few after_end h is = record {
   reads = k;
   few = few;
   after_end = after_end;
+  bytes = p;
+  few_bytes = few_bytes;
   only = h.only;
   wakes_are = h.says.said.wakes_are;
   received_is = is;
 }
 
--- by a step without a line
-stops : (a b c : Snapshot) (m k left wakes : ℕ) (how : Step) (state : ReceiveState) → k < 16 → IsReceiving a b m k wakes → (s : ReceivesNext b c how) → s.talk ≡ []
+-- by a step that gave no bytes and said no line
+stops : (a b c : Snapshot) (m k p left wakes : ℕ) (how : Step) (state : ReceiveState) → k < 16 → IsReceiving a b m k p wakes → (s : ReceivesNext b c how) → bytes_of how ≡ 0 → s.talk ≡ []
     → ((talk : List Moment) → ReceivedIs a c left talk state) → Receives a c left state wakes
-stops a b c m k left wakes how state few h s none is =
-    let all : Receiving a c m (k + s.reads) wakes = quietly a b c m k s.reads wakes s.talk h.receiving s.went s.only none in
-    ended a c m (k + s.reads) left wakes state h.few_lines (omega (arith, few, s.few)) (end_stays a b c k s.reads h.receiving.only h.after_end s.may_read) all (is all.says.talk)
+stops a b c m k p left wakes how state few h s no_bytes none is =
+    let all : Receiving a c m (k + s.reads) p wakes =
+    subst (λ (n : ℕ). Receiving a c m (k + s.reads) n wakes) (ap (λ n. p + n) no_bytes ∙ add-zero p) (quietly a b c m k s.reads p (bytes_of how) wakes s.talk h.receiving s.went s.only none) in
+    ended a c m (k + s.reads) p left wakes state h.few_lines (omega (arith, few, s.few)) h.few_bytes (end_stays a b c k s.reads p h.receiving.only h.after_end s.may_read) all (is all.says.talk)
 
 since_last : (a b c : Snapshot) → a.wire.reads ≤ b.wire.reads → (c.wire.last_got ≡ Some got.End) ⊎ ((c.wire.last_got ≡ Some got.Later) × (b.wire.reads < c.wire.reads))
     → (c.wire.last_got ≡ Some got.End) ⊎ ((c.wire.last_got ≡ Some got.Later) × (a.wire.reads < c.wire.reads))
@@ -179,18 +192,18 @@ since_last a b c rises (inr later) = inr (later.0, omega (arith, rises, later.1)
 since : (a b c : Snapshot) → a.wire.reads ≤ b.wire.reads → IsAllReceived b c → IsAllReceived a c
 since a b c rises h = record { fed = h.fed; nothing = h.nothing; last = since_last a b c rises h.last }
 
-rises : (a b : Snapshot) (k : ℕ) → OnlyReads a b k → a.wire.reads ≤ b.wire.reads
-rises a b k only = omega (arith, only.reads_are)
+rises : (a b : Snapshot) (k p : ℕ) → OnlyReads a b k p → a.wire.reads ≤ b.wire.reads
+rises a b k p only = omega (arith, only.reads_are)
 
-pub receives_all : (a b c : Snapshot) (m k left wakes : ℕ) (how : Step) → how ≡ step.All → k < 16 → IsReceiving a b m k wakes → ReceivesNext b c how → Receives a c left receive.All wakes
-receives_all a b c m k left wakes how is few h found =
+pub receives_all : (a b c : Snapshot) (m k p left wakes : ℕ) (how : Step) → how ≡ step.All → k < 16 → IsReceiving a b m k p wakes → ReceivesNext b c how → Receives a c left receive.All wakes
+receives_all a b c m k p left wakes how is few h found =
     let s : ReceivesNext b c step.All = subst (λ (x : Step). ReceivesNext b c x) is found in
-    stops a b c m k left wakes step.All receive.All few h s s.step_is.0 (λ talk. (λ _. no_fault_all b c s.step_is.1, since a b c (rises a b k h.receiving.only) s.step_is.1))
+    stops a b c m k p left wakes step.All receive.All few h s refl s.step_is.0 (λ talk. (λ _. no_fault_all b c s.step_is.1, since a b c (rises a b k p h.receiving.only) s.step_is.1))
 
-pub receives_stop : (a b c : Snapshot) (m k left wakes : ℕ) (how : Step) → how ≡ step.Stop → k < 16 → IsReceiving a b m k wakes → ReceivesNext b c how → Receives a c left receive.Stop wakes
-receives_stop a b c m k left wakes how is few h found =
+pub receives_stop : (a b c : Snapshot) (m k p left wakes : ℕ) (how : Step) → how ≡ step.Stop → k < 16 → IsReceiving a b m k p wakes → ReceivesNext b c how → Receives a c left receive.Stop wakes
+receives_stop a b c m k p left wakes how is few h found =
     let s : ReceivesNext b c step.Stop = subst (λ (x : Step). ReceivesNext b c x) is found in
-    stops a b c m k left wakes step.Stop receive.Stop few h s s.step_is.0 (λ talk. s.step_is.1)
+    stops a b c m k p left wakes step.Stop receive.Stop few h s refl s.step_is.0 (λ talk. s.step_is.1)
 
 -- without a read in between there is the same to receive since an earlier place
 to_receive : (a b c : Snapshot) → (b.wire.last_got ≡ Some got.Later → b.wire.reads ≡ a.wire.reads) → c.wire.last_got ≡ b.wire.last_got → HasToReceive b c → HasToReceive a c
@@ -198,46 +211,48 @@ to_receive a b c late still (has_bytes some unspoilt) = has_bytes some unspoilt
 to_receive a b c late still (has_line h) = has_line h
 to_receive a b c late still (has_more h) = has_more (record { fed = h.fed; nothing = h.nothing; on = h.on; sound = h.sound; late = λ e. h.late e ∙ late (sym still ∙ e) })
 
-pub receives_memory : (a b c : Snapshot) (m k left wakes : ℕ) (how : Step) → how ≡ step.Memory → k < 16 → IsReceiving a b m k wakes → ReceivesNext b c how → Receives a c left receive.Memory wakes
-receives_memory a b c m k left wakes how is few h found =
+pub receives_memory : (a b c : Snapshot) (m k p left wakes : ℕ) (how : Step) → how ≡ step.Memory → k < 16 → IsReceiving a b m k p wakes → ReceivesNext b c how → Receives a c left receive.Memory wakes
+receives_memory a b c m k p left wakes how is few h found =
     let s : ReceivesNext b c step.Memory = subst (λ (x : Step). ReceivesNext b c x) is found in
-    stops a b c m k left wakes step.Memory receive.Memory few h s s.step_is.0
-    (λ talk. (no_fault_then a b c s.reads s.step_is.1 s.only h.sound, to_receive a b c h.late (s.only.still s.step_is.1) s.step_is.2))
+    stops a b c m k p left wakes step.Memory receive.Memory few h s refl s.step_is.0
+    (λ talk. (no_fault_then a b c s.reads 0 s.step_is.1 s.only h.sound, to_receive a b c h.late (s.only.still s.step_is.1) s.step_is.2))
 
 -- where memory was refused behind some lines
-pub receives_refused : (a b c : Snapshot) (m k before left wakes : ℕ) (said : Said) (all : ℕ) (how : Step) → how ≡ step.Said said → said.refused ≡ true → SaysWithin (64 - m) before c.conn.session how
-    → IsReceiving a b m k wakes → ReceivesNext b c how
+pub receives_refused : (a b c : Snapshot) (m k p left wakes : ℕ) (before : Left) (said : Said) (all : ℕ) (how : Step) → how ≡ step.Said said → said.refused ≡ true → before.lines ≡ 64 - m → StaysWithin before c.conn.session how
+    → IsReceiving a b m k p wakes → ReceivesNext b c how
     → ((home : ℕ) → has_home all home ≡ (has_home wakes home || has_home said.wakes home)) → Receives a c left receive.Memory all
-receives_refused a b c m k before left wakes said all how is refused within h found both =
+receives_refused a b c m k p left wakes before said all how is refused left_is within h found both =
     let s : ReceivesNext b c (step.Said said) = subst (λ (x : Step). ReceivesNext b c x) is found in
-    let fits = said_within m before c.conn.session how said is within in
-    ended a c (m + said.lines) k left all receive.Memory (lines_fit m said h.few_lines fits.0) h.few_reads h.after_end (receiving_said a b c m k wakes said all h.receiving s both)
-    (no_fault_then a b c s.reads s.step_is.0 s.only h.sound, has_line (stays_next (64 - m) before c.conn.session said fits.1 refused))
+    let fits = said_within before c.conn.session how said is within in
+    ended a c (m + said.lines) k p left all receive.Memory (lines_fit m before said h.few_lines left_is fits.0) h.few_reads h.few_bytes h.after_end (receiving_said a b c m k p wakes said all h.receiving s both)
+    (no_fault_then a b c s.reads 0 s.step_is.0 s.only h.sound, has_line (stays_next before.lines before.told c.conn.session said fits.1 refused))
 
 -- where the turn told enough
-pub receives_enough : (a b c : Snapshot) (m k before left wakes : ℕ) (how : Step) → before ≡ left → how ≡ step.Enough → k < 16 → SaysWithin (64 - m) before c.conn.session how
-    → IsReceiving a b m k wakes → ReceivesNext b c how → Receives a c left receive.Again wakes
-receives_enough a b c m k before left wakes how same is few within h found =
+pub receives_enough : (a b c : Snapshot) (m k p left wakes : ℕ) (before : Left) (how : Step) → before.told ≡ left → how ≡ step.Enough → k < 16 → StaysWithin before c.conn.session how
+    → IsReceiving a b m k p wakes → ReceivesNext b c how → Receives a c left receive.Again wakes
+receives_enough a b c m k p left wakes before how same is few within h found =
     let s : ReceivesNext b c step.Enough = subst (λ (x : Step). ReceivesNext b c x) is found in
-    let none : left ≡ 0 = sym same ∙ subst (λ (x : Step). SaysWithin (64 - m) before c.conn.session x) is within in
-    stops a b c m k left wakes step.Enough receive.Again few h s s.step_is.0
-    (λ talk. (no_fault_then a b c s.reads s.step_is.1 s.only h.sound, record { limit = inr (inr (none, s.step_is.3)); fed = s.step_is.2; unspoilt = line_is_sound c.conn.session (loud_is_line c.conn.session s.step_is.3) }))
+    let none : left ≡ 0 = sym same ∙ subst (λ (x : Step). StaysWithin before c.conn.session x) is within in
+    stops a b c m k p left wakes step.Enough receive.Again few h s refl s.step_is.0
+    (λ talk. (no_fault_then a b c s.reads 0 s.step_is.1 s.only h.sound, record { limit = most_told (none, s.step_is.3); fed = s.step_is.2; unspoilt = line_is_sound c.conn.session (loud_is_line c.conn.session s.step_is.3) }))
 
 -- at a limit
-most_are : (a c : Snapshot) (m k left wakes : ℕ) → (m ≡ 64) ⊎ (k ≡ 16) → (h : Receiving a c m k wakes) → (length (requests h.says.talk) ≡ 64) ⊎ ((c.wire.reads ≡ a.wire.reads + 16) ⊎ ToldEnough left c)
-most_are a c m k left wakes (inl lines) h = inl (h.says.said.lines_are ∙ lines)
-most_are a c m k left wakes (inr reads) h = inr (inl (h.only.reads_are ∙ ap (λ n. a.wire.reads + n) reads))
+most_are : (a c : Snapshot) (m k p left wakes : ℕ) → (m ≡ 64) ⊎ ((k ≡ 16) ⊎ (p ≡ 65536)) → (h : Receiving a c m k p wakes) → IsMost a c left h.says.talk
+most_are a c m k p left wakes (inl lines) h = most_lines (h.says.said.lines_are ∙ lines)
+most_are a c m k p left wakes (inr (inl reads)) h = most_reads (h.only.reads_are ∙ ap (λ n. a.wire.reads + n) reads)
+most_are a c m k p left wakes (inr (inr bytes)) h = most_bytes (omega (arith, h.only.reads_are, h.only.at_once, bytes)) (subst (λ (n : ℕ). ReadsBytes a.wire c.wire n) bytes h.only.bytes_are)
 
-limit_is : (a c : Snapshot) (m k left wakes : ℕ) (how : ReceiveState) → (m ≡ 64) ⊎ (k ≡ 16) → NoReadFailed a c → (h : Receiving a c m k wakes) → LimitIs c.conn how → ReceivedIs a c left h.says.talk how
-limit_is a c m k left wakes receive.All met sound h limit = absurd limit
-limit_is a c m k left wakes receive.Again met sound h limit = (sound, record { limit = most_are a c m k left wakes met h; fed = limit.0; unspoilt = limit.1 })
-limit_is a c m k left wakes receive.Stop met sound h limit = inl limit
-limit_is a c m k left wakes receive.Memory met sound h limit = (sound, has_bytes limit.0 limit.1)
+limit_is : (a c : Snapshot) (m k p left wakes : ℕ) (how : ReceiveState) → (m ≡ 64) ⊎ ((k ≡ 16) ⊎ (p ≡ 65536)) → NoReadFailed a c → (h : Receiving a c m k p wakes) → LimitIs c.conn how → ReceivedIs a c left h.says.talk how
+limit_is a c m k p left wakes receive.All met sound h limit = absurd limit
+limit_is a c m k p left wakes receive.Again met sound h limit = (sound, record { limit = most_are a c m k p left wakes met h; fed = limit.0; unspoilt = limit.1 })
+limit_is a c m k p left wakes receive.Stop met sound h limit = inl limit
+limit_is a c m k p left wakes receive.Memory met sound h limit = (sound, has_bytes limit.0 limit.1)
 
-pub only_none : (a c : Snapshot) → c.wire ≡ a.wire → c.conn.unwritten ≡ a.conn.unwritten → OnlyReads a c 0
+pub only_none : (a c : Snapshot) → c.wire ≡ a.wire → c.conn.unwritten ≡ a.conn.unwritten → OnlyReads a c 0 0
 only_none a c same unwritten = record {
   reads_are = ap (λ w. w.reads) same ∙ none a.wire.reads;
-  pieces = reads_none a.wire c.wire same;
+  bytes_are = reads_none a.wire c.wire same;
+  at_once = omega arith;
   writes = ap (λ w. w.writes) same;
   failures = omega (arith, ap (λ w. w.failures) same);
   still = λ _. ap (λ w. w.last_got) same;
@@ -247,32 +262,35 @@ only_none a c same unwritten = record {
     none : (n : ℕ) → n ≡ n + 0
     none n = omega arith
 
-met : (m k : ℕ) → m ≤ 64 → k ≤ 16 → (64 ≤ m) ⊎ (16 ≤ k) → (m ≡ 64) ⊎ (k ≡ 16)
-met m k few_lines few (inl many) = inl (omega (arith, many, few_lines))
-met m k few_lines few (inr many) = inr (omega (arith, many, few))
+met : (m k p : ℕ) → m ≤ 64 → k ≤ 16 → p ≤ 65536 → (64 ≤ m) ⊎ ((16 ≤ k) ⊎ (65536 ≤ p)) → (m ≡ 64) ⊎ ((k ≡ 16) ⊎ (p ≡ 65536))
+met m k p few_lines few few_bytes (inl many) = inl (omega (arith, many, few_lines))
+met m k p few_lines few few_bytes (inr (inl many)) = inr (inl (omega (arith, many, few)))
+met m k p few_lines few few_bytes (inr (inr many)) = inr (inr (omega (arith, many, few_bytes)))
 
-pub receives_limit : (a b c : Snapshot) (m k left wakes : ℕ) (how : ReceiveState) → (64 ≤ m) ⊎ (16 ≤ k) → IsReceiving a b m k wakes → Went b c [] → c.wire ≡ b.wire → c.conn.unwritten ≡ b.conn.unwritten
+pub receives_limit : (a b c : Snapshot) (m k p left wakes : ℕ) (how : ReceiveState) → (64 ≤ m) ⊎ ((16 ≤ k) ⊎ (65536 ≤ p)) → IsReceiving a b m k p wakes → Went b c [] → c.wire ≡ b.wire → c.conn.unwritten ≡ b.conn.unwritten
     → LimitIs c.conn how → Receives a c left how wakes
-receives_limit a b c m k left wakes how many h went same unwritten limit =
-    let only : OnlyReads b c 0 = only_none b c same unwritten in
-    let all : Receiving a c m k wakes = subst (λ (n : ℕ). Receiving a c m n wakes) (add-zero k) (quietly a b c m k 0 wakes [] h.receiving went only refl) in
-    ended a c m k left wakes how h.few_lines h.few_reads h.after_end all (limit_is a c m k left wakes how (met m k h.few_lines h.few_reads many) (no_fault_then a b c 0 refl only h.sound) all limit)
+receives_limit a b c m k p left wakes how many h went same unwritten limit =
+    let only : OnlyReads b c 0 0 = only_none b c same unwritten in
+    let all : Receiving a c m k p wakes =
+    subst (λ (n : ℕ). Receiving a c m n p wakes) (add-zero k) (subst (λ (n : ℕ). Receiving a c m (k + 0) n wakes) (add-zero p) (quietly a b c m k 0 p 0 wakes [] h.receiving went only refl)) in
+    ended a c m k p left wakes how h.few_lines h.few_reads h.few_bytes h.after_end all
+    (limit_is a c m k p left wakes how (met m k p h.few_lines h.few_reads h.few_bytes many) (no_fault_then a b c 0 0 refl only h.sound) all limit)
 
 -- ---- single steps
 
-next_quiet : (a c : Snapshot) (n : ℕ) (how : Step) → n ≤ 1 → (0 < n → MayRead a c) → Went a c [] → OnlyReads a c n → StepIs a c [] n how → ReceivesNext a c how
+next_quiet : (a c : Snapshot) (n : ℕ) (how : Step) → n ≤ 1 → (0 < n → MayRead a c) → Went a c [] → OnlyReads a c n (bytes_of how) → StepIs a c [] n how → ReceivesNext a c how
 next_quiet a c n how few may went only is = record { talk = []; went = went; reads = n; few = few; may_read = may; only = only; step_is = is }
 
 -- without a read
 unasked : (a c : Snapshot) → 0 < 0 → MayRead a c
 unasked a c some = absurd (omega (arith, some))
 
-step_behind : (a b c : Snapshot) (talk : List Moment) (reads : ℕ) (how : Step) → b.wire ≡ a.wire → b.conn.unwritten ≡ a.conn.unwritten → b.conn.session.client ≡ a.conn.session.client → OnlyReads b c reads
+step_behind : (a b c : Snapshot) (talk : List Moment) (reads : ℕ) (how : Step) → b.wire ≡ a.wire → b.conn.unwritten ≡ a.conn.unwritten → b.conn.session.client ≡ a.conn.session.client → OnlyReads b c reads (bytes_of how)
     → StepIs b c talk reads how → StepIs a c talk reads how
 step_behind a b c talk reads (step.Said said) same unwritten client only is = (is.0, subst (λ (d : ℕ). AreSaid d talk said.lines said.wakes) client is.1)
 step_behind a b c talk reads step.Enough same unwritten client only is = is
-step_behind a b c talk reads step.Read same unwritten client only is = is
-step_behind a b c talk reads step.All same unwritten client only is = (is.0, since a b c (rises a b 0 (only_none a b same unwritten)) is.1)
+step_behind a b c talk reads (step.Read bytes) same unwritten client only is = is
+step_behind a b c talk reads step.All same unwritten client only is = (is.0, since a b c (rises a b 0 0 (only_none a b same unwritten)) is.1)
 step_behind a b c talk reads step.Stop same unwritten client only is = is
 step_behind a b c talk reads step.Memory same unwritten client only is = (is.0, is.1, to_receive a b c (λ _. ap (λ w. w.reads) same) (only.still is.1) is.2)
 
@@ -286,7 +304,9 @@ fed_first a b c how went same unwritten s = record {
   may_read = λ some.
       let may : MayRead b c = s.may_read some in
       record { nothing = may.nothing; on = λ e. may.on (ap (λ w. w.last_got) same ∙ e); sound = λ e. may.sound (ap (λ w. w.last_got) same ∙ e) };
-  only = subst (λ (n : ℕ). OnlyReads a c n) (zero-add s.reads) (only_then a b c 0 s.reads (only_none a b same unwritten) s.only);
+  only =
+      subst (λ (n : ℕ). OnlyReads a c n (bytes_of how)) (zero-add s.reads) (
+      subst (λ (n : ℕ). OnlyReads a c (0 + s.reads) n) (zero-add (bytes_of how)) (only_then a b c 0 s.reads 0 (bytes_of how) (only_none a b same unwritten) s.only));
   step_is = step_behind a b c s.talk s.reads how same unwritten went.client s.only s.step_is;
 }
 
@@ -310,19 +330,23 @@ put_off a b same unwritten went fed next = next_quiet a b 0 step.Enough (omega a
 pub none_left : (a b : Snapshot) → b.wire ≡ a.wire → b.conn.unwritten ≡ a.conn.unwritten → Went a b [] → IsNextOf (Some b.conn.session) Spoilt → ReceivesNext a b step.Stop
 none_left a b same unwritten went next = next_quiet a b 0 step.Stop (omega arith) (unasked a b) went (only_none a b same unwritten) (refl, inl next)
 
-pub only_one : (a b : Snapshot) → ReadsSome a.wire b.wire 4096 → b.wire.reads ≡ a.wire.reads + 1 → b.wire.writes ≡ a.wire.writes → b.wire.failures ≤ a.wire.failures + 1 → b.conn.unwritten ≡ a.conn.unwritten → OnlyReads a b 1
-only_one a b piece reads writes failures unwritten = record { reads_are = reads; pieces = piece; writes = writes; failures = failures; still = λ e. absurd (omega (arith, e)); unwritten = unwritten }
+pub only_one : (a b : Snapshot) (n : ℕ) → ReadsBytes a.wire b.wire n → n ≤ 16384 → b.wire.reads ≡ a.wire.reads + 1 → b.wire.writes ≡ a.wire.writes → b.wire.failures ≤ a.wire.failures + 1 → b.conn.unwritten ≡ a.conn.unwritten → OnlyReads a b 1 n
+only_one a b n bytes few reads writes failures unwritten = record { reads_are = reads; bytes_are = bytes; at_once = omega (arith, few); writes = writes; failures = failures; still = λ e. absurd (omega (arith, e)); unwritten = unwritten }
 
-pub bytes_came : (n : ℕ) (last : Option Got) → last ≡ Some (got.Bytes n) → IsBytes last
-bytes_came n last is = subst IsBytes (sym is) tt
+-- a read gave so many bytes
+pub read_bytes : (a b : Wire) (m n : ℕ) → m ≡ n → ReadsBytes a b m → ReadsBytes a b n
+read_bytes a b m n same = subst (λ (k : ℕ). ReadsBytes a b k) same
+
+pub fits : (m n : ℕ) → m ≡ n → m ≤ 16384 → n ≤ 16384
+fits m n same = subst (λ (k : ℕ). k ≤ 16384) same
 
 pub stays_nothing : (a b : Serving) → b ≡ a → IsNextOf (Some a) Nothing → IsNextOf (Some b) Nothing
 stays_nothing a b same nothing = subst (λ (x : Serving). IsNextOf (Some x) Nothing) (sym same) nothing
 
-pub link_read : (a b : Snapshot) → MayRead a b → Went a b [] → OnlyReads a b 1 → IsBytes b.wire.last_got → ReceivesNext a b step.Read
-link_read a b may went only some = next_quiet a b 1 step.Read (omega arith) (λ _. may) went only (refl, refl, some)
+pub link_read : (a b : Snapshot) (n : ℕ) → MayRead a b → Went a b [] → OnlyReads a b 1 n → b.wire.last_got ≡ Some (got.Bytes n) → ReceivesNext a b (step.Read n)
+link_read a b n may went only some = next_quiet a b 1 (step.Read n) (omega arith) (λ _. may) went only (refl, refl, some)
 
-pub link_later : (a b : Snapshot) → MayRead a b → Went a b [] → OnlyReads a b 1 → b.conn ≡ a.conn → a.conn.unfed ≡ []
+pub link_later : (a b : Snapshot) → MayRead a b → Went a b [] → OnlyReads a b 1 0 → b.conn ≡ a.conn → a.conn.unfed ≡ []
     → b.wire.last_got ≡ Some got.Later → ReceivesNext a b step.All
 link_later a b may went only same fed last = next_quiet a b 1 step.All (omega arith) (λ _. may) went only (
   refl,
@@ -333,7 +357,7 @@ link_later a b may went only same fed last = next_quiet a b 1 step.All (omega ar
   },
 )
 
-pub link_end : (a b : Snapshot) → MayRead a b → Went a b [] → OnlyReads a b 1 → b.conn ≡ a.conn → a.conn.unfed ≡ []
+pub link_end : (a b : Snapshot) → MayRead a b → Went a b [] → OnlyReads a b 1 0 → b.conn ≡ a.conn → a.conn.unfed ≡ []
     → b.wire.last_got ≡ Some got.End → ReceivesNext a b step.All
 link_end a b may went only same fed last = next_quiet a b 1 step.All (omega arith) (λ _. may) went only (
   refl,
@@ -344,5 +368,5 @@ link_end a b may went only same fed last = next_quiet a b 1 step.All (omega arit
   },
 )
 
-pub link_fault : (a b : Snapshot) → MayRead a b → Went a b [] → OnlyReads a b 1 → b.wire.last_got ≡ Some got.Fault → ReceivesNext a b step.Stop
+pub link_fault : (a b : Snapshot) → MayRead a b → Went a b [] → OnlyReads a b 1 0 → b.wire.last_got ≡ Some got.Fault → ReceivesNext a b step.Stop
 link_fault a b may went only last = next_quiet a b 1 step.Stop (omega arith) (λ _. may) went only (refl, inr last)

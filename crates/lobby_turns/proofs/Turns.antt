@@ -17,10 +17,10 @@ use Rattle.lobby_turns.specs.declared.sending.SendState.TheVariants as send
 use Rattle.lobby_turns.specs.declared.turn.TurnState.{TurnState}
 use Rattle.lobby_turns.specs.declared.turn.TurnState.TheVariants as state
 use Rattle.lobby_holds.specs.Moments.{Moment, moment, requests, questions, touched, told_end}
-use Rattle.lobby_holds.specs.Wire.{Wire, ReadsSome}
+use Rattle.lobby_holds.specs.Wire.{Wire, ReadsBytes, ReadsSome}
 use Rattle.lobby_holds.specs.Snapshot.{Snapshot}
 use Rattle.lobby_holds.specs.Talk.{AreTalk, AreDrains, EndsDry}
-use Rattle.lobby_turns.specs.Receiving.{IsAllReceived, HasToReceive, has_bytes, has_line, has_more, IsOver, NoReadFailed, ToldEnough, ReceivesMost, ReceivedIs, Receives}
+use Rattle.lobby_turns.specs.Receiving.{OnlyReads, IsAllReceived, HasToReceive, has_bytes, has_line, has_more, IsOver, NoReadFailed, IsMost, most_lines, most_reads, most_bytes, most_told, ReceivesMost, ReceivedIs, Receives}
 use Rattle.lobby_turns.specs.Sending.{OnlyWrites, IsSound, IsStop, IsWrittenOut, all_written, stopped, spent, IsAllSent, MustWait, SendsMost, SentIs, Sends}
 use Rattle.lobby_holds.specs.Went.{Went}
 use Rattle.lobby_holds.specs.Holds.{Made, HasNoSpoiltNext, HasLoudNext}
@@ -73,8 +73,14 @@ reads_both a b c left how far wakes s = omega (arith, s.receives.only.reads_are,
 
 pieces_both : (a b c : Snapshot) (left : ℕ) (how : ReceiveState) (far : SendState) (wakes : ℕ) → Served a b c left how far wakes → ReadsSome a.wire c.wire 65536
 pieces_both a b c left how far wakes s =
-    let h : ReadsSome a.wire b.wire (4096 * s.receives.reads) = s.receives.only.pieces in
-    record { more = h.more; read = s.sends.only.read ∙ h.read; few = omega (arith, h.few, s.receives.few) }
+    let h : ReadsBytes a.wire b.wire s.receives.bytes = s.receives.only.bytes_are in
+    record { more = h.more; read = s.sends.only.read ∙ h.read; few = omega (arith, h.bytes_are, s.receives.few_bytes) }
+
+at_once_both : (a b c : Snapshot) (left : ℕ) (how : ReceiveState) (far : SendState) (wakes : ℕ) → Served a b c left how far wakes → ReadsSome a.wire c.wire (16384 * (c.wire.reads - a.wire.reads))
+at_once_both a b c left how far wakes s =
+    let only : OnlyReads a b s.receives.reads s.receives.bytes = s.receives.only in
+    let reads_are : c.wire.reads - a.wire.reads ≡ s.receives.reads = omega (arith, only.reads_are, s.sends.only.reads) in
+    record { more = only.bytes_are.more; read = s.sends.only.read ∙ only.bytes_are.read; few = omega (arith, only.bytes_are.bytes_are, only.at_once, reads_are) }
 
 ended_both : (a b c : Snapshot) (left : ℕ) (how : ReceiveState) (far : SendState) (wakes : ℕ) → Served a b c left how far wakes → a.wire.last_got ≡ Some got.End → c.wire.reads ≡ a.wire.reads
 ended_both a b c left how far wakes s end = omega (arith, s.receives.only.reads_are, s.receives.after_end end, s.sends.only.reads)
@@ -208,10 +214,11 @@ module _ (a b c : Snapshot) (left : ℕ) (how : ReceiveState) (far : SendState) 
         last = still_received a b c (sym s.sends.only.reads) s.sends.only.last_got h.last;
       }
 
-  limit_since : (length (requests s.receives.talk) ≡ 64) ⊎ ((b.wire.reads ≡ a.wire.reads + 16) ⊎ ToldEnough left b) → (length (requests spoken) ≡ 64) ⊎ ((c.wire.reads ≡ a.wire.reads + 16) ⊎ ToldEnough left c)
-  limit_since (inl lines) = inl (ap length (lines_both a b c left how far wakes s) ∙ lines)
-  limit_since (inr (inl reads)) = inr (inl (s.sends.only.reads ∙ reads))
-  limit_since (inr (inr told)) = inr (inr (told.0, subst HasLoudNext (sym s.sends.only.session) told.1))
+  limit_since : IsMost a b left s.receives.talk → IsMost a c left spoken
+  limit_since (most_lines lines) = most_lines (ap length (lines_both a b c left how far wakes s) ∙ lines)
+  limit_since (most_reads reads) = most_reads (s.sends.only.reads ∙ reads)
+  limit_since (most_bytes four bytes) = most_bytes (omega (arith, four, s.sends.only.reads)) (record { more = bytes.more; read = s.sends.only.read ∙ bytes.read; bytes_are = bytes.bytes_are })
+  limit_since (most_told told) = most_told (told.0, subst HasLoudNext (sym s.sends.only.session) told.1)
 
   most_since : ReceivesMost a b left s.receives.talk → ReceivesMost a c left spoken
   most_since h = record { limit = limit_since h.limit; fed = s.sends.only.unfed ∙ h.fed; unspoilt = subst HasNoSpoiltNext (sym s.sends.only.session) h.unspoilt }
@@ -319,6 +326,7 @@ turned_open a b c allowance told how far wakes x h t on rest =
       drains = drains_both a b c left how far wakes s;
       reads = reads_both a b c left how far wakes s;
       pieces = pieces_both a b c left how far wakes s;
+      at_once = at_once_both a b c left how far wakes s;
       after_end = ended_both a b c left how far wakes s;
       writes = writes_both a b c left how far wakes s;
       wakes_are = λ home.
@@ -365,6 +373,7 @@ turned_closed a b c d left allowance told how far wakes more state.Closed h t mu
       drains = drains_both a b c left how far wakes s;
       reads = subst (λ (w : _). w.reads ≤ a.wire.reads + 16) (sym wire) (reads_both a b c left how far wakes s);
       pieces = subst (λ (w : Wire). ReadsSome a.wire w 65536) (sym wire) (pieces_both a b c left how far wakes s);
+      at_once = subst (λ (w : Wire). ReadsSome a.wire w (16384 * (w.reads - a.wire.reads))) (sym wire) (at_once_both a b c left how far wakes s);
       after_end = λ end. ap (λ w. w.reads) wire ∙ ended_both a b c left how far wakes s end;
       writes = subst (λ (w : _). w.writes ≤ a.wire.writes + 16) (sym wire) (writes_both a b c left how far wakes s);
       wakes_are = λ home.
@@ -388,6 +397,7 @@ turned_closed a b c d left allowance told how far wakes more state.Memory h t mu
       drains = drains_both a b c left how far wakes s;
       reads = subst (λ (w : _). w.reads ≤ a.wire.reads + 16) (sym wire) (reads_both a b c left how far wakes s);
       pieces = subst (λ (w : Wire). ReadsSome a.wire w 65536) (sym wire) (pieces_both a b c left how far wakes s);
+      at_once = subst (λ (w : Wire). ReadsSome a.wire w (16384 * (w.reads - a.wire.reads))) (sym wire) (at_once_both a b c left how far wakes s);
       after_end = λ end. ap (λ w. w.reads) wire ∙ ended_both a b c left how far wakes s end;
       writes = subst (λ (w : _). w.writes ≤ a.wire.writes + 16) (sym wire) (writes_both a b c left how far wakes s);
       wakes_are = λ home.

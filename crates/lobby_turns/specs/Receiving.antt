@@ -1,5 +1,5 @@
 -- What receiving from a client did.
-use Rattle.std.specs.Prelude.{◌≡◌, ◌≢◌, ◌⊎◌, ℕ, ◌+◌, ◌*◌, ◌<◌, ◌≤◌, false, List, [], length, Option, Some, None}
+use Rattle.std.specs.Prelude.{◌≡◌, ◌≢◌, ◌⊎◌, ℕ, ◌+◌, ◌*◌, ◌<◌, ◌≤◌, false, List, [], length, Some}
 use Rattle.lobby_post.specs.Mask.{has_home}
 use Rattle.client_session.specs.declared.session.Next.TheVariants.{Nothing, Spoilt}
 use Rattle.client_session.specs.OneSession.{IsNextOf, HasLineNext}
@@ -8,20 +8,22 @@ use Rattle.lobby_holds.specs.declared.link.Got.{Got}
 use Rattle.lobby_holds.specs.declared.link.Got.TheVariants as got
 use Rattle.lobby_turns.specs.declared.receiving.ReceiveState.{ReceiveState}
 use Rattle.lobby_turns.specs.declared.receiving.ReceiveState.TheVariants as receive
+use Rattle.lobby_turns.specs.declared.receiving.Left.{Left}
 use Rattle.lobby_turns.specs.declared.receiving.Step.{Step}
 use Rattle.lobby_turns.specs.declared.receiving.Step.TheVariants as step
-use Rattle.lobby_holds.specs.Wire.{ReadsSome}
+use Rattle.lobby_holds.specs.Wire.{ReadsBytes}
 use Rattle.lobby_holds.specs.Moments.{Moment, requests, touched, told_end}
 use Rattle.lobby_holds.specs.Snapshot.{Carried, Snapshot}
 use Rattle.lobby_holds.specs.Talk.{AreTalk}
 use Rattle.lobby_holds.specs.Went.{Went}
 use Rattle.lobby_holds.specs.Holds.{AreSaid, IsWithin, HasNoSpoiltNext, HasLoudNext, StopsAt}
 
--- So many reads were made, of 4,096 bytes at most, and no write, and each failed at most once. Without a read its last answer is as it
--- was. What is to be written is as it was
-pub record OnlyReads (old new : Snapshot) (reads : ℕ) : Type 0 where
+-- So many reads were made, of so many bytes in all and 16,384 at most, and no write, and each failed at most once. Without a read its
+-- last answer is as it was. What is to be written is as it was
+pub record OnlyReads (old new : Snapshot) (reads bytes : ℕ) : Type 0 where
   pub reads_are : new.wire.reads ≡ old.wire.reads + reads
-  pub pieces : ReadsSome old.wire new.wire (4096 * reads)
+  pub bytes_are : ReadsBytes old.wire new.wire bytes
+  pub at_once : bytes ≤ 16384 * reads
   pub writes : new.wire.writes ≡ old.wire.writes
   pub failures : new.wire.failures ≤ old.wire.failures + reads
   pub still : reads ≡ 0 → new.wire.last_got ≡ old.wire.last_got
@@ -46,14 +48,6 @@ pub record MayHaveMore (old new : Snapshot) : Type 0 where
   pub sound : new.wire.last_got ≢ Some got.Fault
   pub late : new.wire.last_got ≡ Some got.Later → new.wire.reads ≡ old.wire.reads
 
--- the link gave bytes
-abbrev pub IsBytes : Option Got → Type 0
-IsBytes None = ⊥
-IsBytes (Some (got.Bytes n)) = Unit {0}
-IsBytes (Some got.Later) = ⊥
-IsBytes (Some got.End) = ⊥
-IsBytes (Some got.Fault) = ⊥
-
 -- no read failed since
 abbrev pub NoReadFailed : Snapshot → Snapshot → Type 0
 NoReadFailed old new = old.wire.reads < new.wire.reads → new.wire.last_got ≢ Some got.Fault
@@ -62,9 +56,16 @@ NoReadFailed old new = old.wire.reads < new.wire.reads → new.wire.last_got ≢
 abbrev pub ToldEnough : ℕ → Snapshot → Type 0
 ToldEnough left new = (left ≡ 0) × HasLoudNext new.conn.session
 
--- 64 lines were said to the lobby, or 16 reads were made, or it told enough; and all that was read was fed, and no spoilt place is next
+-- 64 lines were said to the lobby, or 16 reads were made, or 65,536 bytes were read, in four reads at least, or it told enough
+pub data IsMost (old new : Snapshot) (left : ℕ) (talk : List Moment) : Type 0 where
+  most_lines : length (requests talk) ≡ 64 → IsMost old new left talk
+  most_reads : new.wire.reads ≡ old.wire.reads + 16 → IsMost old new left talk
+  most_bytes : old.wire.reads + 4 ≤ new.wire.reads → ReadsBytes old.wire new.wire 65536 → IsMost old new left talk
+  most_told : ToldEnough left new → IsMost old new left talk
+
+-- it came to one of these limits; and all that was read was fed, and no spoilt place is next
 pub record ReceivesMost (old new : Snapshot) (left : ℕ) (talk : List Moment) : Type 0 where
-  pub limit : (length (requests talk) ≡ 64) ⊎ ((new.wire.reads ≡ old.wire.reads + 16) ⊎ ToldEnough left new)
+  pub limit : IsMost old new left talk
   pub fed : new.conn.unfed ≡ []
   pub unspoilt : HasNoSpoiltNext new.conn.session
 
@@ -81,21 +82,31 @@ pub record MayRead (old new : Snapshot) : Type 0 where
   pub on : old.wire.last_got ≢ Some got.End
   pub sound : old.wire.last_got ≢ Some got.Fault
 
--- a step that said lines said so many at most in one hold, and stopped before for want of a line, of memory or of place in the hold alone,
--- or where nothing was left of what it might tell; and there alone a line was put off
-abbrev pub SaysWithin : ℕ → ℕ → Serving → Step → Type 0
-SaysWithin most left session (step.Said said) = IsWithin most said × StopsAt most left session said
-SaysWithin most left session step.Enough = left ≡ 0
-SaysWithin most left session step.Read = Unit {0}
-SaysWithin most left session step.All = Unit {0}
-SaysWithin most left session step.Stop = Unit {0}
-SaysWithin most left session step.Memory = Unit {0}
+-- a step that said lines said as many as were left at most, in one hold, and stopped before for want of a line, of memory or of place in
+-- the hold alone, or where nothing was left of what it might tell; and there alone a line was put off. A read gave as many bytes as were
+-- left at most
+abbrev pub StaysWithin : Left → Serving → Step → Type 0
+StaysWithin left session (step.Said said) = IsWithin left.lines said × StopsAt left.lines left.told session said
+StaysWithin left session step.Enough = left.told ≡ 0
+StaysWithin left session (step.Read bytes) = bytes ≤ left.bytes
+StaysWithin left session step.All = Unit {0}
+StaysWithin left session step.Stop = Unit {0}
+StaysWithin left session step.Memory = Unit {0}
+
+-- how many bytes a step read
+abbrev pub bytes_of : Step → ℕ
+bytes_of (step.Said said) = 0
+bytes_of step.Enough = 0
+bytes_of (step.Read bytes) = bytes
+bytes_of step.All = 0
+bytes_of step.Stop = 0
+bytes_of step.Memory = 0
 
 -- what a step did, in so many reads
 abbrev pub StepIs : Snapshot → Snapshot → List Moment → ℕ → Step → Type 0
 StepIs old new talk reads (step.Said said) = (reads ≡ 0) × AreSaid old.conn.session.client talk said.lines said.wakes
 StepIs old new talk reads step.Enough = (talk ≡ []) × (reads ≡ 0) × (new.conn.unfed ≡ []) × HasLoudNext new.conn.session
-StepIs old new talk reads step.Read = (talk ≡ []) × (reads ≡ 1) × IsBytes new.wire.last_got
+StepIs old new talk reads (step.Read bytes) = (talk ≡ []) × (reads ≡ 1) × (new.wire.last_got ≡ Some (got.Bytes bytes))
 StepIs old new talk reads step.All = (talk ≡ []) × IsAllReceived old new
 StepIs old new talk reads step.Stop = (talk ≡ []) × IsOver new
 StepIs old new talk reads step.Memory = (talk ≡ []) × (reads ≡ 0) × HasToReceive old new
@@ -106,7 +117,7 @@ pub record ReceivesNext (old new : Snapshot) (step : Step) : Type 0 where
   pub reads : ℕ
   pub few : reads ≤ 1
   pub may_read : 0 < reads → MayRead old new
-  pub only : OnlyReads old new reads
+  pub only : OnlyReads old new reads (bytes_of step)
   pub step_is : StepIs old new talk reads step
 
 -- how far a turn received that came to a limit: on to the next turn, or to a spoilt place, or until memory was refused to what was read
@@ -133,6 +144,8 @@ pub record Receives (old new : Snapshot) (left : ℕ) (state : ReceiveState) (wa
   pub reads : ℕ
   pub few : reads ≤ 16
   pub after_end : old.wire.last_got ≡ Some got.End → reads ≡ 0
-  pub only : OnlyReads old new reads
+  pub bytes : ℕ
+  pub few_bytes : bytes ≤ 65536
+  pub only : OnlyReads old new reads bytes
   pub wakes_are : (home : ℕ) → has_home wakes home ≡ touched talk home
   pub received_is : ReceivedIs old new left talk state

@@ -1,5 +1,5 @@
 -- What a turn did.
-use Rattle.std.specs.Prelude.{◌≡◌, ◌≢◌, ◌⊎◌, ℕ, ◌+◌, ◌-◌, ◌≤◌, true, false, ◌||◌, List, [], ◌∷◌, ◌++◌, length, Some}
+use Rattle.std.specs.Prelude.{◌≡◌, ◌≢◌, ◌⊎◌, ℕ, ◌+◌, ◌-◌, ◌*◌, ◌≤◌, true, false, ◌||◌, List, [], ◌∷◌, ◌++◌, length, Some}
 use Rattle.lobby_model.specs.declared.event.Event.TheVariants as event
 use Rattle.lobby_model.specs.State.{State}
 use Rattle.lobby_model.specs.Touched.{touches}
@@ -103,6 +103,7 @@ pub record Turned (old new : Snapshot) (allowance : ℕ) (turn : Turn) : Type 0 
   pub drains : length talk ≤ length (requests talk) + 136
   pub reads : new.wire.reads ≤ old.wire.reads + 16
   pub pieces : ReadsSome old.wire new.wire 65536
+  pub at_once : ReadsSome old.wire new.wire (16384 * (new.wire.reads - old.wire.reads))
   pub after_end : old.wire.last_got ≡ Some got.End → new.wire.reads ≡ old.wire.reads
   pub writes : new.wire.writes ≤ old.wire.writes + 16
   pub wakes_are : (home : ℕ) → has_home turn.wakes home ≡ touched (talk ++ end) home

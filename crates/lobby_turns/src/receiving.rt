@@ -9,7 +9,7 @@ ghost use Rattle.lobby_holds.specs.Wire.{Wire, MayGoOn, IsFresh};
 ghost use Rattle.lobby_holds.specs.Snapshot.{snapshot};
 ghost use Rattle.lobby_holds.specs.Went.{Went};
 ghost use Rattle.lobby_post.specs.Mask.{has_home};
-ghost use Rattle.lobby_turns.specs.Receiving.{SaysWithin, LimitIs, ReceivesNext, Receives};
+ghost use Rattle.lobby_turns.specs.Receiving.{StaysWithin, LimitIs, ReceivesNext, Receives};
 
 use client_session::Next;
 use lobby_holds::holds::{self, Said};
@@ -22,9 +22,23 @@ use std::sync::Wait;
 /// They are said in two holds of 32.
 const LINES: usize = 64;
 
-/// The most reads of a turn: 64 KiB in pieces. So it meets both limits at once where the lines are of 1 KiB, and a client whose
-/// lines are longer keeps its worker no longer than one that sends many.
+/// The most reads of a turn, so that a client that sends little at a time does not keep its worker either.
 const READS: usize = 16;
+
+/// The most bytes that a turn reads, in however few reads. So it meets two limits at once where the lines are of 1 KiB, and
+/// a client whose lines are longer keeps its worker no longer than one that sends many.
+const BYTES: usize = 65_536;
+
+/// What a turn may still do.
+#[derive(Clone, Copy)]
+pub(crate) struct Left {
+    /// How many lines it may say.
+    pub(crate) lines: usize,
+    /// How many bytes it may read.
+    pub(crate) bytes: usize,
+    /// How many pieces it may tell before it puts a line off.
+    pub(crate) told: u64,
+}
 
 /// How far a turn received from its client.
 #[derive(Clone, Copy)]
@@ -67,8 +81,8 @@ pub(crate) enum Step {
     Said(Said),
     /// The next line is no quiet one, and the turn told enough.
     Enough,
-    /// Bytes were read.
-    Read,
+    /// So many bytes were read.
+    Read(usize),
     /// There is nothing more now.
     All,
     /// There will be nothing more, for the stream is spoilt or the link failed.
@@ -77,21 +91,22 @@ pub(crate) enum Step {
     Memory,
 }
 
-/// Reads the link, where it may have more.
-fn receive_link<L: Link>(conn: &mut Conn, link: &mut L, pass: Pass) -> (Pass, Step)
+/// Reads the link, where it may have more, so many bytes at most.
+fn receive_link<L: Link>(conn: &mut Conn, link: &mut L, pass: Pass, most: usize) -> (Pass, Step)
     requires fed { conn.old.unfed ≡ [] }
+    requires some { 1 ≤ most }
     requires wire { MayGoOn (L.wire link.old) }
     requires next { IsNextOf (Some conn.old.session) Nothing }
     ensures received { ReceivesNext (snapshot conn.old (L.wire link.old) pass) (snapshot conn.new (L.wire link.new) result.0) result.1 }
-    ensures within { (most left : ℕ) → SaysWithin most left conn.new.session result.1 }
+    ensures within { (left : Left) → left.bytes ≡ most → StaysWithin left conn.new.session result.1 }
 {
     match link.last_got() {
         Some(Got::End) => return (pass, Step::All),
         Some(Got::Fault) => return (pass, Step::Stop),
         Some(Got::Bytes(_)) | Some(Got::Later) | None => {}
     }
-    match conn.read(link) {
-        Ok(Got::Bytes(_)) => (pass, Step::Read),
+    match conn.read(link, most) {
+        Ok(Got::Bytes(count)) => (pass, Step::Read(count)),
         Ok(Got::Later) => (pass, Step::All),
         Ok(Got::End) => (pass, Step::All),
         Ok(Got::Fault) => (pass, Step::Stop),
@@ -99,22 +114,21 @@ fn receive_link<L: Link>(conn: &mut Conn, link: &mut L, pass: Pass) -> (Pass, St
     }
 }
 
-/// Feeds what was read, and then says the next lines to the lobby, so many at most, as long as they told less than the allowance; where
-/// none is left, reads the link.
+/// Feeds what was read, and then says the next lines to the lobby, as many as are left, as long as they tell less than is
+/// left; where no line is next, reads the link.
 fn receive_next<R: Wait, L: Link, G: Gate>(
     rt: &R,
     conn: &mut Conn,
     link: &mut L,
     desk: &GatedDesk<'_, G>,
     pass: Pass,
-    most: usize,
-    allowance: u64,
+    left: Left,
 ) -> (Pass, Step)
     requires desk { pass.desk ≡ desk.now.desk.now }
     requires wire { MayGoOn (L.wire link.old) }
-    requires some { 1 ≤ most }
+    requires some { (1 ≤ left.lines) × (1 ≤ left.bytes) }
     ensures received { ReceivesNext (snapshot conn.old (L.wire link.old) pass) (snapshot conn.new (L.wire link.new) result.0) result.1 }
-    ensures within { SaysWithin most allowance conn.new.session result.1 }
+    ensures within { StaysWithin left conn.new.session result.1 }
 {
     match conn.feed() {
         Ok(()) => {}
@@ -122,14 +136,14 @@ fn receive_next<R: Wait, L: Link, G: Gate>(
     }
     match conn.next_request() {
         Ok(Next::Line(request)) => {
-            if allowance == 0 && !holds::is_quiet(&request.command) {
+            if left.told == 0 && !holds::is_quiet(&request.command) {
                 request.discard();
                 return (pass, Step::Enough);
             }
-            let (pass, said) = holds::say(rt, conn, desk, pass, request, most, allowance);
+            let (pass, said) = holds::say(rt, conn, desk, pass, request, left.lines, left.told);
             (pass, Step::Said(said))
         }
-        Ok(Next::Nothing) => receive_link(conn, link, pass),
+        Ok(Next::Nothing) => receive_link(conn, link, pass, left.bytes),
         Ok(Next::Spoilt) => (pass, Step::Stop),
         Err(_) => (pass, Step::Memory),
     }
@@ -171,16 +185,14 @@ pub(crate) fn receive<R: Wait, L: Link, G: Gate>(
     };
     let mut lines = 0;
     let mut reads = 0;
-    while lines < LINES && reads < READS {
-        let (next, step) = receive_next(
-            rt,
-            conn,
-            link,
-            desk,
-            pass,
-            LINES - lines,
-            allowance.saturating_sub(all.told),
-        );
+    let mut bytes = 0;
+    while lines < LINES && reads < READS && bytes < BYTES {
+        let left = Left {
+            lines: LINES - lines,
+            bytes: BYTES - bytes,
+            told: allowance.saturating_sub(all.told),
+        };
+        let (next, step) = receive_next(rt, conn, link, desk, pass, left);
         pass = next;
         match step {
             Step::Said(said) => {
@@ -191,7 +203,10 @@ pub(crate) fn receive<R: Wait, L: Link, G: Gate>(
                 }
             }
             Step::Enough => return (pass, ReceiveState::Again, all),
-            Step::Read => reads += 1,
+            Step::Read(count) => {
+                reads += 1;
+                bytes += count;
+            }
             Step::All => return (pass, ReceiveState::All, all),
             Step::Stop => return (pass, ReceiveState::Stop, all),
             Step::Memory => return (pass, ReceiveState::Memory, all),

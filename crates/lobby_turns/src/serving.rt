@@ -87,9 +87,9 @@ pub fn close<R: Wait, G: Gate>(
 /// Serves a connection for one turn: its lines are said to the lobby, up to 32 in a hold, and its link is
 /// read where no whole line is left; then what the lobby has for its client is drained, up to four
 /// pieces of at most 4,096 bytes in a hold, and written. A hold whose piece is the last also sees that
-/// nothing is left. A turn makes at most 16 reads of as many bytes, 64 lines and 16 writes, and nothing in it
-/// waits but the desk. Once it told as many pieces as it may, it says only lines that tell nobody else, or one user, and ends before
-/// any other.
+/// nothing is left. A turn makes at most 16 reads, of 16,384 bytes at most and 65,536 in all, 64 lines
+/// and 16 writes, and nothing in it waits but the desk. Once it told as many pieces as it may, it says
+/// only lines that tell nobody else, or one user, and ends before any other.
 ///
 /// The client is shut, as the last event of the turn, where its stream is spoilt at the place that is
 /// next, its link failed, the lobby said that nothing will ever come of it, or its link has ended and

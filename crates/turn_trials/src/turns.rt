@@ -160,7 +160,7 @@ fn are_right<R: Wait>(
 /// Whether a call that came to this is right, in which so many bytes were sent. Who was refused memory says so.
 fn is_right(came: Came, was_refused: bool, sent: usize) -> bool {
     match came {
-        // but a turn that has drained a full piece does without the room for another one in the same write
+        // but one who sends a full piece, and is told as much here, is served without the room for more at once
         Came::Done => !was_refused || sent >= PIECE,
         Came::Short => true,
         Came::Wrong => false,

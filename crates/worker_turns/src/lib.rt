@@ -1,5 +1,5 @@
-//! What a worker does for its connections: it opens the clients of those that arrive, gives turns (`lobby_turns`), and ends them in
-//! order. Where connections wait for their workers, and how these are woken, stands here too.
+//! What a worker does for its connections: it opens the clients of those that arrive, gives turns (`lobby_turns`), and
+//! ends them in order. Where connections wait for their workers, and how these are woken, stands here too.
 //!
 //! Of sockets and of who is woken when nothing is proved but that it is safe.
 #![tactic(auto)]

@@ -201,6 +201,75 @@ fn a_quiet_client_holds_no_buffer(rt: HostRuntime) {
     play(&rt, rt.alloc(), &LENT, 9);
 }
 
+/// 65,536 bytes in lines that say nothing, and a line behind them.
+const BURST: Text = &[
+    (b" ", 8_191),
+    (b"\n", 1),
+    (b" ", 8_191),
+    (b"\n", 1),
+    (b" ", 8_191),
+    (b"\n", 1),
+    (b" ", 8_191),
+    (b"\n", 1),
+    (b" ", 8_191),
+    (b"\n", 1),
+    (b" ", 8_191),
+    (b"\n", 1),
+    (b" ", 8_191),
+    (b"\n", 1),
+    (b" ", 8_191),
+    (b"\n", 1),
+    (b"PING\n", 1),
+];
+
+/// Clients whose links have all of it at once. The devices of two fail behind five reads and a write, and behind four and a write.
+const IN_FIVE: Caller = Caller {
+    sends: BURST,
+    piece: 100_000,
+    room: 4_096,
+    end: End::FailsAt(7),
+};
+
+const IN_FOUR: Caller = Caller {
+    sends: BURST,
+    piece: 100_000,
+    room: 4_096,
+    end: End::FailsAt(6),
+};
+
+const AT_ONCE: Caller = Caller {
+    sends: BURST,
+    piece: 100_000,
+    room: 4_096,
+    end: End::Open,
+};
+
+/// A turn reads 65,536 bytes and no more: in five reads, and in four once its worker keeps a buffer of 16,384 bytes. So the devices of
+/// the first two fail at the first read of their second turn.
+static BURSTS: [Step; 14] = [
+    Enters(IN_FIVE),
+    Turns(0, 1, TurnState::Again),
+    Keeps(20_480),
+    Turns(0, 1, TurnState::Closed),
+    Reads(0, GREETED),
+    Enters(IN_FOUR),
+    Turns(1, 1, TurnState::Again),
+    Turns(1, 1, TurnState::Closed),
+    Reads(1, GREETED),
+    Enters(AT_ONCE),
+    Turns(2, 1, TurnState::Again),
+    Reads(2, GREETED),
+    Turns(2, 1, TurnState::Idle),
+    Reads(2, PONGED),
+];
+
+/// Each opens and says eight lines. The first two are drained for three times, and are shut; the last one says one line more, and is
+/// drained for four times.
+#[test]
+fn a_burst_comes_in_few_reads(rt: HostRuntime) {
+    play(&rt, rt.alloc(), &BURSTS, 13 + 13 + 14);
+}
+
 const LATE_EXIT: Text = &[(b"                EXIT\n", 1)];
 
 const PING_AND_EXIT: Text = &[(b"PING\nEXIT\n", 1)];

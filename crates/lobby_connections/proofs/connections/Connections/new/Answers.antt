@@ -3,9 +3,6 @@ use Rattle.std.proofs.Math.Nat.{div-mul-le_self}
 use Rattle.std.proofs.lemmas.Nat.{le-div}
 use Rattle.lobby_connections.proofs.connections.Connections.new.Goals as goal
 
-pub returns-clause-limits : goal.returns-clause-limits
-returns-clause-limits c = (div-mul-le_self 2000 c.args.workers, div-mul-le_self 8000 c.args.workers)
-
 pub returns-clause-some : goal.returns-clause-some
 returns-clause-some c =
     let w = c.args.workers in
