@@ -14,11 +14,19 @@ const PIECE: usize = 1_024;
 const LINE: usize = 256;
 
 /// Lines on their way to standard error.
-#[derive(Drop)]
 pub struct Lines {
     // the lines of a write, as far as it is still to come
     piece: Vec<u8>,
     line: Vec<u8>,
+}
+
+impl Drop for Lines {
+    /// Who lets them go calls this, and need not know what they are made of.
+    fn drop(self) {
+        let Lines { piece, line } = self;
+        drop(piece);
+        drop(line);
+    }
 }
 
 impl Lines {

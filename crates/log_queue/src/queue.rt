@@ -31,7 +31,6 @@ const GATHERS: u64 = 2;
 
 /// What waits to be written. A worker puts and never waits: what finds no place is counted as lost, and its number is
 /// written as soon as a line can be.
-#[derive(Drop)]
 pub struct LogQueue {
     level: LogLevel,
     started: Started,
@@ -39,6 +38,25 @@ pub struct LogQueue {
     lost: AtomicU64,
     sleep: AtomicU64,
     is_over: AtomicBool,
+}
+
+impl Drop for LogQueue {
+    /// Who lets one go calls this, and need not know what it is made of.
+    fn drop(self) {
+        let LogQueue {
+            level: _,
+            started,
+            waiting,
+            lost,
+            sleep,
+            is_over,
+        } = self;
+        drop(started);
+        drop(waiting);
+        drop(lost);
+        drop(sleep);
+        drop(is_over);
+    }
 }
 
 /// What a try to write came to.
