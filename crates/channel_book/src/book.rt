@@ -32,10 +32,18 @@ const WALKED: usize = 4;
 ///
 /// It keeps an index of the channels of each user, so that what it costs to leave all grows with the user's own
 /// channels alone.
-#[derive(Drop)]
 pub struct ChannelBook<M: Copy = ()> {
     lists: Lists<M>,
     places: Places,
+}
+
+impl<M: Copy> Drop for ChannelBook<M> {
+    /// Who lets a book go calls this, and need not know what it is made of.
+    fn drop(self) {
+        let ChannelBook { lists, places } = self;
+        drop(lists);
+        drop(places);
+    }
 }
 
 impl<M: Copy> Model for ChannelBook<M> {
