@@ -42,7 +42,6 @@ pub enum Admission {
 }
 
 /// The maps. Contracts see the plain lobby, and the lists of changed clients.
-#[derive(Drop)]
 pub struct Maps {
     pub(crate) alloc: Global,
     pub(crate) settings: Settings,
@@ -54,6 +53,30 @@ pub struct Maps {
     pub(crate) channels: ChannelBook<ClientKey>,
     pub(crate) battles: Battles,
     last_client: u64,
+}
+
+impl Drop for Maps {
+    /// Who lets them go calls this, and need not know what they are made of.
+    fn drop(self) {
+        let Maps {
+            alloc: _,
+            settings,
+            accounts,
+            greeting_line,
+            clients,
+            seats,
+            channels,
+            battles,
+            last_client: _,
+        } = self;
+        drop(settings);
+        drop(accounts);
+        drop(greeting_line);
+        drop(clients);
+        drop(seats);
+        drop(channels);
+        drop(battles);
+    }
 }
 
 impl Model for Maps {

@@ -42,7 +42,6 @@ const KEPT_SHARES: usize = 1_024;
 ///
 /// What tells fails only where memory is refused. What was told of the event is then given up: the
 /// next thing to do is to begin another one.
-#[derive(Drop)]
 pub struct Post {
     alloc: Global,
     issuer: u64,
@@ -56,6 +55,27 @@ pub struct Post {
     shared: usize,
     /// The lines that are being told, as others get them, once one of them got a share of them.
     line: Option<Bytes>,
+}
+
+impl Drop for Post {
+    /// Who lets a post go calls this, and need not know what it is made of.
+    fn drop(self) {
+        let Post {
+            alloc: _,
+            issuer: _,
+            id: _,
+            text,
+            pieces,
+            shares,
+            own: _,
+            shared: _,
+            line,
+        } = self;
+        drop(text);
+        drop(pieces);
+        drop(shares);
+        drop(line);
+    }
 }
 
 impl Model for Post {
