@@ -19,9 +19,9 @@ const RETURNS: usize = 1_024;
 /// The buffers that outboxes handed over once all in them was read. The one that came last is lent
 /// first, since the processor still has it at hand: so the bytes that wait at one time lie close
 /// together, however many clients there are. Those that lay idle while as many came back as there is
-/// room for are let go, one with each buffer that comes back.
+/// room for, 1,024 at least, are let go, one with each buffer that comes back.
 ///
-/// It keeps as many as it has room for, and no contract speaks of them.
+/// It keeps as many as it has room for and 16,000,000 bytes at most, and no contract speaks of them.
 #[derive(Drop)]
 pub struct BufferPool {
     /// In the order in which they came.
@@ -32,7 +32,7 @@ pub struct BufferPool {
     returned: usize,
     /// The fewest that were here at one time since the last look.
     fewest: usize,
-    /// How many of the first lay idle between the last two looks, and are still here.
+    /// How many of the first are to go, since so many lay idle between the last two looks.
     idle: usize,
 }
 
@@ -72,7 +72,7 @@ impl BufferPool {
     }
 
     /// Takes the buffer of an outbox in which nothing is unread, if it has one. One that is large, or for
-    /// which there is no room, goes.
+    /// which there is no room, goes, and so does the first of those that lay idle.
     pub fn take_back(&mut self, outbox: &mut Outbox)
         ensures unchanged { outbox.new ≡ record outbox.old { spare = outbox.new.spare; spare_pieces = outbox.new.spare_pieces } }
         ensures taken { outbox.old.unread ≡ [] → (outbox.new.spare ≡ 0) × (outbox.new.spare_pieces ≡ 0) }
