@@ -115,6 +115,8 @@ impl BufferPool {
             && let Some(buffer) = self.buffers.pop_front()
         {
             self.idle -= 1;
+            // it lay idle, so those that are left had one less at that time
+            self.fewest = self.fewest.saturating_sub(1);
             self.count_gone(buffer.capacity());
         }
     }

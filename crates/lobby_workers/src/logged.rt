@@ -1,6 +1,6 @@
 //! The server with a log for its operators.
 
-ghost use Rattle.std.specs.Prelude.{◌≡◌, ◌≤◌};
+ghost use Rattle.std.specs.Prelude.{◌≤◌};
 ghost use Rattle.new_workers.specs.Statuses.{IsEnd};
 
 use crate::server::{Service, run_service};

@@ -7,19 +7,15 @@ use memory_refuser::refuser::Refuser;
 use std::alloc::{AllocError, Global};
 use std::io;
 use std::io::Write;
-use test_lobby::{ANNA_SAYS, BERT_SAYS, book_with_onlookers, lobby_of, read};
-
-/// The worker that serves all clients.
-pub const HOME: u8 = 0;
+use test_lobby::{
+    ANNA_SAYS, BERT_SAYS, HOME, PIECE, READS, book_with_onlookers, lobby_of, read_some, say,
+};
 
 /// So many answers of 17 bytes are more than a buffer has that is kept, 16,384 bytes.
 const ANSWERS: u32 = 1_000;
 
-/// So many reads of 4,096 bytes take more than a buffer has that is kept.
-pub const READS: u32 = 5;
-
 /// How many bytes are compared at a time.
-const PIECE: usize = 512;
+const COMPARED: usize = 512;
 
 /// They log in, one after another, and talk in two channels; then Anna opens a battle and furnishes it, Cleo joins it, is forced this
 /// and that, and leaves with two bots; Bert goes with his channels, and is shut.
@@ -111,24 +107,6 @@ static LOOKS: [(u64, Deed); 13] = [
     (4, Deed::Send(b"EXIT")),
 ];
 
-/// A client says a line; whether memory sufficed.
-pub fn say(lobby: &mut Lobby, alloc: Global, client: u64, line: &[u8]) -> bool {
-    match read(alloc, line) {
-        Ok(request) => {
-            let said = lobby.say(client, &request);
-            request.discard();
-            said.is_ok()
-        }
-        Err(_) => false,
-    }
-}
-
-/// A client reads up to so many bytes, and at most 4,096.
-pub fn read_some(lobby: &mut Lobby, client: u64, count: usize) {
-    let mut bytes = [0; 4096];
-    let _ = lobby.drain(client, &mut bytes[..count.min(4096)]);
-}
-
 /// A client is told more than a buffer has that is kept, and reads it.
 pub fn use_buffer_up(lobby: &mut Lobby, alloc: Global, client: u64) -> bool {
     for _ in 0..ANSWERS {
@@ -137,7 +115,7 @@ pub fn use_buffer_up(lobby: &mut Lobby, alloc: Global, client: u64) -> bool {
         }
     }
     for _ in 0..READS {
-        read_some(lobby, client, 4096);
+        read_some(lobby, client, PIECE);
     }
     true
 }
@@ -158,18 +136,18 @@ pub fn act(lobby: &mut Lobby, alloc: Global, client: u64, deed: Deed) -> bool {
 
 /// Whether the same waits for a client in two lobbies, in a piece that begins `from` bytes behind the first.
 fn piece_is_alike(lobby: &Lobby, other: &Lobby, client: u64, from: usize) -> bool {
-    let (mut ours, mut theirs) = ([0; PIECE], [0; PIECE]);
+    let (mut ours, mut theirs) = ([0; COMPARED], [0; COMPARED]);
     let count = lobby.copy_unread(client, from, &mut ours);
     other.copy_unread(client, from, &mut theirs) == count && ours == theirs
 }
 
 /// Whether the same waits for a client in two lobbies.
 fn waits_alike(lobby: &Lobby, other: &Lobby, client: u64) -> bool {
-    (0..=lobby.unread(client) / PIECE).all(|number| piece_is_alike(
+    (0..=lobby.unread(client) / COMPARED).all(|number| piece_is_alike(
         lobby,
         other,
         client,
-        number.saturating_mul(PIECE),
+        number.saturating_mul(COMPARED),
     )) && lobby.unread(client) == other.unread(client)
 }
 

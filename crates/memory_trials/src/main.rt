@@ -2,12 +2,10 @@
 //! memory is made with none first, and then with more and more until it suffices; with `counted`, and the library
 //! checks/refuse_allocation.c, with its first growth refused, and then with the next one, until none is. After each
 //! refusal what public calls tell is compared with what they tell of one to which nothing was refused. It shows the
-//! same then, but for the count of the refusals. With `bounds` it shows the most memory that parts of a script may
-//! take.
+//! same then, but for the count of the refusals.
 #![tactic(auto)]
 
 mod asking;
-mod bounds;
 mod crowd;
 mod halls;
 mod lobbies;
@@ -15,8 +13,7 @@ mod scripts;
 
 use memory_refuser::notes::Notes;
 use memory_refuser::refuser::Refuser;
-use std::rt::Env;
-use std::{env, io};
+use std::io;
 
 /// Tries all that takes memory, one part after another, and shows what each came to.
 fn try_all<R: Print + AllocGlobal>(
@@ -31,21 +28,10 @@ fn try_all<R: Print + AllocGlobal>(
     scripts::try_out(rt, refuser, notes)
 }
 
-/// Whether the argument asks for what memory is asked for and kept.
-fn asks_for_bounds<R: Env + AllocGlobal>(rt: &R) -> bool {
-    match env::args(rt) {
-        Ok(mut words) => words.nth(1).is_some_and(|word| word.as_str() == "bounds"),
-        Err(_) => false,
-    }
-}
-
 fn main(rt: HostRuntime) -> io::Result<()> {
-    if asks_for_bounds(&rt) {
-        return bounds::try_out(&rt);
-    }
     let Some(mut refuser) = Refuser::chosen(&rt) else {
         return println!(rt;
-            "usage: memory_trials [scarce|counted|bounds]; or there is no memory to begin with"
+            "usage: memory_trials [scarce|counted]; or there is no memory to begin with"
         );
     };
     let mut notes = Notes::new();
