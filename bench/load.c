@@ -3,11 +3,13 @@
 //
 //   load fanout PORT PID CLIENTS WINDOW SECONDS [QUIET [BYTES]]   the first client speaks in a channel of all, with WINDOW lines unanswered
 //   load ping PORT PID CLIENTS DEPTH SECONDS [QUIET]              each client keeps DEPTH times PING unanswered
+//   load pace PORT PID CLIENTS RATE SECONDS                       the clients in turn send PING, RATE times a second in all
 //   load logins PORT PID CLIENTS one|all                          greeted clients log in, one after another or all at once
 //   load crowd PORT PID CLIENTS talk|channels|reset|units COUNT [BUSY]  so many of them, all if left out, do much at once: they say COUNT
 //                                                                 lines to a channel of all, join and leave COUNT channels, found COUNT battles
 //                                                                 of eight and reset their connections, or found a battle each and send COUNT
-//                                                                 DISABLEUNITS of 2,720 words, which are refused. One more, who is quiet, sends PING
+//                                                                 DISABLEUNITS of 2,720 words, which are refused. Two more are quiet: one sends
+//                                                                 PING, and one talks in a channel of its own
 //   load memory PORT PID CLIENTS                                  what the server holds: before, with greeted clients, with members of a channel
 //
 // Clients log in as u0001, u0002 and so on. QUIET more are greeted, and do nothing. BYTES has a delivered line, 60 if left out. gcc -O2.
@@ -50,6 +52,8 @@ enum {
     DEPTH_MOST = 1024,
     BUCKETS = 1000000,     // of a tenth of a microsecond
     UNITS = 2720,
+    WAITS_MOST = 100000,
+    RATE_MOST = 100000,
 };
 
 struct client {
@@ -81,7 +85,7 @@ static unsigned greeted_count, in_count, told_count, settled_count;
 static size_t said_bytes, say_bytes, cycle; // of a delivered line, of the line as it is spoken, and how many different ones there are
 static char said[CYCLE_BYTES], say[CYCLE_BYTES];
 static uint32_t latencies[BUCKETS];
-static uint64_t answered;
+static uint64_t answered, received; // received are all bytes to all clients
 static void (*take)(struct client *, const char *, size_t);
 
 static void fail(const char *form, ...) {
@@ -266,7 +270,7 @@ static void pump(int milliseconds) {
     for (int place = 0; place < count; place++) {
         struct client *client = ready[place].data.ptr;
         ssize_t length = read(client->socket, bytes, sizeof bytes);
-        if (length > 0) take(client, bytes, (size_t)length);
+        if (length > 0) received += (uint64_t)length, take(client, bytes, (size_t)length);
         else if (length == 0 || (errno != EAGAIN && errno != EINTR)) fail("client %u was closed", client->number);
     }
 }
@@ -329,6 +333,7 @@ static void await_login(struct client *client) {
         if (poll(&wanted, 1, 100) < 1) continue;
         ssize_t length = read(client->socket, bytes, sizeof bytes);
         if (length <= 0) fail("client %u was closed", client->number);
+        received += (uint64_t)length;
         take(client, bytes, (size_t)length);
     }
 }
@@ -438,6 +443,15 @@ static double latency(double share) {
     return (double)place / 10;
 }
 
+// Awaits the answers to so many PINGs in all, and tells how long they took.
+static void tell_answers(uint64_t asked, struct usage from) {
+    while (answered < asked) pump(1);
+    struct usage to = usage();
+    expect_silence();
+    printf("answers %lu median %.1f late %.1f", answered, latency(0.5), latency(0.99));
+    print_usage(from, to);
+}
+
 static void run_ping(unsigned depth, double seconds) {
     take = take_pongs;
     struct usage from = usage();
@@ -447,28 +461,40 @@ static void run_ping(unsigned depth, double seconds) {
         pump(1);
     }
     for (unsigned place = 0; place < client_count; place++) asked += clients[place].asked;
-    while (answered < asked) pump(1);
-    struct usage to = usage();
-    expect_silence();
-    printf("answers %lu median %.1f late %.1f", answered, latency(0.5), latency(0.99));
-    print_usage(from, to);
+    tell_answers(asked, from);
+}
+
+static void run_pace(unsigned rate, double seconds) {
+    take = take_pongs;
+    struct usage from = usage();
+    uint64_t asked = 0;
+    while (now() < from.at + seconds) {
+        while ((double)asked < (now() - from.at) * rate) {
+            struct client *client = &clients[asked++ % client_count];
+            ask(client, (unsigned)(client->asked - client->bytes / 5) + 1);
+        }
+        pump(1);
+    }
+    tell_answers(asked, from);
 }
 
 static void run_logins(const char *how) {
     struct usage from = usage();
+    uint64_t before = received;
     log_all_in(strcmp(how, "one") == 0);
     struct usage to = usage();
     pump_until(&told_count, client_count);
     struct usage end = usage();
     expect_silence();
-    printf("logins %u all_told %.4f", client_count, end.at - from.at);
+    printf("logins %u all_told %.4f bytes %lu", client_count, end.at - from.at, received - before);
     print_usage(from, to);
 }
 
 // ---- a crowd, and a quiet client beside
 
+// What one who is quiet saw, in seconds.
 struct quiet {
-    double worst, worst_busy, sum;
+    double median, worst, worst_busy, sum;
     uint64_t answers;
 };
 
@@ -490,31 +516,86 @@ static double busy(void) {
     return all;
 }
 
-// The quiet client, a process of its own: it tells that it is here, sends PING a millisecond after each answer, from the first byte that
+// Reads until a line begins as the answer does.
+static void await_line(int socket, const char *answer) {
+    static char bytes[READ_BYTES];
+    static size_t begin, end;
+    size_t wanted = strlen(answer), matched = 0;
+    bool is_front = true;
+    for (bool is_found = false;;) {
+        if (begin == end) {
+            ssize_t length = read(socket, bytes, sizeof bytes);
+            if (length <= 0) _exit(1);
+            begin = 0;
+            end = (size_t)length;
+        }
+        char byte = bytes[begin++];
+        if (byte == '\n' && is_found) return;
+        is_front = is_front && byte == answer[matched];
+        matched += is_front;
+        if (byte == '\n') is_front = true, matched = 0;
+        if (is_front && matched == wanted) is_found = true, is_front = false;
+    }
+}
+
+static int compare_waits(const void *one, const void *other) {
+    double difference = *(const double *)one - *(const double *)other;
+    return (difference > 0) - (difference < 0);
+}
+
+// One who is quiet, a process of its own: it tells that it is here, says its line a millisecond after each answer, from the first byte that
 // it is told by until the second, and then tells what it saw.
-static void be_quiet(const struct client *client, int told_by, int tell_to) {
+static void be_quiet(const struct client *client, const char *line, const char *answer, int told_by, int tell_to) {
+    static double waits[WAITS_MOST];
     struct quiet seen = { 0 };
     struct pollfd end = { .fd = told_by, .events = POLLIN };
-    char byte = 'h', answer[5];
+    char byte = 'h';
     // A connection is reset by its last holder alone.
-    for (unsigned place = 0; place < client_count; place++) close(clients[place].socket);
-    if (write(tell_to, &byte, 1) != 1 || read(told_by, &byte, 1) != 1) _exit(1);
+    for (unsigned place = 0; place < client_count + quiet_count; place++)
+        if (&clients[place] != client) close(clients[place].socket);
     fcntl(client->socket, F_SETFL, 0);
+    if (write(tell_to, &byte, 1) != 1 || read(told_by, &byte, 1) != 1) _exit(1);
     while (poll(&end, 1, 1) == 0) {
         double ran = busy(), at = now();
-        if (write(client->socket, "PING\n", 5) != 5) _exit(1);
-        for (size_t held = 0; held < sizeof answer;) {
-            ssize_t length = read(client->socket, answer, sizeof answer - held);
-            if (length <= 0) _exit(1);
-            held += (size_t)length;
-        }
+        if (write(client->socket, line, strlen(line)) != (ssize_t)strlen(line)) _exit(1);
+        await_line(client->socket, answer);
         double taken = now() - at, ran_more = busy() - ran;
         if (ran_more > seen.worst_busy) seen.worst_busy = ran_more;
         seen.sum += taken;
+        if (seen.answers < WAITS_MOST) waits[seen.answers] = taken;
         seen.answers++;
         if (taken > seen.worst) seen.worst = taken;
     }
+    size_t kept = seen.answers < WAITS_MOST ? seen.answers : WAITS_MOST;
+    qsort(waits, kept, sizeof *waits, compare_waits);
+    seen.median = kept > 0 ? waits[kept / 2] : 0;
     _exit(write(tell_to, &seen, sizeof seen) == sizeof seen ? 0 : 1);
+}
+
+// A process for one who is quiet, and what it is told by and tells by.
+struct watcher {
+    int go[2], end[2];
+    pid_t process;
+};
+
+static void watch(struct watcher *watcher, const struct client *client, const char *line, const char *answer) {
+    char here;
+    if (pipe(watcher->go) != 0 || pipe(watcher->end) != 0) fail("no pipe");
+    epoll_ctl(poll_set, EPOLL_CTL_DEL, client->socket, NULL);
+    watcher->process = fork();
+    if (watcher->process == 0) be_quiet(client, line, answer, watcher->go[0], watcher->end[1]);
+    if (read(watcher->end[0], &here, 1) != 1) fail("no quiet client");
+}
+
+static void begin_watch(const struct watcher *watcher) {
+    if (write(watcher->go[1], "g", 1) != 1) fail("no quiet client");
+}
+
+static struct quiet end_watch(const struct watcher *watcher) {
+    struct quiet seen;
+    if (write(watcher->go[1], "e", 1) != 1 || read(watcher->end[0], &seen, sizeof seen) != sizeof seen) fail("a quiet client ended");
+    waitpid(watcher->process, NULL, 0);
+    return seen;
 }
 
 static uint64_t crowd_bytes, crowd_lines;
@@ -576,8 +657,7 @@ static void tell_all(const struct client *client, const char *text, size_t lengt
 }
 
 static void run_crowd(const char *deed, unsigned count, unsigned busy_count) {
-    int go[2], end[2];
-    struct quiet seen;
+    struct watcher asker, talker;
     struct client *quiet = &clients[client_count];
     bool resets = strcmp(deed, "reset") == 0;
     log_all_in(true);
@@ -585,20 +665,19 @@ static void run_crowd(const char *deed, unsigned count, unsigned busy_count) {
     take = take_crowd;
     if (resets) open_battles(count, 8);
     if (strcmp(deed, "units") == 0) open_battles(client_count, 1);
+    log_in(&quiet[1]);
     for (unsigned round = 0; round < 20; round++) pump(20);
-    if (pipe(go) != 0 || pipe(end) != 0) fail("no pipe");
-    epoll_ctl(poll_set, EPOLL_CTL_DEL, quiet->socket, NULL);
-    pid_t child = fork();
-    if (child == 0) be_quiet(quiet, go[0], end[1]);
-    char here;
-    if (read(end[0], &here, 1) != 1) fail("no quiet client");
+    tell(&quiet[1], "JOIN own\n");
+    watch(&asker, &quiet[0], "PING\n", "PONG");
+    watch(&talker, &quiet[1], "SAY own a line\n", "SAID own ");
     char *text = malloc((size_t)(count + 1) * SAID_MOST + (size_t)count * LINE_MOST);
     if (text == NULL) fail("no memory");
     size_t length = resets ? (size_t)sprintf(text, "#1 PING\n") : write_deed(text, deed, count);
     crowd_bytes = crowd_lines = 0;
     for (unsigned place = 0; place < client_count; place++) clients[place].bytes = 0;
     struct usage from = usage();
-    if (write(go[1], "g", 1) != 1) fail("no quiet client");
+    begin_watch(&asker);
+    begin_watch(&talker);
     for (unsigned round = 0; round < 2; round++) {
         unsigned asked = 0;
         marks = 0;
@@ -613,10 +692,9 @@ static void run_crowd(const char *deed, unsigned count, unsigned busy_count) {
         pump_until(&marks, asked);
     }
     struct usage to = usage();
-    if (write(go[1], "e", 1) != 1 || read(end[0], &seen, sizeof seen) != sizeof seen) fail("the quiet client ended");
-    waitpid(child, NULL, 0);
-    printf("lines %lu answers %lu mean %.2f worst %.1f worst_busy %.1f", crowd_lines, seen.answers, seen.sum / (double)seen.answers * 1e3, seen.worst * 1e3,
-           seen.worst_busy * 1e3);
+    struct quiet seen = end_watch(&asker), heard = end_watch(&talker);
+    printf("lines %lu answers %lu mean %.2f half %.2f worst %.1f worst_busy %.1f talk %.1f", crowd_lines, seen.answers,
+           seen.sum / (double)seen.answers * 1e3, seen.median * 1e3, seen.worst * 1e3, seen.worst_busy * 1e3, heard.worst * 1e3);
     print_usage(from, to);
 }
 
@@ -654,7 +732,7 @@ int main(int count, char **words) {
     server = (int)number_at(3, count, words, 1 << 30);
     client_count = (unsigned)number_at(4, count, words, CLIENTS_MOST);
     quiet_count = count > 7 && strcmp(words[7], "0") != 0 ? (unsigned)number_at(7, count, words, CLIENTS_MOST) : 0;
-    if (strcmp(mode, "crowd") == 0) quiet_count = 1;
+    if (strcmp(mode, "crowd") == 0) quiet_count = 2;
     clients = calloc(client_count + quiet_count, sizeof *clients);
     poll_set = epoll_create1(0);
     if (clients == NULL || poll_set < 0) fail("no memory or poll");
@@ -669,6 +747,7 @@ int main(int count, char **words) {
     open_clients(port);
     if (strcmp(mode, "fanout") == 0) run_fanout((uint64_t)number_at(5, count, words, WINDOW_MOST), (double)number_at(6, count, words, 30), bytes);
     else if (strcmp(mode, "ping") == 0) run_ping((unsigned)number_at(5, count, words, DEPTH_MOST), (double)number_at(6, count, words, 30));
+    else if (strcmp(mode, "pace") == 0) run_pace((unsigned)number_at(5, count, words, RATE_MOST), (double)number_at(6, count, words, 30));
     else if (strcmp(mode, "crowd") == 0) run_crowd(words[5], (unsigned)number_at(6, count, words, 512), count > 7 ? (unsigned)number_at(7, count, words, CLIENTS_MOST) : client_count);
     else if (strcmp(mode, "logins") == 0 && count > 5) run_logins(words[5]);
     else fail("no such mode");

@@ -4,18 +4,20 @@
 # Runs the server that `make build` leaves, or the one at LOBBY_MAIN, with so many workers (1), and the bare loop with one write a
 # client and round and with one write a line: all in turn, a new process each time, so many runs (5), a measured time of so many
 # seconds (3) where a mode has one. Prints medians of the runs, and of the ratios of each turn. MODES, some of
-# "fanout lengths ping quiet crowd logins log memory calls", leaves the others out. Two more, "waits marks", run another build too,
-# the one at LOBBY_BEFORE, and compare both in turn.
+# "fanout lengths ping quiet crowd logins log memory calls more", leaves the others out; "more" compares four workers with one. Two
+# others, "waits marks", run another build too, the one at LOBBY_BEFORE, and compare both in turn.
 set -euo pipefail
 cd "$(dirname "$0")/.."
 workers=${1:-1}
 runs=${2:-5}
 seconds=${3:-3}
-modes=${MODES:-fanout lengths ping quiet crowd logins log memory calls}
+modes=${MODES:-fanout lengths ping quiet crowd logins log memory calls more}
 main=${LOBBY_MAIN:-$PWD/bin/lobby_main}
 before=${LOBBY_BEFORE:-$main}
 for program in "$main" "$before"; do [ -x "$program" ] || { echo "there is no $program: make build makes bin/lobby_main"; exit 1; }; done
 ulimit -n 8192
+# As `make serve` and the unit have it.
+export MALLOC_MMAP_THRESHOLD_=16384
 room=$(mktemp -d)
 server=
 
@@ -35,14 +37,18 @@ done > "$room/accounts.toml"
 
 # launch SERVER PORT : becomes the server.
 launch() {
-    local log=important
+    local count=$workers
     case $1 in
-        silent) log=none ;;
-        telling) log=all ;;
+        one) count=1 ;;
+        four) count=4 ;;
     esac
-    printf 'address = "127.0.0.1:%d"\nworkers = %d\nlog = "%s"\n' "$2" "$workers" "$log" > "$room/settings.toml"
+    printf 'address = "127.0.0.1:%d"\nworkers = %d\n' "$2" "$count" > "$room/settings.toml"
     case $1 in
-        ours | silent | telling) exec "$main" serve "$room/settings.toml" "$room/accounts.toml" ;;
+        silent) echo 'log = "none"' >> "$room/settings.toml" ;;
+        telling) echo 'log = "all"' >> "$room/settings.toml" ;;
+    esac
+    case $1 in
+        ours | silent | telling | one | four) exec "$main" serve "$room/settings.toml" "$room/accounts.toml" ;;
         before) exec "$before" serve "$room/settings.toml" "$room/accounts.toml" ;;
         bare) exec "$room/bare_fanout" "$2" ;;
         bare_lines) exec "$room/bare_fanout" "$2" lines ;;
@@ -198,13 +204,13 @@ crowd() {
 # runs_of FORM FILE EXPRESSION : the figure of each run.
 runs_of() { each "$2" "$3" | awk -v form="$1" '{ printf (NR > 1 ? ", " : "") form, $1 }'; }
 
-# The longest waits beside a crowd of two builds, with one worker and with four.
+# The waits of two who are quiet beside a crowd, of two builds, with one worker and with four.
 waits() {
-    local load words file name
-    echo 'A quiet client beside a crowd, before and after, in turn: its longest wait for PONG in ms in each run; processor seconds of the server for all, the median'
-    echo '| Crowd | Workers | Longest before | After | Processors before | After |'
-    echo '|---|---|---|---|---|---|'
-    for load in "500 talk 64 1" "500 talk 64" "500 channels 200" "1600 reset 200" "20 units 8"; do
+    local load words file name workers
+    echo 'Two who are quiet beside a crowd, before and after, in turn: the longest wait for PONG in ms in each run, the wait of half of all PINGs, the longest wait of a line said in a channel of its own; processor seconds of the server for all, medians, and the median of the ratios of each turn'
+    echo '| Crowd | Workers | Longest before | After | Half before | After | Talk before | After | Processors before | After | After / before |'
+    echo '|---|---|---|---|---|---|---|---|---|---|---|'
+    for load in "500 talk 64 1" "500 talk 2" "500 talk 10" "500 talk 32" "500 talk 64" "500 channels 200 1" "500 channels 200" "1600 reset 1" "1600 reset 200" "20 units 8 1" "20 units 8"; do
         read -r -a words <<< "$load"
         file=crowd.${words[0]}.${words[1]}
         for workers in 1 4; do
@@ -212,41 +218,83 @@ waits() {
             in_turn "before ours" crowd "${words[@]}"
             printf '| %s | %d ' "$load" "$workers"
             for name in before ours; do printf '| %s ' "$(runs_of %.0f "$name.$file" 'of["worst"]')"; done
+            for name in before ours; do figure '| %.2f ' "$name.$file" 'of["half"]'; done
+            for name in before ours; do printf '| %s ' "$(runs_of %.0f "$name.$file" 'of["talk"]')"; done
             for name in before ours; do figure '| %.2f ' "$name.$file" 'of["user"] + of["system"]'; done
-            echo '|'
+            echo "| $(ratio "ours.$file" "before.$file" 'of["user"] + of["system"]') |"
         done
     done
 }
 
-# mark WHAT FORM EXPRESSION MODE WORD.. : a row of both builds and the bare loop.
-mark() {
-    local what=$1 form=$2 expression=$3 file=$4.$5.$6 name
-    shift 3
-    for name in before ours bare; do rm -f "$room/$name.$file"; done
-    in_turn "before ours bare" "$@"
+ping_cost='(of["user"] + of["system"]) / of["answers"] * 1e6'
+
+# row SERVERS FILE WHAT FORM EXPRESSION : the figures of these servers, and the ratios of the first ones to the last.
+row() {
+    local names=$1 file=$2 what=$3 form=$4 expression=$5 name last=${1##* }
     printf '| %s ' "$what"
-    for name in before ours bare; do figure "| $form " "$name.$file" "$expression"; done
-    for name in before ours; do printf '| %s ' "$(ratio "$name.$file" "bare.$file" "$expression")"; done
+    for name in $names; do figure "| $form " "$name.$file" "$expression"; done
+    for name in ${names% *}; do printf '| %s ' "$(ratio "$name.$file" "$last.$file" "$expression")"; done
     echo '|'
 }
 
+# mark SERVERS MODE WORD.. : runs of these servers in turn, behind those of before; their figures are in the files $file.
+mark() {
+    local names=$1 name
+    file=$2.$3.$4
+    for name in $names; do rm -f "$room/$name.$file"; done
+    in_turn "$@"
+}
+
 marks() {
-    local window members others
-    local ping_cost='(of["user"] + of["system"]) / of["answers"] * 1e6'
+    local window members file names="before ours bare"
     echo "Two builds beside the bare loop, in turn, with $workers worker(s): medians, and medians of the ratios of each turn"
     echo '| | Before | After | Bare | Before / bare | After / bare |'
     echo '|---|---|---|---|---|---|'
     for window in 256 4; do
         for members in 50 200 1000; do
-            mark "Channel of $members, $window in flight: seconds a million delivered lines" %.3f "$fanout_cost" fanout "$members" "$window" "$seconds"
+            mark "$names" fanout "$members" "$window" "$seconds"
+            row "$names" "$file" "Channel of $members, $window in flight: seconds a million delivered lines" %.3f "$fanout_cost"
         done
     done
-    mark 'PING, 50 clients, 1 in flight each: seconds a million' %.2f "$ping_cost" ping 50 1 "$seconds"
-    mark 'PING, 50 clients, 20 in flight each: million a second' %.2f 'of["answers"] / of["seconds"] / 1e6' ping 50 20 "$seconds"
-    for others in 50 1000; do
-        mark "PING, 1 client beside $others quiet: median us" %.1f 'of["median"]' ping 1 1 "$seconds" "$others"
+    mark "$names" ping 50 1 "$seconds"
+    row "$names" "$file" 'PING, 50 clients, 1 in flight each: seconds a million' %.2f "$ping_cost"
+    for depth in 20 1000; do
+        mark "$names" ping 50 "$depth" "$seconds"
+        row "$names" "$file" "PING, 50 clients, $depth in flight each: million a second" %.2f 'of["answers"] / of["seconds"] / 1e6'
     done
-    mark '2,000 logins at once: seconds until each is in' %.2f 'of["seconds"]' logins 2000 all
+    for members in 50 1000; do
+        mark "$names" pace "$members" 500 "$seconds"
+        row "$names" "$file" "PING, 500 a second in all by $members clients: median us" %.1f 'of["median"]'
+    done
+    mark "$names" logins 2000 all
+    row "$names" "$file" '2,000 logins at once: seconds until each is in' %.2f 'of["seconds"]'
+    row "$names" "$file" 'the same: million bytes to all clients' %.1f 'of["bytes"] / 1e6'
+}
+
+# What four workers serve beside one.
+more() {
+    local window members depth file names="four one"
+    echo 'Four workers and one, in turn: medians, and medians of the ratios of each turn'
+    echo '| | Four | One | Four / one |'
+    echo '|---|---|---|---|'
+    for window in 256 4; do
+        for members in 50 200 1000; do
+            mark "$names" fanout "$members" "$window" "$seconds"
+            row "$names" "$file" "Channel of $members, $window in flight: million delivered lines a second" %.2f 'of["lines"] / of["seconds"] / 1e6'
+            row "$names" "$file" 'the same: seconds of processors a million' %.3f "$fanout_cost"
+        done
+    done
+    for depth in 1 20; do
+        mark "$names" ping 50 "$depth" "$seconds"
+        row "$names" "$file" "PING, 50 clients, $depth in flight each: million a second" %.3f 'of["answers"] / of["seconds"] / 1e6'
+        row "$names" "$file" 'the same: seconds of processors a million' %.2f "$ping_cost"
+    done
+    for members in 50 1000; do
+        mark "$names" pace "$members" 500 "$seconds"
+        row "$names" "$file" "PING, 500 a second in all by $members clients: median us" %.1f 'of["median"]'
+    done
+    mark "$names" logins 2000 all
+    row "$names" "$file" '2,000 logins at once: seconds until each is in' %.2f 'of["seconds"]'
 }
 
 logins() {

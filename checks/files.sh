@@ -11,7 +11,7 @@ room=$(mktemp -d)
 trap 'rm -rf "$room"' EXIT
 
 settings='settings: address 127.0.0.1:8200, workers 4
-memory: some 2863 bytes a client, and up to 4194304 more for one that does not read
+memory: some 2863 bytes a client, and some 4194304 more for one that does not read
 memory: some 41971 MB if 10000 clients read nothing, and more where buffers have room to spare'
 accounts='accounts: 3 can log in'
 name='name = "Anna"'
@@ -87,7 +87,7 @@ login=$(($(sed 's/^4> //; 1d' "$room/shown" | wc -c) + 4 + 3 * 2 * 9))
 for k in 1 2 3 4; do printf '[[account]]\nname = "%s234567890123456789_"\n%s\nid = %s\n' $k "$word" $k; done > "$room/accounts"
 printf 'address = "0.0.0.0:1"\noutbox_limit = 65536\nmotd = ["%s"]\n' "$(of_length 1000 m)" > "$room/settings"
 expect 0 "settings: address 0.0.0.0:1, workers 4
-memory: some 2863 bytes a client, and up to 65536 more for one that does not read
+memory: some 2863 bytes a client, and some 65536 more for one that does not read
 memory: some 683 MB if 10000 clients read nothing, and more where buffers have room to spare
 accounts: 4 can log in
 login: up to $login bytes, if each other user has opened a battle with the longest texts

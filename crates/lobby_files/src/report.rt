@@ -42,7 +42,7 @@ fn check_settings<R: Files + Print + AllocGlobal>(rt: &R, path: &str) -> Option<
         setup.address, setup.workers
     );
     let _ = println!(rt;
-        "memory: some {CLIENT_BYTES} bytes a client, and up to {unread} more for one that does not read"
+        "memory: some {CLIENT_BYTES} bytes a client, and some {unread} more for one that does not read"
     );
     let _ = println!(rt;
         "memory: some {most} MB if {CLIENT_LIMIT} clients read nothing, and more where buffers have room to spare"

@@ -55,17 +55,26 @@ impl Keyed for Looked {
     }
 }
 
-/// So many words, the second half of them alike.
-fn words(alloc: Global, count: u32) -> Option<Vec<Looked>> {
+/// So many words that begin alike, the second half of them the same.
+fn words(alloc: Global, front: &str, count: u32) -> Option<Vec<Looked>> {
     let mut words = Vec::new(alloc);
     for place in 0..count {
         let number = place.min(count / 2);
-        let text = format!(in alloc; "unit{number}").ok()?;
+        let text = format!(in alloc; "{front}{number}").ok()?;
         let word = WordBuf::of(Vec::from_slice(alloc, text.as_bytes()).ok()?)?;
         let looks = Cell::new(0);
         words.push(Looked { word, looks }).ok()?;
     }
     Some(words)
+}
+
+fn keys_of(alloc: Global, words: &[Looked]) -> Option<Vec<WordBuf>> {
+    let mut keys = Vec::with_capacity(alloc, words.len()).ok()?;
+    for word in words {
+        keys.push(WordBuf::copy_of(alloc, word.word.as_slice()).ok()?)
+            .ok()?;
+    }
+    Some(keys)
 }
 
 /// How often they were looked at.
@@ -77,25 +86,39 @@ fn looks_of(words: &[Looked]) -> u64 {
     looks
 }
 
-/// Asks for room for so many words, for too few and for enough places, which of them are new and which are the last, and
-/// puts them. Gives how often they were looked at, those that stay counted once more; None where memory is refused.
-fn looks_at(alloc: Global, count: u32) -> Option<u64> {
+/// Asks a list for room for so many words, for one place too few and for enough, which of them are new, which are the
+/// last, and which are there. Gives how often they and those of the list were looked at; None where memory is refused.
+fn looks_asking(
+    alloc: Global,
+    list: &KeyedList<Looked>,
+    words: &[Looked],
+    count: u32,
+) -> Option<u64> {
     let most = count as usize / 2;
+    let _ = list.has_room_for(words, most);
+    let _ = list.has_room_for(words, most + 1);
+    let _ = list.new_items(alloc, words, most + 1).ok()?;
+    let _ = list.last_items(alloc, words, most + 1).ok()?;
+    let _ = list.keys_there(alloc, &keys_of(alloc, words)?).ok()?;
+    Some(looks_of(words).wrapping_add(looks_of(list.as_slice())))
+}
+
+/// Asks for all that a change of tags or units asks, while the words are new and while they are known, puts them, and
+/// removes others.
+fn looks_at(alloc: Global, count: u32) -> Option<u64> {
     let mut list = KeyedList::new(alloc);
-    let words = words(alloc, count)?;
-    let _ = list.has_room_for(&words, most);
-    let _ = list.has_room_for(&words, most + 1);
-    let _ = list.new_items(alloc, &words, most + 1).ok()?;
-    let _ = list.last_items(alloc, &words, most + 1).ok()?;
-    let asked = looks_of(&words);
-    list.put(alloc, words).ok()?;
-    Some(asked.wrapping_add(looks_of(list.as_slice())))
+    let new = words(alloc, "unit", count)?;
+    let asked = looks_asking(alloc, &list, &new, count)?;
+    list.put(alloc, new).ok()?;
+    let known = words(alloc, "unit", count)?;
+    list.remove(&keys_of(alloc, &words(alloc, "other", count)?)?);
+    Some(asked.wrapping_add(looks_asking(alloc, &list, &known, count)?))
 }
 
 #[test]
 fn twice_the_words_take_twice_the_looks(rt: HostRuntime) -> Result<(), Fail> {
     let few = looks_at(rt.alloc(), 500).unwrap_or(0);
     let many = looks_at(rt.alloc(), 1_000).unwrap_or(0);
-    assert!(rt; few >= 500 && few < 1_000_000 && many > few && many <= 2 * few + 100);
+    assert!(rt; few >= 1_000 && few < 1_000_000 && many > few && many <= 2 * few + 100);
     Ok(())
 }

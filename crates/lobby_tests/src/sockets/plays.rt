@@ -1,11 +1,11 @@
 //! Plays: what clients do at a server that runs beside them, as tables of steps. So a test is a table, which costs little to prove.
 
-ghost use Rattle.std.specs.Prelude.{◌≡◌, ◌≤◌};
+ghost use Rattle.std.specs.Prelude.{◌≡◌, ◌≤◌, IfSome};
 
 use crate::sockets::clients::Client;
 use crate::sockets::gates::{Hold, Watch, is_set_soon};
 use crate::sockets::running::{
-    ANNA, BERT, Input, PATIENCE, Service, Told, listen, new_service, run,
+    ANNA, BERT, Input, PATIENCE, Service, Told, crowd_service, listen, run, users_service,
 };
 use crate::verdict::{fail, same};
 use mio::net::TcpListener;
@@ -393,19 +393,65 @@ pub fn play_to<
 >(rt: &R, clock: HostRuntime, workers: u32, hold: Hold, acts: &[Act], ending: Ending) -> Vec<u8>
     requires { (1 ≤ workers) × (workers ≤ 64) }
 {
+    play_service(
+        rt,
+        clock,
+        crowd_service(clock.alloc(), workers),
+        hold,
+        acts,
+        ending,
+    )
+}
+
+/// As `play`, but nobody has an account but the users, and the limit of an outbox is the default.
+pub fn play_users<
+    R: Threads + Wait + Net<Listener = net::TcpListener, Stream = net::TcpStream> + Abort + Sync,
+>(rt: &R, clock: HostRuntime, workers: u32, hold: Hold, acts: &[Act]) -> Vec<u8>
+    requires { (1 ≤ workers) × (workers ≤ 64) }
+{
+    play_service(
+        rt,
+        clock,
+        users_service(clock.alloc(), workers),
+        hold,
+        acts,
+        IN_GOOD_ORDER,
+    )
+}
+
+/// Plays beside a server of this service, which ends so.
+fn play_service<
+    R: Threads + Wait + Net<Listener = net::TcpListener, Stream = net::TcpStream> + Abort + Sync,
+>(
+    rt: &R,
+    clock: HostRuntime,
+    service: Option<Service>,
+    hold: Hold,
+    acts: &[Act],
+    ending: Ending,
+) -> Vec<u8>
+    requires { IfSome service (λ service. (1 ≤ service.workers) × (service.workers ≤ 64)) }
+{
     let stage = Stage::new(clock, hold, ending.looks);
-    let output = play_at(rt, clock, workers, &stage, acts, ending.status);
+    let output = play_at(rt, clock, service, &stage, acts, ending.status);
     drop(stage);
     output
 }
 
-/// As `play`, on this stage, and the server ends with this status.
+/// As `play_service`, on this stage, and the server ends with this status.
 fn play_at<
     R: Threads + Wait + Net<Listener = net::TcpListener, Stream = net::TcpStream> + Abort + Sync,
->(rt: &R, clock: HostRuntime, workers: u32, stage: &Stage, acts: &[Act], status: u8) -> Vec<u8>
-    requires { (1 ≤ workers) × (workers ≤ 64) }
+>(
+    rt: &R,
+    clock: HostRuntime,
+    service: Option<Service>,
+    stage: &Stage,
+    acts: &[Act],
+    status: u8,
+) -> Vec<u8>
+    requires { IfSome service (λ service. (1 ≤ service.workers) × (service.workers ≤ 64)) }
 {
-    match (listen(rt), new_service(clock.alloc(), workers)) {
+    match (listen(rt), service) {
         (Some((listener, address)), Some(service)) => {
             let told = play_beside(rt, clock, service, listener, address, stage, acts);
             same(rt, told.status, status);

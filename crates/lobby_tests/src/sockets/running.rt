@@ -5,6 +5,7 @@ ghost use Rattle.std.specs.Prelude.{◌≡◌, ◌≤◌, IfSome};
 use crate::sockets::gates::Watch;
 use account_book::AccountBook;
 use lobby_model::Settings;
+use lobby_model::settings::DEFAULT_OUTBOX_LIMIT;
 use lobby_workers::run_server;
 use mio::net::TcpListener;
 use std::alloc::Global;
@@ -14,7 +15,7 @@ use std::sync::Wait;
 use std::sync::atomic::{AtomicBool, Ordering};
 use std::thread::{self, Threads};
 use std::time::Duration;
-use test_lobby::{book_with_crowd, settings};
+use test_lobby::{book, book_with_crowd, settings};
 
 /// Anna's number in a play.
 pub const ANNA: usize = 0;
@@ -34,8 +35,8 @@ pub const PONG: &[u8] = b"PONG\n";
 /// Sixteen bytes of a long text.
 pub const TEXT: &[u8] = b"0123456789abcdef";
 
-/// The limit of an outbox, in bytes.
-const OUTBOX_LIMIT: usize = 8_388_608;
+/// The limit of a crowd's outboxes, in bytes: one who reads late is told more than the system's buffers hold.
+const CROWD_LIMIT: usize = 8_388_608;
 
 /// For how many looks, of a millisecond each, an input waits for its end: for longer than any test takes.
 pub const PATIENCE: u32 = 50_000;
@@ -61,12 +62,16 @@ pub struct Service {
     pub accounts: AccountBook,
 }
 
-/// A service for the users and a crowd, with so many workers and a large limit of an outbox. None where memory is refused.
-pub fn new_service(alloc: Global, workers: u32) -> Option<Service>
+/// A service for those of a book, with so many workers and this limit of an outbox. None where memory is refused.
+fn service_of(
+    alloc: Global,
+    workers: u32,
+    accounts: AccountBook,
+    outbox_limit: usize,
+) -> Option<Service>
     ensures { IfSome result (λ service. service.workers ≡ workers) }
 {
-    let accounts = book_with_crowd(alloc)?;
-    match settings(alloc, OUTBOX_LIMIT) {
+    match settings(alloc, outbox_limit) {
         Some(settings) => Some(Service {
             settings,
             workers,
@@ -77,6 +82,20 @@ pub fn new_service(alloc: Global, workers: u32) -> Option<Service>
             None
         }
     }
+}
+
+/// A service for the users, with the default limit of an outbox.
+pub fn users_service(alloc: Global, workers: u32) -> Option<Service>
+    ensures { IfSome result (λ service. service.workers ≡ workers) }
+{
+    service_of(alloc, workers, book(alloc)?, DEFAULT_OUTBOX_LIMIT)
+}
+
+/// A service for the users and a crowd, with a large limit of an outbox.
+pub fn crowd_service(alloc: Global, workers: u32) -> Option<Service>
+    ensures { IfSome result (λ service. service.workers ≡ workers) }
+{
+    service_of(alloc, workers, book_with_crowd(alloc)?, CROWD_LIMIT)
 }
 
 /// An input that ends once its flag is set. One whose flag is not set within so many looks fails, so that no test passes because

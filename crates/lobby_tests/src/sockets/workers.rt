@@ -2,7 +2,7 @@
 
 use crate::sockets::gates::Hold;
 use crate::sockets::plays::Step::*;
-use crate::sockets::plays::{Act, BOTH_LOG_IN, play};
+use crate::sockets::plays::{Act, BOTH_LOG_IN, play, play_users};
 use crate::sockets::running::{ANNA, BERT, PING, PONG};
 use test_lobby::{ANNA_IS_IN, ANNA_LOGS_IN, BERT_COMES, BERT_LOGS_IN};
 
@@ -30,7 +30,7 @@ static TWO_CLIENTS: [Act; 1] = [Act {
 
 #[test]
 fn two_workers_serve_two_clients(rt: HostRuntime) {
-    drop(play(&rt, rt, 2, Hold::Takes, &TWO_CLIENTS));
+    drop(play_users(&rt, rt, 2, Hold::Takes, &TWO_CLIENTS));
 }
 
 static WRITING: [Act; 1] = [Act {
