@@ -2,8 +2,8 @@
 # What a status costs that is shown to the eight members of a battle, with 50 and with 500 battles among 5,000 users; what it
 # costs that the founder of such a battle disables 100 units beside 900, that one joins it with 1,000 disabled units, and that
 # one among 5,000 users asks to join a battle and is let in: medians of 5 runs, in turn with a hand-written Rust program. The
-# login of one more user among 2,000, with 250 battles and with none. And the dearest lines of units and script tags that the
-# founder of a battle of eight can say.
+# login of one more user among 2,000, with 250 battles and with none. The dearest lines of units and script tags that the
+# founder of a battle of eight can say, and that of each other command, among 2,000 users who are all in one channel.
 # The first argument is the number of lines that the members of battles get in a run, 4,000,000.
 set -euo pipefail
 cd "$(dirname "$0")/.."
@@ -22,6 +22,7 @@ for _ in 1 2 3 4 5; do
     "$program" clients=32 users=16 battles=1 joins=2000 | sed 's/^/lobby once /'
     "$out/rooms" 32 16 1 0 0 2000 0 | sed 's/^/baseline once /'
     "$program" clients=32 users=16 battles=1 lines=20 | sed 's/^/lobby once /'
+    "$program" clients=2010 users=2000 battles=1 commands=20 channels=100 | sed 's/^/walk once /'
     "$program" clients=10000 users=5000 asks=500 | sed 's/^/lobby once /'
     "$out/rooms" 10000 5000 0 0 0 0 500 | sed 's/^/baseline once /'
     for battles in 0 250; do
@@ -38,7 +39,8 @@ done | awk '
         lines[$1, what] = $4 + 0
         bytes[$1, what] = $5
     }
-    $3 ~ /^[A-Z]+-.*:$/ && !($3 in dear) { dear[$3] = 1; dearest[++count_dear] = $3 }
+    $1 == "walk" && $3 ~ /^[A-Z]+[A-Za-z-]*:$/ && !($3 in walked) { walked[$3] = 1; walk[++count_walk] = $3 }
+    $1 == "lobby" && $3 ~ /^[A-Z]+-.*:$/ && !($3 in dear) { dear[$3] = 1; dearest[++count_dear] = $3 }
     $4 == "picoseconds" { n = ++count[$1, what]; taken[$1, what, n] = $3 / 1000 }
     function median(who, what,    i, j, a, t, n) {
         n = count[who, what]
@@ -73,4 +75,8 @@ done | awk '
         burst(0); burst(250)
         print "a line of 8,192 bytes of a founder, told to 8 | us"
         for (i = 1; i <= count_dear; i++) printf "%s | %.0f\n", substr(dearest[i], 1, length(dearest[i]) - 1), median("lobby", dearest[i] " once") / 1000
+        print "the dearest line of a command among 2,000 users in one channel | us"
+        for (i = 1; i <= count_walk; i++) printf "%s | %.1f\n", substr(walk[i], 1, length(walk[i]) - 1), median("walk", walk[i] " once") / 1000
+        printf "LOGIN | %.1f\n", median("walk", "burst: once") * lines["walk", "burst: once"] / 1000
+        printf "EXIT, from 101 channels | %.1f\n", median("walk", "leaves: once") / 1000
     }'
