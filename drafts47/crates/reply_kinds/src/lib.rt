@@ -4,8 +4,8 @@
 //! `reply_lines` prints the lines and reads them back.
 #![tactic(auto)]
 
-mod held;
 mod command_word;
+mod held;
 mod kept;
 mod lists;
 mod numbers;
