@@ -225,6 +225,68 @@ values_of (reply.DisableUnits a) = (a, tt)
 values_of (reply.EnableUnits a) = (a, tt)
 values_of reply.EnableAllUnits = tt
 
+-- the reply of these arguments
+abbrev pub reply_of_values : (c : CommandWord) → Values (kinds_of c) → Reply
+reply_of_values command.TasServer x = reply.TasServer x.0 x.1.0 x.1.1.0 x.1.1.1.0
+reply_of_values command.Accepted x = reply.Accepted x.0
+reply_of_values command.Denied x = reply.Denied x.0
+reply_of_values command.Motd x = reply.Motd x.0
+reply_of_values command.ServerMsg x = reply.ServerMsg x.0
+reply_of_values command.AddUser x = reply.AddUser x.0 x.1.0 x.1.1.0 x.1.1.1.0
+reply_of_values command.RemoveUser x = reply.RemoveUser x.0
+reply_of_values command.ClientStatus x = reply.ClientStatus x.0 x.1.0
+reply_of_values command.LoginInfoEnd x = reply.LoginInfoEnd
+reply_of_values command.Pong x = reply.Pong
+reply_of_values command.Join x = reply.Join x.0
+reply_of_values command.Clients x = reply.Clients x.0 x.1.0
+reply_of_values command.Joined x = reply.Joined x.0 x.1.0
+reply_of_values command.Left x = reply.Left x.0 x.1.0
+reply_of_values command.JoinFailed x = reply.JoinFailed x.0 x.1.0
+reply_of_values command.Said x = reply.Said x.0 x.1.0 x.1.1.0
+reply_of_values command.SaidEx x = reply.SaidEx x.0 x.1.0 x.1.1.0
+reply_of_values command.SayPrivate x = reply.SayPrivate x.0 x.1.0
+reply_of_values command.SaidPrivate x = reply.SaidPrivate x.0 x.1.0
+reply_of_values command.Channel x = reply.Channel x.0 x.1.0
+reply_of_values command.EndOfChannels x = reply.EndOfChannels
+reply_of_values command.OpenBattle x = reply.OpenBattle x.0
+reply_of_values command.OpenBattleFailed x = reply.OpenBattleFailed x.0
+reply_of_values command.BattleOpened x = reply.BattleOpened x.0 x.1.0 x.1.1.0 x.1.1.1.0 x.1.1.1.1.0 x.1.1.1.1.1.0 x.1.1.1.1.1.1.0 x.1.1.1.1.1.1.1.0 x.1.1.1.1.1.1.1.1.0 x.1.1.1.1.1.1.1.1.1.0 x.1.1.1.1.1.1.1.1.1.1.0 x.1.1.1.1.1.1.1.1.1.1.1.0 x.1.1.1.1.1.1.1.1.1.1.1.1.0 x.1.1.1.1.1.1.1.1.1.1.1.1.1.0 x.1.1.1.1.1.1.1.1.1.1.1.1.1.1.0
+reply_of_values command.BattleClosed x = reply.BattleClosed x.0
+reply_of_values command.JoinBattle x = reply.JoinBattle x.0 x.1.0
+reply_of_values command.JoinBattleFailed x = reply.JoinBattleFailed x.0
+reply_of_values command.JoinedBattle x = reply.JoinedBattle x.0 x.1.0 x.1.1.0
+reply_of_values command.LeftBattle x = reply.LeftBattle x.0 x.1.0
+reply_of_values command.UpdateBattleInfo x = reply.UpdateBattleInfo x.0 x.1.0 x.1.1.0 x.1.1.1.0 x.1.1.1.1.0
+reply_of_values command.RequestBattleStatus x = reply.RequestBattleStatus
+reply_of_values command.ClientBattleStatus x = reply.ClientBattleStatus x.0 x.1.0 x.1.1.0
+reply_of_values command.SaidBattle x = reply.SaidBattle x.0 x.1.0
+reply_of_values command.SaidBattleEx x = reply.SaidBattleEx x.0 x.1.0
+reply_of_values command.AddBot x = reply.AddBot x.0 x.1.0 x.1.1.0 x.1.1.1.0 x.1.1.1.1.0 x.1.1.1.1.1.0
+reply_of_values command.UpdateBot x = reply.UpdateBot x.0 x.1.0 x.1.1.0 x.1.1.1.0
+reply_of_values command.RemoveBot x = reply.RemoveBot x.0 x.1.0
+reply_of_values command.AddStartRect x = reply.AddStartRect x.0 x.1.0 x.1.1.0 x.1.1.1.0 x.1.1.1.1.0
+reply_of_values command.RemoveStartRect x = reply.RemoveStartRect x.0
+reply_of_values command.SetScriptTags x = reply.SetScriptTags x.0
+reply_of_values command.RemoveScriptTags x = reply.RemoveScriptTags x.0
+reply_of_values command.ForceQuitBattle x = reply.ForceQuitBattle
+reply_of_values command.Ring x = reply.Ring x.0
+reply_of_values command.JoinBattleRequest x = reply.JoinBattleRequest x.0 x.1.0
+reply_of_values command.DisableUnits x = reply.DisableUnits x.0
+reply_of_values command.EnableUnits x = reply.EnableUnits x.0
+reply_of_values command.EnableAllUnits x = reply.EnableAllUnits
+
+-- all command words
+abbrev pub commands : List CommandWord
+commands =
+    command.Pong ∷ command.TasServer ∷ command.Accepted ∷ command.Denied ∷ command.Motd ∷ command.ServerMsg
+    ∷ command.AddUser ∷ command.RemoveUser ∷ command.ClientStatus ∷ command.LoginInfoEnd ∷ command.Join ∷ command.Clients
+    ∷ command.Joined ∷ command.Left ∷ command.JoinFailed ∷ command.Said ∷ command.SaidEx ∷ command.SayPrivate
+    ∷ command.SaidPrivate ∷ command.Channel ∷ command.EndOfChannels ∷ command.OpenBattle ∷ command.OpenBattleFailed ∷ command.BattleClosed
+    ∷ command.JoinBattle ∷ command.JoinBattleFailed ∷ command.JoinedBattle ∷ command.LeftBattle ∷ command.UpdateBattleInfo ∷ command.RequestBattleStatus
+    ∷ command.ClientBattleStatus ∷ command.SaidBattle ∷ command.SaidBattleEx ∷ command.AddBot ∷ command.UpdateBot ∷ command.RemoveBot
+    ∷ command.AddStartRect ∷ command.RemoveStartRect ∷ command.SetScriptTags ∷ command.RemoveScriptTags ∷ command.ForceQuitBattle ∷ command.Ring
+    ∷ command.JoinBattleRequest ∷ command.DisableUnits ∷ command.EnableUnits ∷ command.EnableAllUnits ∷ command.BattleOpened ∷ []
+
 -- the arguments keep their kinds
 abbrev pub Fits : Reply → Type 0
 Fits r = IsTrue (all_fit (kinds_of (command_of r)) (values_of r))

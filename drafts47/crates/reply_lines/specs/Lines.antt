@@ -2,11 +2,8 @@
 use Rattle.std.specs.Prelude.{ℕ, Bool, if◌then◌else◌, ◌==◌, nat_eq, find, List, [], ◌∷◌, Option, Some, None}
 use Rattle.std.specs.Cmp.Lexicographic.{pointwise}
 use Rattle.reply_kinds.specs.declared.reply.Reply.{Reply}
-use Rattle.reply_kinds.specs.declared.reply.Reply.TheVariants as reply
 use Rattle.reply_kinds.specs.declared.command_word.CommandWord.{CommandWord}
-use Rattle.reply_kinds.specs.declared.command_word.CommandWord.TheVariants as command
-use Rattle.reply_kinds.specs.Kinds.{Values}
-use Rattle.reply_kinds.specs.Replies.{word_of, kinds_of}
+use Rattle.reply_kinds.specs.Replies.{word_of, kinds_of, commands, reply_of_values}
 use Rattle.line_words.specs.Parts.{before, from}
 use Rattle.reply_fields.specs.Fields.{◌>>=◌, number_in}
 use Rattle.reply_lines.specs.Reading.{shaped}
@@ -15,71 +12,9 @@ use Rattle.reply_lines.specs.Reading.{shaped}
 abbrev pub same : List ℕ → List ℕ → Bool
 same = pointwise nat_eq
 
--- all command words
-abbrev pub commands : List CommandWord
-commands =
-    command.Pong ∷ command.TasServer ∷ command.Accepted ∷ command.Denied ∷ command.Motd ∷ command.ServerMsg
-    ∷ command.AddUser ∷ command.RemoveUser ∷ command.ClientStatus ∷ command.LoginInfoEnd ∷ command.Join ∷ command.Clients
-    ∷ command.Joined ∷ command.Left ∷ command.JoinFailed ∷ command.Said ∷ command.SaidEx ∷ command.SayPrivate
-    ∷ command.SaidPrivate ∷ command.Channel ∷ command.EndOfChannels ∷ command.OpenBattle ∷ command.OpenBattleFailed ∷ command.BattleOpened
-    ∷ command.BattleClosed ∷ command.JoinBattle ∷ command.JoinBattleFailed ∷ command.JoinedBattle ∷ command.LeftBattle ∷ command.UpdateBattleInfo
-    ∷ command.RequestBattleStatus ∷ command.ClientBattleStatus ∷ command.SaidBattle ∷ command.SaidBattleEx ∷ command.AddBot ∷ command.UpdateBot
-    ∷ command.RemoveBot ∷ command.AddStartRect ∷ command.RemoveStartRect ∷ command.SetScriptTags ∷ command.RemoveScriptTags ∷ command.ForceQuitBattle
-    ∷ command.Ring ∷ command.JoinBattleRequest ∷ command.DisableUnits ∷ command.EnableUnits ∷ command.EnableAllUnits ∷ []
-
 -- the command word that is this text
 unfoldable pub named : List ℕ → Option CommandWord
 named w = find (λ c. same w (word_of c)) commands
-
--- the reply of these arguments
-abbrev pub reply_of_values : (c : CommandWord) → Values (kinds_of c) → Reply
-reply_of_values command.TasServer x = reply.TasServer x.0 x.1.0 x.1.1.0 x.1.1.1.0
-reply_of_values command.Accepted x = reply.Accepted x.0
-reply_of_values command.Denied x = reply.Denied x.0
-reply_of_values command.Motd x = reply.Motd x.0
-reply_of_values command.ServerMsg x = reply.ServerMsg x.0
-reply_of_values command.AddUser x = reply.AddUser x.0 x.1.0 x.1.1.0 x.1.1.1.0
-reply_of_values command.RemoveUser x = reply.RemoveUser x.0
-reply_of_values command.ClientStatus x = reply.ClientStatus x.0 x.1.0
-reply_of_values command.LoginInfoEnd x = reply.LoginInfoEnd
-reply_of_values command.Pong x = reply.Pong
-reply_of_values command.Join x = reply.Join x.0
-reply_of_values command.Clients x = reply.Clients x.0 x.1.0
-reply_of_values command.Joined x = reply.Joined x.0 x.1.0
-reply_of_values command.Left x = reply.Left x.0 x.1.0
-reply_of_values command.JoinFailed x = reply.JoinFailed x.0 x.1.0
-reply_of_values command.Said x = reply.Said x.0 x.1.0 x.1.1.0
-reply_of_values command.SaidEx x = reply.SaidEx x.0 x.1.0 x.1.1.0
-reply_of_values command.SayPrivate x = reply.SayPrivate x.0 x.1.0
-reply_of_values command.SaidPrivate x = reply.SaidPrivate x.0 x.1.0
-reply_of_values command.Channel x = reply.Channel x.0 x.1.0
-reply_of_values command.EndOfChannels x = reply.EndOfChannels
-reply_of_values command.OpenBattle x = reply.OpenBattle x.0
-reply_of_values command.OpenBattleFailed x = reply.OpenBattleFailed x.0
-reply_of_values command.BattleOpened x = reply.BattleOpened x.0 x.1.0 x.1.1.0 x.1.1.1.0 x.1.1.1.1.0 x.1.1.1.1.1.0 x.1.1.1.1.1.1.0 x.1.1.1.1.1.1.1.0 x.1.1.1.1.1.1.1.1.0 x.1.1.1.1.1.1.1.1.1.0 x.1.1.1.1.1.1.1.1.1.1.0 x.1.1.1.1.1.1.1.1.1.1.1.0 x.1.1.1.1.1.1.1.1.1.1.1.1.0 x.1.1.1.1.1.1.1.1.1.1.1.1.1.0 x.1.1.1.1.1.1.1.1.1.1.1.1.1.1.0
-reply_of_values command.BattleClosed x = reply.BattleClosed x.0
-reply_of_values command.JoinBattle x = reply.JoinBattle x.0 x.1.0
-reply_of_values command.JoinBattleFailed x = reply.JoinBattleFailed x.0
-reply_of_values command.JoinedBattle x = reply.JoinedBattle x.0 x.1.0 x.1.1.0
-reply_of_values command.LeftBattle x = reply.LeftBattle x.0 x.1.0
-reply_of_values command.UpdateBattleInfo x = reply.UpdateBattleInfo x.0 x.1.0 x.1.1.0 x.1.1.1.0 x.1.1.1.1.0
-reply_of_values command.RequestBattleStatus x = reply.RequestBattleStatus
-reply_of_values command.ClientBattleStatus x = reply.ClientBattleStatus x.0 x.1.0 x.1.1.0
-reply_of_values command.SaidBattle x = reply.SaidBattle x.0 x.1.0
-reply_of_values command.SaidBattleEx x = reply.SaidBattleEx x.0 x.1.0
-reply_of_values command.AddBot x = reply.AddBot x.0 x.1.0 x.1.1.0 x.1.1.1.0 x.1.1.1.1.0 x.1.1.1.1.1.0
-reply_of_values command.UpdateBot x = reply.UpdateBot x.0 x.1.0 x.1.1.0 x.1.1.1.0
-reply_of_values command.RemoveBot x = reply.RemoveBot x.0 x.1.0
-reply_of_values command.AddStartRect x = reply.AddStartRect x.0 x.1.0 x.1.1.0 x.1.1.1.0 x.1.1.1.1.0
-reply_of_values command.RemoveStartRect x = reply.RemoveStartRect x.0
-reply_of_values command.SetScriptTags x = reply.SetScriptTags x.0
-reply_of_values command.RemoveScriptTags x = reply.RemoveScriptTags x.0
-reply_of_values command.ForceQuitBattle x = reply.ForceQuitBattle
-reply_of_values command.Ring x = reply.Ring x.0
-reply_of_values command.JoinBattleRequest x = reply.JoinBattleRequest x.0 x.1.0
-reply_of_values command.DisableUnits x = reply.DisableUnits x.0
-reply_of_values command.EnableUnits x = reply.EnableUnits x.0
-reply_of_values command.EnableAllUnits x = reply.EnableAllUnits
 
 -- the arguments of one command, to the end
 abbrev pub read_arguments : CommandWord → List ℕ → Option Reply

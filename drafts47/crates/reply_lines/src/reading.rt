@@ -7,7 +7,7 @@ ghost use Rattle.reply_fields.specs.Fields.{Gives};
 ghost use Rattle.reply_kinds.specs.Replies.{Line, ReadsAs};
 
 use crate::rows::read_all;
-use crate::table::{read_by_row, row, with_replies};
+use crate::table::{read_by_row, row, with_replies, words_of_rows};
 use line_words::split_at_byte;
 use reply_fields::{ReadError, id_of};
 use reply_kinds::{CommandWord, Reply};
@@ -97,55 +97,7 @@ fn body_head(id: Option<u32>, bytes: &[u8]) -> Option<Head<'_>>
     }
 }
 
-const ALL: [CommandWord; 47] = [
-    CommandWord::Pong,
-    CommandWord::TasServer,
-    CommandWord::Accepted,
-    CommandWord::Denied,
-    CommandWord::Motd,
-    CommandWord::ServerMsg,
-    CommandWord::AddUser,
-    CommandWord::RemoveUser,
-    CommandWord::ClientStatus,
-    CommandWord::LoginInfoEnd,
-    CommandWord::Join,
-    CommandWord::Clients,
-    CommandWord::Joined,
-    CommandWord::Left,
-    CommandWord::JoinFailed,
-    CommandWord::Said,
-    CommandWord::SaidEx,
-    CommandWord::SayPrivate,
-    CommandWord::SaidPrivate,
-    CommandWord::Channel,
-    CommandWord::EndOfChannels,
-    CommandWord::OpenBattle,
-    CommandWord::OpenBattleFailed,
-    CommandWord::BattleOpened,
-    CommandWord::BattleClosed,
-    CommandWord::JoinBattle,
-    CommandWord::JoinBattleFailed,
-    CommandWord::JoinedBattle,
-    CommandWord::LeftBattle,
-    CommandWord::UpdateBattleInfo,
-    CommandWord::RequestBattleStatus,
-    CommandWord::ClientBattleStatus,
-    CommandWord::SaidBattle,
-    CommandWord::SaidBattleEx,
-    CommandWord::AddBot,
-    CommandWord::UpdateBot,
-    CommandWord::RemoveBot,
-    CommandWord::AddStartRect,
-    CommandWord::RemoveStartRect,
-    CommandWord::SetScriptTags,
-    CommandWord::RemoveScriptTags,
-    CommandWord::ForceQuitBattle,
-    CommandWord::Ring,
-    CommandWord::JoinBattleRequest,
-    CommandWord::DisableUnits,
-    CommandWord::EnableUnits,
-    CommandWord::EnableAllUnits,
-];
+const ALL: [CommandWord; 47] = with_replies!(words_of_rows());
 
 /// The command word that prints so.
 #[tactic(auto, unfolding(crate::specs::Lines::named))]

@@ -1,5 +1,6 @@
 //! The table of replies: a row for each, its command word and its fields in the order in which they are
-//! printed. Printing and reading are each one match, which the table writes out.
+//! printed. Printing and reading are each one match, which the table writes out, and a word is searched among
+//! those of the table.
 
 /// Gives the table to another macro, behind what that one is given.
 macro_rules! with_replies {
@@ -112,7 +113,18 @@ macro_rules! read_by_row {
     };
 }
 
+/// The command words, in the order of the rows.
+macro_rules! words_of_rows {
+    (()
+        $($name:ident { $($field:ident),* })*
+        ; $($wide:ident { $($($part:ident),+);* })*
+    ) => {
+        [$(CommandWord::$name,)* $(CommandWord::$wide),*]
+    };
+}
+
 pub(crate) use print_by_row;
 pub(crate) use read_by_row;
 pub(crate) use row;
 pub(crate) use with_replies;
+pub(crate) use words_of_rows;

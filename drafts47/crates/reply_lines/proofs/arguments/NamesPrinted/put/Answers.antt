@@ -1,0 +1,7 @@
+use Rattle.std.proofs.lemmas.Result.{IfOk-equal}
+use Rattle.reply_lines.proofs.Parted.{put_parted}
+use Rattle.reply_lines.proofs.arguments.NamesPrinted.put.Goals as goal
+
+pub returns-clause-ok : goal.returns-clause-ok
+returns-clause-ok c =
+    IfOk-equal _ _ _ _ c.put_last_name.ensures.ok (rw c.in_ok-put_names.ensures.ok (put_parted c.args.out.now.items _ _ c.args.self.now c.parts.ensures))
