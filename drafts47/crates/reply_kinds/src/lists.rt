@@ -1,6 +1,7 @@
 //! Lists of arguments, owned or lent. Contracts see the plain list of what the items are.
 
-ghost use Rattle.std.specs.Prelude.{◌≡◌, [], ◌∷◌, ◌++◌, option_copied, option_to_list};
+ghost use Rattle.std.specs.Prelude.{◌≡◌, [], ◌∷◌, ◌++◌, option_copied};
+ghost use Rattle.reply_kinds.specs.HeldLists.{with_last};
 
 use line_words::{NameBuf, NameList, Pair, PairList, WordBuf, WordList};
 use std::marker::Model;
@@ -73,7 +74,7 @@ impl<'a> Names<'a> {
 
     /// The names: those that lie side by side, and the one behind them, where it lies elsewhere.
     pub fn parts(&self) -> (&[NameBuf], Option<&NameBuf>)
-        ensures { result.0.now ++ option_to_list (option_copied result.1) ≡ self.now }
+        ensures { with_last result.0.now (option_copied result.1) ≡ self.now }
     {
         match &self.names {
             HeldNames::Lent(names) => (*names, None),
