@@ -7,7 +7,7 @@ ghost use Rattle.reply_fields.specs.Fields.{Gives};
 ghost use Rattle.reply_kinds.specs.Replies.{Line, ReadsAs};
 
 use crate::rows::read_all;
-use crate::table::{read_by_row, row, with_replies, words_of_rows};
+use crate::table::{number_of_rows, one, read_by_row, row, with_replies, words_of_rows};
 use line_words::split_at_byte;
 use reply_fields::{ReadError, id_of};
 use reply_kinds::{CommandWord, Reply};
@@ -97,7 +97,9 @@ fn body_head(id: Option<u32>, bytes: &[u8]) -> Option<Head<'_>>
     }
 }
 
-const ALL: [CommandWord; 47] = with_replies!(words_of_rows());
+const ROWS: usize = with_replies!(number_of_rows());
+
+const ALL: [CommandWord; ROWS] = with_replies!(words_of_rows());
 
 /// The command word that prints so.
 #[tactic(auto, unfolding(crate::specs::Lines::named))]

@@ -123,6 +123,22 @@ macro_rules! words_of_rows {
     };
 }
 
+/// How many rows there are.
+macro_rules! number_of_rows {
+    (()
+        $($name:ident { $($field:ident),* })*
+        ; $($wide:ident { $($($part:ident),+);* })*
+    ) => {
+        0 $(+ one!($name))* $(+ one!($wide))*
+    };
+}
+
+macro_rules! one {
+    ($name:ident) => { 1 };
+}
+
+pub(crate) use number_of_rows;
+pub(crate) use one;
 pub(crate) use print_by_row;
 pub(crate) use read_by_row;
 pub(crate) use row;
