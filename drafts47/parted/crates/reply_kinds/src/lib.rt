@@ -10,7 +10,7 @@ mod kept;
 mod lists;
 mod numbers;
 mod reply;
-mod table;
+mod reply_table;
 
 pub use command_word::CommandWord;
 pub use kept::{Name, NextSentence, Sentence, Text, Word};
