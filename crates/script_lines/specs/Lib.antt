@@ -1,0 +1,3 @@
+pub mod Escapes
+pub mod Steps
+pub mod Printed
