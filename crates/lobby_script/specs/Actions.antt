@@ -7,34 +7,34 @@ use Rattle.lobby_script.specs.declared.action.Action.TheVariants as action
 use Rattle.lobby_script.specs.declared.action.Setting.TheVariants as setting
 use Rattle.lobby_script.specs.declared.action.Order.{Order}
 use Rattle.lobby_script.specs.declared.action.Order.TheVariants as order
-use Rattle.address_words.specs.Words.{IsNumber, LeadsWith, IsAddress}
+use Rattle.address_words.specs.Words.{IsNumber}
+use Rattle.script_lines.specs.Steps.{PlainStep, Open, Send, Take, Read, Shut, step_verb, StepArguments}
 use Rattle.lobby_script.specs.Accounts.{WritesAccount}
-use Rattle.lobby_script.specs.Escapes.{StandsForBytes}
 
--- the word that a line begins with
+-- the word that a line begins with; that of a step that a record may have is the record's
 abbrev pub verb_of : Action → List ℕ
 verb_of (action.Set (setting.Account account)) = codes "account"
 verb_of (action.Set (setting.Motd line)) = codes "motd"
 verb_of (action.Set (setting.Limit bytes)) = codes "limit"
-verb_of (action.Open label ip) = codes "open"
-verb_of (action.Client label (order.Send bytes)) = codes "send"
-verb_of (action.Client label order.Take) = codes "take"
+verb_of (action.Open label ip) = step_verb (Open label ip)
+verb_of (action.Client label (order.Send bytes)) = step_verb (Send label bytes)
+verb_of (action.Client label order.Take) = step_verb (Take label)
 verb_of (action.Client label order.All) = codes "all"
-verb_of (action.Client label (order.Read count)) = codes "read"
-verb_of (action.Client label order.Shut) = codes "shut"
+verb_of (action.Client label (order.Read count)) = step_verb (Read label count)
+verb_of (action.Client label order.Shut) = step_verb (Shut label)
 verb_of (action.Client label order.Show) = codes "show"
 
--- what stands behind that word and one space: an account, a text, a number, or a label with one space behind it and then the rest
+-- what stands behind that word and one space: an account, a text, a number, a label, or what a record's step has
 abbrev pub Arguments : List ℕ → Action → Type 0
 Arguments text (action.Set (setting.Account account)) = WritesAccount text account
 Arguments text (action.Set (setting.Motd line)) = (text ≡ line) × IsTrue (is_text line)
 Arguments text (action.Set (setting.Limit bytes)) = IsNumber text bytes
-Arguments text (action.Open label ip) = (rest : List ℕ) × LeadsWith 32 text label rest × IsAddress rest ip
-Arguments text (action.Client label (order.Send bytes)) = (rest : List ℕ) × LeadsWith 32 text label rest × StandsForBytes rest bytes
-Arguments text (action.Client label order.Take) = IsNumber text label
+Arguments text (action.Open label ip) = StepArguments text (Open label ip)
+Arguments text (action.Client label (order.Send bytes)) = StepArguments text (Send label bytes)
+Arguments text (action.Client label order.Take) = StepArguments text (Take label)
 Arguments text (action.Client label order.All) = IsNumber text label
-Arguments text (action.Client label (order.Read count)) = (rest : List ℕ) × LeadsWith 32 text label rest × IsNumber rest count
-Arguments text (action.Client label order.Shut) = IsNumber text label
+Arguments text (action.Client label (order.Read count)) = StepArguments text (Read label count)
+Arguments text (action.Client label order.Shut) = StepArguments text (Shut label)
 Arguments text (action.Client label order.Show) = IsNumber text label
 
 -- the parts of a line are parted by one space
@@ -42,6 +42,14 @@ pub record Says (line : List ℕ) (action : Action) : Type 0 where
   pub rest : List ℕ
   pub whole : line ≡ verb_of action ++ 32 ∷ rest
   pub arguments : Arguments rest action
+
+-- the action that a step is
+abbrev pub action_of : PlainStep → Action
+action_of (Open label ip) = action.Open label ip
+action_of (Send label bytes) = action.Client label (order.Send bytes)
+action_of (Take label) = action.Client label order.Take
+action_of (Read label count) = action.Client label (order.Read count)
+action_of (Shut label) = action.Client label order.Shut
 
 -- the actions of one verb
 abbrev pub IsAccount : List ℕ → Action → Type 0

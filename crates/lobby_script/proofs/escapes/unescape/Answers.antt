@@ -1,6 +1,6 @@
 use Rattle.std.proofs.Common.{ℕ, length, Some, eq-eqb, List, [], ◌∷◌, ◌++◌, sym, ap, ◌∙◌, subst, append_assoc, append-nil}
 use Rattle.std.proofs.lemmas.Bool.{false≢true}
-use Rattle.lobby_script.specs.Escapes.{StandsForBytes}
+use Rattle.script_lines.specs.Escapes.{StandsForBytes}
 use Rattle.address_words.proofs.Parts.{nothing_left}
 use Rattle.address_words.proofs.Readings.{finds_none}
 use Rattle.lobby_script.proofs.EscapeLemmas.{one_more, begins_with_it, none_begins}
