@@ -1,7 +1,7 @@
 -- The counts that a pass keeps, at the history of its close.
-use Rattle.std.proofs.Common.{◌≡◌, ◌≢◌, ℕ, ◌≤◌, ◌<◌, true, false, true≢false, cond, List, set, [], ◌∷◌, Option, Some, None, refl, sym, ap, ◌∙◌, subst, eqb, arith, eq-eqb, ne_eqb}
+use Rattle.std.proofs.Common.{◌≡◌, ◌≢◌, ℕ, ◌+◌, ◌≤◌, ◌<◌, true, false, true≢false, cond, List, length, min, set, [], ◌∷◌, ◌++◌, Option, Some, None, refl, sym, ap, ◌∙◌, subst, eqb, arith, eq-eqb, ne_eqb, length-append}
 use Rattle.std.specs.Prelude.{slice_get}
-use lib.ListN.{get_or}
+use lib.ListN.{get_or, length-map}
 use Rattle.std.specs.List.{AllByRecursion}
 use Rattle.std.specs.Option.{option_map}
 use Rattle.std.proofs.lemmas.Bool.{eqb-true}
@@ -9,10 +9,12 @@ use Rattle.std.proofs.lemmas.List.{get_or-set_same, get_or-set_other, length-set
 use Rattle.std.proofs.lemmas.Option.{slice_get-get_or}
 use Rattle.atomic_table.specs.Seated.{TableId}
 use Rattle.lobby_machine.specs.Shown.{Shown}
+use Rattle.lobby_lock.specs.declared.laid.Laid.{Laid}
 use Rattle.lobby_lock.specs.declared.view.View.{View}
 use Rattle.lobby_lock.specs.declared.view.Worker.{Worker}
-use Rattle.lobby_lock.specs.History.{Entry, made_by}
-use Rattle.lobby_lock.specs.Counts.{count_of, worker_of, PlacesAre, Counts}
+use Rattle.lobby_model.specs.declared.event.Event.{Event}
+use Rattle.lobby_lock.specs.History.{Entry, made_by, under}
+use Rattle.lobby_lock.specs.Counts.{count_of, last_count, position_of, worker_of, PlacesAre, Counts}
 use Rattle.lobby_lock.specs.Passes.{ShownPass, shown_view}
 use Rattle.lobby_lock.specs.Closing.{IsClosed}
 use Rattle.lobby_lock.specs.Rule.{seen_by, Closed, with_taken_back}
@@ -53,11 +55,11 @@ closes_with old x history handed made places zero_is counts few made_is p own ba
   nobody = λ k above. made_by_above old.handed k (omega (arith, above, counts)) history numbers;
 }
 
-pub closed : (v : View) (x : Shown) (w : View) (desk : TableId) (handed made : ℕ) (places : List (Option ℕ)) → Closed v x w → v.worker.number ≡ 0 → handed ≡ v.handed → Counts v handed made places
+pub closed : (v : View) (x : Laid) (w : View) (desk : TableId) (handed made : ℕ) (places : List (Option ℕ)) → Closed v x w → v.worker.number ≡ 0 → handed ≡ v.handed → Counts v handed made places
     → ((k : ℕ) → 1 ≤ k → k ≤ handed → slice_get places k ≡ Some None → ⊥) → IsClosed (shown_view desk w) handed made places
 closed v x w desk handed made places c zero_is counts k all =
     let own = ap (λ n. made_by n w.worker.seen) (sym zero_is) ∙ c.took.own in
-    let is = closes_with (shown_view desk v) x w.worker.seen handed made places zero_is counts k.few k.made_is (k.places_are zero_is) own c.taken_back (c.numbers zero_is) all in
+    let is = closes_with (shown_view desk v) x.lobby w.worker.seen handed made places zero_is counts k.few k.made_is (k.places_are zero_is) own c.taken_back (c.numbers zero_is) all in
     subst (λ (u : View). IsClosed (shown_view desk u) handed made places) (sym c.took.same) is
 
 -- the place of the one whose pass came back gets its count
@@ -79,3 +81,12 @@ counts_with v w handed made theirs places c few is = record {
   made_is = c.made_is;
   places_are = λ zero_is. subst (λ n. PlacesAre (set places w.worker.number (Some n)) (w.worker ∷ v.taken_back)) (sym is) (places_with places v.taken_back w.worker (c.places_are zero_is) few);
 }
+
+-- ---- the place of a hold
+
+-- a history has so many events more
+pub position_on : (seen : List Entry) (number : ℕ) (events : List Event) → min (position_of seen + length events) last_count ≡ position_of (seen ++ under number events)
+position_on seen number events =
+    let all = length-append seen (under number events) in
+    let own = length-map events (λ e. (number, e)) in
+    omega (arith, all, own)

@@ -5,10 +5,11 @@ use Rattle.crossbeam_queue.specs.Passes.{Pass, view}
 use Rattle.lobby_model.specs.declared.event.Event.{Event}
 use Rattle.lobby_model.specs.State.{State}
 use Rattle.lobby_machine.specs.Shown.{Shown}
+use Rattle.lobby_lock.specs.declared.laid.Laid.{Laid}
 use Rattle.lobby_lock.specs.declared.view.View.{View}
 use Rattle.lobby_lock.specs.declared.view.Worker.{Worker}
 use Rattle.lobby_lock.specs.History.{after_history, under}
-use Rattle.lobby_lock.specs.Counts.{Counts}
+use Rattle.lobby_lock.specs.Counts.{Counts, position_of}
 use Rattle.lobby_lock.specs.Rule.{new_worker, with_events}
 
 -- The desk that the pass belongs to; the plain lobby with which that was opened; the lobby, with its lists of changed clients, as the
@@ -31,10 +32,10 @@ pub record ShownHold : Type 0 where
 abbrev pub shown_view : TableId → View → ShownPass
 shown_view desk v = record { desk = desk; start = v.start.plain; on_desk = v.on_desk; worker = v.worker; handed = v.handed; taken_back = v.taken_back }
 
-abbrev pub shown_pass : Pass Shown View → ShownPass
+abbrev pub shown_pass : Pass Laid View → ShownPass
 shown_pass inner = shown_view inner.table_id (view inner)
 
-abbrev pub shown_hold : Pass Shown View → Shown → List Event → ShownHold
+abbrev pub shown_hold : Pass Laid View → Shown → List Event → ShownHold
 shown_hold inner lobby events = record { pass = shown_pass inner; lobby = lobby; events = events }
 
 -- a hold with one event more, and with the lobby as it is then
@@ -58,7 +59,7 @@ abbrev pub lobby_after : ShownPass → List Event → State
 lobby_after pass events = after_history pass.start (pass.worker.seen ++ under pass.worker.number events)
 
 -- inside a pass: it does not hold, knows its number, counts what its view counts, and has room for the events of a hold
-pub record IsReady (inner : Pass Shown View) (number handed made : ℕ) (places : List (Option ℕ)) (room : List Event) (capacity : ℕ) : Type 0 where
+pub record IsReady (inner : Pass Laid View) (number handed made : ℕ) (places : List (Option ℕ)) (room : List Event) (capacity : ℕ) : Type 0 where
   pub slots : inner.me.1 ≡ []
   pub alive : (view inner).alive ≡ true
   pub holds : (view inner).holds ≡ false
@@ -69,8 +70,8 @@ pub record IsReady (inner : Pass Shown View) (number handed made : ℕ) (places 
   pub empty : room ≡ []
   pub space : 32 ≤ capacity
 
--- inside a hold: its lobby stands for the history seen and then the hold's own events
-pub record IsHolding (inner : Pass Shown View) (number handed made : ℕ) (places : List (Option ℕ)) (lobby : Shown) (events : List Event) (capacity : ℕ) : Type 0 where
+-- inside a hold: its lobby stands for the history seen and then the hold's own events, and it knows how many events were seen
+pub record IsHolding (inner : Pass Laid View) (number handed made : ℕ) (places : List (Option ℕ)) (lobby : Shown) (position : ℕ) (events : List Event) (capacity : ℕ) : Type 0 where
   pub slots : inner.me.1 ≡ []
   pub alive : (view inner).alive ≡ true
   pub holds : (view inner).holds ≡ true
@@ -79,4 +80,5 @@ pub record IsHolding (inner : Pass Shown View) (number handed made : ℕ) (place
   pub counts : handed ≡ (view inner).handed
   pub counted : Counts (view inner) handed made places
   pub stands : lobby.plain ≡ lobby_after (shown_pass inner) events
+  pub placed : position ≡ position_of (view inner).worker.seen
   pub space : 32 ≤ capacity

@@ -12,6 +12,7 @@ ghost use Rattle.lobby_lock.specs.declared.closing.CloseError.TheVariants.{Still
 use crate::closing::{CloseError, Closing, first_out};
 use crate::event_count::EventCount;
 use crate::held::Held;
+use crate::laid::Laid;
 use crate::pass::{Counts, Pass};
 use crate::place::{begin, fetch};
 use crate::rule::{HandingOut, LastBack, Place, Taking, TakingBack, TakingForGood};
@@ -29,10 +30,11 @@ pub const MOST_HANDED_OUT: u8 = WORKERS - 1;
 /// needs memory for its entry in the history.
 pub const MOST_EVENTS: usize = 32;
 
-/// How many bytes go from worker to worker when the lobby is handed over: its address alone.
-pub const HANDED_OVER: usize = size_of::<Lobby>();
+/// How many bytes go from worker to worker when the lobby is handed over: its address, and the
+/// count of its events.
+pub const HANDED_OVER: usize = size_of::<Laid>();
 
-const _: () = prove!(HANDED_OVER == size_of::<usize>());
+const _: () = prove!(HANDED_OVER == size_of::<usize>() + size_of::<u64>());
 
 /// How many places for counts worker 0's pass has: one for each number, its own among them.
 const PLACES: usize = WORKERS as usize;
@@ -91,7 +93,8 @@ impl Desk {
         let Ok((place, mut inner)) = Place::ruled(alloc, 1) else {
             return Err(DeskError::Memory);
         };
-        begin(rt, &place, &mut inner, lobby);
+        let laid = Laid { lobby, position: 0 };
+        begin(rt, &place, &mut inner, laid);
         let event_count = EventCount::new();
         let pass = Pass {
             inner,
@@ -203,12 +206,18 @@ impl Desk {
             room,
             counts,
         } = pass;
-        let lobby = fetch::<Taking, R>(rt, &self.place, &self.event_count, &mut inner);
+        let Laid { lobby, position } = fetch::<Taking, R>(
+            rt,
+            &self.place,
+            &self.event_count,
+            &mut inner,
+        );
         Held {
             inner,
             number,
             handed,
             lobby,
+            position,
             events: room,
             counts,
         }
@@ -240,7 +249,12 @@ impl Desk {
             room,
             counts,
         } = pass;
-        let lobby = fetch::<TakingForGood, R>(rt, &self.place, &self.event_count, &mut inner);
+        let Laid { lobby, position: _ } = fetch::<TakingForGood, R>(
+            rt,
+            &self.place,
+            &self.event_count,
+            &mut inner,
+        );
         drop(room);
         drop(self);
         Ok(Closing {

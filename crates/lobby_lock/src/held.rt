@@ -7,9 +7,11 @@ ghost use Rattle.lobby_model.specs.Sessions.{has_place};
 ghost use Rattle.lobby_model.specs.State.{hears};
 ghost use Rattle.lobby_post.specs.Mail.{IsWakes};
 ghost use Rattle.lobby_machine.specs.Shown.{Applies, HasNoNumber, IsFull, IsNextNumber, KeepsOthers, ListsOpened, ListsTouched, Opens, TakesFirst, count_into, filled, dirty_at, unread_of, is_finished};
+ghost use Rattle.lobby_lock.specs.Counts.{position_of};
 ghost use Rattle.lobby_lock.specs.Passes.{AddsEvent, lobby_after, pass_after};
 
 use crate::desk::{Desk, MOST_EVENTS};
+use crate::laid::Laid;
 use crate::pass::{Counts, Pass};
 use crate::place::put_back;
 use crate::rule::PlacePass;
@@ -28,6 +30,8 @@ pub struct Held {
     pub(crate) number: u8,
     pub(crate) handed: u8,
     pub(crate) lobby: Lobby,
+    // how many events the history had at the take
+    pub(crate) position: u64,
     pub(crate) events: Vec<Event>,
     pub(crate) counts: Counts,
 }
@@ -40,7 +44,7 @@ impl Model for Held {
 
     ghost view = { λ h. shown_hold h.inner h.lobby h.events.items };
 
-    ghost invariant = { λ h. IsHolding h.inner h.number h.handed h.counts.made h.counts.places.items h.lobby h.events.items (vec_capacity h.events) };
+    ghost invariant = { λ h. IsHolding h.inner h.number h.handed h.counts.made h.counts.places.items h.lobby h.position h.events.items (vec_capacity h.events) };
 }
 
 impl Held {
@@ -51,6 +55,14 @@ impl Held {
         ensures stands { self.now.lobby.plain ≡ lobby_after self.now.pass self.now.events }
     {
         self.events.len()
+    }
+
+    /// The place of this hold in the history: how many events were in it at the take, which are those before the hold's first one. It
+    /// stays at the last value of its type.
+    pub fn position(&self) -> u64
+        ensures { result ≡ position_of self.now.pass.worker.seen }
+    {
+        self.position
     }
 
     /// A client connects, as `Lobby::open` says: one event, unless it is refused.
@@ -189,11 +201,14 @@ impl Held {
             number,
             handed,
             lobby,
+            position,
             mut events,
             counts: Counts { made, places },
         } = self;
         let made = made.saturating_add(events.len() as u64);
-        put_back::<Brand, R>(rt, &desk.place, &mut inner, lobby, events.as_slice());
+        let position = position.saturating_add(events.len() as u64);
+        let laid = Laid { lobby, position };
+        put_back::<Brand, R>(rt, &desk.place, &mut inner, laid, events.as_slice());
         desk.event_count.notify();
         events.clear();
         Pass {

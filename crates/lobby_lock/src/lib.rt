@@ -18,6 +18,7 @@ mod closing;
 mod desk;
 mod event_count;
 mod held;
+mod laid;
 mod pass;
 mod place;
 mod rule;
