@@ -1,7 +1,7 @@
 -- How the keys of a file of settings are written.
 use Rattle.std.specs.Prelude.{ℕ, List, codes}
 use Rattle.lobby_setup.specs.declared.key.Key.{Key}
-use Rattle.lobby_setup.specs.declared.key.Key.TheVariants.{Address, Workers, OutboxLimit, ProtocolVersion, SpringVersion, UdpPort, ServerMode, Motd, StopAtInputEnd, Proxies, Log}
+use Rattle.lobby_setup.specs.declared.key.Key.TheVariants.{Address, Workers, OutboxLimit, ProtocolVersion, SpringVersion, UdpPort, ServerMode, Motd, StopAtInputEnd, Proxies, Log, Record, Private}
 
 abbrev pub name_of : Key → List ℕ
 name_of Address = codes "address"
@@ -15,3 +15,5 @@ name_of Motd = codes "motd"
 name_of StopAtInputEnd = codes "stop_at_input_end"
 name_of Proxies = codes "proxies"
 name_of Log = codes "log"
+name_of Record = codes "record"
+name_of Private = codes "private"
