@@ -1,6 +1,7 @@
 //! Where a turn takes the lobby.
 
 ghost use Rattle.std.specs.Prelude.{◌≡◌, []};
+ghost use Rattle.lobby_lock.specs.Passes.{pass_after};
 ghost use Rattle.lobby_holds.specs.Holds.{IsTaken, Stands};
 
 use crate::gate::Gate;
@@ -27,5 +28,20 @@ impl<G: Gate> GatedDesk<'_, G> {
     {
         self.gate.before_take(pass.number());
         self.desk.take(rt, pass)
+    }
+
+    /// Gives the lobby back, and then tells the gate each event that the hold made.
+    pub fn give<R: Wait>(&self, rt: &R, held: Held) -> Pass
+        requires { held.pass.desk ≡ self.now.desk.now }
+        ensures { result ≡ pass_after held }
+    {
+        let mut made = held.lay_down(rt, self.desk);
+        let worker = made.number();
+        for _ in 0..made.count() {
+            if let Some(event) = made.next() {
+                self.gate.made(worker, event);
+            }
+        }
+        made.pass()
     }
 }

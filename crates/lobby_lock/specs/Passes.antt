@@ -1,5 +1,5 @@
 -- What contracts see of a pass and of a hold.
-use Rattle.std.specs.Prelude.{◌≡◌, ℕ, ◌+◌, ◌≤◌, true, false, List, [], ◌∷◌, ◌++◌, Option}
+use Rattle.std.specs.Prelude.{◌≡◌, ℕ, ◌+◌, ◌≤◌, true, false, List, [], ◌∷◌, ◌++◌, length, reverse, Option}
 use Rattle.atomic_table.specs.Seated.{TableId}
 use Rattle.crossbeam_queue.specs.Passes.{Pass, view}
 use Rattle.lobby_model.specs.declared.event.Event.{Event}
@@ -10,6 +10,7 @@ use Rattle.lobby_lock.specs.declared.view.View.{View}
 use Rattle.lobby_lock.specs.declared.view.Worker.{Worker}
 use Rattle.lobby_lock.specs.History.{after_history, under}
 use Rattle.lobby_lock.specs.Counts.{Counts, position_of}
+use Rattle.lobby_lock.specs.Gains.{gains_of}
 use Rattle.lobby_lock.specs.Rule.{new_worker, with_events}
 
 -- The desk that the pass belongs to; the plain lobby with which that was opened; the lobby, with its lists of changed clients, as the
@@ -58,8 +59,8 @@ pass_after held = record held.pass { on_desk = held.lobby; worker = with_events 
 abbrev pub lobby_after : ShownPass → List Event → State
 lobby_after pass events = after_history pass.start (pass.worker.seen ++ under pass.worker.number events)
 
--- inside a pass: it does not hold, knows its number, counts what its view counts, and has room for the events of a hold
-pub record IsReady (inner : Pass Laid View) (number handed made : ℕ) (places : List (Option ℕ)) (room : List Event) (capacity : ℕ) : Type 0 where
+-- inside a pass: it does not hold, knows its number, counts what its view counts, and has room for the events of a hold and what they give
+pub record IsReady (inner : Pass Laid View) (number handed made : ℕ) (places : List (Option ℕ)) (room : List Event) (capacity : ℕ) (gains : List ℕ) (gain_capacity : ℕ) : Type 0 where
   pub slots : inner.me.1 ≡ []
   pub alive : (view inner).alive ≡ true
   pub holds : (view inner).holds ≡ false
@@ -69,9 +70,12 @@ pub record IsReady (inner : Pass Laid View) (number handed made : ℕ) (places :
   pub counted : Counts (view inner) handed made places
   pub empty : room ≡ []
   pub space : 32 ≤ capacity
+  pub no_gains : gains ≡ []
+  pub gain_space : 32 ≤ gain_capacity
 
--- inside a hold: its lobby stands for the history seen and then the hold's own events, and it knows how many events were seen
-pub record IsHolding (inner : Pass Laid View) (number handed made : ℕ) (places : List (Option ℕ)) (lobby : Shown) (position : ℕ) (events : List Event) (capacity : ℕ) : Type 0 where
+-- inside a hold: its lobby stands for the history seen and then the hold's own events, and it knows how many events were seen, and what each of
+-- its own gave
+pub record IsHolding (inner : Pass Laid View) (number handed made : ℕ) (places : List (Option ℕ)) (lobby : Shown) (position : ℕ) (events : List Event) (capacity : ℕ) (gains : List ℕ) (gain_capacity : ℕ) : Type 0 where
   pub slots : inner.me.1 ≡ []
   pub alive : (view inner).alive ≡ true
   pub holds : (view inner).holds ≡ true
@@ -82,3 +86,21 @@ pub record IsHolding (inner : Pass Laid View) (number handed made : ℕ) (places
   pub stands : lobby.plain ≡ lobby_after (shown_pass inner) events
   pub placed : position ≡ position_of (view inner).worker.seen
   pub space : 32 ≤ capacity
+  pub gained : gains ≡ gains_of (after_history (view inner).start.plain (view inner).worker.seen) events
+  pub each : length gains ≡ length events
+  pub gain_space : 32 ≤ gain_capacity
+
+-- a hold that is over: its pass, the place of the next of its events, and those that are left, with what each gave
+pub record ShownMade : Type 0 where
+  pub pass : ShownPass
+  pub place : ℕ
+  pub events : List Event
+  pub gains : List ℕ
+
+abbrev pub shown_made : Pass Laid View → ℕ → List Event → List ℕ → ShownMade
+shown_made inner place events gains = record { pass = shown_pass inner; place = place; events = reverse events; gains = reverse gains }
+
+-- inside a hold that is over: a pass, with a gain for each event that is left
+pub record IsMade (inner : Pass Laid View) (number handed made : ℕ) (places : List (Option ℕ)) (events : List Event) (gains : List ℕ) (capacity gain_capacity : ℕ) : Type 0 where
+  pub ready : IsReady inner number handed made places [] capacity [] gain_capacity
+  pub each : length gains ≡ length events

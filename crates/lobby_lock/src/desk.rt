@@ -87,6 +87,9 @@ impl Desk {
         let Ok(room) = Vec::with_capacity(alloc, MOST_EVENTS) else {
             return Err(DeskError::Memory);
         };
+        let Ok(gains) = Vec::with_capacity(alloc, MOST_EVENTS) else {
+            return Err(DeskError::Memory);
+        };
         let Ok(places) = no_counts(alloc) else {
             return Err(DeskError::Memory);
         };
@@ -101,6 +104,7 @@ impl Desk {
             number: 0,
             handed: 0,
             room,
+            gains,
             counts: Counts { made: 0, places },
         };
         Ok((Desk { place, event_count }, pass))
@@ -123,11 +127,15 @@ impl Desk {
         let Ok(room) = Vec::with_capacity(alloc, MOST_EVENTS) else {
             return Err((pass, DeskError::Memory));
         };
+        let Ok(gains) = Vec::with_capacity(alloc, MOST_EVENTS) else {
+            return Err((pass, DeskError::Memory));
+        };
         let Pass {
             mut inner,
             number,
             handed,
             room: old_room,
+            gains: old_gains,
             counts,
         } = pass;
         let other = self.place.another::<HandingOut>(&mut inner);
@@ -136,6 +144,7 @@ impl Desk {
             number,
             handed: handed + 1,
             room: old_room,
+            gains: old_gains,
             counts,
         };
         let newcomer = Pass {
@@ -143,6 +152,7 @@ impl Desk {
             number: handed + 1,
             handed: 0,
             room,
+            gains,
             counts: Counts {
                 made: 0,
                 places: Vec::new(alloc),
@@ -166,6 +176,7 @@ impl Desk {
             number,
             handed,
             room,
+            gains,
             counts: Counts { made, mut places },
         } = pass;
         let Pass {
@@ -173,6 +184,7 @@ impl Desk {
             number: place,
             handed: _,
             room: _,
+            gains: _,
             counts: theirs,
         } = ended;
         self.place.absorb::<TakingBack>(&mut inner, other);
@@ -183,6 +195,7 @@ impl Desk {
             number,
             handed,
             room,
+            gains,
             counts: Counts { made, places },
         }
     }
@@ -204,6 +217,7 @@ impl Desk {
             number,
             handed,
             room,
+            gains,
             counts,
         } = pass;
         let Laid { lobby, position } = fetch::<Taking, R>(
@@ -219,6 +233,7 @@ impl Desk {
             lobby,
             position,
             events: room,
+            gains,
             counts,
         }
     }
@@ -247,6 +262,7 @@ impl Desk {
             number: _,
             handed,
             room,
+            gains,
             counts,
         } = pass;
         let Laid { lobby, position: _ } = fetch::<TakingForGood, R>(
@@ -256,6 +272,7 @@ impl Desk {
             &mut inner,
         );
         drop(room);
+        drop(gains);
         drop(self);
         Ok(Closing {
             inner,

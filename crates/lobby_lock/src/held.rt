@@ -8,10 +8,13 @@ ghost use Rattle.lobby_model.specs.State.{hears};
 ghost use Rattle.lobby_post.specs.Mail.{IsWakes};
 ghost use Rattle.lobby_machine.specs.Shown.{Applies, HasNoNumber, IsFull, IsNextNumber, KeepsOthers, ListsOpened, ListsTouched, Opens, TakesFirst, count_into, filled, dirty_at, unread_of, is_finished};
 ghost use Rattle.lobby_lock.specs.Counts.{position_of};
+ghost use Rattle.lobby_lock.specs.Gains.{gains_of};
+ghost use Rattle.lobby_lock.specs.History.{after_history};
 ghost use Rattle.lobby_lock.specs.Passes.{AddsEvent, lobby_after, pass_after};
 
 use crate::desk::{Desk, MOST_EVENTS};
 use crate::laid::Laid;
+use crate::made::Made;
 use crate::pass::{Counts, Pass};
 use crate::place::put_back;
 use crate::rule::PlacePass;
@@ -33,6 +36,8 @@ pub struct Held {
     // how many events the history had at the take
     pub(crate) position: u64,
     pub(crate) events: Vec<Event>,
+    // what each of these gave
+    pub(crate) gains: Vec<u64>,
     pub(crate) counts: Counts,
 }
 
@@ -44,7 +49,7 @@ impl Model for Held {
 
     ghost view = { λ h. shown_hold h.inner h.lobby h.events.items };
 
-    ghost invariant = { λ h. IsHolding h.inner h.number h.handed h.counts.made h.counts.places.items h.lobby h.position h.events.items (vec_capacity h.events) };
+    ghost invariant = { λ h. IsHolding h.inner h.number h.handed h.counts.made h.counts.places.items h.lobby h.position h.events.items (vec_capacity h.events) h.gains.items (vec_capacity h.gains) };
 }
 
 impl Held {
@@ -81,6 +86,7 @@ impl Held {
         match self.lobby.open(ip, home) {
             Ok(number) => {
                 self.events.push_reserved(Event::Open { ip, home });
+                self.gains.push_reserved(number);
                 Ok(number)
             }
             Err(error) => Err(error),
@@ -102,6 +108,7 @@ impl Held {
         match self.lobby.say(client, &request) {
             Ok(wakes) => {
                 self.events.push_reserved(Event::Say { client, request });
+                self.gains.push_reserved(0);
                 Ok(wakes)
             }
             Err(error) => {
@@ -124,6 +131,7 @@ impl Held {
         match self.lobby.shut(client) {
             Ok(wakes) => {
                 self.events.push_reserved(Event::Shut { client });
+                self.gains.push_reserved(0);
                 Ok(wakes)
             }
             Err(error) => Err(error),
@@ -144,6 +152,7 @@ impl Held {
         let count = into.len();
         let drained = self.lobby.drain(client, into);
         self.events.push_reserved(Event::Drain { client, count });
+        self.gains.push_reserved(drained.count as u64);
         drained
     }
 
@@ -189,33 +198,49 @@ impl Held {
         self.lobby.copy_unread(client, from, into)
     }
 
-    /// Gives the lobby back as the hold has it, with its lists of changed clients, and ends the hold: its
-    /// events join the history under its worker's number, behind all that the worker has seen. Another
-    /// worker may then take the lobby.
+    /// Gives the lobby back as `lay_down` does, and lets the events go.
     pub fn give<R: Wait>(self, rt: &R, desk: &Desk) -> Pass
         requires { self.pass.desk ≡ desk.now }
         ensures { result ≡ pass_after self }
+    {
+        self.lay_down(rt, desk).pass()
+    }
+
+    /// Gives the lobby back as the hold has it, with its lists of changed clients, and ends the hold: its
+    /// events join the history under its worker's number, behind all that the worker has seen. Another
+    /// worker may then take the lobby. The events are then here to be taken, the first at the place of the hold, and with each what it
+    /// gave.
+    pub fn lay_down<R: Wait>(self, rt: &R, desk: &Desk) -> Made
+        requires { self.pass.desk ≡ desk.now }
+        ensures pass { result.pass ≡ pass_after self }
+        ensures events { result.events ≡ self.events }
+        ensures gains { result.gains ≡ gains_of (after_history self.pass.start self.pass.worker.seen) self.events }
+        ensures place { result.place ≡ position_of self.pass.worker.seen }
     {
         let Held {
             mut inner,
             number,
             handed,
             lobby,
-            position,
+            position: place,
             mut events,
+            mut gains,
             counts: Counts { made, places },
         } = self;
         let made = made.saturating_add(events.len() as u64);
-        let position = position.saturating_add(events.len() as u64);
+        let position = place.saturating_add(events.len() as u64);
         let laid = Laid { lobby, position };
         put_back::<Brand, R>(rt, &desk.place, &mut inner, laid, events.as_slice());
         desk.event_count.notify();
-        events.clear();
-        Pass {
+        events.reverse();
+        gains.reverse();
+        Made {
             inner,
             number,
             handed,
-            room: events,
+            place,
+            events,
+            gains,
             counts: Counts { made, places },
         }
     }

@@ -10,7 +10,7 @@
 //! - the place is made, and the lobby is put in (`Desk::open`);
 //! - a pass is handed out (`Desk::hand_out`), or taken back (`Desk::take_back`);
 //! - a worker looks for the lobby, and finds it or not (`Desk::take`);
-//! - a hold ends, after events or after none (`Held::give`);
+//! - a hold ends, after events or after none (`Held::lay_down`, `Held::give`);
 //! - worker 0 takes the lobby for good (`Desk::close`), once the passes of all others came back.
 #![tactic(auto)]
 
@@ -19,6 +19,7 @@ mod desk;
 mod event_count;
 mod held;
 mod laid;
+mod made;
 mod pass;
 mod place;
 mod rule;
@@ -27,4 +28,5 @@ mod view;
 pub use closing::{CloseError, Closing, Count};
 pub use desk::{Desk, DeskError, HANDED_OVER, MOST_EVENTS, MOST_HANDED_OUT};
 pub use held::Held;
+pub use made::{Made, MadeEvent};
 pub use pass::Pass;

@@ -26,6 +26,8 @@ pub struct Pass {
     pub(crate) handed: u8,
     // empty, with room for the events of a hold
     pub(crate) room: Vec<Event>,
+    // empty, with room for what these give
+    pub(crate) gains: Vec<u64>,
     pub(crate) counts: Counts,
 }
 
@@ -37,7 +39,7 @@ impl Model for Pass {
 
     ghost view = { λ p. shown_pass p.inner };
 
-    ghost invariant = { λ p. IsReady p.inner p.number p.handed p.counts.made p.counts.places.items p.room.items (vec_capacity p.room) };
+    ghost invariant = { λ p. IsReady p.inner p.number p.handed p.counts.made p.counts.places.items p.room.items (vec_capacity p.room) p.gains.items (vec_capacity p.gains) };
 }
 
 impl Pass {
