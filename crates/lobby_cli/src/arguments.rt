@@ -46,6 +46,7 @@ fn print_word<R: Input + Print + Eprint>(rt: &R) -> u8
 fn run_server<R>(rt: &R, settings: &str, accounts: &str) -> u8
 where
     R: Files + Input + Print + Eprint + AllocGlobal + Threads + Wait + Net + Sync,
+    R::File: Send,
     ensures { result ≤ 4 }
 {
     match serve(rt, settings, accounts) {
@@ -60,6 +61,7 @@ where
 pub fn run<R>(rt: &R) -> u8
 where
     R: Files + Env + Input + Print + Eprint + AllocGlobal + Threads + Wait + Net + Sync,
+    R::File: Send,
     ensures { result ≤ 4 }
 {
     let mut words = match env::args(rt) {

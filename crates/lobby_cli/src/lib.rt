@@ -5,6 +5,7 @@
 mod arguments;
 mod hash;
 mod output;
+mod record;
 mod serve;
 
 pub use arguments::run;

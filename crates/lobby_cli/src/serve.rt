@@ -3,12 +3,16 @@
 ghost use Rattle.std.specs.Prelude.{◌≤◌, IfOk};
 
 use crate::output::{ErrorWriter, Output, PatientOutput};
+use crate::record::new_record;
 use account_book::AccountBook;
-use lobby_files::{CLIENT_LIMIT, FileError, accounts_at, settings_at};
+use lobby_files::{CLIENT_LIMIT, FileError, Head, accounts_of, read_file, settings_at};
+use lobby_model::Settings;
 use lobby_setup::Setup;
-use lobby_workers::{Gate, Log, ServerError, Service, run_server_logged};
+use lobby_workers::{Gate, Log, ServerError, Service, run_server_recorded};
 use mio::net::TcpListener;
 use program_help::VERSION;
+use record_lines::Masks;
+use record_queue::RecordFiles;
 use server_log::{ShortText, Started};
 use std::alloc::Global;
 use std::io;
@@ -39,13 +43,38 @@ fn setup_at<R: Files + AllocGlobal>(rt: &R, path: &str) -> Result<Setup, ServerE
     }
 }
 
-/// The accounts of a server.
-fn book_at<R: Files + AllocGlobal>(rt: &R, path: &str) -> Result<AccountBook, ServerError> {
-    match accounts_at(rt, path) {
-        Ok(accounts) => Ok(accounts),
-        Err(FileError::Memory) => Err(ServerError::Memory),
-        Err(_) => Err(ServerError::Accounts),
+/// Why a server cannot use its file of accounts.
+fn refused(error: FileError) -> ServerError {
+    match error {
+        FileError::Memory => ServerError::Memory,
+        _ => ServerError::Accounts,
     }
+}
+
+/// The accounts of a server.
+fn book_of(alloc: Global, file: &[u8]) -> Result<AccountBook, ServerError> {
+    accounts_of(alloc, file).map_err(refused)
+}
+
+/// The files of the record of a server, if it has one.
+fn record_of<R: Files + AllocGlobal>(
+    rt: &R,
+    folder: &str,
+    workers: u32,
+    settings: &Settings,
+    accounts: &[u8],
+    private: bool,
+) -> Result<Option<RecordFiles<R::File>>, ServerError> {
+    if folder.is_empty() {
+        return Ok(None);
+    }
+    let head = Head::of(rt.alloc(), VERSION, settings, accounts).map_err(refused)?;
+    let masks = Masks {
+        accounts: book_of(rt.alloc(), accounts)?,
+        private,
+    };
+    let files = new_record(rt, folder, workers, &head, masks)?;
+    Ok(Some(files))
 }
 
 /// Where a listener listens that was bound to this address, of which the system may have chosen the port, as text. Fails only where
@@ -66,10 +95,11 @@ fn text_of(
 }
 
 /// Runs a server by its files, until its input ends or the program is killed. The first fault in the order of
-/// settings, accounts and listener is the answer, and then what `run_server_logged` gives.
+/// settings, accounts, listener and record is the answer, and then what `run_server_recorded` gives.
 pub fn serve<R>(rt: &R, settings: &str, accounts: &str) -> Result<(), ServerError>
 where
     R: Files + Input + Print + Eprint + AllocGlobal + Threads + Wait + Net + Sync,
+    R::File: Send,
 {
     let Setup {
         settings,
@@ -78,11 +108,15 @@ where
         stop_at_input_end,
         proxies,
         log,
+        folder,
+        private,
     } = setup_at(rt, settings)?;
-    let accounts = book_at(rt, accounts)?;
+    let file = read_file(rt, accounts).map_err(refused)?;
+    let accounts = book_of(rt.alloc(), &file)?;
     let Ok(listener) = TcpListener::bind(rt, SocketAddr::V4(address)) else {
         return Err(ServerError::Listener);
     };
+    let record = record_of(rt, folder.as_str(), workers, &settings, &file, private)?;
     let address = text_of(rt.alloc(), &listener, address)?;
     let started = Started {
         version: VERSION,
@@ -103,7 +137,7 @@ where
         proxies,
         accounts,
     };
-    let status = run_server_logged(
+    let status = run_server_recorded(
         rt,
         rt.alloc(),
         service,
@@ -116,6 +150,7 @@ where
             level: log,
             started,
         },
+        record,
     );
     match ServerError::of_run(status) {
         None => Ok(()),

@@ -5,11 +5,12 @@ ghost use Rattle.std.specs.Prelude.{◌≤◌, IfOk};
 use crate::error::{FileError, refused};
 use account_book::AccountBook;
 use lobby_setup::{Setup, SetupFault};
+use std::alloc::Global;
 use std::rt::Files;
 use std::{fs, io};
 
 /// Reads a file whole.
-fn read_file<R: Files + AllocGlobal>(rt: &R, path: &str) -> Result<Vec<u8>, FileError> {
+pub fn read_file<R: Files + AllocGlobal>(rt: &R, path: &str) -> Result<Vec<u8>, FileError> {
     match fs::read(rt, path) {
         Ok(bytes) => Ok(bytes),
         Err(error) if error.kind() == io::ErrorKind::OutOfMemory => Err(FileError::Memory),
@@ -34,7 +35,12 @@ pub fn settings_at<R: Files + AllocGlobal>(rt: &R, path: &str) -> Result<Setup, 
 /// `Unreadable` where the file cannot be read, `Accounts` where it is no good, `Memory` where memory was refused.
 pub fn accounts_at<R: Files + AllocGlobal>(rt: &R, path: &str) -> Result<AccountBook, FileError> {
     let bytes = read_file(rt, path)?;
-    match AccountBook::read(rt.alloc(), &bytes) {
+    accounts_of(rt.alloc(), &bytes)
+}
+
+/// The accounts of the bytes of a file of accounts.
+pub fn accounts_of(alloc: Global, bytes: &[u8]) -> Result<AccountBook, FileError> {
+    match AccountBook::read(alloc, bytes) {
         Ok(accounts) => Ok(accounts),
         Err(refusal) => Err(refused(refusal)),
     }

@@ -4,8 +4,10 @@
 mod burst;
 mod error;
 mod files;
+mod head;
 mod report;
 
 pub use error::{AccountsFault, FileError};
-pub use files::{accounts_at, settings_at};
+pub use files::{accounts_at, accounts_of, read_file, settings_at};
+pub use head::Head;
 pub use report::{CLIENT_LIMIT, check};

@@ -9,6 +9,7 @@ mod action;
 mod escapes;
 mod fault;
 mod input;
+mod joining;
 mod label;
 pub mod laws;
 mod lines;
@@ -20,4 +21,5 @@ mod show;
 
 pub use fault::PlayFault;
 pub use input::{MOST_READS, SCRIPT_LIMIT};
+pub use joining::{JoinFault, Joined};
 pub use script::play;

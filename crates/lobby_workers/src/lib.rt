@@ -4,10 +4,12 @@
 #![tactic(auto)]
 
 mod logged;
+mod recorded;
 mod server;
 
 pub use lobby_turns::{Conn, Gate, Got, Link, Sent, Turn, TurnState, serve};
 pub use logged::{Log, run_server_logged};
 pub use new_workers::ServerError;
+pub use recorded::run_server_recorded;
 pub use server::{Service, run_server, run_service};
 pub use worker_loop::{Arrival, Inboxes, ListenError, Wakers, WorkerListener, run_worker};

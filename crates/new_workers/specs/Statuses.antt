@@ -1,11 +1,12 @@
 -- The exit statuses of the server's program.
 use Rattle.std.specs.Prelude.{◌≡◌, ◌⊎◌, ℕ}
 use Rattle.new_workers.specs.declared.error.ServerError.{ServerError}
-use Rattle.new_workers.specs.declared.error.ServerError.TheVariants.{Settings, Accounts, Input, Listener, Memory}
+use Rattle.new_workers.specs.declared.error.ServerError.TheVariants.{Settings, Accounts, Record, Input, Listener, Memory}
 
 abbrev pub status_of : ServerError → ℕ
 status_of Settings = 2
 status_of Accounts = 2
+status_of Record = 2
 status_of Input = 2
 status_of Listener = 3
 status_of Memory = 4

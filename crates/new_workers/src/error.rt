@@ -16,6 +16,9 @@ pub enum ServerError {
     /// The accounts cannot be used.
     #[error("cannot use accounts")]
     Accounts,
+    /// The folder of the record takes no new one.
+    #[error("cannot make a record")]
+    Record,
     /// Reading the input failed.
     #[error("cannot read input")]
     Input,
@@ -28,13 +31,16 @@ pub enum ServerError {
 }
 
 impl ServerError {
-    /// The exit status of a program that ends so: 2 for settings, accounts and input, 3 for a listener, 4 for memory.
+    /// The exit status of a program that ends so: 2 for settings, accounts, record and input, 3 for a listener, 4 for memory.
     pub fn status(self) -> u8
         ensures value { result ≡ status_of self }
         ensures within { (2 ≤ result) × (result ≤ 4) }
     {
         match self {
-            ServerError::Settings | ServerError::Accounts | ServerError::Input => 2,
+            ServerError::Settings
+            | ServerError::Accounts
+            | ServerError::Record
+            | ServerError::Input => 2,
             ServerError::Listener => 3,
             ServerError::Memory => 4,
         }
