@@ -36,4 +36,6 @@ invariant_of-result c =
       counted = rw now (rw e.numbered counted);
       empty = p.empty;
       space = p.space;
+      no_gains = p.no_gains;
+      gain_space = p.gain_space;
     }
