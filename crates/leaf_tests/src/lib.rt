@@ -10,6 +10,8 @@ mod askers;
 #[cfg(test)]
 mod channels;
 #[cfg(test)]
+mod entries;
+#[cfg(test)]
 mod frames;
 #[cfg(test)]
 mod lists;
