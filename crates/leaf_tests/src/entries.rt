@@ -2,7 +2,7 @@
 
 use crate::verdict::same_for;
 use account_book::{Account, AccountBook};
-use command_grammar::{Command, ReadFault, read_request};
+use command_grammar::{Command, ReadFault, Request, read_request};
 use lobby_model::Event;
 use record_lines::{Entry, Masks, put_entry};
 use std::alloc::Global;
@@ -108,13 +108,14 @@ static UNREAD: [(&[u8], ReadFault); 6] = [
 fn a_line_that_was_not_read_is_not_read_again(rt: HostRuntime) {
     for (line, fault) in &UNREAD {
         let told = match read_request(rt.alloc(), line) {
-            Ok(request) => match request.command {
-                Command::Unread(found) => Some(found),
-                other => {
-                    other.discard();
-                    None
-                }
-            },
+            Ok(Request {
+                id: _,
+                command: Command::Unread(found),
+            }) => Some(found),
+            Ok(other) => {
+                other.discard();
+                None
+            }
             Err(_) => None,
         };
         same_for(&rt, line, told, Some(*fault));

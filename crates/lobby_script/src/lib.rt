@@ -9,7 +9,6 @@ mod action;
 mod escapes;
 mod fault;
 mod input;
-mod joining;
 mod label;
 pub mod laws;
 mod lines;
@@ -19,7 +18,7 @@ mod script;
 mod setup;
 mod show;
 
-pub use fault::PlayFault;
+pub use fault::{LineFault, PlayFault};
 pub use input::{MOST_READS, SCRIPT_LIMIT};
-pub use joining::{JoinFault, Joined};
+pub use player::Player;
 pub use script::play;

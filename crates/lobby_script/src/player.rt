@@ -47,6 +47,16 @@ impl Player {
         }
     }
 
+    /// In this hall, in which no client has a label yet: its settings and accounts are those that it was made with.
+    pub fn in_hall(alloc: Global, hall: Hall) -> Player {
+        Player {
+            alloc,
+            setup: Setup::new(alloc),
+            hall: Some(hall),
+            labels: BTreeMap::new(alloc),
+        }
+    }
+
     /// Plays one line of a script. After a bad step, and where memory was refused, nothing was
     /// written.
     pub fn play_line<W: Write>(&mut self, line: &[u8], writer: &mut W) -> Result<(), LineFault>

@@ -51,6 +51,7 @@ enum Next<'a> {
 }
 
 /// Steps of a record, in the order of their places.
+#[derive(Drop)]
 pub struct Joined<'a> {
     files: Vec<Rest<'a>>,
     place: u64,
@@ -77,14 +78,17 @@ impl<'a> Joined<'a> {
         self.place
     }
 
-    /// The next step. None at the end, which is the first place that no file has.
-    pub fn next_step(&mut self) -> Result<Option<&'a [u8]>, JoinFault> {
+    /// The next step, where its event is before this place. None at the end, which is the first place that no file has.
+    pub fn next_step_before(&mut self, end: u64) -> Result<Option<&'a [u8]>, JoinFault> {
         if let Some(file) = self.last {
             if let Some(step) = self.step_at(file, self.place)? {
                 return Ok(Some(step));
             }
             self.last = None;
             self.place = self.place.saturating_add(1);
+        }
+        if self.place >= end {
+            return Ok(None);
         }
         let mut found: Option<(usize, &'a [u8])> = None;
         for file in 0..self.files.len() {
@@ -162,7 +166,7 @@ fn read_line(line: &[u8]) -> Option<Next<'_>> {
 }
 
 /// The number of 64 bits that a text writes in its shortest form.
-fn read_place(text: &[u8]) -> Option<u64> {
+pub(crate) fn read_place(text: &[u8]) -> Option<u64> {
     if text.is_empty() || (text.len() > 1 && text[0] == b'0') {
         return None;
     }
