@@ -2,14 +2,17 @@
 //! was sent. The script comes on standard input, and what it shows goes to standard output.
 #![tactic(auto)]
 
+mod record;
+
+use crate::record::{record_folder, run_record};
 use lobby_script::{PlayFault, play};
 use std::io;
 use std::io::BufWriter;
 use std::process::ExitCode;
-use std::rt::Env;
+use std::rt::{Env, Files};
 
 const HELP: &str = "\
-usage: lobby_play < SCRIPT
+usage: lobby_play < SCRIPT or lobby_play --record FOLDER < QUESTIONS
 
 Plays a script of connects, bytes and disconnects against a lobby, and shows what each client
 is sent. The script comes on standard input, a step a line:
@@ -23,6 +26,11 @@ is sent. The script comes on standard input, a step a line:
   shut N                                it disconnects
   show N                                shows the lines put for it since it was last shown
 
+--record FOLDER plays the record of a server in this folder. A question is a line of
+
+  until PLACE                           plays the events before a place; all, if this is left out
+  show N                                as above, for the client that the server gave number N
+
 --help     prints this
 --version  prints the version
 
@@ -34,7 +42,10 @@ fn play_streams<R: Input + Print + AllocGlobal>(rt: &R) -> Result<(), PlayFault>
 }
 
 /// The status: 0, or that of the fault, which is told on standard error.
-fn run<R: Env + Input + Print + Eprint + AllocGlobal>(rt: &R) -> u8 {
+fn run<R: Env + Files + Input + Print + Eprint + AllocGlobal>(rt: &R) -> u8 {
+    if let Some(folder) = record_folder(rt) {
+        return run_record(rt, folder.as_str());
+    }
     let played = match program_help::answers(rt, "lobby_play", HELP) {
         Ok(true) => Ok(()),
         Ok(false) => play_streams(rt),
