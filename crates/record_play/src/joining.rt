@@ -81,7 +81,8 @@ impl<'a> Joined<'a> {
     /// The next step, where its event is before this place. None at the end, which is the first place that no file has.
     pub fn next_step_before(&mut self, end: u64) -> Result<Option<&'a [u8]>, JoinFault> {
         if let Some(file) = self.last {
-            if let Some(step) = self.step_at(file, self.place)? {
+            let place = self.place;
+            if let Some(step) = self.step_at(file, place)? {
                 return Ok(Some(step));
             }
             self.last = None;
@@ -91,8 +92,9 @@ impl<'a> Joined<'a> {
             return Ok(None);
         }
         let mut found: Option<(usize, &'a [u8])> = None;
+        let place = self.place;
         for file in 0..self.files.len() {
-            if let Some(step) = self.step_at(file, self.place)? {
+            if let Some(step) = self.step_at(file, place)? {
                 if let Some((other, _)) = found {
                     let line = self.files[file].line;
                     return Err(JoinFault::TwoOfOnePlace { file, line, other });
@@ -105,8 +107,12 @@ impl<'a> Joined<'a> {
                 self.last = Some(file);
                 Ok(Some(step))
             }
-            None if self.has_hole()? => Err(JoinFault::Hole(self.place)),
-            None => Ok(None),
+            None => {
+                if self.has_hole() {
+                    return Err(JoinFault::Hole(self.place));
+                }
+                Ok(None)
+            }
         }
     }
 
@@ -132,15 +138,15 @@ impl<'a> Joined<'a> {
 
     /// Whether each file tells that it ended with the server, or has events behind, and some has: then a place is missing that was
     /// written.
-    fn has_hole(&self) -> Result<bool, JoinFault> {
+    fn has_hole(&self) -> bool {
         let mut is_behind = false;
         for rest in &self.files {
             if !ends_with(rest.text, b"end stop\n") {
-                return Ok(false);
+                return false;
             }
             is_behind |= rest.text.len() > b"end stop\n".len();
         }
-        Ok(is_behind)
+        is_behind
     }
 }
 
