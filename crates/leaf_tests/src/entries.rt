@@ -45,7 +45,11 @@ static SAID: [Said; 10] = [
     ),
     (b"", true, b"9 send 3 \\n\n9 take 3\n"),
     (b"#7 hunter2", true, b"9 send 3 #7 ?\\n\n9 take 3\n"),
-    (b"MYSTATUS hunter2", true, b"9 send 3 MYSTATUS ?\\n\n9 take 3\n"),
+    (
+        b"MYSTATUS hunter2",
+        true,
+        b"9 send 3 MYSTATUS ?\\n\n9 take 3\n",
+    ),
     (b"PING\rhunter2", true, b"9 send 3 ?\\r?\\n\n9 take 3\n"),
 ];
 
@@ -91,7 +95,12 @@ fn a_connect_a_read_and_a_disconnect_are_a_line_each(rt: HostRuntime) {
     let late = Event::Shut {
         client: 4_294_967_296,
     };
-    same_for(&rt, &"late", is_recorded_as(rt.alloc(), true, late, 0, b""), None);
+    same_for(
+        &rt,
+        &"late",
+        is_recorded_as(rt.alloc(), true, late, 0, b""),
+        None,
+    );
 }
 
 /// A line in place of one that cannot be read, and why it cannot.
@@ -108,10 +117,12 @@ static UNREAD: [(&[u8], ReadFault); 6] = [
 fn a_line_that_was_not_read_is_not_read_again(rt: HostRuntime) {
     for (line, fault) in &UNREAD {
         let told = match read_request(rt.alloc(), line) {
-            Ok(Request {
-                id: _,
-                command: Command::Unread(found),
-            }) => Some(found),
+            Ok(
+                Request {
+                    id: _,
+                    command: Command::Unread(found),
+                },
+            ) => Some(found),
             Ok(other) => {
                 other.discard();
                 None

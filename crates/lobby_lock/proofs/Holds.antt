@@ -24,7 +24,7 @@ more inner number handed made places old position es room gains space h now e it
     let s : State = after_history start seen in
     let met = h.stands ∙ after_hold start seen own es in
     let all : gains' ≡ gains_of s items =
-        gained ∙ ap (λ l. l ++ gain_of old.plain e ∷ []) h.gained ∙ ap (λ t. gains_of s es ++ gain_of t e ∷ []) met ∙ sym (gains_of-more s es e) ∙ ap (gains_of s) (sym added) in
+    gained ∙ ap (λ l. l ++ gain_of old.plain e ∷ []) h.gained ∙ ap (λ t. gains_of s es ++ gain_of t e ∷ []) met ∙ sym (gains_of-more s es e) ∙ ap (gains_of s) (sym added) in
     record {
       slots = h.slots;
       alive = h.alive;

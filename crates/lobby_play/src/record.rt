@@ -1,10 +1,9 @@
 //! The record of a server, read from its folder.
 
 use record_play::{RecordPlayFault, play_record};
-use std::env;
-use std::fs;
 use std::io::{self, BufWriter, ErrorKind, Read, Write};
 use std::rt::{Env, Files};
+use std::{env, fs};
 
 /// The most workers of a server, each of which has a file.
 const WORKERS: u32 = 64;

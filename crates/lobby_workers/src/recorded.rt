@@ -166,13 +166,7 @@ fn run_recorded<
     O: Write,
     E: Write + Send + Drop,
     G: Gate + Sync,
->(
-    rt: &R,
-    alloc: Global,
-    service: Service,
-    ends: Ends<'_, I, O, E, G>,
-    queue: &RecordQueue,
-) -> u8
+>(rt: &R, alloc: Global, service: Service, ends: Ends<'_, I, O, E, G>, queue: &RecordQueue) -> u8
     requires { (1 ≤ service.workers) × (service.workers ≤ WORKERS) }
     ensures { IsEnd result }
 {

@@ -9,7 +9,10 @@ use thiserror::Error;
 pub enum JoinFault {
     /// A line of a file, both counted from 0 and 1, is no place and a step, or its place is before that of the line before it.
     #[error("line {line} of file {file} is no step of a record")]
-    BadLine { file: usize, line: u64 },
+    BadLine {
+        file: usize,
+        line: u64,
+    },
     /// Lines of two files have one place.
     #[error("line {line} of file {file} has the place of a line of file {other}")]
     TwoOfOnePlace {
