@@ -14,7 +14,7 @@ use crate::error::RoomError;
 use crate::members::{Member, Members};
 use crate::rects::{ALLY_COUNT, Rects};
 use line_words::{NameBuf, Pair, PairList, WordBuf, WordList};
-use room_lists::{Bots, Rect, Tags, Units};
+use room_lists::{Bots, HashSeed, Rect, Tags, Units};
 use status_bits::BattleStatus;
 use std::alloc::{AllocError, Global};
 use std::marker::Model;
@@ -59,7 +59,8 @@ impl Room {
         ensures ok { IfOk result (λ r. r ≡ room.new_room founder) }
         ensures memory { IfErr result (λ e. e ≡ RoomError.Memory) }
     {
-        Ok(Room::with_mark(alloc, founder, ())?)
+        let seed = HashSeed::known();
+        Ok(Room::with_mark(alloc, founder, (), seed)?)
     }
 
     /// Not run by the server, which uses `add_marked`: one who is no member joins, behind the others.
@@ -88,17 +89,22 @@ impl Room {
 }
 
 impl<M: Copy> Room<M> {
-    /// A room with its founder alone, who has this mark, and all its lists empty. Fails only where memory
-    /// is refused.
-    pub fn with_mark(alloc: Global, founder: NameBuf, mark: M) -> Result<Room<M>, AllocError>
+    /// A room with its founder alone, who has this mark, and all its lists empty. The keys of its tags and its units are hashed by this
+    /// seed. Fails only where memory is refused.
+    pub fn with_mark(
+        alloc: Global,
+        founder: NameBuf,
+        mark: M,
+        seed: HashSeed,
+    ) -> Result<Room<M>, AllocError>
         ensures { IfOk result (λ r. r ≡ room.new_room founder) }
     {
         let members = Members::one(alloc, founder, mark)?;
         let rest = Rest {
             bots: Bots::new(alloc),
             rects: Rects::new(),
-            tags: Tags::new(alloc),
-            units: Units::new(alloc),
+            tags: Tags::new(alloc, seed),
+            units: Units::new(alloc, seed),
             askers: Askers::new(alloc),
         };
         match Box::new(alloc, rest) {

@@ -212,7 +212,7 @@ fn inside_of(maps: &Maps, me: &NameBuf, command: &Command) -> Result<Inside, All
         unreachable!()
     };
     let password = WordBuf::copy_of(maps.alloc(), password.as_slice())?;
-    let room = Room::with_mark(maps.alloc(), me.copy(), maps.user_key(me))?;
+    let room = Room::with_mark(maps.alloc(), me.copy(), maps.user_key(me), maps.seed())?;
     Ok(Inside {
         password,
         game_hash: *game_hash,

@@ -2,7 +2,7 @@
 
 use crate::lists::are;
 use crate::verdict::{fail, same, same_for};
-use battle_room::Room;
+use battle_room::{HashSeed, Room};
 use channel_book::ChannelBook;
 use line_words::NameBuf;
 use std::alloc::Global;
@@ -46,7 +46,7 @@ fn mark_members(rt: &impl Abort, room: &mut Room<u8>) {
 }
 
 fn new_room(alloc: Global) -> Option<Room<u8>> {
-    Room::with_mark(alloc, NameBuf::of(b"Anna")?, 1u8).ok()
+    Room::with_mark(alloc, NameBuf::of(b"Anna")?, 1u8, HashSeed::known()).ok()
 }
 
 #[test]

@@ -7,6 +7,7 @@ use crate::serve::serve;
 use lobby_workers::ServerError;
 use std::fmt::Display;
 use std::net::Net;
+use std::random::RandomSource;
 use std::rt::{Env, Files};
 use std::sync::Wait;
 use std::thread::Threads;
@@ -45,7 +46,7 @@ fn print_word<R: Input + Print + Eprint>(rt: &R) -> u8
 /// Runs the server until its input ends, or until the program is killed.
 fn run_server<R>(rt: &R, settings: &str, accounts: &str) -> u8
 where
-    R: Files + Input + Print + Eprint + AllocGlobal + Threads + Wait + Net + Sync,
+    R: Files + Input + Print + Eprint + AllocGlobal + Threads + Wait + Net + RandomSource + Sync,
     ensures { result ≤ 4 }
 {
     match serve(rt, settings, accounts) {
@@ -59,7 +60,17 @@ where
 /// status but 0 has one line on standard error.
 pub fn run<R>(rt: &R) -> u8
 where
-    R: Files + Env + Input + Print + Eprint + AllocGlobal + Threads + Wait + Net + Sync,
+    R: Files
+        + Env
+        + Input
+        + Print
+        + Eprint
+        + AllocGlobal
+        + Threads
+        + Wait
+        + Net
+        + RandomSource
+        + Sync,
     ensures { result ≤ 4 }
 {
     let mut words = match env::args(rt) {

@@ -6,13 +6,14 @@ use crate::output::{ErrorWriter, Output, PatientOutput};
 use account_book::AccountBook;
 use lobby_files::{CLIENT_LIMIT, FileError, accounts_at, settings_at};
 use lobby_setup::Setup;
-use lobby_workers::{Gate, Log, ServerError, Service, run_server_logged};
+use lobby_workers::{Gate, HashSeed, Log, ServerError, Service, run_server_logged};
 use mio::net::TcpListener;
 use program_help::VERSION;
 use server_log::{ShortText, Started};
 use std::alloc::Global;
 use std::io;
 use std::net::{Net, SocketAddr, SocketAddrV4};
+use std::random::RandomSource;
 use std::rt::Files;
 use std::sync::Wait;
 use std::thread::Threads;
@@ -48,6 +49,15 @@ fn book_at<R: Files + AllocGlobal>(rt: &R, path: &str) -> Result<AccountBook, Se
     }
 }
 
+/// By what the words that clients choose are hashed: none of them knows it.
+fn new_seed<R: RandomSource>(rt: &R) -> Result<HashSeed, ServerError> {
+    let mut bytes = [0; 16];
+    match rt.fill_bytes(&mut bytes) {
+        Ok(()) => Ok(HashSeed::new(&bytes)),
+        Err(_) => Err(ServerError::Random),
+    }
+}
+
 /// Where a listener listens that was bound to this address, of which the system may have chosen the port, as text. Fails only where
 /// memory is refused.
 fn text_of(
@@ -69,7 +79,7 @@ fn text_of(
 /// settings, accounts and listener is the answer, and then what `run_server_logged` gives.
 pub fn serve<R>(rt: &R, settings: &str, accounts: &str) -> Result<(), ServerError>
 where
-    R: Files + Input + Print + Eprint + AllocGlobal + Threads + Wait + Net + Sync,
+    R: Files + Input + Print + Eprint + AllocGlobal + Threads + Wait + Net + RandomSource + Sync,
 {
     let Setup {
         settings,
@@ -102,6 +112,7 @@ where
         stop_at_input_end,
         proxies,
         accounts,
+        seed: new_seed(rt)?,
     };
     let status = run_server_logged(
         rt,

@@ -9,6 +9,7 @@
 mod lobby;
 mod rules;
 
+pub use battle_room::HashSeed;
 pub use lobby::{Lobby, OpenError};
 pub use lobby_clients::Drained;
 pub use lobby_post::Wakes;

@@ -12,6 +12,7 @@ ghost use Rattle.lobby_maps.specs.Shown.{dirty_at, unread_of, is_finished};
 
 use crate::rules;
 use account_book::AccountBook;
+use battle_room::HashSeed;
 use command_grammar::Request;
 use lobby_clients::Drained;
 use lobby_maps::{Admission, Maps};
@@ -68,7 +69,8 @@ impl Model for Lobby {
 }
 
 impl Lobby {
-    /// The lobby before its first event. Fails only where memory is refused.
+    /// The lobby before its first event, which hashes the words that its clients choose by the seed that everybody knows: for clients that
+    /// do not set out to slow it. Fails only where memory is refused.
     pub fn new(
         alloc: Global,
         settings: Settings,
@@ -77,7 +79,21 @@ impl Lobby {
         ensures plain { IfOk result (λ lobby. lobby.plain ≡ empty_lobby settings accounts) }
         ensures dirty { IfOk result (λ lobby. (home : ℕ) → home ≤ 63 → dirty_at lobby home ≡ []) }
     {
-        let maps = Maps::new(alloc, settings, accounts)?;
+        Lobby::with_seed(alloc, settings, accounts, HashSeed::known())
+    }
+
+    /// The lobby before its first event. The words that its clients choose are hashed by this seed, which none of them should know.
+    /// Fails only where memory is refused.
+    pub fn with_seed(
+        alloc: Global,
+        settings: Settings,
+        accounts: AccountBook,
+        seed: HashSeed,
+    ) -> Result<Lobby, AllocError>
+        ensures plain { IfOk result (λ lobby. lobby.plain ≡ empty_lobby settings accounts) }
+        ensures dirty { IfOk result (λ lobby. (home : ℕ) → home ≤ 63 → dirty_at lobby home ≡ []) }
+    {
+        let maps = Maps::new(alloc, settings, accounts, seed)?;
         let post = Post::new(alloc);
         let parts = Parts {
             maps,

@@ -9,6 +9,7 @@ ghost use Rattle.lobby_model.specs.Battles.{is_authorising};
 
 use crate::maps::Maps;
 use account_book::AccountBook;
+use battle_room::HashSeed;
 use channel_book::ChannelBook;
 use line_words::NameBuf;
 use lobby_battles::Battle;
@@ -22,6 +23,11 @@ impl Maps {
         ensures { (alloc : Global) → result ≡ alloc }
     {
         self.alloc
+    }
+
+    /// How the words of a room are hashed.
+    pub fn seed(&self) -> HashSeed {
+        self.seed
     }
 
     /// The accounts that let users in.

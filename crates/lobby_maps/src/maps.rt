@@ -16,6 +16,7 @@ ghost use Rattle.lobby_maps.specs.Shown.{dirty_at, unread_of, is_finished};
 
 use crate::change::{Change, apply};
 use account_book::AccountBook;
+use battle_room::HashSeed;
 use channel_book::ChannelBook;
 use line_words::NameBuf;
 use lobby_battles::{Battle, Battles, Seats};
@@ -44,6 +45,8 @@ pub enum Admission {
 /// The maps. Contracts see the plain lobby, and the lists of changed clients.
 pub struct Maps {
     pub(crate) alloc: Global,
+    // how the words of a room are hashed
+    pub(crate) seed: HashSeed,
     pub(crate) settings: Settings,
     pub(crate) accounts: AccountBook,
     // what each client is greeted with, printed once
@@ -60,6 +63,7 @@ impl Drop for Maps {
     fn drop(self) {
         let Maps {
             alloc: _,
+            seed: _,
             settings,
             accounts,
             greeting_line,
@@ -100,8 +104,13 @@ impl Model for Maps {
 }
 
 impl Maps {
-    /// The empty lobby.
-    pub fn new(alloc: Global, settings: Settings, accounts: AccountBook) -> Result<Maps, AllocError>
+    /// The empty lobby. The words of its rooms are hashed by this seed.
+    pub fn new(
+        alloc: Global,
+        settings: Settings,
+        accounts: AccountBook,
+        seed: HashSeed,
+    ) -> Result<Maps, AllocError>
         ensures plain { IfOk result (λ maps. maps.plain ≡ empty_lobby settings accounts) }
         ensures dirty { IfOk result (λ maps. (home : ℕ) → home ≤ 63 → dirty_at maps home ≡ []) }
     {
@@ -109,6 +118,7 @@ impl Maps {
         settings.keep_their_bounds();
         Ok(Maps {
             alloc,
+            seed,
             clients: Clients::new(alloc, settings.outbox_limit()),
             settings,
             accounts,

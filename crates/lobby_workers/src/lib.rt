@@ -8,6 +8,6 @@ mod server;
 
 pub use lobby_turns::{Conn, Gate, Got, Link, Sent, Turn, TurnState, serve};
 pub use logged::{Log, run_server_logged};
-pub use new_workers::ServerError;
+pub use new_workers::{HashSeed, ServerError};
 pub use server::{Service, run_server, run_service};
 pub use worker_loop::{Arrival, Inboxes, ListenError, Wakers, WorkerListener, run_worker};

@@ -9,7 +9,7 @@ use lobby_lock::{Closing, Count, Desk, Pass};
 use lobby_model::{Settings, WORKERS};
 use lobby_turns::Gate;
 use mio::net::TcpListener;
-use new_workers::{Handles, NewWorker, ServerError, new_workers, open_desk};
+use new_workers::{Handles, HashSeed, NewWorker, ServerError, new_workers, open_desk};
 use proxy_line::Proxies;
 use server_log::Happening;
 use std::alloc::Global;
@@ -33,6 +33,8 @@ pub struct Service {
     pub proxies: Proxies,
     /// Who may log in.
     pub accounts: AccountBook,
+    /// How the words that clients choose are hashed.
+    pub seed: HashSeed,
 }
 
 /// That a worker's pass comes back as that worker's.
@@ -74,8 +76,8 @@ struct Ended {
 /// where a read failed. A worker that is stopped shuts its clients, and its pass is taken back. Then
 /// the desk is closed, and for each worker a line is printed: `worker W: N events`, or `worker W: full`
 /// for 18446744073709551615 and more. Without `stop_at_input_end` the workers run until the program is killed. A print that fails
-/// is ignored. The gate is told what the workers do, for tests. There are 1 to 64 workers. The contract
-/// says of all this no more than which statuses there are.
+/// is ignored. The words that clients choose are hashed by the seed that everybody knows. The gate is told what the workers do,
+/// for tests. There are 1 to 64 workers. The contract says of all this no more than which statuses there are.
 pub fn run_server<R: Threads + Wait + Net + Sync, I: Read, O: Write, G: Gate + Sync>(
     rt: &R,
     alloc: Global,
@@ -97,6 +99,7 @@ pub fn run_server<R: Threads + Wait + Net + Sync, I: Read, O: Write, G: Gate + S
         stop_at_input_end,
         proxies: Proxies::new(),
         accounts,
+        seed: HashSeed::known(),
     };
     run_service(rt, alloc, service, listener, input, output, gate)
 }
@@ -136,8 +139,9 @@ fn serve_until_end<R: Threads + Wait + Net + Sync, I: Read, O: Write, G: Gate + 
         stop_at_input_end,
         proxies,
         accounts,
+        seed,
     } = service;
-    let (desk, pass) = open_desk(rt, alloc, settings, accounts)?;
+    let (desk, pass) = open_desk(rt, alloc, settings, accounts, seed)?;
     let mut handles = Handles::new(alloc, proxies);
     let ended = match new_workers(rt, alloc, &desk, pass, workers, listener, &mut handles) {
         Ok((first, others)) => {

@@ -22,20 +22,23 @@ pub enum ServerError {
     /// There is no listener at the address; or the system made no poll, waker or thread, or did not register the listener.
     #[error("cannot listen")]
     Listener,
+    /// The system gave no random bytes.
+    #[error("no random bytes")]
+    Random,
     /// Memory was refused while starting.
     #[error("no memory")]
     Memory,
 }
 
 impl ServerError {
-    /// The exit status of a program that ends so: 2 for settings, accounts and input, 3 for a listener, 4 for memory.
+    /// The exit status of a program that ends so: 2 for settings, accounts and input, 3 for a listener or random bytes, 4 for memory.
     pub fn status(self) -> u8
         ensures value { result ≡ status_of self }
         ensures within { (2 ≤ result) × (result ≤ 4) }
     {
         match self {
             ServerError::Settings | ServerError::Accounts | ServerError::Input => 2,
-            ServerError::Listener => 3,
+            ServerError::Listener | ServerError::Random => 3,
             ServerError::Memory => 4,
         }
     }

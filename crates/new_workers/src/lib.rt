@@ -6,4 +6,5 @@ mod error;
 mod workers;
 
 pub use error::ServerError;
+pub use lobby_machine::HashSeed;
 pub use workers::{Handles, NewWorker, new_workers, open_desk};

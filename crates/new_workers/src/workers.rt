@@ -6,7 +6,7 @@ ghost use Rattle.std.specs.List.{All};
 use crate::error::ServerError;
 use account_book::AccountBook;
 use lobby_lock::{Desk, DeskError, Pass};
-use lobby_machine::Lobby;
+use lobby_machine::{HashSeed, Lobby};
 use lobby_model::Settings;
 use mio::Waker;
 use mio::net::TcpListener;
@@ -57,16 +57,17 @@ pub struct NewWorker {
     pub pass: Pass,
 }
 
-/// A desk with a new lobby, and worker 0's pass.
+/// A desk with a new lobby, which hashes the words that clients choose by this seed, and worker 0's pass.
 pub fn open_desk<R: Wait>(
     rt: &R,
     alloc: Global,
     settings: Settings,
     accounts: AccountBook,
+    seed: HashSeed,
 ) -> Result<(Desk, Pass), ServerError>
     ensures { IfOk result (λ r. (r.1.desk ≡ r.0) × (r.1.worker.number ≡ 0)) }
 {
-    let lobby = Lobby::new(alloc, settings, accounts)?;
+    let lobby = Lobby::with_seed(alloc, settings, accounts, seed)?;
     match Desk::open(rt, alloc, lobby) {
         Ok(opened) => Ok(opened),
         Err(_) => Err(ServerError::Memory),

@@ -5,6 +5,7 @@ ghost use Rattle.room_lists.specs.Keyed as keyed;
 ghost use Rattle.room_lists.specs.Units.{words_new};
 ghost use Rattle.line_words.specs.Table.{is_among};
 
+use crate::hash_seed::HashSeed;
 use crate::names::is_same;
 use indexmap::{IndexMap, IndexSet};
 use line_words::{KeyBuf, Pair, SentenceBuf, WordBuf, WordList};
@@ -35,7 +36,7 @@ pub(crate) trait Keyed: Drop {
         ensures key { IfOk result (λ entry. entry.0 ≡ key_of self) };
 
     /// The items that are kept.
-    fn items(index: &IndexMap<WordBuf, Self::Kept>) -> &[Self]
+    fn items(index: &IndexMap<WordBuf, Self::Kept, HashSeed>) -> &[Self]
         ensures { result.now ≡ map (λ entry. whole entry.0 entry.1) index.now.entries };
 }
 
@@ -63,7 +64,7 @@ impl Keyed for Pair {
         Ok((key, self))
     }
 
-    fn items(index: &IndexMap<WordBuf, Pair>) -> &[Pair] {
+    fn items(index: &IndexMap<WordBuf, Pair, HashSeed>) -> &[Pair] {
         index.values().as_slice()
     }
 }
@@ -88,7 +89,7 @@ impl Keyed for WordBuf {
         Ok((self, ()))
     }
 
-    fn items(index: &IndexMap<WordBuf, ()>) -> &[WordBuf] {
+    fn items(index: &IndexMap<WordBuf, (), HashSeed>) -> &[WordBuf] {
         index.keys().as_slice()
     }
 }
@@ -98,7 +99,7 @@ impl Keyed for WordBuf {
 /// A look-up takes the same time however many there are.
 #[derive(Drop)]
 pub(crate) struct KeyedList<T: Keyed> {
-    by_key: IndexMap<WordBuf, T::Kept>,
+    by_key: IndexMap<WordBuf, T::Kept, HashSeed>,
 }
 
 impl<T: Keyed> Model for KeyedList<T> {
@@ -116,10 +117,14 @@ impl<T: Keyed> Model for KeyedList<T> {
 const FEW_KEYS: usize = 8;
 
 /// An index of keys.
-fn index_of(alloc: Global, keys: &[WordBuf]) -> Result<IndexSet<&WordBuf>, AllocError>
+fn index_of(
+    alloc: Global,
+    seed: HashSeed,
+    keys: &[WordBuf],
+) -> Result<IndexSet<&WordBuf, HashSeed>, AllocError>
     ensures { IfOk result (λ index. (key : List ℕ) → is_among key (map (λ key. key.now) index.keys) ≡ is_among key keys.now) }
 {
-    let mut index = IndexSet::with_capacity(alloc, keys.len())?;
+    let mut index = IndexSet::with_capacity_and_hasher(alloc, keys.len(), seed)?;
     for key in keys {
         let _ = index.insert(key)?;
     }
@@ -171,12 +176,12 @@ pub(crate) fn copies_of_lent<T: Keyed>(alloc: Global, items: &[&T]) -> Result<Ve
 }
 
 impl<T: Keyed> KeyedList<T> {
-    /// No items. It takes no memory yet.
-    pub(crate) fn new(alloc: Global) -> KeyedList<T>
+    /// No items, whose keys are hashed by this seed. It takes no memory yet.
+    pub(crate) fn new(alloc: Global, seed: HashSeed) -> KeyedList<T>
         ensures { result ≡ [] }
     {
         KeyedList {
-            by_key: IndexMap::new(alloc),
+            by_key: IndexMap::with_hasher(alloc, seed),
         }
     }
 
@@ -194,7 +199,7 @@ impl<T: Keyed> KeyedList<T> {
         // Its contract says that no key stands twice, which the proof wants of the items.
         let _ = self.by_key.len();
         let items = copies_of(alloc, self.as_slice())?;
-        let mut copy = KeyedList::new(alloc);
+        let mut copy = KeyedList::new(alloc, *self.by_key.hasher());
         copy.put(alloc, items)?;
         Ok(copy)
     }
@@ -301,7 +306,7 @@ impl<T: Keyed> KeyedList<T> {
             return Ok(None);
         };
         let capacity = items.len().min(limit);
-        let mut last = IndexMap::with_capacity(alloc, capacity)?;
+        let mut last = IndexMap::with_capacity_and_hasher(alloc, capacity, *self.by_key.hasher())?;
         let mut new = 0;
         for item in items {
             let key = item.key();
@@ -337,14 +342,14 @@ impl<T: Keyed> KeyedList<T> {
             self.remove_each(keys);
             return;
         }
-        match index_of(*self.by_key.allocator(), keys) {
+        match index_of(*self.by_key.allocator(), *self.by_key.hasher(), keys) {
             Ok(index) => self.remove_indexed(&index),
             Err(AllocError) => self.remove_each(keys),
         }
     }
 
     /// Removes the items of the keys of an index, in one walk of all items.
-    fn remove_indexed(&mut self, index: &IndexSet<&WordBuf>)
+    fn remove_indexed(&mut self, index: &IndexSet<&WordBuf, HashSeed>)
         ensures { self.new ≡ filter (λ item. not (is_among (T.key_of item) (map (λ key. key.now) index.now.keys))) self.old }
     {
         self.by_key.retain(
@@ -413,7 +418,7 @@ impl<T: Keyed> KeyedList<T> {
         ensures { IfOk result (keyed.AreFirsts T.key_of most (words_new (map T.key_of self.now) (map T.key_of items.now))) }
     {
         let distinct = items.len().min(self.by_key.len().saturating_add(most));
-        let mut seen = IndexSet::with_capacity(alloc, distinct)?;
+        let mut seen = IndexSet::with_capacity_and_hasher(alloc, distinct, *self.by_key.hasher())?;
         let mut firsts = Vec::new(alloc);
         for item in items {
             let key = item.key();

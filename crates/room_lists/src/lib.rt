@@ -6,6 +6,7 @@
 #![tactic(auto)]
 
 mod bots;
+mod hash_seed;
 mod keyed;
 #[cfg(test)]
 mod looks;
@@ -16,6 +17,7 @@ mod tags;
 mod units;
 
 pub use bots::{BOT_LIMIT, Bot, Bots};
+pub use hash_seed::HashSeed;
 pub use rects::Rect;
 pub use status_word::StatusWord;
 pub use tags::{TAG_LIMIT, Tags};

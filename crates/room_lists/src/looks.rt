@@ -2,6 +2,7 @@
 
 ghost use Rattle.std.specs.Prelude.{◌≡◌, IfOk};
 
+use crate::hash_seed::HashSeed;
 use crate::keyed::{Keyed, KeyedList};
 use indexmap::IndexMap;
 use line_words::WordBuf;
@@ -50,7 +51,7 @@ impl Keyed for Looked {
         Ok((word, self))
     }
 
-    fn items(index: &IndexMap<WordBuf, Looked>) -> &[Looked] {
+    fn items(index: &IndexMap<WordBuf, Looked, HashSeed>) -> &[Looked] {
         index.values().as_slice()
     }
 }
@@ -106,7 +107,7 @@ fn looks_asking(
 /// Asks for all that a change of tags or units asks, while the words are new and while they are known, puts them, and
 /// removes others.
 fn looks_at(alloc: Global, count: u32) -> Option<u64> {
-    let mut list = KeyedList::new(alloc);
+    let mut list = KeyedList::new(alloc, HashSeed::known());
     let new = words(alloc, "unit", count)?;
     let asked = looks_asking(alloc, &list, &new, count)?;
     list.put(alloc, new).ok()?;

@@ -4,6 +4,7 @@ ghost use Rattle.std.specs.Prelude.{◌≡◌, not, [], OnOk, OnErr, IfOk, IfSom
 ghost use Rattle.room_lists.specs.Room.{has_too_many_tags};
 ghost use Rattle.room_lists.specs.Tags as tags;
 
+use crate::hash_seed::HashSeed;
 use crate::keyed::KeyedList;
 use line_words::{Pair, PairList, WordBuf, WordList};
 use std::alloc::{AllocError, Global};
@@ -32,12 +33,12 @@ impl Model for Tags {
 }
 
 impl Tags {
-    /// No tags. It takes no memory yet.
-    pub fn new(alloc: Global) -> Tags
+    /// No tags, whose keys are hashed by this seed. It takes no memory yet.
+    pub fn new(alloc: Global, seed: HashSeed) -> Tags
         ensures { result ≡ [] }
     {
         Tags {
-            tags: KeyedList::new(alloc),
+            tags: KeyedList::new(alloc, seed),
         }
     }
 

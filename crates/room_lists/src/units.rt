@@ -4,6 +4,7 @@ ghost use Rattle.std.specs.Prelude.{◌≡◌, not, [], OnOk, OnErr, IfOk, IfSom
 ghost use Rattle.room_lists.specs.Room.{has_too_many_units};
 ghost use Rattle.room_lists.specs.Units as units;
 
+use crate::hash_seed::HashSeed;
 use crate::keyed::{KeyedList, copies_of_lent};
 use line_words::{WordBuf, WordList};
 use std::alloc::{AllocError, Global};
@@ -32,12 +33,12 @@ impl Model for Units {
 }
 
 impl Units {
-    /// No units. It takes no memory yet.
-    pub fn new(alloc: Global) -> Units
+    /// No units, whose words are hashed by this seed. It takes no memory yet.
+    pub fn new(alloc: Global, seed: HashSeed) -> Units
         ensures { result ≡ [] }
     {
         Units {
-            units: KeyedList::new(alloc),
+            units: KeyedList::new(alloc, seed),
         }
     }
 

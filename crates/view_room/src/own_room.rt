@@ -7,7 +7,7 @@ ghost use Rattle.lobby_view.specs.View.{entered};
 use crate::members::{Member, Members};
 use crate::rects::Rects;
 use line_words::{Pair, WordBuf};
-use room_lists::{Bots, Rect, Tags, Units};
+use room_lists::{Bots, HashSeed, Rect, Tags, Units};
 use std::alloc::{AllocError, Global};
 use std::marker::Model;
 use view_lists::Battle;
@@ -67,13 +67,14 @@ impl OwnRoom {
             Some(battle) => Members::of(alloc, battle.members())?,
             None => Members::new(alloc),
         };
+        let seed = HashSeed::known();
         Ok(OwnRoom {
             battle: number,
             members,
             bots: Bots::new(alloc),
             rects: Rects::new(alloc),
-            tags: Tags::new(alloc),
-            units: Units::new(alloc),
+            tags: Tags::new(alloc, seed),
+            units: Units::new(alloc, seed),
         })
     }
 
