@@ -5,6 +5,7 @@ Says for each crate the seconds of a processor of its proof, its tests, its prog
 which crates take more than they may. The same goes to out/gate.txt. Behind it stands again what passed and failed. The status is
 that of the first part that failed, or 1 where nothing else did and a proof takes far more than any may."""
 import collections
+import functools
 import os
 import re
 import subprocess
@@ -129,6 +130,17 @@ def far_over(sums):
             yield f"the proof of {crate} takes {proof:.0f} seconds of a processor, and none may take more than {LIMIT}: FAILED"
 
 
+def paths():
+    """How many paths lead down from the server: so often some kits' rt sums up sources for one run there."""
+    below = dict(re.findall(r"(?m)^(\w+)[^:\n]*:(.*)", (ROOT / "crates.txt").read_text(encoding="utf-8")))
+
+    @functools.lru_cache(None)
+    def down(name):
+        return 1 + sum(map(down, below.get(name, "").split())) if name in below else 0
+
+    return f"{len(below)} crates; {down('lobby_main')} paths from lobby_main"
+
+
 def table(sums, whole, minutes):
     """The lines of the table."""
     crates = sorted({crate for crate, _, _ in sums if crate}, key=lambda it: -sum(s for k, s in sums.items() if k[0] == it))
@@ -147,6 +159,7 @@ def table(sums, whole, minutes):
         yield f"{seconds:8.0f}  {edit}"
     yield ""
     lanes = len(os.sched_getaffinity(0))
+    yield paths()
     yield f"gate: {whole / 60:.1f} minutes of a processor, {minutes:.1f} minutes on {lanes} processors"
 
 
