@@ -57,8 +57,8 @@ pass_after held = record held.pass { on_desk = held.lobby; worker = with_events 
 abbrev pub lobby_after : ShownPass → List Event → State
 lobby_after pass events = after_history pass.start (pass.worker.seen ++ under pass.worker.number events)
 
--- inside a pass: it does not hold, knows its number, counts what its view counts, and has room for the events of a hold
-pub record IsReady (inner : Pass Shown View) (number handed made : ℕ) (places : List (Option ℕ)) (room : List Event) (capacity : ℕ) : Type 0 where
+-- inside a pass: it does not hold, knows its number, and counts what its view counts
+pub record IsReady (inner : Pass Shown View) (number handed made : ℕ) (places : List (Option ℕ)) : Type 0 where
   pub slots : inner.me.1 ≡ []
   pub alive : (view inner).alive ≡ true
   pub holds : (view inner).holds ≡ false
@@ -66,11 +66,9 @@ pub record IsReady (inner : Pass Shown View) (number handed made : ℕ) (places 
   pub below : number ≤ 63
   pub counts : handed ≡ (view inner).handed
   pub counted : Counts (view inner) handed made places
-  pub empty : room ≡ []
-  pub space : 32 ≤ capacity
 
 -- inside a hold: its lobby stands for the history seen and then the hold's own events
-pub record IsHolding (inner : Pass Shown View) (number handed made : ℕ) (places : List (Option ℕ)) (lobby : Shown) (events : List Event) (capacity : ℕ) : Type 0 where
+pub record IsHolding (inner : Pass Shown View) (number handed made : ℕ) (places : List (Option ℕ)) (lobby : Shown) (events : List Event) : Type 0 where
   pub slots : inner.me.1 ≡ []
   pub alive : (view inner).alive ≡ true
   pub holds : (view inner).holds ≡ true
@@ -79,4 +77,3 @@ pub record IsHolding (inner : Pass Shown View) (number handed made : ℕ) (place
   pub counts : handed ≡ (view inner).handed
   pub counted : Counts (view inner) handed made places
   pub stands : lobby.plain ≡ lobby_after (shown_pass inner) events
-  pub space : 32 ≤ capacity

@@ -11,6 +11,7 @@ ghost use Rattle.lobby_lock.specs.declared.closing.CloseError.TheVariants.{Still
 
 use crate::closing::{CloseError, Closing, first_out};
 use crate::event_count::EventCount;
+use crate::events::Events;
 use crate::held::Held;
 use crate::pass::{Counts, Pass};
 use crate::place::{begin, fetch};
@@ -25,8 +26,7 @@ use thiserror::Error;
 /// How many passes are handed out at most: one for each worker but worker 0.
 pub const MOST_HANDED_OUT: u8 = WORKERS - 1;
 
-/// How many events a hold has at most. Room for so many is made with each pass, so that no event
-/// needs memory for its entry in the history.
+/// How many events a hold has at most: who waits for the lobby gets it behind so many.
 pub const MOST_EVENTS: usize = 32;
 
 /// How many bytes go from worker to worker when the lobby is handed over: its address alone.
@@ -82,9 +82,6 @@ impl Desk {
         ensures pass { IfOk result (λ r. r.1 ≡ first_pass r.0 lobby) }
         ensures refused { IfErr result (λ error. error ≡ DeskError.Memory) }
     {
-        let Ok(room) = Vec::with_capacity(alloc, MOST_EVENTS) else {
-            return Err(DeskError::Memory);
-        };
         let Ok(places) = no_counts(alloc) else {
             return Err(DeskError::Memory);
         };
@@ -97,34 +94,28 @@ impl Desk {
             inner,
             number: 0,
             handed: 0,
-            room,
             counts: Counts { made: 0, places },
         };
         Ok((Desk { place, event_count }, pass))
     }
 
     /// A pass for one worker more, which bears the next number and has seen what worker 0 has. Worker
-    /// 0's pass comes back with it, and as it was where no pass is handed out: after 63, or where
-    /// memory is refused.
+    /// 0's pass comes back with it, and as it was where no pass is handed out: after 63 alone.
     pub fn hand_out(&self, alloc: Global, pass: Pass) -> Result<(Pass, Pass), (Pass, DeskError)>
         requires desk { pass.desk ≡ self.now }
         requires first { pass.worker.number ≡ 0 }
         ensures giver { IfOk result (λ r. r.0 ≡ record pass { handed = pass.handed + 1 }) }
         ensures newcomer { IfOk result (λ r. r.1 ≡ new_pass pass) }
         ensures few { IfOk result (λ r. pass.handed < MOST_HANDED_OUT) }
-        ensures refused { IfErr result (λ e. (e.0 ≡ pass) × ((e.1 ≡ DeskError.TooManyWorkers) ↔ (MOST_HANDED_OUT ≤ pass.handed))) }
+        ensures refused { IfErr result (λ e. (e.0 ≡ pass) × (e.1 ≡ DeskError.TooManyWorkers) × (MOST_HANDED_OUT ≤ pass.handed)) }
     {
         if pass.handed >= MOST_HANDED_OUT {
             return Err((pass, DeskError::TooManyWorkers));
         }
-        let Ok(room) = Vec::with_capacity(alloc, MOST_EVENTS) else {
-            return Err((pass, DeskError::Memory));
-        };
         let Pass {
             mut inner,
             number,
             handed,
-            room: old_room,
             counts,
         } = pass;
         let other = self.place.another::<HandingOut>(&mut inner);
@@ -132,14 +123,12 @@ impl Desk {
             inner,
             number,
             handed: handed + 1,
-            room: old_room,
             counts,
         };
         let newcomer = Pass {
             inner: other,
             number: handed + 1,
             handed: 0,
-            room,
             counts: Counts {
                 made: 0,
                 places: Vec::new(alloc),
@@ -162,14 +151,12 @@ impl Desk {
             mut inner,
             number,
             handed,
-            room,
             counts: Counts { made, mut places },
         } = pass;
         let Pass {
             inner: other,
             number: place,
             handed: _,
-            room: _,
             counts: theirs,
         } = ended;
         self.place.absorb::<TakingBack>(&mut inner, other);
@@ -179,7 +166,6 @@ impl Desk {
             inner,
             number,
             handed,
-            room,
             counts: Counts { made, places },
         }
     }
@@ -200,7 +186,6 @@ impl Desk {
             mut inner,
             number,
             handed,
-            room,
             counts,
         } = pass;
         let lobby = fetch::<Taking, R>(rt, &self.place, &self.event_count, &mut inner);
@@ -209,7 +194,7 @@ impl Desk {
             number,
             handed,
             lobby,
-            events: room,
+            events: Events::new(),
             counts,
         }
     }
@@ -237,11 +222,9 @@ impl Desk {
             mut inner,
             number: _,
             handed,
-            room,
             counts,
         } = pass;
         let lobby = fetch::<TakingForGood, R>(rt, &self.place, &self.event_count, &mut inner);
-        drop(room);
         drop(self);
         Ok(Closing {
             inner,

@@ -10,12 +10,12 @@ ghost use Rattle.lobby_machine.specs.Shown.{Applies, HasNoNumber, IsFull, IsNext
 ghost use Rattle.lobby_lock.specs.Passes.{AddsEvent, lobby_after, pass_after};
 
 use crate::desk::{Desk, MOST_EVENTS};
+use crate::events::{Events, Kind};
 use crate::pass::{Counts, Pass};
 use crate::place::put_back;
 use crate::rule::PlacePass;
 use command_grammar::Request;
 use lobby_machine::{Drained, Lobby, OpenError, Wakes};
-use lobby_model::Event;
 use std::alloc::AllocError;
 use std::marker::{Brand, Model};
 use std::sync::Wait;
@@ -28,19 +28,18 @@ pub struct Held {
     pub(crate) number: u8,
     pub(crate) handed: u8,
     pub(crate) lobby: Lobby,
-    pub(crate) events: Vec<Event>,
+    pub(crate) events: Events,
     pub(crate) counts: Counts,
 }
 
 impl Model for Held {
-    ghost use Rattle.std.specs.Prelude.{vec_capacity};
     ghost use Rattle.lobby_lock.specs.Passes.{ShownHold, shown_hold, IsHolding};
 
     ghost Value = { ShownHold };
 
-    ghost view = { λ h. shown_hold h.inner h.lobby h.events.items };
+    ghost view = { λ h. shown_hold h.inner h.lobby h.events };
 
-    ghost invariant = { λ h. IsHolding h.inner h.number h.handed h.counts.made h.counts.places.items h.lobby h.events.items (vec_capacity h.events) };
+    ghost invariant = { λ h. IsHolding h.inner h.number h.handed h.counts.made h.counts.places.items h.lobby h.events };
 }
 
 impl Held {
@@ -50,7 +49,7 @@ impl Held {
         ensures count { result ≡ length self.now.events }
         ensures stands { self.now.lobby.plain ≡ lobby_after self.now.pass self.now.events }
     {
-        self.events.len()
+        self.events.count()
     }
 
     /// A client connects, as `Lobby::open` says: one event, unless it is refused.
@@ -68,7 +67,7 @@ impl Held {
     {
         match self.lobby.open(ip, home) {
             Ok(number) => {
-                self.events.push_reserved(Event::Open { ip, home });
+                self.events.add_other(Kind::Open { ip, home });
                 Ok(number)
             }
             Err(error) => Err(error),
@@ -76,7 +75,7 @@ impl Held {
     }
 
     /// A client's line was read as this request, as `Lobby::say` says: one event, also where it
-    /// changes nothing. The hold keeps the request. Fails only where memory is refused, and then
+    /// changes nothing. Fails only where memory is refused, and then
     /// nothing changes.
     pub fn say(&mut self, client: u64, request: Request) -> Result<Wakes, AllocError>
         requires few { length self.old.events < MOST_EVENTS }
@@ -89,7 +88,8 @@ impl Held {
     {
         match self.lobby.say(client, &request) {
             Ok(wakes) => {
-                self.events.push_reserved(Event::Say { client, request });
+                self.events.say(client, &request);
+                request.discard();
                 Ok(wakes)
             }
             Err(error) => {
@@ -111,7 +111,7 @@ impl Held {
     {
         match self.lobby.shut(client) {
             Ok(wakes) => {
-                self.events.push_reserved(Event::Shut { client });
+                self.events.add_other(Kind::Shut { client });
                 Ok(wakes)
             }
             Err(error) => Err(error),
@@ -131,7 +131,7 @@ impl Held {
     {
         let count = into.len();
         let drained = self.lobby.drain(client, into);
-        self.events.push_reserved(Event::Drain { client, count });
+        self.events.add_other(Kind::Drain { client, count });
         drained
     }
 
@@ -189,18 +189,16 @@ impl Held {
             number,
             handed,
             lobby,
-            mut events,
+            events,
             counts: Counts { made, places },
         } = self;
-        let made = made.saturating_add(events.len() as u64);
-        put_back::<Brand, R>(rt, &desk.place, &mut inner, lobby, events.as_slice());
+        let made = made.saturating_add(events.count() as u64);
+        put_back::<Brand, R>(rt, &desk.place, &mut inner, lobby, &events);
         desk.event_count.notify();
-        events.clear();
         Pass {
             inner,
             number,
             handed,
-            room: events,
             counts: Counts { made, places },
         }
     }

@@ -17,6 +17,7 @@
 mod closing;
 mod desk;
 mod event_count;
+mod events;
 mod held;
 mod pass;
 mod place;

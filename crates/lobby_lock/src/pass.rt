@@ -3,7 +3,7 @@
 ghost use Rattle.std.specs.Prelude.{◌≡◌, ◌<◌};
 
 use crate::rule::PlacePass;
-use lobby_model::{Event, WORKERS};
+use lobby_model::WORKERS;
 use std::marker::Model;
 
 /// How many events were made. A count stays at the last value of its type.
@@ -24,20 +24,17 @@ pub struct Pass {
     pub(crate) number: u8,
     // how many numbers were handed out; worker 0's pass alone counts them
     pub(crate) handed: u8,
-    // empty, with room for the events of a hold
-    pub(crate) room: Vec<Event>,
     pub(crate) counts: Counts,
 }
 
 impl Model for Pass {
-    ghost use Rattle.std.specs.Prelude.{vec_capacity};
     ghost use Rattle.lobby_lock.specs.Passes.{ShownPass, shown_pass, IsReady};
 
     ghost Value = { ShownPass };
 
     ghost view = { λ p. shown_pass p.inner };
 
-    ghost invariant = { λ p. IsReady p.inner p.number p.handed p.counts.made p.counts.places.items p.room.items (vec_capacity p.room) };
+    ghost invariant = { λ p. IsReady p.inner p.number p.handed p.counts.made p.counts.places.items };
 }
 
 impl Pass {

@@ -7,11 +7,11 @@ ghost use Rattle.lobby_lock.specs.Rule.{OneHistory, new_worker, opened, gave};
 ghost use Rattle.lobby_lock.specs.Passes.{shown_pass, lobby_after};
 
 use crate::event_count::EventCount;
+use crate::events::Events;
 use crate::rule::{Giving, Happened, Opening, Place, PlacePass};
 use crate::view::View;
 use crossbeam_queue::protocol::Outcome;
 use lobby_machine::Lobby;
-use lobby_model::Event;
 use std::sync::Wait;
 
 /// The lobby is first put in, by the one pass that there is.
@@ -33,7 +33,7 @@ pub fn put_back<E: Happened, R: Wait>(
     place: &Place,
     pass: &mut PlacePass,
     lobby: Lobby,
-    events: &[Event],
+    events: &Events,
 )
     requires queue { IsPassOf place.now pass.old × (ruled_capacity place.now ≡ 1) }
     requires named { E.events ≡ events.now }

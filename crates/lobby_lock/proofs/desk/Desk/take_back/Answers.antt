@@ -34,6 +34,4 @@ invariant_of-result c =
       below = p.below;
       counts = search rules;
       counted = rw now (rw e.numbered counted);
-      empty = p.empty;
-      space = p.space;
     }
