@@ -19,7 +19,7 @@ use Rattle.lobby_holds.specs.Holds.{AreSaid, SaysLines, IsWithin, HasLoudNext, S
 use Rattle.client_session.specs.declared.session.Next.TheVariants.{Nothing, Spoilt}
 use Rattle.client_session.specs.OneSession.{IsNextOf}
 use Rattle.lobby_turns.specs.Receiving.{OnlyReads, IsAllReceived, NoReadFailed, LimitIs, MayRead, HasToReceive, has_bytes, has_line, has_more, StaysWithin, IsMost, most_lines, most_reads, most_bytes, most_told, bytes_of, StepIs, ReceivesNext, ReceivedIs, Receives}
-use Rattle.lobby_holds.proofs.Parts.{went_then, more_none, more_twice}
+use Rattle.lobby_holds.proofs.Parts.{went_none, went_then, more_none, more_twice}
 use Rattle.lobby_holds.proofs.Nexts.{line_is_sound}
 use Rattle.lobby_holds.proofs.Sayings.{says_none, says_then, loud_is_line, stays_next}
 use Rattle.std.proofs.Math.Nat.{add-zero, zero-add}
@@ -370,3 +370,10 @@ link_end a b may went only same fed last = next_quiet a b 1 step.All (omega arit
 
 pub link_fault : (a b : Snapshot) → MayRead a b → Went a b [] → OnlyReads a b 1 0 → b.wire.last_got ≡ Some got.Fault → ReceivesNext a b step.Stop
 link_fault a b may went only last = next_quiet a b 1 step.Stop (omega arith) (λ _. may) went only (refl, inr last)
+
+-- the link had ended, or failed, before
+pub ended_before : (a : Snapshot) → a.conn.unfed ≡ [] → IsNextOf (Some a.conn.session) Nothing → a.wire.last_got ≡ Some got.End → ReceivesNext a a step.All
+ended_before a fed nothing last = next_quiet a a 0 step.All (omega arith) (unasked a a) (went_none a) (only_none a a refl refl) (refl, record { fed = fed; nothing = nothing; last = inl last })
+
+pub failed_before : (a : Snapshot) → a.wire.last_got ≡ Some got.Fault → ReceivesNext a a step.Stop
+failed_before a last = next_quiet a a 0 step.Stop (omega arith) (unasked a a) (went_none a) (only_none a a refl refl) (refl, inr last)

@@ -1,7 +1,13 @@
 use Rattle.std.proofs.Common.{rules, arith, ap, ◌∙◌, Some}
 use Rattle.lobby_holds.specs.Wire.{got_count}
-use Rattle.lobby_turns.proofs.Receivings.{stays_nothing, read_bytes, fits, only_one, link_read, link_later, link_end, link_fault}
+use Rattle.lobby_turns.proofs.Receivings.{stays_nothing, read_bytes, fits, only_one, link_read, link_later, link_end, link_fault, ended_before, failed_before}
 use Rattle.lobby_turns.proofs.receiving.receive_link.Goals as goal
+
+pub returns-in-Some-End-clause-received : goal.returns-in-Some-End-clause-received
+returns-in-Some-End-clause-received g c = ended_before _ c.requires.fed c.requires.next (search rules)
+
+pub returns-in-Some-Fault-clause-received : goal.returns-in-Some-Fault-clause-received
+returns-in-Some-Fault-clause-received g c = failed_before _ (search rules)
 
 pub returns-in-Ok-Bytes-clause-received : goal.returns-in-Ok-Bytes-clause-received
 returns-in-Ok-Bytes-clause-received g c =
