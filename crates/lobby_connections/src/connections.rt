@@ -1,6 +1,6 @@
 //! The connections of a worker, and who gets the next turn.
 
-ghost use Rattle.std.specs.Prelude.{◌≡◌, ◌⊎◌, ◌↔◌, ◌+◌, ◌-◌, ◌/◌, ◌^◌, ◌<◌, ◌≤◌, ◌||◌, [], ◌++◌, true, false, length, min, None, IfSome, IsTrue, OnOk, OnSome};
+ghost use Rattle.std.specs.Prelude.{◌≡◌, ◌⊎◌, ◌↔◌, ◌+◌, ◌-◌, ◌/◌, ◌^◌, ◌<◌, ◌≤◌, ◌||◌, [], ◌++◌, true, false, length, max, min, None, IfSome, IsTrue, OnOk, OnSome};
 ghost use Rattle.std.specs.Option.{option_to_list};
 ghost use Rattle.lobby_post.specs.Mask.{has_home};
 ghost use Rattle.lobby_connections.specs.Table.{Leaves, Stays, due_count, next_key, with_left};
@@ -265,6 +265,15 @@ impl Connections {
     {
         let left = self.round_most.saturating_sub(self.told);
         left.min(self.turn_most)
+    }
+
+    /// How many pieces the next turn of this round may tell where nobody else is left over: all that is left of the round, and a turn's
+    /// at least.
+    pub fn lone_allowance(&self) -> u64
+        ensures { result ≡ max (self.now.round_most - self.now.told) self.now.turn_most }
+    {
+        let left = self.round_most.saturating_sub(self.told);
+        left.max(self.turn_most)
     }
 
     /// Turns of this round told so many pieces, or cost as much. The count stays at its most, 2^64 - 1.

@@ -196,8 +196,8 @@ fn pass_on<G: Gate>(shared: &Shared<'_, G>, connections: &mut Connections, home:
     shared.wakers.wake_others(home, wakes);
 }
 
-/// Those get their turn that were left in the round before. Whom these and later turns leave over stands in another
-/// list, that of the next round.
+/// Those get their turn that were left in the round before. One who is left alone may tell what is left of the round. Whom these and
+/// later turns leave over stands in another list, that of the next round.
 pub fn turn_left<R: Wait, G: Gate>(
     rt: &R,
     shared: &Shared<'_, G>,
@@ -211,10 +211,10 @@ pub fn turn_left<R: Wait, G: Gate>(
 {
     let mut pass = pass;
     for round in 0..=connections.due() {
-        let allowance = if round == 0 {
-            connections.turn_most()
-        } else {
-            connections.allowance()
+        let allowance = match round {
+            0 if connections.due() == 1 => connections.lone_allowance(),
+            0 => connections.turn_most(),
+            _ => connections.allowance(),
         };
         if allowance == 0 {
             break;
