@@ -1,0 +1,11 @@
+pub mod Splitting
+pub mod WordLemmas
+pub mod Digits
+pub mod Tables
+pub mod Written
+pub mod Once
+pub mod Ties
+pub mod Options
+pub mod Keyed
+pub mod Orders
+pub mod Keys

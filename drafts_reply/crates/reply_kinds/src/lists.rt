@@ -1,0 +1,178 @@
+//! Lists of arguments, owned or lent. Contracts see the plain list of what the items are.
+
+ghost use Rattle.std.specs.Prelude.{◌≡◌, [], ◌∷◌, ◌++◌, option_copied};
+ghost use Rattle.reply_kinds.specs.HeldLists.{with_last};
+
+use line_words::{NameBuf, NameList, Pair, PairList, WordBuf, WordList};
+use std::marker::Model;
+
+/// Names, owned or lent, or lent with one more behind them.
+#[derive(Drop)]
+pub enum HeldNames<'a> {
+    Lent(&'a [NameBuf]),
+    LentAndLast(&'a [NameBuf], &'a NameBuf),
+    Owned(NameList),
+}
+
+/// Words, owned or lent.
+#[derive(Drop)]
+pub enum HeldWords<'a> {
+    Lent(&'a [WordBuf]),
+    Owned(WordList),
+}
+
+/// Script tags, owned or lent.
+#[derive(Drop)]
+pub enum HeldPairs<'a> {
+    Lent(&'a [Pair]),
+    Owned(PairList),
+}
+
+/// A list of names, owned or lent.
+#[derive(Drop)]
+pub struct Names<'a> {
+    names: HeldNames<'a>,
+}
+
+impl<'a> Model for Names<'a> {
+    ghost use Rattle.std.specs.Prelude.{List, ℕ};
+
+    ghost Value = { List (List ℕ) };
+
+    ghost use Rattle.reply_kinds.specs.HeldLists.{names_of};
+
+    ghost view = { λ x. names_of x.names };
+}
+
+impl<'a> Names<'a> {
+    /// Lends names.
+    pub fn lend(names: &'a [NameBuf]) -> Names<'a>
+        ensures { result ≡ names.now }
+    {
+        Names {
+            names: HeldNames::Lent(names),
+        }
+    }
+
+    /// Lends names, and one more behind them.
+    pub fn lend_and_last(names: &'a [NameBuf], last: &'a NameBuf) -> Names<'a>
+        ensures { result ≡ names.now ++ last.now ∷ [] }
+    {
+        Names {
+            names: HeldNames::LentAndLast(names, last),
+        }
+    }
+
+    /// Keeps names that are owned.
+    pub fn own(names: NameList) -> Names<'a>
+        ensures { result ≡ names }
+    {
+        Names {
+            names: HeldNames::Owned(names),
+        }
+    }
+
+    /// The names: those that lie side by side, and the one behind them, where it lies elsewhere.
+    pub fn parts(&self) -> (&[NameBuf], Option<&NameBuf>)
+        ensures { with_last result.0.now (option_copied result.1) ≡ self.now }
+    {
+        match &self.names {
+            HeldNames::Lent(names) => (*names, None),
+            HeldNames::LentAndLast(names, last) => (*names, Some(*last)),
+            HeldNames::Owned(names) => (names.as_slice(), None),
+        }
+    }
+}
+
+/// A list of words, owned or lent.
+#[derive(Drop)]
+pub struct Words<'a> {
+    words: HeldWords<'a>,
+}
+
+impl<'a> Model for Words<'a> {
+    ghost use Rattle.std.specs.Prelude.{List, ℕ};
+
+    ghost Value = { List (List ℕ) };
+
+    ghost use Rattle.reply_kinds.specs.HeldLists.{words_of};
+
+    ghost view = { λ x. words_of x.words };
+}
+
+impl<'a> Words<'a> {
+    /// Lends words.
+    pub fn lend(words: &'a [WordBuf]) -> Words<'a>
+        ensures { result ≡ words.now }
+    {
+        Words {
+            words: HeldWords::Lent(words),
+        }
+    }
+
+    /// Keeps words that are owned.
+    pub fn own(words: WordList) -> Words<'a>
+        ensures { result ≡ words }
+    {
+        Words {
+            words: HeldWords::Owned(words),
+        }
+    }
+
+    /// The words.
+    pub fn as_slice(&self) -> &[WordBuf]
+        ensures { result.now ≡ self.now }
+    {
+        match &self.words {
+            HeldWords::Lent(words) => words,
+            HeldWords::Owned(words) => words.as_slice(),
+        }
+    }
+}
+
+/// A list of script tags, owned or lent.
+#[derive(Drop)]
+pub struct Pairs<'a> {
+    pairs: HeldPairs<'a>,
+}
+
+impl<'a> Model for Pairs<'a> {
+    ghost use Rattle.std.specs.Prelude.{List};
+    ghost use Rattle.line_words.specs.declared.lists.Pair.{Pair};
+
+    ghost Value = { List Pair };
+
+    ghost use Rattle.reply_kinds.specs.HeldLists.{pairs_of};
+
+    ghost view = { λ x. pairs_of x.pairs };
+}
+
+impl<'a> Pairs<'a> {
+    /// Lends script tags.
+    pub fn lend(pairs: &'a [Pair]) -> Pairs<'a>
+        ensures { result ≡ pairs.now }
+    {
+        Pairs {
+            pairs: HeldPairs::Lent(pairs),
+        }
+    }
+
+    /// Keeps script tags that are owned.
+    pub fn own(pairs: PairList) -> Pairs<'a>
+        ensures { result ≡ pairs }
+    {
+        Pairs {
+            pairs: HeldPairs::Owned(pairs),
+        }
+    }
+
+    /// The script tags.
+    pub fn as_slice(&self) -> &[Pair]
+        ensures { result.now ≡ self.now }
+    {
+        match &self.pairs {
+            HeldPairs::Lent(pairs) => pairs,
+            HeldPairs::Owned(pairs) => pairs.as_slice(),
+        }
+    }
+}

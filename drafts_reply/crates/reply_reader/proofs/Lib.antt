@@ -1,0 +1,5 @@
+pub mod Inverse
+pub mod Whole
+pub mod Named
+pub mod Behind
+pub mod Dispatch

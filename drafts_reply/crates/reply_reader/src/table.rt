@@ -1,0 +1,41 @@
+//! Reading, written out from the table of replies.
+
+/// Reads a reply by the row of its command word.
+macro_rules! read_by_row {
+    (($alloc:ident, $bytes:ident, $command:ident)
+        $($name:ident { $($field:ident),* $(; $others:ident)? })*
+    ) => {
+        match $command {
+            $(CommandWord::$name => match read_all($alloc, $bytes) {
+                Ok(row) => {
+                    let row!($($field),* $(; $others)?) = row;
+                    Ok(Reply::$name { $($field),* $(, $others)? })
+                }
+                Err(error) => Err(error),
+            })*
+        }
+    };
+}
+
+/// The command words, in the order of the rows.
+macro_rules! words_of_rows {
+    (() $($name:ident $row:tt)*) => {
+        [$(CommandWord::$name),*]
+    };
+}
+
+/// How many rows there are.
+macro_rules! number_of_rows {
+    (() $($name:ident $row:tt)*) => {
+        0 $(+ one!($name))*
+    };
+}
+
+macro_rules! one {
+    ($name:ident) => { 1 };
+}
+
+pub(crate) use number_of_rows;
+pub(crate) use one;
+pub(crate) use read_by_row;
+pub(crate) use words_of_rows;

@@ -1,0 +1,3 @@
+pub mod HeldLists
+pub mod Kinds
+pub mod Replies

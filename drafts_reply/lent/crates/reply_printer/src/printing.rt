@@ -1,0 +1,56 @@
+//! A reply as its line.
+#![tactic(auto, using(crate::proofs::Kept::front_more, crate::proofs::Kept::front_all))]
+
+ghost use Rattle.std.specs.Prelude.{◌≡◌, ◌++◌, IfOk, is_ok, if◌then◌else◌};
+ghost use Rattle.reply_printer.specs.Fronts.{Keeps};
+ghost use Rattle.reply_kinds.specs.Kinds.{all_printed};
+ghost use Rattle.reply_kinds.specs.Replies.{line_with, printed_line};
+
+use crate::pieces::{put_command, put_end, whole};
+use crate::rows::PrintedRow;
+use crate::table::print_by_row;
+use crate::{row, with_replies};
+use reply_kinds::{CommandWord, Reply};
+use std::alloc::AllocError;
+
+/// Appends the line of a reply with its LF, behind `#id ` where there is an id. Where memory is
+/// refused nothing is appended.
+pub fn print(reply: &Reply, id: Option<u32>, out: &mut Vec<u8>) -> Result<(), AllocError>
+    ensures { out.new.items ≡ (if is_ok result then out.old.items ++ printed_line id reply.now else out.old.items) }
+{
+    let start = out.len();
+    let done = put_reply(out, id, reply);
+    whole(out, start, done)
+}
+
+fn put_reply(out: &mut Vec<u8>, id: Option<u32>, reply: &Reply) -> Result<(), AllocError>
+    ensures ok { IfOk result (λ _. out.new.items ≡ out.old.items ++ printed_line id reply.now) }
+    ensures kept { Keeps out.old.items out.new.items }
+{
+    with_replies!(print_by_row(out, id, reply))
+}
+
+/// A whole line: the id, the command word, the arguments and LF.
+#[inline(always)]
+fn put_line<R: PrintedRow + Drop>(
+    out: &mut Vec<u8>,
+    id: Option<u32>,
+    command: CommandWord,
+    row: R,
+) -> Result<(), AllocError>
+    ensures ok { IfOk result (λ _. out.new.items ≡ out.old.items ++ line_with id command R.kinds (R.values row)) }
+    ensures kept { Keeps out.old.items out.new.items }
+{
+    put_command(out, id, command)?;
+    put_row(out, &row)?;
+    put_end(out)
+}
+
+/// The arguments of a line: one function for each shape of row, so that the match of all replies stays small.
+#[inline(never)]
+fn put_row<R: PrintedRow>(out: &mut Vec<u8>, row: &R) -> Result<(), AllocError>
+    ensures ok { IfOk result (λ _. out.new.items ≡ out.old.items ++ all_printed R.kinds (R.values row.now)) }
+    ensures kept { Keeps out.old.items out.new.items }
+{
+    row.put(out)
+}
