@@ -164,15 +164,18 @@ def table(sums, whole, minutes):
 
 
 def shown(words, environment, told):
-    """The status of a part of the gate, which shows what it prints. Told gets its lines of what passed and failed."""
+    """The status of a part of the gate, which shows what it prints. Told gets its lines of what passed and failed. An edit that does not
+    fit the code fails the gate, though rt only says so."""
     part = subprocess.Popen(words, cwd=ROOT, env=environment, stdout=subprocess.PIPE, stderr=subprocess.STDOUT, text=True, errors="replace")
+    bad = 0
     for line in part.stdout:
         print(line, end="", flush=True)
-        if re.search(r"\b(FAILED|NOT PROVED|passed, \d+ failed)\b", line):
+        bad |= "must-fail" in line and "BAD EDIT" in line
+        if re.search(r"\b(FAILED|NOT PROVED|BAD EDIT|passed, \d+ failed)\b", line):
             told.append(line.rstrip("\n"))
     if part.wait():
         told.append(f"{Path(words[0]).name} ends with status {part.returncode}")
-    return part.returncode
+    return part.returncode or int(bad)
 
 
 def main():
