@@ -1,6 +1,7 @@
 //! The accounts of a lobby by their names.
 
-ghost use Rattle.std.specs.Prelude.{◌≡◌, ◌≢◌, ◌↔◌, ◌++◌, [], ◌∷◌, length, IsTrue, IsSome, option_copied, OnOk, OnErr, IfErr, Result, Ok, Err};
+ghost use Rattle.std.specs.Prelude.{◌≡◌, ◌≢◌, ◌↔◌, ◌++◌, [], ◌∷◌, length, IsTrue, IsSome, option_copied, OnOk, OnErr};
+ghost use Rattle.std.specs.Prelude.{IfErr, Result, Ok, Err};
 ghost use Rattle.std.specs.List.{AllByRecursion};
 ghost use Rattle.account_entries.specs.Account.{IsHeld};
 ghost use Rattle.account_book.specs.Book.{account_of, login, seen, HasDistinctNames};

@@ -10,12 +10,14 @@
 //! account is read as any other, and its name counts among the names; then it is left out. In
 //! format 1 these two keys are not known.
 
-ghost use Rattle.std.specs.Prelude.{◌≡◌, ℕ, ◌≢◌, ◌↔◌, ◌++◌, [], ◌∷◌, ◌||◌, IsTrue, is_some, IfOk, IfErr, OnOk, OnErr, Some, None, Result, Ok, Err, if◌then◌else◌};
+ghost use Rattle.std.specs.Prelude.{◌≡◌, ℕ, ◌≢◌, ◌↔◌, ◌++◌, [], ◌∷◌, ◌||◌, IsTrue, is_some, IfOk, IfErr, OnOk, OnErr};
+ghost use Rattle.std.specs.Prelude.{Some, None, Result, Ok, Err, if◌then◌else◌};
 ghost use Rattle.toml.specs.View.{table_view};
 ghost use Rattle.toml_fields.specs.Document.{document};
 ghost use Rattle.account_entries.specs.Fields.{shown_contents};
 ghost use Rattle.account_book.specs.Book.{account_of};
-ghost use Rattle.account_book.specs.File.{entries_in, listed_accounts, IsTwin, Lists, file_accounts, file_entries, table_accounts, table_entries};
+ghost use Rattle.account_book.specs.File.{entries_in, listed_accounts, IsTwin, Lists, file_accounts, file_entries};
+ghost use Rattle.account_book.specs.File.{table_accounts, table_entries};
 
 use crate::book::AccountBook;
 use account_entries::{AccountsError, Contents, Listing, contents_of, described};
@@ -26,7 +28,8 @@ use toml_fields::{DocumentError, read_document};
 /// Why a file of accounts is refused, and at which account.
 #[derive(Clone, Copy, PartialEq, Eq, Debug)]
 pub struct FileRefusal {
-    /// With `BadField` its place, with `DuplicateName` the number of the account that has the name again, counted from 1. Else it says nothing.
+    /// With `BadField` its place, with `DuplicateName` the number of the account that has the name again, counted
+    /// from 1. Else it says nothing.
     pub account: usize,
     /// What is wrong.
     pub error: AccountsError,
@@ -50,14 +53,17 @@ impl AccountBook {
         }
     }
 
-    /// The accounts of a file that are not disabled, in its order. It is refused as by `from_toml`, and of a name that an earlier
-    /// account has it is known whose it is.
+    /// The accounts of a file that are not disabled, in its order. It is refused as by `from_toml`, and of a name that
+    /// an earlier account has it is known whose it is.
     pub fn read(alloc: Global, bytes: &[u8]) -> Result<AccountBook, FileRefusal>
         ensures ok { IfOk result (λ book. file_accounts bytes.now ≡ Ok book) }
         ensures listed { IfOk result (Lists (file_entries bytes.now)) }
-        ensures err { IfErr result (λ refusal. refusal.error ≢ AccountsError.Memory → file_accounts bytes.now ≡ Err refusal.error) }
-        ensures twin { IfErr result (λ refusal. refusal.error ≡ AccountsError.DuplicateName → IsTwin (file_entries bytes.now) refusal.account) }
-        ensures place { IfErr result (λ refusal. (place : ℕ) → refusal.error ≡ AccountsError.BadField place → refusal.account ≡ place) }
+        ensures err { IfErr result (λ refusal. refusal.error ≢ AccountsError.Memory
+            → file_accounts bytes.now ≡ Err refusal.error) }
+        ensures twin { IfErr result (λ refusal. refusal.error ≡ AccountsError.DuplicateName
+            → IsTwin (file_entries bytes.now) refusal.account) }
+        ensures place { IfErr result (λ refusal. (place : ℕ) → refusal.error ≡ AccountsError.BadField place
+            → refusal.account ≡ place) }
     {
         let table = match read_table(alloc, bytes) {
             Ok(table) => table,
@@ -73,9 +79,12 @@ impl AccountBook {
 fn book_of(alloc: Global, table: &Table) -> Result<AccountBook, FileRefusal>
     ensures ok { IfOk result (λ book. table_accounts (table_view table.now) ≡ Ok book) }
     ensures listed { IfOk result (Lists (table_entries (table_view table.now))) }
-    ensures err { IfErr result (λ refusal. refusal.error ≢ AccountsError.Memory → table_accounts (table_view table.now) ≡ Err refusal.error) }
-    ensures twin { IfErr result (λ refusal. refusal.error ≡ AccountsError.DuplicateName → IsTwin (table_entries (table_view table.now)) refusal.account) }
-    ensures place { IfErr result (λ refusal. (place : ℕ) → refusal.error ≡ AccountsError.BadField place → refusal.account ≡ place) }
+    ensures err { IfErr result (λ refusal. refusal.error ≢ AccountsError.Memory
+        → table_accounts (table_view table.now) ≡ Err refusal.error) }
+    ensures twin { IfErr result (λ refusal. refusal.error ≡ AccountsError.DuplicateName
+        → IsTwin (table_entries (table_view table.now)) refusal.account) }
+    ensures place { IfErr result (λ refusal. (place : ℕ) → refusal.error ≡ AccountsError.BadField place
+        → refusal.account ≡ place) }
 {
     let Ok(contents) = contents_of(table) else {
         return Err(FileRefusal {
@@ -102,9 +111,12 @@ fn add_all(
     requires { book.old ≡ [] }
     ensures ok { OnOk result (listed_accounts (entries_in (shown_contents contents.now)) ≡ Ok book.new) }
     ensures listed { OnOk result (Lists (entries_in (shown_contents contents.now)) book.new) }
-    ensures err { IfErr result (λ refusal. refusal.error ≢ AccountsError.Memory → listed_accounts (entries_in (shown_contents contents.now)) ≡ Err refusal.error) }
-    ensures twin { IfErr result (λ refusal. refusal.error ≡ AccountsError.DuplicateName → IsTwin (entries_in (shown_contents contents.now)) refusal.account) }
-    ensures place { IfErr result (λ refusal. (place : ℕ) → refusal.error ≡ AccountsError.BadField place → refusal.account ≡ place) }
+    ensures err { IfErr result (λ refusal. refusal.error ≢ AccountsError.Memory
+        → listed_accounts (entries_in (shown_contents contents.now)) ≡ Err refusal.error) }
+    ensures twin { IfErr result (λ refusal. refusal.error ≡ AccountsError.DuplicateName
+        → IsTwin (entries_in (shown_contents contents.now)) refusal.account) }
+    ensures place { IfErr result (λ refusal. (place : ℕ) → refusal.error ≡ AccountsError.BadField place
+        → refusal.account ≡ place) }
 {
     let mut disabled = AccountBook::new(alloc);
     let added = add_entries(alloc, book, &mut disabled, contents);
@@ -168,9 +180,12 @@ fn add_entries(
     requires disabled { disabled.old ≡ [] }
     ensures ok { OnOk result (listed_accounts (entries_in (shown_contents contents.now)) ≡ Ok book.new) }
     ensures listed { OnOk result (Lists (entries_in (shown_contents contents.now)) book.new) }
-    ensures err { IfErr result (λ refusal. refusal.error ≢ AccountsError.Memory → listed_accounts (entries_in (shown_contents contents.now)) ≡ Err refusal.error) }
-    ensures twin { IfErr result (λ refusal. refusal.error ≡ AccountsError.DuplicateName → IsTwin (entries_in (shown_contents contents.now)) refusal.account) }
-    ensures place { IfErr result (λ refusal. (place : ℕ) → refusal.error ≡ AccountsError.BadField place → refusal.account ≡ place) }
+    ensures err { IfErr result (λ refusal. refusal.error ≢ AccountsError.Memory
+        → listed_accounts (entries_in (shown_contents contents.now)) ≡ Err refusal.error) }
+    ensures twin { IfErr result (λ refusal. refusal.error ≡ AccountsError.DuplicateName
+        → IsTwin (entries_in (shown_contents contents.now)) refusal.account) }
+    ensures place { IfErr result (λ refusal. (place : ℕ) → refusal.error ≡ AccountsError.BadField place
+        → refusal.account ≡ place) }
 {
     for (k, entry) in contents.entries.iter().enumerate() {
         let account = k + 1;

@@ -1,5 +1,6 @@
 -- What the tables of a file of accounts say, as the crate `toml` reads them.
-use Rattle.std.specs.Prelude.{ℕ, Bool, false, ◌==◌, codes, List, [], ◌∷◌, Option, Some, None, option_and_then, Result, Ok, Err, if◌then◌else◌}
+use Rattle.std.specs.Prelude.{ℕ, Bool, false, ◌==◌, codes, List, [], ◌∷◌, Option, Some, None, option_and_then, Result}
+use Rattle.std.specs.Prelude.{Ok, Err, if◌then◌else◌}
 use Rattle.std.specs.Option.{option_map_or}
 use Rattle.std.specs.Result.{result_ok}
 use Rattle.toml.specs.Data.{Data, Items, no_items, item, Members, as_table}

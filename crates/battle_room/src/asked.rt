@@ -8,7 +8,8 @@ ghost use Rattle.std.specs.Result.{result_err};
 ghost use Rattle.room_lists.specs.Room as room;
 ghost use Rattle.room_lists.specs.Tags as tags;
 ghost use Rattle.room_lists.specs.Units as units;
-ghost use Rattle.battle_room.specs.Refusals.{status_refusal, founder_refusal, removal_refusal, new_bot_refusal, bot_refusal, tags_refusal, request_refusal, units_refusal};
+ghost use Rattle.battle_room.specs.Refusals.{status_refusal, founder_refusal, removal_refusal, new_bot_refusal};
+ghost use Rattle.battle_room.specs.Refusals.{bot_refusal, tags_refusal, request_refusal, units_refusal};
 
 use crate::error::RoomError;
 use crate::room::{Bot, Room};
@@ -162,7 +163,9 @@ impl<M: Copy> Room<M> {
     ) -> Result<(), RoomError>
         ensures refused { IfSome (new_bot_refusal owner name self.old) (λ e. result ≡ Err e) }
         ensures allowed { IfNone (new_bot_refusal owner name self.old) (IfErr result (λ e. e ≡ RoomError.Memory)) }
-        ensures ok { OnOk result (self.new ≡ room.with_bot (record { name = name; owner = owner; status = status; colour = colour; ai = ai }) self.old) }
+        ensures ok { OnOk result (self.new
+            ≡ room.with_bot (record { name = name; owner = owner; status = status; colour = colour; ai = ai })
+            self.old) }
         ensures err { OnErr result (self.new ≡ self.old) }
     {
         self.check_new_bot(&owner, &name)?;
@@ -333,7 +336,8 @@ impl<M: Copy> Room<M> {
     /// of the name asks.
     pub fn take_ask(&mut self, name: &NameBuf) -> Result<Option<WordBuf>, RoomError>
         ensures refused { result_err result ≡ request_refusal name.now self.old }
-        ensures given { IfSome (room.asker_of name.now self.old) (λ asker. IfOk result (λ password. password ≡ asker.script_password)) }
+        ensures given { IfSome (room.asker_of name.now self.old) (λ asker.
+            IfOk result (λ password. password ≡ asker.script_password)) }
         ensures ok { OnOk result (self.new ≡ room.without_asker name.now self.old) }
         ensures err { OnErr result (self.new ≡ self.old) }
     {

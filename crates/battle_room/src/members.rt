@@ -1,6 +1,7 @@
 //! The members of a room.
 
-ghost use Rattle.std.specs.Prelude.{◌≡◌, ◌∷◌, [], ◌++◌, map, filter, find, not, if◌then◌else◌, false, OnOk, OnErr, IfOk, option_copied};
+ghost use Rattle.std.specs.Prelude.{◌≡◌, ◌∷◌, [], ◌++◌, map, filter, find, not, if◌then◌else◌, false, OnOk, OnErr};
+ghost use Rattle.std.specs.Prelude.{IfOk, option_copied};
 ghost use Rattle.std.specs.List.{IsDistinct};
 ghost use Rattle.line_words.specs.Table.{same_name, is_among};
 ghost use Rattle.room_lists.specs.Room as room;
@@ -100,7 +101,8 @@ impl<M: Copy> Model for Members<M> {
 
     ghost view = { λ m. values m.by_name };
 
-    ghost invariant = { λ m. IsIndex (λ (name : List ℕ). name) (λ (member : room.Member). member.name) m.by_name.entries };
+    ghost invariant = { λ m. IsIndex (λ (name : List ℕ). name) (λ (member : room.Member).
+        member.name) m.by_name.entries };
 }
 
 impl<M: Copy> Members<M> {
@@ -175,7 +177,8 @@ impl<M: Copy> Members<M> {
 
     /// A status and a colour for the member of a name.
     pub(crate) fn put_status(&mut self, name: &NameBuf, status: BattleStatus, colour: i64)
-        ensures { self.new ≡ map (λ m. if same_name name.now m.name then room.member_with status colour m else m) self.old }
+        ensures { self.new ≡ map (λ m. if same_name name.now m.name then room.member_with status colour m
+            else m) self.old }
     {
         if let Some(member) = self.by_name.get_mut(name) {
             member.put_status(status, colour);

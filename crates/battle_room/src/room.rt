@@ -49,7 +49,15 @@ impl<M: Copy> Model for Room<M> {
 
     ghost Value = { room.Room };
 
-    ghost view = { λ r. record { members = r.members; bots = r.rest.value.bots; rects = r.rest.value.rects; tags = r.rest.value.tags; units = r.rest.value.units; askers = r.rest.value.askers } };
+    ghost view = { λ r. record {
+      members = r.members;
+      bots = r.rest.value.bots;
+      rects = r.rest.value.rects;
+      tags =
+          r.rest.value.tags;
+      units = r.rest.value.units;
+      askers = r.rest.value.askers;
+    } };
 }
 
 impl Room {
@@ -89,8 +97,8 @@ impl Room {
 }
 
 impl<M: Copy> Room<M> {
-    /// A room with its founder alone, who has this mark, and all its lists empty. The keys of its tags and its units are hashed by this
-    /// seed. Fails only where memory is refused.
+    /// A room with its founder alone, who has this mark, and all its lists empty. The keys of its tags and its units
+    /// are hashed by this seed. Fails only where memory is refused.
     pub fn with_mark(
         alloc: Global,
         founder: NameBuf,
@@ -128,7 +136,8 @@ impl<M: Copy> Room<M> {
         self.members.as_slice()
     }
 
-    /// The names of the members, in order of joining. Who wants no more of them reads three eighths of the memory that `members` takes.
+    /// The names of the members, in order of joining. Who wants no more of them reads three eighths of the memory that
+    /// `members` takes.
     pub fn names(&self) -> &[NameBuf]
         ensures { result.now ≡ room.member_names self.now }
     {
@@ -242,8 +251,10 @@ impl<M: Copy> Room<M> {
     /// only where memory is refused.
     pub fn last_pairs(&self, pairs: &[Pair]) -> Result<Option<PairList>, AllocError>
         ensures last { IfOk result (λ last. IfSome last (λ last. last ≡ tags.with_tags [] pairs.now)) }
-        ensures alike { IfOk result (λ last. IfSome last (λ last. room.set_tags last self.now ≡ room.set_tags pairs.now self.now)) }
-        ensures room { IfOk result (λ last. is_some last ≡ not (room.has_too_many_tags (tags.with_tags self.now.tags pairs.now))) }
+        ensures alike { IfOk result (λ last.
+            IfSome last (λ last. room.set_tags last self.now ≡ room.set_tags pairs.now self.now)) }
+        ensures room { IfOk result (λ last.
+            is_some last ≡ not (room.has_too_many_tags (tags.with_tags self.now.tags pairs.now))) }
     {
         self.rest.tags.last_pairs(self.alloc, pairs)
     }
@@ -269,8 +280,10 @@ impl<M: Copy> Room<M> {
     /// disabled comes to the same. Fails only where memory is refused.
     pub fn units_new(&self, words: &[WordBuf]) -> Result<Option<WordList>, AllocError>
         ensures new { IfOk result (λ new. IfSome new (λ new. new ≡ units.words_new self.now.units words.now)) }
-        ensures alike { IfOk result (λ new. IfSome new (λ new. room.disable_units new self.now ≡ room.disable_units words.now self.now)) }
-        ensures room { IfOk result (λ new. is_some new ≡ not (room.has_too_many_units (units.with_units self.now.units words.now))) }
+        ensures alike { IfOk result (λ new.
+            IfSome new (λ new. room.disable_units new self.now ≡ room.disable_units words.now self.now)) }
+        ensures room { IfOk result (λ new.
+            is_some new ≡ not (room.has_too_many_units (units.with_units self.now.units words.now))) }
     {
         self.rest.units.words_new(self.alloc, words)
     }

@@ -24,7 +24,8 @@ shown_to Unseen l = to_others l
 
 -- that the bots of one who leaves go, bot by bot
 abbrev pub bots_gone : Leaving → ℕ → List ℕ → Room → List Letter
-bots_gone leaving number owner room = map (λ b. shown_to leaving (tell (users (member_names room)) (reply.RemoveBot number b.name ∷ []))) (bots_of owner room)
+bots_gone leaving number owner room = map (λ b.
+    shown_to leaving (tell (users (member_names room)) (reply.RemoveBot number b.name ∷ []))) (bots_of owner room)
 
 -- that one who logs out leaves the battle that it is in
 abbrev pub left_battle_letters : List ℕ → Option (ℕ × Battle) → List Letter

@@ -8,7 +8,8 @@ ghost use Rattle.reply_kinds.specs.Lent.{reply_of};
 ghost use Rattle.room_lists.specs.Room.{asker_names, new_room};
 ghost use Rattle.lobby_model.specs.State.{name_of, updated};
 ghost use Rattle.lobby_model.specs.Outcome.{everyone, tell, user, users};
-ghost use Rattle.lobby_model.specs.Battles.{address, ip_text, leave_battle, leaves_battle, member_has, open_battle, opened_line, say_in_battle, set_own_status, update_battle};
+ghost use Rattle.lobby_model.specs.Battles.{address, ip_text, leave_battle, leaves_battle, member_has, open_battle};
+ghost use Rattle.lobby_model.specs.Battles.{opened_line, say_in_battle, set_own_status, update_battle};
 ghost use Rattle.lobby_model.specs.Texts.{battle_was_closed};
 ghost use Rattle.lobby_model.specs.Commands.{answer};
 ghost use Rattle.lobby_post.specs.Posted.{Told};
@@ -77,7 +78,8 @@ pub fn open_battle(by: &Issuer, command: &Command, post: &mut Post) -> Result<Ch
     requires me { name_of by.now.maps.now.plain by.now.client ≡ Some by.now.me.now }
     requires issuer { post.old.issuer ≡ by.now.client }
     requires opens { opens_one command.now ≡ true }
-    ensures { Answers by.now.maps.now.plain by.now.client post.old post.new (answer by.now.maps.now.plain by.now.client (Some by.now.me.now) command.now) result }
+    ensures { Answers by.now.maps.now.plain by.now.client post.old post.new
+        (answer by.now.maps.now.plain by.now.client (Some by.now.me.now) command.now) result }
 {
     in_no_battle(by.maps, by.me, Refusal::OpensInBattle)?;
     asks_nowhere(by.maps, by.me, Refusal::OpensAsking)?;
@@ -105,7 +107,8 @@ fn tell_opening(
     post: &mut Post,
 ) -> Result<(), AllocError>
     requires { name_of maps.now.plain post.old.issuer ≡ Some me.now }
-    ensures { OnOk result (Told maps.now.plain post.old post.new (tell everyone (opened_line number battle.now.info ∷ []) ∷ tell (user me.now) (reply.OpenBattle number ∷ reply.RequestBattleStatus ∷ []) ∷ [])) }
+    ensures { OnOk result (Told maps.now.plain post.old post.new (tell everyone (opened_line number battle.now.info
+        ∷ []) ∷ tell (user me.now) (reply.OpenBattle number ∷ reply.RequestBattleStatus ∷ []) ∷ [])) }
 {
     let line = LentReply::BattleOpened {
         battle: number,
@@ -120,7 +123,9 @@ fn tell_opening(
 fn new_battle(by: &Issuer, command: &Command) -> Result<Box<Battle>, AllocError>
     requires me { name_of by.now.maps.now.plain by.now.client ≡ Some by.now.me.now }
     requires opens { opens_one command.now ≡ true }
-    ensures asked { IfOk result (λ battle. answer by.now.maps.now.plain by.now.client (Some by.now.me.now) command.now ≡ open_battle by.now.maps.now.plain by.now.me.now battle.value) }
+    ensures asked { IfOk result (λ battle.
+        answer by.now.maps.now.plain by.now.client (Some by.now.me.now) command.now
+        ≡ open_battle by.now.maps.now.plain by.now.me.now battle.value) }
     ensures alone { IfOk result (λ battle. IsNew battle.value by.now.me.now) }
 {
     let opened = opened_by(by, command)?;
@@ -162,7 +167,9 @@ fn boxed_battle(
 fn opened_by(by: &Issuer, command: &Command) -> Result<OpenedBattle, AllocError>
     requires there { is_some (at_number by.now.maps.now.plain.clients by.now.client) ≡ true }
     requires opens { opens_one command.now ≡ true }
-    ensures { IfOk result (λ opened. answer by.now.maps.now.plain by.now.client (Some by.now.me.now) command.now ≡ open_battle by.now.maps.now.plain by.now.me.now (started opened (password_in command.now) (game_hash_in command.now) (new_room by.now.me.now))) }
+    ensures { IfOk result (λ opened. answer by.now.maps.now.plain by.now.client (Some by.now.me.now) command.now
+        ≡ open_battle by.now.maps.now.plain by.now.me.now
+        (started opened (password_in command.now) (game_hash_in command.now) (new_room by.now.me.now))) }
 {
     let Command::OpenBattle {
         battle_type,
@@ -264,7 +271,8 @@ pub fn address_of(maps: &Maps, client: u64) -> Result<WordBuf, AllocError>
 /// Tells one who opens a battle its number, and asks for its status.
 fn tell_opener(maps: &Maps, me: &NameBuf, number: u32, post: &mut Post) -> Result<(), AllocError>
     requires { name_of maps.now.plain post.old.issuer ≡ Some me.now }
-    ensures { OnOk result (Told maps.now.plain post.old post.new (tell (user me.now) (reply.OpenBattle number ∷ reply.RequestBattleStatus ∷ []) ∷ [])) }
+    ensures { OnOk result (Told maps.now.plain post.old post.new (tell (user me.now) (reply.OpenBattle number
+        ∷ reply.RequestBattleStatus ∷ []) ∷ [])) }
 {
     post.begin_own();
     post.write_own(LentReply::OpenBattle { battle: number })?;
@@ -275,7 +283,8 @@ fn tell_opener(maps: &Maps, me: &NameBuf, number: u32, post: &mut Post) -> Resul
 
 /// `LEAVEBATTLE`: the user is in a battle, or asks to join one, and asks no more.
 pub fn leave_battle(by: &Issuer, post: &mut Post) -> Result<Change, Stop>
-    ensures { Answers by.now.maps.now.plain by.now.client post.old post.new (leave_battle by.now.maps.now.plain by.now.me.now) result }
+    ensures { Answers by.now.maps.now.plain by.now.client post.old post.new
+        (leave_battle by.now.maps.now.plain by.now.me.now) result }
 {
     if let Some(number) = by.maps.asked_by(by.me) {
         return Ok(stop_asking(number, by.me));
@@ -298,7 +307,8 @@ pub fn tell_leaving(
     leaving: Leaving,
     post: &mut Post,
 ) -> Result<(), AllocError>
-    ensures { OnOk result (Told maps.now.plain post.old post.new (shown leaving (leaves_battle name.now number battle.now)).told) }
+    ensures { OnOk result (Told maps.now.plain post.old post.new
+        (shown leaving (leaves_battle name.now number battle.now)).told) }
 {
     if battle.is_founder(name) {
         return tell_closing(maps, number, &battle.room, leaving, post);
@@ -319,7 +329,9 @@ fn tell_closing(
     leaving: Leaving,
     post: &mut Post,
 ) -> Result<(), AllocError>
-    ensures { OnOk result (Told maps.now.plain post.old post.new (shown_to leaving (tell (users (asker_names room.now)) (reply.JoinBattleFailed battle_was_closed ∷ [])) ∷ shown_to leaving (tell everyone (reply.BattleClosed number ∷ [])) ∷ [])) }
+    ensures { OnOk result (Told maps.now.plain post.old post.new
+        (shown_to leaving (tell (users (asker_names room.now)) (reply.JoinBattleFailed battle_was_closed ∷ []))
+        ∷ shown_to leaving (tell everyone (reply.BattleClosed number ∷ [])) ∷ [])) }
 {
     let text = Text::lend(b"The battle was closed");
     let line = LentReply::JoinBattleFailed { text: &text };
@@ -364,7 +376,8 @@ fn tell_leaving_all(
     leaving: Leaving,
     post: &mut Post,
 ) -> Result<(), AllocError>
-    ensures { OnOk result (Told maps.now.plain post.old post.new (shown_to leaving (tell everyone (reply_of line.entry ∷ [])) ∷ [])) }
+    ensures { OnOk result (Told maps.now.plain post.old post.new (shown_to leaving (tell everyone (reply_of line.entry
+        ∷ [])) ∷ [])) }
 {
     match leaving {
         Leaving::Seen => maps.tell_all(line, post),
@@ -381,7 +394,8 @@ pub fn update_battle(
     map: &SentenceBuf,
     post: &mut Post,
 ) -> Result<Change, Stop>
-    ensures { Answers by.now.maps.now.plain by.now.client post.old post.new (update_battle by.now.maps.now.plain by.now.me.now (updated spectators locked map_hash map.now)) result }
+    ensures { Answers by.now.maps.now.plain by.now.client post.old post.new
+        (update_battle by.now.maps.now.plain by.now.me.now (updated spectators locked map_hash map.now)) result }
 {
     let (number, battle) = own_battle(by.maps, by.me)?;
     founded_by(battle, by.me)?;
@@ -409,7 +423,8 @@ pub fn my_battle_status(
     colour: i64,
     post: &mut Post,
 ) -> Result<Change, Stop>
-    ensures { Answers by.now.maps.now.plain by.now.client post.old post.new (set_own_status by.now.maps.now.plain by.now.me.now asked colour) result }
+    ensures { Answers by.now.maps.now.plain by.now.client post.old post.new
+        (set_own_status by.now.maps.now.plain by.now.me.now asked colour) result }
 {
     let (number, battle) = own_battle(by.maps, by.me)?;
     let status = match battle.room.member(by.me) {
@@ -429,7 +444,8 @@ pub fn give_status(
     colour: i64,
     post: &mut Post,
 ) -> Result<Change, AllocError>
-    ensures told { IfOk result (λ _. Told maps.now.plain post.old post.new (member_has name.now status colour number battle.now).told) }
+    ensures told { IfOk result (λ _. Told maps.now.plain post.old post.new
+        (member_has name.now status colour number battle.now).told) }
     ensures change { IfOk result (λ change. change ≡ status_change number name.now status colour) }
 {
     let line = LentReply::ClientBattleStatus {
@@ -450,7 +466,8 @@ pub fn give_status(
 
 /// `SAYBATTLE` and `SAYBATTLEEX`: the user is in a battle.
 pub fn say_in_battle(by: &Issuer, line: LentReply, post: &mut Post) -> Result<Change, Stop>
-    ensures { Answers by.now.maps.now.plain by.now.client post.old post.new (say_in_battle by.now.maps.now.plain by.now.me.now (reply_of line.entry)) result }
+    ensures { Answers by.now.maps.now.plain by.now.client post.old post.new
+        (say_in_battle by.now.maps.now.plain by.now.me.now (reply_of line.entry)) result }
 {
     let (_, battle) = own_battle(by.maps, by.me)?;
     by.maps.tell_room(&battle.room, line, post)?;

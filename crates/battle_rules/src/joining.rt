@@ -6,7 +6,8 @@ ghost use Rattle.reply_kinds.specs.declared.Reply.TheVariants as reply;
 ghost use Rattle.line_words.specs.Table.{at_number, same_name};
 ghost use Rattle.lobby_model.specs.State.{name_of};
 ghost use Rattle.lobby_model.specs.Outcome.{is_named, tell, user};
-ghost use Rattle.lobby_model.specs.Battles.{accept, address, asks_to_join, deny, join_battle, joining, reason_or_default, room_lines};
+ghost use Rattle.lobby_model.specs.Battles.{accept, address, asks_to_join, deny, join_battle, joining};
+ghost use Rattle.lobby_model.specs.Battles.{reason_or_default, room_lines};
 ghost use Rattle.lobby_post.specs.Posted.{Told};
 ghost use Rattle.lobby_guards.specs.Answers.{Answers};
 ghost use Rattle.lobby_maps.specs.declared.change.Change.TheVariants.{InBattles};
@@ -37,7 +38,10 @@ pub fn join_battle(
 ) -> Result<Change, Stop>
     requires me { name_of by.now.maps.now.plain by.now.client ≡ Some by.now.me.now }
     requires issuer { post.old.issuer ≡ by.now.client }
-    ensures { Answers by.now.maps.now.plain by.now.client post.old post.new (join_battle by.now.maps.now.plain by.now.me.now (address (at_number by.now.maps.now.plain.clients by.now.client)) number (option_copied password.entry) (option_copied script_password.entry)) result }
+    ensures { Answers by.now.maps.now.plain by.now.client post.old post.new
+        (join_battle by.now.maps.now.plain by.now.me.now
+        (address (at_number by.now.maps.now.plain.clients by.now.client)) number (option_copied password.entry)
+        (option_copied script_password.entry)) result }
 {
     in_no_battle(by.maps, by.me, Refusal::JoinsInBattle)?;
     asks_nowhere(by.maps, by.me, Refusal::JoinsAsking)?;
@@ -71,8 +75,11 @@ fn ask_to_join(
     post: &mut Post,
 ) -> Result<Change, AllocError>
     requires { name_of by.now.maps.now.plain by.now.client ≡ Some by.now.me.now }
-    ensures told { IfOk result (λ _. Told by.now.maps.now.plain post.old post.new (asks_to_join by.now.me.now number battle.now (option_copied script_password.entry) (address (at_number by.now.maps.now.plain.clients by.now.client))).told) }
-    ensures change { IfOk result (λ change. change ≡ InBattles (Ask number by.now.me.now (option_copied script_password.entry))) }
+    ensures told { IfOk result (λ _. Told by.now.maps.now.plain post.old post.new
+        (asks_to_join by.now.me.now number battle.now (option_copied script_password.entry)
+        (address (at_number by.now.maps.now.plain.clients by.now.client))).told) }
+    ensures change { IfOk result (λ change.
+        change ≡ InBattles (Ask number by.now.me.now (option_copied script_password.entry))) }
 {
     let ip = address_of(by.maps, by.client)?;
     let line = LentReply::JoinBattleRequest {
@@ -93,7 +100,8 @@ fn ask_to_join(
 pub fn accept(by: &Issuer, name: &NameBuf, post: &mut Post) -> Result<Change, Stop>
     requires me { name_of by.now.maps.now.plain by.now.client ≡ Some by.now.me.now }
     requires issuer { post.old.issuer ≡ by.now.client }
-    ensures { Answers by.now.maps.now.plain by.now.client post.old post.new (accept by.now.maps.now.plain by.now.me.now name.now) result }
+    ensures { Answers by.now.maps.now.plain by.now.client post.old post.new
+        (accept by.now.maps.now.plain by.now.me.now name.now) result }
 {
     let (number, battle) = own_battle(by.maps, by.me)?;
     founded_by(battle, by.me)?;
@@ -122,7 +130,8 @@ pub fn deny(
     reason: Option<&TextBuf>,
     post: &mut Post,
 ) -> Result<Change, Stop>
-    ensures { Answers by.now.maps.now.plain by.now.client post.old post.new (deny by.now.maps.now.plain by.now.me.now name.now (option_copied reason.entry)) result }
+    ensures { Answers by.now.maps.now.plain by.now.client post.old post.new
+        (deny by.now.maps.now.plain by.now.me.now name.now (option_copied reason.entry)) result }
 {
     let (number, battle) = own_battle(by.maps, by.me)?;
     founded_by(battle, by.me)?;
@@ -144,7 +153,8 @@ fn tell_joining(
     post: &mut Post,
 ) -> Result<(), AllocError>
     requires { is_named (same_name name.now) (name_of maps.now.plain post.old.issuer) ≡ is_issuer recipient }
-    ensures { OnOk result (Told maps.now.plain post.old post.new (joining name.now number battle.now (option_copied script_password.entry))) }
+    ensures { OnOk result (Told maps.now.plain post.old post.new
+        (joining name.now number battle.now (option_copied script_password.entry))) }
 {
     tell_joiner(maps, name, number, battle, recipient, post)?;
     let founder = &battle.opened.founder;
@@ -172,7 +182,9 @@ fn tell_joiner(
     post: &mut Post,
 ) -> Result<(), AllocError>
     requires { is_named (same_name name.now) (name_of maps.now.plain post.old.issuer) ≡ is_issuer recipient }
-    ensures { OnOk result (Told maps.now.plain post.old post.new (tell (user name.now) (reply.JoinBattle number battle.now.game_hash ∷ reply.JoinedBattle number name.now None ∷ (room_lines number battle.now.room ++ reply.RequestBattleStatus ∷ [])) ∷ [])) }
+    ensures { OnOk result (Told maps.now.plain post.old post.new
+        (tell (user name.now) (reply.JoinBattle number battle.now.game_hash ∷ reply.JoinedBattle number name.now None
+        ∷ (room_lines number battle.now.room ++ reply.RequestBattleStatus ∷ [])) ∷ [])) }
 {
     post.begin_own();
     let line = LentReply::JoinBattle {

@@ -1,12 +1,13 @@
 //! A queue of bytes in one buffer, appended behind and consumed in front.
 //!
-//! Consuming moves no byte: what was consumed stays in the buffer, in front of what waits, until room is wanted or nothing
-//! waits. Bytes are moved to the front only where at least as many were consumed before them. So each byte that moves is
-//! paid for by one that was consumed, which pays once only: all the moves together cost no more than all the bytes that
-//! were ever appended.
+//! Consuming moves no byte: what was consumed stays in the buffer, in front of what waits, until room is wanted or
+//! nothing waits. Bytes are moved to the front only where at least as many were consumed before them. So each byte that
+//! moves is paid for by one that was consumed, which pays once only: all the moves together cost no more than all the
+//! bytes that were ever appended.
 #![tactic(auto)]
 
-ghost use Rattle.std.specs.Prelude.{◌≡◌, ◌+◌, ◌^◌, ◌<◌, ◌≤◌, ◌↔◌, [], ◌++◌, length, take, drop, vec_capacity, IsTrue, OnOk, OnErr};
+ghost use Rattle.std.specs.Prelude.{◌≡◌, ◌+◌, ◌^◌, ◌<◌, ◌≤◌, ◌↔◌, [], ◌++◌, length, take, drop, vec_capacity, IsTrue};
+ghost use Rattle.std.specs.Prelude.{OnOk, OnErr};
 
 use std::alloc::{AllocError, Global};
 use std::marker::Model;
@@ -26,7 +27,11 @@ impl Model for ByteQueue {
 
     ghost Value = { Waiting };
 
-    ghost view = { λ q. record { bytes = drop q.consumed q.buffer.items; room = vec_capacity q.buffer - vec_len q.buffer } };
+    ghost view = { λ q. record {
+      bytes = drop q.consumed q.buffer.items;
+      room = vec_capacity q.buffer - vec_len
+          q.buffer;
+    } };
 
     ghost invariant = { λ q. (q.consumed ≡ 0) ⊎ (q.consumed < vec_len q.buffer) };
 }
@@ -59,8 +64,8 @@ impl ByteQueue {
 
     /// Makes room in memory for `n` more bytes in all, after which they can be appended without fail.
     ///
-    /// An `AllocError` comes only where memory was asked for and refused. The bytes that wait are the same then too, and
-    /// the room is no less.
+    /// An `AllocError` comes only where memory was asked for and refused. The bytes that wait are the same then too,
+    /// and the room is no less.
     pub fn reserve(&mut self, n: usize) -> Result<(), AllocError>
         ensures bytes { self.new.bytes ≡ self.old.bytes }
         ensures room_kept { self.old.room ≤ self.new.room }
@@ -73,8 +78,8 @@ impl ByteQueue {
         self.make_room(n)
     }
 
-    /// What `reserve` does where the room behind is too little. It stands apart, so that an append which finds room pays
-    /// for the test alone.
+    /// What `reserve` does where the room behind is too little. It stands apart, so that an append which finds room
+    /// pays for the test alone.
     #[cold]
     #[inline(never)]
     fn make_room(&mut self, n: usize) -> Result<(), AllocError>
@@ -136,8 +141,8 @@ impl ByteQueue {
         }
     }
 
-    /// Whether it holds a buffer, so that bytes wait or there is room. Where it does not, `adopt` may save it from asking for
-    /// memory.
+    /// Whether it holds a buffer, so that bytes wait or there is room. Where it does not, `adopt` may save it from
+    /// asking for memory.
     pub fn has_buffer(&self) -> bool
         ensures { IsTrue result ↔ (0 < length self.now.bytes + self.now.room) }
     {
@@ -156,8 +161,8 @@ impl ByteQueue {
         }
     }
 
-    /// Takes its buffer out, emptied, so that another queue may adopt it. The queue is left as a new one: nothing waits in
-    /// it, and it has no buffer and no room.
+    /// Takes its buffer out, emptied, so that another queue may adopt it. The queue is left as a new one: nothing waits
+    /// in it, and it has no buffer and no room.
     pub fn take_buffer(&mut self) -> Vec<u8>
         ensures left { self.new ≡ record { bytes = []; room = 0 } }
         ensures emptied { result.items ≡ [] }

@@ -27,10 +27,12 @@ places_of sets user = listed (lookup (pointwise nat_eq user) sets)
 
 -- with a channel of a user's, without it, and without all of a user's
 abbrev pub with_place : List ℕ → List ℕ → Places → Places
-with_place channel name places user = if same_name name user then insert_key name_cmp (places name) channel else places user
+with_place channel name places user = if same_name name user then insert_key name_cmp (places name) channel
+    else places user
 
 abbrev pub without_place : List ℕ → List ℕ → Places → Places
-without_place channel name places user = if same_name name user then remove_key (is_at (name_cmp channel)) (places name) else places user
+without_place channel name places user = if same_name name user
+    then remove_key (is_at (name_cmp channel)) (places name) else places user
 
 abbrev pub without_user : List ℕ → Places → Places
 without_user name places user = if same_name name user then [] else places user

@@ -1,6 +1,7 @@
 //! The channels by their names.
 
-ghost use Rattle.std.specs.Prelude.{◌≡◌, ◌≢◌, ◌↔◌, ◌<◌, ◌^◌, ℕ, List, [], length, slice_get, option_copied, IsTrue, OnOk, OnErr, IfErr, Err, false};
+ghost use Rattle.std.specs.Prelude.{◌≡◌, ◌≢◌, ◌↔◌, ◌<◌, ◌^◌, ℕ, List, [], length, slice_get, option_copied, IsTrue};
+ghost use Rattle.std.specs.Prelude.{OnOk, OnErr, IfErr, Err, false};
 ghost use Rattle.std.specs.List.{IsDistinct};
 ghost use Rattle.std.specs.List.Sorted.{IsStrictlySortedBy};
 ghost use Rattle.std.specs.Map.{keys_of};
@@ -20,8 +21,8 @@ use std::collections::BTreeSet;
 use std::collections::btree_map::Iter;
 use std::marker::Model;
 
-/// One who is in more than one of so many channels leaves by a walk over all, so no more than so many are looked at for each of its
-/// own.
+/// One who is in more than one of so many channels leaves by a walk over all, so no more than so many are looked at for
+/// each of its own.
 const WALKED: usize = 4;
 
 /// The channels of a lobby by their names, and in each the names of its members in order of
@@ -60,7 +61,8 @@ impl<M: Copy> Model for ChannelBook<M> {
 }
 
 impl ChannelBook {
-    /// Not run by the server, which uses `with_marks`: a book without channels and without marks. It takes no memory yet.
+    /// Not run by the server, which uses `with_marks`: a book without channels and without marks. It takes no memory
+    /// yet.
     pub fn new(alloc: Global) -> ChannelBook
         ensures { result ≡ [] }
     {
@@ -123,7 +125,8 @@ impl<M: Copy> ChannelBook<M> {
     /// `NotIn` where the user is not in it: the book stays as it was.
     pub fn leave(&mut self, channel: &NameBuf, user: &NameBuf) -> Result<(), ChannelError>
         ensures ok { OnOk result (self.new ≡ left channel.now user.now self.old) }
-        ensures not_in { (result ≡ Err ChannelError.NotIn) ↔ (is_among user.now (names_in self.old channel.now) ≡ false) }
+        ensures not_in { (result ≡ Err ChannelError.NotIn)
+            ↔ (is_among user.now (names_in self.old channel.now) ≡ false) }
         ensures errors { IfErr result (λ e. e ≡ ChannelError.NotIn) }
         ensures err { OnErr result (self.new ≡ self.old) }
     {

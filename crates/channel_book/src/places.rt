@@ -31,7 +31,8 @@ impl Places {
 
     /// One channel more of a user's. Where memory is refused, nothing changes.
     pub fn add(&mut self, channel: &NameBuf, user: &NameBuf) -> Result<(), AllocError>
-        ensures ok { OnOk result (places_of self.new.by_user.entries ≡ with_place channel.now user.now (places_of self.old.by_user.entries)) }
+        ensures ok { OnOk result (places_of self.new.by_user.entries
+            ≡ with_place channel.now user.now (places_of self.old.by_user.entries)) }
         ensures err { OnErr result (places_of self.new.by_user.entries ≡ places_of self.old.by_user.entries) }
     {
         if let Some(names) = self.by_user.get_mut(user) {
@@ -46,7 +47,8 @@ impl Places {
 
     /// A channel is no more one of a user's. With its last one goes the memory that was its own.
     pub fn remove(&mut self, channel: &NameBuf, user: &NameBuf)
-        ensures { places_of self.new.by_user.entries ≡ without_place channel.now user.now (places_of self.old.by_user.entries) }
+        ensures { places_of self.new.by_user.entries
+            ≡ without_place channel.now user.now (places_of self.old.by_user.entries) }
     {
         if let Some(names) = self.by_user.get_mut(user) {
             let _ = names.remove(channel);

@@ -86,8 +86,10 @@ impl Session {
     /// was met; the lines before it are kept. Where memory is refused, nothing was taken in.
     pub fn feed(&mut self, piece: &[u8]) -> Result<(), FeedError>
         ensures client { self.new.client ≡ self.old.client }
-        ensures heard { (bytes : List ℕ) (accepted : ℕ) → Heard self.old.framed bytes accepted → (result ≡ Err FeedError.Memory → ⊥) → Heard self.new.framed (bytes ++ piece.now) accepted }
-        ensures place { (bytes : List ℕ) (accepted : ℕ) → Heard self.old.framed bytes accepted → IsJudged (bytes ++ piece.now) self.old.framed.limit result }
+        ensures heard { (bytes : List ℕ) (accepted : ℕ) → Heard self.old.framed bytes accepted
+            → (result ≡ Err FeedError.Memory → ⊥) → Heard self.new.framed (bytes ++ piece.now) accepted }
+        ensures place { (bytes : List ℕ) (accepted : ℕ) → Heard self.old.framed bytes accepted
+            → IsJudged (bytes ++ piece.now) self.old.framed.limit result }
         ensures later { self.old.framed.spoilt ≡ true → (result ≡ Err FeedError.Spoilt) × (self.new ≡ self.old) }
         ensures memory { result ≡ Err FeedError.Memory → self.new ≡ self.old }
     {
@@ -99,9 +101,11 @@ impl Session {
     /// says that it was refused.
     #[tactic(auto, using(command_grammar::proofs::Bounds::request_keeps))]
     pub fn next_request(&self) -> Result<Next, AllocError>
-        ensures ok { IfOk result (λ next. (bytes : List ℕ) (accepted : ℕ) → Heard self.now.framed bytes accepted → IsNext bytes accepted next) }
+        ensures ok { IfOk result (λ next. (bytes : List ℕ) (accepted : ℕ) → Heard self.now.framed bytes accepted
+            → IsNext bytes accepted next) }
         ensures kinds { IfOk result KeepsKinds }
-        ensures refused { OnErr result ((bytes : List ℕ) (accepted : ℕ) → Heard self.now.framed bytes accepted → NeedsMemory bytes accepted) }
+        ensures refused { OnErr result ((bytes : List ℕ) (accepted : ℕ) → Heard self.now.framed bytes accepted
+            → NeedsMemory bytes accepted) }
     {
         match self.framer.peek() {
             Some(line) => Ok(Next::Line(read_request(self.alloc, line)?)),
@@ -115,7 +119,8 @@ impl Session {
 
     /// Whether a whole line or a spoilt place is next.
     pub fn is_ready(&self) -> bool
-        ensures { (bytes : List ℕ) (accepted : ℕ) → Heard self.now.framed bytes accepted → result ≡ has_next bytes accepted }
+        ensures { (bytes : List ℕ) (accepted : ℕ) → Heard self.now.framed bytes accepted
+            → result ≡ has_next bytes accepted }
     {
         self.framer.peek().is_some() || self.framer.is_spoilt()
     }
@@ -131,7 +136,8 @@ impl Session {
     pub fn accept_request(&mut self)
         requires { IsSome (next_line self.old.framed) }
         ensures client { self.new.client ≡ self.old.client }
-        ensures heard { (bytes : List ℕ) (accepted : ℕ) → Heard self.old.framed bytes accepted → Heard self.new.framed bytes (accepted + 1) }
+        ensures heard { (bytes : List ℕ) (accepted : ℕ) → Heard self.old.framed bytes accepted
+            → Heard self.new.framed bytes (accepted + 1) }
     {
         self.framer.drop_line();
     }

@@ -3,9 +3,9 @@ use Rattle.std.specs.Prelude.{Bool, true, false}
 use Rattle.reply_kinds.specs.declared.Reply.{Reply}
 use Rattle.reply_kinds.specs.declared.Reply.TheVariants as reply
 
--- what a reply changes of what a client knows: all, by a login; the users, who is in which channel, the battles and who is in
--- them, the list by a battle that opens; in the own room the members' statuses, the bots, the start rectangles, the script tags
--- and the disabled units; or nothing
+-- what a reply changes of what a client knows: all, by a login; the users, who is in which channel, the battles and who
+-- is in them, the list by a battle that opens; in the own room the members' statuses, the bots, the start rectangles,
+-- the script tags and the disabled units; or nothing
 pub data Kind : Type 0 where
   Login : Kind
   Users : Kind
@@ -34,7 +34,8 @@ kind_of (reply.JoinBattle battle game_hash) = Battles
 kind_of (reply.JoinedBattle battle user script_password) = Battles
 kind_of (reply.LeftBattle battle user) = Battles
 kind_of (reply.UpdateBattleInfo battle spectator_count locked map_hash map) = Battles
-kind_of (reply.BattleOpened battle battle_type nat_type founder ip port max_players passworded rank map_hash engine_name engine_version map title game_name) = Opening
+kind_of (reply.BattleOpened battle battle_type nat_type founder ip port max_players passworded rank map_hash
+    engine_name engine_version map title game_name) = Opening
 kind_of (reply.ClientBattleStatus user status colour) = Members
 kind_of (reply.AddBot battle bot owner status colour ai) = Bots
 kind_of (reply.UpdateBot battle bot status colour) = Bots

@@ -48,9 +48,27 @@ impl Model for Known {
 
     ghost Value = { Undoable View };
 
-    ghost view = { λ k. record { now = record { me = own_name k.me; users = k.users.now; battles = k.battles.now; channels = k.channels.now; own = k.room.now }; before = record { me = own_name k.me; users = k.users.before; battles = k.battles.before; channels = k.channels.before; own = k.room.before }; noting = k.users.noting } };
+    ghost view = { λ k. record {
+      now = record {
+        me = own_name k.me;
+        users = k.users.now;
+        battles = k.battles.now;
+        channels = k.channels.now;
+        own = k.room.now;
+      };
+      before = record {
+        me = own_name k.me;
+        users = k.users.before;
+        battles = k.battles.before;
+        channels =
+            k.channels.before;
+        own = k.room.before;
+      };
+      noting = k.users.noting;
+    } };
 
-    ghost invariant = { λ k. (k.battles.noting ≡ k.users.noting) × (k.channels.noting ≡ k.users.noting) × (k.room.noting ≡ k.users.noting) };
+    ghost invariant = { λ k. (k.battles.noting ≡ k.users.noting) × (k.channels.noting ≡ k.users.noting)
+        × (k.room.noting ≡ k.users.noting) };
 }
 
 impl Known {

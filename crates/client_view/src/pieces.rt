@@ -34,7 +34,7 @@ pub(crate) fn next_end(bytes: &[u8], from: usize) -> Option<usize>
     memchr(b'\n', &bytes[from..])
 }
 
-// The place of the last LF.
+/// The place of the last LF.
 fn last_end(bytes: &[u8]) -> Option<usize>
     ensures { IsLastEnd bytes.now result }
 {
@@ -62,8 +62,12 @@ impl UndoableKnown {
         behind: &[u8],
     ) -> Result<Taken, AllocError>
         requires { self.old.noting ≡ false }
-        ensures known { OnOk result (self.new.now ≡ shown_all (shown_all self.old.now (one_read (read_line (frames.without_cr (start.now ++ end.now))))) (all_read (frames.frames behind.now 20479))) }
-        ensures count { IfOk result (λ taken. taken.count ≡ length (one_read (read_line (frames.without_cr (start.now ++ end.now)))) + length (all_read (frames.frames behind.now 20479))) }
+        ensures known { OnOk result (self.new.now
+            ≡ shown_all (shown_all self.old.now (one_read (read_line (frames.without_cr (start.now
+            ++ end.now))))) (all_read (frames.frames behind.now 20479))) }
+        ensures count { IfOk result (λ taken.
+            taken.count ≡ length (one_read (read_line (frames.without_cr (start.now ++ end.now))))
+            + length (all_read (frames.frames behind.now 20479))) }
         ensures spoilt { IfOk result (λ taken. taken.is_spoilt ≡ frames.is_spoilt behind.now 20479) }
         ensures err { OnErr result (self.new.now ≡ self.old.now) }
         ensures noting { self.new.noting ≡ false }
@@ -86,11 +90,15 @@ impl UndoableKnown {
         }
     }
 
-    // Where memory is refused, some may be folded, and what was before is noted.
+    /// Where memory is refused, some may be folded, and what was before is noted.
     fn take_noted(&mut self, start: &[u8], end: &[u8], behind: &[u8]) -> Result<Taken, AllocError>
         requires { self.old.noting ≡ true }
-        ensures known { OnOk result (self.new.now ≡ shown_all (shown_all self.old.now (one_read (read_line (frames.without_cr (start.now ++ end.now))))) (all_read (frames.frames behind.now 20479))) }
-        ensures count { IfOk result (λ taken. taken.count ≡ length (one_read (read_line (frames.without_cr (start.now ++ end.now)))) + length (all_read (frames.frames behind.now 20479))) }
+        ensures known { OnOk result (self.new.now
+            ≡ shown_all (shown_all self.old.now (one_read (read_line (frames.without_cr (start.now
+            ++ end.now))))) (all_read (frames.frames behind.now 20479))) }
+        ensures count { IfOk result (λ taken.
+            taken.count ≡ length (one_read (read_line (frames.without_cr (start.now ++ end.now))))
+            + length (all_read (frames.frames behind.now 20479))) }
         ensures spoilt { IfOk result (λ taken. taken.is_spoilt ≡ frames.is_spoilt behind.now 20479) }
         ensures before { self.new.before ≡ self.old.before }
     {
@@ -102,10 +110,12 @@ impl UndoableKnown {
         })
     }
 
-    // A line whose bytes are given in two parts.
+    /// A line whose bytes are given in two parts.
     fn take_parts(&mut self, start: &[u8], end: &[u8]) -> Result<usize, AllocError>
-        ensures ok { OnOk result (Changes (λ v. shown_all v (one_read (read_line (frames.without_cr (start.now ++ end.now))))) self.old self.new) }
-        ensures count { IfOk result (λ count. count ≡ length (one_read (read_line (frames.without_cr (start.now ++ end.now))))) }
+        ensures ok { OnOk result (Changes (λ v.
+            shown_all v (one_read (read_line (frames.without_cr (start.now ++ end.now))))) self.old self.new) }
+        ensures count { IfOk result (λ count.
+            count ≡ length (one_read (read_line (frames.without_cr (start.now ++ end.now))))) }
         ensures err { OnErr result (Refused self.old self.new) }
     {
         if start.is_empty() {
@@ -117,7 +127,7 @@ impl UndoableKnown {
         self.take(&line)
     }
 
-    // The lines that end in these bytes, up to the first that is too long.
+    /// The lines that end in these bytes, up to the first that is too long.
     fn take_lines(&mut self, bytes: &[u8]) -> Result<Taken, AllocError>
         requires { self.old.noting ≡ true }
         ensures known { OnOk result (self.new.now ≡ shown_all self.old.now (all_read (frames.frames bytes.now 20479))) }

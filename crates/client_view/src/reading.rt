@@ -20,7 +20,8 @@ impl UndoableKnown {
     /// Reads a line, which may have a CR at its end, and folds it. Gives how many lines were folded:
     /// 1, or 0 where no reply prints it.
     pub(crate) fn take(&mut self, line: &[u8]) -> Result<usize, AllocError>
-        ensures ok { OnOk result (Changes (λ v. shown_all v (one_read (read_line (frames.without_cr line.now)))) self.old self.new) }
+        ensures ok { OnOk result (Changes (λ v.
+            shown_all v (one_read (read_line (frames.without_cr line.now)))) self.old self.new) }
         ensures count { IfOk result (λ count. count ≡ length (one_read (read_line (frames.without_cr line.now)))) }
         ensures err { OnErr result (Refused self.old self.new) }
     {
@@ -30,11 +31,13 @@ impl UndoableKnown {
         }
     }
 
-    // Nine in ten lines are a status or talk. These are folded without a `Reply`, which is as large as
-    // the largest kind, and whose moves from where it is read to here would cost more than the rest.
+    /// Nine in ten lines are a status or talk. These are folded without a `Reply`, which is as large as
+    /// the largest kind, and whose moves from where it is read to here would cost more than the rest.
     fn take_head(&mut self, head: Head) -> Result<usize, AllocError>
-        ensures ok { OnOk result (Changes (λ v. shown_all v (told (read_arguments head.entry.command head.entry.arguments.now))) self.old self.new) }
-        ensures count { IfOk result (λ count. count ≡ length (told (read_arguments head.entry.command head.entry.arguments.now))) }
+        ensures ok { OnOk result (Changes (λ v.
+            shown_all v (told (read_arguments head.entry.command head.entry.arguments.now))) self.old self.new) }
+        ensures count { IfOk result (λ count.
+            count ≡ length (told (read_arguments head.entry.command head.entry.arguments.now))) }
         ensures err { OnErr result (Refused self.old self.new) }
     {
         match head.command {
@@ -44,10 +47,12 @@ impl UndoableKnown {
         }
     }
 
-    // The arguments are those of `CLIENTSTATUS`.
+    /// The arguments are those of `CLIENTSTATUS`.
     fn take_status(&mut self, arguments: &[u8]) -> Result<usize, AllocError>
-        ensures ok { OnOk result (Changes (λ v. shown_all v (told (read_arguments command.ClientStatus arguments.now))) self.old self.new) }
-        ensures count { IfOk result (λ count. count ≡ length (told (read_arguments command.ClientStatus arguments.now))) }
+        ensures ok { OnOk result (Changes (λ v.
+            shown_all v (told (read_arguments command.ClientStatus arguments.now))) self.old self.new) }
+        ensures count { IfOk result (λ count.
+            count ≡ length (told (read_arguments command.ClientStatus arguments.now))) }
         ensures err { OnErr result (Refused self.old self.new) }
     {
         match read_client_status(self.known.alloc, arguments) {
@@ -60,9 +65,10 @@ impl UndoableKnown {
         }
     }
 
-    // The arguments are those of `SAID`, of which nothing is kept.
+    /// The arguments are those of `SAID`, of which nothing is kept.
     fn take_said(&mut self, arguments: &[u8]) -> Result<usize, AllocError>
-        ensures ok { OnOk result (Changes (λ v. shown_all v (told (read_arguments command.Said arguments.now))) self.old self.new) }
+        ensures ok { OnOk result (Changes (λ v.
+            shown_all v (told (read_arguments command.Said arguments.now))) self.old self.new) }
         ensures count { IfOk result (λ count. count ≡ length (told (read_arguments command.Said arguments.now))) }
         ensures err { OnErr result (Refused self.old self.new) }
     {
@@ -75,8 +81,10 @@ impl UndoableKnown {
 
     #[inline(never)]
     fn take_reply(&mut self, head: Head) -> Result<usize, AllocError>
-        ensures ok { OnOk result (Changes (λ v. shown_all v (told (read_arguments head.entry.command head.entry.arguments.now))) self.old self.new) }
-        ensures count { IfOk result (λ count. count ≡ length (told (read_arguments head.entry.command head.entry.arguments.now))) }
+        ensures ok { OnOk result (Changes (λ v.
+            shown_all v (told (read_arguments head.entry.command head.entry.arguments.now))) self.old self.new) }
+        ensures count { IfOk result (λ count.
+            count ≡ length (told (read_arguments head.entry.command head.entry.arguments.now))) }
         ensures err { OnErr result (Refused self.old self.new) }
     {
         match head.reply(self.known.alloc) {

@@ -36,7 +36,11 @@ impl Model for UndoableKnown {
 
     ghost Value = { Undoable View };
 
-    ghost view = { λ u. record { now = u.known.now; before = first_before u.earlier u.known; noting = u.known.noting } };
+    ghost view = { λ u. record {
+      now = u.known.now;
+      before = first_before u.earlier u.known;
+      noting = u.known.noting;
+    } };
 }
 
 impl UndoableKnown {
@@ -126,7 +130,7 @@ impl UndoableKnown {
         }
     }
 
-    // The login was accepted: all begins anew.
+    /// The login was accepted: all begins anew.
     fn accepted(&mut self, name: NameBuf)
         ensures { Changes (λ v. shown v (reply.Accepted name)) self.old self.new }
     {
@@ -138,7 +142,7 @@ impl UndoableKnown {
         }
     }
 
-    // From now on this is known, and what was before the changes that are noted stays.
+    /// From now on this is known, and what was before the changes that are noted stays.
     fn begin_anew(&mut self, mut known: Known)
         ensures now { self.new.now ≡ known.now }
         ensures before { self.new.before ≡ self.old.before }
@@ -153,7 +157,7 @@ impl UndoableKnown {
     }
 }
 
-// It stands apart, so that a reply that is folded is moved as a whole, and not field by field.
+/// It stands apart, so that a reply that is folded is moved as a whole, and not field by field.
 #[inline(never)]
 fn let_go(reply: Reply) {
     reply.discard();

@@ -63,8 +63,10 @@ impl View {
     /// it has ended or not: the lines before it are folded, and then nothing changes any more.
     /// `Memory` where memory was refused: nothing has changed, and the piece may be fed again.
     pub fn feed(&mut self, piece: &[u8]) -> Result<usize, ViewError>
-        ensures ok { IfOk result (λ count. TookIn self.old piece.now self.new × (self.new.spoilt ≡ false) × HasNew self.old piece.now count) }
-        ensures too_long { result ≡ Err ViewError.LineTooLong → TookIn self.old piece.now self.new × (self.new.spoilt ≡ true) }
+        ensures ok { IfOk result (λ count.
+            TookIn self.old piece.now self.new × (self.new.spoilt ≡ false) × HasNew self.old piece.now count) }
+        ensures too_long { result ≡ Err ViewError.LineTooLong
+            → TookIn self.old piece.now self.new × (self.new.spoilt ≡ true) }
         ensures later { self.old.spoilt ≡ true → (result ≡ Err ViewError.LineTooLong) × (self.new ≡ self.old) }
         ensures memory { result ≡ Err ViewError.Memory → self.new ≡ self.old }
     {
@@ -77,12 +79,15 @@ impl View {
         }
     }
 
-    // The end of the unfinished line, and the bytes behind its LF.
+    /// The end of the unfinished line, and the bytes behind its LF.
     fn feed_lines(&mut self, end: &[u8], behind: &[u8]) -> Result<usize, ViewError>
         requires line { HasNoEnd end.now }
         requires live { self.old.spoilt ≡ false }
-        ensures ok { IfOk result (λ count. TookIn self.old (end.now ++ 10 ∷ behind.now) self.new × (self.new.spoilt ≡ false) × HasNew self.old (end.now ++ 10 ∷ behind.now) count) }
-        ensures too_long { result ≡ Err ViewError.LineTooLong → TookIn self.old (end.now ++ 10 ∷ behind.now) self.new × (self.new.spoilt ≡ true) }
+        ensures ok { IfOk result (λ count.
+            TookIn self.old (end.now ++ 10 ∷ behind.now) self.new × (self.new.spoilt ≡ false)
+            × HasNew self.old (end.now ++ 10 ∷ behind.now) count) }
+        ensures too_long { result ≡ Err ViewError.LineTooLong
+            → TookIn self.old (end.now ++ 10 ∷ behind.now) self.new × (self.new.spoilt ≡ true) }
         ensures memory { result ≡ Err ViewError.Memory → self.new ≡ self.old }
     {
         if self.is_too_long(end) {
@@ -100,12 +105,14 @@ impl View {
         Ok(taken.count)
     }
 
-    // More of the unfinished line.
+    /// More of the unfinished line.
     fn feed_unfinished(&mut self, more: &[u8]) -> Result<usize, ViewError>
         requires line { HasNoEnd more.now }
         requires live { self.old.spoilt ≡ false }
-        ensures ok { IfOk result (λ count. TookIn self.old more.now self.new × (self.new.spoilt ≡ false) × HasNew self.old more.now count) }
-        ensures too_long { result ≡ Err ViewError.LineTooLong → TookIn self.old more.now self.new × (self.new.spoilt ≡ true) }
+        ensures ok { IfOk result (λ count.
+            TookIn self.old more.now self.new × (self.new.spoilt ≡ false) × HasNew self.old more.now count) }
+        ensures too_long { result ≡ Err ViewError.LineTooLong
+            → TookIn self.old more.now self.new × (self.new.spoilt ≡ true) }
         ensures memory { result ≡ Err ViewError.Memory → self.new ≡ self.old }
     {
         if self.is_too_long(more) {

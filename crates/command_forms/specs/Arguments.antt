@@ -1,6 +1,8 @@
--- The kinds of argument. Each says how the rest of a line, from the end of the command word or of the last argument on, begins with an
--- argument, and hands that argument and its own rest to the next kind. What the last hands its arguments to says which command it is.
-use Rattle.std.specs.Prelude.{◌≡◌, ℕ, ℤ, pos, negsuc, ◌≤ℤ◌, Bool, false, ◌==◌, ◌⊎◌, List, [], ◌∷◌, ◌++◌, codes, Option, Some, None, IsTrue, MatchBool}
+-- The kinds of argument. Each says how the rest of a line, from the end of the command word or of the last argument on,
+-- begins with an argument, and hands that argument and its own rest to the next kind. What the last hands its arguments
+-- to says which command it is.
+use Rattle.std.specs.Prelude.{◌≡◌, ℕ, ℤ, pos, negsuc, ◌≤ℤ◌, Bool, false, ◌==◌, ◌⊎◌, List, [], ◌∷◌, ◌++◌, codes}
+use Rattle.std.specs.Prelude.{Option, Some, None, IsTrue, MatchBool}
 use Rattle.std.specs.List.{list_any}
 use Rattle.line_words.specs.Bytes.{has_byte, is_spaces, is_name, is_key}
 use Rattle.line_words.specs.Numbers.{IsNumeral}
@@ -21,12 +23,14 @@ IsFault f c = c ≡ command.Unread f
 -- the next word, behind one or more spaces; only spaces are a missing argument, and a tab in the word is a bad byte
 abbrev pub Word : (List ℕ → List ℕ → Command → Type 0) → List ℕ → Command → Type 0
 Word K rest c = (IsTrue (is_spaces rest) × IsFault fault.MissingArgument c)
-    ⊎ ((word : List ℕ) × (behind : List ℕ) × NextWord rest word behind × MatchBool (has_byte 9 word) (IsFault fault.BadByte c) (K word behind c))
+    ⊎ ((word : List ℕ) × (behind : List ℕ) × NextWord rest word behind
+    × MatchBool (has_byte 9 word) (IsFault fault.BadByte c) (K word behind c))
 
 -- the same, but only spaces are no word
 abbrev pub OptionalWord : (Option (List ℕ) → List ℕ → Command → Type 0) → List ℕ → Command → Type 0
 OptionalWord K rest c = (IsTrue (is_spaces rest) × K None [] c)
-    ⊎ ((word : List ℕ) × (behind : List ℕ) × NextWord rest word behind × MatchBool (has_byte 9 word) (IsFault fault.BadByte c) (K (Some word) behind c))
+    ⊎ ((word : List ℕ) × (behind : List ℕ) × NextWord rest word behind
+    × MatchBool (has_byte 9 word) (IsFault fault.BadByte c) (K (Some word) behind c))
 
 -- a word that is a name
 abbrev pub Name : (List ℕ → List ℕ → Command → Type 0) → List ℕ → Command → Type 0
@@ -60,7 +64,8 @@ abbrev pub OptionalText : (Option (List ℕ) → Command → Type 0) → List �
 OptionalText K [] c = K None c
 OptionalText K (space ∷ text) c = K (Some text) c
 
--- a sentence: all behind exactly one byte, the space or the tab before it, up to the next tab; without that byte it is missing
+-- a sentence: all behind exactly one byte, the space or the tab before it, up to the next tab; without that byte it is
+-- missing
 abbrev pub Sentence : (List ℕ → List ℕ → Command → Type 0) → List ℕ → Command → Type 0
 Sentence K [] c = IsFault fault.MissingArgument c
 Sentence K (mark ∷ text) c = K (before 9 text) (from 9 text) c
@@ -89,7 +94,8 @@ abbrev pub PairsIn : (List Pair → Command → Type 0) → List (List ℕ) → 
 PairsIn K [] c = K [] c
 PairsIn K ([] ∷ more) c = PairsIn K more c
 PairsIn K ((b ∷ bs) ∷ more) c =
-    ((p : Pair) × IsPair (b ∷ bs) p × PairsIn (λ pairs. K (p ∷ pairs)) more c) ⊎ (((p : Pair) → IsPair (b ∷ bs) p → ⊥) × IsFault fault.BadPair c)
+    ((p : Pair) × IsPair (b ∷ bs) p × PairsIn (λ pairs. K (p ∷ pairs)) more c)
+    ⊎ (((p : Pair) → IsPair (b ∷ bs) p → ⊥) × IsFault fault.BadPair c)
 
 -- one or more; none is a missing argument
 abbrev pub AtLeastOne : {A : Type 0} → (List A → Command → Type 0) → List A → Command → Type 0
@@ -107,4 +113,5 @@ AreWords rest (word ∷ words) = (behind : List ℕ) × NextWord rest word behin
 
 -- all words of the rest, at least one; a tab in one of them is a bad byte
 abbrev pub Words : (List (List ℕ) → Command → Type 0) → List ℕ → Command → Type 0
-Words K rest c = (words : List (List ℕ)) × AreWords rest words × MatchBool (list_any (has_byte 9) words) (IsFault fault.BadByte c) (AtLeastOne K words c)
+Words K rest c = (words : List (List ℕ)) × AreWords rest words
+    × MatchBool (list_any (has_byte 9) words) (IsFault fault.BadByte c) (AtLeastOne K words c)

@@ -3,11 +3,13 @@ use Rattle.std.specs.Prelude.{◌≡◌, ℕ, Bool, nat_eq, find, List, [], ◌�
 use Rattle.std.specs.Cmp.Lexicographic.{pointwise}
 use Rattle.command_forms.specs.declared.command.ReadFault.TheVariants as fault
 use Rattle.command_forms.specs.declared.command.Command.{Command}
-use Rattle.command_forms.specs.Arguments.{IsFault, Word, OptionalWord, Name, Natural, Wide, Flag, Text, OptionalText, Sentence, LoginFlags, Pairs, Words}
+use Rattle.command_forms.specs.Arguments.{IsFault, Word, OptionalWord, Name, Natural, Wide, Flag, Text, OptionalText}
+use Rattle.command_forms.specs.Arguments.{Sentence, LoginFlags, Pairs, Words}
 use Rattle.command_forms.specs.Table as kind
 use Rattle.command_forms.specs.Table.{Kind, Value, Values, Maker, Entry, entries}
 
--- two words are the same, byte for byte: what `==` says of slices, while `same_name` of line_words goes by their order, as lists of names are searched
+-- two words are the same, byte for byte: what `==` says of slices, while `same_name` of line_words goes by their order,
+-- as lists of names are searched
 abbrev pub is_same : List ℕ → List ℕ → Bool
 is_same = pointwise nat_eq
 

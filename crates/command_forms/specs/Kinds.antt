@@ -4,7 +4,8 @@ use Rattle.std.specs.List.{list_all}
 use Rattle.line_words.specs.Bytes.{is_name, is_sentence, is_text, is_word}
 use Rattle.line_words.specs.Kinds.{is_pair, is_some_word, is_wide}
 use Rattle.command_forms.specs.declared.command.Command.{Command}
-use Rattle.command_forms.specs.Table.{Kind, Word, OptionalWord, Name, Natural, Wide, Flag, Sentence, Text, OptionalText, LoginFlags, Pairs, Words, Value, Values, arguments_of}
+use Rattle.command_forms.specs.Table.{Kind, Word, OptionalWord, Name, Natural, Wide, Flag, Sentence, Text}
+use Rattle.command_forms.specs.Table.{OptionalText, LoginFlags, Pairs, Words, Value, Values, arguments_of}
 
 -- at most this
 abbrev pub is_up_to : ℕ → ℕ → Bool

@@ -1,7 +1,8 @@
 -- Which commands own bytes, and so take memory.
 use Rattle.std.specs.Prelude.{Bool, true, false, ◌||◌, is_some, List, [], ◌∷◌}
 use Rattle.command_forms.specs.declared.command.Command.{Command}
-use Rattle.command_forms.specs.Table.{Kind, Natural, Wide, Flag, LoginFlags, OptionalWord, OptionalText, Value, Values, arguments_of}
+use Rattle.command_forms.specs.Table.{Kind, Natural, Wide, Flag, LoginFlags, OptionalWord, OptionalText, Value}
+use Rattle.command_forms.specs.Table.{Values, arguments_of}
 
 -- numbers and flags own no bytes; all else does, if it is there
 abbrev pub owns : (k : Kind) → Value k → Bool

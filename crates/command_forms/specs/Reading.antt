@@ -1,5 +1,8 @@
--- What reading the arguments of a command gives, as a function: the readers are proved by it, and it is proved to give what their form says.
-use Rattle.std.specs.Prelude.{◌≡◌, ℕ, ℤ, pos, negsuc, neg_ℤ, int_lt, Bool, false, not, ◌&&◌, ◌||◌, ◌==◌, if◌then◌else◌, List, [], ◌∷◌, ◌++◌, length, Option, Some, None, Result, Ok, Err, is_ok, IsTrue}
+-- What reading the arguments of a command gives, as a function: the readers are proved by it, and it is proved to give
+-- what their form says.
+use Rattle.std.specs.Prelude.{◌≡◌, ℕ, ℤ, pos, negsuc, neg_ℤ, int_lt, Bool, false, not, ◌&&◌, ◌||◌, ◌==◌}
+use Rattle.std.specs.Prelude.{if◌then◌else◌, List, [], ◌∷◌, ◌++◌, length, Option, Some, None, Result, Ok, Err, is_ok}
+use Rattle.std.specs.Prelude.{IsTrue}
 use Rattle.line_words.specs.Bytes.{has_byte, is_name, is_key}
 use Rattle.line_words.specs.Parts.{before, from, between}
 use Rattle.line_words.specs.Numbers.{is_digits, value_of}
@@ -82,7 +85,8 @@ name_at rest = word_at rest >>= if_name
 -- the number that a word is written as
 abbrev pub numeral : List ℕ → Option ℤ
 numeral [] = None
-numeral (b ∷ bs) = if is_digits (b ∷ bs) then Some (pos (value_of (b ∷ bs))) else (if b == 45 && is_digits bs then Some (neg_ℤ (pos (value_of bs))) else None)
+numeral (b ∷ bs) = if is_digits (b ∷ bs) then Some (pos (value_of (b ∷ bs)))
+    else (if b == 45 && is_digits bs then Some (neg_ℤ (pos (value_of bs))) else None)
 
 -- low and high are in the range
 abbrev pub is_between : ℤ → ℤ → ℤ → Bool
@@ -232,11 +236,14 @@ abbrev pub AlwaysOwns : (kinds : List Kind) → Maker kinds → Type 0
 AlwaysOwns [] made = IsTrue (owns_bytes made)
 AlwaysOwns (k ∷ ks) maker = (x : Value k) → AlwaysOwns ks (maker x)
 
--- what a reader of a row returns, whatever command its arguments are for: they make that command, or memory is refused to one that owns bytes
-abbrev pub GivesRow : {X : Type 0} (kinds : List Kind) → (Maker kinds → X → Command) → Result X ReadError → List ℕ → Type 0
+-- what a reader of a row returns, whatever command its arguments are for: they make that command, or memory is refused
+-- to one that owns bytes
+abbrev pub GivesRow : {X : Type 0} (kinds : List Kind) → (Maker kinds → X → Command) → Result X ReadError → List ℕ
+    → Type 0
 GivesRow kinds make (Ok x) rest = (maker : Maker kinds) → row_at kinds maker rest ≡ Ok (make maker x)
 GivesRow kinds make (Err (errors.Fault f)) rest = (maker : Maker kinds) → row_at kinds maker rest ≡ Err f
-GivesRow kinds make (Err (errors.Memory e)) rest = (maker : Maker kinds) → AlwaysOwns kinds maker → IsTrue (needs_memory (row_at kinds maker rest))
+GivesRow kinds make (Err (errors.Memory e)) rest = (maker : Maker kinds) → AlwaysOwns kinds maker
+    → IsTrue (needs_memory (row_at kinds maker rest))
 
 -- what an entry of the table makes of the rest of a line
 abbrev pub known_at : Option Entry → List ℕ → Result Command ReadFault

@@ -2,7 +2,8 @@
 use Rattle.std.specs.Prelude.{ℕ, ◌+◌, List, [], ◌∷◌, length, Option, Some, None, sum_by}
 use Rattle.line_words.specs.declared.lists.Pair.{Pair}
 use Rattle.command_forms.specs.declared.command.Command.{Command}
-use Rattle.command_forms.specs.Table.{Kind, Word, OptionalWord, Name, Natural, Wide, Flag, Sentence, Text, OptionalText, LoginFlags, Pairs, Words, Value, Values, arguments_of}
+use Rattle.command_forms.specs.Table.{Kind, Word, OptionalWord, Name, Natural, Wide, Flag, Sentence, Text}
+use Rattle.command_forms.specs.Table.{OptionalText, LoginFlags, Pairs, Words, Value, Values, arguments_of}
 
 -- an argument, with the byte that parts it from what stands before
 abbrev pub size : List ℕ → ℕ

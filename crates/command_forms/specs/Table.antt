@@ -1,4 +1,5 @@
--- The table of commands: of each its word, the kinds of its arguments from left to right, and the command that they make.
+-- The table of commands: of each its word, the kinds of its arguments from left to right, and the command that they
+-- make.
 use Rattle.std.specs.Prelude.{ℕ, ℤ, Bool, List, [], ◌∷◌, codes, Option}
 use Rattle.line_words.specs.declared.lists.Pair.{Pair}
 use Rattle.command_forms.specs.declared.command.Command.{Command}
@@ -154,7 +155,8 @@ pub record Entry : Type 0 where
 abbrev pub entry : List ℕ → (kinds : List Kind) → Maker kinds → Entry
 entry word kinds maker = record { word = word; kinds = kinds; maker = maker }
 
--- The table of commands, its last part first, and each part ends with the one behind it: the code has a function for each.
+-- The table of commands, its last part first, and each part ends with the one behind it: the code has a function for
+-- each.
 
 -- what a founder does to players
 unfoldable pub host_entries : List Entry
@@ -226,7 +228,8 @@ arguments_of command.Blank = given [] tt
 arguments_of (command.Unread fault) = given [] tt
 arguments_of command.Ping = given [] tt
 arguments_of command.Exit = given [] tt
-arguments_of (command.Login user_name password cpu local_ip lobby authorises) = given login_row (user_name, (password, (cpu, (local_ip, (lobby, (authorises, tt))))))
+arguments_of (command.Login user_name password cpu local_ip lobby authorises) = given login_row
+    (user_name, (password, (cpu, (local_ip, (lobby, (authorises, tt))))))
 arguments_of (command.MyStatus status) = given status_row (status, tt)
 arguments_of command.Channels = given [] tt
 arguments_of (command.Join channel key) = given join_row (channel, (key, tt))
@@ -234,20 +237,45 @@ arguments_of (command.Leave channel) = given one_name (channel, tt)
 arguments_of (command.Say channel text) = given name_and_text (channel, (text, tt))
 arguments_of (command.SayEx channel text) = given name_and_text (channel, (text, tt))
 arguments_of (command.SayPrivate user text) = given name_and_text (user, (text, tt))
-arguments_of (command.OpenBattle battle_type nat_type password port max_players game_hash rank map_hash engine_name engine_version map title game_name) =
-    given open_battle_row (battle_type, (nat_type, (password, (port, (max_players, (game_hash, (rank, (map_hash, (engine_name, (engine_version, (map, (title, (game_name, tt)))))))))))))
-arguments_of (command.JoinBattle battle password script_password) = given join_battle_row (battle, (password, (script_password, tt)))
+arguments_of (command.OpenBattle battle_type nat_type password port max_players game_hash rank map_hash engine_name
+    engine_version map title game_name) =
+    given open_battle_row (
+      battle_type,
+      (
+        nat_type,
+        (
+          password,
+          (
+            port,
+            (
+              max_players,
+              (
+                game_hash,
+                (rank, (map_hash, (engine_name, (engine_version, (map, (title, (game_name, tt))))))),
+              ),
+            ),
+          ),
+        ),
+      ),
+    )
+arguments_of (command.JoinBattle battle password script_password) = given join_battle_row
+    (battle, (password, (script_password, tt)))
 arguments_of (command.JoinBattleAccept user) = given one_name (user, tt)
 arguments_of (command.JoinBattleDeny user reason) = given deny_row (user, (reason, tt))
 arguments_of command.LeaveBattle = given [] tt
-arguments_of (command.UpdateBattleInfo spectator_count locked map_hash map) = given battle_info_row (spectator_count, (locked, (map_hash, (map, tt))))
-arguments_of (command.MyBattleStatus battle_status team_color) = given battle_status_row (battle_status, (team_color, tt))
+arguments_of (command.UpdateBattleInfo spectator_count locked map_hash map) = given battle_info_row
+    (spectator_count, (locked, (map_hash, (map, tt))))
+arguments_of (command.MyBattleStatus battle_status team_color) = given battle_status_row
+    (battle_status, (team_color, tt))
 arguments_of (command.SayBattle text) = given one_text (text, tt)
 arguments_of (command.SayBattleEx text) = given one_text (text, tt)
-arguments_of (command.AddBot bot battle_status team_color ai) = given add_bot_row (bot, (battle_status, (team_color, (ai, tt))))
-arguments_of (command.UpdateBot bot battle_status team_color) = given update_bot_row (bot, (battle_status, (team_color, tt)))
+arguments_of (command.AddBot bot battle_status team_color ai) = given add_bot_row
+    (bot, (battle_status, (team_color, (ai, tt))))
+arguments_of (command.UpdateBot bot battle_status team_color) = given update_bot_row
+    (bot, (battle_status, (team_color, tt)))
 arguments_of (command.RemoveBot bot) = given one_word (bot, tt)
-arguments_of (command.AddStartRect ally_no left top right bottom) = given add_rectangle_row (ally_no, (left, (top, (right, (bottom, tt)))))
+arguments_of (command.AddStartRect ally_no left top right bottom) = given add_rectangle_row
+    (ally_no, (left, (top, (right, (bottom, tt)))))
 arguments_of (command.RemoveStartRect ally_no) = given remove_rectangle_row (ally_no, tt)
 arguments_of (command.SetScriptTags pairs) = given some_pairs (pairs, tt)
 arguments_of (command.RemoveScriptTags keys) = given some_words (keys, tt)

@@ -6,7 +6,9 @@ ghost use Rattle.std.specs.Option.{option_map};
 ghost use Rattle.line_words.specs.Bytes.{has_byte, is_name, is_sentence, is_text, is_word};
 ghost use Rattle.line_words.specs.Table.{same_name};
 ghost use Rattle.command_forms.specs.Arguments.{flagged, has_flag};
-ghost use Rattle.command_forms.specs.Reading.{seen, word_at, optional_at, name_at, number_in, number_at, natural_at, wide_at, flag_at, text_at, optional_text_at, login_flags_at, sentence_at};
+ghost use Rattle.command_forms.specs.Reading.{seen, word_at, optional_at, name_at, number_in, number_at, natural_at};
+ghost use Rattle.command_forms.specs.Reading.{wide_at, flag_at, text_at, optional_text_at, login_flags_at};
+ghost use Rattle.command_forms.specs.Reading.{sentence_at};
 
 use crate::command::ReadFault;
 use line_words::{Words, is_name, read_number, split_at_byte};

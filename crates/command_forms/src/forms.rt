@@ -7,7 +7,10 @@ ghost use Rattle.std.specs.Option.{option_map};
 ghost use Rattle.line_words.specs.Bytes.{is_sentence, is_text, is_word};
 ghost use Rattle.command_forms.specs.declared.command.Command.TheVariants as command;
 ghost use Rattle.command_forms.specs.Reading.{Gives, row_at};
-ghost use Rattle.command_forms.specs.Table.{Wide, battle_titles, add_bot_row, add_rectangle_row, battle_info_row, battle_status_row, color_row, deny_row, join_battle_row, join_row, login_row, one_word, open_battle_row, remove_rectangle_row, side_number, some_pairs, status_row, update_bot_row};
+ghost use Rattle.command_forms.specs.Table.{Wide, battle_titles, add_bot_row, add_rectangle_row, battle_info_row};
+ghost use Rattle.command_forms.specs.Table.{battle_status_row, color_row, deny_row, join_battle_row, join_row};
+ghost use Rattle.command_forms.specs.Table.{login_row, one_word, open_battle_row, remove_rectangle_row, side_number};
+ghost use Rattle.command_forms.specs.Table.{some_pairs, status_row, update_bot_row};
 
 use crate::arguments::{
     flag_at, login_flags_at, name_at, natural_at, optional_at, optional_text_at, sentence_at,
@@ -40,7 +43,7 @@ pub fn login(alloc: Global, rest: &[u8]) -> Result<Command, ReadError>
     Ok(copy_of_login(alloc, &login)?)
 }
 
-// The arguments of LOGIN.
+/// The arguments of LOGIN.
 #[derive(Drop)]
 struct LentLogin<'a> {
     user_name: &'a [u8],
@@ -51,14 +54,15 @@ struct LentLogin<'a> {
     authorises: bool,
 }
 
-// Copies have functions of their own where there are many: each `?` that can leave a copy behind is
-// proved with what lets it go.
+/// Copies have functions of their own where there are many: each `?` that can leave a copy behind is
+/// proved with what lets it go.
 fn copy_of_login(alloc: Global, login: &LentLogin<'_>) -> Result<Command, AllocError>
     requires user_name { IsTrue (is_word login.now.user_name.now) }
     requires password { IsTrue (is_word login.now.password.now) }
     requires local_ip { IsTrue (is_word login.now.local_ip.now) }
     requires lobby { IsTrue (is_sentence login.now.lobby.now) }
-    ensures { IfOk result (λ c. c ≡ command.Login login.now.user_name.now login.now.password.now login.now.cpu login.now.local_ip.now login.now.lobby.now login.now.authorises) }
+    ensures { IfOk result (λ c. c ≡ command.Login login.now.user_name.now login.now.password.now login.now.cpu
+        login.now.local_ip.now login.now.lobby.now login.now.authorises) }
 {
     Ok(Command::Login {
         user_name: WordBuf::copy_of(alloc, login.user_name)?,
@@ -112,7 +116,7 @@ pub fn open_battle(alloc: Global, rest: &[u8]) -> Result<Command, ReadError>
     hashed_battle(alloc, &host, rest)
 }
 
-// What stands before the hashes of OPENBATTLE.
+/// What stands before the hashes of OPENBATTLE.
 #[derive(Drop)]
 struct LentHost<'a> {
     battle_type: u8,
@@ -122,12 +126,14 @@ struct LentHost<'a> {
     max_players: u16,
 }
 
-// The hashes and the rank of OPENBATTLE. They and the sentences have functions of their own, since one
-// over all its arguments is proved far slower.
+/// The hashes and the rank of OPENBATTLE. They and the sentences have functions of their own, since one
+/// over all its arguments is proved far slower.
 fn hashed_battle(alloc: Global, host: &LentHost<'_>, rest: &[u8]) -> Result<Command, ReadError>
     requires text { IsTrue (is_text rest.now) }
     requires password { IsTrue (is_word host.now.password.now) }
-    ensures { Gives result (row_at (Wide ∷ Wide ∷ Wide ∷ battle_titles) (command.OpenBattle host.now.battle_type host.now.nat_type host.now.password.now host.now.port host.now.max_players) rest.now) }
+    ensures { Gives result (row_at (Wide ∷ Wide ∷ Wide
+        ∷ battle_titles) (command.OpenBattle host.now.battle_type host.now.nat_type host.now.password.now host.now.port
+        host.now.max_players) rest.now) }
 {
     let (game_hash, rest) = wide_at(rest)?;
     let (rank, rest) = wide_at(rest)?;
@@ -140,7 +146,7 @@ fn hashed_battle(alloc: Global, host: &LentHost<'_>, rest: &[u8]) -> Result<Comm
     named_battle(alloc, host, &hashes, rest)
 }
 
-// The hashes and the rank of OPENBATTLE.
+/// The hashes and the rank of OPENBATTLE.
 #[derive(Drop)]
 struct Hashes {
     game_hash: i64,
@@ -148,7 +154,7 @@ struct Hashes {
     map_hash: i64,
 }
 
-// The sentences of OPENBATTLE.
+/// The sentences of OPENBATTLE.
 fn named_battle(
     alloc: Global,
     host: &LentHost<'_>,
@@ -157,7 +163,9 @@ fn named_battle(
 ) -> Result<Command, ReadError>
     requires text { IsTrue (is_text rest.now) }
     requires password { IsTrue (is_word host.now.password.now) }
-    ensures { Gives result (row_at battle_titles (command.OpenBattle host.now.battle_type host.now.nat_type host.now.password.now host.now.port host.now.max_players hashes.now.game_hash hashes.now.rank hashes.now.map_hash) rest.now) }
+    ensures { Gives result (row_at battle_titles
+        (command.OpenBattle host.now.battle_type host.now.nat_type host.now.password.now host.now.port
+        host.now.max_players hashes.now.game_hash hashes.now.rank hashes.now.map_hash) rest.now) }
 {
     let (engine_name, rest) = sentence_at(rest)?;
     let (engine_version, rest) = sentence_at(rest)?;
@@ -174,7 +182,7 @@ fn named_battle(
     Ok(copy_of_battle(alloc, host, hashes, &titles)?)
 }
 
-// The sentences of OPENBATTLE.
+/// The sentences of OPENBATTLE.
 #[derive(Drop)]
 struct LentTitles<'a> {
     engine_name: &'a [u8],
@@ -196,7 +204,10 @@ fn copy_of_battle(
     requires map { IsTrue (is_sentence titles.now.map.now) }
     requires title { IsTrue (is_sentence titles.now.title.now) }
     requires game_name { IsTrue (is_sentence titles.now.game_name.now) }
-    ensures { IfOk result (λ c. c ≡ command.OpenBattle host.now.battle_type host.now.nat_type host.now.password.now host.now.port host.now.max_players hashes.now.game_hash hashes.now.rank hashes.now.map_hash titles.now.engine_name.now titles.now.engine_version.now titles.now.map.now titles.now.title.now titles.now.game_name.now) }
+    ensures { IfOk result (λ c. c ≡ command.OpenBattle host.now.battle_type host.now.nat_type host.now.password.now
+        host.now.port host.now.max_players hashes.now.game_hash hashes.now.rank hashes.now.map_hash
+        titles.now.engine_name.now titles.now.engine_version.now titles.now.map.now titles.now.title.now
+        titles.now.game_name.now) }
 {
     let password = WordBuf::copy_of(alloc, host.password)?;
     let (engine_name, engine_version) = copy_of_two(
@@ -384,7 +395,7 @@ pub fn add_start_rect(rest: &[u8]) -> Result<Command, ReadError>
     lower_right(ally_no as u8, left as u8, top as u8, rest)
 }
 
-// The second corner of ADDSTARTRECT.
+/// The second corner of ADDSTARTRECT.
 fn lower_right(ally_no: u8, left: u8, top: u8, rest: &[u8]) -> Result<Command, ReadError>
     requires { IsTrue (is_text rest.now) }
     ensures { Gives result (row_at (side_number ∷ side_number ∷ []) (command.AddStartRect ally_no left top) rest.now) }

@@ -49,7 +49,7 @@ fn is_pair(sentence: &[u8]) -> bool
     pair_in(sentence).is_some()
 }
 
-// The key and the value of a pair.
+/// The key and the value of a pair.
 #[tactic(auto, unfolding(crate::specs::Reading::pair_in), using(crate::proofs::Slices::sentence_behind))]
 fn pair_in(sentence: &[u8]) -> Option<(&[u8], &[u8])>
     ensures some { IfSome result (λ x. pair_in sentence.now ≡ Ok (pair x.0.now x.1.now)) }

@@ -1,5 +1,7 @@
--- What reading a line gives, as a function: the readers are proved by it, and it is proved to give what a line reads as.
-use Rattle.std.specs.Prelude.{ℕ, ◌&&◌, ◌==◌, nat_le, if◌then◌else◌, Bool, List, [], ◌∷◌, length, Option, Some, None, Result, Ok, Err}
+-- What reading a line gives, as a function: the readers are proved by it, and it is proved to give what a line reads
+-- as.
+use Rattle.std.specs.Prelude.{ℕ, ◌&&◌, ◌==◌, nat_le, if◌then◌else◌, Bool, List, [], ◌∷◌, length, Option, Some, None}
+use Rattle.std.specs.Prelude.{Result, Ok, Err}
 use Rattle.line_words.specs.Bytes.{is_text}
 use Rattle.line_words.specs.Parts.{before, from}
 use Rattle.line_words.specs.Numbers.{is_digits, value_of}
@@ -15,7 +17,8 @@ use Rattle.command_grammar.specs.Reads.{id_limit}
 -- the command of a text
 unfoldable pub text_of : List ℕ → Result Command ReadFault
 text_of text =
-    if length text == 0 then Ok command.Blank else (if is_text text then known_at (command_named (before 32 text)) (from 32 text) else Err fault.BadByte)
+    if length text == 0 then Ok command.Blank
+    else (if is_text text then known_at (command_named (before 32 text)) (from 32 text) else Err fault.BadByte)
 
 -- 1 to 10 digits, of at most the largest id
 abbrev pub is_id : List ℕ → Bool

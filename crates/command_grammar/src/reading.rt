@@ -34,7 +34,7 @@ pub fn read_request(alloc: Global, line: &[u8]) -> Result<Request, AllocError>
     Ok(Request { id, command })
 }
 
-// The line without the spaces at its front.
+/// The line without the spaces at its front.
 fn without_spaces(line: &[u8]) -> &[u8]
     ensures { result.now ≡ without_spaces line.now }
 {
@@ -43,7 +43,7 @@ fn without_spaces(line: &[u8]) -> &[u8]
     words.rest()
 }
 
-// The id, if there is one, and the text behind it.
+/// The id, if there is one, and the text behind it.
 #[tactic(auto, unfolding(crate::specs::Reading::numbered))]
 fn read_id(line: &[u8]) -> (Option<u32>, &[u8])
     ensures { (result.0, result.1.now) ≡ numbered line.now }
@@ -60,7 +60,7 @@ fn read_id(line: &[u8]) -> (Option<u32>, &[u8])
     }
 }
 
-// An id counts where at least one space is behind it.
+/// An id counts where at least one space is behind it.
 fn with_id<'a>(line: &'a [u8], id: Option<u32>, behind: &'a [u8]) -> (Option<u32>, &'a [u8])
     ensures { (result.0, result.1.now) ≡ with_id line.entry.now id behind.entry.now }
 {
@@ -73,7 +73,7 @@ fn with_id<'a>(line: &'a [u8], id: Option<u32>, behind: &'a [u8]) -> (Option<u32
     }
 }
 
-// The id that these digits are.
+/// The id that these digits are.
 fn id_of(digits: &[u8]) -> Option<u32>
     ensures { result ≡ id_of digits.now }
 {
@@ -86,7 +86,7 @@ fn id_of(digits: &[u8]) -> Option<u32>
     }
 }
 
-// A fault is a request too.
+/// A fault is a request too.
 fn read_text(alloc: Global, text: &[u8]) -> Result<Command, AllocError>
     ensures ok { IfOk result (λ c. c ≡ command_of (text_of text.now)) }
     ensures err { OnErr result (IsTrue (needs_memory (text_of text.now))) }
@@ -98,7 +98,7 @@ fn read_text(alloc: Global, text: &[u8]) -> Result<Command, AllocError>
     }
 }
 
-// The command word, and its arguments behind it.
+/// The command word, and its arguments behind it.
 #[tactic(auto, unfolding(crate::specs::Reading::text_of))]
 fn read_command(alloc: Global, text: &[u8]) -> Result<Command, ReadError>
     ensures { Gives result (text_of text.now) }

@@ -46,7 +46,7 @@ pub(crate) fn read_arguments(alloc: Global, word: &[u8], rest: &[u8]) -> Result<
     }
 }
 
-// Battles.
+/// Battles.
 #[tactic(auto, unfolding(command_forms::specs::Table::battle_entries))]
 fn of_battle(alloc: Global, word: &[u8], rest: &[u8]) -> Result<Command, ReadError>
     requires { IsTrue (is_text rest.now) }
@@ -72,7 +72,7 @@ fn of_battle(alloc: Global, word: &[u8], rest: &[u8]) -> Result<Command, ReadErr
     }
 }
 
-// Bots, start rectangles, script tags and units.
+/// Bots, start rectangles, script tags and units.
 #[tactic(auto, unfolding(command_forms::specs::Table::room_entries))]
 fn of_room(alloc: Global, word: &[u8], rest: &[u8]) -> Result<Command, ReadError>
     requires { IsTrue (is_text rest.now) }
@@ -99,7 +99,7 @@ fn of_room(alloc: Global, word: &[u8], rest: &[u8]) -> Result<Command, ReadError
     }
 }
 
-// What a founder does to players.
+/// What a founder does to players.
 #[tactic(auto, unfolding(command_forms::specs::Table::host_entries))]
 fn of_host(alloc: Global, word: &[u8], rest: &[u8]) -> Result<Command, ReadError>
     requires { IsTrue (is_text rest.now) }

@@ -129,7 +129,8 @@ struct Shown {
 /// A name and a password word, and the account that is told of them, or why there is none.
 type Login = (&'static [u8], &'static [u8], Result<Shown, LoginFault>);
 
-/// A good file, how many accounts it has that can log in, what is answered to logins, and which names have such an account.
+/// A good file, how many accounts it has that can log in, what is answered to logins, and which names have such an
+/// account.
 struct File {
     text: &'static [u8],
     count: usize,
@@ -443,8 +444,8 @@ static MORE_LINES: [(&str, Option<AccountsError>); 7] = [
     ),
 ];
 
-/// Why a file of this format whose first account has these lines is refused; `Memory` too where there is none to write the
-/// file in.
+/// Why a file of this format whose first account has these lines is refused; `Memory` too where there is none to write
+/// the file in.
 fn refusal_with(alloc: Global, format: &str, lines: &str) -> Option<AccountsError> {
     match format!(in alloc;
         "format = {format}\n[[account]]\nname = 'Anna'\npassword = 'X03MO1qnZdYdgyfeuILPmQ=='\nid = 1\n{lines}"

@@ -123,7 +123,7 @@ fn take_all(rt: &impl Abort, book: &mut ChannelBook, steps: &[Step]) {
     }
 }
 
-// Takes these steps with a new book.
+/// Takes these steps with a new book.
 fn play(rt: &impl Abort, alloc: Global, steps: &[Step]) {
     let mut book = ChannelBook::new(alloc);
     take_all(rt, &mut book, steps);

@@ -23,7 +23,7 @@ enum Step {
     IsSpoilt(bool),
 }
 
-// Takes off the next line where it is the one that is wanted.
+/// Takes off the next line where it is the one that is wanted.
 fn takes_off(framer: &mut Framer, want: &[u8]) -> bool {
     if framer.next_len() != Some(want.len()) {
         return false;
@@ -38,7 +38,7 @@ fn takes_off(framer: &mut Framer, want: &[u8]) -> bool {
     is_wanted
 }
 
-// What comes is fed in pieces of this size; a size of nothing counts as one byte.
+/// What comes is fed in pieces of this size; a size of nothing counts as one byte.
 fn fed_in_pieces(framer: &mut Framer, stream: &[u8], size: usize) -> Result<(), FeedError> {
     for piece in stream.chunks(size.max(1)) {
         framer.feed(piece)?;

@@ -1,6 +1,6 @@
-//! Tests of the crates below the lobby, of the file of settings and of a client's view, by their public calls: values of the
-//! protocol, vectors of standards, and each call that may be refused memory with memory at hand. They stand in a crate of their
-//! own, since a crate with tests is proved twice.
+//! Tests of the crates below the lobby, of the file of settings and of a client's view, by their public calls: values
+//! of the protocol, vectors of standards, and each call that may be refused memory with memory at hand. They stand in a
+//! crate of their own, since a crate with tests is proved twice.
 #![tactic(auto)]
 
 #[cfg(test)]

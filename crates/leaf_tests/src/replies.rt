@@ -165,13 +165,13 @@ fn a_lent_reply_prints_as_an_owned_one(rt: HostRuntime) {
     );
 }
 
-// A fixed text.
+/// A fixed text.
 fn print_refusal(out: &mut Vec<u8>) -> Result<(), AllocError> {
     let refusal = Text::lend(b"Log in first");
     print_lent(LentReply::ServerMsg { text: &refusal }, Some(7), out)
 }
 
-// Numbers at their ends.
+/// Numbers at their ends.
 fn print_user(alloc: Global, out: &mut Vec<u8>) -> Result<(), AllocError> {
     let user = NameBuf::copy_of(alloc, b"Bert")?;
     print_lent(
@@ -186,7 +186,7 @@ fn print_user(alloc: Global, out: &mut Vec<u8>) -> Result<(), AllocError> {
     )
 }
 
-// What a user wrote.
+/// What a user wrote.
 fn print_private(alloc: Global, out: &mut Vec<u8>) -> Result<(), AllocError> {
     let user = NameBuf::copy_of(alloc, b"Bert")?;
     let text = TextBuf::copy_of(alloc, b"hi  there")?;
@@ -251,7 +251,7 @@ fn a_line_behind_an_id_is_the_line_under_it(rt: HostRuntime) {
     same(&rt, out.as_slice(), b"#7 PONG\nENDOFCHANNELS\n".as_slice());
 }
 
-// Whether the reply that was read prints this line, with its end; nothing where there is no reply.
+/// Whether the reply that was read prints this line, with its end; nothing where there is no reply.
 fn prints_again(alloc: Global, line: &[u8]) -> Result<Option<bool>, AllocError> {
     match read_reply(alloc, line) {
         Ok(Some((id, reply))) => {

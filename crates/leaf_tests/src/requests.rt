@@ -7,7 +7,7 @@ use line_words::{PairList, TextBuf, WordBuf, WordList};
 use request_printer::{PrintError, print_request};
 use std::alloc::Global;
 
-// A line of each command.
+/// A line of each command.
 static GOOD_LINES: [&[u8]; 36] = [
     b"PING",
     b"CHANNELS",
@@ -108,7 +108,7 @@ fn ids_are_read(rt: HostRuntime) {
     }
 }
 
-// What a line must be read as.
+/// What a line must be read as.
 #[derive(Clone, Copy)]
 enum Expected {
     // the command that this line names
@@ -290,7 +290,7 @@ fn is_login(command: &Command, authorises: bool) -> bool {
     }
 }
 
-// Whether these are the tags, in their order.
+/// Whether these are the tags, in their order.
 fn has_tags(command: &Command, wanted: &[(&[u8], &[u8])]) -> bool {
     let Command::SetScriptTags { pairs } = command else {
         return false;
@@ -298,7 +298,7 @@ fn has_tags(command: &Command, wanted: &[(&[u8], &[u8])]) -> bool {
     are(pairs.as_slice(), wanted)
 }
 
-// The word of a command; none of one that is blank or not read.
+/// The word of a command; none of one that is blank or not read.
 fn word_of(command: &Command) -> &'static [u8] {
     match command {
         Command::Blank | Command::Unread(_) => b"",
@@ -322,7 +322,7 @@ fn word_of(command: &Command) -> &'static [u8] {
     }
 }
 
-// The word of a command that changes a battle; none of another.
+/// The word of a command that changes a battle; none of another.
 fn word_in_a_battle(command: &Command) -> &'static [u8] {
     match command {
         Command::JoinBattleAccept { .. } => b"JOINBATTLEACCEPT",
@@ -349,7 +349,7 @@ fn word_in_a_battle(command: &Command) -> &'static [u8] {
     }
 }
 
-// Whether the first word of a line is that of the command.
+/// Whether the first word of a line is that of the command.
 fn is_named_in(command: &Command, line: &[u8]) -> bool {
     let word = word_of(command);
     match line.strip_prefix(word) {
@@ -380,7 +380,7 @@ fn is_as(request: &Request, expected: &Expected) -> bool {
     }
 }
 
-// Whether a line is read so; not where memory is refused.
+/// Whether a line is read so; not where memory is refused.
 fn is_read_as(alloc: Global, line: &[u8], expected: &Expected) -> bool {
     match read_request(alloc, line) {
         Ok(request) => {
@@ -399,7 +399,7 @@ fn arguments_are_read(rt: HostRuntime) {
     }
 }
 
-// A line of each command, with and without what may be left out, and the line that its request prints as.
+/// A line of each command, with and without what may be left out, and the line that its request prints as.
 static PRINTED_LINES: [(&[u8], &[u8]); 56] = [
     (b"", b""),
     (b"  #7  ", b"#7 "),
@@ -500,7 +500,7 @@ fn each_request_is_printed_as_it_reads(rt: HostRuntime) {
     }
 }
 
-// Whether the request of a line prints as this line, behind what was there.
+/// Whether the request of a line prints as this line, behind what was there.
 fn prints(alloc: Global, line: &[u8], printed: &[u8]) -> bool {
     let Ok(request) = read_request(alloc, line) else {
         return false;
@@ -514,7 +514,7 @@ fn prints(alloc: Global, line: &[u8], printed: &[u8]) -> bool {
     }
 }
 
-// Why the request of this id and command is refused; None where it is printed, or where something was put.
+/// Why the request of this id and command is refused; None where it is printed, or where something was put.
 fn refusal(alloc: Global, id: Option<u32>, command: Command) -> Option<PrintError> {
     let request = Request { id, command };
     let mut out = Vec::new(alloc);
@@ -584,7 +584,7 @@ fn what_has_no_line_is_not_printed(rt: HostRuntime) {
     );
 }
 
-// A text of so many bytes, said in a battle under an id.
+/// A text of so many bytes, said in a battle under an id.
 fn said(alloc: Global, count: usize) -> Option<PrintError> {
     let mut bytes = Vec::new(alloc);
     for _ in 0..count {

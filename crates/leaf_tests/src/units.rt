@@ -27,7 +27,7 @@ enum Units {
 /// Who calls, what is asked, of which units it tells or why it is refused, and the units thereafter.
 type Row = (&'static [u8], Call, Result<Units, RoomError>, Units);
 
-// Anna is the founder and Bert is a member. Cleo is not.
+/// Anna is the founder and Bert is a member. Cleo is not.
 static ROWS: [Row; 14] = [
     (
         b"Anna",

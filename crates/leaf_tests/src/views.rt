@@ -35,7 +35,8 @@ SETSCRIPTTAGS a=1\tb=2\n\
 REMOVESCRIPTTAGS a\n\
 SAIDBATTLE Bert go\n";
 
-/// A battle in the list: its number, map and map's hash, whether it is locked, how many spectators are told, and how many members.
+/// A battle in the list: its number, map and map's hash, whether it is locked, how many spectators are told, and how
+/// many members.
 #[derive(Clone, Copy)]
 struct Listed {
     number: u32,

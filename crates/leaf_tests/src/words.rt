@@ -190,7 +190,7 @@ fn keeps(bytes: &[u8]) -> bool {
     }
 }
 
-// Whether two names stand in this order.
+/// Whether two names stand in this order.
 fn rises(first: &[u8], second: &[u8]) -> bool {
     match (NameBuf::of(first), NameBuf::of(second)) {
         (Some(first), Some(second)) => first < second && first != second,

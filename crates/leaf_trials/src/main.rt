@@ -1,5 +1,5 @@
-//! What lies below a lobby, framers, sessions, views and printed requests, has to do with fixed bytes, and it shows what
-//! came of that. It takes the arguments `scarce` and `counted`, by which memory is refused as to memory_trials.
+//! What lies below a lobby, framers, sessions, views and printed requests, has to do with fixed bytes, and it shows
+//! what came of that. It takes the arguments `scarce` and `counted`, by which memory is refused as to memory_trials.
 #![tactic(auto)]
 
 mod requests;

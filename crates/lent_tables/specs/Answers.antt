@@ -1,5 +1,6 @@
 -- What a call that gives a table answers.
-use Rattle.std.specs.Prelude.{◌≡◌, ◌++◌, ◌&&◌, ℕ, Bool, true, false, nat_le, nat_eq, List, [], ◌∷◌, length, drop, flat_map, Option, Some, None, IsTrue}
+use Rattle.std.specs.Prelude.{◌≡◌, ◌++◌, ◌&&◌, ℕ, Bool, true, false, nat_le, nat_eq, List, [], ◌∷◌, length, drop}
+use Rattle.std.specs.Prelude.{flat_map, Option, Some, None, IsTrue}
 use Rattle.std.specs.List.{list_any}
 use Rattle.lent_tables.specs.declared.table.Size.{Size}
 use Rattle.lent_tables.specs.Layout.{rows_from}
@@ -60,7 +61,8 @@ module _ {R : Type 0} where
 
   -- the memory with a table in front, and what is behind it as it was
   abbrev pub filled : List R → List ℕ → Lent R → Lent R
-  filled rows text room = lent (rows ++ drop (length rows) room.rows) (text ++ drop (length text) room.text) (size_of rows text)
+  filled rows text room = lent (rows ++ drop (length rows) room.rows) (text
+      ++ drop (length text) room.text) (size_of rows text)
 
   -- what the answer says of these rows and this text, and of the memory before and after
   pub record Answers (rows : List R) (text : List ℕ) (status : ℕ) (old new : Lent R) : Type 0 where

@@ -14,7 +14,8 @@ pub fn answer<R: Copy>(
     text: &mut [u8],
     size: &mut Size,
 ) -> u32
-    ensures { (all : List R) (bytes : List ℕ) → IfOk table (λ t. (t.rows.items ≡ all) × (t.text.items ≡ bytes)) → Answers all bytes result (lent rows.old text.old size.old) (lent rows.new text.new size.new) }
+    ensures { (all : List R) (bytes : List ℕ) → IfOk table (λ t. (t.rows.items ≡ all) × (t.text.items ≡ bytes))
+        → Answers all bytes result (lent rows.old text.old size.old) (lent rows.new text.new size.new) }
 {
     match table {
         Ok(table) => {

@@ -1,5 +1,5 @@
-//! Tables for C: rows of numbers and of places in one text, written into memory that the caller lends, and what a call answers.
-//! It knows nothing of what the tables show.
+//! Tables for C: rows of numbers and of places in one text, written into memory that the caller lends, and what a call
+//! answers. It knows nothing of what the tables show.
 #![tactic(auto)]
 
 mod answering;

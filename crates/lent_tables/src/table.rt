@@ -69,11 +69,14 @@ impl<R: Copy> Table<R> {
         Ok(Table { rows, text })
     }
 
-    /// Writes the table into lent memory, if that has room for it, and tells whether it has. Tells the size in any case.
+    /// Writes the table into lent memory, if that has room for it, and tells whether it has. Tells the size in any
+    /// case.
     pub fn give(&self, rows: &mut [R], text: &mut [u8], size: &mut Size) -> bool
         ensures fits { result ≡ fits self.now.rows.items self.now.text.items (lent rows.old text.old size.old) }
-        ensures given { result ≡ true → lent rows.new text.new size.new ≡ filled self.now.rows.items self.now.text.items (lent rows.old text.old size.old) }
-        ensures kept { result ≡ false → lent rows.new text.new size.new ≡ lent rows.old text.old (size_of self.now.rows.items self.now.text.items) }
+        ensures given { result ≡ true → lent rows.new text.new size.new
+            ≡ filled self.now.rows.items self.now.text.items (lent rows.old text.old size.old) }
+        ensures kept { result ≡ false → lent rows.new text.new size.new
+            ≡ lent rows.old text.old (size_of self.now.rows.items self.now.text.items) }
     {
         *size = Size {
             rows: self.rows.len(),

@@ -1,5 +1,6 @@
 -- What a framer keeps in its buffer, and what a search of bytes for line ends finds.
-use Rattle.std.specs.Prelude.{◌≡◌, ◌≢◌, ℕ, ◌<◌, ◌≤◌, Bool, false, List, Option, MatchOption, length, take, drop, slice_index}
+use Rattle.std.specs.Prelude.{◌≡◌, ◌≢◌, ℕ, ◌<◌, ◌≤◌, Bool, false, List, Option, MatchOption, length, take, drop}
+use Rattle.std.specs.Prelude.{slice_index}
 use Rattle.line_framer.specs.Frames.{with_ends, lines_in, rest_of, is_spoilt, sound_lines}
 
 -- no byte is an LF
@@ -24,7 +25,8 @@ IsFirstEnd bytes place = MatchOption place (HasNoEnd bytes) (FirstEndAt bytes)
 abbrev pub IsLastEnd : List ℕ → Option ℕ → Type 0
 IsLastEnd bytes place = MatchOption place (HasNoEnd bytes) (LastEndAt bytes)
 
--- a framer's buffer from the next line on: where that line ends, and how many bytes the whole lines take; no line is too long
+-- a framer's buffer from the next line on: where that line ends, and how many bytes the whole lines take; no line is
+-- too long
 pub record IsBuffered (ahead : List ℕ) (next : Option ℕ) (whole limit : ℕ) : Type 0 where
   pub within : whole ≤ length ahead
   pub rest : rest_of ahead ≡ drop whole ahead

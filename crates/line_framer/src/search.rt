@@ -1,5 +1,6 @@
 // Where lines end, and what of a piece is kept.
-ghost use Rattle.std.specs.Prelude.{◌≡◌, ℕ, ◌+◌, ◌-◌, ◌^◌, ◌<◌, ◌≤◌, List, ◌++◌, length, take, ◌⊎◌, false, if◌then◌else◌};
+ghost use Rattle.std.specs.Prelude.{◌≡◌, ℕ, ◌+◌, ◌-◌, ◌^◌, ◌<◌, ◌≤◌, List, ◌++◌, length, take, ◌⊎◌, false};
+ghost use Rattle.std.specs.Prelude.{if◌then◌else◌};
 ghost use Rattle.line_framer.specs.Frames as frames;
 ghost use Rattle.line_framer.specs.Buffered.{HasNoEnd, IsFirstEnd, IsLastEnd, IsCut};
 
@@ -7,14 +8,14 @@ use memchr::{memchr, memrchr};
 
 const LF: u8 = b'\n';
 
-// The place of the first LF.
+/// The place of the first LF.
 pub(crate) fn first_end(bytes: &[u8]) -> Option<usize>
     ensures { IsFirstEnd bytes.now result }
 {
     memchr(LF, bytes)
 }
 
-// The place of the last LF.
+/// The place of the last LF.
 fn last_end(bytes: &[u8]) -> Option<usize>
     ensures { IsLastEnd bytes.now result }
 {
@@ -33,8 +34,8 @@ pub fn without_cr(line: &[u8]) -> &[u8]
     if *last == b'\r' { front } else { line }
 }
 
-// Where the next line ends of `ahead` bytes with `kept` behind them. What is kept is searched only where no line ended
-// before and one does now.
+/// Where the next line ends of `ahead` bytes with `kept` behind them. What is kept is searched only where no line ended
+/// before and one does now.
 pub(crate) fn next_end(
     next: Option<usize>,
     ahead: usize,
@@ -51,8 +52,8 @@ pub(crate) fn next_end(
     first_end(kept).map(|end| ahead + end)
 }
 
-// How many bytes of an unfinished line and a piece behind it are whole lines before the spoilt place, and whether there
-// is one.
+/// How many bytes of an unfinished line and a piece behind it are whole lines before the spoilt place, and whether
+/// there is one.
 #[derive(Clone, Copy)]
 pub(crate) struct Cut {
     pub(crate) whole: usize,
@@ -60,8 +61,8 @@ pub(crate) struct Cut {
 }
 
 impl Cut {
-    // What is kept of a piece that came behind an unfinished line of `before` bytes: all of it, or what whole lines
-    // before the spoilt place take of it.
+    /// What is kept of a piece that came behind an unfinished line of `before` bytes: all of it, or what whole lines
+    /// before the spoilt place take of it.
     pub(crate) fn kept<'a>(&self, piece: &'a [u8], before: usize) -> &'a [u8]
         requires { self.now.whole ≤ before + length piece.now }
         ensures { result.now ≡ (if self.now.spoilt then take (self.now.whole - before) piece.now else piece.now) }
@@ -74,15 +75,16 @@ impl Cut {
     }
 }
 
-// Cuts an unfinished line of `before` bytes with the piece behind it. No line in them is too long where the two together
-// are not, so the last LF says it all; before that, lines are skipped by windows of one line's size, each up to its last
-// LF. The unfinished line itself is not searched again.
+/// Cuts an unfinished line of `before` bytes with the piece behind it. No line in them is too long where the two
+/// together are not, so the last LF says it all; before that, lines are skipped by windows of one line's size, each up
+/// to its last LF. The unfinished line itself is not searched again.
 pub(crate) fn cut_piece(piece: &[u8], before: usize, limit: usize) -> Cut
     requires fits { before ≤ limit }
     requires room { before + length piece.now < 2 ^ 64 }
     ensures within { result.whole ≤ before + length piece.now }
     ensures apart { (result.whole ≡ 0) ⊎ (before < result.whole) }
-    ensures parts { (rest : List ℕ) → length rest ≡ before → HasNoEnd rest → IsCut (rest ++ piece.now) limit result.whole result.spoilt }
+    ensures parts { (rest : List ℕ) → length rest ≡ before → HasNoEnd rest
+        → IsCut (rest ++ piece.now) limit result.whole result.spoilt }
 {
     let total = before + piece.len();
     let mut whole = 0;

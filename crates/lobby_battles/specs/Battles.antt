@@ -1,12 +1,16 @@
 -- What a change makes of the battles, and where their members and those who ask sit.
-use Rattle.std.specs.Prelude.{◌≡◌, ℕ, ◌<◌, ◌≤◌, Bool, true, false, ◌||◌, if◌then◌else◌, List, [], ◌∷◌, Option, Some, None, find}
+use Rattle.std.specs.Prelude.{◌≡◌, ℕ, ◌<◌, ◌≤◌, Bool, true, false, ◌||◌, if◌then◌else◌, List, [], ◌∷◌, Option, Some}
+use Rattle.std.specs.Prelude.{None, find}
 use Rattle.line_words.specs.Table.{ByName, ByNumber, at_number, at_name, put_number, without_number, change_number}
-use Rattle.room_lists.specs.Room.{Room, has_member, member_names, with_member, without_member, with_status, with_bot, with_bot_status, without_bot, with_rect, without_rect, set_tags, remove_tags, disable_units, enable_units, enable_all, has_asker, with_asker, without_asker}
+use Rattle.room_lists.specs.Room.{Room, has_member, member_names, with_member, without_member, with_status, with_bot}
+use Rattle.room_lists.specs.Room.{with_bot_status, without_bot, with_rect, without_rect, set_tags, remove_tags}
+use Rattle.room_lists.specs.Room.{disable_units, enable_units, enable_all, has_asker, with_asker, without_asker}
 use Rattle.lobby_model.specs.State.{Client, Battle, name_at, updated}
 use Rattle.lobby_model.specs.Battles.{is_founder}
 use Rattle.lobby_battles.specs.Info.{info_changed}
 use Rattle.lobby_battles.specs.declared.battles.BattleChange.{BattleChange}
-use Rattle.lobby_battles.specs.declared.battles.BattleChange.TheVariants.{Open, Join, Ask, LetIn, StopAsking, Leave, Update, InRoom}
+use Rattle.lobby_battles.specs.declared.battles.BattleChange.TheVariants.{Open, Join, Ask, LetIn, StopAsking, Leave}
+use Rattle.lobby_battles.specs.declared.battles.BattleChange.TheVariants.{Update, InRoom}
 use Rattle.lobby_battles.specs.declared.battles.RoomChange.{RoomChange}
 use Rattle.lobby_battles.specs.declared.battles.RoomChange.TheVariants as room
 use Rattle.lobby_battles.specs.declared.seats.Seat.{Seat}
@@ -39,7 +43,8 @@ unasked number name battles = change_number battles number (room_changed (withou
 -- the battles after one left the battle of this number, which goes with its founder
 abbrev pub left_at : ByNumber Battle → ℕ → List ℕ → Option Battle → ByNumber Battle
 left_at battles number name None = battles
-left_at battles number name (Some battle) = if is_founder name battle then without_number battles number else change_number battles number (room_changed (without_member name))
+left_at battles number name (Some battle) = if is_founder name battle then without_number battles number
+    else change_number battles number (room_changed (without_member name))
 
 abbrev pub left_battle : ℕ → List ℕ → ByNumber Battle → ByNumber Battle
 left_battle number name battles = left_at battles number name (at_number battles number)
@@ -59,16 +64,19 @@ left_own (Some name) (Some number) battles = left_battle number name battles
 abbrev pub battles_after : BattleChange → ByNumber Battle → ByNumber Battle
 battles_after (Open number name battle) battles = put_number battles number battle.value
 battles_after (Join number name) battles = change_number battles number (room_changed (with_member name))
-battles_after (Ask number name script_password) battles = change_number battles number (room_changed (with_asker name script_password))
+battles_after (Ask number name script_password) battles = change_number battles number
+    (room_changed (with_asker name script_password))
 battles_after (LetIn number name) battles = change_number battles number (room_changed (let_in name))
 battles_after (StopAsking number name) battles = unasked number name battles
 battles_after (Leave number name) battles = left_battle number name battles
-battles_after (Update number spectators locked map_hash map) battles = change_number battles number (info_changed (updated spectators locked map_hash map))
+battles_after (Update number spectators locked map_hash map) battles = change_number battles number
+    (info_changed (updated spectators locked map_hash map))
 battles_after (InRoom number change) battles = change_number battles number (room_changed (room_after change))
 
 -- what comes to the same at the battle of this number comes to the same
 abbrev pub ChangesAlike : ByNumber Battle → ℕ → Battle → Type 0
-ChangesAlike battles number battle = (f g : Battle → Battle) → f battle ≡ g battle → change_number battles number f ≡ change_number battles number g
+ChangesAlike battles number battle = (f g : Battle → Battle) → f battle ≡ g battle
+    → change_number battles number f ≡ change_number battles number g
 
 -- the last number given
 abbrev pub last_after : BattleChange → ℕ → ℕ
@@ -93,12 +101,14 @@ abbrev pub IsNowhere : (Room → Bool) → ByNumber Battle → Type 0
 IsNowhere test battles = (number : ℕ) (b : Battle) → at_number battles number ≡ Some b → test b.room ≡ false
 
 abbrev pub IsOnly : (Room → Bool) → ByNumber Battle → Option ℕ → Type 0
-IsOnly test battles battle = (number : ℕ) (b : Battle) → at_number battles number ≡ Some b → test b.room ≡ true → battle ≡ Some number
+IsOnly test battles battle = (number : ℕ) (b : Battle) → at_number battles number ≡ Some b → test b.room ≡ true
+    → battle ≡ Some number
 
 -- one who may be logged in asks to join no battle of these but that of one number, and is in none but that of another
 abbrev pub LeavesAll : ByNumber Battle → Option ℕ → Option ℕ → Option (List ℕ) → Type 0
 LeavesAll battles asks battle None = Unit {0}
-LeavesAll battles asks battle (Some name) = IsOnly (has_asker name) battles asks × IsOnly (has_member name) battles battle
+LeavesAll battles asks battle (Some name) = IsOnly (has_asker name) battles asks
+    × IsOnly (has_member name) battles battle
 
 -- One who enters a battle, or asks to join one, is logged in at client c, is in no battle and asks to join none
 pub record CanEnter (clients : ByNumber Client) (battles : ByNumber Battle) (c : ℕ) (name : List ℕ) : Type 0 where
@@ -132,7 +142,8 @@ FitsRoom room.EnableAllUnits = Unit {0}
 
 -- a change that these battles can take
 abbrev pub CanChange : ByNumber Client → ByNumber Battle → ℕ → BattleChange → Type 0
-CanChange clients battles c (Open number name battle) = CanEnter clients battles c name × IsNew battle.value name × (number ≤ 2147483647)
+CanChange clients battles c (Open number name battle) = CanEnter clients battles c name × IsNew battle.value name
+    × (number ≤ 2147483647)
 CanChange clients battles c (Join number name) = CanEnter clients battles c name
 CanChange clients battles c (Ask number name script_password) = CanEnter clients battles c name
 CanChange clients battles c (LetIn number name) = asks_at (at_number battles number) name ≡ true
@@ -156,6 +167,7 @@ AskOutside room = (name : List ℕ) → has_asker name room ≡ true → has_mem
 
 -- The seats of a battle's members, and of those who ask to join it, have the battle's number, and none of them is both
 pub record AreSeated (battles : ByNumber Battle) (seats : ByName Seat) : Type 0 where
-  pub at : (name : List ℕ) (number : ℕ) (battle : Battle) → at_number battles number ≡ Some battle → concerns name battle.room ≡ true
+  pub at : (name : List ℕ) (number : ℕ) (battle : Battle) → at_number battles number ≡ Some battle
+      → concerns name battle.room ≡ true
       → battle_at (at_name seats name) ≡ Some number
   pub outside : (number : ℕ) (battle : Battle) → at_number battles number ≡ Some battle → AskOutside battle.room

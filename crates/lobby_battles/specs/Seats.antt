@@ -8,7 +8,13 @@ use Rattle.lobby_post.specs.Posted.{has_number}
 
 -- a seat as the plain lobby has it
 abbrev pub user_in : Seat → User
-user_in seat = record { country = seat.country; cpu = seat.cpu; account = seat.account; status = seat.status; authorises = seat.authorises }
+user_in seat = record {
+  country = seat.country;
+  cpu = seat.cpu;
+  account = seat.account;
+  status = seat.status;
+  authorises = seat.authorises;
+}
 
 abbrev pub users_of : ByName Seat → ByName User
 users_of seats = map_values (λ name seat. user_in seat) seats
@@ -40,7 +46,8 @@ client_number (Some seat) = seat.client.number
 
 -- The client of a name's seat is the one that is logged in under the name
 abbrev pub Agree : ByNumber Client → ByName Seat → Type 0
-Agree clients seats = (name : List ℕ) (c : ℕ) → has_number (client_in (at_name seats name)) c ≡ is_named (same_name name) (name_at clients c)
+Agree clients seats = (name : List ℕ) (c : ℕ)
+    → has_number (client_in (at_name seats name)) c ≡ is_named (same_name name) (name_at clients c)
 
 -- the numbers are those of the clients that are logged in
 abbrev pub IsListed : List ℕ → ByNumber Client → Type 0

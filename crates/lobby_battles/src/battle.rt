@@ -54,7 +54,13 @@ impl Model for Battle {
 
     ghost Value = { Battle };
 
-    ghost view = { λ b. record { info = info_of b.opened b.spectators b.locked; password = b.password; game_hash = b.game_hash; room = b.room } };
+    ghost view = { λ b. record {
+      info = info_of b.opened b.spectators b.locked;
+      password = b.password;
+      game_hash =
+          b.game_hash;
+      room = b.room;
+    } };
 }
 
 impl Battle {

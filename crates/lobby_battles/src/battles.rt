@@ -6,7 +6,8 @@ ghost use Rattle.lobby_model.specs.State.{Battle, Client, updated};
 ghost use Rattle.room_lists.specs.Room.{has_asker, has_member, with_asker, with_member};
 ghost use Rattle.lobby_battles.specs.Info.{info_changed};
 ghost use Rattle.lobby_battles.specs.Seats.{Agree, users_of};
-ghost use Rattle.lobby_battles.specs.Battles.{asks_at, battles_after, last_after, left_battle, let_in, unasked, room_after, room_changed, AreSeated, CanChange, FitsRoom, IsNowhere};
+ghost use Rattle.lobby_battles.specs.Battles.{asks_at, battles_after, last_after, left_battle, let_in, unasked};
+ghost use Rattle.lobby_battles.specs.Battles.{room_after, room_changed, AreSeated, CanChange, FitsRoom, IsNowhere};
 
 use crate::battle::Battle;
 use crate::seats::Seats;
@@ -146,8 +147,11 @@ impl Battles {
 
     /// The battle of this number, where a user is one of its members.
     pub fn with_member(&self, number: u32, name: &NameBuf) -> Option<&Battle>
-        ensures some { IfSome result (λ battle. (at_number self.now.by_number.entries number ≡ Some battle.now) × (has_member name.now battle.now.room ≡ true)) }
-        ensures none { result ≡ None → (battle : Battle) → at_number self.now.by_number.entries number ≡ Some battle → has_member name.now battle.room ≡ false }
+        ensures some { IfSome result (λ battle.
+            (at_number self.now.by_number.entries number ≡ Some battle.now)
+            × (has_member name.now battle.now.room ≡ true)) }
+        ensures none { result ≡ None → (battle : Battle) → at_number self.now.by_number.entries number ≡ Some battle
+            → has_member name.now battle.room ≡ false }
     {
         match self.by_number.get(&number) {
             Some(battle) if battle.room.has_member(name) => Some(battle),
@@ -172,15 +176,18 @@ impl Battles {
         client: u64,
         change: BattleChange,
     ) -> Result<(), AllocError>
-        requires can { (clients : ByNumber Client) × Agree clients seats.old.users.entries × CanChange clients self.old.by_number.entries client change }
+        requires can { (clients : ByNumber Client) × Agree clients seats.old.users.entries
+            × CanChange clients self.old.by_number.entries client change }
         requires seated { AreSeated self.old.by_number.entries seats.old.users.entries }
         ensures battles { OnOk result (self.new.by_number.entries ≡ battles_after change self.old.by_number.entries) }
         ensures last { OnOk result (self.new.last ≡ last_after change self.old.last) }
         ensures users { users_of seats.new.users.entries ≡ users_of seats.old.users.entries }
         ensures numbers { seats.new.clients.keys ≡ seats.old.clients.keys }
-        ensures agree { (clients : ByNumber Client) → Agree clients seats.old.users.entries → Agree clients seats.new.users.entries }
+        ensures agree { (clients : ByNumber Client) → Agree clients seats.old.users.entries
+            → Agree clients seats.new.users.entries }
         ensures seated { OnOk result (AreSeated self.new.by_number.entries seats.new.users.entries) }
-        ensures err { OnErr result ((self.new.by_number.entries ≡ self.old.by_number.entries) × (self.new.last ≡ self.old.last) × (seats.new.users.entries ≡ seats.old.users.entries)) }
+        ensures err { OnErr result ((self.new.by_number.entries ≡ self.old.by_number.entries)
+            × (self.new.last ≡ self.old.last) × (seats.new.users.entries ≡ seats.old.users.entries)) }
     {
         match change {
             BattleChange::Open {
@@ -222,9 +229,11 @@ impl Battles {
 
     /// A battle opens. Where memory is refused, nothing changes.
     fn add(&mut self, number: u32, battle: Box<Battle>) -> Result<(), AllocError>
-        ensures battles { OnOk result (self.new.by_number.entries ≡ put_number self.old.by_number.entries number battle.value) }
+        ensures battles { OnOk result (self.new.by_number.entries
+            ≡ put_number self.old.by_number.entries number battle.value) }
         ensures last { OnOk result (self.new.last ≡ number) }
-        ensures err { OnErr result ((self.new.by_number.entries ≡ self.old.by_number.entries) × (self.new.last ≡ self.old.last)) }
+        ensures err { OnErr result ((self.new.by_number.entries ≡ self.old.by_number.entries)
+            × (self.new.last ≡ self.old.last)) }
     {
         match self.by_number.insert(number, Box::into_inner(battle)) {
             Ok(old) => drop(old),
@@ -241,7 +250,8 @@ impl Battles {
     /// Where memory is refused, nothing changes.
     fn add_member(&mut self, number: u32, name: &NameBuf, key: ClientKey) -> Result<(), AllocError>
         requires { IsNowhere (has_member name.now) self.old.by_number.entries }
-        ensures battles { OnOk result (self.new.by_number.entries ≡ change_number self.old.by_number.entries number (room_changed (with_member name.now))) }
+        ensures battles { OnOk result (self.new.by_number.entries
+            ≡ change_number self.old.by_number.entries number (room_changed (with_member name.now))) }
         ensures last { self.new.last ≡ self.old.last }
         ensures err { OnErr result (self.new.by_number.entries ≡ self.old.by_number.entries) }
     {
@@ -261,7 +271,8 @@ impl Battles {
     ) -> Result<(), AllocError>
         requires member { IsNowhere (has_member name.now) self.old.by_number.entries }
         requires asker { IsNowhere (has_asker name.now) self.old.by_number.entries }
-        ensures battles { OnOk result (self.new.by_number.entries ≡ change_number self.old.by_number.entries number (room_changed (with_asker name.now script_password))) }
+        ensures battles { OnOk result (self.new.by_number.entries
+            ≡ change_number self.old.by_number.entries number (room_changed (with_asker name.now script_password))) }
         ensures last { self.new.last ≡ self.old.last }
         ensures err { OnErr result (self.new.by_number.entries ≡ self.old.by_number.entries) }
     {
@@ -274,8 +285,10 @@ impl Battles {
     /// One who asks to join the battle of this number, and is no member, enters it, with the key of its
     /// client as a mark. Where memory is refused, nothing changes.
     fn let_in(&mut self, number: u32, name: &NameBuf, key: ClientKey) -> Result<(), AllocError>
-        requires { (battle : Battle) → at_number self.old.by_number.entries number ≡ Some battle → has_member name.now battle.room ≡ false }
-        ensures battles { OnOk result (self.new.by_number.entries ≡ change_number self.old.by_number.entries number (room_changed (let_in name.now))) }
+        requires { (battle : Battle) → at_number self.old.by_number.entries number ≡ Some battle
+            → has_member name.now battle.room ≡ false }
+        ensures battles { OnOk result (self.new.by_number.entries
+            ≡ change_number self.old.by_number.entries number (room_changed (let_in name.now))) }
         ensures last { self.new.last ≡ self.old.last }
         ensures err { OnErr result (self.new.by_number.entries ≡ self.old.by_number.entries) }
     {
@@ -294,7 +307,8 @@ impl Battles {
         map_hash: i64,
         map: SentenceBuf,
     )
-        ensures battles { self.new.by_number.entries ≡ change_number self.old.by_number.entries number (info_changed (updated spectators locked map_hash map)) }
+        ensures battles { self.new.by_number.entries
+            ≡ change_number self.old.by_number.entries number (info_changed (updated spectators locked map_hash map)) }
         ensures last { self.new.last ≡ self.old.last }
     {
         if let Some(battle) = self.by_number.get_mut(&number) {
@@ -306,7 +320,8 @@ impl Battles {
     /// does.
     fn change_room(&mut self, number: u32, change: RoomChange) -> Result<(), AllocError>
         requires { FitsRoom change }
-        ensures battles { OnOk result (self.new.by_number.entries ≡ change_number self.old.by_number.entries number (room_changed (room_after change))) }
+        ensures battles { OnOk result (self.new.by_number.entries
+            ≡ change_number self.old.by_number.entries number (room_changed (room_after change))) }
         ensures last { self.new.last ≡ self.old.last }
         ensures err { OnErr result (self.new.by_number.entries ≡ self.old.by_number.entries) }
     {

@@ -4,7 +4,8 @@ ghost use Rattle.std.specs.Prelude.{◌≡◌, [], OnOk, OnErr, true, false};
 ghost use Rattle.line_words.specs.Table.{at_name, change_name, put_name};
 ghost use Rattle.lobby_model.specs.Battles.{is_authorising};
 ghost use Rattle.lobby_battles.specs.Battles.{battle_at};
-ghost use Rattle.lobby_battles.specs.Seats.{IsSet, client_number, seat_in, seat_with, users_of, where_some, without_one};
+ghost use Rattle.lobby_battles.specs.Seats.{IsSet, client_number, seat_in, seat_with, users_of, where_some};
+ghost use Rattle.lobby_battles.specs.Seats.{without_one};
 
 use account_entries::Country;
 use line_words::NameBuf;
@@ -75,7 +76,8 @@ impl Seats {
         ensures users { OnOk result (self.new.users.entries ≡ put_name self.old.users.entries name seat) }
         ensures clients { OnOk result (IsSet seat.client.number true self.old.clients.keys self.new.clients.keys) }
         ensures err_users { OnErr result (self.new.users.entries ≡ self.old.users.entries) }
-        ensures err_clients { OnErr result (IsSet seat.client.number false self.old.clients.keys self.new.clients.keys) }
+        ensures err_clients { OnErr result
+            (IsSet seat.client.number false self.old.clients.keys self.new.clients.keys) }
     {
         let client = seat.client.number;
         self.clients.insert(client)?;

@@ -18,4 +18,5 @@ parts_of part users = flat_map (λ e. part_of part e.0 e.1) users
 
 -- the members of a battle besides its founder
 abbrev pub guest_lines : ℕ → Battle → List Reply
-guest_lines number battle = map (λ name. reply.JoinedBattle number name None) (all_but battle.info.founder (member_names battle.room))
+guest_lines number battle = map (λ name. reply.JoinedBattle number name None)
+    (all_but battle.info.founder (member_names battle.room))

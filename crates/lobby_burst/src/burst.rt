@@ -18,7 +18,8 @@ use std::collections::BTreeMap;
 
 /// Writes the battles, in the order of their numbers.
 pub fn write_battles(battles: &Battles, post: &mut Post) -> Result<(), AllocError>
-    ensures { OnOk result (post.new ≡ with_own post.old (flat_map (λ e. battle_lines e.0 e.1) battles.now.by_number.entries)) }
+    ensures { OnOk result (post.new ≡ with_own post.old (flat_map (λ e.
+        battle_lines e.0 e.1) battles.now.by_number.entries)) }
 {
     for (number, battle) in &battles.by_number {
         write_battle(*number, battle, post)?;
@@ -89,7 +90,8 @@ pub fn write_parts(
     part: Part,
     post: &mut Post,
 ) -> Result<(), AllocError>
-    ensures { OnOk result (post.new ≡ with_own post.old (parts_of part (put_name (users_of users.now.entries) name.now (user_in seat.now)))) }
+    ensures { OnOk result (post.new ≡ with_own post.old
+        (parts_of part (put_name (users_of users.now.entries) name.now (user_in seat.now)))) }
 {
     let mut is_told = false;
     for (user, other) in users {

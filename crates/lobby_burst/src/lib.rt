@@ -1,5 +1,5 @@
-//! What a login tells the user that logs in, part by part, what one who joins a battle is told of its room, and the line that a
-//! client is greeted with.
+//! What a login tells the user that logs in, part by part, what one who joins a battle is told of its room, and the
+//! line that a client is greeted with.
 //!
 //! What a login tells is written for the issuer of the event, behind what it was told before. In
 //! which order the parts come, and what the others are told, is for the maps, in the crate above.

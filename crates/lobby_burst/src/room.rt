@@ -127,7 +127,8 @@ fn write_tags(
     post: &mut Post,
 ) -> Result<(), AllocError>
     requires { written recipient post.old [] ≡ post.old }
-    ensures { OnOk result (post.new ≡ written recipient post.old (map (λ t. reply.SetScriptTags (t ∷ [])) room.now.tags)) }
+    ensures { OnOk result (post.new ≡ written recipient post.old (map (λ t.
+        reply.SetScriptTags (t ∷ [])) room.now.tags)) }
 {
     for pair in room.tags() {
         let line = LentReply::SetScriptTags {
@@ -145,7 +146,8 @@ fn write_units(
     post: &mut Post,
 ) -> Result<(), AllocError>
     requires { written recipient post.old [] ≡ post.old }
-    ensures { OnOk result (post.new ≡ written recipient post.old (map (λ unit. reply.DisableUnits (unit ∷ [])) room.now.units)) }
+    ensures { OnOk result (post.new ≡ written recipient post.old (map (λ unit.
+        reply.DisableUnits (unit ∷ [])) room.now.units)) }
 {
     for unit in room.units() {
         let line = LentReply::DisableUnits {

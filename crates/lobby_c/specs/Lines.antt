@@ -1,6 +1,7 @@
 -- What a call that prints a request answers.
 use Rattle.std.specs.Prelude.{◌≡◌, ◌++◌, ◌⊎◌, ℕ, nat_le, List, length, drop, Result, MatchBool}
-use Rattle.lent_tables.specs.Answers.{ok, no_memory, no_room, no_command, bad_fields, out_of_range, nothing_listed, word_skipped, request_too_long}
+use Rattle.lent_tables.specs.Answers.{ok, no_memory, no_room, no_command, bad_fields, out_of_range, nothing_listed}
+use Rattle.lent_tables.specs.Answers.{word_skipped, request_too_long}
 use Rattle.command_forms.specs.declared.command.Request.{Request}
 use Rattle.request_lines.specs.declared.error.RequestError.{RequestError}
 use Rattle.request_lines.specs.declared.error.RequestError.TheVariants as error
@@ -19,7 +20,8 @@ status_of error.Memory = no_memory
 -- a line is in the front of lent memory, if there is room for it, and its length is told
 abbrev pub Gave : List ℕ → ℕ → List ℕ → List ℕ → ℕ → Type 0
 Gave made status old new size =
-    MatchBool (nat_le (length made) (length old)) ((status ≡ ok) × (new ≡ made ++ drop (length made) old)) ((status ≡ no_room) × (new ≡ old))
+    MatchBool (nat_le (length made) (length old)) ((status ≡ ok)
+    × (new ≡ made ++ drop (length made) old)) ((status ≡ no_room) × (new ≡ old))
     × (size ≡ length made)
 
 -- the line of what was asked for is given, or the status says why there is none

@@ -1,4 +1,5 @@
-//! What a client knows of the lobby, for C: a view that C keeps, and its tables. `include/lobby.h` says what a caller owes.
+//! What a client knows of the lobby, for C: a view that C keeps, and its tables. `include/lobby.h` says what a caller
+//! owes.
 #![tactic(auto)]
 
 mod lines;

@@ -17,8 +17,8 @@ use lobby_lines::{FieldRow, HeadRow, ReplyRead, read_reply};
 use request_lines::{RequestError, print_request};
 use std::alloc::Global;
 
-/// The head and the fields of the reply that a line, without its LF, reads as: `OK`, `NO_ROOM` or `NO_MEMORY`, as for a table. `NO_REPLY`
-/// where it reads as none. `head` is written with the table alone.
+/// The head and the fields of the reply that a line, without its LF, reads as: `OK`, `NO_ROOM` or `NO_MEMORY`, as for a
+/// table. `NO_REPLY` where it reads as none. `head` is written with the table alone.
 #[unsafe(no_mangle)]
 pub extern "C" fn lobby_read_reply(
     alloc: Global,
@@ -28,9 +28,12 @@ pub extern "C" fn lobby_read_reply(
     text: &mut [u8],
     size: &mut Size,
 ) -> u32
-    ensures shown { (pair : Line) → ReadsAs line.now pair → Shows field_row field_shown (fields_of pair.1) result (lent rows.old text.old size.old) (lent rows.new text.new size.new) }
+    ensures shown { (pair : Line) → ReadsAs line.now pair
+        → Shows field_row field_shown (fields_of pair.1) result (lent rows.old text.old size.old)
+        (lent rows.new text.new size.new) }
     ensures head { (pair : Line) → ReadsAs line.now pair → result ≡ ok → HeadOf head.new pair }
-    ensures other { ((pair : Line) → ReadsAs line.now pair → ⊥) → IsTrue (list_any (nat_eq result) (no_reply ∷ no_memory ∷ [])) }
+    ensures other { ((pair : Line) → ReadsAs line.now pair → ⊥)
+        → IsTrue (list_any (nat_eq result) (no_reply ∷ no_memory ∷ [])) }
     ensures kept { (result ≡ ok → ⊥) → head.new ≡ head.old }
     ensures none { result ≡ no_reply → lent rows.new text.new size.new ≡ lent rows.old text.old size.old }
     ensures refused { result ≡ no_memory → lent rows.new text.new size.new ≡ lent rows.old text.old size.old }
@@ -55,8 +58,9 @@ pub extern "C" fn lobby_read_reply(
     }
 }
 
-/// Prints the request of this kind, message id and fields into the front of `line`: `OK`, and `size` is the length of its line.
-/// `NO_ROOM`, and `size` alone changes. Where there is no such request, or memory is refused, the answer says why, and nothing changes.
+/// Prints the request of this kind, message id and fields into the front of `line`: `OK`, and `size` is the length of
+/// its line. `NO_ROOM`, and `size` alone changes. Where there is no such request, or memory is refused, the answer says
+/// why, and nothing changes.
 #[unsafe(no_mangle)]
 pub extern "C" fn lobby_print_request(
     alloc: Global,
@@ -74,7 +78,7 @@ pub extern "C" fn lobby_print_request(
     }
 }
 
-// Writes a line into lent memory, if there is room for it. Tells its length in any case.
+/// Writes a line into lent memory, if there is room for it. Tells its length in any case.
 fn give(made: &[u8], line: &mut [u8], size: &mut usize) -> u32
     ensures { Gave made.now result line.old line.new size.new }
 {
@@ -86,7 +90,7 @@ fn give(made: &[u8], line: &mut [u8], size: &mut usize) -> u32
     OK
 }
 
-// Why a request is not printed, as a number for C.
+/// Why a request is not printed, as a number for C.
 fn status_of(error: RequestError) -> u32
     ensures { result ≡ status_of error }
 {

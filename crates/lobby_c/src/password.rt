@@ -7,8 +7,8 @@ ghost use Rattle.lent_tables.specs.Answers.{ok, no_room};
 use account_book::password_word;
 use lent_tables::{NO_ROOM, OK};
 
-/// The word that stands for a password in LOGIN, as `password_word`: `OK`. `NO_ROOM` where `word` is not 24 bytes long, and
-/// then nothing changes.
+/// The word that stands for a password in LOGIN, as `password_word`: `OK`. `NO_ROOM` where `word` is not 24 bytes long,
+/// and then nothing changes.
 #[unsafe(no_mangle)]
 pub extern "C" fn lobby_password_word(password: &[u8], word: &mut [u8]) -> u32
     ensures status { result ≡ (if nat_eq (length word.old) 24 then ok else no_room) }

@@ -42,8 +42,10 @@ pub extern "C" fn lobby_view_room_rect(
     rect: &mut RectRow,
 ) -> u32
     requires { IsFull view.old.held }
-    ensures there { IfSome (content view.old.held).known.own (λ own. IfSome (at_number own.room.rects ally) (λ found. (result ≡ ok) × (rect.new ≡ rect_row found))) }
-    ensures none { IfSome (content view.old.held).known.own (λ own. at_number own.room.rects ally ≡ None → (result ≡ not_there) × (rect.new ≡ rect.old)) }
+    ensures there { IfSome (content view.old.held).known.own (λ own.
+        IfSome (at_number own.room.rects ally) (λ found. (result ≡ ok) × (rect.new ≡ rect_row found))) }
+    ensures none { IfSome (content view.old.held).known.own (λ own. at_number own.room.rects ally ≡ None
+        → (result ≡ not_there) × (rect.new ≡ rect.old)) }
     ensures no_room { (content view.old.held).known.own ≡ None → (result ≡ not_there) × (rect.new ≡ rect.old) }
     ensures same { view.new.held ≡ view.old.held }
 {
@@ -69,7 +71,9 @@ pub extern "C" fn lobby_view_room_members(
     size: &mut Size,
 ) -> u32
     requires { IsFull view.old.held }
-    ensures shown { ShowsIf member_row member_shown (option_map (λ own. own.room.members) (content view.old.held).known.own) result (lent rows.old text.old size.old) (lent rows.new text.new size.new) }
+    ensures shown { ShowsIf member_row member_shown (option_map (λ own.
+        own.room.members) (content view.old.held).known.own) result (lent rows.old text.old size.old)
+        (lent rows.new text.new size.new) }
     ensures same { view.new.held ≡ view.old.held }
 {
     let opened = view.take().open(alloc);
@@ -91,7 +95,9 @@ pub extern "C" fn lobby_view_room_bots(
     size: &mut Size,
 ) -> u32
     requires { IsFull view.old.held }
-    ensures shown { ShowsIf bot_row bot_shown (option_map (λ own. own.room.bots) (content view.old.held).known.own) result (lent rows.old text.old size.old) (lent rows.new text.new size.new) }
+    ensures shown { ShowsIf bot_row bot_shown (option_map (λ own.
+        own.room.bots) (content view.old.held).known.own) result (lent rows.old text.old size.old)
+        (lent rows.new text.new size.new) }
     ensures same { view.new.held ≡ view.old.held }
 {
     let opened = view.take().open(alloc);
@@ -113,7 +119,9 @@ pub extern "C" fn lobby_view_room_tags(
     size: &mut Size,
 ) -> u32
     requires { IsFull view.old.held }
-    ensures shown { ShowsIf tag_row tag_shown (option_map (λ own. own.room.tags) (content view.old.held).known.own) result (lent rows.old text.old size.old) (lent rows.new text.new size.new) }
+    ensures shown { ShowsIf tag_row tag_shown (option_map (λ own.
+        own.room.tags) (content view.old.held).known.own) result (lent rows.old text.old size.old)
+        (lent rows.new text.new size.new) }
     ensures same { view.new.held ≡ view.old.held }
 {
     let opened = view.take().open(alloc);
@@ -135,7 +143,9 @@ pub extern "C" fn lobby_view_room_units(
     size: &mut Size,
 ) -> u32
     requires { IsFull view.old.held }
-    ensures shown { ShowsIf place itself (option_map (λ own. own.room.units) (content view.old.held).known.own) result (lent rows.old text.old size.old) (lent rows.new text.new size.new) }
+    ensures shown { ShowsIf place itself (option_map (λ own.
+        own.room.units) (content view.old.held).known.own) result (lent rows.old text.old size.old)
+        (lent rows.new text.new size.new) }
     ensures same { view.new.held ≡ view.old.held }
 {
     let opened = view.take().open(alloc);

@@ -26,7 +26,8 @@ pub extern "C" fn lobby_view_me(
     size: &mut Size,
 ) -> u32
     requires { IsFull view.old.held }
-    ensures shown { Shows place itself ((content view.old.held).known.me ∷ []) result (lent rows.old text.old size.old) (lent rows.new text.new size.new) }
+    ensures shown { Shows place itself ((content view.old.held).known.me
+        ∷ []) result (lent rows.old text.old size.old) (lent rows.new text.new size.new) }
     ensures same { view.new.held ≡ view.old.held }
 {
     let opened = view.take().open(alloc);
@@ -45,7 +46,8 @@ pub extern "C" fn lobby_view_users(
     size: &mut Size,
 ) -> u32
     requires { IsFull view.old.held }
-    ensures shown { Shows user_row user_shown (content view.old.held).known.users result (lent rows.old text.old size.old) (lent rows.new text.new size.new) }
+    ensures shown { Shows user_row user_shown (content view.old.held).known.users result
+        (lent rows.old text.old size.old) (lent rows.new text.new size.new) }
     ensures same { view.new.held ≡ view.old.held }
 {
     let opened = view.take().open(alloc);
@@ -64,7 +66,8 @@ pub extern "C" fn lobby_view_battles(
     size: &mut Size,
 ) -> u32
     requires { IsFull view.old.held }
-    ensures shown { Shows battle_row battle_shown (content view.old.held).known.battles result (lent rows.old text.old size.old) (lent rows.new text.new size.new) }
+    ensures shown { Shows battle_row battle_shown (content view.old.held).known.battles result
+        (lent rows.old text.old size.old) (lent rows.new text.new size.new) }
     ensures same { view.new.held ≡ view.old.held }
 {
     let opened = view.take().open(alloc);
@@ -84,7 +87,9 @@ pub extern "C" fn lobby_view_battle_members(
     size: &mut Size,
 ) -> u32
     requires { IsFull view.old.held }
-    ensures shown { ShowsIf place itself (option_map (λ b. b.members) (at_number (content view.old.held).known.battles battle)) result (lent rows.old text.old size.old) (lent rows.new text.new size.new) }
+    ensures shown { ShowsIf place itself (option_map (λ b.
+        b.members) (at_number (content view.old.held).known.battles battle)) result (lent rows.old text.old size.old)
+        (lent rows.new text.new size.new) }
     ensures same { view.new.held ≡ view.old.held }
 {
     let opened = view.take().open(alloc);
@@ -106,7 +111,8 @@ pub extern "C" fn lobby_view_channels(
     size: &mut Size,
 ) -> u32
     requires { IsFull view.old.held }
-    ensures shown { Shows place itself (keys_of (content view.old.held).known.channels) result (lent rows.old text.old size.old) (lent rows.new text.new size.new) }
+    ensures shown { Shows place itself (keys_of (content view.old.held).known.channels) result
+        (lent rows.old text.old size.old) (lent rows.new text.new size.new) }
     ensures same { view.new.held ≡ view.old.held }
 {
     let opened = view.take().open(alloc);
@@ -115,8 +121,8 @@ pub extern "C" fn lobby_view_channels(
     status
 }
 
-/// The names of a channel's members, in order of joining. `NOT_THERE` where the client is in no channel of the name, which is
-/// so where the bytes are no name.
+/// The names of a channel's members, in order of joining. `NOT_THERE` where the client is in no channel of the name,
+/// which is so where the bytes are no name.
 #[unsafe(no_mangle)]
 pub extern "C" fn lobby_view_channel_members(
     alloc: Global,
@@ -127,8 +133,11 @@ pub extern "C" fn lobby_view_channel_members(
     size: &mut Size,
 ) -> u32
     requires { IsFull view.old.held }
-    ensures shown { is_name channel.now ≡ true → ShowsIf place itself (at_name (content view.old.held).known.channels channel.now) result (lent rows.old text.old size.old) (lent rows.new text.new size.new) }
-    ensures no_name { is_name channel.now ≡ false → ShowsIf place itself None result (lent rows.old text.old size.old) (lent rows.new text.new size.new) }
+    ensures shown { is_name channel.now ≡ true
+        → ShowsIf place itself (at_name (content view.old.held).known.channels channel.now) result
+        (lent rows.old text.old size.old) (lent rows.new text.new size.new) }
+    ensures no_name { is_name channel.now ≡ false
+        → ShowsIf place itself None result (lent rows.old text.old size.old) (lent rows.new text.new size.new) }
     ensures same { view.new.held ≡ view.old.held }
 {
     let Some(name) = NameBuf::of(channel) else {

@@ -29,8 +29,8 @@ pub extern "C" fn lobby_view_new(alloc: Global, view: &mut Slot) -> u32
     }
 }
 
-/// Takes in the next bytes that the client was sent, as `View::feed`: `OK`, and `folded` says how many lines were folded;
-/// `LINE_TOO_LONG` or `NO_MEMORY`, and then `folded` stays as it was.
+/// Takes in the next bytes that the client was sent, as `View::feed`: `OK`, and `folded` says how many lines were
+/// folded; `LINE_TOO_LONG` or `NO_MEMORY`, and then `folded` stays as it was.
 #[unsafe(no_mangle)]
 pub extern "C" fn lobby_view_feed(
     alloc: Global,
@@ -40,8 +40,11 @@ pub extern "C" fn lobby_view_feed(
 ) -> u32
     requires { IsFull view.old.held }
     ensures full { IsFull view.new.held }
-    ensures fed { result ≡ ok → TookIn (content view.old.held) bytes.now (content view.new.held) × ((content view.new.held).spoilt ≡ false) × HasNew (content view.old.held) bytes.now folded.new }
-    ensures too_long { result ≡ line_too_long → TookIn (content view.old.held) bytes.now (content view.new.held) × ((content view.new.held).spoilt ≡ true) × (folded.new ≡ folded.old) }
+    ensures fed { result ≡ ok → TookIn (content view.old.held) bytes.now (content view.new.held)
+        × ((content view.new.held).spoilt ≡ false) × HasNew (content view.old.held) bytes.now folded.new }
+    ensures too_long { result ≡ line_too_long
+        → TookIn (content view.old.held) bytes.now (content view.new.held) × ((content view.new.held).spoilt ≡ true)
+        × (folded.new ≡ folded.old) }
     ensures later { (content view.old.held).spoilt ≡ true → (result ≡ line_too_long) × (view.new.held ≡ view.old.held) }
     ensures refused { result ≡ no_memory → (view.new.held ≡ view.old.held) × (folded.new ≡ folded.old) }
     ensures status { IsTrue (list_any (nat_eq result) (ok ∷ no_memory ∷ line_too_long ∷ [])) }

@@ -55,9 +55,9 @@ where
     }
 }
 
-/// Does what the arguments ask for, and gives the exit status: 0 where it was done, 1 for wrong arguments or a line that is too
-/// long, 2 where a file or the input cannot be used, 3 where the server cannot listen, 4 without memory while it starts. Every
-/// status but 0 has one line on standard error.
+/// Does what the arguments ask for, and gives the exit status: 0 where it was done, 1 for wrong arguments or a line
+/// that is too long, 2 where a file or the input cannot be used, 3 where the server cannot listen, 4 without memory
+/// while it starts. Every status but 0 has one line on standard error.
 pub fn run<R>(rt: &R) -> u8
 where
     R: Files

@@ -8,15 +8,16 @@ ghost use Rattle.lobby_cli.specs.Reading.{GivesByte, Begins};
 use account_book::password_word;
 use std::io::{ErrorKind, Read, Write};
 
-/// The longest line, in bytes before its LF, a CR counted. Without a limit an input that never ends would be read for ever.
+/// The longest line, in bytes before its LF, a CR counted. Without a limit an input that never ends would be read for
+/// ever.
 const LINE_LIMIT: usize = 8_192;
 
-/// A line of the limit, its LF, and one read to spare for a call that was interrupted. Without a last one an input that is
-/// interrupted again and again would be read for ever.
+/// A line of the limit, its LF, and one read to spare for a call that was interrupted. Without a last one an input that
+/// is interrupted again and again would be read for ever.
 const READ_LIMIT: u32 = 8_194;
 
-/// A write for each byte of a word's line, and some to spare for calls that were interrupted: an output that takes nothing does
-/// not keep the program.
+/// A write for each byte of a word's line, and some to spare for calls that were interrupted: an output that takes
+/// nothing does not keep the program.
 const WRITE_LIMIT: u32 = 64;
 
 /// What one read gave.

@@ -58,8 +58,8 @@ fn new_seed<R: RandomSource>(rt: &R) -> Result<HashSeed, ServerError> {
     }
 }
 
-/// Where a listener listens that was bound to this address, of which the system may have chosen the port, as text. Fails only where
-/// memory is refused.
+/// Where a listener listens that was bound to this address, of which the system may have chosen the port, as text.
+/// Fails only where memory is refused.
 fn text_of(
     alloc: Global,
     listener: &TcpListener,

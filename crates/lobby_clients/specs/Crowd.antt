@@ -39,4 +39,5 @@ all_but_client client clients = filter (λ c. not (same_number client c)) client
 
 -- where a client has read all, no memory is kept for it
 abbrev pub KeepsNothing : ℕ → ByNumber Held → Type 0
-KeepsNothing client slots = (held : Held) → lookup (is_at (nat_cmp client)) slots ≡ Some held → held.client.unread ≡ [] → (held.spare ≡ 0) × (held.spare_pieces ≡ 0)
+KeepsNothing client slots = (held : Held) → lookup (is_at (nat_cmp client)) slots ≡ Some held → held.client.unread ≡ []
+    → (held.spare ≡ 0) × (held.spare_pieces ≡ 0)

@@ -1,6 +1,8 @@
 //! All clients by their numbers.
 
-ghost use Rattle.std.specs.Prelude.{◌≡◌, ℕ, ◌+◌, ◌-◌, ◌^◌, ◌<◌, [], ◌∷◌, ◌++◌, List, length, take, drop, min, map, if◌then◌else◌, OnOk, OnErr, IfSome, IfNone, Some, true, false, is_some, option_copied};
+ghost use Rattle.std.specs.Prelude.{◌≡◌, ℕ, ◌+◌, ◌-◌, ◌^◌, ◌<◌, [], ◌∷◌, ◌++◌, List, length, take, drop, min, map};
+ghost use Rattle.std.specs.Prelude.{if◌then◌else◌, OnOk, OnErr, IfSome, IfNone, Some, true, false, is_some};
+ghost use Rattle.std.specs.Prelude.{option_copied};
 ghost use Rattle.std.specs.Option.{option_map, option_to_list};
 ghost use Rattle.std.specs.Ordering.{nat_cmp};
 ghost use Rattle.std.specs.List.Sorted.{IsStrictlySortedBy};
@@ -168,11 +170,14 @@ impl Clients {
     ) -> Result<(), AllocError>
         requires { home < 64 }
         ensures limit { self.new.limit ≡ self.old.limit }
-        ensures ok { OnOk result (plain self.new.slots ≡ put_number (plain self.old.slots) client (with_batch self.old.limit greeting.now (greeted ip home))) }
-        ensures due { OnOk result ((pieces : ByNumber (List ℕ)) → bytes_for pieces client ≡ [] → AreDue pieces self.old.slots → AreDue pieces self.new.slots) }
+        ensures ok { OnOk result (plain self.new.slots
+            ≡ put_number (plain self.old.slots) client (with_batch self.old.limit greeting.now (greeted ip home))) }
+        ensures due { OnOk result ((pieces : ByNumber (List ℕ)) → bytes_for pieces client ≡ []
+            → AreDue pieces self.old.slots → AreDue pieces self.new.slots) }
         ensures was_ordered { OnOk result (IsStrictlySortedBy nat_cmp (map (λ e. e.0) self.old.slots)) }
         ensures known { OnOk result ((last : ℕ) → last < client → Known self.old last → Known self.new client) }
-        ensures waits { OnOk result ((last h : ℕ) → last < client → Known self.old last → h < 64 → waits self.new h ≡ waits self.old h ++ (if same_number home h then client ∷ [] else [])) }
+        ensures waits { OnOk result ((last h : ℕ) → last < client → Known self.old last → h < 64
+            → waits self.new h ≡ waits self.old h ++ (if same_number home h then client ∷ [] else [])) }
         ensures err { OnErr result (self.new ≡ self.old) }
     {
         self.pool.reserve_total(self.slots.len().saturating_add(1))?;
@@ -236,7 +241,8 @@ impl Clients {
         ensures due { (pieces : ByNumber (List ℕ)) → AreDue pieces self.old.slots → AreDue pieces self.new.slots }
         ensures ready { AreReady self.old.slots → AreReady self.new.slots }
         ensures known { (last : ℕ) → Known self.old last → Known self.new last }
-        ensures waits { (h : ℕ) → h < 64 → waits self.new h ≡ (if stays then waits self.old h else all_but_client client (waits self.old h)) }
+        ensures waits { (h : ℕ) → h < 64
+            → waits self.new h ≡ (if stays then waits self.old h else all_but_client client (waits self.old h)) }
     {
         if stays {
             self.end(client);
@@ -283,9 +289,11 @@ impl Clients {
         ensures clients { plain self.new.slots ≡ deliver self.old.limit post.old.sent (plain self.old.slots) }
         ensures due { AreDue [] self.new.slots }
         ensures told { told.new ≡ counted_on told.old (work post.old) }
-        ensures wakes { (home : ℕ) → has_home result home ≡ wakes_home self.old.limit post.old.sent (plain self.old.slots) home }
+        ensures wakes { (home : ℕ) → has_home result home
+            ≡ wakes_home self.old.limit post.old.sent (plain self.old.slots) home }
         ensures known { (n : ℕ) → Known self.old n → Known self.new n }
-        ensures newly { (n home : ℕ) → Known self.old n → home < 64 → IsNewly post.old.sent self.old.slots home (waits self.old home) (waits self.new home) }
+        ensures newly { (n home : ℕ) → Known self.old n → home < 64
+            → IsNewly post.old.sent self.old.slots home (waits self.old home) (waits self.new home) }
     {
         post.deliver(&mut self.slots, &mut self.dirty, told)
     }
@@ -314,12 +322,15 @@ impl Clients {
     /// will ever come of the client again. It takes no memory, and of one who has read all no memory is
     /// kept. A client that is not there has nothing, and is finished.
     pub fn drain(&mut self, client: u64, into: &mut [u8]) -> Drained
-        ensures count { result.count ≡ min (length (unread_in (at_number (plain self.old.slots) client))) (length into.old) }
-        ensures given { into.new ≡ take result.count (unread_in (at_number (plain self.old.slots) client)) ++ drop result.count into.old }
+        ensures count { result.count ≡ min (length (unread_in (at_number (plain self.old.slots) client)))
+            (length into.old) }
+        ensures given { into.new ≡ take result.count (unread_in (at_number (plain self.old.slots) client))
+            ++ drop result.count into.old }
         ensures finished { result.finished ≡ is_over (at_number (plain self.new.slots) client) }
         ensures given_back { KeepsNothing client self.new.slots }
         ensures limit { self.new.limit ≡ self.old.limit }
-        ensures clients { plain self.new.slots ≡ change_number (plain self.old.slots) client (drained (length into.old)) }
+        ensures clients { plain self.new.slots
+            ≡ change_number (plain self.old.slots) client (drained (length into.old)) }
         ensures due { (pieces : ByNumber (List ℕ)) → AreDue pieces self.old.slots → AreDue pieces self.new.slots }
         ensures marks { marks_of self.new.slots ≡ marks_of self.old.slots }
         ensures lines { self.new.lines ≡ self.old.lines }
@@ -353,8 +364,10 @@ impl Clients {
     /// Copies bytes that a client has not read into a slice, beginning `from` bytes behind the first,
     /// as many as there are and fit, and says how many; 0 where it is not there.
     pub fn copy_unread(&self, client: u64, from: usize, into: &mut [u8]) -> usize
-        ensures count { result ≡ min (length (unread_in (at_number (plain self.now.slots) client)) - from) (length into.old) }
-        ensures given { into.new ≡ take result (drop from (unread_in (at_number (plain self.now.slots) client))) ++ drop result into.old }
+        ensures count { result ≡ min (length (unread_in (at_number (plain self.now.slots) client)) - from)
+            (length into.old) }
+        ensures given { into.new ≡ take result (drop from (unread_in (at_number (plain self.now.slots) client)))
+            ++ drop result into.old }
     {
         match self.slots.get(client) {
             Some(slot) => slot.copy_unread(from, into),

@@ -1,12 +1,13 @@
 -- What contracts see of a worker's connections.
-use Rattle.std.specs.Prelude.{◌≡◌, ◌⊎◌, ℕ, Bool, true, false, if◌then◌else◌, List, [], ◌∷◌, ◌++◌, length, slice_index_or}
+use Rattle.std.specs.Prelude.{◌≡◌, ◌⊎◌, ℕ, Bool, true, false, if◌then◌else◌, List, [], ◌∷◌, ◌++◌, length}
+use Rattle.std.specs.Prelude.{slice_index_or}
 use Rattle.lobby_connections.specs.Timeouts.{shorter}
 use Rattle.lobby_connections.specs.declared.poll_timeout.PollTimeout.{PollTimeout}
 
--- The keys of those who get a turn though nothing new comes, or that all do, and how many of them had it; the same for those
--- who come behind them; how many pieces the turns of this round told, and the most that a turn and a round tell; the clients
--- that were named, and whether the lobby may name more; how long the worker may wait before the next round; how many
--- connections there are, what each of their keys is below, and how many more there is room for
+-- The keys of those who get a turn though nothing new comes, or that all do, and how many of them had it; the same for
+-- those who come behind them; how many pieces the turns of this round told, and the most that a turn and a round tell;
+-- the clients that were named, and whether the lobby may name more; how long the worker may wait before the next round;
+-- how many connections there are, what each of their keys is below, and how many more there is room for
 pub record Table : Type 0 where
   pub due : List ℕ
   pub is_each_due : Bool
@@ -33,9 +34,16 @@ next_key table = if table.is_each_due then table.served else slice_index_or tabl
 
 -- each had its turn, and those who were left over get it next
 abbrev pub with_left : Table → Table
-with_left table = record table { due = table.left; is_each_due = table.is_each_left; served = 0; left = []; is_each_left = false }
+with_left table = record table {
+  due = table.left;
+  is_each_due = table.is_each_left;
+  served = 0;
+  left = [];
+  is_each_left = false;
+}
 
--- this key joins those that are left for the next round, or all are, the worker waits no longer than this, and nothing else changes
+-- this key joins those that are left for the next round, or all are, the worker waits no longer than this, and nothing
+-- else changes
 abbrev pub Leaves : Table → Table → ℕ → PollTimeout → Type 0
 Leaves old new key timeout =
     (new ≡ record old { left = old.left ++ key ∷ []; timeout = shorter old.timeout timeout })

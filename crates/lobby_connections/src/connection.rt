@@ -49,8 +49,8 @@ impl Connection {
         self.link.note(event);
     }
 
-    /// Whether its next turn likely costs much, whatever its client asks: a poll told that the other side ended, so that the client is
-    /// shut, or its link took no more at the last write, so that much waits to be sent.
+    /// Whether its next turn likely costs much, whatever its client asks: a poll told that the other side ended, so
+    /// that the client is shut, or its link took no more at the last write, so that much waits to be sent.
     pub(crate) fn is_dear(&self) -> bool {
         self.is_ending || self.link.last_sent() == Some(Sent::Later)
     }

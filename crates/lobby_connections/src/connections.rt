@@ -1,6 +1,7 @@
 //! The connections of a worker, and who gets the next turn.
 
-ghost use Rattle.std.specs.Prelude.{◌≡◌, ◌⊎◌, ◌↔◌, ◌+◌, ◌-◌, ◌/◌, ◌^◌, ◌<◌, ◌≤◌, ◌||◌, [], ◌++◌, true, false, length, max, min, None, IfSome, IsTrue, OnOk, OnSome};
+ghost use Rattle.std.specs.Prelude.{◌≡◌, ◌⊎◌, ◌↔◌, ◌+◌, ◌-◌, ◌/◌, ◌^◌, ◌<◌, ◌≤◌, ◌||◌, [], ◌++◌, true, false, length};
+ghost use Rattle.std.specs.Prelude.{max, min, None, IfSome, IsTrue, OnOk, OnSome};
 ghost use Rattle.std.specs.Option.{option_to_list};
 ghost use Rattle.lobby_post.specs.Mask.{has_home};
 ghost use Rattle.lobby_connections.specs.Table.{Leaves, Stays, due_count, next_key, with_left};
@@ -108,12 +109,29 @@ impl Model for Connections {
 
     ghost Value = { Table };
 
-    ghost view = { λ c. record { due = c.due.items; is_each_due = c.is_each_due; served = c.served; left = c.left.items; is_each_left = c.is_each_left; told = c.told; turn_most = c.turn_most; round_most = c.round_most; named = c.named.items; is_marked = c.is_marked; timeout = c.timeout; count = slab_len c.slab; key_bound = c.slab.capacity; room = min (c.slab.capacity - slab_len c.slab) (spare c.keys) } };
+    ghost view = { λ c. record {
+      due = c.due.items;
+      is_each_due = c.is_each_due;
+      served = c.served;
+      left =
+          c.left.items;
+      is_each_left = c.is_each_left;
+      told = c.told;
+      turn_most = c.turn_most;
+      round_most = c.round_most;
+      named = c.named.items;
+      is_marked = c.is_marked;
+      timeout = c.timeout;
+      count = slab_len c.slab;
+      key_bound =
+          c.slab.capacity;
+      room = min (c.slab.capacity - slab_len c.slab) (spare c.keys);
+    } };
 }
 
 impl Connections {
-    /// No connection, at one of so many workers, 1 to 64, who have one lobby in turn. Together they tell as much as one of them would
-    /// alone, but for a remainder.
+    /// No connection, at one of so many workers, 1 to 64, who have one lobby in turn. Together they tell as much as one
+    /// of them would alone, but for a remainder.
     pub fn new(alloc: Global, workers: u64) -> Connections
         requires some { 1 ≤ workers }
         requires few { workers ≤ 64 }
@@ -163,10 +181,13 @@ impl Connections {
         self.timeout = self.timeout.or(timeout);
     }
 
-    /// A round begins, in which nothing was told yet. Where each of those who were due had its turn, those are due who were left over.
+    /// A round begins, in which nothing was told yet. Where each of those who were due had its turn, those are due who
+    /// were left over.
     pub fn begin_round(&mut self)
-        ensures over { due_count self.old ≤ self.old.served → self.new ≡ record (with_left self.old) { timeout = PollTimeout.Endless; told = 0 } }
-        ensures goes_on { self.old.served < due_count self.old → self.new ≡ record self.old { timeout = PollTimeout.Endless; told = 0 } }
+        ensures over { due_count self.old ≤ self.old.served
+            → self.new ≡ record (with_left self.old) { timeout = PollTimeout.Endless; told = 0 } }
+        ensures goes_on { self.old.served < due_count self.old
+            → self.new ≡ record self.old { timeout = PollTimeout.Endless; told = 0 } }
     {
         self.round = self.round.wrapping_add(1);
         self.timeout = PollTimeout::Endless;
@@ -182,7 +203,8 @@ impl Connections {
         self.is_refused = false;
     }
 
-    /// Memory was refused to a turn of this round. Whether that is news: it was refused to none before, in this round and the last.
+    /// Memory was refused to a turn of this round. Whether that is news: it was refused to none before, in this round
+    /// and the last.
     pub fn refuse(&mut self) -> bool
         ensures { self.new ≡ self.old }
     {
@@ -205,7 +227,8 @@ impl Connections {
         self.slab.capacity()
     }
 
-    /// How many are due, those among them who had their turn. Where someone found no place in the list of those, each is.
+    /// How many are due, those among them who had their turn. Where someone found no place in the list of those, each
+    /// is.
     pub fn due(&self) -> usize
         ensures { result ≡ due_count self.now }
     {
@@ -231,7 +254,9 @@ impl Connections {
 
     /// The key of the next one that is due, who is left over no more. None where each had its turn.
     pub fn next_due(&mut self) -> Option<usize>
-        ensures some { IfSome result (λ key. (key ≡ next_key self.old) × (self.old.served < due_count self.old) × (self.new ≡ record self.old { served = self.old.served + 1 })) }
+        ensures some { IfSome result (λ key.
+            (key ≡ next_key self.old) × (self.old.served < due_count self.old)
+            × (self.new ≡ record self.old { served = self.old.served + 1 })) }
         ensures none { result ≡ None → (due_count self.old ≤ self.old.served) × (self.new ≡ self.old) }
     {
         if self.served >= self.due() {
@@ -267,8 +292,8 @@ impl Connections {
         left.min(self.turn_most)
     }
 
-    /// How many pieces the next turn of this round may tell where nobody else is left over: all that is left of the round, and a turn's
-    /// at least.
+    /// How many pieces the next turn of this round may tell where nobody else is left over: all that is left of the
+    /// round, and a turn's at least.
     pub fn lone_allowance(&self) -> u64
         ensures { result ≡ max (self.now.round_most - self.now.told) self.now.turn_most }
     {
@@ -283,11 +308,12 @@ impl Connections {
         self.told = self.told.saturating_add(told);
     }
 
-    /// Whether the connection under a key waits for its turn among those who are left over. Where the round told enough and the turn
-    /// would likely cost much, it does so from now on.
+    /// Whether the connection under a key waits for its turn among those who are left over. Where the round told enough
+    /// and the turn would likely cost much, it does so from now on.
     pub fn is_put_off(&mut self, key: usize) -> bool
         ensures now { result ≡ false → self.new ≡ self.old }
-        ensures then { (self.new ≡ self.old) ⊎ ((self.old.round_most ≤ self.old.told) × Leaves self.old self.new key PollTimeout.Zero) }
+        ensures then { (self.new ≡ self.old)
+            ⊎ ((self.old.round_most ≤ self.old.told) × Leaves self.old self.new key PollTimeout.Zero) }
     {
         let is_enough = self.told >= self.round_most;
         match self.slab.get_mut(key) {
@@ -310,8 +336,8 @@ impl Connections {
         self.named.reserve(more)
     }
 
-    /// A connection comes: from now on a poll tells of it under its key, and there is room for it. None, and it is closed, where the
-    /// system or memory does not allow it.
+    /// A connection comes: from now on a poll tells of it under its key, and there is room for it. None, and it is
+    /// closed, where the system or memory does not allow it.
     pub fn prepare(&mut self, registry: &Registry, stream: TcpStream) -> Option<WireLink>
         ensures room { OnSome result (0 < self.new.room) }
         ensures rest { Stays self.old self.new }
@@ -365,8 +391,8 @@ impl Connections {
         self.slab.get(key)
     }
 
-    /// The connection under a key, whose turn of this round begins, with buffers that are lent to it. None where there is none, or it
-    /// had its turn.
+    /// The connection under a key, whose turn of this round begins, with buffers that are lent to it. None where there
+    /// is none, or it had its turn.
     pub fn begin_turn(&mut self, key: usize) -> Option<&mut Connection> {
         let connection = self.slab.get_mut(key)?;
         if connection.round == self.round {
@@ -386,8 +412,8 @@ impl Connections {
         }
     }
 
-    /// Sees to it that a connection goes on as its turn ended: where it stopped at a limit or for want of memory, it is left for the
-    /// next round. One whose client was shut lingers.
+    /// Sees to it that a connection goes on as its turn ended: where it stopped at a limit or for want of memory, it is
+    /// left for the next round. One whose client was shut lingers.
     pub fn end_turn(&mut self, registry: &Registry, key: usize, state: TurnState)
         ensures again { state ≡ TurnState.Again → Leaves self.old self.new key PollTimeout.Zero }
         ensures memory { state ≡ TurnState.Memory → Leaves self.old self.new key PollTimeout.Short }
@@ -452,7 +478,8 @@ impl Connections {
         self.lingering.let_go()
     }
 
-    /// Marks the worker where a turn touched its clients, which are those of this home: the lobby may name more of them.
+    /// Marks the worker where a turn touched its clients, which are those of this home: the lobby may name more of
+    /// them.
     pub fn mark(&mut self, home: u8, wakes: Wakes)
         requires { home ≤ 63 }
         ensures { self.new ≡ record self.old { is_marked = self.old.is_marked || has_home wakes home } }

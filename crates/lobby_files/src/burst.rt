@@ -14,11 +14,12 @@ const MOTD_LINE: usize = ID + 6;
 /// `ADDUSER` and `CLIENTSTATUS` of a user, with a name of 20 bytes and the longest numbers.
 const USER: usize = 2 * ID + 55 + 38;
 
-/// `BATTLEOPENED` and `UPDATEBATTLEINFO` of a battle that was opened by a line of 8,192 bytes, of which its texts have 8,161, and whose
-/// map was then changed by a line of 8,192 bytes, of which the map has 8,169. Both lines have the map.
+/// `BATTLEOPENED` and `UPDATEBATTLEINFO` of a battle that was opened by a line of 8,192 bytes, of which its texts have
+/// 8,161, and whose map was then changed by a line of 8,192 bytes, of which the map has 8,169. Both lines have the map.
 const BATTLE: usize = 16_422 + 8_216;
 
-/// What a login among so many users is sent besides battles: what is sent of its message of the day is counted as it stands there.
+/// What a login among so many users is sent besides battles: what is sent of its message of the day is counted as it
+/// stands there.
 fn without_battles(settings: &Settings, users: usize) -> usize {
     let mut bytes = FRAME.saturating_add(users.saturating_mul(USER));
     for line in settings.motd().as_slice() {
@@ -27,13 +28,15 @@ fn without_battles(settings: &Settings, users: usize) -> usize {
     bytes
 }
 
-/// The most bytes that a login is sent where so many users can be logged in, itself among them, and each of the others has opened a battle.
+/// The most bytes that a login is sent where so many users can be logged in, itself among them, and each of the others
+/// has opened a battle.
 pub fn longest_burst(settings: &Settings, users: usize) -> usize {
     let battles = users.saturating_sub(1);
     without_battles(settings, users).saturating_add(battles.saturating_mul(BATTLE))
 }
 
-/// How many battles with the longest texts may be open so that a login among so many users fits into its client's outbox.
+/// How many battles with the longest texts may be open so that a login among so many users fits into its client's
+/// outbox.
 pub fn battles_that_fit(settings: &Settings, users: usize) -> usize {
     let room = settings.outbox_limit();
     room.saturating_sub(without_battles(settings, users)) / BATTLE

@@ -17,8 +17,9 @@ fn read_file<R: Files + AllocGlobal>(rt: &R, path: &str) -> Result<Vec<u8>, File
     }
 }
 
-/// What the file of settings at a path sets the server up to: as [`Setup::read`] says of its bytes, of which the contract has the range of
-/// workers alone. `Unreadable` where the file cannot be read, `Settings` where it is no good, `Memory` where memory was refused.
+/// What the file of settings at a path sets the server up to: as [`Setup::read`] says of its bytes, of which the
+/// contract has the range of workers alone. `Unreadable` where the file cannot be read, `Settings` where it is no good,
+/// `Memory` where memory was refused.
 pub fn settings_at<R: Files + AllocGlobal>(rt: &R, path: &str) -> Result<Setup, FileError>
     ensures { IfOk result (λ setup. (1 ≤ setup.workers) × (setup.workers ≤ 64)) }
 {
@@ -30,8 +31,9 @@ pub fn settings_at<R: Files + AllocGlobal>(rt: &R, path: &str) -> Result<Setup, 
     }
 }
 
-/// The accounts of the file of accounts at a path: as [`AccountBook::read`] says of its bytes, of which there is no contract here.
-/// `Unreadable` where the file cannot be read, `Accounts` where it is no good, `Memory` where memory was refused.
+/// The accounts of the file of accounts at a path: as [`AccountBook::read`] says of its bytes, of which there is no
+/// contract here. `Unreadable` where the file cannot be read, `Accounts` where it is no good, `Memory` where memory was
+/// refused.
 pub fn accounts_at<R: Files + AllocGlobal>(rt: &R, path: &str) -> Result<AccountBook, FileError> {
     let bytes = read_file(rt, path)?;
     match AccountBook::read(rt.alloc(), &bytes) {

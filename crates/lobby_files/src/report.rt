@@ -10,14 +10,16 @@ use std::rt::{Env, Files};
 
 const USAGE: &str = "usage: lobby_check SETTINGS ACCOUNTS";
 
-/// The most clients that a lobby takes. The lobby has this limit itself; it is said once more here, since the programs that look at
-/// files are built without a lobby.
+/// The most clients that a lobby takes. The lobby has this limit itself; it is said once more here, since the programs
+/// that look at files are built without a lobby.
 pub const CLIENT_LIMIT: usize = 10_000;
 
-/// What a client takes that is logged in, in a channel of 1,000, and reads, in bytes, as it was measured (docs/OPERATING.md).
+/// What a client takes that is logged in, in a channel of 1,000, and reads, in bytes, as it was measured
+/// (docs/OPERATING.md).
 const CLIENT_BYTES: usize = 2_863;
 
-/// What as many clients as a lobby takes have waiting if none of them reads, with what each takes besides, in megabytes.
+/// What as many clients as a lobby takes have waiting if none of them reads, with what each takes besides, in
+/// megabytes.
 fn waiting_megabytes(outbox_limit: usize) -> usize
     requires { outbox_limit ≤ 67108864 }
     ensures { result ≡ 10000 * (2863 + outbox_limit) / 1000000 }
@@ -79,8 +81,9 @@ fn check_burst<R: Print>(rt: &R, settings: &Settings, accounts: usize) {
     }
 }
 
-/// Looks at the files of settings and of accounts that the arguments name. Of each it prints what it comes to, or its first fault.
-/// The exit status is 0 where a server can be started by them, else 2. Other arguments give 2 and one line on standard error.
+/// Looks at the files of settings and of accounts that the arguments name. Of each it prints what it comes to, or its
+/// first fault. The exit status is 0 where a server can be started by them, else 2. Other arguments give 2 and one line
+/// on standard error.
 pub fn check<R: Files + Env + Print + Eprint + AllocGlobal>(rt: &R) -> u8
     ensures { (result ≡ 0) ⊎ (result ≡ 2) }
 {

@@ -3,11 +3,24 @@ use Rattle.std.specs.Prelude.{◌≡◌, ℕ, List, Result, Ok, Err}
 use Rattle.reply_kinds.specs.declared.Reply.{Reply}
 use Rattle.reply_kinds.specs.declared.Reply.TheVariants as reply
 use Rattle.lobby_model.specs.State.{State}
-use Rattle.lobby_model.specs.Texts.{fault_text, log_in_first, already_in, invalid_login, user_is_in, already_in_channel, not_in_channel, no_such_user, already_in_battle, already_asking, no_number_left, no_such_battle, battle_is_locked, wrong_password, not_in_battle, not_the_founder, no_such_request, no_such_member, cannot_kick_yourself, no_such_bot, not_your_bot, bot_name_taken, too_many_bots, too_many_tags, too_many_units}
+use Rattle.lobby_model.specs.Texts.{fault_text, log_in_first, already_in, invalid_login, user_is_in}
+use Rattle.lobby_model.specs.Texts.{already_in_channel, not_in_channel, no_such_user, already_in_battle}
+use Rattle.lobby_model.specs.Texts.{already_asking, no_number_left, no_such_battle, battle_is_locked, wrong_password}
+use Rattle.lobby_model.specs.Texts.{not_in_battle, not_the_founder, no_such_request, no_such_member}
+use Rattle.lobby_model.specs.Texts.{cannot_kick_yourself, no_such_bot, not_your_bot, bot_name_taken, too_many_bots}
+use Rattle.lobby_model.specs.Texts.{too_many_tags, too_many_units}
 use Rattle.lobby_model.specs.Outcome.{Outcome, Refused, letters_of, state_after}
 use Rattle.lobby_post.specs.Posted.{Posted, Told}
 use Rattle.lobby_guards.specs.declared.refusal.Refusal.{Refusal}
-use Rattle.lobby_guards.specs.declared.refusal.Refusal.TheVariants.{Fault, LogInFirst, AlreadyIn, InvalidLogin, UserIsIn, AlreadyInChannel, NotInChannel, NoSuchUser, OpensInBattle, OpensAsking, NoNumberLeft, JoinsInBattle, JoinsAsking, NoSuchBattle, BattleIsLocked, WrongPassword, NotInBattle, NotTheFounder, NoSuchRequest, NoSuchMember, CannotKickYourself, NoSuchBot, NotYourBot, BotNameTaken, TooManyBots, TooManyTags, TooManyUnits}
+use Rattle.lobby_guards.specs.declared.refusal.Refusal.TheVariants.{Fault, LogInFirst, AlreadyIn, InvalidLogin}
+use Rattle.lobby_guards.specs.declared.refusal.Refusal.TheVariants.{UserIsIn, AlreadyInChannel, NotInChannel}
+use Rattle.lobby_guards.specs.declared.refusal.Refusal.TheVariants.{NoSuchUser, OpensInBattle, OpensAsking}
+use Rattle.lobby_guards.specs.declared.refusal.Refusal.TheVariants.{NoNumberLeft, JoinsInBattle, JoinsAsking}
+use Rattle.lobby_guards.specs.declared.refusal.Refusal.TheVariants.{NoSuchBattle, BattleIsLocked, WrongPassword}
+use Rattle.lobby_guards.specs.declared.refusal.Refusal.TheVariants.{NotInBattle, NotTheFounder, NoSuchRequest}
+use Rattle.lobby_guards.specs.declared.refusal.Refusal.TheVariants.{NoSuchMember, CannotKickYourself, NoSuchBot}
+use Rattle.lobby_guards.specs.declared.refusal.Refusal.TheVariants.{NotYourBot, BotNameTaken, TooManyBots}
+use Rattle.lobby_guards.specs.declared.refusal.Refusal.TheVariants.{TooManyTags, TooManyUnits}
 use Rattle.lobby_guards.specs.declared.refusal.Stop.{Stop}
 use Rattle.lobby_guards.specs.declared.refusal.Stop.TheVariants as stop
 use Rattle.lobby_maps.specs.declared.change.Change.{Change}

@@ -1,16 +1,23 @@
 //! Guards of what is done with battles: each gives a thing, or the refusal of one who asks for it in
 //! vain. The refusals are those of docs/PROTOCOL.md, "The texts".
 
-ghost use Rattle.std.specs.Prelude.{◌≡◌, ◌≤◌, ◌+◌, ◌||◌, ◌==◌, true, false, None, Some, IfOk, IfErr, is_some, option_copied};
+ghost use Rattle.std.specs.Prelude.{◌≡◌, ◌≤◌, ◌+◌, ◌||◌, ◌==◌, true, false, None, Some, IfOk, IfErr, is_some};
+ghost use Rattle.std.specs.Prelude.{option_copied};
 ghost use Rattle.line_words.specs.Table.{at_number, same_name};
-ghost use Rattle.room_lists.specs.Room.{asker_of, bot_of, disable_units, has_asker, has_member, has_too_many_tags, has_too_many_units, is_full_of_bots, member_of, set_tags};
+ghost use Rattle.room_lists.specs.Room.{asker_of, bot_of, disable_units, has_asker, has_member, has_too_many_tags};
+ghost use Rattle.room_lists.specs.Room.{has_too_many_units, is_full_of_bots, member_of, set_tags};
 ghost use Rattle.room_lists.specs.Tags.{with_tags};
 ghost use Rattle.room_lists.specs.Units.{with_units, words_new};
 ghost use Rattle.lobby_model.specs.State.{asked_by, battle_of};
 ghost use Rattle.lobby_model.specs.Battles.{is_founder, lets_in};
 ghost use Rattle.lobby_guards.specs.Answers.{Refuses};
 ghost use Rattle.lobby_battles.specs.Battles.{AskOutside, ChangesAlike};
-ghost use Rattle.lobby_guards.specs.declared.refusal.Refusal.TheVariants.{NoNumberLeft, NoSuchBattle, BattleIsLocked, WrongPassword, NotInBattle, NotTheFounder, NoSuchRequest, NoSuchMember, CannotKickYourself, NoSuchBot, NotYourBot, BotNameTaken, TooManyBots, TooManyTags, TooManyUnits};
+ghost use Rattle.lobby_guards.specs.declared.refusal.Refusal.TheVariants.{NoNumberLeft, NoSuchBattle, BattleIsLocked};
+ghost use Rattle.lobby_guards.specs.declared.refusal.Refusal.TheVariants.{WrongPassword, NotInBattle, NotTheFounder};
+ghost use Rattle.lobby_guards.specs.declared.refusal.Refusal.TheVariants.{NoSuchRequest, NoSuchMember};
+ghost use Rattle.lobby_guards.specs.declared.refusal.Refusal.TheVariants.{CannotKickYourself, NoSuchBot, NotYourBot};
+ghost use Rattle.lobby_guards.specs.declared.refusal.Refusal.TheVariants.{BotNameTaken, TooManyBots, TooManyTags};
+ghost use Rattle.lobby_guards.specs.declared.refusal.Refusal.TheVariants.{TooManyUnits};
 
 use crate::{Refusal, Stop, or_refuse, refuse_if};
 use battle_room::{Asker, Bot, Member};
@@ -75,7 +82,8 @@ pub fn not_locked(battle: &Battle) -> Result<(), Stop>
 /// A password lets its giver into a battle.
 pub fn right_password(battle: &Battle, password: Option<&WordBuf>) -> Result<(), Stop>
     ensures ok { IfOk result (λ _. lets_in battle.now.password (option_copied password.entry) ≡ true) }
-    ensures err { IfErr result (Refuses WrongPassword (lets_in battle.now.password (option_copied password.entry) ≡ false)) }
+    ensures err { IfErr result (Refuses WrongPassword (lets_in battle.now.password (option_copied password.entry)
+        ≡ false)) }
 {
     refuse_if(!battle.lets_in(password), Refusal::WrongPassword)
 }
@@ -126,7 +134,8 @@ pub fn bot_named<'a>(battle: &'a Battle, name: &WordBuf) -> Result<&'a Bot, Stop
 /// A user owns a bot, or founded its battle.
 pub fn may_change(me: &NameBuf, battle: &Battle, bot: &Bot) -> Result<(), Stop>
     ensures ok { IfOk result (λ _. (same_name me.now bot.now.owner || is_founder me.now battle.now) ≡ true) }
-    ensures err { IfErr result (Refuses NotYourBot ((same_name me.now bot.now.owner || is_founder me.now battle.now) ≡ false)) }
+    ensures err { IfErr result (Refuses NotYourBot ((same_name me.now bot.now.owner || is_founder me.now battle.now)
+        ≡ false)) }
 {
     let may = me.cmp(bot.owner()).is_eq() || battle.is_founder(me);
     refuse_if(!may, Refusal::NotYourBot)
@@ -152,7 +161,8 @@ pub fn room_for_bot(battle: &Battle) -> Result<(), Stop>
 pub fn last_tags(battle: &Battle, pairs: &[Pair]) -> Result<PairList, Stop>
     ensures ok { IfOk result (λ _. has_too_many_tags (with_tags battle.now.room.tags pairs.now) ≡ false) }
     ensures alike { IfOk result (λ last. set_tags last battle.now.room ≡ set_tags pairs.now battle.now.room) }
-    ensures err { IfErr result (Refuses TooManyTags (has_too_many_tags (with_tags battle.now.room.tags pairs.now) ≡ true)) }
+    ensures err { IfErr result (Refuses TooManyTags (has_too_many_tags (with_tags battle.now.room.tags pairs.now)
+        ≡ true)) }
 {
     or_refuse(battle.room.last_pairs(pairs)?, Refusal::TooManyTags)
 }
@@ -162,7 +172,8 @@ pub fn new_units(battle: &Battle, units: &[WordBuf]) -> Result<WordList, Stop>
     ensures ok { IfOk result (λ _. has_too_many_units (with_units battle.now.room.units units.now) ≡ false) }
     ensures new { IfOk result (λ new. new ≡ words_new battle.now.room.units units.now) }
     ensures alike { IfOk result (λ new. disable_units new battle.now.room ≡ disable_units units.now battle.now.room) }
-    ensures err { IfErr result (Refuses TooManyUnits (has_too_many_units (with_units battle.now.room.units units.now) ≡ true)) }
+    ensures err { IfErr result (Refuses TooManyUnits (has_too_many_units (with_units battle.now.room.units units.now)
+        ≡ true)) }
 {
     or_refuse(battle.room.units_new(units)?, Refusal::TooManyUnits)
 }

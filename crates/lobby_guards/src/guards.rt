@@ -7,7 +7,8 @@ ghost use Rattle.account_book.specs.Book.{login};
 ghost use Rattle.line_words.specs.Table.{at_name, is_among, same_name};
 ghost use Rattle.channel_book.specs.Channels.{names_in};
 ghost use Rattle.lobby_guards.specs.Answers.{Refuses};
-ghost use Rattle.lobby_guards.specs.declared.refusal.Refusal.TheVariants.{InvalidLogin, UserIsIn, AlreadyInChannel, NotInChannel, NoSuchUser};
+ghost use Rattle.lobby_guards.specs.declared.refusal.Refusal.TheVariants.{InvalidLogin, UserIsIn, AlreadyInChannel};
+ghost use Rattle.lobby_guards.specs.declared.refusal.Refusal.TheVariants.{NotInChannel, NoSuchUser};
 
 use crate::{Refusal, Stop, or_refuse, refuse_if};
 use account_book::Account;
@@ -23,7 +24,8 @@ pub fn account_for<'a>(
     password: &WordBuf,
 ) -> Result<&'a Account, Stop>
     ensures ok { IfOk result (λ account. login maps.now.plain.accounts user_name.now password.now ≡ Ok account.now) }
-    ensures err { IfErr result (Refuses InvalidLogin (is_ok (login maps.now.plain.accounts user_name.now password.now) ≡ false)) }
+    ensures err { IfErr result (Refuses InvalidLogin (is_ok (login maps.now.plain.accounts user_name.now password.now)
+        ≡ false)) }
 {
     let found = maps
         .accounts()
@@ -33,7 +35,8 @@ pub fn account_for<'a>(
 
 /// The name of an account, under which nobody is logged in.
 pub fn free_name(maps: &Maps, account: &Account) -> Result<NameBuf, Stop>
-    ensures ok { IfOk result (λ name. (name ≡ account.now.name) × (is_some (at_name maps.now.plain.users account.now.name) ≡ false)) }
+    ensures ok { IfOk result (λ name. (name ≡ account.now.name)
+        × (is_some (at_name maps.now.plain.users account.now.name) ≡ false)) }
     ensures err { IfErr result (Refuses UserIsIn (is_some (at_name maps.now.plain.users account.now.name) ≡ true)) }
 {
     let name = NameBuf::copy_of(maps.alloc(), account.name())?;
@@ -49,7 +52,8 @@ pub fn members_with<'a>(
 ) -> Result<&'a Members<ClientKey>, Stop>
     ensures names { IfOk result (λ members. members.now ≡ names_in maps.now.plain.channels channel.now) }
     ensures among { IfOk result (λ _. is_among me.now (names_in maps.now.plain.channels channel.now) ≡ true) }
-    ensures err { IfErr result (Refuses NotInChannel (is_among me.now (names_in maps.now.plain.channels channel.now) ≡ false)) }
+    ensures err { IfErr result (Refuses NotInChannel (is_among me.now (names_in maps.now.plain.channels channel.now)
+        ≡ false)) }
 {
     let members = or_refuse(maps.channels().members_in(channel), Refusal::NotInChannel)?;
     refuse_if(!members.has_member(me), Refusal::NotInChannel)?;
@@ -65,7 +69,8 @@ pub fn names_without<'a>(
     ensures names { IfOk result (λ names. names.now ≡ names_in maps.now.plain.channels channel.now) }
     ensures among { IfOk result (λ names. is_among me.now (names_in maps.now.plain.channels channel.now) ≡ false) }
     ensures distinct { IfOk result (λ names. IsDistinct same_name names.now) }
-    ensures err { IfErr result (Refuses (AlreadyInChannel channel.now) (is_among me.now (names_in maps.now.plain.channels channel.now) ≡ true)) }
+    ensures err { IfErr result (Refuses (AlreadyInChannel channel.now)
+        (is_among me.now (names_in maps.now.plain.channels channel.now) ≡ true)) }
 {
     let refusal = Refusal::AlreadyInChannel(channel.copy());
     refuse_if(maps.channels().has_member(channel, me), refusal)?;

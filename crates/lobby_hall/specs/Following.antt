@@ -17,8 +17,8 @@ IsFull logs s c = IfSome (of_client logs c) (λ log. lacking log (unread_of s c)
 abbrev pub IsUnlisted : ℕ → Shown → ℕ → Type 0
 IsUnlisted homes lobby c = (home : ℕ) → home < homes → has_number (dirty_at lobby home) c ≡ false
 
--- The logs follow a lobby whose clients are all served by the first workers, so many: each client whose log lacks bytes stands in
--- the list of one of these workers, or is the one that is behind
+-- The logs follow a lobby whose clients are all served by the first workers, so many: each client whose log lacks bytes
+-- stands in the list of one of these workers, or is the one that is behind
 pub record Follows (homes : ℕ) (lobby : Shown) (behind : Option ℕ) (logs : List Log) : Type 0 where
   pub few : homes ≤ 64
   pub homed : (c : ℕ) (client : Client) → at_number lobby.plain.clients c ≡ Some client → client.home < homes
@@ -29,4 +29,5 @@ pub record Follows (homes : ℕ) (lobby : Shown) (behind : Option ℕ) (logs : L
 -- Whatever the logs followed, they follow still, and what they make complete stays the same
 abbrev pub StillFollows : Shown → Option ℕ → List Log → Shown → Option ℕ → List Log → Type 0
 StillFollows lobby behind logs new later more =
-    (homes : ℕ) → Follows homes lobby behind logs → Follows homes new later more × (completed more lobby.plain ≡ completed logs lobby.plain)
+    (homes : ℕ) → Follows homes lobby behind logs
+    → Follows homes new later more × (completed more lobby.plain ≡ completed logs lobby.plain)

@@ -10,14 +10,16 @@ use Rattle.lobby_hall.specs.Record.{Log, IsRecord}
 use Rattle.lobby_hall.specs.Standing.{Kept, Stands}
 
 -- the hall's lobby, sessions and record are those that the schedule leaves
-pub record StandsFor (hall : Kept) (settings : Configuration) (accounts : List Account) (steps : List Step) : Type 0 where
-  pub events : List Event
-  pub world : World
-  pub gives : Gives (new_world settings accounts) steps events world
-  pub stands : Stands hall settings accounts events world
+pub record StandsFor (hall : Kept) (settings : Configuration) (accounts : List Account) (steps : List Step) : Type 0
+  where
+    pub events : List Event
+    pub world : World
+    pub gives : Gives (new_world settings accounts) steps events world
+    pub stands : Stands hall settings accounts events world
 
 -- the logs are those of the events that the schedule gives
-pub record IsRecordOf (logs : List Log) (settings : Configuration) (accounts : List Account) (steps : List Step) : Type 0 where
+pub record IsRecordOf (logs : List Log) (settings : Configuration) (accounts : List Account) (steps : List Step) : Type
+    0 where
   pub events : List Event
   pub world : World
   pub gives : Gives (new_world settings accounts) steps events world

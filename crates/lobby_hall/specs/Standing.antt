@@ -13,8 +13,8 @@ use Rattle.lobby_hall.specs.Record.{Log, IsRecord}
 use Rattle.client_session.specs.Serving.{Serving}
 use Rattle.client_session.specs.Sessions.{Heard, has_next}
 
--- What a contract sees of a hall: the plain lobby, what is kept of the bytes of each client that was ever opened (nothing,
--- once it is removed), and the record of the events so far
+-- What a contract sees of a hall: the plain lobby, what is kept of the bytes of each client that was ever opened
+-- (nothing, once it is removed), and the record of the events so far
 pub record Kept : Type 0 where
   pub lobby : State
   pub sessions : List (Option Serving)
@@ -32,7 +32,8 @@ abbrev pub SessionOf : Option Serving → Bool → Input → Type 0
 SessionOf None is_there given = is_there ≡ false
 SessionOf (Some session) is_there given = (is_there ≡ true) × Heard session.framed given.bytes given.taken
 
-pub record Stands (hall : Kept) (settings : Configuration) (accounts : List Account) (events : List Event) (world : World) : Type 0 where
+pub record Stands (hall : Kept) (settings : Configuration) (accounts : List Account) (events : List Event)
+    (world : World) : Type 0 where
   pub lobby : hall.lobby ≡ world.lobby
   pub history : world.lobby ≡ after (empty_lobby settings accounts) events
   pub record_is : IsRecord hall.record_so_far (empty_lobby settings accounts) events
@@ -44,11 +45,13 @@ pub record Stands (hall : Kept) (settings : Configuration) (accounts : List Acco
 -- after one further step the hall stands for what that step gives
 abbrev pub StandsAfter : Kept → Configuration → List Account → List Event → World → Step → Type 0
 StandsAfter hall settings accounts events world s =
-    (here : List Event) × (new : World) × StepGives world s here new × Stands hall settings accounts (events ++ here) new
+    (here : List Event) × (new : World) × StepGives world s here new
+    × Stands hall settings accounts (events ++ here) new
 
 -- whatever world the old hall stood for, the new one stands for what the step gives
 abbrev pub TakesStep : Kept → Kept → Step → Type 0
-TakesStep old new s = (settings : Configuration) (accounts : List Account) (events : List Event) (world : World) → Stands old settings accounts events world → StandsAfter new settings accounts events world s
+TakesStep old new s = (settings : Configuration) (accounts : List Account) (events : List Event) (world : World)
+    → Stands old settings accounts events world → StandsAfter new settings accounts events world s
 
 -- it is open, and a whole line or a spoilt place is next
 abbrev pub is_ready : World → ℕ → Bool

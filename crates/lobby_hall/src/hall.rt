@@ -70,7 +70,12 @@ impl Model for Hall {
 
     ghost Value = { Kept };
 
-    ghost view = { λ h. record { lobby = h.lobby.plain; sessions = h.sessions.items; record_so_far = completed h.logs h.lobby.plain } };
+    ghost view = { λ h. record {
+      lobby = h.lobby.plain;
+      sessions = h.sessions.items;
+      record_so_far = completed h.logs
+          h.lobby.plain;
+    } };
 
     ghost invariant = { λ h. Follows h.homes h.lobby h.behind h.logs };
 }
@@ -156,7 +161,8 @@ impl Hall {
     fn say(&mut self, client: u64, request: &Request) -> Result<(), AllocError>
         requires { IsTrue (keeps_kinds request.now.command) }
         ensures lobby { OnOk result (self.new.lobby ≡ next self.old.lobby (event.Say client request.now)) }
-        ensures accepted { OnOk result (Accepted (session_at self.old.sessions client) (session_at self.new.sessions client)) }
+        ensures accepted { OnOk result (Accepted (session_at self.old.sessions client)
+            (session_at self.new.sessions client)) }
         ensures others { (q : ℕ) → q ≢ client → session_at self.new.sessions q ≡ session_at self.old.sessions q }
         ensures same_length { length self.new.sessions ≡ length self.old.sessions }
         ensures logs { OnOk result (self.new.record_so_far ≡ completed self.old.record_so_far self.new.lobby) }
@@ -219,7 +225,9 @@ impl Hall {
     pub fn step(&mut self, step: &Step) -> Result<(), HallError>
         requires { HasHome step.now }
         ensures ok { OnOk result (TakesStep self.old self.new step.now) }
-        ensures schedule { OnOk result ((settings : Configuration) (accounts : List Account) (steps : List Step) → StandsFor self.old settings accounts steps → StandsFor self.new settings accounts (steps ++ step.now ∷ [])) }
+        ensures schedule { OnOk result ((settings : Configuration) (accounts : List Account) (steps : List Step)
+            → StandsFor self.old settings accounts steps
+            → StandsFor self.new settings accounts (steps ++ step.now ∷ [])) }
         ensures err { OnErr result (self.new ≡ self.old) }
     {
         self.take_step(step)?;
@@ -242,7 +250,8 @@ impl Hall {
 
     /// Whether a take of a client's next line would give an event: a whole line or a spoilt place is next.
     pub fn ready(&self, client: u64) -> bool
-        ensures { (settings : Configuration) (accounts : List Account) (events : List Event) (world : World) → Stands self.now settings accounts events world → result ≡ is_ready world client }
+        ensures { (settings : Configuration) (accounts : List Account) (events : List Event) (world : World)
+            → Stands self.now settings accounts events world → result ≡ is_ready world client }
     {
         is_ready(&self.sessions, client)
     }
@@ -318,7 +327,8 @@ pub fn run(
 /// A hall takes steps in their order. Where memory is refused, it has taken some of the first ones.
 fn take_steps(hall: &mut Hall, steps: &[Step]) -> Result<(), HallError>
     requires { AllByRecursion HasHome steps.now }
-    ensures { OnOk result ((settings : Configuration) (accounts : List Account) → StandsFor hall.old settings accounts [] → StandsFor hall.new settings accounts steps.now) }
+    ensures { OnOk result ((settings : Configuration) (accounts : List Account)
+        → StandsFor hall.old settings accounts [] → StandsFor hall.new settings accounts steps.now) }
 {
     for step in steps {
         hall.step(step)?;

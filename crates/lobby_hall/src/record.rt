@@ -1,6 +1,7 @@
 //! What a schedule leaves of each client.
 
-ghost use Rattle.std.specs.Prelude.{◌≡◌, ℕ, ◌+◌, ◌-◌, ◌<◌, ◌≤◌, [], ◌∷◌, ◌++◌, length, take, OnOk, IfSome, None, is_ok, if◌then◌else◌};
+ghost use Rattle.std.specs.Prelude.{◌≡◌, ℕ, ◌+◌, ◌-◌, ◌<◌, ◌≤◌, [], ◌∷◌, ◌++◌, length, take, OnOk, IfSome, None};
+ghost use Rattle.std.specs.Prelude.{is_ok, if◌then◌else◌};
 ghost use Rattle.std.specs.Option.{option_copied};
 ghost use Rattle.lobby_machine.specs.Shown.{dirty_at, unread_of};
 ghost use Rattle.lobby_hall.specs.ByClient.{of_client};
@@ -34,7 +35,8 @@ impl Model for Log {
 impl Log {
     /// Copies the unread bytes of the client that the log lacks.
     fn catch_up(&mut self, lobby: &Lobby, client: u64) -> Result<(), AllocError>
-        ensures log { self.new ≡ (if is_ok result then completed_log self.old (unread_of lobby.now.plain client) else self.old) }
+        ensures log { self.new ≡ (if is_ok result then completed_log self.old (unread_of lobby.now.plain client)
+            else self.old) }
         ensures within { length self.old.read ≤ length self.old.put }
     {
         let had = self.put.len();
@@ -169,7 +171,8 @@ impl Record {
         ensures follows { StillFollows lobby.old behind.old self.old lobby.new behind.new self.new }
         ensures none { OnOk result (behind.new ≡ None) }
         ensures served { OnOk result (dirty_at lobby.new home ≡ []) }
-        ensures others { OnOk result ((worker : ℕ) → worker ≤ 63 → dirty_at lobby.old worker ≡ [] → dirty_at lobby.new worker ≡ []) }
+        ensures others { OnOk result ((worker : ℕ) → worker ≤ 63 → dirty_at lobby.old worker ≡ []
+            → dirty_at lobby.new worker ≡ []) }
     {
         while let Some(client) = lobby.next_dirty(home) {
             *behind = Some(client);

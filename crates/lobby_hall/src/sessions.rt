@@ -19,7 +19,8 @@ pub(crate) fn feed(
     client: u64,
     piece: &[u8],
 ) -> Result<(), AllocError>
-    ensures fed { OnOk result (Fed (session_at sessions.old.items client) (session_at sessions.new.items client) piece.now) }
+    ensures fed { OnOk result (Fed (session_at sessions.old.items client) (session_at sessions.new.items client)
+        piece.now) }
     ensures others { (q : ℕ) → q ≢ client → session_at sessions.new.items q ≡ session_at sessions.old.items q }
     ensures same_length { length sessions.new.items ≡ length sessions.old.items }
     ensures err { OnErr result (sessions.new.items ≡ sessions.old.items) }

@@ -23,8 +23,8 @@ use Rattle.lobby_holds.specs.Snapshot.{Snapshot}
 use Rattle.lobby_holds.specs.Talk.{AreDrains, AreTalk, BeginsWith, EndsDry}
 use Rattle.lobby_holds.specs.Went.{Joined, Went}
 
--- What it is where it begins: its worker has seen a longer history, in which the events under the worker's number are those that it made,
--- and no others; its lobby is the plain lobby after that history, and it has no event
+-- What it is where it begins: its worker has seen a longer history, in which the events under the worker's number are
+-- those that it made, and no others; its lobby is the plain lobby after that history, and it has no event
 pub record IsTaken (pass : ShownPass) (held : ShownHold) : Type 0 where
   pub pass_is : held.pass ≡ record pass { on_desk = held.lobby; worker = seen_by pass.worker held.pass.worker.seen }
   pub later : Begins pass.worker.seen held.pass.worker.seen
@@ -64,7 +64,8 @@ IsWithin most said = (said.lines ≤ most) × (said.lines ≤ 32) × (said.refus
 
 -- no spoilt place is next: a whole line stands before it, or there is none
 abbrev pub HasNoSpoiltNext : Serving → Type 0
-HasNoSpoiltNext session = (bytes : List ℕ) (accepted : ℕ) → Heard session.framed bytes accepted → IsNext bytes accepted Spoilt → ⊥
+HasNoSpoiltNext session = (bytes : List ℕ) (accepted : ℕ) → Heard session.framed bytes accepted
+    → IsNext bytes accepted Spoilt → ⊥
 
 -- no whole line is next
 abbrev pub HasNoLineNext : Serving → Type 0
@@ -82,8 +83,9 @@ is_quiet other = false
 abbrev pub HasLoudNext : Serving → Type 0
 HasLoudNext session = (request : Request) × IsNextOf (Some session) (Line request) × (is_quiet request.command ≡ false)
 
--- Why it said no line more: memory was refused for the line that is next, or nothing was refused, and all that were asked for were
--- said, no whole line is next, the hold is full, or as many pieces were told as may be and the line that is next is not quiet
+-- Why it said no line more: memory was refused for the line that is next, or nothing was refused, and all that were
+-- asked for were said, no whole line is next, the hold is full, or as many pieces were told as may be and the line that
+-- is next is not quiet
 pub data StopsAt (most allowance : ℕ) (session : Serving) (said : Said) : Type 0 where
   short : said.refused ≡ true → HasLineNext session → StopsAt most allowance session said
   all_said : said.refused ≡ false → said.lines ≡ most → StopsAt most allowance session said
@@ -91,8 +93,8 @@ pub data StopsAt (most allowance : ℕ) (session : Serving) (said : Said) : Type
   full : said.refused ≡ false → said.lines ≡ 32 → StopsAt most allowance session said
   enough : said.refused ≡ false → allowance ≤ said.told → HasLoudNext session → StopsAt most allowance session said
 
--- it drained for its client, eight times at most and never into an empty slice: whether nothing will ever come of it; where it is dry,
--- the last drain gave nothing
+-- it drained for its client, eight times at most and never into an empty slice: whether nothing will ever come of it;
+-- where it is dry, the last drain gave nothing
 pub record Drains (old new : Snapshot) (finished dry : Bool) : Type 0 where
   pub talk : List Moment
   pub went : Went old new talk
@@ -112,7 +114,8 @@ pub record Asks (old new : Snapshot) (finished : Bool) : Type 0 where
 abbrev pub HasNoneFor : ℕ → ShownPass → Type 0
 HasNoneFor c pass = unread_of (after_history pass.start pass.worker.seen) c ≡ []
 
--- the same of a pass alone, for client c into a slice of n bytes: those that came stand at its front, and where fewer came, these were all
+-- the same of a pass alone, for client c into a slice of n bytes: those that came stand at its front, and where fewer
+-- came, these were all
 pub record DrainedInto (old new : ShownPass) (c n : ℕ) (into : List ℕ) (piece : Piece) : Type 0 where
   pub talk : List Moment
   pub joined : Joined old new talk

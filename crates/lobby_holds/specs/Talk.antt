@@ -35,4 +35,5 @@ BeginsWith c n talk = (met : State) × (rest : List Moment) × (talk ≡ moment 
 -- the last of it drained a piece for client c, and nothing came
 abbrev pub EndsDry : ℕ → List Moment → Type 0
 EndsDry c talk =
-    (before : List Moment) × (met : State) × (n : ℕ) × (talk ≡ before ++ moment met (event.Drain c n) ∷ []) × (0 < n) × (taken_by met (event.Drain c n) c ≡ [])
+    (before : List Moment) × (met : State) × (n : ℕ) × (talk ≡ before ++ moment met (event.Drain c n) ∷ []) × (0 < n)
+    × (taken_by met (event.Drain c n) c ≡ [])

@@ -6,8 +6,8 @@ use Rattle.lobby_holds.specs.declared.link.Got.TheVariants as got
 use Rattle.lobby_holds.specs.declared.link.Sent.{Sent}
 use Rattle.lobby_holds.specs.declared.link.Sent.TheVariants as sent
 
--- how many reads and writes were made, and how often the device failed; all bytes that reads gave and that writes took, where the
--- link tells them; and its last answers
+-- how many reads and writes were made, and how often the device failed; all bytes that reads gave and that writes took,
+-- where the link tells them; and its last answers
 pub record Wire : Type 0 where
   pub reads : ℕ
   pub writes : ℕ
@@ -19,7 +19,16 @@ pub record Wire : Type 0 where
 
 -- no call was made
 abbrev pub untouched : Wire
-untouched = record { reads = 0; writes = 0; failures = 0; read = Some []; written = Some []; last_got = None; last_sent = None }
+untouched = record {
+  reads = 0;
+  writes = 0;
+  failures = 0;
+  read = Some [];
+  written = Some [];
+  last_got = None;
+  last_sent
+      = None;
+}
 
 -- how many bytes a read gave
 abbrev pub got_count : Got → ℕ

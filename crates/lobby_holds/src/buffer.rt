@@ -1,6 +1,8 @@
-//! Buffers for bytes that are on their way. A link reads into one, and the lobby drains into one, without a slice between.
+//! Buffers for bytes that are on their way. A link reads into one, and the lobby drains into one, without a slice
+//! between.
 
-ghost use Rattle.std.specs.Prelude.{◌≡◌, ◌↔◌, ◌+◌, ◌<◌, ◌≤◌, [], length, take, drop, vec_capacity, OnOk, OnErr, IsTrue, Some};
+ghost use Rattle.std.specs.Prelude.{◌≡◌, ◌↔◌, ◌+◌, ◌<◌, ◌≤◌, [], length, take, drop, vec_capacity, OnOk, OnErr};
+ghost use Rattle.std.specs.Prelude.{IsTrue, Some};
 ghost use Rattle.lobby_lock.specs.Passes.{pass_after};
 ghost use Rattle.lobby_holds.specs.Wire.{MayGoOn, and_more, got_count};
 ghost use Rattle.lobby_holds.specs.Holds.{Stands, DrainedBehind};
@@ -12,8 +14,8 @@ use std::alloc::{AllocError, Global};
 use std::marker::Model;
 use std::mem;
 
-/// The most bytes that one drain moves, and the room that a read has at least: a page. So much room is made at once, so it
-/// is small enough to be had where memory is short, and nearly all that a client sends at once fits.
+/// The most bytes that one drain moves, and the room that a read has at least: a page. So much room is made at once, so
+/// it is small enough to be had where memory is short, and nearly all that a client sends at once fits.
 pub const PIECE: usize = 4_096;
 
 /// The longest buffer that a worker keeps, in bytes: what one write carries, and one read gives at most.
@@ -22,8 +24,8 @@ const LONGEST: usize = 16_384;
 /// What a buffer of a piece lacks for the longest.
 const BEHIND: usize = 12_288;
 
-/// Bytes that wait in a part of a buffer, in order. The buffer is as long as its memory, so that more can be written right behind them.
-/// Contracts see the bytes, and how many more fit behind.
+/// Bytes that wait in a part of a buffer, in order. The buffer is as long as its memory, so that more can be written
+/// right behind them. Contracts see the bytes, and how many more fit behind.
 #[derive(Drop)]
 pub(crate) struct Buffer {
     memory: Vec<u8>,
@@ -38,7 +40,10 @@ impl Model for Buffer {
 
     ghost Value = { Waiting };
 
-    ghost view = { λ b. record { bytes = drop b.from (take b.to b.memory.items); room = length b.memory.items - b.to } };
+    ghost view = { λ b. record {
+      bytes = drop b.from (take b.to b.memory.items);
+      room = length b.memory.items - b.to;
+    } };
 
     ghost invariant = { λ b. (b.from ≤ b.to) × (b.to ≤ length b.memory.items) × (b.from ≡ b.to → b.to ≡ 0) };
 }
@@ -101,8 +106,8 @@ impl Buffer {
         self.memory.extend_from_slice(&[0; PIECE])
     }
 
-    /// Makes room for a burst, where there is room for a piece: for as much as one read gives at most. Without memory for
-    /// that the room that there is does.
+    /// Makes room for a burst, where there is room for a piece: for as much as one read gives at most. Without memory
+    /// for that the room that there is does.
     pub(crate) fn widen(&mut self)
         requires room { PIECE ≤ self.old.room }
         ensures bytes { self.new.bytes ≡ self.old.bytes }
@@ -167,7 +172,8 @@ impl Buffer {
         requires few { length held.old.events + 2 ≤ MOST_EVENTS }
         requires stands { Stands held.old }
         requires room { PIECE ≤ self.old.room }
-        ensures drained { DrainedBehind (pass_after held.old) (pass_after held.new) client self.old.bytes self.new.bytes result }
+        ensures drained { DrainedBehind (pass_after held.old) (pass_after held.new) client self.old.bytes
+            self.new.bytes result }
         ensures stands { Stands held.new }
         ensures count { length held.new.events ≤ length held.old.events + 2 }
         ensures pass { held.new.pass ≡ held.old.pass }
@@ -206,7 +212,8 @@ fn count_of(got: Got) -> usize
     }
 }
 
-/// The memory of two buffers, which a worker keeps and lends to each connection for its turn. Contracts see how many bytes each takes.
+/// The memory of two buffers, which a worker keeps and lends to each connection for its turn. Contracts see how many
+/// bytes each takes.
 #[derive(Drop)]
 pub struct Buffers {
     pub(crate) unfed: Vec<u8>,

@@ -1,6 +1,7 @@
 //! The connection of a client.
 
-ghost use Rattle.std.specs.Prelude.{◌≡◌, ◌≢◌, ◌↔◌, ◌+◌, ◌≤◌, ℕ, List, [], ◌++◌, length, drop, OnOk, OnErr, IfOk, IsTrue, Some, true, false};
+ghost use Rattle.std.specs.Prelude.{◌≡◌, ◌≢◌, ◌↔◌, ◌+◌, ◌≤◌, ℕ, List, [], ◌++◌, length, drop, OnOk, OnErr, IfOk};
+ghost use Rattle.std.specs.Prelude.{IsTrue, Some, true, false};
 ghost use Rattle.lobby_lock.specs.Passes.{ShownPass};
 ghost use Rattle.client_session.specs.declared.session.Next.TheVariants.{Spoilt};
 ghost use Rattle.client_session.specs.OneSession.{Accepted, HasLineNext, IsNextOf};
@@ -47,7 +48,8 @@ impl Conn {
     /// The connection of a client from which nothing came yet. It takes no memory.
     pub fn new(alloc: Global, client: u64) -> Conn
         ensures client { result.session.client ≡ client }
-        ensures nothing { (wire : Wire) (pass : ShownPass) → wire.read ≡ Some [] → wire.written ≡ Some [] → Carries (snapshot result wire pass) [] 0 [] }
+        ensures nothing { (wire : Wire) (pass : ShownPass) → wire.read ≡ Some [] → wire.written ≡ Some []
+            → Carries (snapshot result wire pass) [] 0 [] }
         ensures unfed { result.unfed ≡ [] }
         ensures unwritten { result.unwritten ≡ [] }
     {
@@ -126,7 +128,8 @@ impl Conn {
 
     /// Feeds what was read and not yet fed. Where memory is refused, nothing changes, and no spoilt place is next.
     pub fn feed(&mut self) -> Result<(), AllocError>
-        ensures went { OnOk result ((wire : Wire) (pass : ShownPass) → Went (snapshot self.old wire pass) (snapshot self.new wire pass) []) }
+        ensures went { OnOk result ((wire : Wire) (pass : ShownPass)
+            → Went (snapshot self.old wire pass) (snapshot self.new wire pass) []) }
         ensures fed { OnOk result (self.new.unfed ≡ []) }
         ensures unwritten { self.new.unwritten ≡ self.old.unwritten }
         ensures err { OnErr result ((self.new ≡ self.old) × (self.old.unfed ≢ []) × HasNoSpoiltNext self.old.session) }
@@ -139,13 +142,14 @@ impl Conn {
         Ok(())
     }
 
-    /// Reads so many bytes at most, and 16,384 at once where the last read gave a piece or more: so a burst comes in few
-    /// reads, and who sends little needs no more than a piece. All that was read before was fed.
+    /// Reads so many bytes at most, and 16,384 at once where the last read gave a piece or more: so a burst comes in
+    /// few reads, and who sends little needs no more than a piece. All that was read before was fed.
     pub fn read<L: Link>(&mut self, link: &mut L, most: usize) -> Result<Got, AllocError>
         requires fed { self.old.unfed ≡ [] }
         requires some { 1 ≤ most }
         requires wire { MayGoOn (L.wire link.old) }
-        ensures went { (pass : ShownPass) → Went (snapshot self.old (L.wire link.old) pass) (snapshot self.new (L.wire link.new) pass) [] }
+        ensures went { (pass : ShownPass)
+            → Went (snapshot self.old (L.wire link.old) pass) (snapshot self.new (L.wire link.new) pass) [] }
         ensures bytes { IfOk result (λ got. ReadsBytes (L.wire link.old) (L.wire link.new) (got_count got)) }
         ensures few { IfOk result (λ got. (got_count got ≤ most) × (got_count got ≤ 16384)) }
         ensures session { self.new.session ≡ self.old.session }
@@ -180,8 +184,8 @@ impl Conn {
         Asked::of(held, self.client(), command)
     }
 
-    /// The client's line was said in a hold that goes on, and touched these workers' clients: notes what became of it, and has operators
-    /// told of a login.
+    /// The client's line was said in a hold that goes on, and touched these workers' clients: notes what became of it,
+    /// and has operators told of a login.
     pub(crate) fn note<G: Gate>(&mut self, held: &Held, gate: &G, asked: Asked, wakes: Wakes)
         ensures { self.new ≡ self.old }
     {
@@ -196,8 +200,8 @@ impl Conn {
         self.visit.finish();
     }
 
-    /// What operators are told where the client was shut now, over this link: that its user, if it had one, is logged out, and why; by
-    /// this cause where neither client nor link gave one.
+    /// What operators are told where the client was shut now, over this link: that its user, if it had one, is logged
+    /// out, and why; by this cause where neither client nor link gave one.
     pub fn logout<L: Link>(&self, link: &L, otherwise: Cause) -> Option<Happening> {
         let has_failed = link.last_got() == Some(Got::Fault)
             || link.last_sent() == Some(Sent::Fault);
@@ -217,7 +221,8 @@ fn is_burst(last_got: Option<Got>) -> bool {
 /// Feeds a piece to a session. Where memory is refused, nothing changes.
 fn feed_session(session: &mut Session, piece: &[u8]) -> Result<(), AllocError>
     ensures client { OnOk result (session.new.client ≡ session.old.client) }
-    ensures heard { OnOk result ((bytes : List ℕ) (accepted : ℕ) → Heard session.old.framed bytes accepted → Heard session.new.framed (bytes ++ piece.now) accepted) }
+    ensures heard { OnOk result ((bytes : List ℕ) (accepted : ℕ) → Heard session.old.framed bytes accepted
+        → Heard session.new.framed (bytes ++ piece.now) accepted) }
     ensures err { OnErr result ((session.new ≡ session.old) × HasNoSpoiltNext session.old) }
 {
     match session.feed(piece) {

@@ -20,7 +20,7 @@ pub trait Gate {
     /// The server listens. A gate that tells nobody does nothing.
     fn listening(&self) {}
 
-    /// This happened, of which operators may be told. It may be called in a hold, so it never waits. A gate that tells nobody does
-    /// nothing.
+    /// This happened, of which operators may be told. It may be called in a hold, so it never waits. A gate that tells
+    /// nobody does nothing.
     fn tell(&self, _happening: Happening) {}
 }

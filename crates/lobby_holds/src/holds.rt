@@ -1,8 +1,9 @@
-//! The holds of a turn. Each says the next lines, or drains, or shuts the client, and no link is read
-//! or written in it. A hold has place for 32 events (`MOST_EVENTS`): so many lines of a burst cost one take and one give, and who
-//! waits for the lobby waits for no more of them.
+//! The holds of a turn. Each says the next lines, or drains, or shuts the client, and no link is read or written in it.
+//! A hold has place for 32 events (`MOST_EVENTS`): so many lines of a burst cost one take and one give, and who waits
+//! for the lobby waits for no more of them.
 
-ghost use Rattle.std.specs.Prelude.{◌≡◌, ◌≢◌, ◌⊎◌, ◌+◌, ◌<◌, ◌≤◌, [], length, OnOk, OnErr, IfOk, IfSome, IsTrue, Some, None, true, false};
+ghost use Rattle.std.specs.Prelude.{◌≡◌, ◌≢◌, ◌⊎◌, ◌+◌, ◌<◌, ◌≤◌, [], length, OnOk, OnErr, IfOk, IfSome, IsTrue, Some};
+ghost use Rattle.std.specs.Prelude.{None, true, false};
 ghost use Rattle.command_forms.specs.Kinds.{keeps_kinds};
 ghost use Rattle.lobby_model.specs.declared.event.Event.TheVariants as event;
 ghost use Rattle.lobby_lock.specs.Passes.{pass_after};
@@ -11,7 +12,8 @@ ghost use Rattle.client_session.specs.OneSession.{IsNextOf, HasLineNext};
 ghost use Rattle.lobby_holds.specs.Wire.{Wire};
 ghost use Rattle.lobby_holds.specs.Snapshot.{snapshot};
 ghost use Rattle.lobby_holds.specs.Went.{Went};
-ghost use Rattle.lobby_holds.specs.Holds.{Stands, Made, SaysLines, IsWithin, HasNoLineNext, HasLoudNext, StopsAt, is_quiet, Drains, Asks, DrainedInto, DrainedBehind, LetsGo};
+ghost use Rattle.lobby_holds.specs.Holds.{Stands, Made, SaysLines, IsWithin, HasNoLineNext, HasLoudNext, StopsAt};
+ghost use Rattle.lobby_holds.specs.Holds.{is_quiet, Drains, Asks, DrainedInto, DrainedBehind, LetsGo};
 
 use crate::buffer::{Buffer, PIECE};
 use crate::conn::Conn;
@@ -24,8 +26,9 @@ use lobby_machine::Wakes;
 use std::alloc::AllocError;
 use std::sync::Wait;
 
-/// The most pieces that one hold drains for a client: 16 KiB, which one write carries. With one piece a hold half of the server's
-/// time went into its calls of the system where much was to be sent, and with four a third of that is saved.
+/// The most pieces that one hold drains for a client: 16 KiB, which one write carries. With one piece a hold half of
+/// the server's time went into its calls of the system where much was to be sent, and with four a third of that is
+/// saved.
 const PIECES: usize = 4;
 
 /// What was said in a hold.
@@ -64,7 +67,9 @@ fn say_line<G: Gate>(
     requires stands { Stands held.old }
     requires kinds { IsTrue (keeps_kinds request.command) }
     requires next { IsNextOf (Some conn.old.session) (Line request) }
-    ensures ok { IfOk result (λ wakes. (wire : Wire) → Made (snapshot conn.old wire (pass_after held.old)) (snapshot conn.new wire (pass_after held.new)) (event.Say conn.old.session.client request) wakes) }
+    ensures ok { IfOk result (λ wakes. (wire : Wire)
+        → Made (snapshot conn.old wire (pass_after held.old)) (snapshot conn.new wire (pass_after held.new))
+        (event.Say conn.old.session.client request) wakes) }
     ensures unwritten { conn.new.unwritten ≡ conn.old.unwritten }
     ensures count { OnOk result (length held.new.events ≡ length held.old.events + 1) }
     ensures err { OnErr result ((conn.new ≡ conn.old) × (held.new ≡ held.old)) }
@@ -98,10 +103,15 @@ fn say_next<G: Gate>(
     gate: &G,
     is_enough: bool,
 ) -> Result<Option<Wakes>, AllocError>
-    ensures says { IfOk result (λ said. IfSome said (λ wakes. (wire : Wire) → SaysLines (snapshot conn.old wire (pass_after held.old)) (snapshot conn.new wire (pass_after held.new)) 1 wakes)) }
-    ensures count { IfOk result (λ said. IfSome said (λ wakes. (length held.new.events ≡ length held.old.events + 1) × (length held.new.events ≤ MOST_EVENTS))) }
+    ensures says { IfOk result (λ said. IfSome said (λ wakes. (wire : Wire)
+        → SaysLines (snapshot conn.old wire (pass_after held.old)) (snapshot conn.new wire (pass_after held.new)) 1
+        wakes)) }
+    ensures count { IfOk result (λ said. IfSome said (λ wakes.
+        (length held.new.events ≡ length held.old.events + 1) × (length held.new.events ≤ MOST_EVENTS))) }
     ensures none { IfOk result (λ said. said ≡ None → (conn.new ≡ conn.old) × (held.new ≡ held.old)) }
-    ensures stops { IfOk result (λ said. said ≡ None → (MOST_EVENTS ≤ length held.old.events) ⊎ (HasNoLineNext conn.new.session ⊎ ((is_enough ≡ true) × HasLoudNext conn.new.session))) }
+    ensures stops { IfOk result (λ said. said ≡ None
+        → (MOST_EVENTS ≤ length held.old.events)
+        ⊎ (HasNoLineNext conn.new.session ⊎ ((is_enough ≡ true) × HasLoudNext conn.new.session))) }
     ensures err { OnErr result ((conn.new ≡ conn.old) × (held.new ≡ held.old)) }
     ensures line { OnErr result (HasLineNext conn.new.session) }
     ensures pass { held.new.pass ≡ held.old.pass }
@@ -139,7 +149,8 @@ fn say_lines<G: Gate>(
     requires kinds { IsTrue (keeps_kinds request.command) }
     requires next { IsNextOf (Some conn.old.session) (Line request) }
     requires some { 1 ≤ most }
-    ensures says { (wire : Wire) → SaysLines (snapshot conn.old wire (pass_after held.old)) (snapshot conn.new wire (pass_after held.new)) result.lines result.wakes }
+    ensures says { (wire : Wire) → SaysLines (snapshot conn.old wire (pass_after held.old))
+        (snapshot conn.new wire (pass_after held.new)) result.lines result.wakes }
     ensures within { IsWithin most result }
     ensures stops { StopsAt most allowance conn.new.session result }
     ensures pass { held.new.pass ≡ held.old.pass }
@@ -201,7 +212,8 @@ pub fn say<R: Wait, G: Gate>(
     requires kinds { IsTrue (keeps_kinds request.command) }
     requires next { IsNextOf (Some conn.old.session) (Line request) }
     requires some { 1 ≤ most }
-    ensures says { (wire : Wire) → SaysLines (snapshot conn.old wire pass) (snapshot conn.new wire result.0) result.1.lines result.1.wakes }
+    ensures says { (wire : Wire) → SaysLines (snapshot conn.old wire pass) (snapshot conn.new wire result.0)
+        result.1.lines result.1.wakes }
     ensures within { IsWithin most result.1 }
     ensures stops { StopsAt most allowance conn.new.session result.1 }
 {
@@ -257,7 +269,8 @@ fn drain_pieces(held: &mut Held, client: u64, unwritten: &mut Buffer) -> Piece
     requires new { held.old.events ≡ [] }
     requires stands { Stands held.old }
     requires room { PIECE ≤ unwritten.old.room }
-    ensures drained { DrainedBehind (pass_after held.old) (pass_after held.new) client unwritten.old.bytes unwritten.new.bytes result }
+    ensures drained { DrainedBehind (pass_after held.old) (pass_after held.new) client unwritten.old.bytes
+        unwritten.new.bytes result }
     ensures count { length held.new.events ≤ 8 }
     ensures pass { held.new.pass ≡ held.old.pass }
 {
@@ -297,7 +310,8 @@ pub fn drain<R: Wait, G: Gate>(
 ) -> (Pass, Result<Piece, AllocError>)
     requires desk { pass.desk ≡ desk.now.desk.now }
     requires written { conn.old.unwritten ≡ [] }
-    ensures ok { IfOk result.1 (λ piece. (wire : Wire) → Drains (snapshot conn.old wire pass) (snapshot conn.new wire result.0) piece.finished piece.dry) }
+    ensures ok { IfOk result.1 (λ piece. (wire : Wire)
+        → Drains (snapshot conn.old wire pass) (snapshot conn.new wire result.0) piece.finished piece.dry) }
     ensures session { conn.new.session ≡ conn.old.session }
     ensures unfed { conn.new.unfed ≡ conn.old.unfed }
     ensures came { IfOk result.1 (λ piece. piece.dry ≡ false → conn.new.unwritten ≢ []) }
@@ -326,11 +340,13 @@ pub fn is_finished<R: Wait, G: Gate>(
     (pass, piece.finished)
 }
 
-/// The most pieces that are let go at once, 4 MiB in all: as much as waits for a client at most where no other limit is set.
+/// The most pieces that are let go at once, 4 MiB in all: as much as waits for a client at most where no other limit is
+/// set.
 const PIECES_LET_GO: usize = 1_024;
 
-/// Lets go what waits unread for a client: all of it, or 4 MiB where there is more. It takes no memory. It is for a client whose link
-/// has failed and whose shut was refused memory: what it will never read makes room for what others are told.
+/// Lets go what waits unread for a client: all of it, or 4 MiB where there is more. It takes no memory. It is for a
+/// client whose link has failed and whose shut was refused memory: what it will never read makes room for what others
+/// are told.
 pub fn let_go<R: Wait, G: Gate>(rt: &R, conn: &Conn, desk: &Desk, pass: Pass, gate: &G) -> Pass
     requires { pass.desk ≡ desk.now }
     ensures lets_go { LetsGo pass result conn.now.session.client }
@@ -358,8 +374,11 @@ pub fn shut<R: Wait, G: Gate>(
     pass: Pass,
 ) -> (Pass, Result<Wakes, AllocError>, u64)
     requires { pass.desk ≡ desk.now.desk.now }
-    ensures ok { IfOk result.1 (λ wakes. (wire : Wire) → Made (snapshot conn.now wire pass) (snapshot conn.now wire result.0) (event.Shut conn.now.session.client) wakes) }
-    ensures err { OnErr result.1 ((wire : Wire) → Went (snapshot conn.now wire pass) (snapshot conn.now wire result.0) []) }
+    ensures ok { IfOk result.1 (λ wakes. (wire : Wire)
+        → Made (snapshot conn.now wire pass) (snapshot conn.now wire result.0) (event.Shut conn.now.session.client)
+        wakes) }
+    ensures err { OnErr result.1 ((wire : Wire)
+        → Went (snapshot conn.now wire pass) (snapshot conn.now wire result.0) []) }
 {
     let mut held = desk.take(rt, pass);
     let before = held.told();

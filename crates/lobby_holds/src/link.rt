@@ -43,7 +43,8 @@ pub trait Link {
         ensures written { (wire self.new).written ≡ (wire self.old).written }
         ensures reads { (wire self.new).reads ≡ (wire self.old).reads + 1 }
         ensures writes { (wire self.new).writes ≡ (wire self.old).writes }
-        ensures failures { ((wire self.old).failures ≤ (wire self.new).failures) × ((wire self.new).failures ≤ (wire self.old).failures + 1) }
+        ensures failures { ((wire self.old).failures ≤ (wire self.new).failures)
+            × ((wire self.new).failures ≤ (wire self.old).failures + 1) }
         ensures failed { result ≡ Got.Fault → (wire self.old).failures < (wire self.new).failures }
         ensures last_got { (wire self.new).last_got ≡ Some result }
         ensures last_sent { (wire self.new).last_sent ≡ (wire self.old).last_sent };
@@ -53,11 +54,13 @@ pub trait Link {
         requires may { MayGoOn (wire self.old) }
         requires some { from.now ≢ [] }
         ensures within { sent_count result ≤ length from.now }
-        ensures written { (wire self.new).written ≡ and_more (wire self.old).written (take (sent_count result) from.now) }
+        ensures written { (wire self.new).written
+            ≡ and_more (wire self.old).written (take (sent_count result) from.now) }
         ensures read { (wire self.new).read ≡ (wire self.old).read }
         ensures writes { (wire self.new).writes ≡ (wire self.old).writes + 1 }
         ensures reads { (wire self.new).reads ≡ (wire self.old).reads }
-        ensures failures { ((wire self.old).failures ≤ (wire self.new).failures) × ((wire self.new).failures ≤ (wire self.old).failures + 1) }
+        ensures failures { ((wire self.old).failures ≤ (wire self.new).failures)
+            × ((wire self.new).failures ≤ (wire self.old).failures + 1) }
         ensures failed { result ≡ Sent.Fault → (wire self.old).failures < (wire self.new).failures }
         ensures last_sent { (wire self.new).last_sent ≡ Some result }
         ensures last_got { (wire self.new).last_got ≡ (wire self.old).last_got };

@@ -1,5 +1,6 @@
 -- The fields of a reply, and the head of its line.
-use Rattle.std.specs.Prelude.{◌≡◌, ◌++◌, ℕ, zero, suc, pos, Bool, true, false, List, [], ◌∷◌, flat_map, Option, Some, None, slice_get}
+use Rattle.std.specs.Prelude.{◌≡◌, ◌++◌, ℕ, zero, suc, pos, Bool, true, false, List, [], ◌∷◌, flat_map, Option, Some}
+use Rattle.std.specs.Prelude.{None, slice_get}
 use Rattle.line_words.specs.declared.lists.Pair.{Pair}
 use Rattle.reply_kinds.specs.declared.Reply.{Reply}
 use Rattle.reply_kinds.specs.declared.command_word.CommandWord.{CommandWord}

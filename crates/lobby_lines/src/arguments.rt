@@ -34,14 +34,15 @@ pub(crate) fn put_arguments(
     ended(rest)
 }
 
-// Reads one, and gives the bytes behind it.
+/// Reads one, and gives the bytes behind it.
 fn put_argument<'a>(
     alloc: Global,
     kind: ReplyKind,
     bytes: &'a [u8],
     fields: &mut Fields,
 ) -> Result<&'a [u8], ReadError>
-    ensures read { IfOk result (λ rest. Took (field_seen (kind_of kind) bytes.entry.now) rest.now fields.old fields.new) }
+    ensures read { IfOk result (λ rest. Took (field_seen (kind_of kind) bytes.entry.now) rest.now fields.old
+        fields.new) }
     ensures unread { IfErr result (λ e. Fails e (field_seen (kind_of kind) bytes.entry.now)) }
 {
     match kind {
@@ -82,7 +83,8 @@ fn put_name<'a>(alloc: Global, bytes: &'a [u8], fields: &mut Fields) -> Result<&
 }
 
 fn put_battle<'a>(bytes: &'a [u8], fields: &mut Fields) -> Result<&'a [u8], ReadError>
-    ensures read { IfOk result (λ rest. Took (field_seen battle_number bytes.entry.now) rest.now fields.old fields.new) }
+    ensures read { IfOk result (λ rest.
+        Took (field_seen battle_number bytes.entry.now) rest.now fields.old fields.new) }
     ensures unread { IfErr result (λ e. Fails e (field_seen battle_number bytes.entry.now)) }
 {
     let (battle, rest) = battle_at(bytes)?;
@@ -109,7 +111,8 @@ fn put_port<'a>(bytes: &'a [u8], fields: &mut Fields) -> Result<&'a [u8], ReadEr
 }
 
 fn put_small<'a>(bytes: &'a [u8], high: u8, fields: &mut Fields) -> Result<&'a [u8], ReadError>
-    ensures read { IfOk result (λ rest. Took (field_seen (kind.Number 0 high) bytes.entry.now) rest.now fields.old fields.new) }
+    ensures read { IfOk result (λ rest. Took (field_seen (kind.Number 0 high) bytes.entry.now) rest.now fields.old
+        fields.new) }
     ensures unread { IfErr result (λ e. Fails e (field_seen (kind.Number 0 high) bytes.entry.now)) }
 {
     let (number, rest) = small_at(bytes, high)?;
@@ -140,7 +143,8 @@ fn put_optional<'a>(
     bytes: &'a [u8],
     fields: &mut Fields,
 ) -> Result<&'a [u8], ReadError>
-    ensures read { IfOk result (λ rest. Took (field_seen kind.OptionalWord bytes.entry.now) rest.now fields.old fields.new) }
+    ensures read { IfOk result (λ rest. Took (field_seen kind.OptionalWord bytes.entry.now) rest.now fields.old
+        fields.new) }
     ensures unread { IfErr result (λ e. Fails e (field_seen kind.OptionalWord bytes.entry.now)) }
 {
     let (word, rest) = optional_at(alloc, bytes)?;
@@ -156,7 +160,8 @@ fn put_sentence<'a>(
     bytes: &'a [u8],
     fields: &mut Fields,
 ) -> Result<&'a [u8], ReadError>
-    ensures read { IfOk result (λ rest. Took (field_seen kind.Sentence bytes.entry.now) rest.now fields.old fields.new) }
+    ensures read { IfOk result (λ rest.
+        Took (field_seen kind.Sentence bytes.entry.now) rest.now fields.old fields.new) }
     ensures unread { IfErr result (λ e. Fails e (field_seen kind.Sentence bytes.entry.now)) }
 {
     let (sentence, rest) = sentence_at(alloc, bytes, b' ')?;
@@ -169,7 +174,8 @@ fn put_next_sentence<'a>(
     bytes: &'a [u8],
     fields: &mut Fields,
 ) -> Result<&'a [u8], ReadError>
-    ensures read { IfOk result (λ rest. Took (field_seen kind.NextSentence bytes.entry.now) rest.now fields.old fields.new) }
+    ensures read { IfOk result (λ rest. Took (field_seen kind.NextSentence bytes.entry.now) rest.now fields.old
+        fields.new) }
     ensures unread { IfErr result (λ e. Fails e (field_seen kind.NextSentence bytes.entry.now)) }
 {
     let (sentence, rest) = sentence_at(alloc, bytes, b'\t')?;

@@ -65,9 +65,11 @@ impl Fields {
         }
     }
 
-    // Adds a field. Fails only where memory is refused, as each that adds one.
+    /// Adds a field. Fails only where memory is refused, as each that adds one.
     fn put(&mut self, bytes: &[u8], number: i64, holds: u32) -> Result<(), AllocError>
-        ensures { IfOk result (λ _. self.new ≡ laid (self.old.rows ++ row (place (length self.old.text) bytes.now) number holds ∷ []) (self.old.text ++ bytes.now)) }
+        ensures { IfOk result (λ _. self.new
+            ≡ laid (self.old.rows ++ row (place (length self.old.text) bytes.now) number holds
+            ∷ []) (self.old.text ++ bytes.now)) }
     {
         let text = put_text(&mut self.text, bytes)?;
         self.rows.push(FieldRow {

@@ -22,10 +22,11 @@ pub struct ReplyRead {
     pub fields: Table<FieldRow>,
 }
 
-/// The head and the fields of the reply that a line, without its LF, reads as, as `read_reply` of `reply_reader`: it keeps
-/// its kinds and prints as the line. None where there is no such reply. Fails only where memory is refused.
+/// The head and the fields of the reply that a line, without its LF, reads as, as `read_reply` of `reply_reader`: it
+/// keeps its kinds and prints as the line. None where there is no such reply. Fails only where memory is refused.
 pub fn read_reply(alloc: Global, line: &[u8]) -> Result<Option<ReplyRead>, AllocError>
-    ensures some { IfOk result (λ found. IfSome found (λ read. (pair : Line) × ReadsAs line.now pair × HeadOf read.head pair
+    ensures some { IfOk result (λ found. IfSome found (λ read.
+        (pair : Line) × ReadsAs line.now pair × HeadOf read.head pair
         × IsTable field_row field_shown (fields_of pair.1) read.fields.rows.items read.fields.text.items)) }
     ensures none { IfOk result (λ found. IfNone found ((pair : Line) → ReadsAs line.now pair → ⊥)) }
 {
@@ -43,7 +44,7 @@ pub fn read_reply(alloc: Global, line: &[u8]) -> Result<Option<ReplyRead>, Alloc
     }
 }
 
-// The head of a line of this kind and id.
+/// The head of a line of this kind and id.
 fn head_row(kind: u32, id: Option<u32>) -> HeadRow
     ensures kind { result.kind ≡ kind }
     ensures id { IdIs result id }

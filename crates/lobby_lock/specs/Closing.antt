@@ -15,14 +15,18 @@ pub record IsOut (pass : ShownPass) (number : ℕ) : Type 0 where
   pub handed_out : (1 ≤ number) × (number ≤ pass.handed)
   pub not_back : worker_of number pass.taken_back ≡ None
 
--- Of a pass that has seen the whole history: what the history has under this number are the events that the pass has for its worker, in their order
+-- Of a pass that has seen the whole history: what the history has under this number are the events that the pass has
+-- for its worker, in their order
 abbrev pub KnowsAllOf : ShownPass → ℕ → Type 0
-KnowsAllOf pass number = option_map (λ worker. worker.mine) (worker_of number (pass.worker ∷ pass.taken_back)) ≡ Some (made_by number pass.worker.seen)
+KnowsAllOf pass number = option_map (λ worker. worker.mine) (worker_of number (pass.worker ∷ pass.taken_back))
+    ≡ Some (made_by number pass.worker.seen)
 
 -- and so many are they
 abbrev pub IsCount : ShownPass → ℕ → Count → Type 0
-IsCount pass number (Made n) = (number ≤ pass.handed) × KnowsAllOf pass number × (n ≡ length (made_by number pass.worker.seen)) × (n < last_count)
-IsCount pass number Full = (number ≤ pass.handed) × KnowsAllOf pass number × (last_count ≤ length (made_by number pass.worker.seen))
+IsCount pass number (Made n) = (number ≤ pass.handed) × KnowsAllOf pass number
+    × (n ≡ length (made_by number pass.worker.seen)) × (n < last_count)
+IsCount pass number Full = (number ≤ pass.handed) × KnowsAllOf pass number
+    × (last_count ≤ length (made_by number pass.worker.seen))
 IsCount pass number Never = (pass.handed < number) × (made_by number pass.worker.seen ≡ [])
 
 -- at the close: the counts of all who were handed out, and worker 0's
@@ -31,7 +35,8 @@ pub record IsClosed (pass : ShownPass) (handed made : ℕ) (places : List (Optio
   pub counts : handed ≡ pass.handed
   pub all : length places ≡ 64
   pub own : KnowsAllOf pass 0 × (made ≡ count_of (made_by 0 pass.worker.seen))
-  pub others : (number : ℕ) → 1 ≤ number → number ≤ handed → KnowsAllOf pass number × (slice_get places number ≡ Some (Some (count_of (made_by number pass.worker.seen))))
+  pub others : (number : ℕ) → 1 ≤ number → number ≤ handed
+      → KnowsAllOf pass number × (slice_get places number ≡ Some (Some (count_of (made_by number pass.worker.seen))))
   pub nobody : (number : ℕ) → handed < number → made_by number pass.worker.seen ≡ []
 
 -- The lobby of a desk that was closed, and worker 0's pass, which has seen the whole history

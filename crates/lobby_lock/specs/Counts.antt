@@ -20,7 +20,8 @@ worker_of number workers = find (λ worker. worker.number == number) workers
 
 pub record PlacesAre (places : List (Option ℕ)) (taken_back : List Worker) : Type 0 where
   pub all : length places ≡ 64
-  pub each : (number : ℕ) → number < 64 → slice_get places number ≡ Some (option_map (λ worker. count_of worker.mine) (worker_of number taken_back))
+  pub each : (number : ℕ) → number < 64 → slice_get places number
+      ≡ Some (option_map (λ worker. count_of worker.mine) (worker_of number taken_back))
 
 -- how many events the pass's worker made, and at worker 0 the places
 pub record Counts (v : View) (handed made : ℕ) (places : List (Option ℕ)) : Type 0 where

@@ -11,9 +11,10 @@ use Rattle.lobby_lock.specs.History.{after_history, under}
 use Rattle.lobby_lock.specs.Counts.{Counts}
 use Rattle.lobby_lock.specs.Rule.{new_worker, with_events}
 
--- The desk that the pass belongs to; the plain lobby with which that was opened; the lobby, with its lists of changed clients, as the
--- pass's worker last took it from the desk or left it there, or as its giver did; what the worker has seen and made; how many numbers were
--- handed out, which worker 0 alone counts; and whose passes it took back, the last first
+-- The desk that the pass belongs to; the plain lobby with which that was opened; the lobby, with its lists of changed
+-- clients, as the pass's worker last took it from the desk or left it there, or as its giver did; what the worker has
+-- seen and made; how many numbers were handed out, which worker 0 alone counts; and whose passes it took back, the last
+-- first
 pub record ShownPass : Type 0 where
   pub desk : TableId
   pub start : State
@@ -29,7 +30,15 @@ pub record ShownHold : Type 0 where
   pub events : List Event
 
 abbrev pub shown_view : TableId → View → ShownPass
-shown_view desk v = record { desk = desk; start = v.start.plain; on_desk = v.on_desk; worker = v.worker; handed = v.handed; taken_back = v.taken_back }
+shown_view desk v = record {
+  desk = desk;
+  start = v.start.plain;
+  on_desk = v.on_desk;
+  worker = v.worker;
+  handed =
+      v.handed;
+  taken_back = v.taken_back;
+}
 
 abbrev pub shown_pass : Pass Shown View → ShownPass
 shown_pass inner = shown_view inner.table_id (view inner)
@@ -43,11 +52,27 @@ AddsEvent old new e = new ≡ record old { lobby = new.lobby; events = old.event
 
 -- worker 0's pass of a desk that was opened with this lobby
 abbrev pub first_pass : TableId → Shown → ShownPass
-first_pass desk lobby = record { desk = desk; start = lobby.plain; on_desk = lobby; worker = new_worker 0 []; handed = 0; taken_back = [] }
+first_pass desk lobby = record {
+  desk = desk;
+  start = lobby.plain;
+  on_desk = lobby;
+  worker = new_worker 0 [];
+  handed =
+      0;
+  taken_back = [];
+}
 
 -- the pass of a worker more: it has seen what the giver has, and made nothing
 abbrev pub new_pass : ShownPass → ShownPass
-new_pass pass = record { desk = pass.desk; start = pass.start; on_desk = pass.on_desk; worker = new_worker (pass.handed + 1) pass.worker.seen; handed = 0; taken_back = [] }
+new_pass pass = record {
+  desk = pass.desk;
+  start = pass.start;
+  on_desk = pass.on_desk;
+  worker = new_worker (pass.handed
+      + 1) pass.worker.seen;
+  handed = 0;
+  taken_back = [];
+}
 
 -- a pass after a hold of these events, which leaves its lobby as it has it
 abbrev pub pass_after : ShownHold → ShownPass
@@ -68,7 +93,8 @@ pub record IsReady (inner : Pass Shown View) (number handed made : ℕ) (places 
   pub counted : Counts (view inner) handed made places
 
 -- inside a hold: its lobby stands for the history seen and then the hold's own events
-pub record IsHolding (inner : Pass Shown View) (number handed made : ℕ) (places : List (Option ℕ)) (lobby : Shown) (events : List Event) : Type 0 where
+pub record IsHolding (inner : Pass Shown View) (number handed made : ℕ) (places : List (Option ℕ)) (lobby : Shown)
+    (events : List Event) : Type 0 where
   pub slots : inner.me.1 ≡ []
   pub alive : (view inner).alive ≡ true
   pub holds : (view inner).holds ≡ true

@@ -1,4 +1,5 @@
--- The rule of the desk: there is one history. Each pass has seen a beginning of it, and it has of each worker just the events that the worker made.
+-- The rule of the desk: there is one history. Each pass has seen a beginning of it, and it has of each worker just the
+-- events that the worker made.
 use Rattle.std.specs.Prelude.{◌≡◌, ◌≢◌, ◌⊎◌, ℕ, ◌+◌, ◌≤◌, true, false, List, [], ◌∷◌, ◌++◌}
 use Rattle.std.specs.List.{AllByRecursion, AllPairs}
 use mathlib.Core.Option.{some}
@@ -11,7 +12,8 @@ use Rattle.lobby_lock.specs.declared.view.View.{View}
 use Rattle.lobby_lock.specs.declared.view.Worker.{Worker}
 use Rattle.lobby_lock.specs.History.{Entry, after_history, made_by, under, Begins}
 
--- It has seen a beginning of the history; the events of the history under its number are its own, and so are those of what it has seen
+-- It has seen a beginning of the history; the events of the history under its number are its own, and so are those of
+-- what it has seen
 pub record IsTold (history : List Entry) (worker : Worker) : Type 0 where
   pub begins : Begins worker.seen history
   pub whole : made_by worker.number history ≡ worker.mine
@@ -19,9 +21,11 @@ pub record IsTold (history : List Entry) (worker : Worker) : Type 0 where
 
 -- no worker of the one list bears the number of one of the other
 abbrev pub AreApart : List Worker → List Worker → Type 0
-AreApart workers others = AllByRecursion (λ worker. AllByRecursion (λ other. worker.number ≢ other.number) others) workers
+AreApart workers others = AllByRecursion (λ worker.
+    AllByRecursion (λ other. worker.number ≢ other.number) others) workers
 
--- what is true of one pass, where so many numbers were handed out: one that holds has seen the whole history, and none is kept twice
+-- what is true of one pass, where so many numbers were handed out: one that holds has seen the whole history, and none
+-- is kept twice
 pub record Fits (start : State) (history : List Entry) (handed : ℕ) (v : View) : Type 0 where
   pub starts : v.start.plain ≡ start
   pub told : IsTold history v.worker
@@ -31,7 +35,8 @@ pub record Fits (start : State) (history : List Entry) (handed : ℕ) (v : View)
   pub taken_back : AllByRecursion (λ w. IsTold history w × (w.number ≤ handed)) v.taken_back
   pub once : AllPairs (λ worker other. worker.number ≢ other.number) v.taken_back
 
--- what is true of two passes: no number is borne or kept twice, nor borne after its pass was taken back, and at most one holds
+-- what is true of two passes: no number is borne or kept twice, nor borne after its pass was taken back, and at most
+-- one holds
 pub record Meets (j k : ℕ) (v w : View) : Type 0 where
   pub apart : v.worker.number ≡ w.worker.number → j ≡ k
   pub gone : AllByRecursion (λ worker. worker.number ≢ w.worker.number) v.taken_back
@@ -53,7 +58,8 @@ IsFull start history items = (x : Shown) × (items ≡ x ∷ []) × (x.plain ≡
 
 -- the place is full exactly when nobody holds
 abbrev pub PlaceIs : State → List Entry → List Shown → List View → Type 0
-PlaceIs start history items views = ((items ≡ []) × SomeoneHolds views) ⊎ (IsFull start history items × NobodyHolds views)
+PlaceIs start history items views = ((items ≡ []) × SomeoneHolds views)
+    ⊎ (IsFull start history items × NobodyHolds views)
 
 pub record OneHistory (items : List Shown) (views : List View) : Type 0 where
   pub start : State
@@ -75,10 +81,26 @@ new_worker number seen = record { number = number; seen = seen; mine = [] }
 
 -- who made the place holds what is to be put into it
 abbrev pub first_view : View
-first_view = record { alive = true; holds = true; start = no_lobby; on_desk = no_lobby; worker = new_worker 0 []; handed = 0; taken_back = [] }
+first_view = record {
+  alive = true;
+  holds = true;
+  start = no_lobby;
+  on_desk = no_lobby;
+  worker = new_worker 0 [];
+  handed = 0;
+  taken_back = [];
+}
 
 abbrev pub spent_view : View
-spent_view = record { alive = false; holds = false; start = no_lobby; on_desk = no_lobby; worker = new_worker 0 []; handed = 0; taken_back = [] }
+spent_view = record {
+  alive = false;
+  holds = false;
+  start = no_lobby;
+  on_desk = no_lobby;
+  worker = new_worker 0 [];
+  handed = 0;
+  taken_back = [];
+}
 
 -- the lobby is first put in
 abbrev pub opened : View → Shown → View
@@ -86,7 +108,11 @@ opened v x = record v { start = x; on_desk = x; holds = false }
 
 -- the worker made these events, after all that it had seen
 abbrev pub with_events : Worker → List Event → Worker
-with_events worker events = record worker { seen = worker.seen ++ under worker.number events; mine = worker.mine ++ events }
+with_events worker events = record worker {
+  seen = worker.seen ++ under worker.number events;
+  mine = worker.mine
+      ++ events;
+}
 
 -- a hold of these events ends, and leaves this lobby
 abbrev pub gave : View → Shown → List Event → View
@@ -96,7 +122,16 @@ abbrev pub giver : View → View
 giver v = record v { handed = v.handed + 1 }
 
 abbrev pub newcomer : View → View
-newcomer v = record { alive = true; holds = false; start = v.start; on_desk = v.on_desk; worker = new_worker (v.handed + 1) v.worker.seen; handed = 0; taken_back = [] }
+newcomer v = record {
+  alive = true;
+  holds = false;
+  start = v.start;
+  on_desk = v.on_desk;
+  worker = new_worker (v.handed
+      + 1) v.worker.seen;
+  handed = 0;
+  taken_back = [];
+}
 
 abbrev pub with_taken_back : View → View → View
 with_taken_back v w = record v { taken_back = w.worker ∷ v.taken_back }
@@ -107,7 +142,8 @@ with_taken_back v w = record v { taken_back = w.worker ∷ v.taken_back }
 abbrev pub seen_by : Worker → List Entry → Worker
 seen_by worker seen = record worker { seen = seen }
 
--- a take: the whole history was seen, the worker's events in it are its own, as they were in what it had seen, and the lobby found is the one after it
+-- a take: the whole history was seen, the worker's events in it are its own, as they were in what it had seen, and the
+-- lobby found is the one after it
 pub record Took (v : View) (x : Shown) (w : View) : Type 0 where
   pub same : w ≡ record v { on_desk = x; worker = seen_by v.worker w.worker.seen; holds = true }
   pub later : Begins v.worker.seen w.worker.seen
@@ -115,8 +151,8 @@ pub record Took (v : View) (x : Shown) (w : View) : Type 0 where
   pub known : made_by v.worker.number v.worker.seen ≡ v.worker.mine
   pub stands : x.plain ≡ after_history v.start.plain w.worker.seen
 
--- The lobby is taken for good: besides, the history has of each worker whose pass was taken back just the events that it made, and none under a
--- number that was not handed out
+-- The lobby is taken for good: besides, the history has of each worker whose pass was taken back just the events that
+-- it made, and none under a number that was not handed out
 pub record Closed (v : View) (x : Shown) (w : View) : Type 0 where
   pub took : Took v x w
   pub taken_back : AllByRecursion (λ worker. made_by worker.number w.worker.seen ≡ worker.mine) v.taken_back

@@ -106,7 +106,8 @@ fn count_from(made: u64) -> Count
 /// The least number from 1 on that was handed out and has no count in its place.
 pub(crate) fn first_out(places: &[Option<u64>], handed: u8) -> Option<u8>
     requires { (length places.now ≡ 64) × (handed ≤ 63) }
-    ensures out { IfSome result (λ number. (1 ≤ number) × (number ≤ handed) × (slice_get places.now number ≡ Some None)) }
+    ensures out { IfSome result (λ number.
+        (1 ≤ number) × (number ≤ handed) × (slice_get places.now number ≡ Some None)) }
     ensures least { IfSome result (λ number. (k : ℕ) → 1 ≤ k → k < number → slice_get places.now k ≡ Some None → ⊥) }
     ensures none { IfNone result ((k : ℕ) → 1 ≤ k → k ≤ handed → slice_get places.now k ≡ Some None → ⊥) }
 {

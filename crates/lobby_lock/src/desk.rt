@@ -107,7 +107,8 @@ impl Desk {
         ensures giver { IfOk result (λ r. r.0 ≡ record pass { handed = pass.handed + 1 }) }
         ensures newcomer { IfOk result (λ r. r.1 ≡ new_pass pass) }
         ensures few { IfOk result (λ r. pass.handed < MOST_HANDED_OUT) }
-        ensures refused { IfErr result (λ e. (e.0 ≡ pass) × (e.1 ≡ DeskError.TooManyWorkers) × (MOST_HANDED_OUT ≤ pass.handed)) }
+        ensures refused { IfErr result (λ e.
+            (e.0 ≡ pass) × (e.1 ≡ DeskError.TooManyWorkers) × (MOST_HANDED_OUT ≤ pass.handed)) }
     {
         if pass.handed >= MOST_HANDED_OUT {
             return Err((pass, DeskError::TooManyWorkers));
@@ -175,7 +176,8 @@ impl Desk {
     /// on the desk.
     pub fn take<R: Wait>(&self, rt: &R, pass: Pass) -> Held
         requires { pass.desk ≡ self.now }
-        ensures pass { result.pass ≡ record pass { on_desk = result.lobby; worker = seen_by pass.worker result.pass.worker.seen } }
+        ensures pass { result.pass ≡ record pass
+            { on_desk = result.lobby; worker = seen_by pass.worker result.pass.worker.seen } }
         ensures later { Begins pass.worker.seen result.pass.worker.seen }
         ensures own { made_by pass.worker.number result.pass.worker.seen ≡ pass.worker.mine }
         ensures known { made_by pass.worker.number pass.worker.seen ≡ pass.worker.mine }
@@ -206,14 +208,21 @@ impl Desk {
     pub fn close<R: Wait>(self, rt: &R, pass: Pass) -> Result<Closing, (Desk, Pass, CloseError)>
         requires desk { pass.desk ≡ self }
         requires first { pass.worker.number ≡ 0 }
-        ensures pass { IfOk result (λ closing. closing.pass ≡ record pass { on_desk = closing.lobby; worker = seen_by pass.worker closing.pass.worker.seen }) }
+        ensures pass { IfOk result (λ closing.
+            closing.pass ≡ record pass {
+              on_desk = closing.lobby;
+              worker = seen_by pass.worker closing.pass.worker.seen;
+            }) }
         ensures later { IfOk result (λ closing. Begins pass.worker.seen closing.pass.worker.seen) }
-        ensures stands { IfOk result (λ closing. closing.lobby.plain ≡ after_history pass.start closing.pass.worker.seen) }
+        ensures stands { IfOk result (λ closing.
+            closing.lobby.plain ≡ after_history pass.start closing.pass.worker.seen) }
         ensures own { IfOk result (λ closing. made_by 0 closing.pass.worker.seen ≡ pass.worker.mine) }
-        ensures taken_back { IfOk result (λ closing. AllByRecursion (λ worker. made_by worker.number closing.pass.worker.seen ≡ worker.mine) pass.taken_back) }
+        ensures taken_back { IfOk result (λ closing.
+            AllByRecursion (λ worker. made_by worker.number closing.pass.worker.seen ≡ worker.mine) pass.taken_back) }
         ensures all_back { IfOk result (λ closing. (number : ℕ) → IsOut pass number → ⊥) }
         ensures refused { IfErr result (λ e. (e.0 ≡ self) × (e.1 ≡ pass)) }
-        ensures out { IfErr result (λ e. (number : ℕ) × (e.2 ≡ StillOut number) × IsOut pass number × ((k : ℕ) → IsOut pass k → number ≤ k)) }
+        ensures out { IfErr result (λ e. (number : ℕ) × (e.2 ≡ StillOut number) × IsOut pass number
+            × ((k : ℕ) → IsOut pass k → number ≤ k)) }
     {
         if let Some(number) = first_out(pass.counts.places.as_slice(), pass.handed) {
             return Err((self, pass, CloseError::StillOut(number)));

@@ -1,12 +1,15 @@
 //! A hold of the lobby.
 
-ghost use Rattle.std.specs.Prelude.{◌≡◌, ◌-◌, ◌<◌, ◌≤◌, ◌↔◌, ◌++◌, [], length, take, drop, min, OnOk, OnErr, IfNone, IfOk, IsTrue, false};
+ghost use Rattle.std.specs.Prelude.{◌≡◌, ◌-◌, ◌<◌, ◌≤◌, ◌↔◌, ◌++◌, [], length, take, drop, min, OnOk, OnErr, IfNone};
+ghost use Rattle.std.specs.Prelude.{IfOk, IsTrue, false};
 ghost use Rattle.command_forms.specs.Kinds.{keeps_kinds};
 ghost use Rattle.lobby_model.specs.declared.event.Event.TheVariants as event;
 ghost use Rattle.lobby_model.specs.Sessions.{has_place};
 ghost use Rattle.lobby_model.specs.State.{hears};
 ghost use Rattle.lobby_post.specs.Mail.{IsWakes};
-ghost use Rattle.lobby_machine.specs.Shown.{Applies, HasNoNumber, IsFull, IsNextNumber, KeepsOthers, ListsOpened, ListsTouched, Opens, TakesFirst, count_into, filled, dirty_at, unread_of, is_finished};
+ghost use Rattle.lobby_machine.specs.Shown.{Applies, HasNoNumber, IsFull, IsNextNumber, KeepsOthers, ListsOpened};
+ghost use Rattle.lobby_machine.specs.Shown.{ListsTouched, Opens, TakesFirst, count_into, filled, dirty_at, unread_of};
+ghost use Rattle.lobby_machine.specs.Shown.{is_finished};
 ghost use Rattle.lobby_lock.specs.Passes.{AddsEvent, lobby_after, pass_after};
 
 use crate::desk::{Desk, MOST_EVENTS};
@@ -168,11 +171,12 @@ impl Held {
         self.lobby.unread(client)
     }
 
-    /// Copies bytes that a client has not read into a slice, beginning `from` bytes behind the first, as `Lobby::copy_unread` says. It is
-    /// no event.
+    /// Copies bytes that a client has not read into a slice, beginning `from` bytes behind the first, as
+    /// `Lobby::copy_unread` says. It is no event.
     pub fn copy_unread(&self, client: u64, from: usize, into: &mut [u8]) -> usize
         ensures count { result ≡ min (length (unread_of self.now.lobby.plain client) - from) (length into.old) }
-        ensures given { into.new ≡ take result (drop from (unread_of self.now.lobby.plain client)) ++ drop result into.old }
+        ensures given { into.new ≡ take result (drop from (unread_of self.now.lobby.plain client))
+            ++ drop result into.old }
     {
         self.lobby.copy_unread(client, from, into)
     }

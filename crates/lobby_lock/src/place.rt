@@ -17,7 +17,8 @@ use std::sync::Wait;
 /// The lobby is first put in, by the one pass that there is.
 pub fn begin<R: Wait>(rt: &R, place: &Place, pass: &mut PlacePass, lobby: Lobby)
     requires queue { IsPassOf place.now pass.old × (ruled_capacity place.now ≡ 1) }
-    requires alone { ((view pass.old).alive ≡ true) × ((view pass.old).holds ≡ true) × ((view pass.old).worker ≡ new_worker 0 []) × ((view pass.old).handed ≡ 0) }
+    requires alone { ((view pass.old).alive ≡ true) × ((view pass.old).holds ≡ true)
+        × ((view pass.old).worker ≡ new_worker 0 []) × ((view pass.old).handed ≡ 0) }
     ensures queue { IsSamePass pass.old pass.new }
     ensures opened { view pass.new ≡ opened (view pass.old) lobby }
 {

@@ -1,13 +1,15 @@
 //! The lobby and its events.
 
-ghost use Rattle.std.specs.Prelude.{◌≡◌, ℕ, ◌-◌, ◌^◌, ◌<◌, ◌≤◌, ◌↔◌, [], ◌++◌, length, take, drop, min, OnOk, OnErr, IfNone, IfOk, IsTrue, false, is_some};
+ghost use Rattle.std.specs.Prelude.{◌≡◌, ℕ, ◌-◌, ◌^◌, ◌<◌, ◌≤◌, ◌↔◌, [], ◌++◌, length, take, drop, min, OnOk, OnErr};
+ghost use Rattle.std.specs.Prelude.{IfNone, IfOk, IsTrue, false, is_some};
 ghost use Rattle.command_forms.specs.Kinds.{keeps_kinds};
 ghost use Rattle.line_words.specs.Table.{at_number};
 ghost use Rattle.lobby_model.specs.declared.event.Event.TheVariants as event;
 ghost use Rattle.lobby_model.specs.State.{empty_lobby, hears};
 ghost use Rattle.lobby_model.specs.Sessions.{has_place};
 ghost use Rattle.lobby_post.specs.Mail.{IsWakes};
-ghost use Rattle.lobby_maps.specs.Calls.{Applies, HasNoNumber, IsFull, IsNextNumber, KeepsOthers, ListsTouched, ListsOpened, Opens, TakesFirst, count_into, filled};
+ghost use Rattle.lobby_maps.specs.Calls.{Applies, HasNoNumber, IsFull, IsNextNumber, KeepsOthers, ListsTouched};
+ghost use Rattle.lobby_maps.specs.Calls.{ListsOpened, Opens, TakesFirst, count_into, filled};
 ghost use Rattle.lobby_maps.specs.Shown.{dirty_at, unread_of, is_finished};
 
 use crate::rules;
@@ -69,8 +71,8 @@ impl Model for Lobby {
 }
 
 impl Lobby {
-    /// The lobby before its first event, which hashes the words that its clients choose by the seed that everybody knows: for clients that
-    /// do not set out to slow it. Fails only where memory is refused.
+    /// The lobby before its first event, which hashes the words that its clients choose by the seed that everybody
+    /// knows: for clients that do not set out to slow it. Fails only where memory is refused.
     pub fn new(
         alloc: Global,
         settings: Settings,
@@ -82,8 +84,8 @@ impl Lobby {
         Lobby::with_seed(alloc, settings, accounts, HashSeed::known())
     }
 
-    /// The lobby before its first event. The words that its clients choose are hashed by this seed, which none of them should know.
-    /// Fails only where memory is refused.
+    /// The lobby before its first event. The words that its clients choose are hashed by this seed, which none of them
+    /// should know. Fails only where memory is refused.
     pub fn with_seed(
         alloc: Global,
         settings: Settings,

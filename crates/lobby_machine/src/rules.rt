@@ -38,7 +38,8 @@ pub fn decide(
     requires hears { hears maps.now.plain client ≡ true }
     requires me { option_copied me ≡ name_of maps.now.plain client }
     requires kinds { IsTrue (keeps_kinds command.now) }
-    ensures { IfOk result (λ change. Obeyed maps.now.plain client (begun client id) post.new change (answer maps.now.plain client (name_of maps.now.plain client) command.now)) }
+    ensures { IfOk result (λ change. Obeyed maps.now.plain client (begun client id) post.new change
+        (answer maps.now.plain client (name_of maps.now.plain client) command.now)) }
 {
     post.begin(client, id);
     match answer(maps, client, me, command, post) {
@@ -63,7 +64,8 @@ fn answer(
     requires me { option_copied me ≡ name_of maps.now.plain client }
     requires kinds { IsTrue (keeps_kinds command.now) }
     requires issuer { post.old.issuer ≡ client }
-    ensures { Answers maps.now.plain client post.old post.new (answer maps.now.plain client (name_of maps.now.plain client) command.now) result }
+    ensures { Answers maps.now.plain client post.old post.new
+        (answer maps.now.plain client (name_of maps.now.plain client) command.now) result }
 {
     match me {
         Some(me) => answer_user(&Issuer { maps, client, me }, command, post),
@@ -103,7 +105,8 @@ fn answer_user(by: &Issuer, command: &Command, post: &mut Post) -> Result<Change
     requires me { name_of by.now.maps.now.plain by.now.client ≡ Some by.now.me.now }
     requires kinds { IsTrue (keeps_kinds command.now) }
     requires issuer { post.old.issuer ≡ by.now.client }
-    ensures { Answers by.now.maps.now.plain by.now.client post.old post.new (answer by.now.maps.now.plain by.now.client (Some by.now.me.now) command.now) result }
+    ensures { Answers by.now.maps.now.plain by.now.client post.old post.new
+        (answer by.now.maps.now.plain by.now.client (Some by.now.me.now) command.now) result }
 {
     match command {
         Command::Blank => Ok(Change::Nothing),

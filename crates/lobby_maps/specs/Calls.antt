@@ -1,5 +1,6 @@
 -- What the calls of a lobby promise, each fact in one word: the maps, the lobby and a hold of it promise the same.
-use Rattle.std.specs.Prelude.{◌≡◌, ℕ, ◌+◌, ◌≤◌, false, if◌then◌else◌, List, [], ◌∷◌, ◌++◌, length, take, drop, min, Option, true}
+use Rattle.std.specs.Prelude.{◌≡◌, ℕ, ◌+◌, ◌≤◌, false, if◌then◌else◌, List, [], ◌∷◌, ◌++◌, length, take, drop, min}
+use Rattle.std.specs.Prelude.{Option, true}
 use Rattle.std.specs.Option.{option_to_list}
 use Rattle.line_words.specs.Table.{same_number}
 use Rattle.lobby_model.specs.declared.event.Event.{Event}
@@ -53,4 +54,5 @@ TakesFirst old new home first = dirty_at old home ≡ option_to_list first ++ di
 
 -- the lists of the other workers stay
 abbrev pub KeepsOthers : Shown → Shown → ℕ → Type 0
-KeepsOthers old new home = (worker : ℕ) → worker ≤ 63 → same_number home worker ≡ false → dirty_at new worker ≡ dirty_at old worker
+KeepsOthers old new home = (worker : ℕ) → worker ≤ 63 → same_number home worker ≡ false
+    → dirty_at new worker ≡ dirty_at old worker

@@ -15,7 +15,8 @@ use Rattle.lobby_maps.specs.declared.change.Change.{Change}
 use Rattle.lobby_maps.specs.declared.change.Change.TheVariants.{Nothing, Status, LogIn, LogOut, Join, Leave, InBattles}
 use Rattle.lobby_battles.specs.declared.seats.Seat.{Seat}
 use Rattle.lobby_battles.specs.Seats.{user_in, where_some, without_one}
-use Rattle.lobby_battles.specs.Battles.{battles_after as changed_battles, last_after as last_battle_after, left_own, unasked_own, CanChange, LeavesAll}
+use Rattle.lobby_battles.specs.Battles.{battles_after as changed_battles, last_after as last_battle_after, left_own}
+use Rattle.lobby_battles.specs.Battles.{unasked_own, CanChange, LeavesAll}
 
 abbrev pub clients_after : ByNumber Client → ℕ → Change → ByNumber Client
 clients_after clients c Nothing = clients
@@ -73,12 +74,13 @@ changed s c change = record s {
 }
 
 -- One who logs in hears, is not logged in, and takes a name that nobody has
-pub record IsFresh (clients : ByNumber Client) (users : ByName User) (c : ℕ) (name : List ℕ) (seat : Seat) : Type 0 where
-  pub hears : is_live_client (at_number clients c) ≡ true
-  pub nobody : name_at clients c ≡ None
-  pub free : at_name users name ≡ None
-  pub here : seat.client.number ≡ c
-  pub outside : seat.battle ≡ None
+pub record IsFresh (clients : ByNumber Client) (users : ByName User) (c : ℕ) (name : List ℕ) (seat : Seat) : Type 0
+  where
+    pub hears : is_live_client (at_number clients c) ≡ true
+    pub nobody : name_at clients c ≡ None
+    pub free : at_name users name ≡ None
+    pub here : seat.client.number ≡ c
+    pub outside : seat.battle ≡ None
 
 abbrev pub first_of : {A B : Type 0} → Option (A × B) → Option A
 first_of None = None
@@ -92,7 +94,8 @@ CanBe clients users channels battles c (LogIn name seat) = IsFresh clients users
 CanBe clients users channels battles c (Join channel name) = is_among name (names_in channels channel) ≡ false
 CanBe clients users channels battles c (Leave channel name) = Unit {0}
 CanBe clients users channels battles c (InBattles change) = CanChange clients battles c change
-CanBe clients users channels battles c (LogOut name asks battle stays) = (name ≡ name_at clients c) × LeavesAll battles asks battle name
+CanBe clients users channels battles c (LogOut name asks battle stays) = (name ≡ name_at clients c)
+    × LeavesAll battles asks battle name
 
 -- what becomes of a client that parts
 abbrev pub parts : ℕ → Bool → Happening

@@ -1,5 +1,7 @@
--- The lists of changed clients: for each worker those of its clients that gained bytes, or were cut, and that it did not take out since.
-use Rattle.std.specs.Prelude.{◌≡◌, ℕ, Bool, false, not, ◌&&◌, if◌then◌else◌, List, ◌++◌, filter, Option, Some, None, is_some}
+-- The lists of changed clients: for each worker those of its clients that gained bytes, or were cut, and that it did
+-- not take out since.
+use Rattle.std.specs.Prelude.{◌≡◌, ℕ, Bool, false, not, ◌&&◌, if◌then◌else◌, List, ◌++◌, filter, Option, Some, None}
+use Rattle.std.specs.Prelude.{is_some}
 use Rattle.std.specs.List.Sorted.{IsSorted}
 use Rattle.std.specs.Ordering.{nat_cmp}
 use Rattle.line_words.specs.Table.{ByNumber, at_number, same_number}
@@ -25,8 +27,8 @@ is_changed limit bytes home (Some client) = same_number client.home home && is_t
 abbrev pub changes : State → Event → ℕ → ℕ → Bool
 changes s e home c = is_changed s.settings.outbox_limit (batch s e c) home (at_number (effect s e).clients c)
 
--- A worker's list after an event: those that are still there, as they stood, and behind them, each once and in rising numbers, its
--- clients that the event touched and that did not stand there
+-- A worker's list after an event: those that are still there, as they stood, and behind them, each once and in rising
+-- numbers, its clients that the event touched and that did not stand there
 pub record DirtyAfter (s : State) (e : Event) (home : ℕ) (old new : List ℕ) : Type 0 where
   pub behind : List ℕ
   pub is : new ≡ those_there (next s e).clients old ++ behind

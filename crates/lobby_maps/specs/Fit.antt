@@ -1,5 +1,6 @@
 -- How the seats of users, the clients and the battles fit together, and at which clients users are.
-use Rattle.std.specs.Prelude.{◌≡◌, ℕ, ◌≤◌, Bool, true, false, not, filter, List, [], ◌∷◌, flat_map, Option, Some, None, is_some}
+use Rattle.std.specs.Prelude.{◌≡◌, ℕ, ◌≤◌, Bool, true, false, not, filter, List, [], ◌∷◌, flat_map, Option, Some}
+use Rattle.std.specs.Prelude.{None, is_some}
 use Rattle.line_words.specs.Table.{ByName, ByNumber, at_number, at_name, same_number}
 use Rattle.lobby_model.specs.State.{State, Client, Battle}
 use Rattle.lobby_model.specs.Outcome.{user}
@@ -26,9 +27,10 @@ numbers_but these numbers = filter (λ c. not (has_number these c)) numbers
 abbrev pub Numbered : ℕ → ByNumber Client → Type 0
 Numbered last clients = (c : ℕ) → is_some (at_number clients c) ≡ true → c ≤ last
 
--- How the maps fit together: outboxes have one limit and wait for nothing, users and clients agree, numbers are given once, it is
--- known who waits, and users sit in their battles, or where they ask
-pub record Fit (limit : ℕ) (clients : Crowd) (seats : ByName Seat) (numbers : List ℕ) (last : ℕ) (battles : ByNumber Battle) (last_battle : ℕ) : Type 0 where
+-- How the maps fit together: outboxes have one limit and wait for nothing, users and clients agree, numbers are given
+-- once, it is known who waits, and users sit in their battles, or where they ask
+pub record Fit (limit : ℕ) (clients : Crowd) (seats : ByName Seat) (numbers : List ℕ) (last : ℕ)
+    (battles : ByNumber Battle) (last_battle : ℕ) : Type 0 where
   pub limited : clients.limit ≡ limit
   pub rest : AreDue [] clients.slots
   pub agree : Agree (plain clients.slots) seats

@@ -8,7 +8,8 @@ use Rattle.lobby_model.specs.State.{State, User, Client, Battle}
 pub use Rattle.lobby_post.specs.Unread.{unread_in, is_over}
 
 -- the plain lobby of these maps
-abbrev pub lobby_of : Configuration → List Account → ByNumber Client → ByName User → Channels → ByNumber Battle → ℕ → ℕ → State
+abbrev pub lobby_of : Configuration → List Account → ByNumber Client → ByName User → Channels → ByNumber Battle → ℕ → ℕ
+    → State
 lobby_of settings accounts clients users channels battles last_client last_battle = record {
   settings = settings;
   accounts = accounts;
@@ -20,7 +21,8 @@ lobby_of settings accounts clients users channels battles last_client last_battl
   last_battle = last_battle;
 }
 
--- The plain lobby that it stands for, and for each of the 64 workers which of its clients changed and wait to be looked after
+-- The plain lobby that it stands for, and for each of the 64 workers which of its clients changed and wait to be looked
+-- after
 pub record Shown : Type 0 where
   pub plain : State
   pub dirty : List (List ℕ)

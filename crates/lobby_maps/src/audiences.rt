@@ -54,7 +54,8 @@ impl Maps {
         line: LentReply,
         post: &mut Post,
     ) -> Result<(), AllocError>
-        ensures { OnOk result (Told self.now.plain post.old post.new (tell (everyone_but (first.now ∷ second.now ∷ [])) (reply_of line.entry ∷ []) ∷ [])) }
+        ensures { OnOk result (Told self.now.plain post.old post.new (tell (everyone_but (first.now ∷ second.now
+            ∷ [])) (reply_of line.entry ∷ []) ∷ [])) }
     {
         post.write(line)?;
         address_all_but(&self.seats, &self.clients, first, second, post)?;
@@ -68,7 +69,8 @@ impl Maps {
         line: LentReply,
         post: &mut Post,
     ) -> Result<(), AllocError>
-        ensures { OnOk result (Told self.now.plain post.old post.new (tell (user name.now) (reply_of line.entry ∷ []) ∷ [])) }
+        ensures { OnOk result (Told self.now.plain post.old post.new (tell (user name.now) (reply_of line.entry ∷ [])
+            ∷ [])) }
     {
         post.write(line)?;
         address_user(&self.seats, name, post)?;
@@ -84,7 +86,8 @@ impl Maps {
         line: LentReply,
         post: &mut Post,
     ) -> Result<(), AllocError>
-        ensures { OnOk result (Told self.now.plain post.old post.new (tell (user me.now) (reply_of line.entry ∷ []) ∷ [])) }
+        ensures { OnOk result (Told self.now.plain post.old post.new (tell (user me.now) (reply_of line.entry ∷ [])
+            ∷ [])) }
     {
         post.write(line)?;
         let key = self.clients.likely_key_of(client);
@@ -96,7 +99,8 @@ impl Maps {
     /// whose event it is, its own client alone does.
     pub fn address_user(&self, name: &NameBuf, post: &mut Post) -> Result<(), AllocError>
         ensures sent { OnOk result (Sends self.now.plain post.old post.new (user name.now)) }
-        ensures own { OnOk result (name_of self.now.plain post.old.issuer ≡ Some name.now → IsOwn self.now.plain post.old post.new name.now) }
+        ensures own { OnOk result (name_of self.now.plain post.old.issuer ≡ Some name.now
+            → IsOwn self.now.plain post.old post.new name.now) }
     {
         address_user(&self.seats, name, post)?;
         Ok(())
@@ -111,7 +115,8 @@ impl Maps {
         post: &mut Post,
     ) -> Result<(), AllocError>
         requires { IsDistinct same_name names.now }
-        ensures { OnOk result (Told self.now.plain post.old post.new (tell (users names.now) (reply_of line.entry ∷ []) ∷ [])) }
+        ensures { OnOk result (Told self.now.plain post.old post.new (tell (users names.now) (reply_of line.entry ∷ [])
+            ∷ [])) }
     {
         post.write(line)?;
         address_names(&self.seats, &self.clients, names, keys, post)?;
@@ -127,7 +132,8 @@ impl Maps {
         post: &mut Post,
     ) -> Result<(), AllocError>
         requires { IsDistinct same_name names.now }
-        ensures { OnOk result (Told self.now.plain post.old post.new (tell (but_issuer (users names.now)) (reply_of line.entry ∷ []) ∷ [])) }
+        ensures { OnOk result (Told self.now.plain post.old post.new
+            (tell (but_issuer (users names.now)) (reply_of line.entry ∷ []) ∷ [])) }
     {
         post.write_for_others(line)?;
         address_names(&self.seats, &self.clients, names, keys, post)?;
@@ -141,7 +147,8 @@ impl Maps {
         line: LentReply,
         post: &mut Post,
     ) -> Result<(), AllocError>
-        ensures { OnOk result (Told self.now.plain post.old post.new (tell (users (member_names room.now)) (reply_of line.entry ∷ []) ∷ [])) }
+        ensures { OnOk result (Told self.now.plain post.old post.new
+            (tell (users (member_names room.now)) (reply_of line.entry ∷ []) ∷ [])) }
     {
         post.write(line)?;
         address_members(&self.seats, &self.clients, room.members(), post)?;
@@ -155,7 +162,8 @@ impl Maps {
         line: LentReply,
         post: &mut Post,
     ) -> Result<(), AllocError>
-        ensures { OnOk result (Told self.now.plain post.old post.new (tell (but_issuer (users (member_names room.now))) (reply_of line.entry ∷ []) ∷ [])) }
+        ensures { OnOk result (Told self.now.plain post.old post.new
+            (tell (but_issuer (users (member_names room.now))) (reply_of line.entry ∷ []) ∷ [])) }
     {
         post.write_for_others(line)?;
         address_members(&self.seats, &self.clients, room.members(), post)?;
@@ -169,7 +177,8 @@ impl Maps {
         line: LentReply,
         post: &mut Post,
     ) -> Result<(), AllocError>
-        ensures { OnOk result (Told self.now.plain post.old post.new (tell (users (asker_names room.now)) (reply_of line.entry ∷ []) ∷ [])) }
+        ensures { OnOk result (Told self.now.plain post.old post.new
+            (tell (users (asker_names room.now)) (reply_of line.entry ∷ []) ∷ [])) }
     {
         post.write(line)?;
         address_askers(&self.seats, room.askers(), post)?;
@@ -183,7 +192,8 @@ impl Maps {
         line: LentReply,
         post: &mut Post,
     ) -> Result<(), AllocError>
-        ensures { OnOk result (Told self.now.plain post.old post.new (tell (but_issuer (users (asker_names room.now))) (reply_of line.entry ∷ []) ∷ [])) }
+        ensures { OnOk result (Told self.now.plain post.old post.new
+            (tell (but_issuer (users (asker_names room.now))) (reply_of line.entry ∷ []) ∷ [])) }
     {
         post.write_for_others(line)?;
         address_askers(&self.seats, room.askers(), post)?;
@@ -213,7 +223,9 @@ fn address_all_but(
     post: &mut Post,
 ) -> Result<(), AllocError>
     ensures rising { IsStrictlySortedBy nat_cmp seats.now.clients.keys }
-    ensures sent { OnOk result (post.new ≡ addressed post.old (numbers_but (client_in (at_name seats.now.users.entries first.now) ++ client_in (at_name seats.now.users.entries second.now)) seats.now.clients.keys)) }
+    ensures sent { OnOk result (post.new
+        ≡ addressed post.old (numbers_but (client_in (at_name seats.now.users.entries first.now)
+        ++ client_in (at_name seats.now.users.entries second.now)) seats.now.clients.keys)) }
 {
     let first = client_of(seats, first);
     let second = client_of(seats, second);
@@ -283,7 +295,8 @@ fn address_members(
     post: &mut Post,
 ) -> Result<(), AllocError>
     requires { Agree (plain clients.now.slots) seats.now.users.entries }
-    ensures { OnOk result (post.new ≡ addressed post.old (clients_of seats.now.users.entries (map (λ m. m.name) members.now))) }
+    ensures { OnOk result (post.new ≡ addressed post.old (clients_of seats.now.users.entries (map (λ m.
+        m.name) members.now))) }
 {
     for member in members {
         address_near(seats, clients, member.name(), member.mark(), post)?;
@@ -293,7 +306,8 @@ fn address_members(
 
 /// Those who ask to join a battle get the line that is told.
 fn address_askers(seats: &Seats, askers: &[Asker], post: &mut Post) -> Result<(), AllocError>
-    ensures { OnOk result (post.new ≡ addressed post.old (clients_of seats.now.users.entries (map (λ a. a.name) askers.now))) }
+    ensures { OnOk result (post.new ≡ addressed post.old (clients_of seats.now.users.entries (map (λ a.
+        a.name) askers.now))) }
 {
     for asker in askers {
         address_user(seats, asker.name(), post)?;

@@ -19,7 +19,9 @@ use std::alloc::AllocError;
 impl Maps {
     /// Tells the issuer, who logs in under a name, who is there, itself among them.
     pub fn tell_burst(&self, name: &NameBuf, seat: &Seat, post: &mut Post) -> Result<(), AllocError>
-        ensures { OnOk result (Told self.now.plain post.old post.new (tell issuer (burst self.now.plain.settings.motd name.now (put_name self.now.plain.users name.now (user_in seat.now)) self.now.plain.battles) ∷ [])) }
+        ensures { OnOk result (Told self.now.plain post.old post.new
+            (tell issuer (burst self.now.plain.settings.motd name.now
+            (put_name self.now.plain.users name.now (user_in seat.now)) self.now.plain.battles) ∷ [])) }
     {
         post.begin_own();
         post.write_own(LentReply::Accepted { user: name })?;
@@ -39,7 +41,8 @@ impl Maps {
         seat: &Seat,
         post: &mut Post,
     ) -> Result<(), AllocError>
-        ensures { OnOk result (Told self.now.plain post.old post.new (tell others (arrival name.now (user_in seat.now)) ∷ [])) }
+        ensures { OnOk result (Told self.now.plain post.old post.new (tell others (arrival name.now (user_in seat.now))
+            ∷ [])) }
     {
         post.write_for_others(LentReply::AddUser {
             user: name,

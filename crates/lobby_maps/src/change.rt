@@ -8,7 +8,8 @@ ghost use Rattle.lobby_post.specs.Mail.{AreDue, AreReady, plain};
 ghost use Rattle.lobby_battles.specs.Battles.{AreSeated, left_own, unasked_own};
 ghost use Rattle.lobby_maps.specs.Dirty.{those_there};
 ghost use Rattle.lobby_battles.specs.Seats.{Agree, IsListed, users_of, where_some};
-ghost use Rattle.lobby_maps.specs.Changes.{CanBe, clients_after, users_after, channels_after, battles_after, last_after};
+ghost use Rattle.lobby_maps.specs.Changes.{CanBe, clients_after, users_after, channels_after, battles_after};
+ghost use Rattle.lobby_maps.specs.Changes.{last_after};
 
 use channel_book::ChannelBook;
 use line_words::NameBuf;
@@ -65,23 +66,28 @@ pub fn apply(
     client: u64,
     change: Change,
 ) -> Result<(), AllocError>
-    requires can { CanBe (plain clients.old.slots) (users_of seats.old.users.entries) channels.old battles.old.by_number.entries client change }
+    requires can { CanBe (plain clients.old.slots) (users_of seats.old.users.entries) channels.old
+        battles.old.by_number.entries client change }
     requires agree { Agree (plain clients.old.slots) seats.old.users.entries }
     requires seated { AreSeated battles.old.by_number.entries seats.old.users.entries }
     ensures clients { OnOk result (plain clients.new.slots ≡ clients_after (plain clients.old.slots) client change) }
-    ensures users { OnOk result (users_of seats.new.users.entries ≡ users_after (users_of seats.old.users.entries) change) }
+    ensures users { OnOk result (users_of seats.new.users.entries
+        ≡ users_after (users_of seats.old.users.entries) change) }
     ensures channels { OnOk result (channels.new ≡ channels_after channels.old change) }
     ensures battles { OnOk result (battles.new.by_number.entries ≡ battles_after battles.old.by_number.entries change) }
     ensures last { OnOk result (battles.new.last ≡ last_after battles.old.last change) }
     ensures agree { OnOk result (Agree (plain clients.new.slots) seats.new.users.entries) }
     ensures seated { OnOk result (AreSeated battles.new.by_number.entries seats.new.users.entries) }
-    ensures listed { IsListed seats.old.clients.keys (plain clients.old.slots) → IsListed seats.new.clients.keys (plain clients.new.slots) }
+    ensures listed { IsListed seats.old.clients.keys (plain clients.old.slots)
+        → IsListed seats.new.clients.keys (plain clients.new.slots) }
     ensures limit { clients.new.limit ≡ clients.old.limit }
     ensures due { (pieces : ByNumber (List ℕ)) → AreDue pieces clients.old.slots → AreDue pieces clients.new.slots }
     ensures ready { AreReady clients.old.slots → AreReady clients.new.slots }
     ensures known { (last : ℕ) → Known clients.old last → Known clients.new last }
-    ensures waits { OnOk result ((home : ℕ) → home ≤ 63 → waits clients.new home ≡ those_there (plain clients.new.slots) (waits clients.old home)) }
-    ensures err { OnErr result ((clients.new ≡ clients.old) × (seats.new.users.entries ≡ seats.old.users.entries) × (channels.new ≡ channels.old)
+    ensures waits { OnOk result ((home : ℕ) → home ≤ 63
+        → waits clients.new home ≡ those_there (plain clients.new.slots) (waits clients.old home)) }
+    ensures err { OnErr result ((clients.new ≡ clients.old) × (seats.new.users.entries ≡ seats.old.users.entries)
+        × (channels.new ≡ channels.old)
         × (battles.new.by_number.entries ≡ battles.old.by_number.entries) × (battles.new.last ≡ battles.old.last)) }
 {
     match change {
@@ -121,7 +127,9 @@ fn leave_all(
     battle: Option<u32>,
 )
     ensures channels { channels.new ≡ where_some all_left (option_copied name.entry) channels.old }
-    ensures battles { battles.new.by_number.entries ≡ left_own (option_copied name.entry) battle (unasked_own (option_copied name.entry) asks battles.old.by_number.entries) }
+    ensures battles { battles.new.by_number.entries
+        ≡ left_own (option_copied name.entry) battle
+        (unasked_own (option_copied name.entry) asks battles.old.by_number.entries) }
     ensures last { battles.new.last ≡ battles.old.last }
 {
     let Some(name) = name else {

@@ -1,6 +1,7 @@
 //! The lobby's maps, and how an event is committed to them.
 
-ghost use Rattle.std.specs.Prelude.{◌≡◌, ℕ, ◌-◌, ◌^◌, ◌<◌, ◌≤◌, ◌↔◌, [], ◌++◌, length, take, drop, min, OnOk, OnErr, IfNone, IfOk, IfSome, true, is_some, Some, None, option_copied};
+ghost use Rattle.std.specs.Prelude.{◌≡◌, ℕ, ◌-◌, ◌^◌, ◌<◌, ◌≤◌, ◌↔◌, [], ◌++◌, length, take, drop, min, OnOk, OnErr};
+ghost use Rattle.std.specs.Prelude.{IfNone, IfOk, IfSome, true, is_some, Some, None, option_copied};
 ghost use Rattle.line_words.specs.Table.{at_number};
 ghost use Rattle.room_lists.specs.Room.{has_asker, has_member};
 ghost use Rattle.lobby_model.specs.declared.event.Event.TheVariants as event;
@@ -9,7 +10,8 @@ ghost use Rattle.lobby_model.specs.Sessions.{has_place};
 ghost use Rattle.lobby_post.specs.Mail.{IsWakes};
 ghost use Rattle.lobby_post.specs.Weights.{counted_on, work};
 ghost use Rattle.lobby_battles.specs.Battles.{AskOutside, ChangesAlike, IsOnly};
-ghost use Rattle.lobby_maps.specs.Calls.{Applies, HasNoNumber, IsFull, IsNextNumber, KeepsOthers, ListsTouched, ListsOpened, TakesFirst, count_into, filled};
+ghost use Rattle.lobby_maps.specs.Calls.{Applies, HasNoNumber, IsFull, IsNextNumber, KeepsOthers, ListsTouched};
+ghost use Rattle.lobby_maps.specs.Calls.{ListsOpened, TakesFirst, count_into, filled};
 ghost use Rattle.lobby_maps.specs.Changes.{CanBe, OfEvent};
 ghost use Rattle.lobby_maps.specs.Dirty.{those_there};
 ghost use Rattle.lobby_maps.specs.Shown.{dirty_at, unread_of, is_finished};
@@ -96,11 +98,14 @@ impl Model for Maps {
     ghost Value = { Shown };
 
     ghost view = { λ m. record {
-      plain = lobby_of m.settings m.accounts (plain m.clients.slots) (users_of m.seats.users.entries) m.channels m.battles.by_number.entries m.last_client m.battles.last;
+      plain = lobby_of m.settings m.accounts (plain m.clients.slots) (users_of m.seats.users.entries) m.channels
+          m.battles.by_number.entries m.last_client m.battles.last;
       dirty = lists_of m.clients;
     } };
 
-    ghost invariant = { λ m. (m.greeting_line.items ≡ printed_line None (greeting m.settings)) × Fit m.settings.outbox_limit m.clients m.seats.users.entries m.seats.clients.keys m.last_client m.battles.by_number.entries m.battles.last };
+    ghost invariant = { λ m. (m.greeting_line.items ≡ printed_line None (greeting m.settings))
+        × Fit m.settings.outbox_limit m.clients m.seats.users.entries m.seats.clients.keys m.last_client
+        m.battles.by_number.entries m.battles.last };
 }
 
 impl Maps {
@@ -164,7 +169,8 @@ impl Maps {
     pub fn issuer(&self, client: u64) -> Option<Option<&NameBuf>>
         ensures hears { is_some result ≡ hears self.now.plain client }
         ensures name { IfSome result (λ me. option_copied me ≡ name_of self.now.plain client) }
-        ensures waiting { (home : ℕ) → home ≤ 63 → those_there self.now.plain.clients (dirty_at self.now home) ≡ dirty_at self.now home }
+        ensures waiting { (home : ℕ) → home ≤ 63
+            → those_there self.now.plain.clients (dirty_at self.now home) ≡ dirty_at self.now home }
     {
         self.clients.heard(client)
     }
@@ -178,10 +184,13 @@ impl Maps {
         post: &mut Post,
         told: &mut u64,
     ) -> Result<Wakes, AllocError>
-        requires { CanBe self.old.plain.clients self.old.plain.users self.old.plain.channels self.old.plain.battles client change }
+        requires { CanBe self.old.plain.clients self.old.plain.users self.old.plain.channels self.old.plain.battles
+            client change }
         ensures ok { OnOk result (OfEvent self.old.plain client change post.old (λ e. Applies self.old self.new e)) }
-        ensures wakes { IfOk result (λ wakes. OfEvent self.old.plain client change post.old (λ e. IsWakes self.old.plain e wakes)) }
-        ensures dirty { OnOk result (OfEvent self.old.plain client change post.old (λ e. ListsTouched self.old self.new e)) }
+        ensures wakes { IfOk result (λ wakes.
+            OfEvent self.old.plain client change post.old (λ e. IsWakes self.old.plain e wakes)) }
+        ensures dirty { OnOk result (OfEvent self.old.plain client change post.old (λ e.
+            ListsTouched self.old self.new e)) }
         ensures told { OnOk result (told.new ≡ counted_on told.old (work post.old)) }
         ensures err { OnErr result (self.new ≡ self.old) }
         ensures untold { OnErr result (told.new ≡ told.old) }
@@ -228,7 +237,8 @@ impl Maps {
 
     /// The number of the battle that a user asks to join.
     pub fn asked_by(&self, name: &NameBuf) -> Option<u32>
-        ensures some { IfSome result (λ number. (battle : Battle) × (asked_by self.now.plain name.now ≡ Some (number, battle))) }
+        ensures some { IfSome result (λ number.
+            (battle : Battle) × (asked_by self.now.plain name.now ≡ Some (number, battle))) }
         ensures only { IsOnly (has_asker name.now) self.now.plain.battles result }
         ensures none { result ≡ None → asked_by self.now.plain name.now ≡ None }
     {

@@ -6,7 +6,8 @@ use Rattle.line_words.specs.Table.{at_name, is_among}
 use Rattle.channel_book.specs.Channels.{names_in, channels_of, joined, left, all_left}
 use Rattle.lobby_model.specs.State.{State}
 use Rattle.lobby_model.specs.Texts.{already_in_channel, not_in_channel, no_such_user}
-use Rattle.lobby_model.specs.Outcome.{Happening, Outcome, tell, issuer, user, users, happens, only_told, done, refuse_if, message}
+use Rattle.lobby_model.specs.Outcome.{Happening, Outcome, tell, issuer, user, users, happens, only_told, done}
+use Rattle.lobby_model.specs.Outcome.{refuse_if, message}
 
 -- in pieces of 32, the last of which may have fewer: begun is the piece begun, and so many more go into it
 abbrev pub pieces_from : ℕ → List (List ℕ) → List (List ℕ) → List (List (List ℕ))
@@ -25,7 +26,8 @@ joins me channel names = happens (λ s. record s { channels = joined channel me 
     ∷ tell (users names) (reply.Joined channel me ∷ []) ∷ [])
 
 abbrev pub leaves : List ℕ → List ℕ → List (List ℕ) → Happening
-leaves me channel names = happens (λ s. record s { channels = left channel me s.channels }) (tell (users names) (reply.Left channel me ∷ []) ∷ [])
+leaves me channel names = happens (λ s. record s { channels = left channel me s.channels })
+    (tell (users names) (reply.Left channel me ∷ []) ∷ [])
 
 -- leaves all channels, in the order of their names
 abbrev pub leaves_all : List ℕ → State → Happening
@@ -40,7 +42,8 @@ join s me channel =
 -- of a channel that one is in, whose names are these
 abbrev pub in_channel : State → List ℕ → List ℕ → (List (List ℕ) → Happening) → Outcome
 in_channel s me channel happening =
-    refuse_if (not (is_among me (names_in s.channels channel))) (message not_in_channel) (done (happening (names_in s.channels channel)))
+    refuse_if (not (is_among me (names_in s.channels channel))) (message not_in_channel)
+    (done (happening (names_in s.channels channel)))
 
 abbrev pub leave : State → List ℕ → List ℕ → Outcome
 leave s me channel = in_channel s me channel (leaves me channel)
@@ -52,7 +55,9 @@ say_in_channel s me channel line = in_channel s me channel (λ names. only_told 
 abbrev pub say_private : State → List ℕ → List ℕ → List ℕ → Outcome
 say_private s me target text =
     refuse_if (not (is_some (at_name s.users target))) (message no_such_user)
-    (done (only_told (tell issuer (reply.SayPrivate target text ∷ []) ∷ tell (user target) (reply.SaidPrivate me text ∷ []) ∷ [])))
+    (done (only_told (tell issuer (reply.SayPrivate target text ∷ [])
+    ∷ tell (user target) (reply.SaidPrivate me text ∷ []) ∷ [])))
 
 abbrev pub list_channels : State → Outcome
-list_channels s = done (only_told (tell issuer (map (λ e. reply.Channel e.0 (length e.1)) s.channels ++ reply.EndOfChannels ∷ []) ∷ []))
+list_channels s = done (only_told (tell issuer (map (λ e. reply.Channel e.0 (length e.1)) s.channels
+    ++ reply.EndOfChannels ∷ []) ∷ []))

@@ -52,7 +52,8 @@ under id replies = map (λ r. (id, r)) replies
 
 -- the lines for client d of what an event comes to
 abbrev pub lines_of : State → Event → Outcome → ℕ → List Line
-lines_of s e comes d = under (line_id (same_number d (issuer_of s e)) e) (lines_for (reader_of s (issuer_of s e) d) (letters_of comes))
+lines_of s e comes d = under (line_id (same_number d (issuer_of s e)) e)
+    (lines_for (reader_of s (issuer_of s e) d) (letters_of comes))
 
 -- the lines that an event sends to client d
 abbrev pub sent : State → Event → ℕ → List Line

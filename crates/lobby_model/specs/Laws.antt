@@ -10,7 +10,8 @@ use Rattle.lobby_model.specs.Sessions.{has_place}
 abbrev pub without_bytes : ByNumber Client → ByNumber Client
 without_bytes clients = map_values {X = Client} (λ c client. record client { cut = false; unread = [] }) clients
 
--- Clients and users agree: no two clients bear one name, each client that is logged in has its user, and each user its client
+-- Clients and users agree: no two clients bear one name, each client that is logged in has its user, and each user its
+-- client
 pub record OneForEach (s : State) : Type 0 where
   pub single : (c d : ℕ) (name : List ℕ) → name_of s c ≡ Some name → name_of s d ≡ Some name → c ≡ d
   pub has_user : (c : ℕ) (name : List ℕ) → name_of s c ≡ Some name → IsSome (at_name s.users name)

@@ -1,5 +1,6 @@
 -- One event: its lines are put, whole or not at all.
-use Rattle.std.specs.Prelude.{ℕ, ◌+◌, Bool, true, false, ◌&&◌, ◌||◌, nat_le, if◌then◌else◌, List, [], ◌∷◌, ◌++◌, length, take, Option, Some, None}
+use Rattle.std.specs.Prelude.{ℕ, ◌+◌, Bool, true, false, ◌&&◌, ◌||◌, nat_le, if◌then◌else◌, List, [], ◌∷◌, ◌++◌}
+use Rattle.std.specs.Prelude.{length, take, Option, Some, None}
 use Rattle.reply_kinds.specs.Replies.{print_all}
 use Rattle.lobby_model.specs.declared.event.Event.{Event}
 use Rattle.lobby_model.specs.declared.event.Event.TheVariants as event
@@ -23,12 +24,16 @@ has_room_for limit client bytes = is_empty bytes || nat_le (length client.unread
 abbrev pub with_batch : ℕ → List ℕ → Client → Client
 with_batch limit bytes client =
     if is_live client
-    then (if has_room_for limit client bytes then record client { unread = client.unread ++ bytes } else record client { cut = true; unread = [] })
+    then (if has_room_for limit client bytes then record client { unread = client.unread ++ bytes }
+    else record client { cut = true; unread = [] })
     else client
 
 -- t is the state after the event e of s, before its lines are put
 abbrev pub delivered : State → Event → State → State
-delivered s e t = record t { clients = map_values (λ c client. with_batch s.settings.outbox_limit (batch s e c) client) t.clients }
+delivered s e t = record t {
+  clients = map_values (λ c client.
+      with_batch s.settings.outbox_limit (batch s e c) client) t.clients;
+}
 
 abbrev pub next : State → Event → State
 next s e = delivered s e (effect s e)

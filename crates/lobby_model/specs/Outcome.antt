@@ -1,6 +1,7 @@
--- What an event comes to: a refusal, or things that happen one after another. Each thing that happens says in one place what it
--- changes and who is told what of it.
-use Rattle.std.specs.Prelude.{ℕ, Bool, false, not, ◌&&◌, if◌then◌else◌, List, [], ◌∷◌, flat_map, Option, Some, None, is_some}
+-- What an event comes to: a refusal, or things that happen one after another. Each thing that happens says in one place
+-- what it changes and who is told what of it.
+use Rattle.std.specs.Prelude.{ℕ, Bool, false, not, ◌&&◌, if◌then◌else◌, List, [], ◌∷◌, flat_map, Option, Some, None}
+use Rattle.std.specs.Prelude.{is_some}
 use Rattle.reply_kinds.specs.declared.Reply.{Reply}
 use Rattle.reply_kinds.specs.declared.Reply.TheVariants as reply
 use Rattle.line_words.specs.Table.{same_name, is_among}

@@ -1,6 +1,7 @@
 //! Laws of the plain lobby. Each function takes nothing and does nothing: its contract is the law.
 
-ghost use Rattle.std.specs.Prelude.{◌≡◌, ◌≤◌, ◌<◌, ◌⊎◌, ℕ, List, [], ◌∷◌, ◌++◌, Option, Some, None, IsSome, true, false};
+ghost use Rattle.std.specs.Prelude.{◌≡◌, ◌≤◌, ◌<◌, ◌⊎◌, ℕ, List, [], ◌∷◌, ◌++◌, Option, Some, None, IsSome, true};
+ghost use Rattle.std.specs.Prelude.{false};
 ghost use Rattle.std.specs.Option.{unwrap_or};
 ghost use Rattle.account_entries.specs.Account.{Account};
 ghost use Rattle.command_forms.specs.declared.command.Command.{Command};
@@ -26,12 +27,14 @@ ghost use Rattle.lobby_model.specs.Sound.{Sound};
 pub fn taken_then_unread()
     ensures { (settings : Configuration) (accounts : List Account) (history : List Event) (c : ℕ) (client : Client)
         → at_number (after (empty_lobby settings accounts) history).clients c ≡ Some client → client.cut ≡ false
-        → taken_in (empty_lobby settings accounts) history c ++ client.unread ≡ put_in (empty_lobby settings accounts) history c }
+        → taken_in (empty_lobby settings accounts) history c ++ client.unread
+        ≡ put_in (empty_lobby settings accounts) history c }
 {}
 
 /// A schedule gives one list of events and leaves one world, whatever world it begins in.
 pub fn schedule_gives_one_history()
-    ensures some { (start : World) (steps : List Step) → (events : List Event) × (end : World) × Gives start steps events end }
+    ensures some { (start : World) (steps : List Step)
+        → (events : List Event) × (end : World) × Gives start steps events end }
     ensures same { (start : World) (steps : List Step) (events others : List Event) (end other_end : World)
         → Gives start steps events end → Gives start steps others other_end → (events ≡ others) × (end ≡ other_end) }
 {}
@@ -88,15 +91,19 @@ pub fn void_event_does_nothing()
 /// A client that is cut has nothing to read, gets nothing more, and stays cut for as long as it is
 /// there.
 pub fn cut_client_gets_nothing()
-    ensures unread { (settings : Configuration) (accounts : List Account) (history : List Event) (c : ℕ) (client : Client)
+    ensures unread { (settings : Configuration) (accounts : List Account) (history : List Event) (c : ℕ)
+        (client : Client)
         → at_number (after (empty_lobby settings accounts) history).clients c ≡ Some client → client.cut ≡ true
         → client.unread ≡ [] }
-    ensures put { (settings : Configuration) (accounts : List Account) (history later : List Event) (c : ℕ) (client : Client)
+    ensures put { (settings : Configuration) (accounts : List Account) (history later : List Event) (c : ℕ)
+        (client : Client)
         → at_number (after (empty_lobby settings accounts) history).clients c ≡ Some client → client.cut ≡ true
         → put_in (after (empty_lobby settings accounts) history) later c ≡ [] }
-    ensures stays { (settings : Configuration) (accounts : List Account) (history later : List Event) (c : ℕ) (client end : Client)
+    ensures stays { (settings : Configuration) (accounts : List Account) (history later : List Event) (c : ℕ)
+        (client end : Client)
         → at_number (after (empty_lobby settings accounts) history).clients c ≡ Some client → client.cut ≡ true
-        → at_number (after (after (empty_lobby settings accounts) history) later).clients c ≡ Some end → end.cut ≡ true }
+        → at_number (after (after (empty_lobby settings accounts) history) later).clients c ≡ Some end
+        → end.cut ≡ true }
 {}
 
 /// No client number is given twice: one that is given later is greater. A number comes with a
@@ -106,10 +113,12 @@ pub fn no_number_is_given_twice()
     ensures later { (s : State) (first : Event) (between : List Event) (second : Event) (n m : ℕ)
         → number_given s first ≡ Some n → number_given (after s (first ∷ between)) second ≡ Some m → n < m }
     ensures last { (s : State) (e : Event) → (next s e).last_client ≡ unwrap_or (number_given s e) s.last_client }
-    ensures client { (s : State) (e : Event) (n : ℕ) → number_given s e ≡ Some n → IsSome (at_number (next s e).clients n) }
+    ensures client { (s : State) (e : Event) (n : ℕ) → number_given s e ≡ Some n
+        → IsSome (at_number (next s e).clients n) }
     ensures given { (s : State) (e : Event) (c : ℕ)
         → IsSome (at_number (next s e).clients c) → IsSome (at_number s.clients c) ⊎ (number_given s e ≡ Some c) }
-    ensures numbers { (settings : Configuration) (accounts : List Account) (history : List Event) (c : ℕ) (client : Client)
+    ensures numbers { (settings : Configuration) (accounts : List Account) (history : List Event) (c : ℕ)
+        (client : Client)
         → at_number (after (empty_lobby settings accounts) history).clients c ≡ Some client
         → (0 < c) × (c ≤ (after (empty_lobby settings accounts) history).last_client) }
     ensures gone { (s : State) (history : List Event) (c : ℕ)

@@ -1,5 +1,7 @@
 -- Which clients were touched and wait to be looked after.
-use Rattle.std.specs.Prelude.{◌≡◌, ◌⊎◌, ℕ, ◌+◌, ◌-◌, ◌*◌, ◌^◌, ◌≤◌, ◌<◌, min, Bool, true, false, not, ◌&&◌, nat_le, if◌then◌else◌, List, [], ◌∷◌, ◌++◌, filter, length, slice_index_or, IfSome, IfNone, Option, Some, None}
+use Rattle.std.specs.Prelude.{◌≡◌, ◌⊎◌, ℕ, ◌+◌, ◌-◌, ◌*◌, ◌^◌, ◌≤◌, ◌<◌, min, Bool, true, false, not, ◌&&◌, nat_le}
+use Rattle.std.specs.Prelude.{if◌then◌else◌, List, [], ◌∷◌, ◌++◌, filter, length, slice_index_or, IfSome, IfNone}
+use Rattle.std.specs.Prelude.{Option, Some, None}
 use Rattle.std.specs.List.Sorted.{IsSorted, IsPermutation}
 use Rattle.std.specs.Option.{option_to_list}
 use Rattle.std.specs.Ordering.{nat_cmp}
@@ -34,7 +36,8 @@ added client line = record line { waiting = line.waiting ++ client ∷ [] }
 
 -- the event at hand touches a client that does not wait
 abbrev pub pushed : ℕ → Line → Line
-pushed client line = if nat_le 1 line.idle then record line { fresh = line.fresh ++ client ∷ []; idle = line.idle - 1 } else line
+pushed client line = if nat_le 1 line.idle
+    then record line { fresh = line.fresh ++ client ∷ []; idle = line.idle - 1 } else line
 
 -- those that an event touched stand behind the others, in rising order
 pub record IsSettled (old new : Line) : Type 0 where
@@ -62,10 +65,12 @@ pub record IsLeft (listed : Bool) (p : ℕ → Bool) (old new : Line) : Type 0 w
   pub fresh : new.fresh ≡ old.fresh
   pub idle : new.idle ≡ (if listed then old.idle else old.idle - 1)
 
--- one more that waits is gone, or those that do not pass a test were swept out; at most half of those that wait are gone then
+-- one more that waits is gone, or those that do not pass a test were swept out; at most half of those that wait are
+-- gone then
 pub record IsSwept (p : ℕ → Bool) (old new : Roomy) : Type 0 where
   pub few : 2 * new.gone ≤ length new.line.waiting
-  pub swept : (new.gone ≡ min (old.gone + 1) (2 ^ 64 - 1)) ⊎ ((new.gone ≡ 0) × (new.line.waiting ≡ filter p old.line.waiting))
+  pub swept : (new.gone ≡ min (old.gone + 1) (2 ^ 64 - 1))
+      ⊎ ((new.gone ≡ 0) × (new.line.waiting ≡ filter p old.line.waiting))
 
 -- the first that passes a test is taken out, and does not wait any more; there is none only where nobody is left
 pub record IsServed (p : ℕ → Bool) (result : Option ℕ) (old new : Line) : Type 0 where
@@ -105,8 +110,9 @@ idle_of home marks = length (filter (λ e. is_idle home e.1) marks)
 abbrev pub AllMarks : (ℕ → Mark → Type 0) → ByNumber Mark → Type 0
 AllMarks P marks = (c : ℕ) (mark : Mark) → lookup (is_at (nat_cmp c)) marks ≡ Some mark → P c mark
 
--- Between two events: each client waits in its worker's line once where its mark says so, and else not; it is known how many of a
--- worker's clients do not; and no number beyond the last was given to a client or stands in a line, so that none comes back
+-- Between two events: each client waits in its worker's line once where its mark says so, and else not; it is known how
+-- many of a worker's clients do not; and no number beyond the last was given to a client or stands in a line, so that
+-- none comes back
 pub record AreKnown (marks : ByNumber Mark) (lines : ℕ → Line) (last : ℕ) : Type 0 where
   pub homes : AllMarks (λ c mark. mark.home < 64) marks
   pub marked : AllMarks (λ c mark. times c (lines mark.home).waiting ≡ (if mark.listed then 1 else 0)) marks
@@ -118,12 +124,14 @@ pub record AreKnown (marks : ByNumber Mark) (lines : ℕ → Line) (last : ℕ) 
 -- 1 for a client of a worker that these pieces touch and that does not wait yet, else 0
 abbrev pub news_of : ByNumber (List ℕ) → ℕ → ℕ → Option Held → ℕ
 news_of pieces home c None = 0
-news_of pieces home c (Some held) = if same_number held.client.home home && (not held.listed && is_touched held.limit (bytes_for pieces c) held.client) then 1 else 0
+news_of pieces home c (Some held) = if same_number held.client.home home
+    && (not held.listed && is_touched held.limit (bytes_for pieces c) held.client) then 1 else 0
 
 abbrev pub news : ByNumber (List ℕ) → ByNumber Held → ℕ → ℕ → ℕ
 news pieces slots home c = news_of pieces home c (lookup (is_at (nat_cmp c)) slots)
 
--- Behind those that wait stand the clients of a worker that these pieces touch and that did not wait yet, each once, in rising numbers
+-- Behind those that wait stand the clients of a worker that these pieces touch and that did not wait yet, each once, in
+-- rising numbers
 pub record IsNewly (pieces : ByNumber (List ℕ)) (slots : ByNumber Held) (home : ℕ) (old new : List ℕ) : Type 0 where
   pub behind : List ℕ
   pub waiting : new ≡ old ++ behind

@@ -1,5 +1,6 @@
 -- What is due to a client: short pieces are copied, long ones shared.
-use Rattle.std.specs.Prelude.{ℕ, ◌+◌, ◌-◌, ◌^◌, ◌≤◌, min, Bool, nat_le, if◌then◌else◌, List, [], ◌∷◌, length, Option, Some, None}
+use Rattle.std.specs.Prelude.{ℕ, ◌+◌, ◌-◌, ◌^◌, ◌≤◌, min, Bool, nat_le, if◌then◌else◌, List, [], ◌∷◌, length, Option}
+use Rattle.std.specs.Prelude.{Some, None}
 use Rattle.line_words.specs.Table.{ByNumber, same_number}
 use Rattle.lobby_post.specs.declared.due.Due.{Due}
 
@@ -30,7 +31,12 @@ due_and due n = record {
 }
 
 abbrev pub due_but : Due → ℕ → Due
-due_but due n = record { bytes = due.bytes - n; shared_bytes = due.shared_bytes - shared_bytes_in n; shared_pieces = due.shared_pieces - shared_pieces_in n }
+due_but due n = record {
+  bytes = due.bytes - n;
+  shared_bytes = due.shared_bytes - shared_bytes_in n;
+  shared_pieces =
+      due.shared_pieces - shared_pieces_in n;
+}
 
 -- how many bytes of what is due are copied
 abbrev pub copied : Due → ℕ
@@ -38,12 +44,14 @@ copied due = due.bytes - due.shared_bytes
 
 -- a piece of so many bytes is part of what is due, of the bytes that are copied or of the pieces that are shared
 abbrev pub Covers : Due → ℕ → Type 0
-Covers due n = (n + due.shared_bytes ≤ due.bytes + shared_bytes_in n) × (shared_bytes_in n ≤ due.shared_bytes) × (shared_pieces_in n ≤ due.shared_pieces)
+Covers due n = (n + due.shared_bytes ≤ due.bytes + shared_bytes_in n) × (shared_bytes_in n ≤ due.shared_bytes)
+    × (shared_pieces_in n ≤ due.shared_pieces)
 
 -- of pieces for clients, those of client d: a count of each by its length, in sum
 abbrev pub count_for : (ℕ → ℕ) → ByNumber (List ℕ) → ℕ → ℕ
 count_for count [] d = 0
-count_for count (p ∷ pieces) d = if same_number d p.0 then count (length p.1) + count_for count pieces d else count_for count pieces d
+count_for count (p ∷ pieces) d = if same_number d p.0 then count (length p.1) + count_for count pieces d
+    else count_for count pieces d
 
 -- the share of a piece, which a long one has
 abbrev pub share_of : List ℕ → Option (List ℕ)

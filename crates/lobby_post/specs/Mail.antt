@@ -1,5 +1,6 @@
 -- What an event sends, piece by piece, and what its delivery makes of the clients.
-use Rattle.std.specs.Prelude.{◌≡◌, ◌⊎◌, ℕ, ◌+◌, ◌-◌, ◌^◌, ◌≤◌, ◌<◌, Bool, true, false, ◌&&◌, ◌||◌, if◌then◌else◌, List, [], ◌∷◌, ◌++◌, length, Some}
+use Rattle.std.specs.Prelude.{◌≡◌, ◌⊎◌, ℕ, ◌+◌, ◌-◌, ◌^◌, ◌≤◌, ◌<◌, Bool, true, false, ◌&&◌, ◌||◌, if◌then◌else◌}
+use Rattle.std.specs.Prelude.{List, [], ◌∷◌, ◌++◌, length, Some}
 use Rattle.std.specs.List.{list_any}
 use Rattle.std.specs.Map.{lookup}
 use Rattle.std.specs.Ordering.{nat_cmp}
@@ -14,8 +15,8 @@ use Rattle.lobby_model.specs.State.{State, Client, is_live, set_phase}
 use Rattle.lobby_model.specs.Next.{with_batch}
 use Rattle.lobby_model.specs.Touched.{is_touched, touches}
 
--- a client, the limit of its outbox, how many bytes may be copied and how many pieces shared to it without memory, what is still
--- due to it, and whether it stands in its worker's list of those that were touched
+-- a client, the limit of its outbox, how many bytes may be copied and how many pieces shared to it without memory, what
+-- is still due to it, and whether it stands in its worker's list of those that were touched
 pub record Held : Type 0 where
   pub client : Client
   pub limit : ℕ
@@ -24,8 +25,8 @@ pub record Held : Type 0 where
   pub due : Due
   pub listed : Bool
 
--- The clients of one worker: those that wait, in their order; those that the event at hand touched and that did not wait; how many
--- do neither
+-- The clients of one worker: those that wait, in their order; those that the event at hand touched and that did not
+-- wait; how many do neither
 pub record Line : Type 0 where
   pub waiting : List ℕ
   pub fresh : List ℕ
@@ -69,13 +70,15 @@ wakes_home limit pieces clients home = list_any (λ e. wakes_one limit home (byt
 abbrev pub IsWakes : State → Event → ℕ → Type 0
 IsWakes s e wakes = (home : ℕ) → has_home wakes home ≡ touches s e home
 
--- The first piece is put of what is due to a client: when the rest is put too, the client is as if all had been put at once, as one
--- batch, and was touched where that would have touched it
+-- The first piece is put of what is due to a client: when the rest is put too, the client is as if all had been put at
+-- once, as one batch, and was touched where that would have touched it
 pub record PutsFirst (limit due : ℕ) (piece : List ℕ) (old new : Client) : Type 0 where
   pub home : new.home ≡ old.home
   pub heard : is_live new ≡ true → is_live old ≡ true
-  pub whole : (rest : List ℕ) → (is_live old ≡ true → counted (length (piece ++ rest)) ≡ due) → with_batch limit rest new ≡ with_batch limit (piece ++ rest) old
-  pub touched : (rest : List ℕ) → (is_touched limit piece old || is_touched limit rest new) ≡ is_touched limit (piece ++ rest) old
+  pub whole : (rest : List ℕ) → (is_live old ≡ true → counted (length (piece ++ rest)) ≡ due)
+      → with_batch limit rest new ≡ with_batch limit (piece ++ rest) old
+  pub touched : (rest : List ℕ) → (is_touched limit piece old || is_touched limit rest new)
+      ≡ is_touched limit (piece ++ rest) old
 
 -- something holds of each slot
 abbrev pub AllSlots : (ℕ → Held → Type 0) → ByNumber Held → Type 0
@@ -110,10 +113,12 @@ AreReady = AllSlots (λ q held. IsReady held)
 abbrev pub IsShort : Held → Due → Type 0
 IsShort held due = (is_live held.client ≡ true) × ((held.spare < copied due) ⊎ (held.spare_pieces < due.shared_pieces))
 
--- Memory is wanted for these pieces: some client that hears gets more bytes of them, or more that are shared, than it has room for
+-- Memory is wanted for these pieces: some client that hears gets more bytes of them, or more that are shared, than it
+-- has room for
 pub record WantsMemory (pieces : ByNumber (List ℕ)) (clients : ByNumber Held) : Type 0 where
   pub client : ℕ
   pub held : Held
   pub found : lookup (is_at (nat_cmp client)) clients ≡ Some held
   pub hears : is_live held.client ≡ true
-  pub short : (held.spare < length (bytes_for pieces client)) ⊎ (held.spare_pieces < count_for shared_pieces_in pieces client)
+  pub short : (held.spare < length (bytes_for pieces client))
+      ⊎ (held.spare_pieces < count_for shared_pieces_in pieces client)

@@ -1,5 +1,6 @@
 -- What an event has told so far, as pieces and as letters.
-use Rattle.std.specs.Prelude.{◌≡◌, ℕ, ◌+◌, Bool, false, not, ◌&&◌, if◌then◌else◌, List, [], ◌∷◌, ◌++◌, length, map, Option, None}
+use Rattle.std.specs.Prelude.{◌≡◌, ℕ, ◌+◌, Bool, false, not, ◌&&◌, if◌then◌else◌, List, [], ◌∷◌, ◌++◌, length, map}
+use Rattle.std.specs.Prelude.{Option, None}
 use Rattle.std.specs.List.{list_any}
 use Rattle.reply_kinds.specs.declared.Reply.{Reply}
 use Rattle.reply_kinds.specs.Replies.{print_all}
@@ -9,8 +10,8 @@ use Rattle.lobby_model.specs.Outcome.{Audience, Letter, lines_for}
 use Rattle.lobby_model.specs.Events.{reader_of, under}
 use Rattle.lobby_post.specs.Mail.{bytes_for}
 
--- issuer, id: whose event it is, and under which id; text: how many bytes were printed since it began; own, shared: the lines that
--- are being told, as the issuer gets them, and as others get them; sent: the pieces told
+-- issuer, id: whose event it is, and under which id; text: how many bytes were printed since it began; own, shared: the
+-- lines that are being told, as the issuer gets them, and as others get them; sent: the pieces told
 pub record Posted : Type 0 where
   pub issuer : ℕ
   pub id : Option ℕ
@@ -81,7 +82,8 @@ pub record Told (s : State) (old new : Posted) (letters : List Letter) : Type 0 
   pub id : new.id ≡ old.id
   pub bytes : (d : ℕ)
       → bytes_for new.sent d ≡ bytes_for old.sent d
-      ++ print_all (under (if same_number d old.issuer then old.id else None) (lines_for (reader_of s old.issuer d) letters))
+      ++ print_all (under (if same_number d old.issuer then old.id
+      else None) (lines_for (reader_of s old.issuer d) letters))
 
 -- an audience without the issuer
 abbrev pub but_issuer : Audience → Audience

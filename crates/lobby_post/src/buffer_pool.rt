@@ -74,7 +74,8 @@ impl BufferPool {
     /// Takes the buffer of an outbox in which nothing is unread, if it has one. One that is large, or for
     /// which there is no room, goes, and so does the first of those that lay idle.
     pub fn take_back(&mut self, outbox: &mut Outbox)
-        ensures unchanged { outbox.new ≡ record outbox.old { spare = outbox.new.spare; spare_pieces = outbox.new.spare_pieces } }
+        ensures unchanged { outbox.new ≡ record outbox.old
+            { spare = outbox.new.spare; spare_pieces = outbox.new.spare_pieces } }
         ensures taken { outbox.old.unread ≡ [] → (outbox.new.spare ≡ 0) × (outbox.new.spare_pieces ≡ 0) }
     {
         if let Some(buffer) = outbox.hand_over() {

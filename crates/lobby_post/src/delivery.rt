@@ -1,12 +1,14 @@
 //! The pieces of an event, and their delivery.
 
-ghost use Rattle.std.specs.Prelude.{◌≡◌, ℕ, ◌-◌, ◌^◌, ◌<◌, ◌≤◌, [], ◌&&◌, ◌||◌, not, true, length, if◌then◌else◌, OnOk, OnErr};
+ghost use Rattle.std.specs.Prelude.{◌≡◌, ℕ, ◌-◌, ◌^◌, ◌<◌, ◌≤◌, [], ◌&&◌, ◌||◌, not, true, length, if◌then◌else◌};
+ghost use Rattle.std.specs.Prelude.{OnOk, OnErr};
 ghost use Rattle.std.specs.List.{AllByRecursion};
 ghost use Rattle.lobby_post.specs.Mask.{has_home};
 ghost use Rattle.line_words.specs.Table.{same_number};
 ghost use Rattle.lobby_model.specs.State.{is_live};
 ghost use Rattle.lobby_model.specs.Touched.{is_touched};
-ghost use Rattle.lobby_post.specs.Mail.{AreDue, AreReady, AwaitsPiece, HaveLimit, IsReady, PutsFirst, WantsMemory, plain, deliver, wakes_home, wakes_one};
+ghost use Rattle.lobby_post.specs.Mail.{AreDue, AreReady, AwaitsPiece, HaveLimit, IsReady, PutsFirst, WantsMemory};
+ghost use Rattle.lobby_post.specs.Mail.{plain, deliver, wakes_home, wakes_one};
 ghost use Rattle.lobby_post.specs.Dirty.{line_of, marks_of, pushed, stands, AreKnown, IsNewly};
 ghost use Rattle.lobby_post.specs.Dues.{due_but, share_of, shares_of};
 ghost use Rattle.lobby_post.specs.Pieces.{LiesIn, pieces_of};
@@ -104,7 +106,10 @@ fn put(
     ensures ready { IsReady slot.new }
     ensures home { (home : ℕ) → has_home result home ≡ wakes_one slot.old.limit home bytes.now slot.old.client }
     ensures listed { slot.new.listed ≡ (slot.old.listed || is_touched slot.old.limit bytes.now slot.old.client) }
-    ensures lines { (h : ℕ) → line_of dirty.new h ≡ (if same_number slot.old.client.home h && (not slot.old.listed && is_touched slot.old.limit bytes.now slot.old.client) then pushed client (line_of dirty.old h) else line_of dirty.old h) }
+    ensures lines { (h : ℕ) → line_of dirty.new h
+        ≡ (if same_number slot.old.client.home h
+        && (not slot.old.listed && is_touched slot.old.limit bytes.now slot.old.client)
+        then pushed client (line_of dirty.old h) else line_of dirty.old h) }
 {
     if !slot.put(bytes, share) {
         return Wakes::none();
@@ -131,15 +136,20 @@ pub fn deliver(
     requires shares { shares.old.items ≡ shares_of (pieces_of text.now pieces.now) }
     requires due { AreDue (pieces_of text.now pieces.now) clients.old }
     requires ready { AreReady clients.old }
-    ensures clients { (limit : ℕ) → HaveLimit limit clients.old → plain clients.new ≡ deliver limit (pieces_of text.now pieces.now) (plain clients.old) }
+    ensures clients { (limit : ℕ) → HaveLimit limit clients.old
+        → plain clients.new ≡ deliver limit (pieces_of text.now pieces.now) (plain clients.old) }
     ensures limits { (limit : ℕ) → HaveLimit limit clients.old → HaveLimit limit clients.new }
     ensures due { AreDue [] clients.new }
     ensures shares { shares.new.items ≡ [] }
     ensures told { told.new ≡ counted_on told.old (weight (pieces_of text.now pieces.now)) }
-    ensures wakes { (limit home : ℕ) → has_home result home ≡ wakes_home limit (pieces_of text.now pieces.now) (plain clients.old) home }
+    ensures wakes { (limit home : ℕ) → has_home result home
+        ≡ wakes_home limit (pieces_of text.now pieces.now) (plain clients.old) home }
     ensures homes { (home c : ℕ) → stands (marks_of clients.new) home c ≡ stands (marks_of clients.old) home c }
-    ensures known { (n : ℕ) → AreKnown (marks_of clients.old) (line_of dirty.old) n → AreKnown (marks_of clients.new) (line_of dirty.new) n }
-    ensures newly { (n home : ℕ) → AreKnown (marks_of clients.old) (line_of dirty.old) n → home < 64 → IsNewly (pieces_of text.now pieces.now) clients.old home (line_of dirty.old home).waiting (line_of dirty.new home).waiting }
+    ensures known { (n : ℕ) → AreKnown (marks_of clients.old) (line_of dirty.old) n
+        → AreKnown (marks_of clients.new) (line_of dirty.new) n }
+    ensures newly { (n home : ℕ) → AreKnown (marks_of clients.old) (line_of dirty.old) n → home < 64
+        → IsNewly (pieces_of text.now pieces.now) clients.old home (line_of dirty.old home).waiting
+        (line_of dirty.new home).waiting }
 {
     let mut wakes = Wakes::none();
     let mut count = *told;

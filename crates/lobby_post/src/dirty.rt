@@ -41,7 +41,8 @@ impl Model for DirtyList {
 }
 
 impl DirtyList {
-    ghost use Rattle.lobby_post.specs.Dirty.{added, marks_of, none_waits, pushed, stands, IsLeft, IsServed, IsSettled, IsSwept};
+    ghost use Rattle.lobby_post.specs.Dirty.{added, marks_of, none_waits, pushed, stands, IsLeft, IsServed, IsSettled};
+    ghost use Rattle.lobby_post.specs.Dirty.{IsSwept};
 
     /// There is no client.
     pub fn new(alloc: Global) -> DirtyList
@@ -126,7 +127,9 @@ impl DirtyList {
     fn sweep(&mut self, home: u8, slots: &Slots)
         ensures left { IsLeft true (stands (marks_of slots.now) home) self.old.line self.new.line }
         ensures few { 2 * self.new.gone ≤ length self.new.line.waiting }
-        ensures swept { (self.new.gone ≡ self.old.gone) ⊎ ((self.new.gone ≡ 0) × (self.new.line.waiting ≡ filter (stands (marks_of slots.now) home) self.old.line.waiting)) }
+        ensures swept { (self.new.gone ≡ self.old.gone)
+            ⊎ ((self.new.gone ≡ 0) × (self.new.line.waiting
+            ≡ filter (stands (marks_of slots.now) home) self.old.line.waiting)) }
     {
         if self.gone <= self.waiting.len() / 2 {
             return;
@@ -155,7 +158,8 @@ impl Model for DirtyLists {
 impl DirtyLists {
     ghost use Rattle.std.specs.Prelude.{if◌then◌else◌};
     ghost use Rattle.line_words.specs.Table.{same_number};
-    ghost use Rattle.lobby_post.specs.Dirty.{added, line_of, list_of, marks_of, pushed, stands, IsLeft, IsServed, IsSettled, IsSwept};
+    ghost use Rattle.lobby_post.specs.Dirty.{added, line_of, list_of, marks_of, pushed, stands, IsLeft, IsServed};
+    ghost use Rattle.lobby_post.specs.Dirty.{IsSettled, IsSwept};
 
     /// There is no client. It takes no memory yet.
     pub fn new(alloc: Global) -> DirtyLists
@@ -181,7 +185,8 @@ impl DirtyLists {
     /// Adds a client of a worker that is new, behind the others.
     pub fn add(&mut self, home: u8, client: u64)
         requires { 0 < (list_of self.old home).room }
-        ensures { (h : ℕ) → line_of self.new h ≡ (if same_number home h then added client (line_of self.old h) else line_of self.old h) }
+        ensures { (h : ℕ) → line_of self.new h
+            ≡ (if same_number home h then added client (line_of self.old h) else line_of self.old h) }
     {
         if let Some(list) = self.lists.get_mut(usize::from(home)) {
             list.add(client);
@@ -190,7 +195,8 @@ impl DirtyLists {
 
     /// The event at hand touches a client of a worker that does not stand in its list.
     pub fn push(&mut self, home: u8, client: u64)
-        ensures { (h : ℕ) → line_of self.new h ≡ (if same_number home h then pushed client (line_of self.old h) else line_of self.old h) }
+        ensures { (h : ℕ) → line_of self.new h
+            ≡ (if same_number home h then pushed client (line_of self.old h) else line_of self.old h) }
     {
         if let Some(list) = self.lists.get_mut(usize::from(home)) {
             list.push(client);
@@ -208,7 +214,8 @@ impl DirtyLists {
 
     /// Takes the first client of a worker's list out that is there.
     pub fn next(&mut self, home: u8, slots: &Slots) -> Option<u64>
-        ensures own { IsServed (stands (marks_of slots.now) home) result (line_of self.old home) (line_of self.new home) }
+        ensures own { IsServed (stands (marks_of slots.now) home) result (line_of self.old home)
+            (line_of self.new home) }
         ensures others { (h : ℕ) → same_number home h ≡ false → line_of self.new h ≡ line_of self.old h }
     {
         self.lists.get_mut(usize::from(home))?.next(home, slots)
@@ -217,7 +224,8 @@ impl DirtyLists {
     /// A client of a worker is gone, which stood in its list or did not.
     pub fn leave(&mut self, home: u8, listed: bool, slots: &Slots)
         ensures own { IsLeft listed (stands (marks_of slots.now) home) (line_of self.old home) (line_of self.new home) }
-        ensures swept { listed ≡ true → IsSwept (stands (marks_of slots.now) home) (list_of self.old home) (list_of self.new home) }
+        ensures swept { listed ≡ true → IsSwept (stands (marks_of slots.now) home) (list_of self.old home)
+            (list_of self.new home) }
         ensures others { (h : ℕ) → same_number home h ≡ false → line_of self.new h ≡ line_of self.old h }
     {
         if let Some(list) = self.lists.get_mut(usize::from(home)) {

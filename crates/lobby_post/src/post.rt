@@ -87,10 +87,20 @@ impl Model for Post {
 
     ghost Value = { Posted };
 
-    ghost view = { λ p. record { issuer = p.issuer; id = p.id; text = length p.text.items; own = drop p.own p.text.items; shared = drop p.shared p.text.items; sent = pieces_of p.text.items p.pieces.items } };
+    ghost view = { λ p. record {
+      issuer = p.issuer;
+      id = p.id;
+      text = length p.text.items;
+      own = drop p.own
+          p.text.items;
+      shared = drop p.shared p.text.items;
+      sent = pieces_of p.text.items p.pieces.items;
+    } };
 
-    ghost invariant = { λ p. AllByRecursion (LiesIn p.text.items) p.pieces.items × (p.own ≤ length p.text.items) × (p.shared ≤ length p.text.items)
-        × (p.shares.items ≡ shares_of (pieces_of p.text.items p.pieces.items)) × IfSome p.line (λ line. line ≡ drop p.shared p.text.items) };
+    ghost invariant = { λ p. AllByRecursion (LiesIn p.text.items) p.pieces.items × (p.own ≤ length p.text.items)
+        × (p.shared ≤ length p.text.items)
+        × (p.shares.items ≡ shares_of (pieces_of p.text.items p.pieces.items))
+        × IfSome p.line (λ line. line ≡ drop p.shared p.text.items) };
 }
 
 impl Post {
@@ -130,7 +140,8 @@ impl Post {
     /// Prints the line that is told next, in place of those before it. Its issuer gets it behind the id
     /// of its request.
     pub fn write(&mut self, line: LentReply) -> Result<(), AllocError>
-        ensures { OnOk result (self.new ≡ telling self.old (printed_line self.old.id (reply_of line.entry)) (printed_line None (reply_of line.entry)) (length (printed_line self.old.id (reply_of line.entry)))) }
+        ensures { OnOk result (self.new ≡ telling self.old (printed_line self.old.id (reply_of line.entry))
+            (printed_line None (reply_of line.entry)) (length (printed_line self.old.id (reply_of line.entry)))) }
     {
         forget_line(&mut self.line);
         let own = self.text.len();
@@ -145,7 +156,8 @@ impl Post {
     /// Prints the line that is told next to others, in place of those before it: its issuer gets
     /// nothing of it.
     pub fn write_for_others(&mut self, line: LentReply) -> Result<(), AllocError>
-        ensures { OnOk result (self.new ≡ telling self.old [] (printed_line None (reply_of line.entry)) (length (printed_line None (reply_of line.entry)))) }
+        ensures { OnOk result (self.new ≡ telling self.old [] (printed_line None (reply_of line.entry))
+            (length (printed_line None (reply_of line.entry)))) }
     {
         forget_line(&mut self.line);
         let shared = self.text.len();
@@ -201,7 +213,10 @@ impl Post {
 
     /// A key's client gets the lines that are told, or a share of them where they are long.
     pub fn address_key(&mut self, key: ClientKey) -> Result<(), AllocError>
-        ensures { OnOk result (self.new ≡ record self.old { sent = self.old.sent ++ copy_to self.old key.number ∷ [] }) }
+        ensures { OnOk result (self.new ≡ record self.old {
+          sent = self.old.sent ++ copy_to self.old key.number
+              ∷ [];
+        }) }
     {
         let from = if key.number == self.issuer {
             self.own
@@ -263,14 +278,18 @@ impl Post {
     pub fn deliver(&mut self, slots: &mut Slots, dirty: &mut DirtyLists, told: &mut u64) -> Wakes
         requires due { AreDue self.old.sent slots.old }
         requires ready { AreReady slots.old }
-        ensures clients { (limit : ℕ) → HaveLimit limit slots.old → plain slots.new ≡ deliver limit self.old.sent (plain slots.old) }
+        ensures clients { (limit : ℕ) → HaveLimit limit slots.old
+            → plain slots.new ≡ deliver limit self.old.sent (plain slots.old) }
         ensures limits { (limit : ℕ) → HaveLimit limit slots.old → HaveLimit limit slots.new }
         ensures due { AreDue [] slots.new }
         ensures told { told.new ≡ counted_on told.old (work self.old) }
-        ensures wakes { (limit home : ℕ) → has_home result home ≡ wakes_home limit self.old.sent (plain slots.old) home }
+        ensures wakes { (limit home : ℕ)
+            → has_home result home ≡ wakes_home limit self.old.sent (plain slots.old) home }
         ensures homes { (home c : ℕ) → stands (marks_of slots.new) home c ≡ stands (marks_of slots.old) home c }
-        ensures known { (n : ℕ) → AreKnown (marks_of slots.old) (line_of dirty.old) n → AreKnown (marks_of slots.new) (line_of dirty.new) n }
-        ensures newly { (n home : ℕ) → AreKnown (marks_of slots.old) (line_of dirty.old) n → home < 64 → IsNewly self.old.sent slots.old home (line_of dirty.old home).waiting (line_of dirty.new home).waiting }
+        ensures known { (n : ℕ) → AreKnown (marks_of slots.old) (line_of dirty.old) n
+            → AreKnown (marks_of slots.new) (line_of dirty.new) n }
+        ensures newly { (n home : ℕ) → AreKnown (marks_of slots.old) (line_of dirty.old) n → home < 64
+            → IsNewly self.old.sent slots.old home (line_of dirty.old home).waiting (line_of dirty.new home).waiting }
     {
         *told = with_printed(*told, self.text.len());
         let wakes = delivery::deliver(

@@ -7,8 +7,8 @@ use bytes::Bytes;
 use std::alloc::{AllocError, Global};
 use std::collections::VecDeque;
 
-/// From so many bytes on a piece is shared, which is then cheaper than a copy at any pace. Where many lines wait it is so from some
-/// 600 bytes on (docs/DECISIONS.md).
+/// From so many bytes on a piece is shared, which is then cheaper than a copy at any pace. Where many lines wait it is
+/// so from some 600 bytes on (docs/DECISIONS.md).
 pub const SHARED_FROM: usize = 2_048;
 
 /// The share that a piece has: a long one is copied for it, a short one has none.
@@ -103,7 +103,8 @@ fn let_go(line: &mut Option<Bytes>)
 /// Takes the share of a piece out of those of the pieces that are left, where it has one.
 #[inline(always)]
 pub fn next_share(bytes: &[u8], shares: &mut VecDeque<Bytes>) -> Option<Bytes>
-    ensures { (rest : List (List ℕ)) → shares.old.items ≡ with_share bytes.now rest → (result ≡ share_of bytes.now) × (shares.new.items ≡ rest) }
+    ensures { (rest : List (List ℕ)) → shares.old.items ≡ with_share bytes.now rest
+        → (result ≡ share_of bytes.now) × (shares.new.items ≡ rest) }
 {
     if bytes.len() < SHARED_FROM {
         return None;

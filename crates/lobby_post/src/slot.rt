@@ -1,6 +1,7 @@
 //! A client with its outbox.
 
-ghost use Rattle.std.specs.Prelude.{◌≡◌, ◌+◌, ◌-◌, ◌^◌, ◌<◌, ◌≤◌, ◌++◌, length, take, drop, min, [], OnOk, OnErr, IfOk, IfSome, Some, true, false, not, is_some, option_copied};
+ghost use Rattle.std.specs.Prelude.{◌≡◌, ◌+◌, ◌-◌, ◌^◌, ◌<◌, ◌≤◌, ◌++◌, length, take, drop, min, [], OnOk, OnErr};
+ghost use Rattle.std.specs.Prelude.{IfOk, IfSome, Some, true, false, not, is_some, option_copied};
 ghost use Rattle.lobby_model.specs.declared.event.Phase.TheVariants.{Ended, In};
 ghost use Rattle.lobby_model.specs.State.{is_live, in_phase, name_in};
 ghost use Rattle.lobby_model.specs.Sessions.{greeted, drained};
@@ -42,7 +43,16 @@ impl Model for Slot {
 
     ghost Value = { Held };
 
-    ghost view = { λ s. record { client = record { ip = s.ip; home = s.home; phase = s.phase; cut = s.outbox.cut; unread = s.outbox.unread }; limit = s.outbox.limit; spare = s.outbox.spare; spare_pieces = s.outbox.spare_pieces; due = s.due; listed = s.listed } };
+    ghost view = { λ s. record {
+      client = record
+          { ip = s.ip; home = s.home; phase = s.phase; cut = s.outbox.cut; unread = s.outbox.unread };
+      limit =
+          s.outbox.limit;
+      spare = s.outbox.spare;
+      spare_pieces = s.outbox.spare_pieces;
+      due = s.due;
+      listed = s.listed;
+    } };
 
     ghost invariant = { λ s. (s.home < 64) × (s.outbox.limit < 2 ^ 32 - 1)
         × (s.outbox.cut ≡ true → (s.outbox.unread ≡ []) × (s.outbox.spare ≡ 0) × (s.outbox.spare_pieces ≡ 0)) };

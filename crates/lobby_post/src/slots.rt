@@ -1,6 +1,7 @@
 //! The slots of all clients, by the clients' numbers.
 
-ghost use Rattle.std.specs.Prelude.{◌≡◌, [], length, map, Some, None, is_some, true, ◌↔◌, OnOk, OnErr, IfSome, option_copied};
+ghost use Rattle.std.specs.Prelude.{◌≡◌, [], length, map, Some, None, is_some, true, ◌↔◌, OnOk, OnErr, IfSome};
+ghost use Rattle.std.specs.Prelude.{option_copied};
 ghost use Rattle.std.specs.Option.{option_copied_mut, option_map};
 ghost use Rattle.std.specs.Ordering.{nat_cmp};
 ghost use Rattle.std.specs.List.Sorted.{IsStrictlySortedBy};
@@ -118,7 +119,8 @@ impl Slots {
 
     /// The worker of a client that is there, and whether it stands in that worker's list.
     pub fn listing_of(&self, client: u64) -> Option<(u8, bool)>
-        ensures { result ≡ option_map (λ held. (held.client.home, held.listed)) (lookup (is_at (nat_cmp client)) self.now) }
+        ensures { result ≡ option_map (λ held.
+            (held.client.home, held.listed)) (lookup (is_at (nat_cmp client)) self.now) }
     {
         match self.get(client) {
             Some(slot) => Some((slot.home(), slot.is_listed())),

@@ -5,9 +5,11 @@ use Rattle.address_words.specs.Words.{PartedAt, LeadsWith}
 
 -- a rank, and a country behind one space; without it the country is not known
 abbrev pub IsRankAndCountry : List ℕ → ℕ → List ℕ → Type 0
-IsRankAndCountry text rank country = (rank < 2 ^ 8) × (((text ≡ decimal rank) × (country ≡ codes "??")) ⊎ (text ≡ decimal rank ++ 32 ∷ country))
+IsRankAndCountry text rank country = (rank < 2 ^ 8)
+    × (((text ≡ decimal rank) × (country ≡ codes "??")) ⊎ (text ≡ decimal rank ++ 32 ∷ country))
 
--- name, word of the password, number, and then rank and country, parted by one space; neither a moderator's nor a program's
+-- name, word of the password, number, and then rank and country, parted by one space; neither a moderator's nor a
+-- program's
 pub record HasFields (text : List ℕ) (account : Account) : Type 0 where
   pub behind_name : List ℕ
   pub behind_password : List ℕ

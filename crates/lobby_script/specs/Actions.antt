@@ -24,16 +24,19 @@ verb_of (action.Client label (order.Read count)) = codes "read"
 verb_of (action.Client label order.Shut) = codes "shut"
 verb_of (action.Client label order.Show) = codes "show"
 
--- what stands behind that word and one space: an account, a text, a number, or a label with one space behind it and then the rest
+-- what stands behind that word and one space: an account, a text, a number, or a label with one space behind it and
+-- then the rest
 abbrev pub Arguments : List ℕ → Action → Type 0
 Arguments text (action.Set (setting.Account account)) = WritesAccount text account
 Arguments text (action.Set (setting.Motd line)) = (text ≡ line) × IsTrue (is_text line)
 Arguments text (action.Set (setting.Limit bytes)) = IsNumber text bytes
 Arguments text (action.Open label ip) = (rest : List ℕ) × LeadsWith 32 text label rest × IsAddress rest ip
-Arguments text (action.Client label (order.Send bytes)) = (rest : List ℕ) × LeadsWith 32 text label rest × StandsForBytes rest bytes
+Arguments text (action.Client label (order.Send bytes)) = (rest : List ℕ) × LeadsWith 32 text label rest
+    × StandsForBytes rest bytes
 Arguments text (action.Client label order.Take) = IsNumber text label
 Arguments text (action.Client label order.All) = IsNumber text label
-Arguments text (action.Client label (order.Read count)) = (rest : List ℕ) × LeadsWith 32 text label rest × IsNumber rest count
+Arguments text (action.Client label (order.Read count)) = (rest : List ℕ) × LeadsWith 32 text label rest
+    × IsNumber rest count
 Arguments text (action.Client label order.Shut) = IsNumber text label
 Arguments text (action.Client label order.Show) = IsNumber text label
 

@@ -1,5 +1,6 @@
 -- What an action does, and what it shows.
-use Rattle.std.specs.Prelude.{◌≡◌, ℕ, ◌+◌, zero, suc, true, false, if◌then◌else◌, List, [], ◌∷◌, ◌++◌, length, drop, flat_map, decimal, Option, Some, None}
+use Rattle.std.specs.Prelude.{◌≡◌, ℕ, ◌+◌, zero, suc, true, false, if◌then◌else◌, List, [], ◌∷◌, ◌++◌, length, drop}
+use Rattle.std.specs.Prelude.{flat_map, decimal, Option, Some, None}
 use Rattle.line_framer.specs.Frames.{lines_in}
 use Rattle.lobby_model.specs.declared.event.Event.{Event}
 use Rattle.lobby_model.specs.declared.schedule.Step.TheVariants as step
@@ -21,7 +22,8 @@ use Rattle.lobby_script.specs.Scene.{Scene, unopened}
 abbrev pub Takes : ℕ → World → ℕ → List Event → World → Type 0
 Takes zero w c events new = (events ≡ []) × (new ≡ w)
 Takes (suc n) w c events new =
-    (is_ready w c ≡ true) × ((here : List Event) × (mid : World) × (later : List Event) × StepGives w (step.Take c) here mid × Takes n mid c later new × (events ≡ here ++ later))
+    (is_ready w c ≡ true) × ((here : List Event) × (mid : World) × (later : List Event)
+    × StepGives w (step.Take c) here mid × Takes n mid c later new × (events ≡ here ++ later))
 
 -- takes as long as one is ready
 abbrev pub TakesAll : World → ℕ → List Event → World → Type 0
@@ -52,14 +54,18 @@ abbrev pub happened : Scene → List Event → World → Scene
 happened s here w = record s { world = w; events = s.events ++ here }
 
 abbrev pub with_label : Scene → ℕ → Option ℕ → ℕ → Scene
-with_label s label client shown = record s { labels = put_number s.labels label (record { client = client; shown = shown }) }
+with_label s label client shown = record s
+    { labels = put_number s.labels label (record { client = client; shown = shown }) }
 
--- A show gives the lines put since the last one of that label. The label of a client that the lobby refused does nothing and shows nothing
+-- A show gives the lines put since the last one of that label. The label of a client that the lobby refused does
+-- nothing and shows nothing
 abbrev pub ClientActs : Scene → ℕ → Label → Option ℕ → Order → List ℕ → Scene → Type 0
 ClientActs s label entry None o out new = (out ≡ []) × (new ≡ s)
 ClientActs s label entry (Some c) order.Show out new =
-    (out ≡ labelled label (drop entry.shown (put_so_far s c))) × (new ≡ with_label s label (Some c) (length (put_so_far s c)))
-ClientActs s label entry (Some c) o out new = (out ≡ []) × ((here : List Event) × (w : World) × OrderGives s.world c o here w × (new ≡ happened s here w))
+    (out ≡ labelled label (drop entry.shown (put_so_far s c)))
+    × (new ≡ with_label s label (Some c) (length (put_so_far s c)))
+ClientActs s label entry (Some c) o out new = (out ≡ [])
+    × ((here : List Event) × (w : World) × OrderGives s.world c o here w × (new ≡ happened s here w))
 
 abbrev pub LabelActs : Scene → ℕ → Option Label → Order → List ℕ → Scene → Type 0
 LabelActs s label None o out new = ⊥
@@ -69,7 +75,8 @@ LabelActs s label (Some entry) o out new = ClientActs s label entry entry.client
 abbrev pub Acts : Scene → Action → List ℕ → Scene → Type 0
 Acts s (action.Set setting) out new = (out ≡ []) × (new ≡ unopened (with_setting s.prepared setting))
 Acts s (action.Open label ip) out new =
-    (out ≡ []) × ((here : List Event) × (w : World) × StepGives s.world (step.Open ip 0) here w × (new ≡ with_label (happened s here w) label (given s.world) 0))
+    (out ≡ []) × ((here : List Event) × (w : World) × StepGives s.world (step.Open ip 0) here w
+    × (new ≡ with_label (happened s here w) label (given s.world) 0))
 Acts s (action.Client label o) out new = LabelActs s label (at_number s.labels label) o out new
 
 -- the only action that writes

@@ -10,7 +10,8 @@ use Rattle.lobby_script.specs.Acts.{Acts}
 -- there is a hall from the first open on; until then there is what it will be opened with
 abbrev pub HallStands : Option Kept → Prepared → Scene → Type 0
 HallStands None setup scene = scene ≡ unopened setup
-HallStands (Some hall) setup scene = Stands hall scene.prepared.settings scene.prepared.accounts scene.events scene.world × (has_no_label scene.labels ≡ false)
+HallStands (Some hall) setup scene = Stands hall scene.prepared.settings scene.prepared.accounts scene.events
+    scene.world × (has_no_label scene.labels ≡ false)
 
 pub record IsAt (player : Player) (scene : Scene) : Type 0 where
   pub hall : HallStands player.hall player.setup scene

@@ -17,7 +17,12 @@ pub record Scene : Type 0 where
 
 -- with this set, before the first open
 abbrev pub unopened : Prepared → Scene
-unopened prepared = record { prepared = prepared; world = new_world prepared.settings prepared.accounts; events = []; labels = [] }
+unopened prepared = record {
+  prepared = prepared;
+  world = new_world prepared.settings prepared.accounts;
+  events = [];
+  labels = [];
+}
 
 abbrev pub has_no_label : ByNumber Label → Bool
 has_no_label [] = true

@@ -22,7 +22,8 @@ IsBad s line = (line ≢ []) × ((a : Action) → Says line a → is_allowed s a
 -- all these lines play one after another, with this output
 abbrev pub Played : Scene → List (List ℕ) → List ℕ → Scene → Type 0
 Played s [] out new = (out ≡ []) × (new ≡ s)
-Played s (line ∷ lines) out new = (here : List ℕ) × (mid : Scene) × (later : List ℕ) × LinePlays s line here mid × Played mid lines later new × (out ≡ here ++ later)
+Played s (line ∷ lines) out new = (here : List ℕ) × (mid : Scene) × (later : List ℕ) × LinePlays s line here mid
+    × Played mid lines later new × (out ≡ here ++ later)
 
 -- these lines play, from the empty lobby with the default settings and no account on
 abbrev pub PlaysTo : List (List ℕ) → List ℕ → Scene → Type 0

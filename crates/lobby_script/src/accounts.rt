@@ -55,7 +55,8 @@ pub fn read_account(alloc: Global, text: &[u8]) -> Result<Option<Account>, Alloc
 
 fn read_fields(text: &[u8]) -> Option<Fields<'_>>
     ensures sound { IfSome result (λ fields. HasFields text.now (stated_by fields)) }
-    ensures complete { (account : Written) → HasFields text.now account → IsSomeAnd result (λ fields. stated_by fields ≡ account) }
+    ensures complete { (account : Written) → HasFields text.now account
+        → IsSomeAnd result (λ fields. stated_by fields ≡ account) }
 {
     let (name, rest) = part_at(text, b' ')?;
     let (password, rest) = part_at(rest, b' ')?;
@@ -72,7 +73,8 @@ fn read_fields(text: &[u8]) -> Option<Fields<'_>>
 
 fn rank_and_country(text: &[u8]) -> Option<(u8, &[u8])>
     ensures sound { IfSome result (λ parts. IsRankAndCountry text.now parts.0 parts.1.now) }
-    ensures complete { (rank : ℕ) (country : List ℕ) → IsRankAndCountry text.now rank country → IsSomeAnd result (λ parts. (parts.0 ≡ rank) × (parts.1.now ≡ country)) }
+    ensures complete { (rank : ℕ) (country : List ℕ) → IsRankAndCountry text.now rank country
+        → IsSomeAnd result (λ parts. (parts.0 ≡ rank) × (parts.1.now ≡ country)) }
 {
     let (rank, country) = part_at(text, b' ').unwrap_or((text, UNKNOWN));
     Some((u8::try_from(number(rank)?).ok()?, country))

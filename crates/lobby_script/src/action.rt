@@ -2,7 +2,8 @@
 
 ghost use Rattle.std.specs.Prelude.{◌≡◌, IfOk};
 ghost use Rattle.address_words.specs.Words.{Finds};
-ghost use Rattle.lobby_script.specs.Actions.{Arguments, IsAccount, IsLimit, IsMotd, IsOpen, IsPlain, IsRead, IsSend, Says, verb_of};
+ghost use Rattle.lobby_script.specs.Actions.{Arguments, IsAccount, IsLimit, IsMotd, IsOpen, IsPlain, IsRead, IsSend};
+ghost use Rattle.lobby_script.specs.Actions.{Says, verb_of};
 
 use crate::accounts::read_account;
 use crate::escapes::unescape;

@@ -28,7 +28,8 @@ pub fn unescape(alloc: Global, text: &[u8]) -> Result<Option<Piece>, AllocError>
 /// The byte that is written first, and what stands behind it.
 fn first_byte(text: &[u8]) -> Option<(u8, &[u8])>
     ensures sound { IfSome result (λ parts. BeginsWritten text.now parts.0 parts.1.now) }
-    ensures complete { (byte : ℕ) (behind : List ℕ) → BeginsWritten text.now byte behind → IsSomeAnd result (λ parts. (parts.0 ≡ byte) × (parts.1.now ≡ behind)) }
+    ensures complete { (byte : ℕ) (behind : List ℕ) → BeginsWritten text.now byte behind
+        → IsSomeAnd result (λ parts. (parts.0 ≡ byte) × (parts.1.now ≡ behind)) }
 {
     let (first, behind) = text.split_first()?;
     if *first == b'\\' {
@@ -41,7 +42,8 @@ fn first_byte(text: &[u8]) -> Option<(u8, &[u8])>
 /// The byte that is written first, where a backslash stands before the text.
 fn escaped_byte(text: &[u8]) -> Option<(u8, &[u8])>
     ensures sound { IfSome result (λ parts. BeginsWritten (92 ∷ text.now) parts.0 parts.1.now) }
-    ensures complete { (byte : ℕ) (behind : List ℕ) → BeginsWritten (92 ∷ text.now) byte behind → IsSomeAnd result (λ parts. (parts.0 ≡ byte) × (parts.1.now ≡ behind)) }
+    ensures complete { (byte : ℕ) (behind : List ℕ) → BeginsWritten (92 ∷ text.now) byte behind
+        → IsSomeAnd result (λ parts. (parts.0 ≡ byte) × (parts.1.now ≡ behind)) }
 {
     let (letter, behind) = text.split_first()?;
     match *letter {
@@ -57,7 +59,8 @@ fn escaped_byte(text: &[u8]) -> Option<(u8, &[u8])>
 /// The byte that is written first, where `\x` stands before the text.
 fn hexadecimal_byte(text: &[u8]) -> Option<(u8, &[u8])>
     ensures sound { IfSome result (λ parts. BeginsWritten (92 ∷ 120 ∷ text.now) parts.0 parts.1.now) }
-    ensures complete { (byte : ℕ) (behind : List ℕ) → BeginsWritten (92 ∷ 120 ∷ text.now) byte behind → IsSomeAnd result (λ parts. (parts.0 ≡ byte) × (parts.1.now ≡ behind)) }
+    ensures complete { (byte : ℕ) (behind : List ℕ) → BeginsWritten (92 ∷ 120 ∷ text.now) byte behind
+        → IsSomeAnd result (λ parts. (parts.0 ≡ byte) × (parts.1.now ≡ behind)) }
 {
     let (high, behind) = text.split_first()?;
     let (low, behind) = behind.split_first()?;

@@ -7,6 +7,8 @@ ghost use Rattle.lobby_script.specs.Script.{OutputOf, StopsAt};
 /// determined, and a script with an output has no bad step.
 pub fn script_has_one_output()
     ensures output { (script out other : List ℕ) → OutputOf script out → OutputOf script other → out ≡ other }
-    ensures bad_step { (script : List ℕ) (k l : ℕ) (out other : List ℕ) → StopsAt script k out → StopsAt script l other → (k ≡ l) × (out ≡ other) }
-    ensures not_both { (script : List ℕ) (k : ℕ) (out other : List ℕ) → OutputOf script out → StopsAt script k other → ⊥ }
+    ensures bad_step { (script : List ℕ) (k l : ℕ) (out other : List ℕ) → StopsAt script k out → StopsAt script l other
+        → (k ≡ l) × (out ≡ other) }
+    ensures not_both { (script : List ℕ) (k : ℕ) (out other : List ℕ) → OutputOf script out → StopsAt script k other
+        → ⊥ }
 {}

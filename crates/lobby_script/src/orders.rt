@@ -16,8 +16,12 @@ use lobby_model::Step;
 
 /// Connects a client from this address. The number that it gets, if the lobby has a place.
 pub fn connect(hall: &mut Hall, ip: [u8; 4]) -> Result<Option<u64>, HallError>
-    ensures number { IfOk result (λ client. (settings : Configuration) (accounts : List Account) (events : List Event) (world : World) → Stands hall.old settings accounts events world → client ≡ given world) }
-    ensures moves { OnOk result ((settings : Configuration) (accounts : List Account) (events : List Event) (world : World) → Stands hall.old settings accounts events world → Moves hall.new settings accounts events (StepGives world (step.Open ip 0))) }
+    ensures number { IfOk result (λ client.
+        (settings : Configuration) (accounts : List Account) (events : List Event) (world : World)
+        → Stands hall.old settings accounts events world → client ≡ given world) }
+    ensures moves { OnOk result ((settings : Configuration) (accounts : List Account) (events : List Event)
+        (world : World) → Stands hall.old settings accounts events world
+        → Moves hall.new settings accounts events (StepGives world (step.Open ip 0))) }
 {
     let before = hall.last_client();
     hall.step(&Step::Open { ip, home: 0 })?;
@@ -28,7 +32,9 @@ pub fn connect(hall: &mut Hall, ip: [u8; 4]) -> Result<Option<u64>, HallError>
 /// Does this for the client.
 pub fn carry_out(hall: &mut Hall, client: u64, order: Order) -> Result<(), HallError>
     requires { IsStanding hall.old }
-    ensures { OnOk result ((settings : Configuration) (accounts : List Account) (events : List Event) (world : World) → Stands hall.old settings accounts events world → Moves hall.new settings accounts events (OrderGives world client order)) }
+    ensures { OnOk result ((settings : Configuration) (accounts : List Account) (events : List Event) (world : World)
+        → Stands hall.old settings accounts events world
+        → Moves hall.new settings accounts events (OrderGives world client order)) }
 {
     match order {
         Order::Send { bytes } => hall.step(&Step::Arrive { client, bytes }),
@@ -46,7 +52,9 @@ pub fn carry_out(hall: &mut Hall, client: u64, order: Order) -> Result<(), HallE
 /// Takes lines of the client as long as one is ready.
 fn take_all(hall: &mut Hall, client: u64) -> Result<(), HallError>
     requires { IsStanding hall.old }
-    ensures { OnOk result ((settings : Configuration) (accounts : List Account) (events : List Event) (world : World) → Stands hall.old settings accounts events world → Moves hall.new settings accounts events (TakesAll world client)) }
+    ensures { OnOk result ((settings : Configuration) (accounts : List Account) (events : List Event) (world : World)
+        → Stands hall.old settings accounts events world
+        → Moves hall.new settings accounts events (TakesAll world client)) }
 {
     while hall.ready(client) {
         hall.step(&Step::Take { client })?;

@@ -52,7 +52,8 @@ impl Player {
     pub fn play_line<W: Write>(&mut self, line: &[u8], writer: &mut W) -> Result<(), LineFault>
         requires { IsSomewhere self.old }
         ensures ok { OnOk result ((scene : Scene) → IsAt self.old scene
-            → (out : List ℕ) × ((new : Scene) × LinePlays scene line.now out new × IsAt self.new new) × Appends (W.contents writer.old) (W.contents writer.new) out) }
+            → (out : List ℕ) × ((new : Scene) × LinePlays scene line.now out new × IsAt self.new new)
+            × Appends (W.contents writer.old) (W.contents writer.new) out) }
         ensures bad { result ≡ Err fault.BadStep → (scene : Scene) → IsAt self.old scene → IsBad scene line.now }
         ensures device { result ≡ Err fault.Device → (a : Action) × Says line.now a × IsShow a }
         ensures unwritten { result ≡ Err fault.BadStep → Keeps (W.contents writer.old) (W.contents writer.new) }
@@ -70,8 +71,10 @@ impl Player {
     fn act<W: Write>(&mut self, action: Action, writer: &mut W) -> Result<(), LineFault>
         requires { IsSomewhere self.old }
         ensures ok { OnOk result ((scene : Scene) → IsAt self.old scene
-            → (out : List ℕ) × Performed self.new scene action out × Appends (W.contents writer.old) (W.contents writer.new) out) }
-        ensures bad { result ≡ Err fault.BadStep → (scene : Scene) → IsAt self.old scene → is_allowed scene action ≡ false }
+            → (out : List ℕ) × Performed self.new scene action out
+            × Appends (W.contents writer.old) (W.contents writer.new) out) }
+        ensures bad { result ≡ Err fault.BadStep → (scene : Scene) → IsAt self.old scene
+            → is_allowed scene action ≡ false }
         ensures device { result ≡ Err fault.Device → IsShow action }
         ensures unwritten { result ≡ Err fault.BadStep → Keeps (W.contents writer.old) (W.contents writer.new) }
         ensures memory { result ≡ Err fault.Memory → Keeps (W.contents writer.old) (W.contents writer.new) }
@@ -85,8 +88,10 @@ impl Player {
 
     /// Sets this, before the first open.
     fn set(&mut self, setting: Setting) -> Result<(), LineFault>
-        ensures ok { OnOk result ((scene : Scene) → IsAt self.old scene → Performed self.new scene (action.Set setting) []) }
-        ensures bad { result ≡ Err fault.BadStep → (scene : Scene) → IsAt self.old scene → is_allowed scene (action.Set setting) ≡ false }
+        ensures ok { OnOk result ((scene : Scene) → IsAt self.old scene
+            → Performed self.new scene (action.Set setting) []) }
+        ensures bad { result ≡ Err fault.BadStep → (scene : Scene) → IsAt self.old scene
+            → is_allowed scene (action.Set setting) ≡ false }
         ensures device { result ≡ Err fault.Device → ⊥ }
     {
         if self.hall.is_some() {
@@ -97,8 +102,10 @@ impl Player {
 
     /// Connects a client from this address, which gets the label. The first one opens the hall.
     fn open(&mut self, label: u32, ip: [u8; 4]) -> Result<(), LineFault>
-        ensures ok { OnOk result ((scene : Scene) → IsAt self.old scene → Performed self.new scene (action.Open label ip) []) }
-        ensures bad { result ≡ Err fault.BadStep → (scene : Scene) → IsAt self.old scene → is_allowed scene (action.Open label ip) ≡ false }
+        ensures ok { OnOk result ((scene : Scene) → IsAt self.old scene
+            → Performed self.new scene (action.Open label ip) []) }
+        ensures bad { result ≡ Err fault.BadStep → (scene : Scene) → IsAt self.old scene
+            → is_allowed scene (action.Open label ip) ≡ false }
         ensures device { result ≡ Err fault.Device → ⊥ }
     {
         if self.labels.contains_key(&label) {
@@ -116,8 +123,10 @@ impl Player {
     fn order<W: Write>(&mut self, label: u32, order: Order, writer: &mut W) -> Result<(), LineFault>
         requires { IsSomewhere self.old }
         ensures ok { OnOk result ((scene : Scene) → IsAt self.old scene
-            → (out : List ℕ) × Performed self.new scene (action.Client label order) out × Appends (W.contents writer.old) (W.contents writer.new) out) }
-        ensures bad { result ≡ Err fault.BadStep → (scene : Scene) → IsAt self.old scene → is_allowed scene (action.Client label order) ≡ false }
+            → (out : List ℕ) × Performed self.new scene (action.Client label order) out
+            × Appends (W.contents writer.old) (W.contents writer.new) out) }
+        ensures bad { result ≡ Err fault.BadStep → (scene : Scene) → IsAt self.old scene
+            → is_allowed scene (action.Client label order) ≡ false }
         ensures device { result ≡ Err fault.Device → IsShow (action.Client label order) }
         ensures unwritten { result ≡ Err fault.BadStep → Keeps (W.contents writer.old) (W.contents writer.new) }
         ensures memory { result ≡ Err fault.Memory → Keeps (W.contents writer.old) (W.contents writer.new) }

@@ -27,14 +27,21 @@ pub fn play<R: Read, W: Write>(
     reader: &mut R,
     writer: &mut W,
 ) -> Result<(), PlayFault>
-    ensures ok { OnOk result (IfSome (R.remaining reader.old) (λ script. (out : List ℕ) × OutputOf script out × Appends (W.contents writer.old) (W.contents writer.new) out)) }
+    ensures ok { OnOk result (IfSome (R.remaining reader.old) (λ script.
+        (out : List ℕ) × OutputOf script out × Appends (W.contents writer.old) (W.contents writer.new) out)) }
     ensures bad_step { (line : ℕ) → result ≡ Err (fault.BadStep line) → IfSome (R.remaining reader.old) (λ script.
         (out : List ℕ) × StopsAt script line out × Appends (W.contents writer.old) (W.contents writer.new) out) }
-    ensures too_long { result ≡ Err fault.TooLong → IfSome (R.remaining reader.old) (λ script. SCRIPT_LIMIT < length script) × Keeps (W.contents writer.old) (W.contents writer.new) }
-    ensures memory { result ≡ Err fault.Memory → IfSome (R.remaining reader.old) (λ script. (out : List ℕ) × OutputOfFront script out × Appends (W.contents writer.old) (W.contents writer.new) out) }
+    ensures too_long { result ≡ Err fault.TooLong
+        → IfSome (R.remaining reader.old) (λ script. SCRIPT_LIMIT < length script)
+        × Keeps (W.contents writer.old) (W.contents writer.new) }
+    ensures memory { result ≡ Err fault.Memory
+        → IfSome (R.remaining reader.old) (λ script.
+        (out : List ℕ) × OutputOfFront script out × Appends (W.contents writer.old) (W.contents writer.new) out) }
     ensures fits { OnOk result (IfSome (R.remaining reader.old) (λ script. length script ≤ SCRIPT_LIMIT)) }
-    ensures bad_step_fits { (line : ℕ) → result ≡ Err (fault.BadStep line) → IfSome (R.remaining reader.old) (λ script. length script ≤ SCRIPT_LIMIT) }
-    ensures nothing_of_too_long { IfSome (R.remaining reader.old) (λ script. SCRIPT_LIMIT < length script → Keeps (W.contents writer.old) (W.contents writer.new)) }
+    ensures bad_step_fits { (line : ℕ) → result ≡ Err (fault.BadStep line)
+        → IfSome (R.remaining reader.old) (λ script. length script ≤ SCRIPT_LIMIT) }
+    ensures nothing_of_too_long { IfSome (R.remaining reader.old) (λ script. SCRIPT_LIMIT < length script
+        → Keeps (W.contents writer.old) (W.contents writer.new)) }
 {
     let script = read_script(alloc, reader)?;
     let played = play_script(alloc, script.as_slice(), writer);
@@ -47,9 +54,12 @@ pub fn play<R: Read, W: Write>(
 /// Plays the lines of a script from the empty lobby on, and writes what it shows.
 fn play_script<W: Write>(alloc: Global, script: &[u8], writer: &mut W) -> Result<(), PlayFault>
     requires { length script.now ≤ SCRIPT_LIMIT }
-    ensures ok { OnOk result ((out : List ℕ) × OutputOf script.now out × Appends (W.contents writer.old) (W.contents writer.new) out) }
-    ensures bad_step { (line : ℕ) → result ≡ Err (fault.BadStep line) → (out : List ℕ) × StopsAt script.now line out × Appends (W.contents writer.old) (W.contents writer.new) out }
-    ensures memory { result ≡ Err fault.Memory → (out : List ℕ) × OutputOfFront script.now out × Appends (W.contents writer.old) (W.contents writer.new) out }
+    ensures ok { OnOk result ((out : List ℕ) × OutputOf script.now out
+        × Appends (W.contents writer.old) (W.contents writer.new) out) }
+    ensures bad_step { (line : ℕ) → result ≡ Err (fault.BadStep line)
+        → (out : List ℕ) × StopsAt script.now line out × Appends (W.contents writer.old) (W.contents writer.new) out }
+    ensures memory { result ≡ Err fault.Memory
+        → (out : List ℕ) × OutputOfFront script.now out × Appends (W.contents writer.old) (W.contents writer.new) out }
     ensures too_long { result ≡ Err fault.TooLong → ⊥ }
 {
     let mut player = Player::new(alloc);
@@ -62,9 +72,12 @@ fn play_script<W: Write>(alloc: Global, script: &[u8], writer: &mut W) -> Result
 fn play_lines<W: Write>(player: &mut Player, script: &[u8], writer: &mut W) -> Result<(), PlayFault>
     requires fits { length script.now ≤ SCRIPT_LIMIT }
     requires fresh { IsAt player.old (unopened nothing_set) }
-    ensures ok { OnOk result ((out : List ℕ) × OutputOf script.now out × Appends (W.contents writer.old) (W.contents writer.new) out) }
-    ensures bad_step { (line : ℕ) → result ≡ Err (fault.BadStep line) → (out : List ℕ) × StopsAt script.now line out × Appends (W.contents writer.old) (W.contents writer.new) out }
-    ensures memory { result ≡ Err fault.Memory → (out : List ℕ) × OutputOfFront script.now out × Appends (W.contents writer.old) (W.contents writer.new) out }
+    ensures ok { OnOk result ((out : List ℕ) × OutputOf script.now out
+        × Appends (W.contents writer.old) (W.contents writer.new) out) }
+    ensures bad_step { (line : ℕ) → result ≡ Err (fault.BadStep line)
+        → (out : List ℕ) × StopsAt script.now line out × Appends (W.contents writer.old) (W.contents writer.new) out }
+    ensures memory { result ≡ Err fault.Memory
+        → (out : List ℕ) × OutputOfFront script.now out × Appends (W.contents writer.old) (W.contents writer.new) out }
     ensures too_long { result ≡ Err fault.TooLong → ⊥ }
 {
     let mut number = 0u64;

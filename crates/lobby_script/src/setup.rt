@@ -44,7 +44,8 @@ impl Model for Setup {
 /// The default settings, with these lines of the day and this limit of an outbox.
 fn settings(alloc: Global, motd: &[TextBuf], outbox_limit: usize) -> Result<Settings, SettingsError>
     ensures ok { IfOk result (λ settings. settings ≡ with_defaults motd.now outbox_limit) }
-    ensures bounds { (result ≡ Err refused.OutOfBounds) ↔ (is_configuration (with_defaults motd.now outbox_limit) ≡ false) }
+    ensures bounds { (result ≡ Err refused.OutOfBounds)
+        ↔ (is_configuration (with_defaults motd.now outbox_limit) ≡ false) }
 {
     Settings::new(alloc, b"0.38", b"*", 8201, 0, motd, outbox_limit)
 }
@@ -79,7 +80,8 @@ impl Setup {
 
     /// One more line of the day.
     fn add_line(&mut self, line: TextBuf) -> Result<(), LineFault>
-        ensures ok { OnOk result ((can_be_set self.old (setting.Motd line) ≡ true) × (self.new ≡ with_setting self.old (setting.Motd line))) }
+        ensures ok { OnOk result ((can_be_set self.old (setting.Motd line) ≡ true)
+            × (self.new ≡ with_setting self.old (setting.Motd line))) }
         ensures bad { result ≡ Err fault.BadStep → can_be_set self.old (setting.Motd line) ≡ false }
         ensures device { result ≡ Err fault.Device → ⊥ }
         ensures err { OnErr result (self.new ≡ self.old) }
@@ -96,7 +98,8 @@ impl Setup {
 
     /// The limit of an outbox.
     fn limit(&mut self, bytes: u32) -> Result<(), LineFault>
-        ensures ok { OnOk result ((can_be_set self.old (setting.Limit bytes) ≡ true) × (self.new ≡ with_setting self.old (setting.Limit bytes))) }
+        ensures ok { OnOk result ((can_be_set self.old (setting.Limit bytes) ≡ true)
+            × (self.new ≡ with_setting self.old (setting.Limit bytes))) }
         ensures bad { result ≡ Err fault.BadStep → can_be_set self.old (setting.Limit bytes) ≡ false }
         ensures device { result ≡ Err fault.Device → ⊥ }
         ensures err { OnErr result (self.new ≡ self.old) }
@@ -110,7 +113,8 @@ impl Setup {
     /// A hall with these settings, which the accounts go into: none are left here. Fails only where
     /// memory is refused.
     pub fn open(&mut self) -> Result<Hall, LineFault>
-        ensures ok { IfOk result (λ hall. Stands hall self.old.settings self.old.accounts [] (new_world self.old.settings self.old.accounts)) }
+        ensures ok { IfOk result (λ hall.
+            Stands hall self.old.settings self.old.accounts [] (new_world self.old.settings self.old.accounts)) }
         ensures step { result ≡ Err fault.BadStep → ⊥ }
         ensures device { result ≡ Err fault.Device → ⊥ }
     {

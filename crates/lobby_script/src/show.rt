@@ -24,7 +24,8 @@ pub fn show<W: Write>(
 ) -> Result<usize, LineFault>
     ensures stays { OnOk result (hall.new ≡ hall.old) }
     ensures all { IfOk result (λ put. put ≡ length (log_at hall.old.record_so_far client).put) }
-    ensures writes { OnOk result (Appends (W.contents writer.old) (W.contents writer.new) (labelled label (drop shown (log_at hall.old.record_so_far client).put))) }
+    ensures writes { OnOk result (Appends (W.contents writer.old) (W.contents writer.new)
+        (labelled label (drop shown (log_at hall.old.record_so_far client).put))) }
     ensures memory { result ≡ Err fault.Memory → Keeps (W.contents writer.old) (W.contents writer.new) }
     ensures step { result ≡ Err fault.BadStep → ⊥ }
 {
@@ -48,7 +49,8 @@ fn write_lines<W: Write>(label: u32, bytes: &[u8], writer: &mut W) -> io::Result
 }
 
 fn write_line<W: Write>(name: &[u8], line: &[u8], writer: &mut W) -> io::Result<()>
-    ensures { OnOk result (Appends (W.contents writer.old) (W.contents writer.new) (name.now ++ 62 ∷ 32 ∷ (line.now ++ 10 ∷ []))) }
+    ensures { OnOk result (Appends (W.contents writer.old) (W.contents writer.new) (name.now ++ 62 ∷ 32
+        ∷ (line.now ++ 10 ∷ []))) }
 {
     writer.write_all(name)?;
     writer.write_all(b"> ")?;

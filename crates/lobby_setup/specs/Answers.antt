@@ -16,13 +16,15 @@ use Rattle.lobby_setup.specs.declared.setup.Setup.{Setup}
 -- what a setup holds
 abbrev pub held : Setup → Choices
 held setup =
-    chosen setup.settings (ipv4_octets (v4_ip setup.address), v4_port setup.address) setup.workers setup.stop_at_input_end
+    chosen setup.settings (ipv4_octets (v4_ip setup.address), v4_port setup.address) setup.workers
+    setup.stop_at_input_end
     (listed setup.proxies) setup.log
 
 -- What a file says: what its table says, or that it is no TOML, which one of its lines shows
 abbrev pub Tells : List ℕ → Result Choices Refusal → Type 0
 Tells bytes answer =
-    MatchOption (document bytes) ((line : ℕ) × IsLine bytes line × (answer ≡ Err (NotToml line))) (λ table. Says table answer)
+    MatchOption (document bytes) ((line : ℕ) × IsLine bytes line × (answer ≡ Err (NotToml line))) (λ table.
+    Says table answer)
 
 -- What the reading of a file answers: what the file says, or that memory was refused
 abbrev pub IsAnswer : List ℕ → Result Setup SetupFault → Type 0

@@ -13,13 +13,15 @@ use Rattle.lobby_setup.specs.Levels.{level}
 use Rattle.lobby_setup.specs.Motd.{lines_of, motd_fault}
 use Rattle.lobby_setup.specs.Proxies.{Addresses, SayProxies}
 use Rattle.lobby_setup.specs.Written.{IsWritten}
-use Rattle.lobby_setup.specs.declared.key.Key.TheVariants.{Address, Workers, OutboxLimit, ProtocolVersion, SpringVersion, UdpPort, ServerMode, Motd, StopAtInputEnd, Log}
+use Rattle.lobby_setup.specs.declared.key.Key.TheVariants.{Address, Workers, OutboxLimit, ProtocolVersion}
+use Rattle.lobby_setup.specs.declared.key.Key.TheVariants.{SpringVersion, UdpPort, ServerMode, Motd, StopAtInputEnd}
+use Rattle.lobby_setup.specs.declared.key.Key.TheVariants.{Log}
 use Rattle.lobby_setup.specs.declared.error.Refusal.{Refusal}
 use Rattle.server_log.specs.declared.level.LogLevel.{LogLevel}
 use Rattle.server_log.specs.declared.level.LogLevel.TheVariants.{Important}
 
--- The settings of the lobby, the address and the port at which the server listens, how many workers it has, whether it stops where
--- its input ends, the addresses from which a front connects, and how much operators are told
+-- The settings of the lobby, the address and the port at which the server listens, how many workers it has, whether it
+-- stops where its input ends, the addresses from which a front connects, and how much operators are told
 pub record Choices : Type 0 where
   pub settings : Configuration
   pub ip : List ℕ
@@ -48,8 +50,8 @@ version value = text value >>= (λ word. if is_version word then Ok word else Er
 abbrev pub motd_items : Members → Result Items Refusal
 motd_items table = field Motd list no_items table >>= (λ values. option_map_or Err (motd_fault 1 values) (Ok values))
 
--- What is said at each key, or the first key in this order that is refused. What is said at the first key, `address`, and at
--- `proxies` is given
+-- What is said at each key, or the first key in this order that is refused. What is said at the first key, `address`,
+-- and at `proxies` is given
 abbrev pub choices : Result (List ℕ × ℕ) FieldFault → Addresses → Members → Result Choices Refusal
 choices endpoint proxies table =
     at Address endpoint >>= (λ endpoint.
@@ -69,5 +71,6 @@ choices endpoint proxies table =
 -- What a table says: what its keys say, with what the text at `address` says as an address and a port
 abbrev pub Says : Members → Result Choices Refusal → Type 0
 Says table answer =
-    (endpoint : Result (List ℕ × ℕ) FieldFault) × IsWritten IsSocketAddress (required text (name_of Address) table) endpoint
+    (endpoint : Result (List ℕ × ℕ) FieldFault)
+    × IsWritten IsSocketAddress (required text (name_of Address) table) endpoint
     × ((proxies : Addresses) × SayProxies table proxies × (answer ≡ choices endpoint proxies table))

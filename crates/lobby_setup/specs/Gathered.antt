@@ -11,7 +11,8 @@ use Rattle.lobby_setup.specs.declared.fields.Fields.{Fields}
 abbrev pub gathered : Fields → Choices
 gathered f =
     chosen (configuration f.protocol_version.now f.spring_version.now f.udp_port f.server_mode
-    (lines_of (items_view f.motd.now)) f.outbox_limit) (f.ip, f.port) f.workers f.stop_at_input_end (listed f.proxies) f.log
+    (lines_of (items_view f.motd.now)) f.outbox_limit) (f.ip, f.port) f.workers f.stop_at_input_end (listed f.proxies)
+    f.log
 
 abbrev pub gathered_of : Result Fields Refusal → Result Choices Refusal
 gathered_of (Ok fields) = Ok (gathered fields)

@@ -1,7 +1,9 @@
 -- How the keys of a file of settings are written.
 use Rattle.std.specs.Prelude.{ℕ, List, codes}
 use Rattle.lobby_setup.specs.declared.key.Key.{Key}
-use Rattle.lobby_setup.specs.declared.key.Key.TheVariants.{Address, Workers, OutboxLimit, ProtocolVersion, SpringVersion, UdpPort, ServerMode, Motd, StopAtInputEnd, Proxies, Log}
+use Rattle.lobby_setup.specs.declared.key.Key.TheVariants.{Address, Workers, OutboxLimit, ProtocolVersion}
+use Rattle.lobby_setup.specs.declared.key.Key.TheVariants.{SpringVersion, UdpPort, ServerMode, Motd, StopAtInputEnd}
+use Rattle.lobby_setup.specs.declared.key.Key.TheVariants.{Proxies, Log}
 
 abbrev pub name_of : Key → List ℕ
 name_of Address = codes "address"

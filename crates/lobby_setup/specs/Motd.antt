@@ -8,7 +8,8 @@ use Rattle.lobby_model.specs.Configuration.{is_motd_line}
 use Rattle.lobby_setup.specs.declared.error.Refusal.{Refusal}
 use Rattle.lobby_setup.specs.declared.error.Refusal.TheVariants.{MotdLine}
 
--- Why a value cannot be the line at a place, counted from 1: it is no text, or the text is none of a line, or there are 100 before it
+-- Why a value cannot be the line at a place, counted from 1: it is no text, or the text is none of a line, or there are
+-- 100 before it
 abbrev pub line_fault : ℕ → Data → Option FieldFault
 line_fault place value =
     option_map_or (λ line. if nat_le place 100 && is_motd_line line then None else Some NotAllowed)

@@ -23,7 +23,8 @@ Addresses = Result (List (List ℕ)) Refusal
 abbrev pub with_first : List ℕ → Addresses → Addresses
 with_first ip said = said >>= (λ ips. Ok (ip ∷ ips))
 
--- What some values, of which the first has this place, say: the addresses that they write, or the first value that is refused
+-- What some values, of which the first has this place, say: the addresses that they write, or the first value that is
+-- refused
 abbrev pub AreProxies : ℕ → Items → Addresses → Type 0
 AreProxies place no_items said = said ≡ Ok []
 AreProxies place (item value values) said =
@@ -34,7 +35,8 @@ AreProxies place (item value values) said =
 -- What a table says: what the values of its list say, if it has one
 abbrev pub SayProxies : Members → Addresses → Type 0
 SayProxies table said =
-    MatchResult (field key.Proxies list no_items table) (λ values. AreProxies 1 values said) (λ refusal. said ≡ Err refusal)
+    MatchResult (field key.Proxies list no_items table) (λ values. AreProxies 1 values said) (λ refusal.
+    said ≡ Err refusal)
 
 -- what the code answers, as the addresses of the set
 abbrev pub all_listed : Result set.Proxies Refusal → Addresses

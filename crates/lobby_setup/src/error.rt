@@ -7,8 +7,8 @@ use toml_fields::{DocumentError, FieldFault};
 /// What is wrong in a file of settings, and where.
 #[derive(Clone, Copy, PartialEq, Eq, Debug, Error)]
 pub enum Refusal {
-    /// The file is not TOML, or not UTF-8. The line, counted from 1, is the one where the reading stopped; promised of it
-    /// is that it is a line of the file.
+    /// The file is not TOML, or not UTF-8. The line, counted from 1, is the one where the reading stopped; promised of
+    /// it is that it is a line of the file.
     #[error("line {line} is not TOML")]
     NotToml { line: usize },
     /// A key is missing, or its value is of another kind or not allowed: the first such key in the order of [`Key`].

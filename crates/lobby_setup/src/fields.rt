@@ -111,7 +111,8 @@ fn flag_field(table: &Table, key: Key) -> Result<bool, Refusal>
     }
 }
 
-/// What the keys of a table say, with what was read at `address` and at `proxies`, or the first of them that is refused.
+/// What the keys of a table say, with what was read at `address` and at `proxies`, or the first of them that is
+/// refused.
 pub fn fields_of(
     endpoint: Result<([u8; 4], u16), FieldFault>,
     proxies: Result<Proxies, Refusal>,

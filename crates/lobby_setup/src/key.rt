@@ -12,8 +12,8 @@ pub enum Key {
     Workers,
     /// `outbox_limit`: the most bytes that may wait unread for a client, 65536 to 67108864; 4194304 if left out.
     OutboxLimit,
-    /// `protocol_version`: the version of the protocol that a client is greeted with, a text of 1 to 32 bytes from `!` to `~`; `0.38`
-    /// if left out.
+    /// `protocol_version`: the version of the protocol that a client is greeted with, a text of 1 to 32 bytes from `!`
+    /// to `~`; `0.38` if left out.
     ProtocolVersion,
     /// `spring_version`: the version of the engine that a client is greeted with, such a text too; `*` if left out.
     SpringVersion,
@@ -21,13 +21,13 @@ pub enum Key {
     UdpPort,
     /// `server_mode`: the mode that a client is greeted with, 0 or 1; 0 if left out.
     ServerMode,
-    /// `motd`: the lines that a client is sent when it logs in, at most 100 texts of at most 1000 bytes without CR and LF; none if left
-    /// out.
+    /// `motd`: the lines that a client is sent when it logs in, at most 100 texts of at most 1000 bytes without CR and
+    /// LF; none if left out.
     Motd,
     /// `stop_at_input_end`: whether the server stops where its standard input ends; false if left out.
     StopAtInputEnd,
-    /// `proxies`: the addresses from which a front connects, so that a connection begins with its line; at most 64 texts of an IPv4
-    /// address each; none if left out.
+    /// `proxies`: the addresses from which a front connects, so that a connection begins with its line; at most 64
+    /// texts of an IPv4 address each; none if left out.
     Proxies,
     /// `log`: how much operators are told on standard error, `none`, `important` or `all`; `important` if left out.
     Log,

@@ -38,10 +38,10 @@ pub struct Setup {
 impl Setup {
     /// What a file of settings sets the server up to.
     ///
-    /// `Unusable` where the file is not TOML or not UTF-8, else with the first key that is refused, in the
-    /// order of [`crate::Key`]: it is missing though it has to be there, or its value is of another kind or not
-    /// allowed. In a message of the day it is the first line that is refused, and of fronts the first address. `Memory` where it was refused for
-    /// the file, or, once no key is refused, for the settings.
+    /// `Unusable` where the file is not TOML or not UTF-8, else with the first key that is refused, in the order of
+    /// [`crate::Key`]: it is missing though it has to be there, or its value is of another kind or not allowed. In a
+    /// message of the day it is the first line that is refused, and of fronts the first address. `Memory` where it was
+    /// refused for the file, or, once no key is refused, for the settings.
     pub fn read(alloc: Global, bytes: &[u8]) -> Result<Setup, SetupFault>
         ensures answer { IsAnswer bytes.now result }
         ensures workers { IfOk result (λ setup. (1 ≤ setup.workers) × (setup.workers ≤ 64)) }

@@ -31,18 +31,23 @@ user_row n e = record {
 -- a battle by its number
 abbrev pub battle_shown : ℕ × Listed → List ℕ
 battle_shown e =
-    e.1.info.founder ++ e.1.info.ip ++ e.1.info.engine_name ++ e.1.info.engine_version ++ e.1.info.map ++ e.1.info.title ++ e.1.info.game_name
+    e.1.info.founder ++ e.1.info.ip ++ e.1.info.engine_name ++ e.1.info.engine_version ++ e.1.info.map
+    ++ e.1.info.title ++ e.1.info.game_name
 
 abbrev pub battle_row : ℕ → ℕ × Listed → BattleRow
 battle_row n e = record {
   founder = place n e.1.info.founder;
   ip = place (n + length e.1.info.founder) e.1.info.ip;
   engine_name = place (n + length e.1.info.founder + length e.1.info.ip) e.1.info.engine_name;
-  engine_version = place (n + length e.1.info.founder + length e.1.info.ip + length e.1.info.engine_name) e.1.info.engine_version;
-  map = place (n + length e.1.info.founder + length e.1.info.ip + length e.1.info.engine_name + length e.1.info.engine_version) e.1.info.map;
-  title = place (n + length e.1.info.founder + length e.1.info.ip + length e.1.info.engine_name + length e.1.info.engine_version
+  engine_version = place (n + length e.1.info.founder + length e.1.info.ip
+      + length e.1.info.engine_name) e.1.info.engine_version;
+  map = place (n + length e.1.info.founder + length e.1.info.ip + length e.1.info.engine_name
+      + length e.1.info.engine_version) e.1.info.map;
+  title = place (n + length e.1.info.founder + length e.1.info.ip + length e.1.info.engine_name
+      + length e.1.info.engine_version
       + length e.1.info.map) e.1.info.title;
-  game_name = place (n + length e.1.info.founder + length e.1.info.ip + length e.1.info.engine_name + length e.1.info.engine_version
+  game_name = place (n + length e.1.info.founder + length e.1.info.ip + length e.1.info.engine_name
+      + length e.1.info.engine_version
       + length e.1.info.map + length e.1.info.title) e.1.info.game_name;
   rank = e.1.info.rank;
   map_hash = e.1.info.map_hash;

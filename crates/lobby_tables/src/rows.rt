@@ -1,7 +1,8 @@
 //! The rows of each table.
 
 ghost use Rattle.std.specs.Prelude.{◌≡◌, ◌++◌, ℕ, List, IfOk, OnOk, length};
-ghost use Rattle.lobby_tables.specs.Rows.{user_row, user_shown, battle_row, battle_shown, member_row, member_shown, bot_row, bot_shown, tag_row, tag_shown, rect_row};
+ghost use Rattle.lobby_tables.specs.Rows.{user_row, user_shown, battle_row, battle_shown, member_row, member_shown};
+ghost use Rattle.lobby_tables.specs.Rows.{bot_row, bot_shown, tag_row, tag_shown, rect_row};
 
 use lent_tables::{Listed, Place, put_text};
 use line_words::{NameBuf, Pair};

@@ -23,7 +23,7 @@ fn piece(alloc: Global, bytes: &[u8]) -> Result<Piece, AllocError> {
     Vec::from_slice(alloc, bytes).map(Piece::of)
 }
 
-// The record of these steps, to which nobody may log in.
+/// The record of these steps, to which nobody may log in.
 fn record_of(alloc: Global, steps: &[Step]) -> Result<Record, Fail>
     requires { AllByRecursion HasHome steps.now }
 {
@@ -78,7 +78,7 @@ fn new_hall(alloc: Global) -> Result<Hall, Fail> {
     Ok(Hall::new(alloc, settings, AccountBook::new(alloc))?)
 }
 
-// A client connects, says PING, and is answered.
+/// A client connects, says PING, and is answered.
 fn serve_ping(hall: &mut Hall, alloc: Global) -> Result<(), HallError> {
     hall.step(&Step::Open {
         ip: [192, 168, 0, 1],
@@ -89,7 +89,7 @@ fn serve_ping(hall: &mut Hall, alloc: Global) -> Result<(), HallError> {
     hall.step(&Step::Take { client: 1 })
 }
 
-// The record is asked for twice: what the first call caught up stays.
+/// The record is asked for twice: what the first call caught up stays.
 fn read_on(rt: &impl Abort, hall: &mut Hall) -> Result<(), HallError> {
     let step = Step::Read {
         client: 1,
@@ -136,7 +136,7 @@ fn ping(hall: &mut Hall, alloc: Global, client: u64) -> Result<(), HallError> {
     hall.step(&Step::Take { client })
 }
 
-// The first client is closed before it reads, and the second reads in between.
+/// The first client is closed before it reads, and the second reads in between.
 fn serve_workers(hall: &mut Hall, alloc: Global) -> Result<(), HallError> {
     open_at(hall, 63)?;
     open_at(hall, 5)?;
@@ -167,7 +167,7 @@ fn clients_of_several_workers_leave_their_records(rt: HostRuntime) -> Result<(),
     Ok(())
 }
 
-// What a client asks next: nothing, a request with this id, or to be disconnected.
+/// What a client asks next: nothing, a request with this id, or to be disconnected.
 #[derive(Clone, Copy, PartialEq, Eq, Debug)]
 enum Asked {
     Nothing,

@@ -118,7 +118,8 @@ fn interrupted_and_failed_reads(rt: HostRuntime) {
 /// In so many writes a line is shown: the client's number, what parts it from the line, the line, and its end.
 const PARTS: usize = 4;
 
-/// Whether the script is played to its end where so many writes are taken and flushes are or are not, and fails for its device else.
+/// Whether the script is played to its end where so many writes are taken and flushes are or are not, and fails for its
+/// device else.
 fn writes_so(alloc: Global, writes: usize, flushes: bool) -> bool {
     let mut reader = SCRIPT;
     let mut writer = Full { writes, flushes };

@@ -1,4 +1,5 @@
-//! Workers at one desk, and a connection's turns over links in memory: what a client that is served reads, and how its turns end.
+//! Workers at one desk, and a connection's turns over links in memory: what a client that is served reads, and how its
+//! turns end.
 
 mod alone;
 mod desk;

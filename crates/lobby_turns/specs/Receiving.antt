@@ -18,8 +18,8 @@ use Rattle.lobby_holds.specs.Talk.{AreTalk}
 use Rattle.lobby_holds.specs.Went.{Went}
 use Rattle.lobby_holds.specs.Holds.{AreSaid, IsWithin, HasNoSpoiltNext, HasLoudNext, StopsAt}
 
--- So many reads were made, of so many bytes in all and 16,384 at most, and no write, and each failed at most once. Without a read its
--- last answer is as it was. What is to be written is as it was
+-- So many reads were made, of so many bytes in all and 16,384 at most, and no write, and each failed at most once.
+-- Without a read its last answer is as it was. What is to be written is as it was
 pub record OnlyReads (old new : Snapshot) (reads bytes : ℕ) : Type 0 where
   pub reads_are : new.wire.reads ≡ old.wire.reads + reads
   pub bytes_are : ReadsBytes old.wire new.wire bytes
@@ -29,18 +29,20 @@ pub record OnlyReads (old new : Snapshot) (reads bytes : ℕ) : Type 0 where
   pub still : reads ≡ 0 → new.wire.last_got ≡ old.wire.last_got
   pub unwritten : new.conn.unwritten ≡ old.conn.unwritten
 
--- All that was read was fed, and no line of it is left; and the link has nothing more, ever, or said just now that it has nothing yet
+-- All that was read was fed, and no line of it is left; and the link has nothing more, ever, or said just now that it
+-- has nothing yet
 pub record IsAllReceived (old new : Snapshot) : Type 0 where
   pub fed : new.conn.unfed ≡ []
   pub nothing : IsNextOf (Some new.conn.session) Nothing
-  pub last : (new.wire.last_got ≡ Some got.End) ⊎ ((new.wire.last_got ≡ Some got.Later) × (old.wire.reads < new.wire.reads))
+  pub last : (new.wire.last_got ≡ Some got.End)
+      ⊎ ((new.wire.last_got ≡ Some got.Later) × (old.wire.reads < new.wire.reads))
 
 -- the stream is spoilt at this place, or the link failed
 abbrev pub IsOver : Snapshot → Type 0
 IsOver new = IsNextOf (Some new.conn.session) Spoilt ⊎ (new.wire.last_got ≡ Some got.Fault)
 
--- All that was read was fed, and nothing of it is next; and the link neither has ended nor failed, and did not say just now that it has
--- nothing yet
+-- All that was read was fed, and nothing of it is next; and the link neither has ended nor failed, and did not say just
+-- now that it has nothing yet
 pub record MayHaveMore (old new : Snapshot) : Type 0 where
   pub fed : new.conn.unfed ≡ []
   pub nothing : IsNextOf (Some new.conn.session) Nothing
@@ -56,7 +58,8 @@ NoReadFailed old new = old.wire.reads < new.wire.reads → new.wire.last_got ≢
 abbrev pub ToldEnough : ℕ → Snapshot → Type 0
 ToldEnough left new = (left ≡ 0) × HasLoudNext new.conn.session
 
--- 64 lines were said to the lobby, or 16 reads were made, or 65,536 bytes were read, in four reads at least, or it told enough
+-- 64 lines were said to the lobby, or 16 reads were made, or 65,536 bytes were read, in four reads at least, or it told
+-- enough
 pub data IsMost (old new : Snapshot) (left : ℕ) (talk : List Moment) : Type 0 where
   most_lines : length (requests talk) ≡ 64 → IsMost old new left talk
   most_reads : new.wire.reads ≡ old.wire.reads + 16 → IsMost old new left talk
@@ -69,8 +72,8 @@ pub record ReceivesMost (old new : Snapshot) (left : ℕ) (talk : List Moment) :
   pub fed : new.conn.unfed ≡ []
   pub unspoilt : HasNoSpoiltNext new.conn.session
 
--- Receiving from a client takes memory where bytes are to be fed and no spoilt place is next, where a line is next, and where the link
--- may have more
+-- Receiving from a client takes memory where bytes are to be fed and no spoilt place is next, where a line is next, and
+-- where the link may have more
 pub data HasToReceive (old new : Snapshot) : Type 0 where
   has_bytes : new.conn.unfed ≢ [] → HasNoSpoiltNext new.conn.session → HasToReceive old new
   has_line : HasLineNext new.conn.session → HasToReceive old new
@@ -82,9 +85,9 @@ pub record MayRead (old new : Snapshot) : Type 0 where
   pub on : old.wire.last_got ≢ Some got.End
   pub sound : old.wire.last_got ≢ Some got.Fault
 
--- a step that said lines said as many as were left at most, in one hold, and stopped before for want of a line, of memory or of place in
--- the hold alone, or where nothing was left of what it might tell; and there alone a line was put off. A read gave as many bytes as were
--- left at most
+-- a step that said lines said as many as were left at most, in one hold, and stopped before for want of a line, of
+-- memory or of place in the hold alone, or where nothing was left of what it might tell; and there alone a line was put
+-- off. A read gave as many bytes as were left at most
 abbrev pub StaysWithin : Left → Serving → Step → Type 0
 StaysWithin left session (step.Said said) = IsWithin left.lines said × StopsAt left.lines left.told session said
 StaysWithin left session step.Enough = left.told ≡ 0
@@ -120,7 +123,8 @@ pub record ReceivesNext (old new : Snapshot) (step : Step) : Type 0 where
   pub only : OnlyReads old new reads (bytes_of step)
   pub step_is : StepIs old new talk reads step
 
--- how far a turn received that came to a limit: on to the next turn, or to a spoilt place, or until memory was refused to what was read
+-- how far a turn received that came to a limit: on to the next turn, or to a spoilt place, or until memory was refused
+-- to what was read
 abbrev pub LimitIs : Carried → ReceiveState → Type 0
 LimitIs conn receive.All = ⊥
 LimitIs conn receive.Again = (conn.unfed ≡ []) × HasNoSpoiltNext conn.session

@@ -18,8 +18,8 @@ pub record MaySend (wire : Wire) (writes : ℕ) : Type 0 where
   pub writes_place : wire.writes + writes ≤ 2 ^ 64 - 1
   pub failures_place : wire.failures + writes ≤ 2 ^ 64 - 1
 
--- So many writes were made and no read, and each failed at most once. Without a write its last answer is as it was. What was received
--- is as it was
+-- So many writes were made and no read, and each failed at most once. Without a write its last answer is as it was.
+-- What was received is as it was
 pub record OnlyWrites (old new : Snapshot) (writes : ℕ) : Type 0 where
   pub writes_are : new.wire.writes ≡ old.wire.writes + writes
   pub reads : new.wire.reads ≡ old.wire.reads
@@ -94,8 +94,8 @@ pub record Writes (old new : Snapshot) (most : ℕ) : Type 0 where
   pub only : OnlyWrites old new writes
   pub out : IsWrittenOut old new most
 
--- Where drained bytes wait to be written, it first asks once with an empty slice whether nothing will ever come of the client; where none
--- wait, it never does
+-- Where drained bytes wait to be written, it first asks once with an empty slice whether nothing will ever come of the
+-- client; where none wait, it never does
 pub record AsksFirst (old : Snapshot) (talk : List Moment) : Type 0 where
   pub waiting : old.conn.unwritten ≢ [] → BeginsWith old.conn.session.client 0 talk
   pub written : old.conn.unwritten ≡ [] → questions talk ≡ []

@@ -1,5 +1,6 @@
 -- What a turn did.
-use Rattle.std.specs.Prelude.{◌≡◌, ◌≢◌, ◌⊎◌, ℕ, ◌+◌, ◌-◌, ◌*◌, ◌≤◌, true, false, ◌||◌, List, [], ◌∷◌, ◌++◌, length, Some}
+use Rattle.std.specs.Prelude.{◌≡◌, ◌≢◌, ◌⊎◌, ℕ, ◌+◌, ◌-◌, ◌*◌, ◌≤◌, true, false, ◌||◌, List, [], ◌∷◌, ◌++◌, length}
+use Rattle.std.specs.Prelude.{Some}
 use Rattle.lobby_model.specs.declared.event.Event.TheVariants as event
 use Rattle.lobby_model.specs.State.{State}
 use Rattle.lobby_model.specs.Touched.{touches}
@@ -26,15 +27,17 @@ pub record HasEnded (at : Snapshot) : Type 0 where
   pub nothing : IsNextOf (Some at.conn.session) Nothing
   pub last : at.wire.last_got ≡ Some got.End
 
--- no drain of the turn said that nothing will ever come of its client, no spoilt place is next, and no call of its link failed
+-- no drain of the turn said that nothing will ever come of its client, no spoilt place is next, and no call of its link
+-- failed
 pub record GoesOn (old new : Snapshot) (talk : List Moment) : Type 0 where
   pub calm : told_end talk ≡ false
   pub unspoilt : HasNoSpoiltNext new.conn.session
   pub read : NoReadFailed old new
   pub written : NoWriteFailed old new
 
--- A client is shut where the lobby said that nothing will ever come of it, and what was drained for it is written out; where the lobby
--- did not, its stream is spoilt at this place, or its link failed, or it has ended and has been sent everything
+-- A client is shut where the lobby said that nothing will ever come of it, and what was drained for it is written out;
+-- where the lobby did not, its stream is spoilt at this place, or its link failed, or it has ended and has been sent
+-- everything
 pub data MayShut (old at : Snapshot) (talk : List Moment) : Type 0 where
   finished : told_end talk ≡ true → IsWrittenOut old at 16 → MayShut old at talk
   spoilt : told_end talk ≡ false → IsNextOf (Some at.conn.session) Spoilt → MayShut old at talk
@@ -53,19 +56,20 @@ pub data HasSent (old new : Snapshot) (talk : List Moment) : Type 0 where
   put_off : MustWait old new → HasSent old new talk
   sent_most : SendsMost old new → HasSent old new talk
 
--- Nothing more can be done now: all that came was said to the lobby, and the link has no more, or said so in this turn; and the turn's
--- last write was taken in no part, or the client has been sent everything and may still say more
+-- Nothing more can be done now: all that came was said to the lobby, and the link has no more, or said so in this turn;
+-- and the turn's last write was taken in no part, or the client has been sent everything and may still say more
 pub record IsIdle (old new : Snapshot) (talk : List Moment) : Type 0 where
   pub received : IsAllReceived old new
   pub sent : MustWait old new ⊎ (IsAllSent new talk × (new.wire.last_got ≢ Some got.End))
 
--- a turn came to a limit of receiving, and then sent as far as it could; or it received all, and came to the limit of sending
+-- a turn came to a limit of receiving, and then sent as far as it could; or it received all, and came to the limit of
+-- sending
 pub data IsAtLimit (old new : Snapshot) (left : ℕ) (talk : List Moment) : Type 0 where
   of_receiving : ReceivesMost old new left talk → HasSent old new talk → IsAtLimit old new left talk
   of_sending : IsAllReceived old new → SendsMost old new → IsAtLimit old new left talk
 
--- Memory was refused to the half of a turn that receives, or to a piece that was to be drained; the other half went as far as it could,
--- or was refused memory too
+-- Memory was refused to the half of a turn that receives, or to a piece that was to be drained; the other half went as
+-- far as it could, or was refused memory too
 pub data IsShort (old new : Snapshot) (left : ℕ) (talk : List Moment) : Type 0 where
   to_receive : HasToReceive old new → HasSent old new talk ⊎ (new.conn.unwritten ≡ []) → IsShort old new left talk
   to_drain : HasReceived old new left talk → new.conn.unwritten ≡ [] → IsShort old new left talk
@@ -79,17 +83,19 @@ pub data TakesMemory (old new : Snapshot) (left : ℕ) (talk : List Moment) : Ty
 abbrev pub Ends : Snapshot → Snapshot → ℕ → List Moment → List Moment → TurnState → Type 0
 Ends old new left talk end state.Idle = (end ≡ []) × GoesOn old new talk × IsIdle old new talk
 Ends old new left talk end state.Again = (end ≡ []) × GoesOn old new talk × IsAtLimit old new left talk
-Ends old new left talk end state.Closed = (met : State) × (end ≡ moment met (event.Shut new.conn.session.client) ∷ []) × MayShut old new talk
+Ends old new left talk end state.Closed = (met : State) × (end ≡ moment met (event.Shut new.conn.session.client) ∷ [])
+    × MayShut old new talk
 Ends old new left talk end state.Memory = (end ≡ []) × TakesMemory old new left talk
 
 -- behind all that was said, client c was drained into an empty slice, which tells whether nothing will ever come of it
 abbrev pub IsAsked : ℕ → List Moment → Type 0
 IsAsked c talk =
-    (said : List Moment) × (met : State) × (drains : List Moment) × (talk ≡ said ++ moment met (event.Drain c 0) ∷ drains) × AreDrains c drains
+    (said : List Moment) × (met : State) × (drains : List Moment)
+    × (talk ≡ said ++ moment met (event.Drain c 0) ∷ drains) × AreDrains c drains
 
--- A turn: the client's next lines were said to the lobby and bytes were drained for it, and then it ended. Where drained bytes waited to
--- be written, and only there, the lobby was asked once whether the client is finished. The woken workers are those whose clients its
--- events touched. It may tell so many pieces before it puts a line off
+-- A turn: the client's next lines were said to the lobby and bytes were drained for it, and then it ended. Where
+-- drained bytes waited to be written, and only there, the lobby was asked once whether the client is finished. The
+-- woken workers are those whose clients its events touched. It may tell so many pieces before it puts a line off
 pub record Turned (old new : Snapshot) (allowance : ℕ) (turn : Turn) : Type 0 where
   pub talk : List Moment
   pub end : List Moment
@@ -108,8 +114,8 @@ pub record Turned (old new : Snapshot) (allowance : ℕ) (turn : Turn) : Type 0 
   pub writes : new.wire.writes ≤ old.wire.writes + 16
   pub wakes_are : (home : ℕ) → has_home turn.wakes home ≡ touched (talk ++ end) home
 
--- the client was shut, or memory was refused and nothing was done; the workers are woken that were to be woken before, and those that
--- the shut touched
+-- the client was shut, or memory was refused and nothing was done; the workers are woken that were to be woken before,
+-- and those that the shut touched
 abbrev pub ClosesTo : Snapshot → Snapshot → ℕ → ℕ → TurnState → Type 0
 ClosesTo old new wakes more state.Closed =
     (met : State) × Went old new (moment met (event.Shut old.conn.session.client) ∷ [])

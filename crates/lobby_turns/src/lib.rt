@@ -1,5 +1,5 @@
-//! A connection's turn: what comes over a client's link is fed to its session, whole lines become events of the lobby, and what
-//! the lobby has for the client is written.
+//! A connection's turn: what comes over a client's link is fed to its session, whole lines become events of the lobby,
+//! and what the lobby has for the client is written.
 //!
 //! A worker serves a connection in turns ([`serve`]). A turn receives from the client (`receiving`) and then
 //! sends to it (`sending`). A hold says up to 32 lines, or drains up to four pieces (`lobby_holds`). It works over any

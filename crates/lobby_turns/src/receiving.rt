@@ -1,5 +1,5 @@
-//! The half of a turn that receives from the client: what its link gives is fed to its session, whole lines are said to the lobby,
-//! and where none is left, the link is read.
+//! The half of a turn that receives from the client: what its link gives is fed to its session, whole lines are said to
+//! the lobby, and where none is left, the link is read.
 
 ghost use Rattle.std.specs.Prelude.{◌≡◌, ℕ, ◌-◌, ◌≤◌, ◌||◌, [], Some};
 ghost use Rattle.lobby_lock.specs.Passes.{ShownPass};
@@ -18,15 +18,15 @@ use lobby_lock::Pass;
 use lobby_machine::Wakes;
 use std::sync::Wait;
 
-/// The most lines that a turn says to the lobby, so that a client that sends without end does not keep its worker from the others.
-/// They are said in two holds of 32.
+/// The most lines that a turn says to the lobby, so that a client that sends without end does not keep its worker from
+/// the others. They are said in two holds of 32.
 const LINES: usize = 64;
 
 /// The most reads of a turn, so that a client that sends little at a time does not keep its worker either.
 const READS: usize = 16;
 
-/// The most bytes that a turn reads, in however few reads. So it meets two limits at once where the lines are of 1 KiB, and
-/// a client whose lines are longer keeps its worker no longer than one that sends many.
+/// The most bytes that a turn reads, in however few reads. So it meets two limits at once where the lines are of 1 KiB,
+/// and a client whose lines are longer keeps its worker no longer than one that sends many.
 const BYTES: usize = 65_536;
 
 /// What a turn may still do.
@@ -97,7 +97,8 @@ fn receive_link<L: Link>(conn: &mut Conn, link: &mut L, pass: Pass, most: usize)
     requires some { 1 ≤ most }
     requires wire { MayGoOn (L.wire link.old) }
     requires next { IsNextOf (Some conn.old.session) Nothing }
-    ensures received { ReceivesNext (snapshot conn.old (L.wire link.old) pass) (snapshot conn.new (L.wire link.new) result.0) result.1 }
+    ensures received { ReceivesNext (snapshot conn.old (L.wire link.old) pass)
+        (snapshot conn.new (L.wire link.new) result.0) result.1 }
     ensures within { (left : Left) → left.bytes ≡ most → StaysWithin left conn.new.session result.1 }
 {
     match link.last_got() {
@@ -114,8 +115,8 @@ fn receive_link<L: Link>(conn: &mut Conn, link: &mut L, pass: Pass, most: usize)
     }
 }
 
-/// Feeds what was read, and then says the next lines to the lobby, as many as are left, as long as they tell less than is
-/// left; where no line is next, reads the link.
+/// Feeds what was read, and then says the next lines to the lobby, as many as are left, as long as they tell less than
+/// is left; where no line is next, reads the link.
 fn receive_next<R: Wait, L: Link, G: Gate>(
     rt: &R,
     conn: &mut Conn,
@@ -127,7 +128,8 @@ fn receive_next<R: Wait, L: Link, G: Gate>(
     requires desk { pass.desk ≡ desk.now.desk.now }
     requires wire { MayGoOn (L.wire link.old) }
     requires some { (1 ≤ left.lines) × (1 ≤ left.bytes) }
-    ensures received { ReceivesNext (snapshot conn.old (L.wire link.old) pass) (snapshot conn.new (L.wire link.new) result.0) result.1 }
+    ensures received { ReceivesNext (snapshot conn.old (L.wire link.old) pass)
+        (snapshot conn.new (L.wire link.new) result.0) result.1 }
     ensures within { StaysWithin left conn.new.session result.1 }
 {
     match conn.feed() {
@@ -151,7 +153,8 @@ fn receive_next<R: Wait, L: Link, G: Gate>(
 
 /// Feeds what was read last before a limit, and looks whether a spoilt place is next: its client is shut in this turn.
 fn stop_at_limit(conn: &mut Conn) -> ReceiveState
-    ensures went { (wire : Wire) (pass : ShownPass) → Went (snapshot conn.old wire pass) (snapshot conn.new wire pass) [] }
+    ensures went { (wire : Wire) (pass : ShownPass)
+        → Went (snapshot conn.old wire pass) (snapshot conn.new wire pass) [] }
     ensures unwritten { conn.new.unwritten ≡ conn.old.unwritten }
     ensures limit { LimitIs conn.new result }
 {
@@ -176,7 +179,8 @@ pub(crate) fn receive<R: Wait, L: Link, G: Gate>(
 ) -> (Pass, ReceiveState, Received)
     requires desk { pass.desk ≡ desk.now.desk.now }
     requires fresh { IsFresh (L.wire link.old) }
-    ensures { Receives (snapshot conn.old (L.wire link.old) pass) (snapshot conn.new (L.wire link.new) result.0) (allowance - result.2.told) result.1 result.2.wakes }
+    ensures { Receives (snapshot conn.old (L.wire link.old) pass) (snapshot conn.new (L.wire link.new) result.0)
+        (allowance - result.2.told) result.1 result.2.wakes }
 {
     let mut pass = pass;
     let mut all = Received {

@@ -13,8 +13,9 @@ use lobby_holds::{Conn, Gate, GatedDesk, Link, Sent, holds};
 use lobby_lock::Pass;
 use std::sync::Wait;
 
-/// The most writes of a turn, so that a client that reads as fast as it is sent to does not keep its worker from the others. A write
-/// carries up to 16 KiB, so a turn sends up to 256 KiB: all that one who logs in among thousands is told.
+/// The most writes of a turn, so that a client that reads as fast as it is sent to does not keep its worker from the
+/// others. A write carries up to 16 KiB, so a turn sends up to 256 KiB: all that one who logs in among thousands is
+/// told.
 const WRITES: usize = 16;
 
 /// How far a turn sent to its client.
@@ -55,7 +56,8 @@ pub(crate) enum Step {
 fn write_rest<L: Link, G: Gate>(conn: &mut Conn, link: &mut L, gate: &G, worker: u8) -> Sent
     requires wire { MayGoOn (L.wire link.old) }
     requires rest { conn.old.unwritten ≢ [] }
-    ensures went { (pass : ShownPass) → Went (snapshot conn.old (L.wire link.old) pass) (snapshot conn.new (L.wire link.new) pass) [] }
+    ensures went { (pass : ShownPass) → Went (snapshot conn.old (L.wire link.old) pass)
+        (snapshot conn.new (L.wire link.new) pass) [] }
     ensures session { conn.new.session ≡ conn.old.session }
     ensures unfed { conn.new.unfed ≡ conn.old.unfed }
     ensures reads { (L.wire link.new).reads ≡ (L.wire link.old).reads }
@@ -85,7 +87,9 @@ fn send_link<L: Link, G: Gate>(
 ) -> (Pass, Step)
     requires wire { MayGoOn (L.wire link.old) }
     requires rest { conn.old.unwritten ≢ [] }
-    ensures { (before : Snapshot) → Drains before (snapshot conn.old (L.wire link.old) pass) false dry → OnlyWrites before (snapshot conn.old (L.wire link.old) pass) 0 → SendsNext before (snapshot conn.new (L.wire link.new) result.0) result.1 }
+    ensures { (before : Snapshot) → Drains before (snapshot conn.old (L.wire link.old) pass) false dry
+        → OnlyWrites before (snapshot conn.old (L.wire link.old) pass) 0
+        → SendsNext before (snapshot conn.new (L.wire link.new) result.0) result.1 }
 {
     match write_rest(conn, link, gate, pass.number()) {
         Sent::Took(_) => {
@@ -109,7 +113,8 @@ fn send_next<R: Wait, L: Link, G: Gate>(
 ) -> (Pass, Step)
     requires desk { pass.desk ≡ desk.now.desk.now }
     requires wire { MayGoOn (L.wire link.old) }
-    ensures { SendsNext (snapshot conn.old (L.wire link.old) pass) (snapshot conn.new (L.wire link.new) result.0) result.1 }
+    ensures { SendsNext (snapshot conn.old (L.wire link.old) pass) (snapshot conn.new (L.wire link.new) result.0)
+        result.1 }
 {
     if !conn.is_written() {
         return send_link(conn, link, pass, desk.gate, false);
@@ -133,7 +138,8 @@ fn send_next<R: Wait, L: Link, G: Gate>(
 fn write_out<L: Link, G: Gate>(conn: &mut Conn, link: &mut L, pass: &Pass, gate: &G, most: usize)
     requires few { most ≤ 16 }
     requires wire { MaySend (L.wire link.old) most }
-    ensures { Writes (snapshot conn.old (L.wire link.old) pass.now) (snapshot conn.new (L.wire link.new) pass.now) most }
+    ensures { Writes (snapshot conn.old (L.wire link.old) pass.now)
+        (snapshot conn.new (L.wire link.new) pass.now) most }
 {
     for _ in 0..most {
         if conn.is_written() {

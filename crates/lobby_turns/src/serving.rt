@@ -16,10 +16,17 @@ use std::sync::Wait;
 
 /// The state that a turn ends in, by how far it received and sent. None where the client is to be shut.
 fn state_of(last_got: Option<Got>, received: ReceiveState, sent: SendState) -> Option<TurnState>
-    ensures shut { result ≡ None → (sent ≡ SendState.Finished) ⊎ ((sent ≡ SendState.Fault) ⊎ ((received ≡ ReceiveState.Stop) ⊎ ((received ≡ ReceiveState.All) × (sent ≡ SendState.All) × (last_got ≡ Some Got.End)))) }
-    ensures idle { result ≡ Some TurnState.Idle → (received ≡ ReceiveState.All) × ((sent ≡ SendState.WouldBlock) ⊎ ((sent ≡ SendState.All) × (last_got ≢ Some Got.End))) }
-    ensures goes_on { result ≢ None → (received ≢ ReceiveState.Stop) × (sent ≢ SendState.Finished) × (sent ≢ SendState.Fault) }
-    ensures again { result ≡ Some TurnState.Again → ((received ≡ ReceiveState.Again) ⊎ (sent ≡ SendState.Again)) × (received ≢ ReceiveState.Memory) × (sent ≢ SendState.Memory) }
+    ensures shut { result ≡ None → (sent ≡ SendState.Finished)
+        ⊎ ((sent ≡ SendState.Fault) ⊎ ((received ≡ ReceiveState.Stop)
+        ⊎ ((received ≡ ReceiveState.All) × (sent ≡ SendState.All) × (last_got ≡ Some Got.End)))) }
+    ensures idle { result ≡ Some TurnState.Idle
+        → (received ≡ ReceiveState.All) × ((sent ≡ SendState.WouldBlock)
+        ⊎ ((sent ≡ SendState.All) × (last_got ≢ Some Got.End))) }
+    ensures goes_on { result ≢ None → (received ≢ ReceiveState.Stop) × (sent ≢ SendState.Finished)
+        × (sent ≢ SendState.Fault) }
+    ensures again { result ≡ Some TurnState.Again
+        → ((received ≡ ReceiveState.Again) ⊎ (sent ≡ SendState.Again)) × (received ≢ ReceiveState.Memory)
+        × (sent ≢ SendState.Memory) }
     ensures memory { result ≡ Some TurnState.Memory → (received ≡ ReceiveState.Memory) ⊎ (sent ≡ SendState.Memory) }
     ensures closed { result ≢ Some TurnState.Closed }
 {
@@ -46,8 +53,9 @@ fn note_end(conn: &mut Conn, sent: SendState)
     }
 }
 
-/// Shuts the client of a connection, in a hold of its own. The state is `Closed`, and the workers whose clients that touched are to
-/// be woken besides these, and it told so many pieces besides. Where memory is refused, the client is not shut, and the state is `Memory`.
+/// Shuts the client of a connection, in a hold of its own. The state is `Closed`, and the workers whose clients that
+/// touched are to be woken besides these, and it told so many pieces besides. Where memory is refused, the client is
+/// not shut, and the state is `Memory`.
 pub fn close<R: Wait, G: Gate>(
     rt: &R,
     conn: &Conn,
@@ -58,7 +66,8 @@ pub fn close<R: Wait, G: Gate>(
     told: u64,
 ) -> (Pass, Turn)
     requires { pass.desk ≡ desk.now }
-    ensures closes { (wire : Wire) → Closes (snapshot conn.now wire pass) (snapshot conn.now wire result.0) wakes result.1 }
+    ensures closes { (wire : Wire) → Closes (snapshot conn.now wire pass) (snapshot conn.now wire result.0) wakes
+        result.1 }
     ensures desk { result.0.desk ≡ pass.desk }
     ensures number { result.0.worker.number ≡ pass.worker.number }
 {
@@ -105,7 +114,8 @@ pub fn serve<R: Wait, L: Link, G: Gate>(
 ) -> (Pass, Turn)
     requires desk { pass.desk ≡ desk.now }
     requires fresh { IsFresh (L.wire link.old) }
-    ensures turned { Turned (snapshot conn.old (L.wire link.old) pass) (snapshot conn.new (L.wire link.new) result.0) allowance result.1 }
+    ensures turned { Turned (snapshot conn.old (L.wire link.old) pass) (snapshot conn.new (L.wire link.new) result.0)
+        allowance result.1 }
     ensures desk { result.0.desk ≡ pass.desk }
     ensures number { result.0.worker.number ≡ pass.worker.number }
 {
@@ -139,7 +149,8 @@ pub fn send_rest<R: Wait, L: Link, G: Gate>(
 ) -> (Pass, SendState)
     requires desk { pass.desk ≡ desk.now }
     requires fresh { IsFresh (L.wire link.old) }
-    ensures sends { Sends (snapshot conn.old (L.wire link.old) pass) (snapshot conn.new (L.wire link.new) result.0) result.1 }
+    ensures sends { Sends (snapshot conn.old (L.wire link.old) pass) (snapshot conn.new (L.wire link.new) result.0)
+        result.1 }
     ensures desk { result.0.desk ≡ pass.desk }
     ensures number { result.0.worker.number ≡ pass.worker.number }
 {

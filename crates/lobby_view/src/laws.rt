@@ -1,5 +1,5 @@
-//! The laws of the view. Each function does nothing: its contract is the law. Those that speak of a lobby from its first event on
-//! take the settings and the accounts that it begins with, which keep their bounds by their types.
+//! The laws of the view. Each function does nothing: its contract is the law. Those that speak of a lobby from its
+//! first event on take the settings and the accounts that it begins with, which keep their bounds by their types.
 
 ghost use Rattle.std.specs.Prelude.{◌≡◌, ◌≢◌, ◌≤◌, ℕ, List, [], ◌∷◌, ◌++◌, length, Option, Some, true, false};
 ghost use Rattle.std.specs.List.{AllByRecursion};
@@ -31,11 +31,14 @@ pub fn view_law(settings: &Settings, accounts: &AccountBook)
     ensures history { (history : List Event) → IsLegalHistory history
         → (c : ℕ) (u : List ℕ) → name_of (after (empty_lobby settings.now accounts.now) history) c ≡ Some u
         → hears (after (empty_lobby settings.now accounts.now) history) c ≡ true
-        → view (put_in (empty_lobby settings.now accounts.now) history c) ≡ observe (after (empty_lobby settings.now accounts.now) history) u }
+        → view (put_in (empty_lobby settings.now accounts.now) history c)
+        ≡ observe (after (empty_lobby settings.now accounts.now) history) u }
     ensures read { (history : List Event) → IsLegalHistory history
-        → (c : ℕ) (u : List ℕ) (client : Client) → at_number (after (empty_lobby settings.now accounts.now) history).clients c ≡ Some client
+        → (c : ℕ) (u : List ℕ) (client : Client)
+        → at_number (after (empty_lobby settings.now accounts.now) history).clients c ≡ Some client
         → client.phase ≡ In u → client.cut ≡ false → client.unread ≡ []
-        → view (taken_in (empty_lobby settings.now accounts.now) history c) ≡ observe (after (empty_lobby settings.now accounts.now) history) u }
+        → view (taken_in (empty_lobby settings.now accounts.now) history c)
+        ≡ observe (after (empty_lobby settings.now accounts.now) history) u }
     ensures schedule { (steps : List Step) (events : List Event) (end : World) → IsLegalSchedule steps
         → Gives (new_world settings.now accounts.now) steps events end
         → (c : ℕ) (u : List ℕ) → name_of end.lobby c ≡ Some u → hears end.lobby c ≡ true
@@ -50,7 +53,8 @@ pub fn view_law(settings: &Settings, accounts: &AccountBook)
 /// at most 20,479 bytes, LF aside, never finds one that is longer.
 pub fn line_length_law(settings: &Settings, accounts: &AccountBook)
     ensures sent { (history : List Event) → IsLegalHistory history → (e : Event) → IsLegal e → (c : ℕ)
-        → AllByRecursion (λ line. length (print line) ≤ 20480) (sent (after (empty_lobby settings.now accounts.now) history) e c) }
+        → AllByRecursion (λ line. length (print line)
+        ≤ 20480) (sent (after (empty_lobby settings.now accounts.now) history) e c) }
     ensures put { (history : List Event) → IsLegalHistory history → (c : ℕ)
         → is_spoilt (put_in (empty_lobby settings.now accounts.now) history c) frame_limit ≡ false }
 {
@@ -63,7 +67,8 @@ pub fn line_length_law(settings: &Settings, accounts: &AccountBook)
 /// and its reply, and as nothing else.
 pub fn line_kinds_law(settings: &Settings, accounts: &AccountBook)
     ensures { (history : List Event) → IsLegalHistory history → (e : Event) → IsLegal e → (c : ℕ)
-        → AllByRecursion (λ line. IsId line.0 × Fits line.1) (sent (after (empty_lobby settings.now accounts.now) history) e c) }
+        → AllByRecursion (λ line. IsId line.0
+        × Fits line.1) (sent (after (empty_lobby settings.now accounts.now) history) e c) }
 {
     settings.keep_their_bounds();
     accounts.keeps_its_rules();
@@ -74,20 +79,25 @@ pub fn line_kinds_law(settings: &Settings, accounts: &AccountBook)
 pub fn pieces_law()
     ensures sound { (bytes : List ℕ) (more : List ℕ) → is_spoilt bytes frame_limit ≡ false
         → view (bytes ++ more) ≡ shown_all (view bytes) (all_read (frames (rest_of bytes ++ more) frame_limit)) }
-    ensures spoilt { (bytes : List ℕ) (more : List ℕ) → is_spoilt bytes frame_limit ≡ true → view (bytes ++ more) ≡ view bytes }
+    ensures spoilt { (bytes : List ℕ) (more : List ℕ) → is_spoilt bytes frame_limit ≡ true
+        → view (bytes ++ more) ≡ view bytes }
 {}
 
 /// What client c says to the user u in private changes no map and puts nothing to any client that is
 /// neither c nor logged in as u. Two histories that are equal but in one place, where it says two texts
 /// of equal length under one id, put the same bytes to each of those others, and to those two as many.
 pub fn private_law()
-    ensures unchanged { (s : State) (c : ℕ) (id : Option ℕ) (u : List ℕ) (x : List ℕ) → effect s (whispers c id u x) ≡ s }
+    ensures unchanged { (s : State) (c : ℕ) (id : Option ℕ) (u : List ℕ) (x : List ℕ)
+        → effect s (whispers c id u x) ≡ s }
     ensures alone { (s : State) (c : ℕ) (id : Option ℕ) (u : List ℕ) (x : List ℕ) (d : ℕ)
         → d ≢ c → name_of s d ≢ Some u → put_by s (whispers c id u x) d ≡ [] }
-    ensures others { (s : State) (before : List Event) (later : List Event) (c : ℕ) (id : Option ℕ) (u : List ℕ) (x : List ℕ) (y : List ℕ)
+    ensures others { (s : State) (before : List Event) (later : List Event) (c : ℕ) (id : Option ℕ) (u : List ℕ)
+        (x : List ℕ) (y : List ℕ)
         → length x ≡ length y → (d : ℕ) → d ≢ c → name_of (after s before) d ≢ Some u
         → put_in s (before ++ whispers c id u x ∷ later) d ≡ put_in s (before ++ whispers c id u y ∷ later) d }
-    ensures lengths { (s : State) (before : List Event) (later : List Event) (c : ℕ) (id : Option ℕ) (u : List ℕ) (x : List ℕ) (y : List ℕ)
+    ensures lengths { (s : State) (before : List Event) (later : List Event) (c : ℕ) (id : Option ℕ) (u : List ℕ)
+        (x : List ℕ) (y : List ℕ)
         → length x ≡ length y → (d : ℕ)
-        → length (put_in s (before ++ whispers c id u x ∷ later) d) ≡ length (put_in s (before ++ whispers c id u y ∷ later) d) }
+        → length (put_in s (before ++ whispers c id u x ∷ later) d)
+        ≡ length (put_in s (before ++ whispers c id u y ∷ later) d) }
 {}

@@ -1,4 +1,5 @@
-//! The server over sockets: its workers in threads of their own, each with its connections, and a log for its operators.
+//! The server over sockets: its workers in threads of their own, each with its connections, and a log for its
+//! operators.
 //!
 //! What a server makes before they start is in `new_workers`, what a worker does in `worker_loop`.
 #![tactic(auto)]

@@ -69,15 +69,15 @@ struct Ended {
 
 /// Runs a server on a listener, and gives the exit status of its program.
 ///
-/// It makes what its workers need, starts them, each in a thread of its own, and prints `listening` once all run.
-/// The status is 3 where a poll, a waker, a registration or a thread cannot be made, and 4 where
-/// memory is refused while starting; workers that had started are stopped, and nothing is printed. With `stop_at_input_end`
-/// the first thread then reads the input to its end and stops the workers: the status is 0, or 2
-/// where a read failed. A worker that is stopped shuts its clients, and its pass is taken back. Then
-/// the desk is closed, and for each worker a line is printed: `worker W: N events`, or `worker W: full`
-/// for 18446744073709551615 and more. Without `stop_at_input_end` the workers run until the program is killed. A print that fails
-/// is ignored. The words that clients choose are hashed by the seed that everybody knows. The gate is told what the workers do,
-/// for tests. There are 1 to 64 workers. The contract says of all this no more than which statuses there are.
+/// It makes what its workers need, starts them, each in a thread of its own, and prints `listening` once all run. The
+/// status is 3 where a poll, a waker, a registration or a thread cannot be made, and 4 where memory is refused while
+/// starting; workers that had started are stopped, and nothing is printed. With `stop_at_input_end` the first thread
+/// then reads the input to its end and stops the workers: the status is 0, or 2 where a read failed. A worker that is
+/// stopped shuts its clients, and its pass is taken back. Then the desk is closed, and for each worker a line is
+/// printed: `worker W: N events`, or `worker W: full` for 18446744073709551615 and more. Without `stop_at_input_end`
+/// the workers run until the program is killed. A print that fails is ignored. The words that clients choose are hashed
+/// by the seed that everybody knows. The gate is told what the workers do, for tests. There are 1 to 64 workers. The
+/// contract says of all this no more than which statuses there are.
 pub fn run_server<R: Threads + Wait + Net + Sync, I: Read, O: Write, G: Gate + Sync>(
     rt: &R,
     alloc: Global,
@@ -104,8 +104,8 @@ pub fn run_server<R: Threads + Wait + Net + Sync, I: Read, O: Write, G: Gate + S
     run_service(rt, alloc, service, listener, input, output, gate)
 }
 
-/// Runs a server as [`run_server`] does, where fronts may connect: a connection from one of them begins with its line, and its client
-/// is opened with the address that the line gives.
+/// Runs a server as [`run_server`] does, where fronts may connect: a connection from one of them begins with its line,
+/// and its client is opened with the address that the line gives.
 pub fn run_service<R: Threads + Wait + Net + Sync, I: Read, O: Write, G: Gate + Sync>(
     rt: &R,
     alloc: Global,
@@ -247,7 +247,9 @@ fn run_workers<R: Threads + Wait + Sync, I: Read, O: Write, G: Gate + Sync>(
         thread::scope_env(),
         rt,
         move |scope| -> Ended
-            requires { (first.pass.desk ≡ shared.now.desk.now) × (first.pass.worker.number ≡ 0) × All (λ worker. worker.pass.desk ≡ shared.now.desk.now) others.items × (threads.items ≡ []) × (vec_len others ≤ vec_capacity threads) }
+            requires { (first.pass.desk ≡ shared.now.desk.now) × (first.pass.worker.number ≡ 0)
+                × All (λ worker. worker.pass.desk ≡ shared.now.desk.now) others.items × (threads.items ≡ [])
+                × (vec_len others ≤ vec_capacity threads) }
             ensures { (result.pass.desk ≡ shared.entry.now.desk.now) × (result.pass.worker.number ≡ 0) }
         { run_threads(scope, rt, alloc, shared, first, others, threads, streams) },
     );
@@ -288,8 +290,8 @@ fn run_threads<'s, 'e, R: Threads + Wait + Sync, I: Read, O: Write, G: Gate + Sy
     Ended { pass, reason }
 }
 
-/// Says that the server listens, waits until the input ends, where that stops the server, and then stops the workers. Says nothing
-/// and does not wait where a worker got no thread.
+/// Says that the server listens, waits until the input ends, where that stops the server, and then stops the workers.
+/// Says nothing and does not wait where a worker got no thread.
 fn announce_until_end<I: Read, O: Write, G: Gate>(
     shared: &Shared<'_, G>,
     input: &mut I,
@@ -323,7 +325,8 @@ fn start<'s, 'e, R: Wait + Sync, G: Gate + Sync>(
     requires { worker.pass.desk ≡ shared.now.desk.now }
     ensures desk { IfOk result (λ thread. thread.promise.0.value.desk ≡ shared.now.desk.now) }
     ensures number { IfOk result (λ thread. thread.promise.0.value.worker.number ≡ worker.pass.worker.number) }
-    ensures back { IfErr result (λ pass. (pass.desk ≡ shared.now.desk.now) × (pass.worker.number ≡ worker.pass.worker.number)) }
+    ensures back { IfErr result (λ pass. (pass.desk ≡ shared.now.desk.now)
+        × (pass.worker.number ≡ worker.pass.worker.number)) }
 {
     let promise = SamePass(Snapshot::of(&worker.pass));
     let NewWorker { listener, pass } = worker;

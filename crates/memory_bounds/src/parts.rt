@@ -13,8 +13,8 @@ const MEMBERS: usize = MANY as usize - 1;
 /// The users of a small crowd.
 pub const FEW: u32 = 4;
 
-/// How long a line is as it is told, in bytes: one that is copied, of which a buffer that is kept has room for eight, and
-/// the shortest that is shared.
+/// How long a line is as it is told, in bytes: one that is copied, of which a buffer that is kept has room for eight,
+/// and the shortest that is shared.
 pub const SHORT: usize = 1_900;
 
 pub const LONG: usize = 2_048;

@@ -32,7 +32,8 @@ pub trait Subject: Drop {
     /// Does it for the client, and says whether memory sufficed. What it has no such deed for, it leaves.
     fn act(&mut self, alloc: Global, client: u64, deed: Deed) -> bool;
 
-    /// Its clients have read all then, and hold no buffer: what they are told next takes memory. Says whether memory sufficed.
+    /// Its clients have read all then, and hold no buffer: what they are told next takes memory. Says whether memory
+    /// sufficed.
     fn use_up(&mut self, alloc: Global) -> bool;
 
     /// Whether public calls tell the same of both. What they take away to tell it, they take from both.
@@ -99,8 +100,8 @@ impl<S: Subject> Pair<S> {
         self.tried.is_as(&mut self.other)
     }
 
-    /// Does it, step by step, until memory suffices; a deed that is done without what was refused counts as done. After each refusal
-    /// the two are compared, of which the other one has not done it. Says whether memory sufficed.
+    /// Does it, step by step, until memory suffices; a deed that is done without what was refused counts as done. After
+    /// each refusal the two are compared, of which the other one has not done it. Says whether memory sufficed.
     fn try_out(
         &mut self,
         alloc: Global,
@@ -172,8 +173,8 @@ impl<S: Subject> Pair<S> {
     }
 }
 
-/// Whether memory is refused to the last of these deeds, which one of a new pair does as at this step, and both did the others before.
-/// Then the two are compared, and again after what is done behind the refusal.
+/// Whether memory is refused to the last of these deeds, which one of a new pair does as at this step, and both did the
+/// others before. Then the two are compared, and again after what is done behind the refusal.
 fn is_refused<S: Subject>(
     alloc: Global,
     (before, client, deed): (&[(u64, Deed)], u64, Deed),
@@ -226,8 +227,8 @@ fn try_anew<S: Subject>(
     }
 }
 
-/// Tries the deeds on a new subject, one after another, and shows what came of them; then each on subjects of its own, at which the
-/// looks are done after a refusal.
+/// Tries the deeds on a new subject, one after another, and shows what came of them; then each on subjects of its own,
+/// at which the looks are done after a refusal.
 pub fn try_deeds<S: Subject, R: Print + AllocGlobal>(
     rt: &R,
     deeds: &[(u64, Deed)],

@@ -6,10 +6,11 @@ use memory_refuser::notes::Notes;
 use memory_refuser::refuser::Refuser;
 use std::io;
 
-/// The first user opens a battle, which nineteen ask to join. It lets eleven of them in and denies it two, and one asks no more. An
-/// index has room for nine at first: so that of those who ask grows, and that of the members, and that of the disabled units. Units
-/// are disabled, of which some are already, and enabled again, before and after one joins who is told which are. At the end some go
-/// who ask, who are members with bots, and the founder; those who shall not be shown have read all.
+/// The first user opens a battle, which nineteen ask to join. It lets eleven of them in and denies it two, and one asks
+/// no more. An index has room for nine at first: so that of those who ask grows, and that of the members, and that of
+/// the disabled units. Units are disabled, of which some are already, and enabled again, before and after one joins who
+/// is told which are. At the end some go who ask, who are members with bots, and the founder; those who shall not be
+/// shown have read all.
 static DEEDS: [(u64, Deed); 69] = [
     (
         1,
@@ -95,8 +96,9 @@ static DEEDS: [(u64, Deed); 69] = [
     (22, Deed::Read(4096)),
 ];
 
-/// The last user logs in once more, and is told the users, the battles and their members; then who is in the channel; it asks to
-/// join the battle, and is told what the members share; and those who ask are told that the battle is closed.
+/// The last user logs in once more, and is told the users, the battles and their members; then who is in the channel;
+/// it asks to join the battle, and is told what the members share; and those who ask are told that the battle is
+/// closed.
 static LOOKS: [(u64, Deed); 7] = [
     (22, Deed::Send(b"EXIT")),
     (23, Deed::Open),

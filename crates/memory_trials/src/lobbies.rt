@@ -17,8 +17,8 @@ const ANSWERS: u32 = 1_000;
 /// How many bytes are compared at a time.
 const COMPARED: usize = 512;
 
-/// They log in, one after another, and talk in two channels; then Anna opens a battle and furnishes it, Cleo joins it, is forced this
-/// and that, and leaves with two bots; Bert goes with his channels, and is shut.
+/// They log in, one after another, and talk in two channels; then Anna opens a battle and furnishes it, Cleo joins it,
+/// is forced this and that, and leaves with two bots; Bert goes with his channels, and is shut.
 static DEEDS: [(u64, Deed); 52] = [
     (1, Deed::Open),
     (2, Deed::Open),
@@ -85,9 +85,9 @@ static DEEDS: [(u64, Deed); 52] = [
     (1, Deed::Send(b"LEAVEBATTLE")),
 ];
 
-/// Five more connect, so that a client 5 is there, however many there were. Dora logs in at it, and is told the users, the battles
-/// and their members; then who is in the channels, and what the members of the battle share. Then the others log out, and she is told
-/// what each was in.
+/// Five more connect, so that a client 5 is there, however many there were. Dora logs in at it, and is told the users,
+/// the battles and their members; then who is in the channels, and what the members of the battle share. Then the
+/// others log out, and she is told what each was in.
 static LOOKS: [(u64, Deed); 13] = [
     (1, Deed::Open),
     (2, Deed::Open),

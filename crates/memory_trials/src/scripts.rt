@@ -11,8 +11,8 @@ const SCRIPT: &[u8] = b"open 1 10.0.0.1\nshow 1\nsend 1 PING\\n\nall 1\nshow 1\n
 
 const SHOWN: &[u8] = b"1> TASSERVER 0.38 * 8201 0\n1> PONG\n";
 
-/// Plays the script, step by step until no memory is refused, and says whether it was played. What is shown where memory did not
-/// suffice is the front of what is shown else.
+/// Plays the script, step by step until no memory is refused, and says whether it was played. What is shown where
+/// memory did not suffice is the front of what is shown else.
 fn try_script(
     alloc: Global,
     shown: &mut Vec<u8>,

@@ -1,7 +1,8 @@
 -- The exit statuses of the server's program.
 use Rattle.std.specs.Prelude.{◌≡◌, ◌⊎◌, ℕ}
 use Rattle.new_workers.specs.declared.error.ServerError.{ServerError}
-use Rattle.new_workers.specs.declared.error.ServerError.TheVariants.{Settings, Accounts, Input, Listener, Random, Memory}
+use Rattle.new_workers.specs.declared.error.ServerError.TheVariants.{Settings, Accounts, Input, Listener, Random}
+use Rattle.new_workers.specs.declared.error.ServerError.TheVariants.{Memory}
 
 abbrev pub status_of : ServerError → ℕ
 status_of Settings = 2
@@ -11,7 +12,7 @@ status_of Listener = 3
 status_of Random = 3
 status_of Memory = 4
 
--- the server was stopped by the end of its input, or by its failure; or it could not start, for want of what the system gives or of
--- memory
+-- the server was stopped by the end of its input, or by its failure; or it could not start, for want of what the system
+-- gives or of memory
 abbrev pub IsEnd : ℕ → Type 0
 IsEnd status = (status ≡ 0) ⊎ ((status ≡ 2) ⊎ ((status ≡ 3) ⊎ (status ≡ 4)))

@@ -7,7 +7,8 @@ use std::alloc::AllocError;
 use thiserror::Error;
 use worker_loop::ListenError;
 
-/// Why a server did not start, or ended otherwise than by the end of its input. Its text is what the server's program tells.
+/// Why a server did not start, or ended otherwise than by the end of its input. Its text is what the server's program
+/// tells.
 #[derive(Clone, Copy, PartialEq, Eq, Debug, Error)]
 pub enum ServerError {
     /// The settings cannot be used.
@@ -19,7 +20,8 @@ pub enum ServerError {
     /// Reading the input failed.
     #[error("cannot read input")]
     Input,
-    /// There is no listener at the address; or the system made no poll, waker or thread, or did not register the listener.
+    /// There is no listener at the address; or the system made no poll, waker or thread, or did not register the
+    /// listener.
     #[error("cannot listen")]
     Listener,
     /// The system gave no random bytes.
@@ -31,7 +33,8 @@ pub enum ServerError {
 }
 
 impl ServerError {
-    /// The exit status of a program that ends so: 2 for settings, accounts and input, 3 for a listener or random bytes, 4 for memory.
+    /// The exit status of a program that ends so: 2 for settings, accounts and input, 3 for a listener or random bytes,
+    /// 4 for memory.
     pub fn status(self) -> u8
         ensures value { result ≡ status_of self }
         ensures within { (2 ≤ result) × (result ≤ 4) }

@@ -1,5 +1,5 @@
-//! What a server makes before its workers start: the desk, and for each worker its pass and what it listens with; and why
-//! it does not start.
+//! What a server makes before its workers start: the desk, and for each worker its pass and what it listens with; and
+//! why it does not start.
 #![tactic(auto)]
 
 mod error;

@@ -12,7 +12,8 @@ pub record Undoable (A : Type 0) : Type 0 where
 
 abbrev pub undoable_code : {A : Type 0} → Coded A → Coded (Undoable A)
 undoable_code {A} code =
-    code_by ((A × A) × Bool) (coded× (coded× code code) coded_bool) (λ u. ((u.now, u.before), u.noting)) (λ p. record { now = p.0.0; before = p.0.1; noting = p.1 }) (λ _. refl)
+    code_by ((A × A) × Bool) (coded× (coded× code code) coded_bool) (λ u. ((u.now, u.before), u.noting)) (λ p.
+    record { now = p.0.0; before = p.0.1; noting = p.1 }) (λ _. refl)
 
 -- One change: what was before stays while changes are noted, and nothing is said of it while none is
 pub record Changes {A : Type 0} (f : A → A) (old new : Undoable A) : Type 0 where

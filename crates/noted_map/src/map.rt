@@ -45,7 +45,12 @@ impl<K: Key, X, U: Undo<X>> Model for NotedMap<K, X, U> {
 
     ghost coded = { undoable_code (coded_list (coded× K.code X.code)) };
 
-    ghost view = { λ m. record { now = live m.slots; before = live (undone K.cmp U.back m.notes.items m.slots); noting = m.noting } };
+    ghost view = { λ m. record {
+      now = live m.slots;
+      before = live (undone K.cmp U.back m.notes.items m.slots);
+      noting
+          = m.noting;
+    } };
 
     ghost invariant = { λ m. m.noting ≡ false → m.notes.items ≡ [] };
 }
@@ -135,7 +140,7 @@ impl<K: Key, X: Drop, U: Undo<X>> NotedMap<K, X, U> {
     }
 }
 
-// Notes a change, for which there is room.
+/// Notes a change, for which there is room.
 fn note<K: Drop, X: Drop, U: Undo<X>>(notes: &mut Vec<(K, Note<X, U>)>, key: K, was: Note<X, U>)
     requires { vec_len notes.old < vec_capacity notes.old }
     ensures { notes.new.items ≡ notes.old.items ++ (key, was) ∷ [] }
@@ -146,7 +151,7 @@ fn note<K: Drop, X: Drop, U: Undo<X>>(notes: &mut Vec<(K, Note<X, U>)>, key: K, 
     }
 }
 
-// The note of what a place held, if there was one.
+/// The note of what a place held, if there was one.
 fn note_of<X, U>(was: Option<Option<X>>) -> Note<X, U>
     ensures { result ≡ place_note was }
 {
@@ -156,7 +161,7 @@ fn note_of<X, U>(was: Option<Option<X>>) -> Note<X, U>
     }
 }
 
-// A value for a key, noted.
+/// A value for a key, noted.
 fn put_noted<K: Key, X: Drop, U: Undo<X>>(
     slots: &mut Slots<K, X>,
     notes: &mut Vec<(K, Note<X, U>)>,
@@ -164,7 +169,8 @@ fn put_noted<K: Key, X: Drop, U: Undo<X>>(
     value: X,
 ) -> Result<(), AllocError>
     ensures ok { OnOk result (live slots.new ≡ put K.cmp (live slots.old) key value) }
-    ensures before { OnOk result (undone K.cmp U.back notes.new.items slots.new ≡ undone K.cmp U.back notes.old.items slots.old) }
+    ensures before { OnOk result (undone K.cmp U.back notes.new.items slots.new
+        ≡ undone K.cmp U.back notes.old.items slots.old) }
     ensures err { OnErr result ((slots.new ≡ slots.old) × (notes.new.items ≡ notes.old.items)) }
 {
     notes.reserve(1)?;
@@ -174,14 +180,15 @@ fn put_noted<K: Key, X: Drop, U: Undo<X>>(
     Ok(())
 }
 
-// An entry goes, noted: its place stays, empty.
+/// An entry goes, noted: its place stays, empty.
 fn remove_noted<K: Key, X: Drop, U: Undo<X>>(
     slots: &mut Slots<K, X>,
     notes: &mut Vec<(K, Note<X, U>)>,
     key: &K,
 ) -> Result<(), AllocError>
     ensures ok { OnOk result (live slots.new ≡ without K.cmp (live slots.old) key.now) }
-    ensures before { OnOk result (undone K.cmp U.back notes.new.items slots.new ≡ undone K.cmp U.back notes.old.items slots.old) }
+    ensures before { OnOk result (undone K.cmp U.back notes.new.items slots.new
+        ≡ undone K.cmp U.back notes.old.items slots.old) }
     ensures err { OnErr result ((slots.new ≡ slots.old) × (notes.new.items ≡ notes.old.items)) }
 {
     notes.reserve(1)?;
@@ -190,7 +197,7 @@ fn remove_noted<K: Key, X: Drop, U: Undo<X>>(
     Ok(())
 }
 
-// A value changes, noted.
+/// A value changes, noted.
 fn edit_noted<K: Key, X: Drop, U: Undo<X>, E: Edit<X, U>>(
     slots: &mut Slots<K, X>,
     notes: &mut Vec<(K, Note<X, U>)>,
@@ -198,7 +205,8 @@ fn edit_noted<K: Key, X: Drop, U: Undo<X>, E: Edit<X, U>>(
     edit: E,
 ) -> Result<(), AllocError>
     ensures ok { OnOk result (live slots.new ≡ change K.cmp (live slots.old) key.now (E.after edit)) }
-    ensures before { OnOk result (undone K.cmp U.back notes.new.items slots.new ≡ undone K.cmp U.back notes.old.items slots.old) }
+    ensures before { OnOk result (undone K.cmp U.back notes.new.items slots.new
+        ≡ undone K.cmp U.back notes.old.items slots.old) }
     ensures err { OnErr result ((slots.new ≡ slots.old) × (notes.new.items ≡ notes.old.items)) }
 {
     notes.reserve(1)?;
@@ -208,7 +216,7 @@ fn edit_noted<K: Key, X: Drop, U: Undo<X>, E: Edit<X, U>>(
     Ok(())
 }
 
-// Takes one change back.
+/// Takes one change back.
 fn undo<K: Key, X: Drop, U: Undo<X>>(slots: &mut Slots<K, X>, key: &K, was: Note<X, U>)
     ensures { slots.new ≡ undo_at K.cmp U.back key.now was slots.old }
 {
@@ -221,7 +229,7 @@ fn undo<K: Key, X: Drop, U: Undo<X>>(slots: &mut Slots<K, X>, key: &K, was: Note
     }
 }
 
-// Takes all changes back, the newest first.
+/// Takes all changes back, the newest first.
 fn undo_all<K: Key, X: Drop, U: Undo<X>>(slots: &mut Slots<K, X>, notes: &mut Vec<(K, Note<X, U>)>)
     ensures now { slots.new ≡ undone K.cmp U.back notes.old.items slots.old }
     ensures empty { notes.new.items ≡ [] }
@@ -231,7 +239,7 @@ fn undo_all<K: Key, X: Drop, U: Undo<X>>(slots: &mut Slots<K, X>, notes: &mut Ve
     }
 }
 
-// The notes go, and with them the empty places of their keys.
+/// The notes go, and with them the empty places of their keys.
 fn settle_all<K: Key, X: Drop, U: Undo<X>>(
     slots: &mut Slots<K, X>,
     notes: &mut Vec<(K, Note<X, U>)>,
@@ -246,7 +254,7 @@ fn settle_all<K: Key, X: Drop, U: Undo<X>>(
     }
 }
 
-// The empty places of the keys that were noted go, and the notes.
+/// The empty places of the keys that were noted go, and the notes.
 fn sweep<K: Key, X: Drop, U: Undo<X>>(slots: &mut Slots<K, X>, notes: &mut Vec<(K, Note<X, U>)>)
     ensures now { live slots.new ≡ live slots.old }
     ensures empty { notes.new.items ≡ [] }

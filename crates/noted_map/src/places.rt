@@ -1,6 +1,7 @@
 //! The places of a map: each holds a value, or is empty.
 
-ghost use Rattle.std.specs.Prelude.{◌≡◌, ◌+◌, ◌<◌, ◌≤◌, ◌^◌, OnOk, OnErr, IfOk, MatchOption, None, Some, if◌then◌else◌, length};
+ghost use Rattle.std.specs.Prelude.{◌≡◌, ◌+◌, ◌<◌, ◌≤◌, ◌^◌, OnOk, OnErr, IfOk, MatchOption, None, Some};
+ghost use Rattle.std.specs.Prelude.{if◌then◌else◌, length};
 ghost use Rattle.std.specs.Option.{option_map};
 ghost use Rattle.std.specs.List.Sorted.{IsStrictlySortedBy};
 ghost use Rattle.std.specs.Map.{keys_of};
@@ -25,7 +26,8 @@ pub(crate) fn put_at<K: Key, X: Drop>(
 ) -> Result<Option<Option<X>>, AllocError>
     ensures was { IfOk result (λ was. was ≡ at K.cmp places.old.entries key) }
     ensures ok { OnOk result (places.new.entries ≡ put K.cmp places.old.entries key (Some value)) }
-    ensures count { IfOk result (λ was. length (live places.new.entries) + one_in was ≡ length (live places.old.entries) + 1) }
+    ensures count { IfOk result (λ was. length (live places.new.entries) + one_in was
+        ≡ length (live places.old.entries) + 1) }
     ensures err { OnErr result (places.new.entries ≡ places.old.entries) }
     ensures ordered { IsStrictlySortedBy K.cmp (keys_of places.old.entries) }
     ensures small { length (live places.old.entries) < 2 ^ 63 }
@@ -51,7 +53,8 @@ pub(crate) fn write_at<K: Key, X: Drop>(
 ) -> Option<Option<X>>
     ensures was { result ≡ at K.cmp places.old.entries key.now }
     ensures now { places.new.entries ≡ change K.cmp places.old.entries key.now (λ _. held) }
-    ensures count { length (live places.new.entries) + one_in result ≡ length (live places.old.entries) + coming result (one held) }
+    ensures count { length (live places.new.entries) + one_in result
+        ≡ length (live places.old.entries) + coming result (one held) }
     ensures ordered { IsStrictlySortedBy K.cmp (keys_of places.old.entries) }
     ensures small { length (live places.old.entries) < 2 ^ 63 }
 {
@@ -68,7 +71,8 @@ pub(crate) fn edit_at<K: Key, X, U: Undo<X>, E: Edit<X, U>>(
     key: &K,
     edit: E,
 ) -> Result<(), AllocError>
-    ensures ok { OnOk result (places.new.entries ≡ change K.cmp places.old.entries key.now (option_map (E.after edit))) }
+    ensures ok { OnOk result (places.new.entries
+        ≡ change K.cmp places.old.entries key.now (option_map (E.after edit))) }
     ensures err { OnErr result (places.new.entries ≡ places.old.entries) }
 {
     match places.get_mut(key) {
@@ -83,8 +87,11 @@ pub(crate) fn edit_at_noted<K: Key, X, U: Undo<X>, E: Edit<X, U>>(
     key: &K,
     edit: E,
 ) -> Result<Option<U>, AllocError>
-    ensures ok { OnOk result (places.new.entries ≡ change K.cmp places.old.entries key.now (option_map (E.after edit))) }
-    ensures undone { IfOk result (λ undo. MatchOption undo (places.new.entries ≡ places.old.entries) (λ it. change K.cmp places.new.entries key.now (option_map (U.back it)) ≡ places.old.entries)) }
+    ensures ok { OnOk result (places.new.entries
+        ≡ change K.cmp places.old.entries key.now (option_map (E.after edit))) }
+    ensures undone { IfOk result (λ undo.
+        MatchOption undo (places.new.entries ≡ places.old.entries) (λ it.
+        change K.cmp places.new.entries key.now (option_map (U.back it)) ≡ places.old.entries)) }
     ensures err { OnErr result (places.new.entries ≡ places.old.entries) }
 {
     match places.get_mut(key) {
@@ -103,7 +110,7 @@ pub(crate) fn undo_at<K: Key, X, U: Undo<X>>(places: &mut Places<K, X>, key: &K,
     }
 }
 
-// What a place holds changes.
+/// What a place holds changes.
 fn edit_held<X, U: Undo<X>, E: Edit<X, U>>(place: &mut Option<X>, edit: E) -> Result<(), AllocError>
     ensures ok { OnOk result (place.new ≡ option_map (E.after edit) place.old) }
     ensures err { OnErr result (place.new ≡ place.old) }
@@ -114,13 +121,14 @@ fn edit_held<X, U: Undo<X>, E: Edit<X, U>>(place: &mut Option<X>, edit: E) -> Re
     Ok(())
 }
 
-// What a place holds changes, and what undoes that is given.
+/// What a place holds changes, and what undoes that is given.
 fn edit_held_noted<X, U: Undo<X>, E: Edit<X, U>>(
     place: &mut Option<X>,
     edit: E,
 ) -> Result<Option<U>, AllocError>
     ensures ok { OnOk result (place.new ≡ option_map (E.after edit) place.old) }
-    ensures undone { IfOk result (λ undo. MatchOption undo (place.new ≡ place.old) (λ it. option_map (U.back it) place.new ≡ place.old)) }
+    ensures undone { IfOk result (λ undo.
+        MatchOption undo (place.new ≡ place.old) (λ it. option_map (U.back it) place.new ≡ place.old)) }
     ensures err { OnErr result (place.new ≡ place.old) }
 {
     match place {
@@ -129,7 +137,7 @@ fn edit_held_noted<X, U: Undo<X>, E: Edit<X, U>>(
     }
 }
 
-// What a place holds is what it was before a change.
+/// What a place holds is what it was before a change.
 fn undo_held<X, U: Undo<X>>(place: &mut Option<X>, undo: U)
     ensures { place.new ≡ option_map (U.back undo) place.old }
 {

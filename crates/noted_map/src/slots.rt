@@ -1,6 +1,7 @@
 //! The places of a map, and how many hold a value.
 
-ghost use Rattle.std.specs.Prelude.{◌≡◌, ◌<◌, ◌^◌, [], OnOk, OnErr, IfOk, MatchOption, None, Some, length, option_copied};
+ghost use Rattle.std.specs.Prelude.{◌≡◌, ◌<◌, ◌^◌, [], OnOk, OnErr, IfOk, MatchOption, None, Some, length};
+ghost use Rattle.std.specs.Prelude.{option_copied};
 ghost use Rattle.std.specs.Option.{option_map};
 ghost use Rattle.std.specs.List.Sorted.{IsStrictlySortedBy};
 ghost use Rattle.std.specs.Map.{keys_of};
@@ -146,7 +147,9 @@ impl<K: Key, X: Drop> Slots<K, X> {
         edit: E,
     ) -> Result<Option<U>, AllocError>
         ensures ok { OnOk result (self.new ≡ change K.cmp self.old key.now (option_map (E.after edit))) }
-        ensures undone { IfOk result (λ undo. MatchOption undo (self.new ≡ self.old) (λ it. change K.cmp self.new key.now (option_map (U.back it)) ≡ self.old)) }
+        ensures undone { IfOk result (λ undo.
+            MatchOption undo (self.new ≡ self.old) (λ it.
+            change K.cmp self.new key.now (option_map (U.back it)) ≡ self.old)) }
         ensures err { OnErr result (self.new ≡ self.old) }
     {
         edit_at_noted(&mut self.places, key, edit)

@@ -10,7 +10,8 @@
 //! hold lies in memory once. It is for the caller to choose; nobody who reads sees a difference.
 #![tactic(auto)]
 
-ghost use Rattle.std.specs.Prelude.{◌≡◌, ◌≢◌, ◌⊎◌, ◌+◌, ◌-◌, ◌^◌, ◌<◌, ◌≤◌, ◌↔◌, [], ◌++◌, length, take, drop, min, IsTrue, IfSome, IfNone, OnOk, OnErr, true, false};
+ghost use Rattle.std.specs.Prelude.{◌≡◌, ◌≢◌, ◌⊎◌, ◌+◌, ◌-◌, ◌^◌, ◌<◌, ◌≤◌, ◌↔◌, [], ◌++◌, length, take, drop, min};
+ghost use Rattle.std.specs.Prelude.{IsTrue, IfSome, IfNone, OnOk, OnErr, true, false};
 ghost use Rattle.outbox.specs.Queue.{room};
 
 mod shares;
@@ -80,7 +81,14 @@ impl Outbox {
     /// An empty outbox in which at most `limit` bytes may stand unread, and never more than can be counted.
     /// It takes no memory yet.
     pub fn new(alloc: Global, limit: usize) -> Outbox
-        ensures { result ≡ record { limit = min limit (2 ^ 63 - 1); unread = []; cut = false; spare = 0; spare_pieces = 0 } }
+        ensures { result ≡ record {
+          limit = min limit (2 ^ 63 - 1);
+          unread = [];
+          cut = false;
+          spare = 0;
+          spare_pieces =
+              0;
+        } }
     {
         Outbox {
             limit: limit.min(COUNTED),
@@ -345,7 +353,8 @@ impl Outbox {
           spare = self.new.spare;
           spare_pieces = self.new.spare_pieces;
         } }
-        ensures handed { IfSome result (λ _. (self.old.unread ≡ []) × (self.new.spare ≡ 0) × (self.new.spare_pieces ≡ 0)) }
+        ensures handed { IfSome result (λ _.
+            (self.old.unread ≡ []) × (self.new.spare ≡ 0) × (self.new.spare_pieces ≡ 0)) }
         ensures none { IfNone result ((self.new ≡ self.old) × (self.old.unread ≢ [])) }
     {
         if self.unread() == 0 {

@@ -1,6 +1,7 @@
 //! The shared pieces of an outbox.
 
-ghost use Rattle.std.specs.Prelude.{◌≡◌, ◌+◌, ◌^◌, ◌<◌, ◌≤◌, [], ◌∷◌, ◌++◌, ◌==◌, length, OnOk, OnErr, IfSome, IfNone, IsSome, ◌↔◌};
+ghost use Rattle.std.specs.Prelude.{◌≡◌, ◌+◌, ◌^◌, ◌<◌, ◌≤◌, [], ◌∷◌, ◌++◌, ◌==◌, length, OnOk, OnErr, IfSome, IfNone};
+ghost use Rattle.std.specs.Prelude.{IsSome, ◌↔◌};
 ghost use Rattle.std.specs.Option.{option_to_list};
 ghost use Rattle.outbox.specs.Woven.{own_before, shared_bytes};
 
@@ -49,9 +50,11 @@ impl Model for Shares {
 
     ghost Value = { Pending };
 
-    ghost view = { λ s. pending (λ b. record { items = b.value.queue.items; places = deque_capacity b.value.queue - deque_len b.value.queue }) s.held };
+    ghost view = { λ s. pending (λ b. record
+        { items = b.value.queue.items; places = deque_capacity b.value.queue - deque_len b.value.queue }) s.held };
 
-    ghost invariant = { λ s. IfSome s.held (λ b. (b.value.before ≡ own_before b.value.queue.items) × (b.value.bytes ≡ shared_bytes b.value.queue.items)) };
+    ghost invariant = { λ s. IfSome s.held (λ b.
+        (b.value.before ≡ own_before b.value.queue.items) × (b.value.bytes ≡ shared_bytes b.value.queue.items)) };
 }
 
 impl Shares {

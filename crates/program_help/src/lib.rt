@@ -29,8 +29,8 @@ impl Question {
     }
 }
 
-/// Answers on standard output where the program's only argument is `--help` or `--version`, and says whether it was. A print that
-/// fails is ignored. Fails only where memory for the arguments is refused.
+/// Answers on standard output where the program's only argument is `--help` or `--version`, and says whether it was. A
+/// print that fails is ignored. Fails only where memory for the arguments is refused.
 pub fn answers<R: Env + Print + AllocGlobal>(
     rt: &R,
     name: &str,

@@ -11,8 +11,10 @@ IsSomePort text = (number : ℕ) × IsPort text number
 
 -- two ports with a space between them
 abbrev pub ArePorts : List ℕ → Type 0
-ArePorts text = (source destination : List ℕ) × (text ≡ source ++ 32 ∷ destination) × IsSomePort source × IsSomePort destination
+ArePorts text = (source destination : List ℕ) × (text ≡ source ++ 32 ∷ destination) × IsSomePort source
+    × IsSomePort destination
 
 abbrev pub IsRoute : List ℕ → List ℕ → Type 0
 IsRoute route source =
-    (rest destination ports : List ℕ) × LeadsWithAddress route source rest × LeadsWithAddress rest destination ports × ArePorts ports
+    (rest destination ports : List ℕ) × LeadsWithAddress route source rest × LeadsWithAddress rest destination ports
+    × ArePorts ports

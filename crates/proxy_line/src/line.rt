@@ -33,7 +33,8 @@ impl ProxySource {
 
 /// Where a connection comes from that begins with this line, its CR LF counted:
 ///
-/// - `PROXY TCP4 SOURCE DESTINATION SOURCE_PORT DESTINATION_PORT` gives the source: two IPv4 addresses and two ports, 0 to 65535, all
+/// - `PROXY TCP4 SOURCE DESTINATION SOURCE_PORT DESTINATION_PORT` gives the source: two IPv4 addresses and two ports, 0
+///   to 65535, all
 ///   without leading zeros, each behind one space;
 /// - `PROXY UNKNOWN`, and `PROXY UNKNOWN ` with anything but LF behind it, give none.
 ///
@@ -86,7 +87,8 @@ fn source_of(route: &[u8]) -> Option<[u8; 4]>
 /// The address before the first space, and what stands behind that.
 fn address_before_space(text: &[u8]) -> Option<([u8; 4], &[u8])>
     ensures sound { IfSome result (λ parts. LeadsWithAddress text.now parts.0 parts.1.now) }
-    ensures complete { (ip rest : List ℕ) → LeadsWithAddress text.now ip rest → IsSomeAnd result (λ parts. (parts.0 ≡ ip) × (parts.1.now ≡ rest)) }
+    ensures complete { (ip rest : List ℕ) → LeadsWithAddress text.now ip rest
+        → IsSomeAnd result (λ parts. (parts.0 ≡ ip) × (parts.1.now ≡ rest)) }
 {
     let (host, rest) = part_at(text, b' ')?;
     Some((address(host)?, rest))

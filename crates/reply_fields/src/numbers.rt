@@ -1,7 +1,8 @@
 //! Reading one number, and the bytes behind it.
 
 ghost use Rattle.std.specs.Prelude.{◌≡◌, ◌≤◌, ℤ, ◌≤ℤ◌, IfErr, IfOk, Some, ◌==◌};
-ghost use Rattle.reply_fields.specs.Fields.{Gives, begins_with, flag_at, is_canonical, number_at, number_in, wide_at, whole};
+ghost use Rattle.reply_fields.specs.Fields.{Gives, begins_with, flag_at, is_canonical, number_at, number_in, wide_at};
+ghost use Rattle.reply_fields.specs.Fields.{whole};
 
 use crate::error::ReadError;
 use crate::fields::piece_at;
@@ -37,7 +38,8 @@ pub fn small_at(bytes: &[u8], high: u8) -> Result<(u8, &[u8]), ReadError>
     Ok((number as u8, rest))
 }
 
-/// The message id, 0 to 2,147,483,647, that the whole word is, in decimal without needless zeros; `None` where it is none.
+/// The message id, 0 to 2,147,483,647, that the whole word is, in decimal without needless zeros; `None` where it is
+/// none.
 pub fn id_of(word: &[u8]) -> Option<u32>
     ensures { result ≡ number_in 0 2147483647 word.now }
 {
@@ -84,10 +86,11 @@ pub fn flag_at(bytes: &[u8]) -> Result<(bool, &[u8]), ReadError>
     Ok((number == 1, rest))
 }
 
-// The number that prints as this word.
+/// The number that prints as this word.
 fn canonical(word: &[u8], low: i64, high: i64) -> Result<i64, ReadError>
     ensures some { IfOk result (λ z. (whole word.now ≡ Some z) × (low ≤ℤ z) × (z ≤ℤ high)) }
-    ensures none { IfErr result (λ e. (e ≡ ReadError.Unread) × ((z : ℤ) → whole word.now ≡ Some z → low ≤ℤ z → z ≤ℤ high → ⊥)) }
+    ensures none { IfErr result (λ e. (e ≡ ReadError.Unread)
+        × ((z : ℤ) → whole word.now ≡ Some z → low ≤ℤ z → z ≤ℤ high → ⊥)) }
 {
     if !is_canonical(word) {
         return Err(ReadError::Unread);
@@ -98,7 +101,7 @@ fn canonical(word: &[u8], low: i64, high: i64) -> Result<i64, ReadError>
     }
 }
 
-// No needless zero: neither `007` nor `-0`.
+/// No needless zero: neither `007` nor `-0`.
 fn is_canonical(word: &[u8]) -> bool
     ensures { result ≡ is_canonical word.now }
 {

@@ -31,7 +31,8 @@ pub struct Head<'a> {
 /// line reads as no pair of an id and a reply.
 #[tactic(auto, unfolding(crate::specs::Lines::read_line))]
 pub fn read_head(line: &[u8]) -> Option<Head<'_>>
-    ensures some { IfSome result (λ head. read_line line.now ≡ with_id head.id (read_arguments head.command head.arguments.now)) }
+    ensures some { IfSome result (λ head.
+        read_line line.now ≡ with_id head.id (read_arguments head.command head.arguments.now)) }
     ensures none { IfNone result (read_line line.now ≡ None) }
 {
     match line {
@@ -48,7 +49,8 @@ pub fn read_head(line: &[u8]) -> Option<Head<'_>>
 
 #[tactic(auto, unfolding(crate::specs::Lines::read_numbered))]
 fn numbered_head(bytes: &[u8]) -> Option<Head<'_>>
-    ensures some { IfSome result (λ head. read_numbered bytes.now ≡ with_id head.id (read_arguments head.command head.arguments.now)) }
+    ensures some { IfSome result (λ head.
+        read_numbered bytes.now ≡ with_id head.id (read_arguments head.command head.arguments.now)) }
     ensures none { IfNone result (read_numbered bytes.now ≡ None) }
 {
     let (digits, rest) = split_at_byte(bytes, b' ');
@@ -63,7 +65,8 @@ fn numbered_head(bytes: &[u8]) -> Option<Head<'_>>
 
 #[tactic(auto, unfolding(crate::specs::Lines::read_body))]
 fn body_head(id: Option<u32>, bytes: &[u8]) -> Option<Head<'_>>
-    ensures some { IfSome result (λ head. with_id id (read_body bytes.now) ≡ with_id head.id (read_arguments head.command head.arguments.now)) }
+    ensures some { IfSome result (λ head.
+        with_id id (read_body bytes.now) ≡ with_id head.id (read_arguments head.command head.arguments.now)) }
     ensures none { IfNone result (read_body bytes.now ≡ None) }
 {
     let (word, arguments) = split_at_byte(bytes, b' ');
@@ -97,7 +100,8 @@ pub fn read_client_status(
     alloc: Global,
     arguments: &[u8],
 ) -> Result<Option<(NameBuf, u32)>, AllocError>
-    ensures some { IfOk result (λ found. IfSome found (λ x. read_arguments command.ClientStatus arguments.now ≡ Some (reply.ClientStatus x.0 x.1))) }
+    ensures some { IfOk result (λ found. IfSome found (λ x.
+        read_arguments command.ClientStatus arguments.now ≡ Some (reply.ClientStatus x.0 x.1))) }
     ensures none { IfOk result (λ found. IfNone found (read_arguments command.ClientStatus arguments.now ≡ None)) }
 {
     match status_of(alloc, arguments) {
@@ -113,7 +117,8 @@ pub fn read_said(
     alloc: Global,
     arguments: &[u8],
 ) -> Result<Option<(NameBuf, NameBuf, TextBuf)>, AllocError>
-    ensures some { IfOk result (λ found. IfSome found (λ x. read_arguments command.Said arguments.now ≡ Some (reply.Said x.0 x.1 x.2))) }
+    ensures some { IfOk result (λ found. IfSome found (λ x.
+        read_arguments command.Said arguments.now ≡ Some (reply.Said x.0 x.1 x.2))) }
     ensures none { IfOk result (λ found. IfNone found (read_arguments command.Said arguments.now ≡ None)) }
 {
     match two_names_and_text(alloc, arguments) {

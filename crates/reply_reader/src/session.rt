@@ -87,7 +87,7 @@ pub(crate) fn client_status(alloc: Global, bytes: &[u8]) -> Result<Reply, ReadEr
     Ok(Reply::ClientStatus { user, status })
 }
 
-// A user and its status.
+/// A user and its status.
 #[tactic(auto, unfolding(crate::specs::Reading::shaped))]
 pub(crate) fn status_of(alloc: Global, bytes: &[u8]) -> Result<(NameBuf, u32), ReadError>
     ensures { Gives (λ x. reply.ClientStatus x.0 x.1) result (read_arguments command.ClientStatus bytes.now) }

@@ -1,5 +1,6 @@
 -- The request that a head and rows of fields are.
-use Rattle.std.specs.Prelude.{◌+◌, ℕ, zero, suc, ℤ, pos, negsuc, Bool, false, not, ◌&&◌, ◌||◌, ◌==◌, nat_le, if◌then◌else◌}
+use Rattle.std.specs.Prelude.{◌+◌, ℕ, zero, suc, ℤ, pos, negsuc, Bool, false, not, ◌&&◌, ◌||◌, ◌==◌, nat_le}
+use Rattle.std.specs.Prelude.{if◌then◌else◌}
 use Rattle.std.specs.Prelude.{List, [], ◌∷◌, length, take, drop, slice_get, Option, Some, None, Result, Ok, Err}
 use Rattle.line_words.specs.Bytes.{is_word, is_name, is_key, is_sentence, is_text}
 use Rattle.line_words.specs.Kinds.{is_wide}
@@ -50,7 +51,8 @@ seen view (Err e) = Err e
 
 -- the bytes that a field has in the text, if it holds a text whose place lies inside
 abbrev pub bytes_in : List ℕ → FieldRow → Option (List ℕ)
-bytes_in text f = if f.holds == 1 && nat_le (f.text.start + f.text.length) (length text) then Some (take f.text.length (drop f.text.start text)) else None
+bytes_in text f = if f.holds == 1 && nat_le (f.text.start + f.text.length) (length text)
+    then Some (take f.text.length (drop f.text.start text)) else None
 
 -- those of a field that pass the test
 abbrev pub if_is : (List ℕ → Bool) → Option (List ℕ) → Result (List ℕ) RequestError
@@ -99,7 +101,8 @@ abbrev pub all_pairs : List ℕ → List FieldRow → Result (List Pair) Request
 all_pairs text [] = Ok []
 all_pairs text (f ∷ []) = Err error.BadFields
 all_pairs text (f ∷ g ∷ fs) =
-    text_of is_key text f >>= λ key. text_of is_sentence text g >>= λ value. all_pairs text fs >>= λ ps. Ok (record { key = key; value = value } ∷ ps)
+    text_of is_key text f >>= λ key. text_of is_sentence text g >>= λ value. all_pairs text fs >>= λ ps.
+    Ok (record { key = key; value = value } ∷ ps)
 
 -- a list that is not empty
 abbrev pub listed : {A : Type 0} → List A → Result (List A × List FieldRow) RequestError
@@ -107,7 +110,8 @@ listed [] = Err error.NothingListed
 listed (x ∷ xs) = Ok (x ∷ xs, [])
 
 -- the value of one field, and the other fields
-abbrev pub one : {A : Type 0} → (FieldRow → Result A RequestError) → List FieldRow → Result (A × List FieldRow) RequestError
+abbrev pub one : {A : Type 0} → (FieldRow → Result A RequestError) → List FieldRow
+    → Result (A × List FieldRow) RequestError
 one value fs = first fs >>= λ f. value f.0 >>= λ x. Ok (x, f.1)
 
 -- an argument of this kind, and the fields behind its own
@@ -134,7 +138,8 @@ abbrev pub arguments : List ℕ → Bool → (ks : List Kind) → List FieldRow 
 arguments text missing [] [] = Ok tt
 arguments text missing [] (f ∷ fs) = Err error.BadFields
 arguments text missing (k ∷ ks) fs =
-    argument text k fs >>= λ x. unless_skipped missing (is_absent k x.0) (arguments text (missing || is_absent k x.0) ks x.1 >>= λ xs. Ok (x.0, xs))
+    argument text k fs >>= λ x. unless_skipped missing (is_absent k x.0) (arguments text (missing
+    || is_absent k x.0) ks x.1 >>= λ xs. Ok (x.0, xs))
 
 -- the message id
 abbrev pub id_of : HeadRow → Result (Option ℕ) RequestError
@@ -144,7 +149,8 @@ id_of h = if h.numbered == 0 then Ok None else (if nat_le h.id id_limit then Ok 
 abbrev pub request_with : HeadRow → List FieldRow → List ℕ → Option Entry → Result Request RequestError
 request_with h fs text None = Err error.NoCommand
 request_with h fs text (Some e) =
-    id_of h >>= λ id. arguments text false e.kinds fs >>= λ xs. Ok (record { id = id; command = applied e.kinds e.maker xs })
+    id_of h >>= λ id. arguments text false e.kinds fs >>= λ xs.
+    Ok (record { id = id; command = applied e.kinds e.maker xs })
 
 -- the request of this head and these fields, whose texts are places in the text
 abbrev pub request_of : HeadRow → List FieldRow → List ℕ → Result Request RequestError

@@ -19,14 +19,16 @@ pub record Part : Type 0 where
   pub behind : List FieldRow
 
 abbrev pub part : ℕ → List ℕ → Kind → List FieldRow → Result Part RequestError
-part mark text k fs = argument text k fs >>= λ x. Ok (record { text = written mark k x.0; absent = is_absent k x.0; behind = x.1 })
+part mark text k fs = argument text k fs >>= λ x.
+    Ok (record { text = written mark k x.0; absent = is_absent k x.0; behind = x.1 })
 
 -- the same of arguments of these kinds, to the last field
 abbrev pub parts : Bool → ℕ → List ℕ → List Kind → List FieldRow → Result (List ℕ) RequestError
 parts missing mark text [] [] = Ok []
 parts missing mark text [] (f ∷ fs) = Err error.BadFields
 parts missing mark text (k ∷ ks) fs =
-    part mark text k fs >>= λ p. unless_skipped missing p.absent (parts (missing || p.absent) (mark_behind k mark) text ks p.behind >>= λ t. Ok (p.text ++ t))
+    part mark text k fs >>= λ p. unless_skipped missing p.absent (parts (missing
+    || p.absent) (mark_behind k mark) text ks p.behind >>= λ t. Ok (p.text ++ t))
 
 -- the words of these fields, each behind a space
 abbrev pub words_put : List ℕ → List FieldRow → Result (List ℕ) RequestError

@@ -1,7 +1,7 @@
 //! The arguments of a request, written one behind the other from its fields.
 //!
-//! Each function takes its fields from the front, and tells the fields that are left and whether the argument is absent. Where it
-//! fails a part may be written.
+//! Each function takes its fields from the front, and tells the fields that are left and whether the argument is
+//! absent. Where it fails a part may be written.
 
 ghost use Rattle.std.specs.Prelude.{◌≡◌, ◌||◌, [], IfErr, IfOk, Ok, false, map};
 ghost use Rattle.command_forms.specs.Table as kind;
@@ -24,7 +24,8 @@ pub(crate) fn put_arguments(
     text: &[u8],
     line: &mut Vec<u8>,
 ) -> Result<(), RequestError>
-    ensures put { IfOk result (λ _. PutAll (parts false 32 text.now (map kind_of kinds.now) fields.now) line.old.items line.new.items) }
+    ensures put { IfOk result (λ _. PutAll (parts false 32 text.now (map kind_of kinds.now) fields.now) line.old.items
+        line.new.items) }
     ensures blamed { IfErr result (λ e. Blames e (parts false 32 text.now (map kind_of kinds.now) fields.now)) }
 {
     let mut rest = fields;
@@ -42,7 +43,7 @@ pub(crate) fn put_arguments(
     Ok(())
 }
 
-// Whether an argument is missing so far. Nothing that is there may stand behind one.
+/// Whether an argument is missing so far. Nothing that is there may stand behind one.
 fn none_skipped(is_missing: bool, is_absent: bool) -> Result<bool, RequestError>
     ensures { result ≡ unless_skipped is_missing is_absent (Ok (is_missing || is_absent)) }
 {
@@ -52,7 +53,7 @@ fn none_skipped(is_missing: bool, is_absent: bool) -> Result<bool, RequestError>
     Ok(is_missing || is_absent)
 }
 
-// What stands before a sentence behind an argument of this kind.
+/// What stands before a sentence behind an argument of this kind.
 fn mark_behind(kind: RequestKind, mark: u8) -> u8
     ensures { result ≡ mark_behind (kind_of kind) mark }
 {
@@ -70,7 +71,8 @@ fn put_argument<'a>(
     text: &[u8],
     line: &mut Vec<u8>,
 ) -> Result<(&'a [FieldRow], bool), RequestError>
-    ensures put { IfOk result (λ x. Put (part mark text.now (kind_of kind) fields.entry.now) x.0.now x.1 line.old.items line.new.items) }
+    ensures put { IfOk result (λ x. Put (part mark text.now (kind_of kind) fields.entry.now) x.0.now x.1 line.old.items
+        line.new.items) }
     ensures blamed { IfErr result (λ e. Blames e (part mark text.now (kind_of kind) fields.entry.now)) }
 {
     match kind {
@@ -94,7 +96,8 @@ fn put_word<'a>(
     text: &[u8],
     line: &mut Vec<u8>,
 ) -> Result<(&'a [FieldRow], bool), RequestError>
-    ensures put { IfOk result (λ x. Put (part 32 text.now kind.Word fields.entry.now) x.0.now x.1 line.old.items line.new.items) }
+    ensures put { IfOk result (λ x. Put (part 32 text.now kind.Word fields.entry.now) x.0.now x.1 line.old.items
+        line.new.items) }
     ensures blamed { IfErr result (λ e. Blames e (part 32 text.now kind.Word fields.entry.now)) }
 {
     let (field, behind) = first(fields)?;
@@ -107,7 +110,8 @@ fn put_optional_word<'a>(
     text: &[u8],
     line: &mut Vec<u8>,
 ) -> Result<(&'a [FieldRow], bool), RequestError>
-    ensures put { IfOk result (λ x. Put (part 32 text.now kind.OptionalWord fields.entry.now) x.0.now x.1 line.old.items line.new.items) }
+    ensures put { IfOk result (λ x. Put (part 32 text.now kind.OptionalWord fields.entry.now) x.0.now x.1
+        line.old.items line.new.items) }
     ensures blamed { IfErr result (λ e. Blames e (part 32 text.now kind.OptionalWord fields.entry.now)) }
 {
     let (field, behind) = first(fields)?;
@@ -123,7 +127,8 @@ fn put_name<'a>(
     text: &[u8],
     line: &mut Vec<u8>,
 ) -> Result<(&'a [FieldRow], bool), RequestError>
-    ensures put { IfOk result (λ x. Put (part 32 text.now kind.Name fields.entry.now) x.0.now x.1 line.old.items line.new.items) }
+    ensures put { IfOk result (λ x. Put (part 32 text.now kind.Name fields.entry.now) x.0.now x.1 line.old.items
+        line.new.items) }
     ensures blamed { IfErr result (λ e. Blames e (part 32 text.now kind.Name fields.entry.now)) }
 {
     let (field, behind) = first(fields)?;
@@ -136,7 +141,8 @@ fn put_natural<'a>(
     fields: &'a [FieldRow],
     line: &mut Vec<u8>,
 ) -> Result<(&'a [FieldRow], bool), RequestError>
-    ensures put { IfOk result (λ x. Put (part 32 [] (kind.Natural high) fields.entry.now) x.0.now x.1 line.old.items line.new.items) }
+    ensures put { IfOk result (λ x. Put (part 32 [] (kind.Natural high) fields.entry.now) x.0.now x.1 line.old.items
+        line.new.items) }
     ensures blamed { IfErr result (λ e. Blames e (part 32 [] (kind.Natural high) fields.entry.now)) }
 {
     let (field, behind) = first(fields)?;
@@ -148,7 +154,8 @@ fn put_wide<'a>(
     fields: &'a [FieldRow],
     line: &mut Vec<u8>,
 ) -> Result<(&'a [FieldRow], bool), RequestError>
-    ensures put { IfOk result (λ x. Put (part 32 [] kind.Wide fields.entry.now) x.0.now x.1 line.old.items line.new.items) }
+    ensures put { IfOk result (λ x. Put (part 32 [] kind.Wide fields.entry.now) x.0.now x.1 line.old.items
+        line.new.items) }
     ensures blamed { IfErr result (λ e. Blames e (part 32 [] kind.Wide fields.entry.now)) }
 {
     let (field, behind) = first(fields)?;
@@ -160,7 +167,8 @@ fn put_flag<'a>(
     fields: &'a [FieldRow],
     line: &mut Vec<u8>,
 ) -> Result<(&'a [FieldRow], bool), RequestError>
-    ensures put { IfOk result (λ x. Put (part 32 [] kind.Flag fields.entry.now) x.0.now x.1 line.old.items line.new.items) }
+    ensures put { IfOk result (λ x. Put (part 32 [] kind.Flag fields.entry.now) x.0.now x.1 line.old.items
+        line.new.items) }
     ensures blamed { IfErr result (λ e. Blames e (part 32 [] kind.Flag fields.entry.now)) }
 {
     let (field, behind) = first(fields)?;
@@ -174,7 +182,8 @@ fn put_sentence<'a>(
     text: &[u8],
     line: &mut Vec<u8>,
 ) -> Result<(&'a [FieldRow], bool), RequestError>
-    ensures put { IfOk result (λ x. Put (part mark text.now kind.Sentence fields.entry.now) x.0.now x.1 line.old.items line.new.items) }
+    ensures put { IfOk result (λ x. Put (part mark text.now kind.Sentence fields.entry.now) x.0.now x.1 line.old.items
+        line.new.items) }
     ensures blamed { IfErr result (λ e. Blames e (part mark text.now kind.Sentence fields.entry.now)) }
 {
     let (field, behind) = first(fields)?;
@@ -187,7 +196,8 @@ fn put_text<'a>(
     text: &[u8],
     line: &mut Vec<u8>,
 ) -> Result<(&'a [FieldRow], bool), RequestError>
-    ensures put { IfOk result (λ x. Put (part 32 text.now kind.Text fields.entry.now) x.0.now x.1 line.old.items line.new.items) }
+    ensures put { IfOk result (λ x. Put (part 32 text.now kind.Text fields.entry.now) x.0.now x.1 line.old.items
+        line.new.items) }
     ensures blamed { IfErr result (λ e. Blames e (part 32 text.now kind.Text fields.entry.now)) }
 {
     let (field, behind) = first(fields)?;
@@ -200,7 +210,8 @@ fn put_optional_text<'a>(
     text: &[u8],
     line: &mut Vec<u8>,
 ) -> Result<(&'a [FieldRow], bool), RequestError>
-    ensures put { IfOk result (λ x. Put (part 32 text.now kind.OptionalText fields.entry.now) x.0.now x.1 line.old.items line.new.items) }
+    ensures put { IfOk result (λ x. Put (part 32 text.now kind.OptionalText fields.entry.now) x.0.now x.1
+        line.old.items line.new.items) }
     ensures blamed { IfErr result (λ e. Blames e (part 32 text.now kind.OptionalText fields.entry.now)) }
 {
     let (field, behind) = first(fields)?;
@@ -215,7 +226,8 @@ fn put_login_flags<'a>(
     fields: &'a [FieldRow],
     line: &mut Vec<u8>,
 ) -> Result<(&'a [FieldRow], bool), RequestError>
-    ensures put { IfOk result (λ x. Put (part 32 [] kind.LoginFlags fields.entry.now) x.0.now x.1 line.old.items line.new.items) }
+    ensures put { IfOk result (λ x. Put (part 32 [] kind.LoginFlags fields.entry.now) x.0.now x.1 line.old.items
+        line.new.items) }
     ensures blamed { IfErr result (λ e. Blames e (part 32 [] kind.LoginFlags fields.entry.now)) }
 {
     let (field, behind) = first(fields)?;
@@ -231,7 +243,8 @@ fn put_pairs<'a>(
     text: &[u8],
     line: &mut Vec<u8>,
 ) -> Result<(&'a [FieldRow], bool), RequestError>
-    ensures put { IfOk result (λ x. Put (part 32 text.now kind.Pairs fields.entry.now) x.0.now x.1 line.old.items line.new.items) }
+    ensures put { IfOk result (λ x. Put (part 32 text.now kind.Pairs fields.entry.now) x.0.now x.1 line.old.items
+        line.new.items) }
     ensures blamed { IfErr result (λ e. Blames e (part 32 text.now kind.Pairs fields.entry.now)) }
 {
     if fields.is_empty() {
@@ -246,7 +259,8 @@ fn put_words<'a>(
     text: &[u8],
     line: &mut Vec<u8>,
 ) -> Result<(&'a [FieldRow], bool), RequestError>
-    ensures put { IfOk result (λ x. Put (part 32 text.now kind.Words fields.entry.now) x.0.now x.1 line.old.items line.new.items) }
+    ensures put { IfOk result (λ x. Put (part 32 text.now kind.Words fields.entry.now) x.0.now x.1 line.old.items
+        line.new.items) }
     ensures blamed { IfErr result (λ e. Blames e (part 32 text.now kind.Words fields.entry.now)) }
 {
     if fields.is_empty() {
@@ -256,7 +270,7 @@ fn put_words<'a>(
     Ok((&[], false))
 }
 
-// A word for each field, each behind a space.
+/// A word for each field, each behind a space.
 fn add_words(fields: &[FieldRow], text: &[u8], line: &mut Vec<u8>) -> Result<(), RequestError>
     ensures put { IfOk result (λ _. PutAll (words_put text.now fields.now) line.old.items line.new.items) }
     ensures blamed { IfErr result (λ e. Blames e (words_put text.now fields.now)) }
@@ -267,7 +281,7 @@ fn add_words(fields: &[FieldRow], text: &[u8], line: &mut Vec<u8>) -> Result<(),
     Ok(())
 }
 
-// A pair for each two fields, the first behind a space and the others behind tabs.
+/// A pair for each two fields, the first behind a space and the others behind tabs.
 fn add_pairs(fields: &[FieldRow], text: &[u8], line: &mut Vec<u8>) -> Result<(), RequestError>
     ensures put { IfOk result (λ _. PutAll (pairs_put 32 text.now fields.now) line.old.items line.new.items) }
     ensures blamed { IfErr result (λ e. Blames e (pairs_put 32 text.now fields.now)) }
@@ -281,14 +295,15 @@ fn add_pairs(fields: &[FieldRow], text: &[u8], line: &mut Vec<u8>) -> Result<(),
     Ok(())
 }
 
-// The pair of the first two fields.
+/// The pair of the first two fields.
 fn put_pair<'a>(
     mark: u8,
     fields: &'a [FieldRow],
     text: &[u8],
     line: &mut Vec<u8>,
 ) -> Result<&'a [FieldRow], RequestError>
-    ensures put { IfOk result (λ behind. Put (pair_part mark text.now fields.entry.now) behind.now false line.old.items line.new.items) }
+    ensures put { IfOk result (λ behind. Put (pair_part mark text.now fields.entry.now) behind.now false line.old.items
+        line.new.items) }
     ensures blamed { IfErr result (λ e. Blames e (pair_part mark text.now fields.entry.now)) }
 {
     let (key, others) = first(fields)?;

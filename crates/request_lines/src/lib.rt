@@ -1,6 +1,7 @@
 //! Lines of a client for other languages: the line of a request, printed from rows of its fields.
 //!
-//! One table says of each request its word and what kinds its arguments have (`request_table`). All else goes by kinds of argument.
+//! One table says of each request its word and what kinds its arguments have (`request_table`). All else goes by kinds
+//! of argument.
 #![tactic(auto)]
 
 mod arguments;

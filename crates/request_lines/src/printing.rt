@@ -14,9 +14,9 @@ use std::alloc::Global;
 /// The most bytes that a line of a client has before its LF.
 const LINE_LIMIT: usize = 8192;
 
-/// The line, with its LF, of the request of this kind, message id and fields, as `print_request` of `request_printer` prints it. The
-/// fields stand in the order of docs/PROTOCOL.md, section 3, and their texts are places in `text`. Fails where there is no such
-/// request, where it has no line, or where memory is refused.
+/// The line, with its LF, of the request of this kind, message id and fields, as `print_request` of `request_printer`
+/// prints it. The fields stand in the order of docs/PROTOCOL.md, section 3, and their texts are places in `text`. Fails
+/// where there is no such request, where it has no line, or where memory is refused.
 pub fn print_request(
     alloc: Global,
     head: &HeadRow,
@@ -41,7 +41,7 @@ pub fn print_request(
     Ok(line)
 }
 
-// The message id, 0 to 2147483647, if there is one.
+/// The message id, 0 to 2147483647, if there is one.
 fn id_of(head: &HeadRow) -> Result<Option<u32>, RequestError>
     ensures { result ≡ id_of head.now }
 {

@@ -217,7 +217,7 @@ pub(crate) fn row_of(kind: u32) -> Option<&'static RequestRow>
     }
 }
 
-// The whole table.
+/// The whole table.
 #[tactic(auto, unfolding(command_forms::specs::Table::entries, command_forms::specs::Table::battle_entries, command_forms::specs::Table::room_entries, command_forms::specs::Table::host_entries))]
 fn requests() -> &'static [RequestRow]
     ensures { AreRows entries result.now }

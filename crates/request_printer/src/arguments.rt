@@ -72,7 +72,7 @@ pub(crate) fn put_arguments(out: &mut Vec<u8>, command: &Command) -> Result<(), 
     }
 }
 
-// The command is LOGIN. The user id is left empty: the lobby does not keep it.
+/// The command is LOGIN. The user id is left empty: the lobby does not keep it.
 fn put_login(out: &mut Vec<u8>, command: &Command) -> Result<(), AllocError>
     requires { (arguments_of command.now).kinds ≡ login_row }
     ensures ok { IfOk result (λ _. out.new.items ≡ out.old.items ++ argument_text command.now) }
@@ -94,7 +94,7 @@ fn put_login(out: &mut Vec<u8>, command: &Command) -> Result<(), AllocError>
     Ok(())
 }
 
-// Who logs in.
+/// Who logs in.
 fn put_account(
     out: &mut Vec<u8>,
     user_name: &WordBuf,
@@ -111,7 +111,7 @@ fn put_account(
     Ok(())
 }
 
-// With what it does.
+/// With what it does.
 fn put_client(
     out: &mut Vec<u8>,
     local_ip: &WordBuf,
@@ -159,7 +159,7 @@ fn put_said(out: &mut Vec<u8>, name: &NameBuf, text: &TextBuf) -> Result<(), All
     Ok(())
 }
 
-// The command is OPENBATTLE.
+/// The command is OPENBATTLE.
 fn put_open_battle(out: &mut Vec<u8>, command: &Command) -> Result<(), AllocError>
     requires { (arguments_of command.now).kinds ≡ open_battle_row }
     ensures ok { IfOk result (λ _. out.new.items ≡ out.old.items ++ argument_text command.now) }
@@ -189,7 +189,7 @@ fn put_open_battle(out: &mut Vec<u8>, command: &Command) -> Result<(), AllocErro
     Ok(())
 }
 
-// What the battle is, and how it is entered.
+/// What the battle is, and how it is entered.
 fn put_host(
     out: &mut Vec<u8>,
     battle_type: u8,
@@ -249,7 +249,7 @@ fn put_titles(
     Ok(())
 }
 
-// The command is JOINBATTLE.
+/// The command is JOINBATTLE.
 fn put_join_battle(out: &mut Vec<u8>, command: &Command) -> Result<(), AllocError>
     requires { (arguments_of command.now).kinds ≡ join_battle_row }
     ensures ok { IfOk result (λ _. out.new.items ≡ out.old.items ++ argument_text command.now) }
@@ -294,7 +294,7 @@ fn put_deny(out: &mut Vec<u8>, user: &NameBuf, reason: &Option<TextBuf>) -> Resu
     }
 }
 
-// The command is UPDATEBATTLEINFO.
+/// The command is UPDATEBATTLEINFO.
 fn put_update_battle_info(out: &mut Vec<u8>, command: &Command) -> Result<(), AllocError>
     requires { (arguments_of command.now).kinds ≡ battle_info_row }
     ensures ok { IfOk result (λ _. out.new.items ≡ out.old.items ++ argument_text command.now) }
@@ -359,7 +359,7 @@ fn put_bot(
     Ok(())
 }
 
-// The command is ADDBOT.
+/// The command is ADDBOT.
 fn put_add_bot(out: &mut Vec<u8>, command: &Command) -> Result<(), AllocError>
     requires { (arguments_of command.now).kinds ≡ add_bot_row }
     ensures ok { IfOk result (λ _. out.new.items ≡ out.old.items ++ argument_text command.now) }
@@ -395,7 +395,7 @@ fn put_added_bot(
     Ok(())
 }
 
-// The command is ADDSTARTRECT.
+/// The command is ADDSTARTRECT.
 fn put_add_start_rect(out: &mut Vec<u8>, command: &Command) -> Result<(), AllocError>
     requires { (arguments_of command.now).kinds ≡ add_rectangle_row }
     ensures ok { IfOk result (λ _. out.new.items ≡ out.old.items ++ argument_text command.now) }

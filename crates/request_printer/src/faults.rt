@@ -46,7 +46,7 @@ fn argument_fault(command: &Command) -> Option<PrintError>
     }
 }
 
-// Each number is in the range of its argument.
+/// Each number is in the range of its argument.
 fn has_numbers_in_range(command: &Command) -> bool
     ensures { result ≡ in_range true (arguments_of command.now).kinds (arguments_of command.now).values }
 {
@@ -90,7 +90,7 @@ fn has_numbers_in_range(command: &Command) -> bool
     }
 }
 
-// Each list has something in it.
+/// Each list has something in it.
 fn has_something_listed(command: &Command) -> bool
     ensures { result ≡ all_listed true (arguments_of command.now).kinds (arguments_of command.now).values }
 {
@@ -103,7 +103,7 @@ fn has_something_listed(command: &Command) -> bool
     }
 }
 
-// An optional word is missing before an argument that is there.
+/// An optional word is missing before an argument that is there.
 fn skips_a_word(command: &Command) -> bool
     ensures { result ≡ has_gap (arguments_of command.now).kinds (arguments_of command.now).values }
 {
@@ -150,7 +150,7 @@ fn is_status(battle_status: u32, team_color: &i64) -> bool
     is_up_to(battle_status, u32::MAX) & is_wide(team_color)
 }
 
-// The command is OPENBATTLE.
+/// The command is OPENBATTLE.
 fn is_battle_in_range(command: &Command) -> bool
     requires { (arguments_of command.now).kinds ≡ open_battle_row }
     ensures { result ≡ in_range true (arguments_of command.now).kinds (arguments_of command.now).values }

@@ -37,7 +37,7 @@ pub fn print_request(request: &Request, out: &mut Vec<u8>) -> Result<(), PrintEr
     }
 }
 
-// The line under this word, if it is short enough.
+/// The line under this word, if it is short enough.
 fn print_line(out: &mut Vec<u8>, request: &Request, word: &[u8]) -> Result<(), PrintError>
     ensures line { OnOk result (out.new.items ≡ out.old.items ++ (line_under request.now word.now ++ 10 ∷ [])) }
     ensures fits { OnOk result (length (line_under request.now word.now) ≤ line_limit) }
@@ -54,7 +54,7 @@ fn print_line(out: &mut Vec<u8>, request: &Request, word: &[u8]) -> Result<(), P
     Ok(())
 }
 
-// The same, however long.
+/// The same, however long.
 fn put_request(out: &mut Vec<u8>, request: &Request, word: &[u8]) -> Result<(), AllocError>
     ensures ok { OnOk result (out.new.items ≡ out.old.items ++ (line_under request.now word.now ++ 10 ∷ [])) }
     ensures kept { Keeps out.old.items out.new.items }

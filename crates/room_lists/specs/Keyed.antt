@@ -1,5 +1,6 @@
 -- Items in order of first putting, each found by its key.
-use Rattle.std.specs.Prelude.{◌≡◌, ◌<◌, ◌≤◌, ℕ, Bool, not, if◌then◌else◌, List, [], ◌∷◌, filter, map, length, Option, Some, None, Vec}
+use Rattle.std.specs.Prelude.{◌≡◌, ◌<◌, ◌≤◌, ℕ, Bool, not, if◌then◌else◌, List, [], ◌∷◌, filter, map, length, Option}
+use Rattle.std.specs.Prelude.{Some, None, Vec}
 use Rattle.std.specs.declared.alloc.Global.{Global}
 use Rattle.std.specs.Borrow.{Bor}
 use Rattle.std.specs.List.{AllByRecursion, list_any, position_or_len}
@@ -42,7 +43,8 @@ module _ {T : Type 0} (key_of : T → List ℕ) where
   -- the keys that are there, each once, in the order of the list of keys
   abbrev pub keys_there : List T → List (List ℕ) → List (List ℕ)
   keys_there items [] = []
-  keys_there items (key ∷ keys) = if has_key key items then key ∷ keys_there (without_key key items) keys else keys_there items keys
+  keys_there items (key ∷ keys) = if has_key key items then key ∷ keys_there (without_key key items) keys
+      else keys_there items keys
 
   -- items of these keys, or none where the keys are more than so many
   abbrev pub AreFirsts : ℕ → List (List ℕ) → Option (Vec (Bor T) Global) → Type 0

@@ -1,5 +1,6 @@
 -- What the members of a battle share.
-use Rattle.std.specs.Prelude.{ℕ, ℤ, pos, Bool, not, nat_le, nat_lt, if◌then◌else◌, List, [], ◌∷◌, ◌++◌, map, filter, find, length, Option, Some, None}
+use Rattle.std.specs.Prelude.{ℕ, ℤ, pos, Bool, not, nat_le, nat_lt, if◌then◌else◌, List, [], ◌∷◌, ◌++◌, map, filter}
+use Rattle.std.specs.Prelude.{find, length, Option, Some, None}
 use Rattle.line_words.specs.declared.lists.Pair.{Pair}
 use Rattle.line_words.specs.Table.{ByNumber, put_number, without_number, same_name, is_among}
 use Rattle.room_lists.specs.Tags.{with_tags, without_tags}
@@ -28,8 +29,8 @@ pub record Asker : Type 0 where
   pub name : List ℕ
   pub script_password : Option (List ℕ)
 
--- Members in order of joining, bots in order of adding, start rectangles by ally number, tags in order of first setting, disabled
--- units in order of first disabling, and those who ask to join in order of asking
+-- Members in order of joining, bots in order of adding, start rectangles by ally number, tags in order of first
+-- setting, disabled units in order of first disabling, and those who ask to join in order of asking
 pub record Room : Type 0 where
   pub members : List Member
   pub bots : List Bot
@@ -43,7 +44,15 @@ abbrev pub new_member : List ℕ → Member
 new_member name = record { name = name; status = 0; colour = pos 0 }
 
 abbrev pub new_room : List ℕ → Room
-new_room founder = record { members = new_member founder ∷ []; bots = []; rects = []; tags = []; units = []; askers = [] }
+new_room founder = record {
+  members = new_member founder
+      ∷ [];
+  bots = [];
+  rects = [];
+  tags = [];
+  units = [];
+  askers = [];
+}
 
 abbrev pub member_names : Room → List (List ℕ)
 member_names room = map (λ m. m.name) room.members
@@ -60,13 +69,19 @@ all_members_but name room = record room { members = filter (λ m. not (same_name
 
 -- a member goes with its bots
 abbrev pub without_member : List ℕ → Room → Room
-without_member name room = record (all_members_but name room) { bots = filter (λ b. not (same_name name b.owner)) room.bots }
+without_member name room = record (all_members_but name room) {
+  bots = filter (λ b.
+      not (same_name name b.owner)) room.bots;
+}
 
 abbrev pub member_with : ℕ → ℤ → Member → Member
 member_with status colour m = record m { status = status; colour = colour }
 
 abbrev pub with_status : List ℕ → ℕ → ℤ → Room → Room
-with_status name status colour room = record room { members = map (λ m. if same_name name m.name then member_with status colour m else m) room.members }
+with_status name status colour room = record room {
+  members = map (λ m. if same_name name m.name
+      then member_with status colour m else m) room.members;
+}
 
 abbrev pub status_in : Option Member → ℕ
 status_in None = 0
@@ -102,7 +117,10 @@ abbrev pub bot_with : ℕ → ℤ → Bot → Bot
 bot_with status colour b = record b { status = status; colour = colour }
 
 abbrev pub with_bot_status : List ℕ → ℕ → ℤ → Room → Room
-with_bot_status name status colour room = record room { bots = map (λ b. if same_name name b.name then bot_with status colour b else b) room.bots }
+with_bot_status name status colour room = record room {
+  bots = map (λ b. if same_name name b.name
+      then bot_with status colour b else b) room.bots;
+}
 
 abbrev pub without_bot : List ℕ → Room → Room
 without_bot name room = record room { bots = filter (λ b. not (same_name name b.name)) room.bots }
@@ -145,7 +163,10 @@ abbrev pub has_asker : List ℕ → Room → Bool
 has_asker name room = is_among name (asker_names room)
 
 abbrev pub with_asker : List ℕ → Option (List ℕ) → Room → Room
-with_asker name script_password room = record room { askers = room.askers ++ record { name = name; script_password = script_password } ∷ [] }
+with_asker name script_password room = record room {
+  askers = room.askers
+      ++ record { name = name; script_password = script_password } ∷ [];
+}
 
 abbrev pub without_asker : List ℕ → Room → Room
 without_asker name room = record room { askers = filter (λ a. not (same_name name a.name)) room.askers }

@@ -1,6 +1,7 @@
 //! The bots of a room.
 
-ghost use Rattle.std.specs.Prelude.{◌≡◌, ◌∷◌, [], ◌++◌, map, filter, find, not, length, nat_le, if◌then◌else◌, OnOk, OnErr, IfOk, option_copied};
+ghost use Rattle.std.specs.Prelude.{◌≡◌, ◌∷◌, [], ◌++◌, map, filter, find, not, length, nat_le, if◌then◌else◌, OnOk};
+ghost use Rattle.std.specs.Prelude.{OnErr, IfOk, option_copied};
 ghost use Rattle.line_words.specs.Table.{same_name};
 ghost use Rattle.room_lists.specs.Room as room;
 
@@ -30,7 +31,14 @@ impl<S: StatusWord> Model for Bot<S> {
 
     ghost Value = { room.Bot };
 
-    ghost view = { λ b. record { name = b.name; owner = b.owner; status = S.number b.status; colour = b.colour; ai = b.ai } };
+    ghost view = { λ b. record {
+      name = b.name;
+      owner = b.owner;
+      status = S.number b.status;
+      colour = b.colour;
+      ai =
+          b.ai;
+    } };
 }
 
 impl<S: StatusWord> Bot<S> {
@@ -104,7 +112,8 @@ impl<S: StatusWord> Bot<S> {
 
     /// A status and a colour for the bot, if it has this name.
     fn put_status(&mut self, name: &WordBuf, status: S, colour: i64)
-        ensures { self.new ≡ (if same_name name.now self.old.name then room.bot_with (S.number status) colour self.old else self.old) }
+        ensures { self.new ≡ (if same_name name.now self.old.name
+            then room.bot_with (S.number status) colour self.old else self.old) }
     {
         if is_same(name.as_slice(), self.name.as_slice()) {
             self.status = status;
@@ -197,7 +206,8 @@ impl<S: StatusWord> Bots<S> {
 
     /// A status and a colour for those of a name. Where there is none, nothing changes.
     pub fn put_status(&mut self, name: &WordBuf, status: S, colour: i64)
-        ensures { self.new ≡ map (λ b. if same_name name.now b.name then room.bot_with (S.number status) colour b else b) self.old }
+        ensures { self.new ≡ map (λ b. if same_name name.now b.name then room.bot_with (S.number status) colour b
+            else b) self.old }
     {
         for bot in self.bots.iter_mut() {
             bot.put_status(name, status, colour);

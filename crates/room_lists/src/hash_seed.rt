@@ -5,8 +5,8 @@ ghost use Rattle.std.specs.Hash.DefaultHasher as sip;
 
 use std::hash::{BuildHasher, DefaultHasher, Hasher};
 
-/// How the words of a room are hashed: by SipHash-1-3, which has read the seed's bytes before. Who does not know them cannot choose words
-/// of one hash, each look-up among which would walk all of them.
+/// How the words of a room are hashed: by SipHash-1-3, which has read the seed's bytes before. Who does not know them
+/// cannot choose words of one hash, each look-up among which would walk all of them.
 #[derive(Clone, Copy)]
 pub struct HashSeed {
     seeded: DefaultHasher,

@@ -1,6 +1,7 @@
 //! Items that are found by their keys, as the script tags and the disabled units of a room are.
 
-ghost use Rattle.std.specs.Prelude.{◌≡◌, ◌<◌, ◌≤◌, ◌^◌, ℕ, List, Vec, not, nat_lt, map, filter, length, [], true, false, OnOk, OnErr, IfOk, IfSome, is_some};
+ghost use Rattle.std.specs.Prelude.{◌≡◌, ◌<◌, ◌≤◌, ◌^◌, ℕ, List, Vec, not, nat_lt, map, filter, length, [], true};
+ghost use Rattle.std.specs.Prelude.{false, OnOk, OnErr, IfOk, IfSome, is_some};
 ghost use Rattle.room_lists.specs.Keyed as keyed;
 ghost use Rattle.room_lists.specs.Units.{words_new};
 ghost use Rattle.line_words.specs.Table.{is_among};
@@ -122,7 +123,8 @@ fn index_of(
     seed: HashSeed,
     keys: &[WordBuf],
 ) -> Result<IndexSet<&WordBuf, HashSeed>, AllocError>
-    ensures { IfOk result (λ index. (key : List ℕ) → is_among key (map (λ key. key.now) index.keys) ≡ is_among key keys.now) }
+    ensures { IfOk result (λ index. (key : List ℕ)
+        → is_among key (map (λ key. key.now) index.keys) ≡ is_among key keys.now) }
 {
     let mut index = IndexSet::with_capacity_and_hasher(alloc, keys.len(), seed)?;
     for key in keys {
@@ -214,7 +216,8 @@ impl<T: Keyed> KeyedList<T> {
     /// Where the item of this key stands, from 0 on; None where it is not there.
     fn place_of(&self, key: &WordBuf) -> Option<usize>
         ensures there { is_some result ≡ keyed.has_key T.key_of key.now self.now }
-        ensures place { IfSome result (λ place. (place < length self.now) × (place ≡ keyed.place_of T.key_of key.now self.now)) }
+        ensures place { IfSome result (λ place.
+            (place < length self.now) × (place ≡ keyed.place_of T.key_of key.now self.now)) }
     {
         self.by_key.get_index_of(key)
     }
@@ -280,8 +283,11 @@ impl<T: Keyed> KeyedList<T> {
         limit: usize,
     ) -> Result<Option<Vec<&'a T>>, AllocError>
         requires { limit < 2 ^ 63 }
-        ensures new { IfOk result (λ new. IfSome new (λ firsts. map (λ first. T.key_of first.now) firsts.items ≡ words_new (map T.key_of self.now) (map T.key_of items.now))) }
-        ensures room { IfOk result (λ new. is_some new ≡ not (nat_lt limit (length (keyed.with_items T.key_of self.now items.now)))) }
+        ensures new { IfOk result (λ new.
+            IfSome new (λ firsts. map (λ first. T.key_of first.now) firsts.items
+            ≡ words_new (map T.key_of self.now) (map T.key_of items.now))) }
+        ensures room { IfOk result (λ new.
+            is_some new ≡ not (nat_lt limit (length (keyed.with_items T.key_of self.now items.now)))) }
     {
         match limit.checked_sub(self.by_key.len()) {
             Some(most) => self.firsts_new(alloc, items, most),
@@ -300,7 +306,8 @@ impl<T: Keyed> KeyedList<T> {
     ) -> Result<Option<Vec<T>>, AllocError>
         requires { limit < 2 ^ 63 }
         ensures last { IfOk result (λ last. IfSome last (λ last. last.items ≡ keyed.with_items T.key_of [] items.now)) }
-        ensures room { IfOk result (λ last. is_some last ≡ not (nat_lt limit (length (keyed.with_items T.key_of self.now items.now)))) }
+        ensures room { IfOk result (λ last.
+            is_some last ≡ not (nat_lt limit (length (keyed.with_items T.key_of self.now items.now)))) }
     {
         let Some(most) = limit.checked_sub(self.by_key.len()) else {
             return Ok(None);
@@ -350,11 +357,13 @@ impl<T: Keyed> KeyedList<T> {
 
     /// Removes the items of the keys of an index, in one walk of all items.
     fn remove_indexed(&mut self, index: &IndexSet<&WordBuf, HashSeed>)
-        ensures { self.new ≡ filter (λ item. not (is_among (T.key_of item) (map (λ key. key.now) index.now.keys))) self.old }
+        ensures { self.new ≡ filter (λ item.
+            not (is_among (T.key_of item) (map (λ key. key.now) index.now.keys))) self.old }
     {
         self.by_key.retain(
             |key: &WordBuf, kept: &mut T::Kept| -> bool
-                ensures { (result ≡ not (is_among key.now (map (λ key. key.now) index.entry.now.keys))) × (kept.new ≡ kept.old) }
+                ensures { (result ≡ not (is_among key.now (map (λ key. key.now) index.entry.now.keys)))
+                    × (kept.new ≡ kept.old) }
             { !index.contains(&key) },
         );
     }
@@ -392,7 +401,8 @@ impl<T: Keyed> KeyedList<T> {
         alloc: Global,
         keys: &'a [WordBuf],
     ) -> Result<Vec<&'a WordBuf>, AllocError>
-        ensures { IfOk result (λ firsts. map (λ first. first.now) firsts.items ≡ keyed.keys_there T.key_of self.now keys.now) }
+        ensures { IfOk result (λ firsts. map (λ first. first.now) firsts.items
+            ≡ keyed.keys_there T.key_of self.now keys.now) }
     {
         let mut is_met = Vec::from_elem(alloc, false, self.by_key.len())?;
         let mut firsts = Vec::new(alloc);
@@ -415,7 +425,8 @@ impl<T: Keyed> KeyedList<T> {
         items: &'a [T],
         most: usize,
     ) -> Result<Option<Vec<&'a T>>, AllocError>
-        ensures { IfOk result (keyed.AreFirsts T.key_of most (words_new (map T.key_of self.now) (map T.key_of items.now))) }
+        ensures { IfOk result (keyed.AreFirsts T.key_of most
+            (words_new (map T.key_of self.now) (map T.key_of items.now))) }
     {
         let distinct = items.len().min(self.by_key.len().saturating_add(most));
         let mut seen = IndexSet::with_capacity_and_hasher(alloc, distinct, *self.by_key.hasher())?;

@@ -70,8 +70,10 @@ impl Tags {
     /// where memory is refused.
     pub fn last_pairs(&self, alloc: Global, pairs: &[Pair]) -> Result<Option<PairList>, AllocError>
         ensures last { IfOk result (λ last. IfSome last (λ last. last ≡ tags.with_tags [] pairs.now)) }
-        ensures alike { IfOk result (λ last. IfSome last (λ last. tags.with_tags self.now last ≡ tags.with_tags self.now pairs.now)) }
-        ensures room { IfOk result (λ last. is_some last ≡ not (has_too_many_tags (tags.with_tags self.now pairs.now))) }
+        ensures alike { IfOk result (λ last.
+            IfSome last (λ last. tags.with_tags self.now last ≡ tags.with_tags self.now pairs.now)) }
+        ensures room { IfOk result (λ last.
+            is_some last ≡ not (has_too_many_tags (tags.with_tags self.now pairs.now))) }
     {
         match self.tags.last_items(alloc, pairs, TAG_LIMIT)? {
             Some(last) => Ok(Some(PairList::new(last))),

@@ -97,8 +97,10 @@ impl Units {
         words: &[WordBuf],
     ) -> Result<Option<WordList>, AllocError>
         ensures new { IfOk result (λ new. IfSome new (λ new. new ≡ units.words_new self.now words.now)) }
-        ensures alike { IfOk result (λ new. IfSome new (λ new. units.with_units self.now new ≡ units.with_units self.now words.now)) }
-        ensures room { IfOk result (λ new. is_some new ≡ not (has_too_many_units (units.with_units self.now words.now))) }
+        ensures alike { IfOk result (λ new.
+            IfSome new (λ new. units.with_units self.now new ≡ units.with_units self.now words.now)) }
+        ensures room { IfOk result (λ new.
+            is_some new ≡ not (has_too_many_units (units.with_units self.now words.now))) }
     {
         match self.units.new_items(alloc, words, UNIT_LIMIT)? {
             Some(new) => Ok(Some(WordList::new(copies_of_lent(alloc, &new)?))),
@@ -110,7 +112,8 @@ impl Units {
     /// them alone comes to the same. Fails only where memory is refused.
     pub fn words_there(&self, alloc: Global, words: &[WordBuf]) -> Result<WordList, AllocError>
         ensures there { IfOk result (λ there. there ≡ units.words_there self.now words.now) }
-        ensures alike { IfOk result (λ there. units.without_units self.now there ≡ units.without_units self.now words.now) }
+        ensures alike { IfOk result (λ there.
+            units.without_units self.now there ≡ units.without_units self.now words.now) }
     {
         self.units.keys_there(alloc, words)
     }

@@ -5,7 +5,8 @@ ghost use Rattle.std.specs.Prelude.{◌≡◌, ◌<◌, [], ◌∷◌, OnOk};
 ghost use Rattle.reply_kinds.specs.Lent.{reply_of};
 ghost use Rattle.room_lists.specs.Room.{member_names};
 ghost use Rattle.lobby_model.specs.Outcome.{tell, users};
-ghost use Rattle.lobby_model.specs.Rooms.{add_bot, add_rect, disable, enable, enable_every, kick, new_bot, remove_bot, remove_rect, remove_script_tags, ring, set_script_tags, update_bot};
+ghost use Rattle.lobby_model.specs.Rooms.{add_bot, add_rect, disable, enable, enable_every, kick, new_bot, remove_bot};
+ghost use Rattle.lobby_model.specs.Rooms.{remove_rect, remove_script_tags, ring, set_script_tags, update_bot};
 ghost use Rattle.lobby_post.specs.Posted.{Told};
 ghost use Rattle.lobby_guards.specs.Answers.{Answers};
 ghost use Rattle.room_rules.specs.RoomTalk.{FitsForce, forced, forced_colour, forced_status, words_line, words_told};
@@ -101,7 +102,8 @@ pub fn add_bot(
     ai: &SentenceBuf,
     post: &mut Post,
 ) -> Result<Change, Stop>
-    ensures { Answers by.now.maps.now.plain by.now.client post.old post.new (add_bot by.now.maps.now.plain by.now.me.now (new_bot name.now by.now.me.now asked colour ai.now)) result }
+    ensures { Answers by.now.maps.now.plain by.now.client post.old post.new
+        (add_bot by.now.maps.now.plain by.now.me.now (new_bot name.now by.now.me.now asked colour ai.now)) result }
 {
     let (number, battle) = own_battle(by.maps, by.me)?;
     free_bot_name(battle, name)?;
@@ -131,7 +133,8 @@ pub fn update_bot(
     colour: i64,
     post: &mut Post,
 ) -> Result<Change, Stop>
-    ensures { Answers by.now.maps.now.plain by.now.client post.old post.new (update_bot by.now.maps.now.plain by.now.me.now name.now asked colour) result }
+    ensures { Answers by.now.maps.now.plain by.now.client post.old post.new
+        (update_bot by.now.maps.now.plain by.now.me.now name.now asked colour) result }
 {
     let (number, battle) = own_battle(by.maps, by.me)?;
     let bot = bot_named(battle, name)?;
@@ -155,7 +158,8 @@ pub fn update_bot(
 
 /// `REMOVEBOT`: as `UPDATEBOT`.
 pub fn remove_bot(by: &Issuer, name: &WordBuf, post: &mut Post) -> Result<Change, Stop>
-    ensures { Answers by.now.maps.now.plain by.now.client post.old post.new (remove_bot by.now.maps.now.plain by.now.me.now name.now) result }
+    ensures { Answers by.now.maps.now.plain by.now.client post.old post.new
+        (remove_bot by.now.maps.now.plain by.now.me.now name.now) result }
 {
     let (number, battle) = own_battle(by.maps, by.me)?;
     let bot = bot_named(battle, name)?;
@@ -172,7 +176,8 @@ pub fn remove_bot(by: &Issuer, name: &WordBuf, post: &mut Post) -> Result<Change
 /// `ADDSTARTRECT`: the user is in a battle, which it founded.
 pub fn add_rect(by: &Issuer, ally: u8, rect: Rect, post: &mut Post) -> Result<Change, Stop>
     requires { ally < 16 }
-    ensures { Answers by.now.maps.now.plain by.now.client post.old post.new (add_rect by.now.maps.now.plain by.now.me.now ally rect) result }
+    ensures { Answers by.now.maps.now.plain by.now.client post.old post.new
+        (add_rect by.now.maps.now.plain by.now.me.now ally rect) result }
 {
     let (number, battle) = own_battle(by.maps, by.me)?;
     founded_by(battle, by.me)?;
@@ -190,7 +195,8 @@ pub fn add_rect(by: &Issuer, ally: u8, rect: Rect, post: &mut Post) -> Result<Ch
 /// `REMOVESTARTRECT`: the user is in a battle, which it founded.
 pub fn remove_rect(by: &Issuer, ally: u8, post: &mut Post) -> Result<Change, Stop>
     requires { ally < 16 }
-    ensures { Answers by.now.maps.now.plain by.now.client post.old post.new (remove_rect by.now.maps.now.plain by.now.me.now ally) result }
+    ensures { Answers by.now.maps.now.plain by.now.client post.old post.new
+        (remove_rect by.now.maps.now.plain by.now.me.now ally) result }
 {
     let (number, battle) = own_battle(by.maps, by.me)?;
     founded_by(battle, by.me)?;
@@ -201,7 +207,8 @@ pub fn remove_rect(by: &Issuer, ally: u8, post: &mut Post) -> Result<Change, Sto
 
 /// `SETSCRIPTTAGS`: the user is in a battle, which it founded, and there is room for the tags.
 pub fn set_script_tags(by: &Issuer, pairs: &PairList, post: &mut Post) -> Result<Change, Stop>
-    ensures { Answers by.now.maps.now.plain by.now.client post.old post.new (set_script_tags by.now.maps.now.plain by.now.me.now pairs.now) result }
+    ensures { Answers by.now.maps.now.plain by.now.client post.old post.new
+        (set_script_tags by.now.maps.now.plain by.now.me.now pairs.now) result }
 {
     let (number, battle) = own_battle(by.maps, by.me)?;
     founded_by(battle, by.me)?;
@@ -216,7 +223,8 @@ pub fn set_script_tags(by: &Issuer, pairs: &PairList, post: &mut Post) -> Result
 /// `REMOVESCRIPTTAGS`: the user is in a battle, which it founded. Keys that are not there are left
 /// out.
 pub fn remove_script_tags(by: &Issuer, keys: &WordList, post: &mut Post) -> Result<Change, Stop>
-    ensures { Answers by.now.maps.now.plain by.now.client post.old post.new (remove_script_tags by.now.maps.now.plain by.now.me.now keys.now) result }
+    ensures { Answers by.now.maps.now.plain by.now.client post.old post.new
+        (remove_script_tags by.now.maps.now.plain by.now.me.now keys.now) result }
 {
     let (number, battle) = own_battle(by.maps, by.me)?;
     founded_by(battle, by.me)?;
@@ -229,7 +237,8 @@ pub fn remove_script_tags(by: &Issuer, keys: &WordList, post: &mut Post) -> Resu
 /// `DISABLEUNITS`: the user is in a battle, which it founded, and there is room for the units. Those
 /// that are disabled already are left out.
 pub fn disable_units(by: &Issuer, units: &WordList, post: &mut Post) -> Result<Change, Stop>
-    ensures { Answers by.now.maps.now.plain by.now.client post.old post.new (disable by.now.maps.now.plain by.now.me.now units.now) result }
+    ensures { Answers by.now.maps.now.plain by.now.client post.old post.new
+        (disable by.now.maps.now.plain by.now.me.now units.now) result }
 {
     let (number, battle) = own_battle(by.maps, by.me)?;
     founded_by(battle, by.me)?;
@@ -241,7 +250,8 @@ pub fn disable_units(by: &Issuer, units: &WordList, post: &mut Post) -> Result<C
 
 /// `ENABLEUNITS`: the user is in a battle, which it founded. Units that are not disabled are left out.
 pub fn enable_units(by: &Issuer, units: &WordList, post: &mut Post) -> Result<Change, Stop>
-    ensures { Answers by.now.maps.now.plain by.now.client post.old post.new (enable by.now.maps.now.plain by.now.me.now units.now) result }
+    ensures { Answers by.now.maps.now.plain by.now.client post.old post.new
+        (enable by.now.maps.now.plain by.now.me.now units.now) result }
 {
     let (number, battle) = own_battle(by.maps, by.me)?;
     founded_by(battle, by.me)?;
@@ -253,7 +263,8 @@ pub fn enable_units(by: &Issuer, units: &WordList, post: &mut Post) -> Result<Ch
 
 /// `ENABLEALLUNITS`: the user is in a battle, which it founded.
 pub fn enable_all_units(by: &Issuer, post: &mut Post) -> Result<Change, Stop>
-    ensures { Answers by.now.maps.now.plain by.now.client post.old post.new (enable_every by.now.maps.now.plain by.now.me.now) result }
+    ensures { Answers by.now.maps.now.plain by.now.client post.old post.new
+        (enable_every by.now.maps.now.plain by.now.me.now) result }
 {
     let (number, battle) = own_battle(by.maps, by.me)?;
     founded_by(battle, by.me)?;
@@ -270,7 +281,8 @@ fn tell_words(
     words: &[WordBuf],
     post: &mut Post,
 ) -> Result<(), AllocError>
-    ensures { OnOk result (Told maps.now.plain post.old post.new (tell (users (member_names room.now)) (words_told wording words.now) ∷ [])) }
+    ensures { OnOk result (Told maps.now.plain post.old post.new
+        (tell (users (member_names room.now)) (words_told wording words.now) ∷ [])) }
 {
     if words.is_empty() {
         return Ok(());
@@ -287,7 +299,8 @@ pub fn force_on_member(
     post: &mut Post,
 ) -> Result<Change, Stop>
     requires { FitsForce force }
-    ensures { Answers by.now.maps.now.plain by.now.client post.old post.new (forced by.now.maps.now.plain by.now.me.now name.now force) result }
+    ensures { Answers by.now.maps.now.plain by.now.client post.old post.new
+        (forced by.now.maps.now.plain by.now.me.now name.now force) result }
 {
     let (number, battle) = own_battle(by.maps, by.me)?;
     founded_by(battle, by.me)?;
@@ -299,7 +312,8 @@ pub fn force_on_member(
 
 /// `KICKFROMBATTLE`: the user is in a battle, which it founded, and so is the other one who leaves.
 pub fn kick(by: &Issuer, name: &NameBuf, post: &mut Post) -> Result<Change, Stop>
-    ensures { Answers by.now.maps.now.plain by.now.client post.old post.new (kick by.now.maps.now.plain by.now.me.now name.now) result }
+    ensures { Answers by.now.maps.now.plain by.now.client post.old post.new
+        (kick by.now.maps.now.plain by.now.me.now name.now) result }
 {
     let (number, battle) = own_battle(by.maps, by.me)?;
     founded_by(battle, by.me)?;
@@ -315,7 +329,8 @@ pub fn kick(by: &Issuer, name: &NameBuf, post: &mut Post) -> Result<Change, Stop
 
 /// `RING`: the user is in a battle, which it founded, and so is the one who hears it.
 pub fn ring(by: &Issuer, name: &NameBuf, post: &mut Post) -> Result<Change, Stop>
-    ensures { Answers by.now.maps.now.plain by.now.client post.old post.new (ring by.now.maps.now.plain by.now.me.now name.now) result }
+    ensures { Answers by.now.maps.now.plain by.now.client post.old post.new
+        (ring by.now.maps.now.plain by.now.me.now name.now) result }
 {
     let (_, battle) = own_battle(by.maps, by.me)?;
     founded_by(battle, by.me)?;

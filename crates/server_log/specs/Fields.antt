@@ -60,7 +60,8 @@ fields_of (happening.Logout client name cause) =
     (codes "name", name) ∷ (codes "cause", cause_word cause) ∷ (codes "client", decimal client) ∷ []
 fields_of (happening.Refused reason) = (codes "reason", refusal_word reason) ∷ []
 fields_of (happening.MemoryRefused worker) = (codes "worker", decimal worker) ∷ []
-fields_of (happening.Stopped worker events) = (codes "worker", decimal worker) ∷ (codes "events", count_word events) ∷ []
+fields_of (happening.Stopped worker events) = (codes "worker", decimal worker) ∷ (codes "events", count_word events)
+    ∷ []
 fields_of (happening.Lost lines) = (codes "lost", decimal lines) ∷ []
 
 -- the line of a happening

@@ -1,10 +1,12 @@
 -- The form of a line of the log.
-use Rattle.std.specs.Prelude.{◌≡◌, ℕ, ◌+◌, ◌/◌, ◌%◌, Bool, true, ◌||◌, ◌&&◌, ◌==◌, nat_le, nat_lt, List, [], ◌∷◌, ◌++◌, if◌then◌else◌}
+use Rattle.std.specs.Prelude.{◌≡◌, ℕ, ◌+◌, ◌/◌, ◌%◌, Bool, true, ◌||◌, ◌&&◌, ◌==◌, nat_le, nat_lt, List, [], ◌∷◌}
+use Rattle.std.specs.Prelude.{◌++◌, if◌then◌else◌}
 use Rattle.std.specs.List.{flat_map, list_all}
 
 -- a byte that stands as it is: letters, digits and `-`, `.`, `:`, `[`, `]`, `_`
 abbrev pub is_plain : ℕ → Bool
-is_plain b = (nat_le 48 b && nat_le b 58) || (nat_le 65 b && nat_le b 91) || (nat_le 97 b && nat_le b 122) || b == 45 || b == 46 || b == 93 || b == 95
+is_plain b = (nat_le 48 b && nat_le b 58) || (nat_le 65 b && nat_le b 91) || (nat_le 97 b && nat_le b 122) || b == 45
+    || b == 46 || b == 93 || b == 95
 
 -- the hexadecimal digit of a number's last four bits
 abbrev pub hex : ℕ → ℕ

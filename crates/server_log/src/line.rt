@@ -47,7 +47,8 @@ fn put_fields(out: &mut Vec<u8>, happening: &Happening) -> Result<(), AllocError
 
 /// Appends the fields of a server that has started.
 fn put_started(out: &mut Vec<u8>, started: &Started) -> Result<(), AllocError>
-    ensures { OnOk result (out.new.items ≡ out.old.items ++ flat_map field (fields_of (Happening.Started started.now))) }
+    ensures { OnOk result (out.new.items
+        ≡ out.old.items ++ flat_map field (fields_of (Happening.Started started.now))) }
 {
     put_field(out, "version", started.version.as_bytes())?;
     put_field(out, "address", started.address.as_slice())?;
@@ -57,7 +58,11 @@ fn put_started(out: &mut Vec<u8>, started: &Started) -> Result<(), AllocError>
 
 /// Appends how large a server is that has started.
 fn put_sizes(out: &mut Vec<u8>, started: &Started) -> Result<(), AllocError>
-    ensures { OnOk result (out.new.items ≡ out.old.items ++ flat_map field ((codes "workers", decimal started.now.workers) ∷ (codes "client_limit", decimal started.now.client_limit) ∷ (codes "outbox_limit", decimal started.now.outbox_limit) ∷ (codes "accounts", decimal started.now.accounts) ∷ [])) }
+    ensures { OnOk result (out.new.items
+        ≡ out.old.items ++ flat_map field ((codes "workers", decimal started.now.workers)
+        ∷ (codes "client_limit", decimal started.now.client_limit)
+        ∷ (codes "outbox_limit", decimal started.now.outbox_limit) ∷ (codes "accounts", decimal started.now.accounts)
+        ∷ [])) }
 {
     put_number(out, "workers", u64::from(started.workers))?;
     put_number(out, "client_limit", started.client_limit)?;
@@ -68,7 +73,8 @@ fn put_sizes(out: &mut Vec<u8>, started: &Started) -> Result<(), AllocError>
 
 /// Appends a client's name and number.
 fn put_named(out: &mut Vec<u8>, name: &ShortText, client: u64) -> Result<(), AllocError>
-    ensures { OnOk result (out.new.items ≡ out.old.items ++ flat_map field ((codes "name", name.now) ∷ (codes "client", decimal client) ∷ [])) }
+    ensures { OnOk result (out.new.items
+        ≡ out.old.items ++ flat_map field ((codes "name", name.now) ∷ (codes "client", decimal client) ∷ [])) }
 {
     put_field(out, "name", name.as_slice())?;
     put_number(out, "client", client)?;
@@ -82,7 +88,9 @@ fn put_outcome(
     outcome: (&str, &str),
     client: u64,
 ) -> Result<(), AllocError>
-    ensures { OnOk result (out.new.items ≡ out.old.items ++ flat_map field ((codes "name", name.now) ∷ (outcome.entry.0.now, outcome.entry.1.now) ∷ (codes "client", decimal client) ∷ [])) }
+    ensures { OnOk result (out.new.items
+        ≡ out.old.items ++ flat_map field ((codes "name", name.now) ∷ (outcome.entry.0.now, outcome.entry.1.now)
+        ∷ (codes "client", decimal client) ∷ [])) }
 {
     let (key, value) = outcome;
     put_field(out, "name", name.as_slice())?;
@@ -109,7 +117,8 @@ fn put_count(out: &mut Vec<u8>, key: &str, n: u64) -> Result<(), AllocError>
 
 /// Appends the fields of a worker that stopped.
 fn put_stopped(out: &mut Vec<u8>, worker: u8, events: Option<u64>) -> Result<(), AllocError>
-    ensures { OnOk result (out.new.items ≡ out.old.items ++ flat_map field (fields_of (Happening.Stopped worker events))) }
+    ensures { OnOk result (out.new.items
+        ≡ out.old.items ++ flat_map field (fields_of (Happening.Stopped worker events))) }
 {
     put_number(out, "worker", u64::from(worker))?;
     match events {

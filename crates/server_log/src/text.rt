@@ -7,7 +7,8 @@ use std::marker::Model;
 /// The most bytes that are kept of a text: three times as many as an account's name has.
 const KEPT: usize = 64;
 
-/// The first 64 bytes of a text, whatever they are: a name as a client sent it, or an address. They lie in the value itself.
+/// The first 64 bytes of a text, whatever they are: a name as a client sent it, or an address. They lie in the value
+/// itself.
 #[derive(Drop)]
 pub struct ShortText {
     bytes: [u8; KEPT],

@@ -74,8 +74,8 @@ fn read_all(lobby: &mut Lobby, users: u32) {
     }
 }
 
-/// A user connects, logs in as one who is asked by those who would join its battle, and joins the channel, where it is not the last
-/// of so many users.
+/// A user connects, logs in as one who is asked by those who would join its battle, and joins the channel, where it is
+/// not the last of so many users.
 fn enter(lobby: &mut Lobby, alloc: Global, user: u32, users: u32) -> bool {
     let client = u64::from(user);
     let Ok(line) = format!(in alloc;
@@ -98,7 +98,8 @@ fn enter_all(lobby: &mut Lobby, alloc: Global, users: u32) -> bool {
     true
 }
 
-/// The channel's members are told, and read, more than a buffer has that is kept: so what they are told next takes memory.
+/// The channel's members are told, and read, more than a buffer has that is kept: so what they are told next takes
+/// memory.
 pub fn use_buffers_up(lobby: &mut Lobby, alloc: Global, users: u32) -> bool {
     let Ok(mut line) = Vec::from_slice(alloc, b"SAY main ") else {
         return false;
@@ -111,8 +112,8 @@ pub fn use_buffers_up(lobby: &mut Lobby, alloc: Global, users: u32) -> bool {
     is_said
 }
 
-/// A lobby of so many users who have read all, where all but the last are in a channel and have no buffer. `None` where memory
-/// is refused.
+/// A lobby of so many users who have read all, where all but the last are in a channel and have no buffer. `None` where
+/// memory is refused.
 pub fn crowd_lobby(alloc: Global, users: u32) -> Option<Lobby> {
     let mut lobby = lobby_of(alloc, accounts(alloc, users)?)?;
     if enter_all(&mut lobby, alloc, users) && use_buffers_up(&mut lobby, alloc, users) {

@@ -56,8 +56,8 @@ pub fn book_with_crowd(alloc: Global) -> Option<AccountBook> {
     Some(accounts)
 }
 
-/// The default settings, but for a message of the day, `Welcome`, and this limit of an outbox, from 65,536 to 67,108,864 bytes; none
-/// where the limit is another.
+/// The default settings, but for a message of the day, `Welcome`, and this limit of an outbox, from 65,536 to
+/// 67,108,864 bytes; none where the limit is another.
 pub fn settings(alloc: Global, outbox_limit: usize) -> Option<Settings> {
     let motd = TextBuf::copy_of(alloc, b"Welcome").ok()?;
     let lines = slice::from_ref(&motd);

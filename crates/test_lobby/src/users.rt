@@ -36,7 +36,8 @@ pub const BERT_LOGS_IN: &[u8] = b"LOGIN Bert X03MO1qnZdYdgyfeuILPmQ== 0 * TestLo
 /// What Cleo sends to log in.
 pub const CLEO_LOGS_IN: &[u8] = b"LOGIN Cleo X03MO1qnZdYdgyfeuILPmQ== 0 * TestLobby 1.0\n";
 
-/// What one of a crowd sends behind `LOGIN` and its name, to log in, to join the channel `main` and to ask for an answer.
+/// What one of a crowd sends behind `LOGIN` and its name, to log in, to join the channel `main` and to ask for an
+/// answer.
 pub const CROWD_COMES_IN: &[u8] =
     b" X03MO1qnZdYdgyfeuILPmQ== 0 * TestLobby 1.0\nJOIN main\n#7 PING\n";
 

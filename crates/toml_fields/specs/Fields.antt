@@ -1,5 +1,6 @@
 -- What the keys of a table say.
-use Rattle.std.specs.Prelude.{ℕ, pos, negsuc, ℤ, Bool, ◌&&◌, nat_le, List, String, Option, Some, option_map, Result, Ok, Err, if◌then◌else◌}
+use Rattle.std.specs.Prelude.{ℕ, pos, negsuc, ℤ, Bool, ◌&&◌, nat_le, List, String, Option, Some, option_map, Result}
+use Rattle.std.specs.Prelude.{Ok, Err, if◌then◌else◌}
 use Rattle.std.specs.Option.{option_map_or}
 use Rattle.std.specs.Borrow.{Bor}
 use Rattle.std.specs.BTreeMap.{BTreeMap}

@@ -3,7 +3,8 @@
 ghost use Rattle.std.specs.Prelude.{◌≡◌, ◌≤◌, None, IfOk, option_map};
 ghost use Rattle.toml.specs.Data.{get_member, no_items};
 ghost use Rattle.toml.specs.View.{view, table_view};
-ghost use Rattle.toml_fields.specs.Fields.{flag, list, lent, number, optional, required, section, seen_list, seen_section, text};
+ghost use Rattle.toml_fields.specs.Fields.{flag, list, lent, number, optional, required, section, seen_list};
+ghost use Rattle.toml_fields.specs.Fields.{seen_section, text};
 
 use crate::fault::FieldFault;
 use toml::{Table, Value};
@@ -59,8 +60,8 @@ pub fn text_or<'a>(table: &'a Table, key: &str, default: &'a str) -> Result<&'a 
     }
 }
 
-/// The whole number at a key that has to be there: `Missing` where it is not, `OtherKind` where its value is no whole number,
-/// `NotAllowed` where the number is not from `low` to `high`.
+/// The whole number at a key that has to be there: `Missing` where it is not, `OtherKind` where its value is no whole
+/// number, `NotAllowed` where the number is not from `low` to `high`.
 pub fn number_at(table: &Table, key: &str, low: u32, high: u32) -> Result<u32, FieldFault>
     ensures value { result ≡ required (number low high) key.now (table_view table.now) }
     ensures within { IfOk result (λ number. (low ≤ number) × (number ≤ high)) }

@@ -58,7 +58,7 @@ impl Battle {
         self.members.as_slice()
     }
 
-    // What all know of it changes. Gives what that was.
+    /// What all know of it changes. Gives what that was.
     fn update(&mut self, update: Update) -> Update
         ensures now { self.new ≡ with_update update self.old }
         ensures was { with_update result self.new ≡ self.old }
@@ -82,7 +82,7 @@ pub(crate) struct Update {
 }
 
 impl Update {
-    // Of its parts.
+    /// Of its parts.
     fn of(spectators: u16, locked: bool, map_hash: i64, map: SentenceBuf) -> Update
         ensures { result ≡ (record { spectators = spectators; locked = locked; map_hash = map_hash; map = map }) }
     {
@@ -202,7 +202,12 @@ impl UndoableBattles {
         number: u32,
         opened: OpenedBattle,
     ) -> Result<(), AllocError>
-        ensures ok { OnOk result (Changes (λ battles. put_number battles number (record { info = info_of opened 0 false; members = opened.founder ∷ [] })) self.old self.new) }
+        ensures ok { OnOk result (Changes (λ battles.
+            put_number battles number (record {
+              info = info_of opened 0 false;
+              members = opened.founder
+                  ∷ [];
+            })) self.old self.new) }
         ensures err { OnErr result (self.new ≡ self.old) }
     {
         let members = Names::one(alloc, opened.founder.copy())?;
@@ -224,7 +229,9 @@ impl UndoableBattles {
         map_hash: i64,
         map: SentenceBuf,
     ) -> Result<(), AllocError>
-        ensures ok { OnOk result (Changes (λ battles. change_number battles number (change_listed_info (updated spectators locked map_hash map))) self.old self.new) }
+        ensures ok { OnOk result (Changes (λ battles.
+            change_number battles number (change_listed_info (updated spectators locked map_hash map))) self.old
+            self.new) }
         ensures err { OnErr result (self.new ≡ self.old) }
     {
         let update = Update::of(spectators, locked, map_hash, map);
@@ -233,7 +240,8 @@ impl UndoableBattles {
 
     /// One joins a battle. Where memory is refused, nothing changes.
     pub fn add_member(&mut self, number: u32, name: NameBuf) -> Result<(), AllocError>
-        ensures ok { OnOk result (Changes (λ battles. change_number battles number (change_members (at_end (name ∷ [])))) self.old self.new) }
+        ensures ok { OnOk result (Changes (λ battles.
+            change_number battles number (change_members (at_end (name ∷ [])))) self.old self.new) }
         ensures err { OnErr result (self.new ≡ self.old) }
     {
         let joins = BattleChange::Members(NamesChange::Add(name));
@@ -242,7 +250,8 @@ impl UndoableBattles {
 
     /// One leaves a battle. Where memory is refused, nothing changes.
     pub fn remove_member(&mut self, number: u32, name: &NameBuf) -> Result<(), AllocError>
-        ensures ok { OnOk result (Changes (λ battles. change_number battles number (change_members (all_but name.now))) self.old self.new) }
+        ensures ok { OnOk result (Changes (λ battles.
+            change_number battles number (change_members (all_but name.now))) self.old self.new) }
         ensures err { OnErr result (self.new ≡ self.old) }
     {
         let leaves = NamesChange::Remove {

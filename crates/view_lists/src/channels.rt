@@ -114,7 +114,8 @@ impl UndoableChannels {
 
     /// Names of those who are in a channel, behind those that are known. Where memory is refused, nothing changes.
     pub fn add_all(&mut self, channel: &NameBuf, names: NameList) -> Result<(), AllocError>
-        ensures ok { OnOk result (Changes (λ channels. change_name channels channel.now (at_end names)) self.old self.new) }
+        ensures ok { OnOk result (Changes (λ channels.
+            change_name channels channel.now (at_end names)) self.old self.new) }
         ensures err { OnErr result (self.new ≡ self.old) }
     {
         self.by_name.edit(channel, NamesChange::AddAll(names))
@@ -122,7 +123,8 @@ impl UndoableChannels {
 
     /// One joins a channel. Where memory is refused, nothing changes.
     pub fn add(&mut self, channel: &NameBuf, name: NameBuf) -> Result<(), AllocError>
-        ensures ok { OnOk result (Changes (λ channels. change_name channels channel.now (at_end (name ∷ []))) self.old self.new) }
+        ensures ok { OnOk result (Changes (λ channels.
+            change_name channels channel.now (at_end (name ∷ []))) self.old self.new) }
         ensures err { OnErr result (self.new ≡ self.old) }
     {
         self.by_name.edit(channel, NamesChange::Add(name))
@@ -130,7 +132,8 @@ impl UndoableChannels {
 
     /// One leaves a channel. Where memory is refused, nothing changes.
     pub fn remove(&mut self, channel: &NameBuf, name: &NameBuf) -> Result<(), AllocError>
-        ensures ok { OnOk result (Changes (λ channels. change_name channels channel.now (all_but name.now)) self.old self.new) }
+        ensures ok { OnOk result (Changes (λ channels.
+            change_name channels channel.now (all_but name.now)) self.old self.new) }
         ensures err { OnErr result (self.new ≡ self.old) }
     {
         let leaves = NamesChange::Remove {

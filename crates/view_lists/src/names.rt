@@ -49,14 +49,14 @@ impl Names {
         self.names.as_slice()
     }
 
-    // How many there are.
+    /// How many there are.
     fn len(&self) -> usize
         ensures { result ≡ length self.now }
     {
         self.names.len()
     }
 
-    // The same names once more.
+    /// The same names once more.
     fn copy_of(alloc: Global, names: &[NameBuf]) -> Result<Names, AllocError>
         ensures { IfOk result (λ copied. copied ≡ names.now) }
     {
@@ -68,7 +68,7 @@ impl Names {
         Ok(Names { names: copied })
     }
 
-    // One more. Where memory is refused, nothing changes.
+    /// One more. Where memory is refused, nothing changes.
     fn push(&mut self, name: NameBuf) -> Result<(), AllocError>
         ensures ok { OnOk result (self.new ≡ self.old ++ name ∷ []) }
         ensures err { OnErr result (self.new ≡ self.old) }
@@ -77,7 +77,7 @@ impl Names {
         Ok(())
     }
 
-    // More of them. Where memory is refused, nothing changes.
+    /// More of them. Where memory is refused, nothing changes.
     fn append(&mut self, more: NameList) -> Result<(), AllocError>
         ensures ok { OnOk result (self.new ≡ self.old ++ more) }
         ensures err { OnErr result (self.new ≡ self.old) }
@@ -86,14 +86,14 @@ impl Names {
         Ok(())
     }
 
-    // Without one.
+    /// Without one.
     fn remove(&mut self, name: &NameBuf)
         ensures { self.new ≡ all_but name.now self.old }
     {
         self.names.retain(|other| !name.cmp(other).is_eq());
     }
 
-    // The first of them alone.
+    /// The first of them alone.
     fn truncate(&mut self, count: usize)
         ensures { self.new ≡ take count self.old }
     {

@@ -3,7 +3,8 @@
 ghost use Rattle.std.specs.Prelude.{◌≡◌, Option, Some, None, true, false, IsOk, OnOk, OnErr, IfOk};
 ghost use Rattle.std.specs.Option.{option_map};
 ghost use Rattle.lobby_view.specs.View.{OwnRoom};
-ghost use Rattle.view_room.specs.Kept.{or_now, restored, was, is_noted, keeping, keep_members, keep_bots, keep_rects, keep_tags, keep_units};
+ghost use Rattle.view_room.specs.Kept.{or_now, restored, was, is_noted, keeping, keep_members, keep_bots, keep_rects};
+ghost use Rattle.view_room.specs.Kept.{keep_tags, keep_units};
 
 use crate::members::Members;
 use crate::own_room::OwnRoom;
@@ -131,7 +132,7 @@ impl KeptLists {
         }
     }
 
-    // The lists stand in a room again.
+    /// The lists stand in a room again.
     fn put_back(self, own: &mut OwnRoom)
         ensures { own.new ≡ restored self own.old }
     {
@@ -163,7 +164,8 @@ impl Before {
         }
     }
 
-    /// The members are about to change. Where memory is refused, nothing changes; while nothing is noted, none is asked for.
+    /// The members are about to change. Where memory is refused, nothing changes; while nothing is noted, none is asked
+    /// for.
     pub(crate) fn keep_members(
         &mut self,
         alloc: Global,

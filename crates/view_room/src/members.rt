@@ -51,7 +51,8 @@ impl Member {
 
     /// A status and a colour for the member, if it has this name.
     fn put_status(&mut self, name: &NameBuf, status: u32, colour: i64)
-        ensures { self.new ≡ (if same_name name.now self.old.name then room.member_with status colour self.old else self.old) }
+        ensures { self.new ≡ (if same_name name.now self.old.name then room.member_with status colour self.old
+            else self.old) }
     {
         if name.cmp(&self.name).is_eq() {
             self.status = status;
@@ -125,7 +126,8 @@ impl Members {
 
     /// Without the last, who has just been added.
     pub(crate) fn drop_last(&mut self)
-        ensures { (before : List room.Member) (name : List ℕ) → self.old ≡ before ++ room.new_member name ∷ [] → self.new ≡ before }
+        ensures { (before : List room.Member) (name : List ℕ) → self.old ≡ before ++ room.new_member name ∷ []
+            → self.new ≡ before }
     {
         let _ = self.members.pop();
     }
@@ -139,7 +141,8 @@ impl Members {
 
     /// A status and a colour for the member of a name.
     pub(crate) fn put_status(&mut self, name: &NameBuf, status: u32, colour: i64)
-        ensures { self.new ≡ map (λ m. if same_name name.now m.name then room.member_with status colour m else m) self.old }
+        ensures { self.new ≡ map (λ m. if same_name name.now m.name then room.member_with status colour m
+            else m) self.old }
     {
         for member in self.members.iter_mut() {
             member.put_status(name, status, colour);

@@ -50,7 +50,11 @@ impl Model for OwnRoom {
 
     ghost Value = { OwnRoom };
 
-    ghost view = { λ o. record { battle = o.battle; room = record { members = o.members; bots = o.bots; rects = o.rects; tags = o.tags; units = o.units; askers = [] } } };
+    ghost view = { λ o. record {
+      battle = o.battle;
+      room = record
+          { members = o.members; bots = o.bots; rects = o.rects; tags = o.tags; units = o.units; askers = [] };
+    } };
 }
 
 impl OwnRoom {

@@ -126,7 +126,7 @@ impl UndoableRoom {
         }
     }
 
-    // Another room, or none, in place of the one that there is, which is kept whole.
+    /// Another room, or none, in place of the one that there is, which is kept whole.
     fn replace(&mut self, next: Option<OwnRoom>)
         ensures { Changes (λ o. next) self.old self.new }
     {
@@ -151,7 +151,8 @@ impl UndoableRoom {
     /// Without the last member, who has just been added, where changes are not noted. Those that are noted can be
     /// taken back.
     pub fn drop_unnoted(&mut self, number: u32)
-        ensures now { self.old.noting ≡ false → (before : Option OwnRoom) (name : List ℕ) → self.old.now ≡ in_room_of number (room.with_member name) before → self.new.now ≡ before }
+        ensures now { self.old.noting ≡ false → (before : Option OwnRoom) (name : List ℕ)
+            → self.old.now ≡ in_room_of number (room.with_member name) before → self.new.now ≡ before }
         ensures before { self.old.noting ≡ true → self.new.before ≡ self.old.before }
         ensures noting { self.new.noting ≡ self.old.noting }
     {
@@ -217,7 +218,8 @@ impl UndoableRoom {
         status: u32,
         colour: i64,
     ) -> Result<(), AllocError>
-        ensures ok { OnOk result (Changes (in_room_of number (room.with_bot_status name.now status colour)) self.old self.new) }
+        ensures ok { OnOk result (Changes (in_room_of number (room.with_bot_status name.now status colour)) self.old
+            self.new) }
         ensures err { OnErr result (self.new ≡ self.old) }
     {
         if let Some(own) = &mut self.own {

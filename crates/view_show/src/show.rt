@@ -19,8 +19,8 @@ enum Word<'a> {
     Pair(&'a [u8], &'a [u8]),
 }
 
-/// Writes a line, a space before each word but the name that it begins with. A line is one call, since each `?` is proved with
-/// what it leaves.
+/// Writes a line, a space before each word but the name that it begins with. A line is one call, since each `?` is
+/// proved with what it leaves.
 fn put_line<W: Write>(name: &[u8], words: &[Word<'_>], out: &mut W) -> io::Result<()> {
     out.write_all(name)?;
     for word in words {

@@ -1,7 +1,7 @@
 //! The link over a socket that never waits.
 //!
-//! It tells proofs which bytes the system said that its calls moved, so what is proved of a connection's turn is no empty
-//! promise for a server over sockets. That a socket delivers is not proved.
+//! It tells proofs which bytes the system said that its calls moved, so what is proved of a connection's turn is no
+//! empty promise for a server over sockets. That a socket delivers is not proved.
 #![tactic(auto)]
 
 mod lingering;
@@ -30,14 +30,15 @@ const LAST_FRESH: u64 = 18_446_744_073_709_551_583;
 /// The link over a socket that never waits. It tells proofs which bytes the system said that its calls
 /// moved; that takes no memory.
 ///
-/// A poll tells each arrival once (it is edge-triggered), and the link remembers whether its last read left the socket empty. Until a
-/// poll tells of the socket again a read is then answered `Later` without a call of the system.
+/// A poll tells each arrival once (it is edge-triggered), and the link remembers whether its last read left the socket
+/// empty. Until a poll tells of the socket again a read is then answered `Later` without a call of the system.
 #[derive(Drop)]
 pub struct WireLink {
     stream: TcpStream,
     // whether the socket may have something to read
     is_readable: bool,
-    // whether it may have that after each read: no poll tells again of an end or a failure, and urgent bytes part what one read gives
+    // whether it may have that after each read: no poll tells again of an end or a failure, and urgent bytes part what
+    // one read gives
     stays_readable: bool,
     reads: u64,
     writes: u64,
@@ -94,8 +95,8 @@ impl WireLink {
         self.stays_readable |= event.is_read_closed() || event.is_error() || event.is_priority();
     }
 
-    /// Ends what is written, and gives the socket for what may still come. None, and the socket is closed, where the other side has
-    /// ended or did not take all, or the system refuses it.
+    /// Ends what is written, and gives the socket for what may still come. None, and the socket is closed, where the
+    /// other side has ended or did not take all, or the system refuses it.
     fn into_lingering(self) -> Option<TcpStream> {
         let may_linger = may_send(self.last_got) && takes_all(self.last_sent);
         let stream = self.stream;
@@ -123,8 +124,8 @@ fn takes_all(last_sent: Option<Sent>) -> bool {
     }
 }
 
-/// Whether a stream socket may have more behind such a read into a slice of this length. One that gave less than fits had no more at
-/// that moment, so what comes later is a new arrival, of which a poll tells.
+/// Whether a stream socket may have more behind such a read into a slice of this length. One that gave less than fits
+/// had no more at that moment, so what comes later is a new arrival, of which a poll tells.
 fn may_have_more(got: Got, length: usize) -> bool {
     match got {
         Got::Bytes(count) => count == length,
@@ -179,7 +180,17 @@ impl Link for WireLink {
     ghost use Rattle.std.specs.Prelude.{Some};
     ghost use Rattle.wire_link.specs.Gathered.{gathered};
 
-    ghost wire = { λ l. record { reads = l.reads; writes = l.writes; failures = l.failures; read = Some (gathered l.read.items); written = Some (gathered l.written.items); last_got = l.last_got; last_sent = l.last_sent } };
+    ghost wire = { λ l. record {
+      reads = l.reads;
+      writes = l.writes;
+      failures = l.failures;
+      read = Some
+          (gathered l.read.items);
+      written = Some (gathered l.written.items);
+      last_got = l.last_got;
+      last_sent =
+          l.last_sent;
+    } };
 
     fn read(&mut self, into: &mut [u8]) -> Got {
         self.reads += 1;

@@ -1,7 +1,8 @@
 //! Connections that linger: their clients were shut, and what was written to them may still be on its way.
 //!
-//! A socket that is closed while something lies there unread makes the system send a reset, and that takes from the other side
-//! what was written and has not arrived. So such a connection ends what it writes, and reads and lets go what still comes.
+//! A socket that is closed while something lies there unread makes the system send a reset, and that takes from the
+//! other side what was written and has not arrived. So such a connection ends what it writes, and reads and lets go
+//! what still comes.
 
 ghost use Rattle.std.specs.Prelude.{◌≡◌, ◌+◌, ◌<◌, ◌≤◌, IsTrue};
 
@@ -12,16 +13,16 @@ use mio::{Interest, Registry, Token};
 use std::alloc::Global;
 use std::mem;
 
-/// The most connections that linger at once. Each keeps a file of the system, and one whose other side says nothing keeps it for
-/// good: so these are the most files that a worker loses to such.
+/// The most connections that linger at once. Each keeps a file of the system, and one whose other side says nothing
+/// keeps it for good: so these are the most files that a worker loses to such.
 const MOST: usize = 64;
 
-/// The most bytes that are let go of one connection: more than what a client had on its way when it was shut, so that who goes on
-/// sends without end.
+/// The most bytes that are let go of one connection: more than what a client had on its way when it was shut, so that
+/// who goes on sends without end.
 const MOST_BYTES: usize = 1_048_576;
 
-/// The most reads of a turn, as many as of a client that is served: 64 KiB, so that who sends without end does not keep its worker
-/// from the others.
+/// The most reads of a turn, as many as of a client that is served: 64 KiB, so that who sends without end does not keep
+/// its worker from the others.
 const READS: u32 = 16;
 
 /// The token of the first place, far above the keys of any table.
@@ -95,8 +96,9 @@ impl Lingerer {
     }
 }
 
-/// The connections of a worker that linger, 64 at most while it serves. Each has a place, and goes on until its other side ends, its
-/// link fails, more than 1,048,576 bytes came of it, or its place is that of a further one, which comes 64 later.
+/// The connections of a worker that linger, 64 at most while it serves. Each has a place, and goes on until its other
+/// side ends, its link fails, more than 1,048,576 bytes came of it, or its place is that of a further one, which comes
+/// 64 later.
 #[derive(Drop)]
 pub struct Lingering {
     places: Vec<Option<Lingerer>>,
@@ -114,8 +116,8 @@ impl Lingering {
         }
     }
 
-    /// Has a connection linger that a poll knows already and whose client was shut. It is closed at once where its other side has
-    /// ended or did not take all, or the system or memory do not allow it.
+    /// Has a connection linger that a poll knows already and whose client was shut. It is closed at once where its
+    /// other side has ended or did not take all, or the system or memory do not allow it.
     pub fn begin(&mut self, registry: &Registry, link: WireLink) {
         let Some(stream) = link.into_lingering() else {
             return;
@@ -142,9 +144,9 @@ impl Lingering {
         self.next = (self.next + 1) % MOST;
     }
 
-    /// Has one more connection linger whose client was shut, beside all others: no poll tells of it, and `let_go` alone reads it. Only
-    /// a worker that ends does so, which bounds how often that is. It is closed at once where its other side has ended or did not take
-    /// all, or the system or memory do not allow it.
+    /// Has one more connection linger whose client was shut, beside all others: no poll tells of it, and `let_go` alone
+    /// reads it. Only a worker that ends does so, which bounds how often that is. It is closed at once where its other
+    /// side has ended or did not take all, or the system or memory do not allow it.
     pub fn add(&mut self, link: WireLink) {
         if let Some(stream) = link.into_lingering() {
             let left = usize::MAX;

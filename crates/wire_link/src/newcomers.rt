@@ -13,8 +13,8 @@ use proxy_line::{HalfLine, LONGEST, Step};
 use std::alloc::Global;
 use std::mem;
 
-/// The most connections whose line is waited for at once. Each keeps a file of the system, and one whose front says no more keeps it
-/// until its place is that of a further one: so these are the most files that a worker loses to such.
+/// The most connections whose line is waited for at once. Each keeps a file of the system, and one whose front says no
+/// more keeps it until its place is that of a further one: so these are the most files that a worker loses to such.
 const MOST: usize = 256;
 
 /// The token of the first place, far above the keys of any table and below those of connections that linger.
@@ -69,8 +69,9 @@ impl Newcomer {
     }
 }
 
-/// The connections of a worker whose line is waited for, 256 at most. Each has a place, and waits until its line is whole or refused,
-/// its other side ends, its device fails, or its place is that of a further one, which comes 256 later.
+/// The connections of a worker whose line is waited for, 256 at most. Each has a place, and waits until its line is
+/// whole or refused, its other side ends, its device fails, or its place is that of a further one, which comes 256
+/// later.
 #[derive(Drop)]
 pub struct Newcomers {
     places: Vec<Option<Newcomer>>,
@@ -88,8 +89,8 @@ impl Newcomers {
         }
     }
 
-    /// A connection comes from a front, which is at this address. It is given back, with where it comes from, where its line is there
-    /// already. It is closed where that is refused, or the system or memory do not allow it to wait.
+    /// A connection comes from a front, which is at this address. It is given back, with where it comes from, where its
+    /// line is there already. It is closed where that is refused, or the system or memory do not allow it to wait.
     pub fn begin(
         &mut self,
         registry: &Registry,
@@ -137,8 +138,8 @@ impl Newcomers {
         FIRST <= token.0 && token.0 < FIRST + MOST
     }
 
-    /// Reads on for the connection of a poll's token. It is given back, with where it comes from, once its line is whole. It is closed
-    /// where that is refused, or the system does not let go of it.
+    /// Reads on for the connection of a poll's token. It is given back, with where it comes from, once its line is
+    /// whole. It is closed where that is refused, or the system does not let go of it.
     pub fn turn(&mut self, registry: &Registry, token: Token) -> Option<(TcpStream, [u8; 4])> {
         let place = self.places.get_mut(token.0.checked_sub(FIRST)?)?;
         let mut newcomer = mem::replace(place, None)?;

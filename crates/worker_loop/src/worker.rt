@@ -27,23 +27,25 @@ const WAKER: Token = Token(usize::MAX);
 /// The token of the listener.
 const LISTENER: Token = Token(usize::MAX - 1);
 
-/// The most events that one poll tells. With fewer a busy worker would ask the system more often; what a poll has no room for the next
-/// one tells, and more would make the buffer of a quiet worker larger, which has room for them all the while.
+/// The most events that one poll tells. With fewer a busy worker would ask the system more often; what a poll has no
+/// room for the next one tells, and more would make the buffer of a quiet worker larger, which has room for them all
+/// the while.
 const EVENTS: usize = 1_024;
 
 /// The most connections that are accepted in a round, so that who waits to be accepted does not keep
 /// the worker from its connections.
 const ACCEPTS: u32 = 64;
 
-/// The most rounds of a worker that was told to stop, with a pause between two: three seconds, in which a client that is far away and
-/// was told twice that its connection ends has ended it too. Who does not read, or does not end, holds a stop up no longer.
+/// The most rounds of a worker that was told to stop, with a pause between two: three seconds, in which a client that
+/// is far away and was told twice that its connection ends has ended it too. Who does not read, or does not end, holds
+/// a stop up no longer.
 const LAST_ROUNDS: u32 = 150;
 
 /// The milliseconds of a pause.
 const PAUSE: u64 = 20;
 
-/// What a worker listens with: its poll, with room for what one poll tells, from where fronts connect, and at one worker the server's
-/// listener.
+/// What a worker listens with: its poll, with room for what one poll tells, from where fronts connect, and at one
+/// worker the server's listener.
 #[derive(Drop)]
 pub struct WorkerListener {
     poll: Poll,
@@ -153,8 +155,8 @@ impl WorkerLoop {
         }
     }
 
-    /// Notes what the last poll told of the connections, before any of them gets a turn, and says what it told of the waker and of the
-    /// listener.
+    /// Notes what the last poll told of the connections, before any of them gets a turn, and says what it told of the
+    /// waker and of the listener.
     fn note_events(&mut self) -> Readiness {
         let mut readiness = Readiness {
             woken: false,
@@ -256,8 +258,8 @@ impl WorkerLoop {
         }
     }
 
-    /// Gives turns to those of whom the last poll told, takes connections whose line is whole, and lets go what came for those who
-    /// linger.
+    /// Gives turns to those of whom the last poll told, takes connections whose line is whole, and lets go what came
+    /// for those who linger.
     fn turn_ready<R: Wait, G: Gate>(&mut self, rt: &R, shared: &Shared<'_, G>, pass: Pass) -> Pass
         requires { pass.desk ≡ shared.now.desk.now }
         ensures desk { result.desk ≡ pass.desk }
@@ -307,8 +309,9 @@ impl WorkerLoop {
         turns::turn_left(rt, shared, pass, connections, registry)
     }
 
-    /// Ends all connections in order. Nobody is accepted and no client is read any more. Each is sent what waits for it, is shut, and
-    /// its connection lingers until its other side has ended, in so many rounds at most. Who was not sent all by then is shut too.
+    /// Ends all connections in order. Nobody is accepted and no client is read any more. Each is sent what waits for
+    /// it, is shut, and its connection lingers until its other side has ended, in so many rounds at most. Who was not
+    /// sent all by then is shut too.
     fn wind_up<R: Wait, G: Gate>(&mut self, rt: &R, shared: &Shared<'_, G>, pass: Pass) -> Pass
         requires { pass.desk ≡ shared.now.desk.now }
         ensures desk { result.desk ≡ pass.desk }
@@ -386,8 +389,8 @@ fn ip_of(address: SocketAddr) -> [u8; 4] {
     }
 }
 
-/// Serves connections until the workers are told to stop, then ends them in order, and gives the pass back. It waits for news, at the
-/// desk, and at a stop a few seconds at most for its clients, and else nowhere.
+/// Serves connections until the workers are told to stop, then ends them in order, and gives the pass back. It waits
+/// for news, at the desk, and at a stop a few seconds at most for its clients, and else nowhere.
 ///
 /// What it listens with is made before, since its waker belongs to its poll. `inboxes` and `wakers` are
 /// those of all workers.

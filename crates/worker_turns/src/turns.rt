@@ -104,7 +104,8 @@ pub fn turn<R: Wait, G: Gate>(
     turn_within(rt, shared, pass, connections, registry, key, allowance)
 }
 
-/// The connection under a key gets its turn of this round, in which it may tell so many pieces. Nothing happens where there is none.
+/// The connection under a key gets its turn of this round, in which it may tell so many pieces. Nothing happens where
+/// there is none.
 fn turn_within<R: Wait, G: Gate>(
     rt: &R,
     shared: &Shared<'_, G>,
@@ -157,8 +158,8 @@ fn tell_refused<G: Gate>(gate: &G, connections: &mut Connections, worker: u8, st
     }
 }
 
-/// What a poll told under this token: a connection's line goes on, and its client is opened where it is whole; what came for one that
-/// lingers is let go; or a connection gets its turn.
+/// What a poll told under this token: a connection's line goes on, and its client is opened where it is whole; what
+/// came for one that lingers is let go; or a connection gets its turn.
 pub fn turn_told<R: Wait, G: Gate>(
     rt: &R,
     shared: &Shared<'_, G>,
@@ -196,8 +197,8 @@ fn pass_on<G: Gate>(shared: &Shared<'_, G>, connections: &mut Connections, home:
     shared.wakers.wake_others(home, wakes);
 }
 
-/// Those get their turn that were left in the round before. One who is left alone may tell what is left of the round. Whom these and
-/// later turns leave over stands in another list, that of the next round.
+/// Those get their turn that were left in the round before. One who is left alone may tell what is left of the round.
+/// Whom these and later turns leave over stands in another list, that of the next round.
 pub fn turn_left<R: Wait, G: Gate>(
     rt: &R,
     shared: &Shared<'_, G>,
@@ -378,8 +379,8 @@ fn open<R: Wait, G: Gate>(
     (held.give(rt, shared.desk), opened)
 }
 
-/// One turn of a connection. The client of a link that has no room for a turn is shut. Where a link is gone and memory was refused,
-/// what waits for its client is let go, and from then on the client is not served but only shut.
+/// One turn of a connection. The client of a link that has no room for a turn is shut. Where a link is gone and memory
+/// was refused, what waits for its client is let go, and from then on the client is not served but only shut.
 fn serve_or_shut<R: Wait, G: Gate>(
     rt: &R,
     shared: &Shared<'_, G>,

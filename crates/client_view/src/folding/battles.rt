@@ -13,7 +13,7 @@ use reply_kinds::{OpenedBattle, Reply};
 use std::alloc::AllocError;
 
 impl Known {
-    // Who is in a battle, or what it is.
+    /// Who is in a battle, or what it is.
     #[inline(never)]
     pub(crate) fn fold_battles(&mut self, reply: Reply) -> Result<(), AllocError>
         requires { kind_of reply ≡ Battles }
@@ -41,7 +41,7 @@ impl Known {
         }
     }
 
-    // The reply tells all of a battle that opens.
+    /// The reply tells all of a battle that opens.
     #[inline(never)]
     pub(crate) fn battle_opened(&mut self, reply: Reply) -> Result<(), AllocError>
         requires { kind_of reply ≡ Opening }
@@ -88,7 +88,7 @@ impl Known {
         }
     }
 
-    // The client enters a battle, as its founder or as one who joins.
+    /// The client enters a battle, as its founder or as one who joins.
     fn open_battle(&mut self, number: u32) -> Result<(), AllocError>
         ensures ok { OnOk result (Changes (λ v. shown v (reply.OpenBattle number)) self.old self.new) }
         ensures err { OnErr result (self.new ≡ self.old) }
@@ -96,14 +96,15 @@ impl Known {
         self.room.enter(number, self.battles.battles().get(&number))
     }
 
-    // Only a founder's client is told a script password, and no client keeps it.
+    /// Only a founder's client is told a script password, and no client keeps it.
     fn joined_battle(
         &mut self,
         number: u32,
         name: NameBuf,
         _script_password: Option<WordBuf>,
     ) -> Result<(), AllocError>
-        ensures ok { OnOk result (Changes (λ v. shown v (reply.JoinedBattle number name _script_password)) self.old self.new) }
+        ensures ok { OnOk result (Changes (λ v.
+            shown v (reply.JoinedBattle number name _script_password)) self.old self.new) }
         ensures err { OnErr result (Refused self.old self.new) }
     {
         self.room.add_member(number, name.copy())?;
@@ -124,14 +125,15 @@ impl Known {
         map_hash: i64,
         map: SentenceBuf,
     ) -> Result<(), AllocError>
-        ensures ok { OnOk result (Changes (λ v. shown v (reply.UpdateBattleInfo number spectators locked map_hash map)) self.old self.new) }
+        ensures ok { OnOk result (Changes (λ v.
+            shown v (reply.UpdateBattleInfo number spectators locked map_hash map)) self.old self.new) }
         ensures err { OnErr result (self.new ≡ self.old) }
     {
         self.battles
             .update(number, spectators, locked, map_hash, map)
     }
 
-    // The room is left with the client itself.
+    /// The room is left with the client itself.
     fn left_battle(&mut self, number: u32, name: &NameBuf) -> Result<(), AllocError>
         ensures ok { OnOk result (Changes (λ v. shown v (reply.LeftBattle number name.now)) self.old self.new) }
         ensures err { OnErr result (Refused self.old self.new) }

@@ -12,7 +12,7 @@ use reply_kinds::Reply;
 use std::alloc::AllocError;
 
 impl Known {
-    // The reply tells who is in which channel.
+    /// The reply tells who is in which channel.
     #[inline(never)]
     pub(crate) fn fold_channels(&mut self, reply: Reply) -> Result<(), AllocError>
         requires { kind_of reply ≡ Channels }
@@ -49,7 +49,7 @@ impl Known {
         self.channels.add(channel, name)
     }
 
-    // The channel goes with the client itself.
+    /// The channel goes with the client itself.
     fn left(&mut self, channel: &NameBuf, name: &NameBuf) -> Result<(), AllocError>
         ensures ok { OnOk result (Changes (λ v. shown v (reply.Left channel.now name.now)) self.old self.new) }
         ensures err { OnErr result (self.new ≡ self.old) }

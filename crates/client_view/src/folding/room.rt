@@ -14,7 +14,7 @@ use std::alloc::AllocError;
 use view_room::Bot;
 
 impl Known {
-    // What changes the own room.
+    /// What changes the own room.
     #[inline(never)]
     pub(crate) fn fold_room(&mut self, reply: Reply) -> Result<(), AllocError>
         requires { is_of_room (kind_of reply) ≡ true }
@@ -33,7 +33,7 @@ impl Known {
         }
     }
 
-    // The status of a member.
+    /// The status of a member.
     #[inline(never)]
     fn fold_members(&mut self, reply: Reply) -> Result<(), AllocError>
         requires { kind_of reply ≡ Members }
@@ -56,13 +56,14 @@ impl Known {
         status: u32,
         colour: i64,
     ) -> Result<(), AllocError>
-        ensures ok { OnOk result (Changes (λ v. shown v (reply.ClientBattleStatus name.now status colour)) self.old self.new) }
+        ensures ok { OnOk result (Changes (λ v.
+            shown v (reply.ClientBattleStatus name.now status colour)) self.old self.new) }
         ensures err { OnErr result (self.new ≡ self.old) }
     {
         self.room.put_status(name, status, colour)
     }
 
-    // A bot comes, changes or goes.
+    /// A bot comes, changes or goes.
     #[inline(never)]
     fn fold_bots(&mut self, reply: Reply) -> Result<(), AllocError>
         requires { kind_of reply ≡ Bots }
@@ -93,7 +94,8 @@ impl Known {
     }
 
     fn add_bot(&mut self, number: u32, bot: Bot) -> Result<(), AllocError>
-        ensures ok { OnOk result (Changes (λ v. shown v (reply.AddBot number bot.name bot.owner bot.status bot.colour bot.ai)) self.old self.new) }
+        ensures ok { OnOk result (Changes (λ v.
+            shown v (reply.AddBot number bot.name bot.owner bot.status bot.colour bot.ai)) self.old self.new) }
         ensures err { OnErr result (self.new ≡ self.old) }
     {
         self.room.add_bot(number, bot)
@@ -106,7 +108,8 @@ impl Known {
         status: u32,
         colour: i64,
     ) -> Result<(), AllocError>
-        ensures ok { OnOk result (Changes (λ v. shown v (reply.UpdateBot number name.now status colour)) self.old self.new) }
+        ensures ok { OnOk result (Changes (λ v.
+            shown v (reply.UpdateBot number name.now status colour)) self.old self.new) }
         ensures err { OnErr result (self.new ≡ self.old) }
     {
         self.room.put_bot_status(number, name, status, colour)
@@ -119,7 +122,7 @@ impl Known {
         self.room.remove_bot(number, name)
     }
 
-    // A start rectangle is set or goes.
+    /// A start rectangle is set or goes.
     #[inline(never)]
     fn fold_rects(&mut self, reply: Reply) -> Result<(), AllocError>
         requires { kind_of reply ≡ Rects }
@@ -147,7 +150,7 @@ impl Known {
         }
     }
 
-    // Script tags are set or go.
+    /// Script tags are set or go.
     #[inline(never)]
     fn fold_tags(&mut self, reply: Reply) -> Result<(), AllocError>
         requires { kind_of reply ≡ Tags }
@@ -161,7 +164,7 @@ impl Known {
         }
     }
 
-    // Units are disabled or enabled.
+    /// Units are disabled or enabled.
     #[inline(never)]
     fn fold_units(&mut self, reply: Reply) -> Result<(), AllocError>
         requires { kind_of reply ≡ Units }

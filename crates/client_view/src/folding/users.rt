@@ -13,7 +13,7 @@ use std::alloc::AllocError;
 use view_lists::User;
 
 impl Known {
-    // Who comes and goes. Not inlined, as the others: what comes most is folded without their moves.
+    /// Who comes and goes. Not inlined, as the others: what comes most is folded without their moves.
     #[inline(never)]
     pub(crate) fn fold_users(&mut self, reply: Reply) -> Result<(), AllocError>
         requires { kind_of reply ≡ Users }

@@ -18,7 +18,8 @@ use std::alloc::AllocError;
 
 /// `JOIN`: the user is not in the channel.
 pub fn join(by: &Issuer, channel: &NameBuf, post: &mut Post) -> Result<Change, Stop>
-    ensures { Answers by.now.maps.now.plain by.now.client post.old post.new (join by.now.maps.now.plain by.now.me.now channel.now) result }
+    ensures { Answers by.now.maps.now.plain by.now.client post.old post.new
+        (join by.now.maps.now.plain by.now.me.now channel.now) result }
 {
     let names = names_without(by.maps, by.me, channel)?;
     let keys = by.maps.channels().marks_in(channel);
@@ -42,7 +43,8 @@ pub fn join(by: &Issuer, channel: &NameBuf, post: &mut Post) -> Result<Change, S
 
 /// `LEAVE`: the user is in the channel.
 pub fn leave(by: &Issuer, channel: &NameBuf, post: &mut Post) -> Result<Change, Stop>
-    ensures { Answers by.now.maps.now.plain by.now.client post.old post.new (leave by.now.maps.now.plain by.now.me.now channel.now) result }
+    ensures { Answers by.now.maps.now.plain by.now.client post.old post.new
+        (leave by.now.maps.now.plain by.now.me.now channel.now) result }
 {
     let members = members_with(by.maps, by.me, channel)?;
     let (names, keys) = (members.as_slice(), members.marks());
@@ -68,7 +70,8 @@ pub fn say_in_channel(
     line: LentReply,
     post: &mut Post,
 ) -> Result<Change, Stop>
-    ensures { Answers by.now.maps.now.plain by.now.client post.old post.new (say_in_channel by.now.maps.now.plain by.now.me.now channel.now (reply_of line.entry)) result }
+    ensures { Answers by.now.maps.now.plain by.now.client post.old post.new
+        (say_in_channel by.now.maps.now.plain by.now.me.now channel.now (reply_of line.entry)) result }
 {
     let members = members_with(by.maps, by.me, channel)?;
     let (names, keys) = (members.as_slice(), members.marks());
@@ -83,7 +86,8 @@ pub fn say_private(
     text: &TextBuf,
     post: &mut Post,
 ) -> Result<Change, Stop>
-    ensures { Answers by.now.maps.now.plain by.now.client post.old post.new (say_private by.now.maps.now.plain by.now.me.now target.now text.now) result }
+    ensures { Answers by.now.maps.now.plain by.now.client post.old post.new
+        (say_private by.now.maps.now.plain by.now.me.now target.now text.now) result }
 {
     user_named(by.maps, target)?;
     post.tell_issuer(LentReply::SayPrivate { user: target, text })?;
@@ -94,7 +98,8 @@ pub fn say_private(
 
 /// `CHANNELS`.
 pub fn list_channels(by: &Issuer, post: &mut Post) -> Result<Change, Stop>
-    ensures { Answers by.now.maps.now.plain by.now.client post.old post.new (list_channels by.now.maps.now.plain) result }
+    ensures { Answers by.now.maps.now.plain by.now.client post.old post.new (list_channels by.now.maps.now.plain)
+        result }
 {
     post.begin_own();
     write_channels(by.maps, post)?;
@@ -141,7 +146,8 @@ fn tell_members(
     client: u64,
     post: &mut Post,
 ) -> Result<(), AllocError>
-    ensures { OnOk result (Told maps.now.plain post.old post.new (tell (user me.now) (name_lines channel.now (names.now ++ me.now ∷ [])) ∷ [])) }
+    ensures { OnOk result (Told maps.now.plain post.old post.new (tell (user me.now) (name_lines channel.now (names.now
+        ++ me.now ∷ [])) ∷ [])) }
 {
     let mut rest = names;
     while rest.len() >= 32 {

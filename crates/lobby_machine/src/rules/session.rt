@@ -30,7 +30,8 @@ use std::alloc::AllocError;
 
 /// `PING`.
 pub fn ping(maps: &Maps, client: u64, post: &mut Post) -> Result<Change, Stop>
-    ensures { Answers maps.now.plain client post.old post.new (done (only_told (tell issuer (reply.Pong ∷ []) ∷ []))) result }
+    ensures { Answers maps.now.plain client post.old post.new (done (only_told (tell issuer (reply.Pong ∷ [])
+        ∷ []))) result }
 {
     post.tell_issuer(LentReply::Pong)?;
     Ok(Change::Nothing)
@@ -48,7 +49,9 @@ pub fn log_in(
 ) -> Result<Change, Stop>
     requires hears { hears maps.now.plain client ≡ true }
     requires nobody { name_of maps.now.plain client ≡ None }
-    ensures { Answers maps.now.plain client post.old post.new (log_in maps.now.plain client cpu authorises (login maps.now.plain.accounts user_name.now password.now)) result }
+    ensures { Answers maps.now.plain client post.old post.new
+        (log_in maps.now.plain client cpu authorises
+        (login maps.now.plain.accounts user_name.now password.now)) result }
 {
     let account = account_for(maps, user_name, password)?;
     let name = free_name(maps, account)?;
@@ -62,7 +65,8 @@ pub fn log_in(
 /// `MYSTATUS`: rank, moderator and bot stay those of the account.
 pub fn my_status(by: &Issuer, asked: u32, post: &mut Post) -> Result<Change, Stop>
     requires { name_of by.now.maps.now.plain by.now.client ≡ Some by.now.me.now }
-    ensures { Answers by.now.maps.now.plain by.now.client post.old post.new (set_user_status by.now.maps.now.plain by.now.me.now asked) result }
+    ensures { Answers by.now.maps.now.plain by.now.client post.old post.new
+        (set_user_status by.now.maps.now.plain by.now.me.now asked) result }
 {
     let status = match by.maps.status_of(by.me) {
         Some(status) => merge_user(status, asked),
@@ -89,7 +93,8 @@ pub fn log_out(
     post: &mut Post,
 ) -> Result<Change, AllocError>
     requires { option_copied me ≡ name_of maps.now.plain client }
-    ensures { IfOk result (λ change. Obeyed maps.now.plain client post.old post.new change (departs maps.now.plain (option_copied me.entry) (parts client stays))) }
+    ensures { IfOk result (λ change. Obeyed maps.now.plain client post.old post.new change
+        (departs maps.now.plain (option_copied me.entry) (parts client stays))) }
 {
     let Some(me) = me else {
         return Ok(Change::LogOut {
@@ -114,10 +119,12 @@ pub fn log_out(
 /// Tells that one who logs out leaves its battle, where it is in one, and gives that battle's
 /// number.
 fn tell_battle_left(maps: &Maps, me: &NameBuf, post: &mut Post) -> Result<Option<u32>, AllocError>
-    ensures told { OnOk result (Told maps.now.plain post.old post.new (left_battle_letters me.now (battle_of maps.now.plain me.now))) }
+    ensures told { OnOk result (Told maps.now.plain post.old post.new
+        (left_battle_letters me.now (battle_of maps.now.plain me.now))) }
     ensures number { IfOk result (λ number. number ≡ first_of (battle_of maps.now.plain me.now)) }
     ensures only { IfOk result (λ number. IsOnly (has_member me.now) maps.now.plain.battles number) }
-    ensures there { (own : ℕ × Battle) → battle_of maps.now.plain me.now ≡ Some own → at_number maps.now.plain.battles own.0 ≡ Some own.1 }
+    ensures there { (own : ℕ × Battle) → battle_of maps.now.plain me.now ≡ Some own
+        → at_number maps.now.plain.battles own.0 ≡ Some own.1 }
 {
     let Some((number, battle)) = maps.battle_of(me) else {
         return Ok(None);
@@ -128,7 +135,8 @@ fn tell_battle_left(maps: &Maps, me: &NameBuf, post: &mut Post) -> Result<Option
 
 /// What the end of a client's connection comes to. Fails only where memory is refused, as `decide` does.
 pub fn close(maps: &Maps, client: u64, post: &mut Post) -> Result<Change, AllocError>
-    ensures { IfOk result (λ change. Obeyed maps.now.plain client (begun client None) post.new change (departs maps.now.plain (name_of maps.now.plain client) (parts client false))) }
+    ensures { IfOk result (λ change. Obeyed maps.now.plain client (begun client None) post.new change
+        (departs maps.now.plain (name_of maps.now.plain client) (parts client false))) }
 {
     post.begin(client, None);
     let me = maps.name_of(client);

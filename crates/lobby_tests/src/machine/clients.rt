@@ -9,7 +9,7 @@ use std::alloc::Global;
 use std::process::Abort;
 use test_lobby::{ANNA_SAYS, new_lobby, read};
 
-// The value, where it is as it should be.
+/// The value, where it is as it should be.
 fn only_if<T: Drop>(is_so: bool, value: T) -> Option<T> {
     if is_so {
         Some(value)
@@ -19,7 +19,7 @@ fn only_if<T: Drop>(is_so: bool, value: T) -> Option<T> {
     }
 }
 
-// Whom a line of a client wakes; nothing where memory is refused.
+/// Whom a line of a client wakes; nothing where memory is refused.
 pub fn say(lobby: &mut Lobby, alloc: Global, client: u64, line: &[u8]) -> Option<Wakes> {
     match read(alloc, line) {
         Ok(request) => {
@@ -31,7 +31,7 @@ pub fn say(lobby: &mut Lobby, alloc: Global, client: u64, line: &[u8]) -> Option
     }
 }
 
-// Whether a drain into a slice gives these bytes and no more, and says so of whether anything will come again.
+/// Whether a drain into a slice gives these bytes and no more, and says so of whether anything will come again.
 pub fn drains(
     lobby: &mut Lobby,
     client: u64,
@@ -43,7 +43,7 @@ pub fn drains(
     lobby.drain(client, into) == Drained { count, finished } && into.starts_with(want)
 }
 
-// Whether a line of a client wakes this worker alone.
+/// Whether a line of a client wakes this worker alone.
 fn wakes_alone(lobby: &mut Lobby, alloc: Global, client: u64, line: &[u8], worker: u8) -> bool
     requires { worker < 64 }
 {
@@ -53,7 +53,7 @@ fn wakes_alone(lobby: &mut Lobby, alloc: Global, client: u64, line: &[u8], worke
     }
 }
 
-// Whether a line of a client wakes nobody.
+/// Whether a line of a client wakes nobody.
 fn wakes_nobody(lobby: &mut Lobby, alloc: Global, client: u64, line: &[u8]) -> bool {
     say(lobby, alloc, client, line) == Some(Wakes::none())
 }
@@ -65,7 +65,7 @@ fn open_two(rt: &impl Abort, lobby: &mut Lobby) {
     same(rt, lobby.last_client(), 2);
 }
 
-// Lines that are answered, most of them by a refusal.
+/// Lines that are answered, most of them by a refusal.
 static ANSWERED: [&[u8]; 9] = [
     b"PING",
     b"ping",
@@ -78,7 +78,7 @@ static ANSWERED: [&[u8]; 9] = [
     b"LOGIN Anna 1B2M2Y8AsgTpgAmY7PhCfg== 0 * TestLobby 1.0",
 ];
 
-// The first line of these with which one of the clients wakes others than its own worker.
+/// The first line of these with which one of the clients wakes others than its own worker.
 fn misses(lobby: &mut Lobby, alloc: Global) -> Option<&'static [u8]> {
     for line in &ANSWERED {
         if !wakes_alone(lobby, alloc, 1, line, 5) || !wakes_alone(lobby, alloc, 2, line, 63) {
@@ -145,7 +145,7 @@ fn ping_often(lobby: &mut Lobby, alloc: Global, client: u64, times: u32) -> bool
     true
 }
 
-// A greeting has 24 bytes, and each answer 8: together just as many as an outbox takes, so nobody is cut.
+/// A greeting has 24 bytes, and each answer 8: together just as many as an outbox takes, so nobody is cut.
 pub fn fill(rt: &impl Abort, alloc: Global, lobby: &mut Lobby) {
     same(rt, lobby.open([10, 0, 0, 1], 0), Ok(1));
     same(rt, lobby.unread(1), 24);
@@ -153,7 +153,7 @@ pub fn fill(rt: &impl Abort, alloc: Global, lobby: &mut Lobby) {
     same(rt, lobby.unread(1), 65_536);
 }
 
-// One more answer finds no room: it puts no byte, and nothing will ever come of its client.
+/// One more answer finds no room: it puts no byte, and nothing will ever come of its client.
 pub fn cut(rt: &impl Abort, alloc: Global, lobby: &mut Lobby) {
     same(rt, wakes_alone(lobby, alloc, 1, b"PING", 0), true);
     same(rt, lobby.unread(1), 0);
@@ -173,7 +173,7 @@ fn a_client_that_reads_nothing_is_cut_at_the_limit(rt: HostRuntime) {
     play(&rt, rt.alloc(), new_lobby(rt.alloc()), Part::Cutting);
 }
 
-// The answer has 5 bytes: just so many are read before.
+/// The answer has 5 bytes: just so many are read before.
 pub fn read_enough(rt: &impl Abort, alloc: Global, lobby: &mut Lobby) {
     fill(rt, alloc, lobby);
     same(rt, drains(lobby, 1, &mut [0; 5], b"TASSE", false), true);
@@ -189,7 +189,7 @@ fn who_reads_as_much_as_an_answer_has_gets_it(rt: HostRuntime) {
     play(&rt, rt.alloc(), new_lobby(rt.alloc()), Part::ReadingEnough);
 }
 
-// A byte fewer is read before.
+/// A byte fewer is read before.
 pub fn read_too_little(rt: &impl Abort, alloc: Global, lobby: &mut Lobby) {
     fill(rt, alloc, lobby);
     same(rt, drains(lobby, 1, &mut [0; 4], b"TASS", false), true);
@@ -210,7 +210,7 @@ fn read_all(lobby: &mut Lobby, client: u64) {
     let _ = lobby.drain(client, &mut [0; 512]);
 }
 
-// The clients 1, 2 and 3, which the workers of the same numbers serve, read their greetings.
+/// The clients 1, 2 and 3, which the workers of the same numbers serve, read their greetings.
 fn open_three(lobby: &mut Lobby) -> Result<(), OpenError> {
     for home in 1..4 {
         let client = lobby.open([10, 0, 0, 1], home)?;
@@ -225,7 +225,7 @@ fn lobby_of_three(alloc: Global) -> Option<Lobby> {
     only_if(are_open, lobby)
 }
 
-// Anna logs in and out again, and reads what she got.
+/// Anna logs in and out again, and reads what she got.
 pub fn log_in_and_out(rt: &impl Abort, alloc: Global, lobby: &mut Lobby) {
     let client = 1;
     same(rt, wakes_alone(lobby, alloc, client, ANNA_SAYS, 1), true);

@@ -10,7 +10,7 @@ use std::alloc::Global;
 use std::process::Abort;
 use test_lobby::{ANNA_SAYS, BERT_SAYS, new_lobby};
 
-// These clients of a worker come out in this order, and nobody else.
+/// These clients of a worker come out in this order, and nobody else.
 fn come_out(rt: &impl Abort, lobby: &mut Lobby, worker: u8, clients: &[u64])
     requires { worker < 64 }
 {
@@ -31,7 +31,7 @@ fn a_client_that_was_opened_comes_out_once(rt: HostRuntime) {
     play(&rt, rt.alloc(), new_lobby(rt.alloc()), Part::ComingOnce);
 }
 
-// Whether who speaks for this client speaks in vain.
+/// Whether who speaks for this client speaks in vain.
 fn is_nobody(lobby: &mut Lobby, alloc: Global, client: u64) -> bool {
     say(lobby, alloc, client, b"PING") == Some(Wakes::none())
         && drains(lobby, client, &mut [0; 8], b"", true)
@@ -73,7 +73,7 @@ fn a_client_that_was_cut_comes_out_once(rt: HostRuntime) {
     play(&rt, rt.alloc(), new_lobby(rt.alloc()), Part::BeingCut);
 }
 
-// Two users whom one worker serves. The second of them enters the channel first, and is told first.
+/// Two users whom one worker serves. The second of them enters the channel first, and is told first.
 static MEETING: [(u64, &[u8]); 4] = [
     (1, ANNA_SAYS),
     (2, BERT_SAYS),

@@ -50,7 +50,8 @@ fn are_among(text: &[u8], line: &[u8], times: usize, other: &[u8]) -> bool {
     rest.is_empty() && others == 1
 }
 
-/// How many bytes of a text's beginning end what came, with one byte more, where so many did before. Its first byte stands in it once.
+/// How many bytes of a text's beginning end what came, with one byte more, where so many did before. Its first byte
+/// stands in it once.
 fn met_with(text: &[u8], met: usize, byte: u8) -> usize {
     if text.get(met) == Some(&byte) {
         met.saturating_add(1)
@@ -151,7 +152,8 @@ impl Client {
         }
     }
 
-    /// Whether these bytes come last, within so many looks, behind whatever others. Their first byte stands in them once.
+    /// Whether these bytes come last, within so many looks, behind whatever others. Their first byte stands in them
+    /// once.
     pub fn reads_up_to<C: Clock>(&mut self, clock: &C, last: &[u8]) -> bool {
         let mut met = 0usize;
         let mut piece = [0u8; PIECE];
@@ -193,8 +195,8 @@ impl Client {
         None
     }
 
-    /// Whether the other side breaks the connection off while these bytes are sent again and again, once a look and within so many
-    /// looks. Nothing is read meanwhile.
+    /// Whether the other side breaks the connection off while these bytes are sent again and again, once a look and
+    /// within so many looks. Nothing is read meanwhile.
     pub fn is_broken_off<C: Clock>(&mut self, clock: &C, bytes: &[u8]) -> bool {
         for _ in 0..LOOKS {
             match outcome(self.stream.write(bytes)) {

@@ -40,9 +40,9 @@ static CROWD_SPEAKS: [Act; 2] = [
     },
 ];
 
-/// Forty speak to forty, a hundred lines each, which all wait when the first of them gets its turn: 160,000 pieces in all. Behind that
-/// turn the worker stands still until one more has asked. So its turn comes behind what is left of this round, and before all who are
-/// left over then.
+/// Forty speak to forty, a hundred lines each, which all wait when the first of them gets its turn: 160,000 pieces in
+/// all. Behind that turn the worker stands still until one more has asked. So its turn comes behind what is left of
+/// this round, and before all who are left over then.
 #[test]
 fn who_asks_waits_for_one_round_of_a_crowd(rt: HostRuntime) {
     drop(play(&rt, rt, 1, Hold::Crowd, &CROWD_SPEAKS));

@@ -30,8 +30,8 @@ pub enum Hold {
     Takes,
     /// Worker 0 where it has written an answer to PING, until it may go on.
     Write,
-    /// Worker 0 where it has written an answer to PING, until it may go on, and then behind the first turn that told much, until it may
-    /// go on again.
+    /// Worker 0 where it has written an answer to PING, until it may go on, and then behind the first turn that told
+    /// much, until it may go on again.
     Crowd,
     /// Worker 1, once the gate is shut, where it was woken and before it looks into its inbox, until it may go on.
     Wake,
@@ -136,7 +136,8 @@ impl Watch {
         self.is_woken.load(Ordering::SeqCst)
     }
 
-    /// Whether the last greeting is this worker's, once there were so many. False where there are not, within so many looks.
+    /// Whether the last greeting is this worker's, once there were so many. False where there are not, within so many
+    /// looks.
     pub fn is_greeter(&self, greetings: u64, worker: u8) -> bool {
         for _ in 0..LOOKS {
             if self.greetings.load(Ordering::SeqCst) == greetings {

@@ -1,4 +1,5 @@
-//! What comes to the edge of a server: many connections at once, full inboxes, clients that keep a worker busy, and homes.
+//! What comes to the edge of a server: many connections at once, full inboxes, clients that keep a worker busy, and
+//! homes.
 
 use crate::sockets::gates::Hold;
 use crate::sockets::plays::Step::*;
@@ -17,7 +18,8 @@ static BURST: [Act; 2] = [
     },
 ];
 
-/// More connections than a round accepts, all of which wait before the server starts. No further one comes to recall them.
+/// More connections than a round accepts, all of which wait before the server starts. No further one comes to recall
+/// them.
 #[test]
 fn a_burst_of_connections_is_accepted_whole(rt: HostRuntime) {
     drop(play(&rt, rt, 1, Hold::Start, &BURST));
@@ -51,8 +53,8 @@ static FULL_INBOX: [Act; 3] = [
     },
 ];
 
-/// Worker 1 stands still while connections come, of which each second one is its own. Its inbox takes 256; one more is closed, and
-/// counted all the same. Who was greeted at worker 0 shows that the one before it was handed over.
+/// Worker 1 stands still while connections come, of which each second one is its own. Its inbox takes 256; one more is
+/// closed, and counted all the same. Who was greeted at worker 0 shows that the one before it was handed over.
 #[test]
 fn who_meets_a_full_inbox_is_closed_and_counted(rt: HostRuntime) {
     drop(play(&rt, rt, 2, Hold::Wake, &FULL_INBOX));
@@ -75,8 +77,8 @@ static LEFT_OVER: [Act; 1] = [Act {
     ],
 }];
 
-/// Three clients send far more lines than a turn takes, of which nobody is told anything: so nothing but the list of those left over
-/// gives them turns. Only the one in the middle ends with a line that is answered.
+/// Three clients send far more lines than a turn takes, of which nobody is told anything: so nothing but the list of
+/// those left over gives them turns. Only the one in the middle ends with a line that is answered.
 #[test]
 fn all_who_are_left_over_get_their_turns(rt: HostRuntime) {
     drop(play(&rt, rt, 1, Hold::Write, &LEFT_OVER));
@@ -98,8 +100,8 @@ static SAME_ROUND: [Act; 2] = [
     },
 ];
 
-/// Anna and Bert send while their worker stands still, so both get their turns in one round, mostly Anna first. What Bert's turn then
-/// has for her comes without another byte from anyone, before her answer or behind it.
+/// Anna and Bert send while their worker stands still, so both get their turns in one round, mostly Anna first. What
+/// Bert's turn then has for her comes without another byte from anyone, before her answer or behind it.
 #[test]
 fn who_had_a_turn_is_told_what_a_later_turn_brings(rt: HostRuntime) {
     drop(play(&rt, rt, 1, Hold::Write, &SAME_ROUND));
@@ -173,8 +175,8 @@ static BYTES: [Act; 2] = [
     },
 ];
 
-/// A line with a CR in it is answered to its client alone, as the next line for the other shows. All other bytes of a text are told
-/// as they came.
+/// A line with a CR in it is answered to its client alone, as the next line for the other shows. All other bytes of a
+/// text are told as they came.
 #[test]
 fn a_text_is_told_byte_for_byte_and_has_no_line_ends(rt: HostRuntime) {
     drop(play(&rt, rt, 2, Hold::Open, &BYTES));

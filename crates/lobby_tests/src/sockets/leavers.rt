@@ -1,5 +1,5 @@
-//! What a client gets that is logged out, or whose server stops, while more of what it sent is on its way, and how long its connection
-//! lingers.
+//! What a client gets that is logged out, or whose server stops, while more of what it sent is on its way, and how long
+//! its connection lingers.
 
 use crate::sockets::gates::Hold;
 use crate::sockets::plays::Step::*;
@@ -55,8 +55,8 @@ static EXITS: [Act; 6] = [
     BERT_GOES_ON,
 ];
 
-/// Anna reads nothing of what Bert says until she is out, and that is more than most systems keep for a client that does not read.
-/// Behind her EXIT she sends more than her last turn reads.
+/// Anna reads nothing of what Bert says until she is out, and that is more than most systems keep for a client that
+/// does not read. Behind her EXIT she sends more than her last turn reads.
 #[test]
 fn who_exits_with_more_behind_it_gets_its_last_lines(rt: HostRuntime) {
     drop(play(&rt, rt, 1, Hold::Open, &EXITS));
@@ -114,8 +114,8 @@ static OTHERS_LEAVE: [Act; 3] = [
     },
 ];
 
-/// Who keeps its connection behind an EXIT is closed once so many others have left. What it sends until then is far less than what is
-/// read of one client.
+/// Who keeps its connection behind an EXIT is closed once so many others have left. What it sends until then is far
+/// less than what is read of one client.
 #[test]
 fn who_keeps_its_connection_gives_way_to_others(rt: HostRuntime) {
     drop(play(&rt, rt, 1, Hold::Open, &OTHERS_LEAVE));

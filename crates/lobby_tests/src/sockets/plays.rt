@@ -1,4 +1,5 @@
-//! Plays: what clients do at a server that runs beside them, as tables of steps. So a test is a table, which costs little to prove.
+//! Plays: what clients do at a server that runs beside them, as tables of steps. So a test is a table, which costs
+//! little to prove.
 
 ghost use Rattle.std.specs.Prelude.{◌≡◌, ◌≤◌, IfSome};
 
@@ -295,7 +296,8 @@ impl Cast<'_> {
         }
     }
 
-    /// Takes these steps, one after another. The number of the first one that does not come out as it says, counted from 1, or 0.
+    /// Takes these steps, one after another. The number of the first one that does not come out as it says, counted
+    /// from 1, or 0.
     fn takes_all<R: Net>(&mut self, rt: &R, steps: &[Step]) -> u64 {
         let mut number = 0u64;
         for step in steps {

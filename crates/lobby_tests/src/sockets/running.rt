@@ -98,8 +98,8 @@ pub fn crowd_service(alloc: Global, workers: u32) -> Option<Service>
     service_of(alloc, workers, book_with_crowd(alloc)?, CROWD_LIMIT)
 }
 
-/// An input that ends once its flag is set. One whose flag is not set within so many looks fails, so that no test passes because
-/// its server ended by itself.
+/// An input that ends once its flag is set. One whose flag is not set within so many looks fails, so that no test
+/// passes because its server ended by itself.
 #[derive(Drop)]
 pub struct Input<'a> {
     pub clock: HostRuntime,

@@ -31,8 +31,8 @@ static AT_ONCE: [Act; 1] = [Act {
     steps: &[InputEnds, IsKept, GoesOn, ServerEnds],
 }];
 
-/// The input of a server ends before the server starts, or with no patience fails at once. The server ends with this status, and
-/// what it prints is compared.
+/// The input of a server ends before the server starts, or with no patience fails at once. The server ends with this
+/// status, and what it prints is compared.
 fn start_and_end<
     R: Threads + Wait + Net<Listener = net::TcpListener, Stream = net::TcpStream> + Abort + Sync,
 >(rt: &R, clock: HostRuntime, workers: u32, looks: u32, status: u8)
@@ -89,7 +89,8 @@ static EVENTS: [Act; 2] = [
     },
 ];
 
-/// Anna's worker opens her, answers a hundred lines and shuts her; Bert's opens and shuts him. Drains are events too, a few a turn.
+/// Anna's worker opens her, answers a hundred lines and shuts her; Bert's opens and shuts him. Drains are events too, a
+/// few a turn.
 #[test]
 fn each_worker_is_told_with_its_own_events(rt: HostRuntime) {
     let output = play(&rt, rt, 3, Hold::Open, &EVENTS);
@@ -184,8 +185,8 @@ static LATE: [Act; 30] = [
     ANNA_HEARS_ON,
 ];
 
-/// Many more lines than a turn reads, and more answers than most systems keep for a client that does not read, so that her link takes no
-/// more for a while: Anna reads once Bert was told all.
+/// Many more lines than a turn reads, and more answers than most systems keep for a client that does not read, so that
+/// her link takes no more for a while: Anna reads once Bert was told all.
 #[test]
 fn a_client_that_reads_late_gets_all(rt: HostRuntime) {
     drop(play(&rt, rt, 1, Hold::Open, &LATE));
@@ -207,10 +208,10 @@ static NAMED_AND_LEFT_OVER: [Act; 2] = [
     },
 ];
 
-/// Anna sends 200 lines while their worker stands still, of which a turn hears 64, and Bert says something to her. So her first turn
-/// stops at its limit, and she gets the second both since that left her over and since Bert's turn had her named as changed. It stops
-/// at its limit too, and she gets the third for nothing but that: her lines are so short that all have come before the first, so the
-/// poll tells no more of her.
+/// Anna sends 200 lines while their worker stands still, of which a turn hears 64, and Bert says something to her. So
+/// her first turn stops at its limit, and she gets the second both since that left her over and since Bert's turn had
+/// her named as changed. It stops at its limit too, and she gets the third for nothing but that: her lines are so short
+/// that all have come before the first, so the poll tells no more of her.
 #[test]
 fn who_is_named_and_left_over_gets_both_turns(rt: HostRuntime) {
     drop(play(&rt, rt, 1, Hold::Write, &NAMED_AND_LEFT_OVER));
@@ -231,8 +232,9 @@ static NAMED: [Act; 2] = [
     },
 ];
 
-/// Bert is logged out in the turn in which he got his last answer, while more lines of Anna's lie there than a turn hears. So the poll
-/// tells of her while she is named, her turn stops at its limit, and no byte comes any more to have the poll tell of her again.
+/// Bert is logged out in the turn in which he got his last answer, while more lines of Anna's lie there than a turn
+/// hears. So the poll tells of her while she is named, her turn stops at its limit, and no byte comes any more to have
+/// the poll tell of her again.
 #[test]
 fn who_is_named_and_stops_at_a_limit_gets_the_next_turn(rt: HostRuntime) {
     drop(play(&rt, rt, 1, Hold::Write, &NAMED));
@@ -279,7 +281,8 @@ static ENDS_AT_ONCE: [Act; 1] = [Act {
     ],
 }];
 
-/// A client sends its last line and ends while its worker stands still, so the poll tells of both at once, and of the end never again.
+/// A client sends its last line and ends while its worker stands still, so the poll tells of both at once, and of the
+/// end never again.
 #[test]
 fn whose_line_and_end_come_at_once_is_answered_and_closed(rt: HostRuntime) {
     drop(play(&rt, rt, 1, Hold::Write, &ENDS_AT_ONCE));

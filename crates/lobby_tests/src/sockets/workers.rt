@@ -80,7 +80,7 @@ fn connections_go_to_the_workers_in_turn(rt: HostRuntime) {
     drop(play(&rt, rt, 2, Hold::Open, &IN_TURN));
 }
 
-// Bert's connections go to both workers in turn.
+/// Bert's connections go to both workers in turn.
 static RESETS: [Act; 3] = [
     Act {
         times: 1,
@@ -132,7 +132,8 @@ static STOP: [Act; 2] = [
     },
 ];
 
-/// Worker 1 stands still while worker 0 ends. Whose connection is closed by then was logged out, and worker 1's client is told.
+/// Worker 1 stands still while worker 0 ends. Whose connection is closed by then was logged out, and worker 1's client
+/// is told.
 #[test]
 fn who_is_connected_at_a_stop_is_logged_out(rt: HostRuntime) {
     drop(play(&rt, rt, 2, Hold::Wake, &STOP));

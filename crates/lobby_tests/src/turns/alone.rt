@@ -20,8 +20,8 @@ const PING: Text = &[(b"PING\n", 1)];
 /// More than a turn reads of a link that gives a byte at a time.
 const LATE_PING: Text = &[(b"                    PING\n", 1)];
 
-/// What a client sends; how many bytes its link gives and takes at a time, and how the link ends; for so many turns, what the
-/// last one comes to; what the client reads; and how many events there are.
+/// What a client sends; how many bytes its link gives and takes at a time, and how the link ends; for so many turns,
+/// what the last one comes to; what the client reads; and how many events there are.
 type Case = (Text, usize, usize, End, u64, TurnState, Text, u64);
 
 fn check<R: Wait + Abort>(rt: &R, alloc: Global, cases: &[Case]) {
@@ -88,8 +88,8 @@ fn a_turn_ends_as_its_link_says(rt: HostRuntime) {
 
 const SIXTY_FOUR_PONGS: Text = &[(GREETING, 1), (b"PONG\n", 64)];
 
-/// A line that does not end within its limit, behind PING and alone; met by the last read of a turn; and behind the last line of a
-/// turn, which has read only its front.
+/// A line that does not end within its limit, behind PING and alone; met by the last read of a turn; and behind the
+/// last line of a turn, which has read only its front.
 static LONG: [Case; 4] = [
     (
         &[(b"PING\n", 1), (b"A", 8_193)],
@@ -140,10 +140,10 @@ fn a_line_that_is_too_long_shuts_its_client(rt: HostRuntime) {
 
 const EXIT: Text = &[(b"EXIT\n", 1)];
 
-/// What a client sends at once, how many bytes its link takes at a time, how many turns it gets and what the last one comes to, how
-/// often these take the lobby, and how many events there are. 64 lines take two holds. The greeting alone is drained in a hold that
-/// also sees that nothing is left. Who exits is shut in a hold of its own, and where bytes wait to be written, a hold asks whether
-/// the client is finished.
+/// What a client sends at once, how many bytes its link takes at a time, how many turns it gets and what the last one
+/// comes to, how often these take the lobby, and how many events there are. 64 lines take two holds. The greeting alone
+/// is drained in a hold that also sees that nothing is left. Who exits is shut in a hold of its own, and where bytes
+/// wait to be written, a hold asks whether the client is finished.
 static TAKES: [(Text, usize, u64, TurnState, u64, u64); 7] = [
     (&[], 4_096, 1, TurnState::Idle, 1, 3),
     (PING, 4_096, 1, TurnState::Idle, 2, 4),
@@ -222,7 +222,8 @@ const BURST: Text = &[
     (b"PING\n", 1),
 ];
 
-/// Clients whose links have all of it at once. The devices of two fail behind five reads and a write, and behind four and a write.
+/// Clients whose links have all of it at once. The devices of two fail behind five reads and a write, and behind four
+/// and a write.
 const IN_FIVE: Caller = Caller {
     sends: BURST,
     piece: 100_000,
@@ -244,8 +245,8 @@ const AT_ONCE: Caller = Caller {
     end: End::Open,
 };
 
-/// A turn reads 65,536 bytes and no more: in five reads, and in four once its worker keeps a buffer of 16,384 bytes. So the devices of
-/// the first two fail at the first read of their second turn.
+/// A turn reads 65,536 bytes and no more: in five reads, and in four once its worker keeps a buffer of 16,384 bytes. So
+/// the devices of the first two fail at the first read of their second turn.
 static BURSTS: [Step; 14] = [
     Enters(IN_FIVE),
     Turns(0, 1, TurnState::Again),
@@ -263,8 +264,8 @@ static BURSTS: [Step; 14] = [
     Reads(2, PONGED),
 ];
 
-/// Each opens and says eight lines. The first two are drained for three times, and are shut; the last one says one line more, and is
-/// drained for four times.
+/// Each opens and says eight lines. The first two are drained for three times, and are shut; the last one says one line
+/// more, and is drained for four times.
 #[test]
 fn a_burst_comes_in_few_reads(rt: HostRuntime) {
     play(&rt, rt.alloc(), &BURSTS, 13 + 13 + 14);
@@ -274,8 +275,8 @@ const LATE_EXIT: Text = &[(b"                EXIT\n", 1)];
 
 const PING_AND_EXIT: Text = &[(b"PING\nEXIT\n", 1)];
 
-/// What is drained in the turn that hears EXIT is written in it too, also where the link takes little at a time, and what an
-/// earlier turn drained and did not write.
+/// What is drained in the turn that hears EXIT is written in it too, also where the link takes little at a time, and
+/// what an earlier turn drained and did not write.
 static EXITS: [Case; 3] = [
     (
         PING_AND_EXIT,
@@ -365,8 +366,9 @@ static TOLD_ENOUGH: [Step; 14] = [
     ),
 ];
 
-/// Only a line that tells nobody else is said behind what a turn may tell; the others stay for later turns. The events are an open,
-/// seven lines, and two drains a turn, the second of which sees that nothing is left: but one in the fifth, which has nothing to send.
+/// Only a line that tells nobody else is said behind what a turn may tell; the others stay for later turns. The events
+/// are an open, seven lines, and two drains a turn, the second of which sees that nothing is left: but one in the
+/// fifth, which has nothing to send.
 #[test]
 fn a_turn_that_told_enough_puts_lines_off(rt: HostRuntime) {
     play(&rt, rt.alloc(), &TOLD_ENOUGH, 1 + 7 + 13);

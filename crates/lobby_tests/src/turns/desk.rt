@@ -14,7 +14,7 @@ use std::thread::{self, Threads};
 use std::time::{Clock, Duration};
 use test_lobby::{ANNA_SAYS, BERT_IS_IN, BERT_SAYS, GREETING, read};
 
-// Opens a client and logs it in by this line, in one hold, and then sets the flag.
+/// Opens a client and logs it in by this line, in one hold, and then sets the flag.
 fn log_in<R: Wait>(
     rt: &R,
     desk: &Desk,
@@ -38,7 +38,7 @@ fn log_in<R: Wait>(
     pass
 }
 
-// What came of a hold.
+/// What came of a hold.
 #[derive(Drop)]
 struct Seen {
     client: u64,
@@ -48,10 +48,10 @@ struct Seen {
     bytes: [u8; 256],
 }
 
-// So often a thread looks for the flag, with a sleep of a millisecond after each look.
+/// So often a thread looks for the flag, with a sleep of a millisecond after each look.
 const LOOKS: u32 = 10_000;
 
-// Whether the flag is set, within so many looks.
+/// Whether the flag is set, within so many looks.
 fn see<C: Clock>(clock: &C, flag: &AtomicBool) -> bool {
     for _ in 0..LOOKS {
         if flag.load(Ordering::SeqCst) {
@@ -62,7 +62,8 @@ fn see<C: Clock>(clock: &C, flag: &AtomicBool) -> bool {
     false
 }
 
-// Sees the flag, and then opens a client, logs it in by this line, and reads, in one hold. None where the flag is not seen.
+/// Sees the flag, and then opens a client, logs it in by this line, and reads, in one hold. None where the flag is not
+/// seen.
 fn log_in_and_read<R: Wait>(
     rt: &R,
     desk: &Desk,
@@ -108,7 +109,7 @@ fn compare(rt: &impl Abort, seen: Option<Seen>) {
     same(rt, read.strip_prefix(GREETING), Some(BERT_IS_IN));
 }
 
-// Takes back the pass of a worker that has ended, and holds the lobby once more.
+/// Takes back the pass of a worker that has ended, and holds the lobby once more.
 fn end<R: Wait + Abort>(rt: &R, desk: &Desk, pass: Pass, other: Pass)
     requires desk { (pass.desk ≡ desk.now) × (other.desk ≡ desk.now) }
     requires first { pass.worker.number ≡ 0 }
@@ -120,7 +121,7 @@ fn end<R: Wait + Abort>(rt: &R, desk: &Desk, pass: Pass, other: Pass)
     drop(held.give(rt, desk));
 }
 
-// Logs Anna in in a thread, and then Bert in this one, who reads.
+/// Logs Anna in in a thread, and then Bert in this one, who reads.
 fn give_and_read<R: Threads + Wait + Abort + Sync>(
     rt: &R,
     clock: HostRuntime,
@@ -161,7 +162,8 @@ fn what_one_worker_gave_another_reads(rt: HostRuntime) {
     }
 }
 
-// Asks for a pass 64 times, of which 63 are one more than the first: how many were handed out, and why one was refused.
+/// Asks for a pass 64 times, of which 63 are one more than the first: how many were handed out, and why one was
+/// refused.
 fn hand_out_all(
     desk: &Desk,
     alloc: Global,
@@ -190,7 +192,7 @@ fn hand_out_all(
     (pass, count, refusal)
 }
 
-// Hands out all passes, and holds the lobby once more.
+/// Hands out all passes, and holds the lobby once more.
 fn count_passes<R: Wait + Abort>(rt: &R, alloc: Global, desk: &Desk, pass: Pass)
     requires { (pass.desk ≡ desk.now) × (pass.worker.number ≡ 0) }
 {
@@ -215,7 +217,7 @@ fn sixty_three_passes_are_handed_out(rt: HostRuntime) {
     }
 }
 
-// A hold in which a client is opened.
+/// A hold in which a client is opened.
 fn open_one<R: Wait>(rt: &R, desk: &Desk, pass: Pass) -> Pass
     requires { pass.desk ≡ desk.now }
     ensures desk { result.desk ≡ desk.now }
@@ -232,7 +234,7 @@ fn compare_counts(rt: &impl Abort, closing: &Closing) {
     same(rt, closing.events(2), Count::Never);
 }
 
-// Takes back the pass that was out, and closes the desk.
+/// Takes back the pass that was out, and closes the desk.
 fn close_at_last<R: Wait + Abort>(rt: &R, desk: Desk, pass: Pass, other: Pass)
     requires desk { (pass.desk ≡ desk) × (other.desk ≡ desk) }
     requires first { pass.worker.number ≡ 0 }
@@ -250,7 +252,7 @@ fn close_at_last<R: Wait + Abort>(rt: &R, desk: Desk, pass: Pass, other: Pass)
     }
 }
 
-// Tries to close the desk while a pass is out, and then without.
+/// Tries to close the desk while a pass is out, and then without.
 fn close<R: Wait + Abort>(rt: &R, desk: Desk, pass: Pass, other: Pass)
     requires desk { (pass.desk ≡ desk) × (other.desk ≡ desk) }
     requires first { pass.worker.number ≡ 0 }
@@ -268,7 +270,7 @@ fn close<R: Wait + Abort>(rt: &R, desk: Desk, pass: Pass, other: Pass)
     }
 }
 
-// Worker 0 makes an event, worker 1 two.
+/// Worker 0 makes an event, worker 1 two.
 #[test]
 fn a_desk_is_closed_once_all_passes_are_back(rt: HostRuntime) {
     match open_for_two(&rt, rt.alloc()) {

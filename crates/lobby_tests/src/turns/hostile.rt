@@ -38,10 +38,10 @@ CLIENTSTA",
 
 const ALL: Text = &[(GREETING, 1), (BERT_IS_IN, 1)];
 
-/// When Bert's device fails, what his turn comes to, what is written to him, what Anna is told, and how many events there are.
-/// His session reads twice, once more in vain, and then writes three times. He is shut once, and no event of his comes after that:
-/// Anna's are five, and six where she is told of him; his are an open, two drains, his login where it was read, one drain more
-/// where all three writes are over, and one shut.
+/// When Bert's device fails, what his turn comes to, what is written to him, what Anna is told, and how many events
+/// there are. His session reads twice, once more in vain, and then writes three times. He is shut once, and no event of
+/// his comes after that: Anna's are five, and six where she is told of him; his are an open, two drains, his login
+/// where it was read, one drain more where all three writes are over, and one shut.
 static FAILURES: [(End, TurnState, Text, Text, u64); 14] = [
     (End::FailsAt(1), TurnState::Closed, GREETED, NOTHING, 9),
     (End::FailsAt(2), TurnState::Closed, GREETED, NOTHING, 9),
@@ -178,7 +178,8 @@ const BERT: Caller = Caller {
     end: End::Open,
 };
 
-/// A turn says 64 lines of Bert's. Behind five turns of his Anna has place for what she did not read, behind ten she has not.
+/// A turn says 64 lines of Bert's. Behind five turns of his Anna has place for what she did not read, behind ten she
+/// has not.
 static SLOW: [Step; 16] = [
     Enters(SLOW_ANNA),
     Turns(READS_NOTHING, 1, TurnState::Idle),

@@ -1,5 +1,5 @@
-//! Plays: what clients do over links in memory, whom one worker serves, as tables of steps. So a test is a table, which costs
-//! little to prove.
+//! Plays: what clients do over links in memory, whom one worker serves, as tables of steps. So a test is a table, which
+//! costs little to prove.
 
 ghost use Rattle.std.specs.Prelude.{◌≡◌};
 
@@ -38,8 +38,8 @@ pub struct Caller {
     pub end: End,
 }
 
-/// A step of a play. The test fails where a step does not come out as it says. Clients are numbered in the order in which they
-/// enter, from 0.
+/// A step of a play. The test fails where a step does not come out as it says. Clients are numbered in the order in
+/// which they enter, from 0.
 #[derive(Clone, Copy)]
 pub enum Step {
     /// The next client connects.
@@ -330,8 +330,8 @@ fn play_at<R: Wait + Abort>(
     drop(cast);
 }
 
-/// Takes these steps at a new desk. The history has then so many events: for each client an open, its lines and drains, and
-/// one shut of each that was shut.
+/// Takes these steps at a new desk. The history has then so many events: for each client an open, its lines and drains,
+/// and one shut of each that was shut.
 pub fn play<R: Wait + Abort>(rt: &R, alloc: Global, steps: &[Step], events: u64) {
     match open(rt, alloc) {
         Some((desk, pass)) => play_at(rt, alloc, desk, pass, steps, events),

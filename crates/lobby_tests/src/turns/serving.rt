@@ -7,7 +7,8 @@ use lobby_turns::{Conn, Gate, Link, Turn, TurnState, serve};
 use std::alloc::Global;
 use std::sync::Wait;
 
-/// Opens a client whom the worker of this number serves, and gives it a turn over this link and past this gate: what that came to.
+/// Opens a client whom the worker of this number serves, and gives it a turn over this link and past this gate: what
+/// that came to.
 pub fn serve_client<R: Wait, L: Link, G: Gate>(
     rt: &R,
     alloc: Global,
@@ -30,8 +31,8 @@ pub fn serve_client<R: Wait, L: Link, G: Gate>(
     state
 }
 
-/// Gives a connection so many turns, each of which may tell so many pieces, or until its client was shut, and says what the last one
-/// came to.
+/// Gives a connection so many turns, each of which may tell so many pieces, or until its client was shut, and says what
+/// the last one came to.
 pub fn take_turns<R: Wait, L: Link, G: Gate>(
     rt: &R,
     desk: &Desk,

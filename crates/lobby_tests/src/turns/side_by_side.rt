@@ -17,10 +17,10 @@ use std::thread::{self, Threads};
 use std::time::Duration;
 use test_lobby::MemoryLink;
 
-// So often a worker looks for the other, with a sleep of a millisecond after each look.
+/// So often a worker looks for the other, with a sleep of a millisecond after each look.
 const LOOKS: u32 = 10_000;
 
-// Where the first worker stops.
+/// Where the first worker stops.
 #[derive(Clone, Copy)]
 enum Stop {
     // before it first takes the lobby, until the second worker comes there too
@@ -31,8 +31,8 @@ enum Stop {
     Write,
 }
 
-// The gate of two workers. The second stops before it first takes the lobby, until the first stands
-// at its own stop.
+/// The gate of two workers. The second stops before it first takes the lobby, until the first stands
+/// at its own stop.
 #[derive(Drop)]
 struct Meeting {
     clock: HostRuntime,
@@ -56,7 +56,7 @@ impl Meeting {
         }
     }
 
-    // At its first call, says that a worker came, and looks for what it waits for.
+    /// At its first call, says that a worker came, and looks for what it waits for.
     fn come(&self, own: &AtomicBool, other: &AtomicBool) {
         if own.swap(true, Ordering::SeqCst) {
             return;
@@ -98,7 +98,7 @@ impl Gate for Meeting {
     }
 }
 
-// The first worker's link.
+/// The first worker's link.
 #[derive(Drop)]
 struct StoppingLink<'a> {
     inner: MemoryLink,
@@ -106,7 +106,7 @@ struct StoppingLink<'a> {
 }
 
 impl StoppingLink<'_> {
-    // The first worker's stop is here.
+    /// The first worker's stop is here.
     fn stop(&self) {
         self.meeting
             .come(&self.meeting.first_came, &self.meeting.is_answered);
@@ -143,13 +143,13 @@ impl Link for StoppingLink<'_> {
     }
 }
 
-// The link of a client that sends `PING`.
+/// The link of a client that sends `PING`.
 fn pinging(alloc: Global) -> Result<MemoryLink, AllocError> {
     let input = Vec::from_slice(alloc, b"PING\n")?;
     Ok(MemoryLink::new(alloc, input, 9, 100))
 }
 
-// Serves a client over each of these links, each at its own worker in a thread of its own: what their turns came to.
+/// Serves a client over each of these links, each at its own worker in a thread of its own: what their turns came to.
 fn serve_both<R: Threads + Wait + Sync>(
     rt: &R,
     alloc: Global,
@@ -173,7 +173,7 @@ fn serve_both<R: Threads + Wait + Sync>(
     )
 }
 
-// Serves two clients that each send `PING`, each in a thread of its own, and compares what they read.
+/// Serves two clients that each send `PING`, each in a thread of its own, and compares what they read.
 fn check<R: Threads + Wait + Abort + Sync>(
     rt: &R,
     alloc: Global,
@@ -196,7 +196,7 @@ fn check<R: Threads + Wait + Abort + Sync>(
     same(rt, second.output(), GREETING_AND_PONG);
 }
 
-// As `check`, over the first worker's link and one that does not stop.
+/// As `check`, over the first worker's link and one that does not stop.
 fn check_first<R: Threads + Wait + Abort + Sync>(
     rt: &R,
     alloc: Global,
@@ -212,7 +212,7 @@ fn check_first<R: Threads + Wait + Abort + Sync>(
     }
 }
 
-// As `check`, where the first worker stops there.
+/// As `check`, where the first worker stops there.
 fn check_stop<R: Threads + Wait + Abort + Sync>(rt: &R, clock: HostRuntime, stop: Stop) {
     let meeting = Meeting::new(clock, stop);
     match pinging(clock.alloc()) {

@@ -19,7 +19,7 @@ use line_words::{NameBuf, SentenceBuf, WordBuf};
 use reply_kinds::{CommandWord, LentReply, OpenedBattle, Reply};
 use std::alloc::AllocError;
 
-// The reply is one of the group.
+/// The reply is one of the group.
 pub(super) fn lend(reply: &Reply) -> LentReply
     requires { group_of (command_of reply.now) ≡ Battles }
     ensures { reply_of result ≡ reply.now }
@@ -63,7 +63,7 @@ pub(super) fn lend(reply: &Reply) -> LentReply
     }
 }
 
-// The reply is one of the group.
+/// The reply is one of the group.
 pub(super) fn put(out: &mut Vec<u8>, id: Option<u32>, reply: LentReply) -> Result<(), AllocError>
     requires { group_of (command_of (reply_of reply)) ≡ Battles }
     ensures ok { IfOk result (λ _. out.new.items ≡ out.old.items ++ printed_line id (reply_of reply.entry)) }
@@ -96,7 +96,7 @@ pub(super) fn put(out: &mut Vec<u8>, id: Option<u32>, reply: LentReply) -> Resul
     }
 }
 
-// The reply is BATTLEOPENED.
+/// The reply is BATTLEOPENED.
 pub(super) fn put_battle_opened(
     out: &mut Vec<u8>,
     id: Option<u32>,
@@ -176,7 +176,7 @@ pub(super) fn put_opened_battle(
     )
 }
 
-// What the line begins with: what the battle is, and who hosts it where.
+/// What the line begins with: what the battle is, and who hosts it where.
 fn put_host(
     out: &mut Vec<u8>,
     id: Option<u32>,
@@ -187,7 +187,10 @@ fn put_host(
     ip: &WordBuf,
     port: u16,
 ) -> Result<(), AllocError>
-    ensures ok { IfOk result (λ _. out.new.items ≡ out.old.items ++ (id_text id ++ (word_of command.BattleOpened ++ ((32 ∷ decimal battle) ++ ((32 ∷ decimal battle_type) ++ ((32 ∷ decimal nat_type) ++ ((32 ∷ founder.now) ++ ((32 ∷ ip.now) ++ (32 ∷ decimal port))))))))) }
+    ensures ok { IfOk result (λ _. out.new.items
+        ≡ out.old.items ++ (id_text id ++ (word_of command.BattleOpened
+        ++ ((32 ∷ decimal battle) ++ ((32 ∷ decimal battle_type)
+        ++ ((32 ∷ decimal nat_type) ++ ((32 ∷ founder.now) ++ ((32 ∷ ip.now) ++ (32 ∷ decimal port))))))))) }
     ensures kept { Keeps out.old.items out.new.items }
 {
     put_numbered(out, id, CommandWord::BattleOpened, battle)?;
@@ -198,7 +201,7 @@ fn put_host(
     put_number(out, u32::from(port))
 }
 
-// Who may enter, and the map as its hash.
+/// Who may enter, and the map as its hash.
 fn put_entry(
     out: &mut Vec<u8>,
     max_players: u16,
@@ -206,7 +209,10 @@ fn put_entry(
     rank: &i64,
     map_hash: &i64,
 ) -> Result<(), AllocError>
-    ensures ok { IfOk result (λ _. out.new.items ≡ out.old.items ++ ((32 ∷ decimal max_players) ++ ((32 ∷ (if passworded then 49 else 48) ∷ []) ++ ((32 ∷ signed_decimal rank.now) ++ (32 ∷ signed_decimal map_hash.now))))) }
+    ensures ok { IfOk result (λ _. out.new.items
+        ≡ out.old.items ++ ((32 ∷ decimal max_players)
+        ++ ((32 ∷ (if passworded then 49 else 48) ∷ [])
+        ++ ((32 ∷ signed_decimal rank.now) ++ (32 ∷ signed_decimal map_hash.now))))) }
     ensures kept { Keeps out.old.items out.new.items }
 {
     put_number(out, u32::from(max_players))?;
@@ -215,7 +221,7 @@ fn put_entry(
     put_wide(out, map_hash)
 }
 
-// The engine, the map, the title and the game, and the end of the line.
+/// The engine, the map, the title and the game, and the end of the line.
 fn put_titles(
     out: &mut Vec<u8>,
     engine_name: &SentenceBuf,
@@ -224,7 +230,9 @@ fn put_titles(
     title: &SentenceBuf,
     game_name: &SentenceBuf,
 ) -> Result<(), AllocError>
-    ensures ok { IfOk result (λ _. out.new.items ≡ out.old.items ++ ((32 ∷ engine_name.now) ++ ((9 ∷ engine_version.now) ++ ((9 ∷ map.now) ++ ((9 ∷ title.now) ++ ((9 ∷ game_name.now) ++ 10 ∷ [])))))) }
+    ensures ok { IfOk result (λ _. out.new.items
+        ≡ out.old.items ++ ((32 ∷ engine_name.now)
+        ++ ((9 ∷ engine_version.now) ++ ((9 ∷ map.now) ++ ((9 ∷ title.now) ++ ((9 ∷ game_name.now) ++ 10 ∷ [])))))) }
     ensures kept { Keeps out.old.items out.new.items }
 {
     put_sentence(out, engine_name)?;
@@ -241,7 +249,8 @@ fn put_join_battle(
     battle: u32,
     game_hash: &i64,
 ) -> Result<(), AllocError>
-    ensures ok { IfOk result (λ _. out.new.items ≡ out.old.items ++ printed_line id (reply.JoinBattle battle game_hash.now)) }
+    ensures ok { IfOk result (λ _. out.new.items
+        ≡ out.old.items ++ printed_line id (reply.JoinBattle battle game_hash.now)) }
     ensures kept { Keeps out.old.items out.new.items }
 {
     put_numbered(out, id, CommandWord::JoinBattle, battle)?;
@@ -256,7 +265,8 @@ fn put_joined_battle(
     user: &NameBuf,
     script_password: Option<&WordBuf>,
 ) -> Result<(), AllocError>
-    ensures ok { IfOk result (λ _. out.new.items ≡ out.old.items ++ printed_line id (reply.JoinedBattle battle user.now (option_copied script_password.entry))) }
+    ensures ok { IfOk result (λ _. out.new.items
+        ≡ out.old.items ++ printed_line id (reply.JoinedBattle battle user.now (option_copied script_password.entry))) }
     ensures kept { Keeps out.old.items out.new.items }
 {
     put_numbered(out, id, CommandWord::JoinedBattle, battle)?;
@@ -271,7 +281,8 @@ fn put_left_battle(
     battle: u32,
     user: &NameBuf,
 ) -> Result<(), AllocError>
-    ensures ok { IfOk result (λ _. out.new.items ≡ out.old.items ++ printed_line id (reply.LeftBattle battle user.now)) }
+    ensures ok { IfOk result (λ _. out.new.items
+        ≡ out.old.items ++ printed_line id (reply.LeftBattle battle user.now)) }
     ensures kept { Keeps out.old.items out.new.items }
 {
     put_numbered(out, id, CommandWord::LeftBattle, battle)?;
@@ -288,7 +299,9 @@ fn put_update_battle_info(
     map_hash: &i64,
     map: &SentenceBuf,
 ) -> Result<(), AllocError>
-    ensures ok { IfOk result (λ _. out.new.items ≡ out.old.items ++ printed_line id (reply.UpdateBattleInfo battle spectator_count locked map_hash.now map.now)) }
+    ensures ok { IfOk result (λ _. out.new.items
+        ≡ out.old.items ++ printed_line id (reply.UpdateBattleInfo battle spectator_count locked
+        map_hash.now map.now)) }
     ensures kept { Keeps out.old.items out.new.items }
 {
     put_numbered(out, id, CommandWord::UpdateBattleInfo, battle)?;

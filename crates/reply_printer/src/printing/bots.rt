@@ -14,7 +14,7 @@ use line_words::{NameBuf, SentenceBuf, WordBuf};
 use reply_kinds::{CommandWord, LentReply, Reply};
 use std::alloc::AllocError;
 
-// The reply is one of the group.
+/// The reply is one of the group.
 pub(super) fn lend(reply: &Reply) -> LentReply
     requires { group_of (command_of reply.now) ≡ Bots }
     ensures { reply_of result ≡ reply.now }
@@ -54,7 +54,7 @@ pub(super) fn lend(reply: &Reply) -> LentReply
     }
 }
 
-// The reply is one of the group.
+/// The reply is one of the group.
 pub(super) fn put(out: &mut Vec<u8>, id: Option<u32>, reply: LentReply) -> Result<(), AllocError>
     requires { group_of (command_of (reply_of reply)) ≡ Bots }
     ensures ok { IfOk result (λ _. out.new.items ≡ out.old.items ++ printed_line id (reply_of reply.entry)) }
@@ -80,7 +80,7 @@ pub(super) fn put(out: &mut Vec<u8>, id: Option<u32>, reply: LentReply) -> Resul
     }
 }
 
-// What a line on a bot begins with.
+/// What a line on a bot begins with.
 #[inline(always)]
 fn put_bot(
     out: &mut Vec<u8>,
@@ -89,7 +89,8 @@ fn put_bot(
     battle: u32,
     bot: &WordBuf,
 ) -> Result<(), AllocError>
-    ensures ok { IfOk result (λ _. out.new.items ≡ out.old.items ++ (id_text id ++ (word_of command ++ ((32 ∷ decimal battle) ++ (32 ∷ bot.now))))) }
+    ensures ok { IfOk result (λ _. out.new.items
+        ≡ out.old.items ++ (id_text id ++ (word_of command ++ ((32 ∷ decimal battle) ++ (32 ∷ bot.now))))) }
     ensures kept { Keeps out.old.items out.new.items }
 {
     put_numbered(out, id, command, battle)?;
@@ -106,7 +107,9 @@ fn put_add_bot(
     team_color: &i64,
     ai: &SentenceBuf,
 ) -> Result<(), AllocError>
-    ensures ok { IfOk result (λ _. out.new.items ≡ out.old.items ++ printed_line id (reply.AddBot battle bot.now owner.now battle_status team_color.now ai.now)) }
+    ensures ok { IfOk result (λ _. out.new.items
+        ≡ out.old.items ++ printed_line id (reply.AddBot battle bot.now owner.now battle_status
+        team_color.now ai.now)) }
     ensures kept { Keeps out.old.items out.new.items }
 {
     put_bot(out, id, CommandWord::AddBot, battle, bot)?;
@@ -124,7 +127,8 @@ fn put_update_bot(
     battle_status: u32,
     team_color: &i64,
 ) -> Result<(), AllocError>
-    ensures ok { IfOk result (λ _. out.new.items ≡ out.old.items ++ printed_line id (reply.UpdateBot battle bot.now battle_status team_color.now)) }
+    ensures ok { IfOk result (λ _. out.new.items
+        ≡ out.old.items ++ printed_line id (reply.UpdateBot battle bot.now battle_status team_color.now)) }
     ensures kept { Keeps out.old.items out.new.items }
 {
     put_bot(out, id, CommandWord::UpdateBot, battle, bot)?;

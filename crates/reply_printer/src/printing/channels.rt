@@ -16,7 +16,7 @@ use line_words::NameBuf;
 use reply_kinds::{CommandWord, LentReply, Reply};
 use std::alloc::AllocError;
 
-// The reply is one of the group.
+/// The reply is one of the group.
 pub(super) fn lend(reply: &Reply) -> LentReply
     requires { group_of (command_of reply.now) ≡ Channels }
     ensures { reply_of result ≡ reply.now }
@@ -61,7 +61,7 @@ pub(super) fn lend(reply: &Reply) -> LentReply
     }
 }
 
-// The reply is one of the group.
+/// The reply is one of the group.
 pub(super) fn put(out: &mut Vec<u8>, id: Option<u32>, reply: LentReply) -> Result<(), AllocError>
     requires { group_of (command_of (reply_of reply)) ≡ Channels }
     ensures ok { IfOk result (λ _. out.new.items ≡ out.old.items ++ printed_line id (reply_of reply.entry)) }
@@ -114,7 +114,8 @@ fn put_channel(
     channel: &NameBuf,
     user_count: usize,
 ) -> Result<(), AllocError>
-    ensures ok { IfOk result (λ _. out.new.items ≡ out.old.items ++ printed_line id (reply.Channel channel.now user_count)) }
+    ensures ok { IfOk result (λ _. out.new.items
+        ≡ out.old.items ++ printed_line id (reply.Channel channel.now user_count)) }
     ensures kept { Keeps out.old.items out.new.items }
 {
     put_named(out, id, CommandWord::Channel, channel)?;
@@ -128,7 +129,8 @@ fn put_clients(
     channel: &NameBuf,
     names: &[NameBuf],
 ) -> Result<(), AllocError>
-    ensures ok { IfOk result (λ _. out.new.items ≡ out.old.items ++ printed_line id (reply.Clients channel.now names.now)) }
+    ensures ok { IfOk result (λ _. out.new.items
+        ≡ out.old.items ++ printed_line id (reply.Clients channel.now names.now)) }
     ensures kept { Keeps out.old.items out.new.items }
 {
     put_named(out, id, CommandWord::Clients, channel)?;
@@ -136,7 +138,7 @@ fn put_clients(
     put_end(out)
 }
 
-// The names and one more.
+/// The names and one more.
 fn put_last_clients(
     out: &mut Vec<u8>,
     id: Option<u32>,
@@ -144,7 +146,8 @@ fn put_last_clients(
     names: &[NameBuf],
     last: &NameBuf,
 ) -> Result<(), AllocError>
-    ensures ok { IfOk result (λ _. out.new.items ≡ out.old.items ++ printed_line id (reply.Clients channel.now (names.now ++ last.now ∷ []))) }
+    ensures ok { IfOk result (λ _. out.new.items
+        ≡ out.old.items ++ printed_line id (reply.Clients channel.now (names.now ++ last.now ∷ []))) }
     ensures kept { Keeps out.old.items out.new.items }
 {
     put_named(out, id, CommandWord::Clients, channel)?;

@@ -25,7 +25,8 @@ pub fn print_id(id: Option<u32>, out: &mut Vec<u8>) -> Result<(), AllocError>
 /// Appends the line of a lent reply with its LF, behind `#id ` where there is an id. Where memory is
 /// refused nothing is appended.
 pub fn print_lent(reply: LentReply, id: Option<u32>, out: &mut Vec<u8>) -> Result<(), AllocError>
-    ensures { out.new.items ≡ (if is_ok result then out.old.items ++ printed_line id (reply_of reply.entry) else out.old.items) }
+    ensures { out.new.items ≡ (if is_ok result then out.old.items ++ printed_line id (reply_of reply.entry)
+        else out.old.items) }
 {
     let start = out.len();
     let done = put_lent(out, id, reply);

@@ -12,7 +12,7 @@ use super::shapes::{put_name_and_text, put_only_text};
 use reply_kinds::{CommandWord, LentReply, Reply};
 use std::alloc::AllocError;
 
-// The reply is one of the group.
+/// The reply is one of the group.
 pub(super) fn put_reply(out: &mut Vec<u8>, id: Option<u32>, reply: &Reply) -> Result<(), AllocError>
     requires { group_of (command_of reply.now) ≡ Refusals }
     ensures ok { IfOk result (λ _. out.new.items ≡ out.old.items ++ printed_line id reply.now) }
@@ -59,7 +59,7 @@ pub(super) fn put_reply(out: &mut Vec<u8>, id: Option<u32>, reply: &Reply) -> Re
     }
 }
 
-// The reply is one of the group.
+/// The reply is one of the group.
 pub(super) fn put(out: &mut Vec<u8>, id: Option<u32>, reply: LentReply) -> Result<(), AllocError>
     requires { group_of (command_of (reply_of reply)) ≡ Refusals }
     ensures ok { IfOk result (λ _. out.new.items ≡ out.old.items ++ printed_line id (reply_of reply.entry)) }

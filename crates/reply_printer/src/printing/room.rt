@@ -14,7 +14,7 @@ use line_words::{NameBuf, WordBuf};
 use reply_kinds::{CommandWord, LentReply, Reply};
 use std::alloc::AllocError;
 
-// The reply is one of the group.
+/// The reply is one of the group.
 pub(super) fn lend(reply: &Reply) -> LentReply
     requires { group_of (command_of reply.now) ≡ Room }
     ensures { reply_of result ≡ reply.now }
@@ -37,7 +37,7 @@ pub(super) fn lend(reply: &Reply) -> LentReply
     }
 }
 
-// The reply is one of the group.
+/// The reply is one of the group.
 pub(super) fn put(out: &mut Vec<u8>, id: Option<u32>, reply: LentReply) -> Result<(), AllocError>
     requires { group_of (command_of (reply_of reply)) ≡ Room }
     ensures ok { IfOk result (λ _. out.new.items ≡ out.old.items ++ printed_line id (reply_of reply.entry)) }
@@ -68,7 +68,8 @@ fn put_client_battle_status(
     battle_status: u32,
     team_color: &i64,
 ) -> Result<(), AllocError>
-    ensures ok { IfOk result (λ _. out.new.items ≡ out.old.items ++ printed_line id (reply.ClientBattleStatus user.now battle_status team_color.now)) }
+    ensures ok { IfOk result (λ _. out.new.items
+        ≡ out.old.items ++ printed_line id (reply.ClientBattleStatus user.now battle_status team_color.now)) }
     ensures kept { Keeps out.old.items out.new.items }
 {
     put_named(out, id, CommandWord::ClientBattleStatus, user)?;
@@ -82,7 +83,8 @@ fn put_join_battle_request(
     user: &NameBuf,
     ip: &WordBuf,
 ) -> Result<(), AllocError>
-    ensures ok { IfOk result (λ _. out.new.items ≡ out.old.items ++ printed_line id (reply.JoinBattleRequest user.now ip.now)) }
+    ensures ok { IfOk result (λ _. out.new.items
+        ≡ out.old.items ++ printed_line id (reply.JoinBattleRequest user.now ip.now)) }
     ensures kept { Keeps out.old.items out.new.items }
 {
     put_named(out, id, CommandWord::JoinBattleRequest, user)?;

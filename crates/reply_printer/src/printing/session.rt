@@ -14,7 +14,7 @@ use line_words::{NameBuf, WordBuf};
 use reply_kinds::{CommandWord, LentReply, Reply};
 use std::alloc::AllocError;
 
-// The reply is one of the group.
+/// The reply is one of the group.
 pub(super) fn lend(reply: &Reply) -> LentReply
     requires { group_of (command_of reply.now) ≡ Session }
     ensures { reply_of result ≡ reply.now }
@@ -55,7 +55,7 @@ pub(super) fn lend(reply: &Reply) -> LentReply
     }
 }
 
-// The reply is one of the group.
+/// The reply is one of the group.
 pub(super) fn put(out: &mut Vec<u8>, id: Option<u32>, reply: LentReply) -> Result<(), AllocError>
     requires { group_of (command_of (reply_of reply)) ≡ Session }
     ensures ok { IfOk result (λ _. out.new.items ≡ out.old.items ++ printed_line id (reply_of reply.entry)) }
@@ -101,7 +101,9 @@ fn put_tas_server(
     udp_port: u16,
     server_mode: u8,
 ) -> Result<(), AllocError>
-    ensures ok { IfOk result (λ _. out.new.items ≡ out.old.items ++ printed_line id (reply.TasServer protocol_version.now spring_version.now udp_port server_mode)) }
+    ensures ok { IfOk result (λ _. out.new.items
+        ≡ out.old.items ++ printed_line id
+        (reply.TasServer protocol_version.now spring_version.now udp_port server_mode)) }
     ensures kept { Keeps out.old.items out.new.items }
 {
     put_command(out, id, CommandWord::TasServer)?;
@@ -120,7 +122,8 @@ fn put_add_user(
     cpu: &i64,
     account: u32,
 ) -> Result<(), AllocError>
-    ensures ok { IfOk result (λ _. out.new.items ≡ out.old.items ++ printed_line id (reply.AddUser user.now country.now cpu.now account)) }
+    ensures ok { IfOk result (λ _. out.new.items
+        ≡ out.old.items ++ printed_line id (reply.AddUser user.now country.now cpu.now account)) }
     ensures kept { Keeps out.old.items out.new.items }
 {
     put_named(out, id, CommandWord::AddUser, user)?;
@@ -136,7 +139,8 @@ fn put_client_status(
     user: &NameBuf,
     status: u32,
 ) -> Result<(), AllocError>
-    ensures ok { IfOk result (λ _. out.new.items ≡ out.old.items ++ printed_line id (reply.ClientStatus user.now status)) }
+    ensures ok { IfOk result (λ _. out.new.items
+        ≡ out.old.items ++ printed_line id (reply.ClientStatus user.now status)) }
     ensures kept { Keeps out.old.items out.new.items }
 {
     put_named(out, id, CommandWord::ClientStatus, user)?;

@@ -14,7 +14,7 @@ use line_words::Pair;
 use reply_kinds::{CommandWord, LentReply, Reply};
 use std::alloc::AllocError;
 
-// The reply is one of the group.
+/// The reply is one of the group.
 pub(super) fn lend(reply: &Reply) -> LentReply
     requires { group_of (command_of reply.now) ≡ Setup }
     ensures { reply_of result ≡ reply.now }
@@ -51,7 +51,7 @@ pub(super) fn lend(reply: &Reply) -> LentReply
     }
 }
 
-// The reply is one of the group.
+/// The reply is one of the group.
 pub(super) fn put(out: &mut Vec<u8>, id: Option<u32>, reply: LentReply) -> Result<(), AllocError>
     requires { group_of (command_of (reply_of reply)) ≡ Setup }
     ensures ok { IfOk result (λ _. out.new.items ≡ out.old.items ++ printed_line id (reply_of reply.entry)) }
@@ -104,7 +104,8 @@ fn put_add_start_rect(
     right: u8,
     bottom: u8,
 ) -> Result<(), AllocError>
-    ensures ok { IfOk result (λ _. out.new.items ≡ out.old.items ++ printed_line id (reply.AddStartRect ally_no left top right bottom)) }
+    ensures ok { IfOk result (λ _. out.new.items
+        ≡ out.old.items ++ printed_line id (reply.AddStartRect ally_no left top right bottom)) }
     ensures kept { Keeps out.old.items out.new.items }
 {
     put_numbered(out, id, CommandWord::AddStartRect, u32::from(ally_no))?;
@@ -113,7 +114,7 @@ fn put_add_start_rect(
     put_end(out)
 }
 
-// A corner of a start rectangle.
+/// A corner of a start rectangle.
 #[inline(always)]
 fn put_corner(out: &mut Vec<u8>, across: u8, down: u8) -> Result<(), AllocError>
     ensures ok { IfOk result (λ _. out.new.items ≡ out.old.items ++ ((32 ∷ decimal across) ++ (32 ∷ decimal down))) }

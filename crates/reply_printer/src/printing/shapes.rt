@@ -26,7 +26,7 @@ pub(super) fn put_bare(
     put_end(out)
 }
 
-// What a line begins with whose first argument is a number.
+/// What a line begins with whose first argument is a number.
 #[inline(always)]
 pub(super) fn put_numbered(
     out: &mut Vec<u8>,
@@ -34,14 +34,15 @@ pub(super) fn put_numbered(
     command: CommandWord,
     number: u32,
 ) -> Result<(), AllocError>
-    ensures ok { IfOk result (λ _. out.new.items ≡ out.old.items ++ (id_text id ++ (word_of command ++ (32 ∷ decimal number)))) }
+    ensures ok { IfOk result (λ _. out.new.items
+        ≡ out.old.items ++ (id_text id ++ (word_of command ++ (32 ∷ decimal number)))) }
     ensures kept { Keeps out.old.items out.new.items }
 {
     put_command(out, id, command)?;
     put_number(out, number)
 }
 
-// What a line begins with whose first argument is a name.
+/// What a line begins with whose first argument is a name.
 #[inline(always)]
 pub(super) fn put_named(
     out: &mut Vec<u8>,
@@ -49,21 +50,23 @@ pub(super) fn put_named(
     command: CommandWord,
     name: &NameBuf,
 ) -> Result<(), AllocError>
-    ensures ok { IfOk result (λ _. out.new.items ≡ out.old.items ++ (id_text id ++ (word_of command ++ (32 ∷ name.now)))) }
+    ensures ok { IfOk result (λ _. out.new.items
+        ≡ out.old.items ++ (id_text id ++ (word_of command ++ (32 ∷ name.now)))) }
     ensures kept { Keeps out.old.items out.new.items }
 {
     put_command(out, id, command)?;
     put_name(out, name)
 }
 
-// The battle status and the team color of a member of a battle, or of a bot.
+/// The battle status and the team color of a member of a battle, or of a bot.
 #[inline(always)]
 pub(super) fn put_status_and_color(
     out: &mut Vec<u8>,
     battle_status: u32,
     team_color: &i64,
 ) -> Result<(), AllocError>
-    ensures ok { IfOk result (λ _. out.new.items ≡ out.old.items ++ ((32 ∷ decimal battle_status) ++ (32 ∷ signed_decimal team_color.now))) }
+    ensures ok { IfOk result (λ _. out.new.items
+        ≡ out.old.items ++ ((32 ∷ decimal battle_status) ++ (32 ∷ signed_decimal team_color.now))) }
     ensures kept { Keeps out.old.items out.new.items }
 {
     put_number(out, battle_status)?;
@@ -77,7 +80,8 @@ pub(super) fn put_only_number(
     command: CommandWord,
     number: u32,
 ) -> Result<(), AllocError>
-    ensures ok { IfOk result (λ _. out.new.items ≡ out.old.items ++ line_with id command (status_word ∷ []) (number, tt)) }
+    ensures ok { IfOk result (λ _. out.new.items
+        ≡ out.old.items ++ line_with id command (status_word ∷ []) (number, tt)) }
     ensures kept { Keeps out.old.items out.new.items }
 {
     put_numbered(out, id, command, number)?;
@@ -91,7 +95,8 @@ pub(super) fn put_only_name(
     command: CommandWord,
     name: &NameBuf,
 ) -> Result<(), AllocError>
-    ensures ok { IfOk result (λ _. out.new.items ≡ out.old.items ++ line_with id command (kind.Name ∷ []) (name.now, tt)) }
+    ensures ok { IfOk result (λ _. out.new.items
+        ≡ out.old.items ++ line_with id command (kind.Name ∷ []) (name.now, tt)) }
     ensures kept { Keeps out.old.items out.new.items }
 {
     put_named(out, id, command, name)?;
@@ -105,7 +110,8 @@ pub(super) fn put_only_text(
     command: CommandWord,
     text: &Text,
 ) -> Result<(), AllocError>
-    ensures ok { IfOk result (λ _. out.new.items ≡ out.old.items ++ line_with id command (kind.Text ∷ []) (text.now, tt)) }
+    ensures ok { IfOk result (λ _. out.new.items
+        ≡ out.old.items ++ line_with id command (kind.Text ∷ []) (text.now, tt)) }
     ensures kept { Keeps out.old.items out.new.items }
 {
     put_command(out, id, command)?;
@@ -120,7 +126,8 @@ pub(super) fn put_only_words(
     command: CommandWord,
     words: &[WordBuf],
 ) -> Result<(), AllocError>
-    ensures ok { IfOk result (λ _. out.new.items ≡ out.old.items ++ line_with id command (kind.Words ∷ []) (words.now, tt)) }
+    ensures ok { IfOk result (λ _. out.new.items
+        ≡ out.old.items ++ line_with id command (kind.Words ∷ []) (words.now, tt)) }
     ensures kept { Keeps out.old.items out.new.items }
 {
     put_command(out, id, command)?;
@@ -136,7 +143,8 @@ pub(super) fn put_two_names(
     first: &NameBuf,
     second: &NameBuf,
 ) -> Result<(), AllocError>
-    ensures ok { IfOk result (λ _. out.new.items ≡ out.old.items ++ line_with id command (kind.Name ∷ kind.Name ∷ []) (first.now, (second.now, tt))) }
+    ensures ok { IfOk result (λ _. out.new.items
+        ≡ out.old.items ++ line_with id command (kind.Name ∷ kind.Name ∷ []) (first.now, (second.now, tt))) }
     ensures kept { Keeps out.old.items out.new.items }
 {
     put_named(out, id, command, first)?;
@@ -152,7 +160,8 @@ pub(super) fn put_name_and_text(
     name: &NameBuf,
     text: &Text,
 ) -> Result<(), AllocError>
-    ensures ok { IfOk result (λ _. out.new.items ≡ out.old.items ++ line_with id command (kind.Name ∷ kind.Text ∷ []) (name.now, (text.now, tt))) }
+    ensures ok { IfOk result (λ _. out.new.items
+        ≡ out.old.items ++ line_with id command (kind.Name ∷ kind.Text ∷ []) (name.now, (text.now, tt))) }
     ensures kept { Keeps out.old.items out.new.items }
 {
     put_named(out, id, command, name)?;
@@ -169,7 +178,9 @@ pub(super) fn put_two_names_and_text(
     second: &NameBuf,
     text: &Text,
 ) -> Result<(), AllocError>
-    ensures ok { IfOk result (λ _. out.new.items ≡ out.old.items ++ line_with id command (kind.Name ∷ kind.Name ∷ kind.Text ∷ []) (first.now, (second.now, (text.now, tt)))) }
+    ensures ok { IfOk result (λ _. out.new.items
+        ≡ out.old.items ++ line_with id command (kind.Name ∷ kind.Name ∷ kind.Text
+        ∷ []) (first.now, (second.now, (text.now, tt)))) }
     ensures kept { Keeps out.old.items out.new.items }
 {
     put_named(out, id, command, first)?;
