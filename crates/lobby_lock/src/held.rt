@@ -13,7 +13,7 @@ ghost use Rattle.lobby_machine.specs.Shown.{is_finished};
 ghost use Rattle.lobby_lock.specs.Passes.{AddsEvent, lobby_after, pass_after};
 
 use crate::desk::{Desk, MOST_EVENTS};
-use crate::events::{Events, Kind};
+use crate::events::Events;
 use crate::pass::{Counts, Pass};
 use crate::place::put_back;
 use crate::rule::PlacePass;
@@ -70,7 +70,7 @@ impl Held {
     {
         match self.lobby.open(ip, home) {
             Ok(number) => {
-                self.events.add_other(Kind::Open { ip, home });
+                self.events.add_open(ip, home);
                 Ok(number)
             }
             Err(error) => Err(error),
@@ -91,7 +91,7 @@ impl Held {
     {
         match self.lobby.say(client, &request) {
             Ok(wakes) => {
-                self.events.say(client, &request);
+                self.events.add_say(client, &request);
                 request.discard();
                 Ok(wakes)
             }
@@ -114,7 +114,7 @@ impl Held {
     {
         match self.lobby.shut(client) {
             Ok(wakes) => {
-                self.events.add_other(Kind::Shut { client });
+                self.events.add_shut(client);
                 Ok(wakes)
             }
             Err(error) => Err(error),
@@ -134,7 +134,7 @@ impl Held {
     {
         let count = into.len();
         let drained = self.lobby.drain(client, into);
-        self.events.add_other(Kind::Drain { client, count });
+        self.events.add_drain(client, count);
         drained
     }
 

@@ -1,3 +1,4 @@
 pub mod Shown
 pub mod Dirty
 pub mod Talk
+pub mod Work

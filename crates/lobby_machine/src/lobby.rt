@@ -11,11 +11,12 @@ ghost use Rattle.lobby_post.specs.Mail.{IsWakes};
 ghost use Rattle.lobby_maps.specs.Calls.{Applies, HasNoNumber, IsFull, IsNextNumber, KeepsOthers, ListsTouched};
 ghost use Rattle.lobby_maps.specs.Calls.{ListsOpened, Opens, TakesFirst, count_into, filled};
 ghost use Rattle.lobby_maps.specs.Shown.{dirty_at, unread_of, is_finished};
+ghost use Rattle.lobby_machine.specs.Work.{list_length};
 
 use crate::rules;
 use account_book::AccountBook;
 use battle_room::HashSeed;
-use command_grammar::Request;
+use command_grammar::{Command, Request};
 use lobby_clients::Drained;
 use lobby_maps::{Admission, Maps};
 use lobby_model::Settings;
@@ -150,6 +151,7 @@ impl Lobby {
             return Ok(Wakes::none());
         };
         let change = rules::decide(maps, client, me, request.id, &request.command, post)?;
+        *told = told.wrapping_add(list_len(&request.command) as u64);
         maps.commit(client, change, post, told)
     }
 
@@ -192,9 +194,9 @@ impl Lobby {
         self.parts.maps.next_dirty(home)
     }
 
-    /// How much work its events so far were, but for those that were refused memory: one for each 32 bytes
-    /// that were printed, one for each piece that a client was told, and one more for each 1,024 bytes of it.
-    /// The count begins anew behind 2^64 - 1.
+    /// How much work its events so far were: one for each word or pair that a line lists, one for each 32 bytes
+    /// that were printed, one for each piece that a client was told, and one more for each 1,024 bytes of it. Of an
+    /// event that was refused memory the words alone may count. The count begins anew behind 2^64 - 1.
     pub fn told(&self) -> u64 {
         self.parts.told
     }
@@ -242,5 +244,17 @@ impl Lobby {
         ensures given { into.new ≡ take result (drop from (unread_of self.now.plain client)) ++ drop result into.old }
     {
         self.parts.maps.copy_unread(client, from, into)
+    }
+}
+
+/// How many words or pairs a command lists. To look one up costs as much as to tell one client a short line.
+fn list_len(command: &Command) -> usize
+    ensures { result ≡ list_length command.now }
+{
+    match command {
+        Command::DisableUnits { units } | Command::EnableUnits { units } => units.as_slice().len(),
+        Command::SetScriptTags { pairs } => pairs.as_slice().len(),
+        Command::RemoveScriptTags { keys } => keys.as_slice().len(),
+        _ => 0,
     }
 }

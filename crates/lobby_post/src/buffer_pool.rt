@@ -6,9 +6,9 @@ use outbox::Outbox;
 use std::alloc::{AllocError, Global};
 use std::collections::VecDeque;
 
-/// The room, in bytes, that a buffer may have to be kept once all in it is read. They hold what a turn of
-/// short lines tells one client, so that only a burst, as that of a login, makes a larger one.
-const KEPT_ROOM: usize = 16_384;
+/// The room, in bytes, that a buffer may have to be kept once all in it is read: twice what a hold drains, so that
+/// what came meanwhile lies in it too, and only a burst, as that of a login, makes a larger one.
+const KEPT_ROOM: usize = 32_768;
 
 /// The room, in bytes, of all buffers that are kept: 8,000 for each of 2,000 clients.
 const KEPT_BYTES: usize = 16_000_000;

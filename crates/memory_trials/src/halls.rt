@@ -18,8 +18,8 @@ use test_lobby::{book_with_onlookers, settings};
 /// The bytes of a text that is copied to who hears it.
 const TEXT: usize = 1_900;
 
-/// So many of them are more than a buffer has that is kept, 16,384 bytes.
-const TEXTS: u32 = 9;
+/// So many of them are more than a buffer has that is kept, 32,768 bytes.
+const TEXTS: u32 = 18;
 
 const DORA_LOGS_IN: &[u8] = b"LOGIN Dora X03MO1qnZdYdgyfeuILPmQ== 0 * TestLobby 1.0\n";
 

@@ -11,8 +11,8 @@ use test_lobby::{
     ANNA_SAYS, BERT_SAYS, HOME, PIECE, READS, book_with_onlookers, lobby_of, read_some, say,
 };
 
-/// So many answers of 17 bytes are more than a buffer has that is kept, 16,384 bytes.
-const ANSWERS: u32 = 1_000;
+/// So many answers of 17 bytes are more than a buffer has that is kept, 32,768 bytes.
+const ANSWERS: u32 = 2_000;
 
 /// How many bytes are compared at a time.
 const COMPARED: usize = 512;

@@ -373,3 +373,40 @@ static TOLD_ENOUGH: [Step; 14] = [
 fn a_turn_that_told_enough_puts_lines_off(rt: HostRuntime) {
     play(&rt, rt.alloc(), &TOLD_ENOUGH, 1 + 7 + 13);
 }
+
+/// One who is in no battle, and sends two lines of 64 words that are refused for it.
+const LISTER: Caller = Caller {
+    sends: &[
+        (ANNA_LOGS_IN, 1),
+        (b"DISABLEUNITS", 1),
+        (b" a b c d e f g h", 8),
+        (b"\nENABLEUNITS", 1),
+        (b" a b c d e f g h", 8),
+        (b"\nPING\n", 1),
+    ],
+    piece: 1_000,
+    room: 1_000,
+    end: End::Open,
+};
+
+const REFUSED: &[u8] = b"SERVERMSG You are not in a battle\n";
+
+static LISTED_ENOUGH: [Step; 7] = [
+    Enters(LISTER),
+    TurnWithin(0, 0, TurnState::Again),
+    Reads(0, GREETED),
+    TurnWithin(0, 64, TurnState::Again),
+    Reads(0, &[(GREETING, 1), (ANNA_IS_IN, 1), (REFUSED, 1)]),
+    TurnWithin(0, 64, TurnState::Idle),
+    Reads(
+        0,
+        &[(GREETING, 1), (ANNA_IS_IN, 1), (REFUSED, 2), (b"PONG\n", 1)],
+    ),
+];
+
+/// A line that is refused tells little, and each word that it lists counts. The events are an open, four lines, and
+/// two drains a turn.
+#[test]
+fn a_turn_that_listed_enough_puts_lines_off(rt: HostRuntime) {
+    play(&rt, rt.alloc(), &LISTED_ENOUGH, 1 + 4 + 6);
+}

@@ -3,4 +3,4 @@ use Rattle.lobby_lock.proofs.Holds.{more}
 use Rattle.lobby_lock.proofs.held.Held.say.Goals as goal
 
 pub invariant_of-self : goal.invariant_of-self
-invariant_of-self c = more _ _ _ _ _ _ _ c.self.invariant _ (Say c.args.client c.args.request) _ c.in-Ok.ensures.ok c.say-in-Ok.ensures
+invariant_of-self c = more _ _ _ _ _ _ _ c.self.invariant _ (Say c.args.client c.args.request) _ c.in-Ok.ensures.ok c.add_say.ensures
