@@ -2,9 +2,9 @@
 use Rattle.std.proofs.Common.{◌≡◌, ◌≢◌, ℕ, ◌<◌, ◌^◌, Bool, true, false, List, Option, Some, None, Result, Ok, Err, inl, inr, refl, sym, ap, ◌∙◌, subst, arith, codes, decimal}
 use Rattle.std.specs.Prelude.{◌↔◌, IfErr, IsSomeAnd, MatchOption, unwrap_or}
 use Rattle.std.specs.Borrow.{Bor}
-use Rattle.account_entries.specs.Account.{Account}
-use Rattle.account_entries.specs.declared.error.AccountsError.{AccountsError}
-use Rattle.account_entries.specs.declared.error.AccountsError.TheVariants.{BadField, Memory}
+use Rattle.account_book.specs.Account.{Account}
+use Rattle.account_book.specs.declared.error.AccountsError.{AccountsError}
+use Rattle.account_book.specs.declared.error.AccountsError.TheVariants.{BadField, Memory}
 use Rattle.line_words.specs.Bytes.{has_byte}
 use Rattle.address_words.specs.Words.{PartedAt, LeadsWith}
 use Rattle.lobby_script.specs.Accounts.{HasFields, IsRankAndCountry}

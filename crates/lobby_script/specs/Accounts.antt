@@ -1,6 +1,6 @@
 -- How a script writes an account.
 use Rattle.std.specs.Prelude.{◌≡◌, ℕ, ◌^◌, ◌<◌, ◌⊎◌, true, false, List, ◌∷◌, ◌++◌, codes, decimal}
-use Rattle.account_entries.specs.Account.{Account, is_sound}
+use Rattle.account_book.specs.Account.{Account, is_sound}
 use Rattle.address_words.specs.Words.{PartedAt, LeadsWith}
 
 -- a rank, and a country behind one space; without it the country is not known

@@ -1,7 +1,7 @@
 -- What a line of a script says.
 use Rattle.std.specs.Prelude.{◌≡◌, ℕ, List, ◌∷◌, ◌++◌, codes, IsTrue}
 use Rattle.line_words.specs.Bytes.{is_text}
-use Rattle.account_entries.specs.Account.{Account}
+use Rattle.account_book.specs.Account.{Account}
 use Rattle.lobby_script.specs.declared.action.Action.{Action}
 use Rattle.lobby_script.specs.declared.action.Action.TheVariants as action
 use Rattle.lobby_script.specs.declared.action.Setting.TheVariants as setting

@@ -1,7 +1,7 @@
 //! The accounts that a script writes.
 
 ghost use Rattle.std.specs.Prelude.{◌≡◌, ◌<◌, ℕ, List, IfOk, IfSome, IsSomeAnd};
-ghost use Rattle.account_entries.specs.Account.{Account as Written};
+ghost use Rattle.account_book.specs.Account.{Account as Written};
 ghost use Rattle.address_words.specs.Words.{Finds};
 ghost use Rattle.lobby_script.specs.Accounts.{HasFields, IsRankAndCountry, WritesAccount};
 ghost use Rattle.lobby_script.specs.Fields.{stated_by};

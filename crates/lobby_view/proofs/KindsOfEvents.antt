@@ -6,7 +6,7 @@ use Rattle.std.specs.Ordering.{nat_cmp}
 use Rattle.std.specs.FinMap.{nat_cmp-IsAntisymmetric}
 use Rattle.std.specs.Str.{bytes_eq}
 use Rattle.std.specs.Option.{option_map_or}
-use Rattle.account_entries.specs.Account.{Account}
+use Rattle.account_book.specs.Account.{Account}
 use Rattle.account_book.specs.Book.{login, account_of}
 use Rattle.account_book.specs.declared.error.LoginFault.{LoginFault}
 use Rattle.account_book.specs.declared.error.LoginFault.TheVariants.{NoAccount, BadPassword}

@@ -1,6 +1,6 @@
 use Rattle.std.proofs.Common.{◌≡◌, ◌∙◌, true, Some, sym, ap, subst}
 use Rattle.std.proofs.lemmas.Bool.{false≢true}
-use Rattle.account_entries.specs.Account.{is_sound}
+use Rattle.account_book.specs.Account.{is_sound}
 use Rattle.lobby_script.specs.Accounts.{HasFields, WritesAccount}
 use Rattle.lobby_script.specs.Fields.{stated_by}
 use Rattle.address_words.proofs.Readings.{finds_none}

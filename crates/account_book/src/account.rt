@@ -2,7 +2,7 @@
 
 ghost use Rattle.std.specs.Prelude.{◌≡◌, ◌≢◌, ◌↔◌, ◌<◌, true, false, IfOk, IfErr};
 ghost use Rattle.line_words.specs.Bytes.{is_name};
-ghost use Rattle.account_entries.specs.Account.{IsHeld, is_password_word, is_country, is_sound, stated};
+ghost use Rattle.account_book.specs.Account.{IsHeld, is_password_word, is_country, is_sound, stated};
 
 use crate::country::Country;
 use crate::error::AccountsError;
@@ -28,7 +28,7 @@ pub struct Account {
 
 impl Model for Account {
     ghost use Rattle.std.specs.Prelude.{◌≡◌, true};
-    ghost use Rattle.account_entries.specs.Account.{Account as Seen, stated, is_sound};
+    ghost use Rattle.account_book.specs.Account.{Account as Seen, stated, is_sound};
 
     ghost Value = { Seen };
 

@@ -7,8 +7,8 @@ use Rattle.toml.specs.Data.{Data, Items, no_items, item, Members, as_table}
 use Rattle.toml_fields.specs.Fields.{◌>>=◌, flag, list, number, optional, required, section, text}
 use Rattle.toml_fields.specs.declared.fault.FieldFault.{FieldFault}
 use Rattle.toml_fields.specs.declared.fault.FieldFault.TheVariants.{NotAllowed}
-use Rattle.account_entries.specs.Account.{Account, stated, is_country, is_sound}
-use Rattle.account_entries.specs.declared.listing.Listing.{Listing}
+use Rattle.account_book.specs.Account.{Account, stated, is_country, is_sound}
+use Rattle.account_book.specs.declared.listing.Listing.{Listing}
 
 -- What an account may leave out: its rank, whether its owner is a moderator, whether it is a
 -- program, and where it comes from

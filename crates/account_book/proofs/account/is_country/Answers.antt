@@ -1,6 +1,6 @@
 use Rattle.std.proofs.lemmas.Grind.{common_steps}
 use Rattle.std.proofs.Common.{arith}
-use Rattle.account_entries.proofs.account.is_country.Goals as goal
+use Rattle.account_book.proofs.account.is_country.Goals as goal
 
 pub returns-then-eq : goal.returns-then-eq
 returns-then-eq c = grind (arith, common_steps)

@@ -2,8 +2,8 @@
 
 ghost use Rattle.std.specs.Prelude.{◌≡◌, IfOk};
 ghost use Rattle.toml.specs.View.{view, table_view};
-ghost use Rattle.account_entries.specs.Entries.{profile_of, default_of, disabled_of, contents_of, fields_of, described};
-ghost use Rattle.account_entries.specs.Fields.{shown, shown_profile, contents_shown, stated_of};
+ghost use Rattle.account_book.specs.Entries.{profile_of, default_of, disabled_of, contents_of, fields_of, described};
+ghost use Rattle.account_book.specs.Fields.{shown, shown_profile, contents_shown, stated_of};
 
 use crate::account::{Account, is_country};
 use crate::error::AccountsError;

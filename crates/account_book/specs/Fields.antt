@@ -2,11 +2,11 @@
 use Rattle.std.specs.Prelude.{Result, Ok, Err}
 use Rattle.toml.specs.View.{items_view}
 use Rattle.toml_fields.specs.declared.fault.FieldFault.{FieldFault}
-use Rattle.account_entries.specs.Account.{Account, stated}
-use Rattle.account_entries.specs.Entries.{Profile, profile, Contents, contents}
-use Rattle.account_entries.specs.declared.profile.Profile.{Profile as Told}
-use Rattle.account_entries.specs.declared.fields.Fields.{Fields}
-use Rattle.account_entries.specs.declared.fields.Contents.{Contents as Gathered}
+use Rattle.account_book.specs.Account.{Account, stated}
+use Rattle.account_book.specs.Entries.{Profile, profile, Contents, contents}
+use Rattle.account_book.specs.declared.profile.Profile.{Profile as Told}
+use Rattle.account_book.specs.declared.fields.Fields.{Fields}
+use Rattle.account_book.specs.declared.fields.Contents.{Contents as Gathered}
 
 abbrev pub shown : Told → Profile
 shown told = profile told.rank told.access told.bot told.country.now

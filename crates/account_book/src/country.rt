@@ -1,7 +1,7 @@
 //! Where an account's owner comes from.
 
 ghost use Rattle.std.specs.Prelude.{◌≡◌, true};
-ghost use Rattle.account_entries.specs.Account.{is_country};
+ghost use Rattle.account_book.specs.Account.{is_country};
 
 use std::marker::Model;
 
@@ -13,7 +13,7 @@ pub struct Country {
 
 impl Model for Country {
     ghost use Rattle.std.specs.Prelude.{◌≡◌, List, ℕ, true};
-    ghost use Rattle.account_entries.specs.Account.{is_country};
+    ghost use Rattle.account_book.specs.Account.{is_country};
 
     ghost Value = { List ℕ };
 

@@ -7,7 +7,7 @@ use Rattle.std.specs.Map.{lookup}
 use Rattle.indexmap.specs.IndexMap.{insert_entry}
 use Rattle.std.proofs.lemmas.Map.Keys.{IsDistinct-push}
 use Rattle.std.specs.Cmp.Lexicographic.{nat_list_eq_equiv}
-use Rattle.account_entries.specs.Account.{Account, IsHeld}
+use Rattle.account_book.specs.Account.{Account, IsHeld}
 use Rattle.account_book.specs.Book.{account_of, HasDistinctNames, IsEntry}
 
 abbrev pub Entry : Type 0
