@@ -2,7 +2,7 @@
 use Rattle.std.proofs.Common.{◌≡◌, ℕ, List, [], ◌∷◌, refl, true, false}
 use Rattle.std.specs.Prelude.{Option, Some, None, IsSome, is_some}
 use Rattle.account_book.specs.Account.{Account}
-use Rattle.command_forms.specs.declared.command.Command.{Command}
+use Rattle.command_grammar.specs.declared.command.Command.{Command}
 use Rattle.line_words.specs.Table.{at_number}
 use Rattle.lobby_model.specs.declared.event.Event.{Event}
 use Rattle.lobby_model.specs.declared.event.Event.TheVariants as event
