@@ -7,7 +7,7 @@ use Rattle.lobby_script.specs.declared.action.Action.TheVariants as action
 use Rattle.lobby_script.specs.declared.action.Setting.TheVariants as setting
 use Rattle.lobby_script.specs.declared.action.Order.{Order}
 use Rattle.lobby_script.specs.declared.action.Order.TheVariants as order
-use Rattle.address_words.specs.Words.{IsNumber, LeadsWith, IsAddress}
+use Rattle.proxy_line.specs.Words.{IsNumber, LeadsWith, IsAddress}
 use Rattle.lobby_script.specs.Accounts.{WritesAccount}
 use Rattle.lobby_script.specs.Escapes.{StandsForBytes}
 

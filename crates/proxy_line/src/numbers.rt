@@ -2,7 +2,7 @@
 
 ghost use Rattle.std.specs.Prelude.{◌≡◌, ◌<◌, ℕ, List, false, IfSome, IsSomeAnd, MatchOption};
 ghost use Rattle.line_words.specs.Bytes.{has_byte};
-ghost use Rattle.address_words.specs.Words.{Finds, IsNumber, LeadsWith, PartedAt};
+ghost use Rattle.proxy_line.specs.Words.{Finds, IsNumber, LeadsWith, PartedAt};
 
 use itoa::Buffer;
 use memchr::memchr;

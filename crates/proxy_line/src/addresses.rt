@@ -1,7 +1,7 @@
 //! IPv4 addresses, alone and with a port.
 
 ghost use Rattle.std.specs.Prelude.{◌≡◌, ℕ, List, IfSome, IsSomeAnd};
-ghost use Rattle.address_words.specs.Words.{Finds, IsAddress, IsPort, IsSocketAddress, LeadsWithOctet};
+ghost use Rattle.proxy_line.specs.Words.{Finds, IsAddress, IsPort, IsSocketAddress, LeadsWithOctet};
 
 use crate::numbers::{number, number_before, part_at};
 

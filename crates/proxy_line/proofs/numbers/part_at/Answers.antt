@@ -1,6 +1,6 @@
 use Rattle.std.proofs.Common.{arith}
-use Rattle.address_words.proofs.Parts.{lacks_all, lacks_below, parts_round}
-use Rattle.address_words.proofs.numbers.part_at.Goals as goal
+use Rattle.proxy_line.proofs.Parts.{lacks_all, lacks_below, parts_round}
+use Rattle.proxy_line.proofs.numbers.part_at.Goals as goal
 
 pub returns-in_err-at : goal.returns-in_err-at
 returns-in_err-at c = rw c.from_residual.ensures (lacks_all c.args.mark c.args.bytes.now c.in_err-at.ensures)

@@ -1,5 +1,5 @@
-use Rattle.address_words.proofs.Readings.{leads_once}
-use Rattle.address_words.proofs.numbers.number_before.Goals as goal
+use Rattle.proxy_line.proofs.Readings.{leads_once}
+use Rattle.proxy_line.proofs.numbers.number_before.Goals as goal
 
 pub returns-in_err-number-clause-complete : goal.returns-in_err-number-clause-complete
 returns-in_err-number-clause-complete c = λ n rest leads.

@@ -9,8 +9,8 @@ use Rattle.std.proofs.lemmas.Bool.{false≢true}
 use Rattle.std.proofs.lemmas.Fmt.{parse-decimal, IsAscii-decimal}
 use Rattle.std.proofs.lemmas.Slice.Eq.{bytes_eq-Decides}
 use Rattle.std.proofs.lemmas.Str.{IsUtf8-from_ascii}
-use Rattle.address_words.specs.Words.{Finds, IsNumber, LeadsWith, PartedAt}
-use Rattle.address_words.proofs.Parts.{parted_once, lacks_digits}
+use Rattle.proxy_line.specs.Words.{Finds, IsNumber, LeadsWith, PartedAt}
+use Rattle.proxy_line.proofs.Parts.{parted_once, lacks_digits}
 
 pub finds_none : {X : Type 0} (P : X → Type 0) → ((x : X) → P x → ⊥) → Finds P None
 finds_none P none = record { sound = tt; complete = λ x p. absurd (none x p) }

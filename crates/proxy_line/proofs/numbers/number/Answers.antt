@@ -1,7 +1,7 @@
 use Rattle.std.proofs.Common.{ap, sym, ◌∙◌}
 use Rattle.std.specs.Str.{bytes_eq}
-use Rattle.address_words.proofs.Readings.{no_text, text_of, no_number, number_if_written}
-use Rattle.address_words.proofs.numbers.number.Goals as goal
+use Rattle.proxy_line.proofs.Readings.{no_text, text_of, no_number, number_if_written}
+use Rattle.proxy_line.proofs.numbers.number.Goals as goal
 
 pub returns-in_err-digits : goal.returns-in_err-digits
 returns-in_err-digits c =

@@ -1,5 +1,5 @@
-use Rattle.address_words.proofs.SocketAddresses.{both, no_address, no_port}
-use Rattle.address_words.proofs.addresses.socket_address.Goals as goal
+use Rattle.proxy_line.proofs.SocketAddresses.{both, no_address, no_port}
+use Rattle.proxy_line.proofs.addresses.socket_address.Goals as goal
 
 pub returns-in_err-address : goal.returns-in_err-address
 returns-in_err-address c =

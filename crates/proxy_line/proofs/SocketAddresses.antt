@@ -1,9 +1,9 @@
 -- An address has no colon and no space, so the first one behind it parts it from what follows.
 use Rattle.std.proofs.Common.{◌≡◌, ℕ, ◌<◌, ◌^◌, ◌||◌, false, List, [], ◌∷◌, Option, Some, None, refl, ap, sym, ◌∙◌, subst, arith, decimal, nat_eq}
 use Rattle.line_words.specs.Bytes.{has_byte}
-use Rattle.address_words.specs.Words.{Finds, IsAddress, IsPort, IsSocketAddress, PartedAt}
-use Rattle.address_words.proofs.Readings.{finds_none}
-use Rattle.address_words.proofs.Parts.{lacks-append, lacks_colon, lacks_digits, parted_once}
+use Rattle.proxy_line.specs.Words.{Finds, IsAddress, IsPort, IsSocketAddress, PartedAt}
+use Rattle.proxy_line.proofs.Readings.{finds_none}
+use Rattle.proxy_line.proofs.Parts.{lacks-append, lacks_colon, lacks_digits, parted_once}
 
 -- an address lacks each byte that is no dot and that its numbers lack
 lacks_address : (m : ℕ) → nat_eq 46 m ≡ false → ((n : ℕ) → n < 2 ^ 8 → has_byte m (decimal n) ≡ false)
