@@ -4,7 +4,7 @@
 set -euo pipefail
 cd "$(dirname "$0")/.."
 word=${1:?give a command or a reply, as places.sh DISABLEUNITS}
-variant=$(grep -ohE '^    [A-Z][A-Za-z]+' crates/command_forms/src/command.rt crates/reply_kinds/src/lib.rt | tr -d ' ' | sort -u |
+variant=$(grep -ohE '^    [A-Z][A-Za-z]+' crates/command_grammar/src/command.rt crates/reply_kinds/src/lib.rt | tr -d ' ' | sort -u |
     awk -v word="$word" 'toupper($1) == word')
 [ -n "$variant" ] || { echo "places.sh: no command and no reply has the word $word" >&2; exit 2; }
 name=$(sed -E 's/([a-z])([A-Z])/\1_\2/g' <<< "$variant" | tr '[:upper:]' '[:lower:]')

@@ -1,2 +1,2 @@
-pub mod Entries
+pub mod Index
 pub mod Listed

@@ -3,13 +3,13 @@ use Rattle.std.proofs.Common.{◌≡◌, ℕ, ◌+◌, Bool, true, false, ◌||�
 use Rattle.std.specs.List.{IsDistinct}
 use Rattle.std.proofs.lemmas.List.{map-append}
 use Rattle.toml_fields.specs.Fields.{◌>>=◌}
-use Rattle.account_entries.specs.Account.{Account}
-use Rattle.account_entries.specs.declared.listing.Listing.{Listing}
-use Rattle.account_entries.specs.declared.error.AccountsError.{AccountsError}
-use Rattle.account_entries.specs.declared.error.AccountsError.TheVariants.{BadField, DuplicateName}
+use Rattle.account_book.specs.Account.{Account}
+use Rattle.account_book.specs.declared.listing.Listing.{Listing}
+use Rattle.account_book.specs.declared.error.AccountsError.{AccountsError}
+use Rattle.account_book.specs.declared.error.AccountsError.TheVariants.{BadField, DuplicateName}
 use Rattle.account_book.specs.Book.{account_of, HasDistinctNames}
 use Rattle.account_book.specs.File.{accounts_in, enabled, with_entries, listed_accounts, IsTwin, Lists}
-use Rattle.account_book.proofs.Entries.{HasDistinctNames-push}
+use Rattle.account_book.proofs.Index.{HasDistinctNames-push}
 use Rattle.line_words.proofs.Options.{none_from_is_some}
 
 -- the accounts that are disabled

@@ -7,11 +7,11 @@ use Rattle.toml.specs.Data.{Members}
 use Rattle.toml_fields.specs.Document.{document}
 use Rattle.toml_fields.specs.Fields.{◌>>=◌}
 use Rattle.toml_fields.specs.declared.fault.FieldFault.{FieldFault}
-use Rattle.account_entries.specs.Account.{Account}
-use Rattle.account_entries.specs.Entries.{Contents, contents_of, descriptions}
-use Rattle.account_entries.specs.declared.listing.Listing.{Listing}
-use Rattle.account_entries.specs.declared.error.AccountsError.{AccountsError}
-use Rattle.account_entries.specs.declared.error.AccountsError.TheVariants.{NotToml, BadField, DuplicateName}
+use Rattle.account_book.specs.Account.{Account}
+use Rattle.account_book.specs.Entries.{Contents, contents_of, descriptions}
+use Rattle.account_book.specs.declared.listing.Listing.{Listing}
+use Rattle.account_book.specs.declared.error.AccountsError.{AccountsError}
+use Rattle.account_book.specs.declared.error.AccountsError.TheVariants.{NotToml, BadField, DuplicateName}
 use Rattle.account_book.specs.Book.{account_of, HasDistinctNames}
 
 -- The accounts of a list, disabled or not

@@ -3,11 +3,11 @@
 ghost use Rattle.std.specs.Prelude.{◌≡◌, ◌≢◌, ◌↔◌, ◌++◌, [], ◌∷◌, length, IsTrue, IsSome, option_copied, OnOk, OnErr};
 ghost use Rattle.std.specs.Prelude.{IfErr, Result, Ok, Err};
 ghost use Rattle.std.specs.List.{AllByRecursion};
-ghost use Rattle.account_entries.specs.Account.{IsHeld};
+ghost use Rattle.account_book.specs.Account.{IsHeld};
 ghost use Rattle.account_book.specs.Book.{account_of, login, seen, HasDistinctNames};
 
-use crate::error::LoginFault;
-use account_entries::{Account, AccountsError};
+use crate::account::Account;
+use crate::error::{AccountsError, LoginFault};
 use indexmap::IndexMap;
 use std::alloc::Global;
 use std::marker::Model;
@@ -31,7 +31,7 @@ impl Drop for AccountBook {
 impl Model for AccountBook {
     ghost use Rattle.std.specs.Prelude.{List, map};
     ghost use Rattle.std.specs.List.{AllByRecursion};
-    ghost use Rattle.account_entries.specs.Account.{Account as Seen};
+    ghost use Rattle.account_book.specs.Account.{Account as Seen};
     ghost use Rattle.account_book.specs.Book.{HasDistinctNames, IsEntry};
 
     ghost Value = { List Seen };

@@ -14,13 +14,15 @@ ghost use Rattle.std.specs.Prelude.{◌≡◌, ℕ, ◌≢◌, ◌↔◌, ◌++�
 ghost use Rattle.std.specs.Prelude.{Some, None, Result, Ok, Err, if◌then◌else◌};
 ghost use Rattle.toml.specs.View.{table_view};
 ghost use Rattle.toml_fields.specs.Document.{document};
-ghost use Rattle.account_entries.specs.Fields.{shown_contents};
+ghost use Rattle.account_book.specs.Fields.{shown_contents};
 ghost use Rattle.account_book.specs.Book.{account_of};
 ghost use Rattle.account_book.specs.File.{entries_in, listed_accounts, IsTwin, Lists, file_accounts, file_entries};
 ghost use Rattle.account_book.specs.File.{table_accounts, table_entries};
 
 use crate::book::AccountBook;
-use account_entries::{AccountsError, Contents, Listing, contents_of, described};
+use crate::error::AccountsError;
+use crate::fields::{Contents, contents_of, described};
+use crate::listing::Listing;
 use std::alloc::Global;
 use toml::Table;
 use toml_fields::{DocumentError, read_document};

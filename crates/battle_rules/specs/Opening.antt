@@ -1,8 +1,8 @@
 -- What a command that opens a battle says of it.
 use Rattle.std.specs.Prelude.{◌≡◌, ℕ, ℤ, pos, List, [], Bool, true, false}
 use Rattle.reply_kinds.specs.declared.opened_battle.OpenedBattle.{OpenedBattle}
-use Rattle.command_forms.specs.declared.command.Command.{Command}
-use Rattle.command_forms.specs.declared.command.Command.TheVariants as command
+use Rattle.command_grammar.specs.declared.command.Command.{Command}
+use Rattle.command_grammar.specs.declared.command.Command.TheVariants as command
 use Rattle.room_lists.specs.Room.{Room}
 use Rattle.lobby_model.specs.State.{Battle}
 use Rattle.lobby_model.specs.Opened.{info_of}

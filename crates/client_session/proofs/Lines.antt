@@ -2,7 +2,7 @@
 use Rattle.std.proofs.Common.{ℕ, List, refl}
 use Rattle.std.specs.Prelude.{Option, Some, None, IsSome, slice_get}
 use Rattle.line_framer.specs.Frames.{frames}
-use Rattle.command_forms.specs.declared.command.Request.{Request}
+use Rattle.command_grammar.specs.declared.command.Request.{Request}
 use Rattle.lobby_model.specs.Schedule.{line_limit}
 use Rattle.client_session.specs.declared.session.Next.TheVariants.{Line}
 use Rattle.client_session.specs.Serving.{Serving}

@@ -2,9 +2,9 @@
 use Rattle.std.specs.Prelude.{◌≡◌, ℕ, Bool, ◌||◌, List, Option, Some, None, is_some, IsTrue, true, false, slice_get}
 use Rattle.line_framer.specs.Frames.{frames, is_spoilt}
 use Rattle.line_framer.specs.Framed.{Framed, StandsFor}
-use Rattle.command_forms.specs.declared.command.Request.{Request}
-use Rattle.command_forms.specs.Kinds.{keeps_kinds}
-use Rattle.command_forms.specs.Owning.{owns_bytes}
+use Rattle.command_grammar.specs.declared.command.Request.{Request}
+use Rattle.command_grammar.specs.Kinds.{keeps_kinds}
+use Rattle.command_grammar.specs.Owning.{owns_bytes}
 use Rattle.command_grammar.specs.Reads.{Reads}
 use Rattle.lobby_model.specs.Schedule.{line_limit}
 use Rattle.client_session.specs.declared.session.Next.{Next}

@@ -2,13 +2,13 @@
 use Rattle.std.proofs.Common.{ℕ, ◌≤◌, List, [], ◌∷◌, ◌++◌, length, length-append, refl, sym, ap, subst, inl, inr, arith}
 use Rattle.std.specs.Prelude.{IsTrue, IfSome, Option, Some, None}
 use Rattle.line_words.specs.Bytes.{is_text}
-use Rattle.command_forms.specs.declared.command.Command.{Command}
-use Rattle.command_forms.specs.declared.command.Request.{Request}
-use Rattle.command_forms.specs.Kinds.{keeps_kinds}
-use Rattle.command_forms.specs.Sizes.{argument_bytes}
-use Rattle.command_forms.proofs.Bounds.{Bounded, unread_bounded, named_bounded}
-use Rattle.command_forms.proofs.Slices.{text_back}
-use Rattle.command_forms.proofs.Taken.{if_so}
+use Rattle.command_grammar.specs.declared.command.Command.{Command}
+use Rattle.command_grammar.specs.declared.command.Request.{Request}
+use Rattle.command_grammar.specs.Kinds.{keeps_kinds}
+use Rattle.command_grammar.specs.Sizes.{argument_bytes}
+use Rattle.command_grammar.proofs.ArgumentBounds.{Bounded, unread_bounded, named_bounded}
+use Rattle.command_grammar.proofs.Slices.{text_back}
+use Rattle.command_grammar.proofs.Taken.{if_so}
 use Rattle.command_grammar.specs.Reads.{id_limit, Carries, Asks, Reads}
 
 asks_bounded : (text : List ℕ) (c : Command) → Asks text c → Bounded c (length text)

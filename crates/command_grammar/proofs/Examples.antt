@@ -1,12 +1,12 @@
 -- Worked lines, and the requests that they read as. In a line 9 is a tab, 10 LF and 13 CR.
 use Rattle.std.proofs.Common.{◌≡◌, ℕ, List, [], ◌∷◌, ◌++◌, refl, subst, true, false}
 use Rattle.std.specs.Prelude.{pos, negsuc, codes, Option, Some, None}
-use Rattle.command_forms.specs.declared.command.ReadFault.TheVariants as fault
-use Rattle.command_forms.specs.declared.command.Command.{Command}
-use Rattle.command_forms.specs.declared.command.Command.TheVariants as command
-use Rattle.command_forms.specs.declared.command.Request.{Request}
-use Rattle.command_forms.specs.Reading.{pair, word_at, optional_at, name_at, number_in, number_at, natural_at, wide_at, flag_at, text_at, optional_text_at, login_flags_at, sentence_at, pair_in, pairs_of, pairs_at, words_in, words_at}
-use Rattle.command_forms.specs.Table.{entries, battle_entries, room_entries, host_entries}
+use Rattle.command_grammar.specs.declared.command.ReadFault.TheVariants as fault
+use Rattle.command_grammar.specs.declared.command.Command.{Command}
+use Rattle.command_grammar.specs.declared.command.Command.TheVariants as command
+use Rattle.command_grammar.specs.declared.command.Request.{Request}
+use Rattle.command_grammar.specs.Readers.{pair, word_at, optional_at, name_at, number_in, number_at, natural_at, wide_at, flag_at, text_at, optional_text_at, login_flags_at, sentence_at, pair_in, pairs_of, pairs_at, words_in, words_at}
+use Rattle.command_grammar.specs.Table.{entries, battle_entries, room_entries, host_entries}
 use Rattle.command_grammar.specs.Reads.{Reads}
 use Rattle.command_grammar.specs.Reading.{request_of, text_of, numbered}
 use Rattle.command_grammar.proofs.Lines.{request_read}

@@ -1,3 +1,12 @@
+pub mod Cuts
+pub mod Numerals
+pub mod Settles
+pub mod Sequences
+pub mod Tables
+pub mod Slices
+pub mod Checks
+pub mod Taken
+pub mod ArgumentBounds
 pub mod Lines
 pub mod Whole
 pub mod Examples

@@ -8,15 +8,15 @@ use Rattle.line_words.specs.Numbers.{is_digits, value_of}
 use Rattle.line_words.specs.Parts.{before, from}
 use Rattle.line_words.specs.Words.{BeginsApart, EndsWord}
 use Rattle.line_words.proofs.Splitting.{before-from, has_byte-before, from_ends}
-use Rattle.command_forms.specs.declared.command.ReadFault.TheVariants as fault
-use Rattle.command_forms.specs.declared.command.Command.{Command}
-use Rattle.command_forms.specs.declared.command.Request.{Request}
-use Rattle.command_forms.specs.Arguments.{IsFault}
-use Rattle.command_forms.specs.Forms.{command_named, Form}
-use Rattle.command_forms.specs.Reading.{without_spaces, command_of, known_at}
-use Rattle.command_forms.proofs.Cuts.{Parts, parts_of, skip_is, skipped, skipped_is, and_first, and_second}
-use Rattle.command_forms.proofs.Settles.{Settles, made, fault_made}
-use Rattle.command_forms.proofs.Tables.{form_settles}
+use Rattle.command_grammar.specs.declared.command.ReadFault.TheVariants as fault
+use Rattle.command_grammar.specs.declared.command.Command.{Command}
+use Rattle.command_grammar.specs.declared.command.Request.{Request}
+use Rattle.command_grammar.specs.Arguments.{IsFault}
+use Rattle.command_grammar.specs.Forms.{command_named, Form}
+use Rattle.command_grammar.specs.Readers.{without_spaces, command_of, known_at}
+use Rattle.command_grammar.proofs.Cuts.{Parts, parts_of, skip_is, skipped, skipped_is, and_first, and_second}
+use Rattle.command_grammar.proofs.Settles.{Settles, made, fault_made}
+use Rattle.command_grammar.proofs.Tables.{form_settles}
 use Rattle.command_grammar.specs.Reads.{id_limit, HasId, Carries, Composed, Asks, Reads}
 use Rattle.command_grammar.specs.Reading.{text_of, is_id, id_of, with_id, numbered, request_with, request_of}
 

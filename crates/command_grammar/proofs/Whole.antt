@@ -4,11 +4,11 @@ use Rattle.std.specs.Prelude.{ℤ, pos, ◌≤ℤ◌, IsTrue, Option, Some, None
 use Rattle.std.proofs.lemmas.Bool.{and_parts, leb-true}
 use Rattle.std.proofs.lemmas.Int.{ints}
 use Rattle.line_words.specs.Numbers.{IsNumeral, is_digits, value_of}
-use Rattle.command_forms.specs.declared.command.ReadFault.{ReadFault}
-use Rattle.command_forms.specs.declared.command.Command.{Command}
-use Rattle.command_forms.specs.declared.command.Request.{Request}
-use Rattle.command_forms.specs.Owning.{owns_bytes}
-use Rattle.command_forms.specs.Reading.{without_spaces, command_of, needs_memory}
+use Rattle.command_grammar.specs.declared.command.ReadFault.{ReadFault}
+use Rattle.command_grammar.specs.declared.command.Command.{Command}
+use Rattle.command_grammar.specs.declared.command.Request.{Request}
+use Rattle.command_grammar.specs.Owning.{owns_bytes}
+use Rattle.command_grammar.specs.Readers.{without_spaces, command_of, needs_memory}
 use Rattle.command_grammar.specs.Reads.{Reads, id_limit}
 use Rattle.command_grammar.specs.Reading.{text_of, is_id, id_of, numbered, request_with, request_of}
 use Rattle.command_grammar.proofs.Lines.{request_only}

@@ -1,2 +1,9 @@
+pub mod Table
+pub mod Arguments
+pub mod Forms
+pub mod Owning
+pub mod Readers
+pub mod Kinds
+pub mod Sizes
 pub mod Reads
 pub mod Reading

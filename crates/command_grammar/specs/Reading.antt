@@ -5,13 +5,13 @@ use Rattle.std.specs.Prelude.{Result, Ok, Err}
 use Rattle.line_words.specs.Bytes.{is_text}
 use Rattle.line_words.specs.Parts.{before, from}
 use Rattle.line_words.specs.Numbers.{is_digits, value_of}
-use Rattle.command_forms.specs.declared.command.ReadFault.{ReadFault}
-use Rattle.command_forms.specs.declared.command.ReadFault.TheVariants as fault
-use Rattle.command_forms.specs.declared.command.Command.{Command}
-use Rattle.command_forms.specs.declared.command.Command.TheVariants as command
-use Rattle.command_forms.specs.declared.command.Request.{Request}
-use Rattle.command_forms.specs.Forms.{command_named}
-use Rattle.command_forms.specs.Reading.{command_of, without_spaces, known_at}
+use Rattle.command_grammar.specs.declared.command.ReadFault.{ReadFault}
+use Rattle.command_grammar.specs.declared.command.ReadFault.TheVariants as fault
+use Rattle.command_grammar.specs.declared.command.Command.{Command}
+use Rattle.command_grammar.specs.declared.command.Command.TheVariants as command
+use Rattle.command_grammar.specs.declared.command.Request.{Request}
+use Rattle.command_grammar.specs.Forms.{command_named}
+use Rattle.command_grammar.specs.Readers.{command_of, without_spaces, known_at}
 use Rattle.command_grammar.specs.Reads.{id_limit}
 
 -- the command of a text

@@ -3,12 +3,12 @@ use Rattle.std.specs.Prelude.{◌≡◌, ℕ, ◌<◌, ◌≤◌, not, List, [],
 use Rattle.line_words.specs.Bytes.{has_byte, is_spaces, is_text}
 use Rattle.line_words.specs.Words.{BeginsApart, EndsWord, SkipsSpaces}
 use Rattle.line_words.specs.Numbers.{is_digits, value_of}
-use Rattle.command_forms.specs.declared.command.ReadFault.TheVariants as fault
-use Rattle.command_forms.specs.declared.command.Command.{Command}
-use Rattle.command_forms.specs.declared.command.Command.TheVariants as command
-use Rattle.command_forms.specs.declared.command.Request.{Request}
-use Rattle.command_forms.specs.Arguments.{IsFault}
-use Rattle.command_forms.specs.Forms.{command_named, Form}
+use Rattle.command_grammar.specs.declared.command.ReadFault.TheVariants as fault
+use Rattle.command_grammar.specs.declared.command.Command.{Command}
+use Rattle.command_grammar.specs.declared.command.Command.TheVariants as command
+use Rattle.command_grammar.specs.declared.command.Request.{Request}
+use Rattle.command_grammar.specs.Arguments.{IsFault}
+use Rattle.command_grammar.specs.Forms.{command_named, Form}
 
 -- the largest message id
 abbrev pub id_limit : ℕ

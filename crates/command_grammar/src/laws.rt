@@ -1,9 +1,9 @@
 //! The laws of the grammar.
 
 ghost use Rattle.std.specs.Prelude.{◌≡◌, ◌≤◌, ℕ, List, IfSome, IsTrue, length};
-ghost use Rattle.command_forms.specs.declared.command.Request.{Request};
-ghost use Rattle.command_forms.specs.Kinds.{keeps_kinds};
-ghost use Rattle.command_forms.specs.Sizes.{argument_bytes};
+ghost use Rattle.command_grammar.specs.declared.command.Request.{Request};
+ghost use Rattle.command_grammar.specs.Kinds.{keeps_kinds};
+ghost use Rattle.command_grammar.specs.Sizes.{argument_bytes};
 ghost use Rattle.command_grammar.specs.Reading.{request_of};
 ghost use Rattle.command_grammar.specs.Reads.{Reads};
 

@@ -1,14 +1,26 @@
 //! Requests: what a line of a client asks the lobby for.
 //!
 //! A line is spaces, perhaps a message id (`#7 `), a command word and its arguments. `specs/Reads.antt`
-//! says what a line reads as, by the table of commands and the forms of `command_forms`, which reads the
-//! arguments. `specs/Reading.antt` says the same as a function, which the readers are proved by.
+//! says what a line reads as, and `specs/Reading.antt` the same as a function, which the readers are
+//! proved by.
+//!
+//! A command has a row of arguments: `specs/Table.antt` has the table of commands, and `specs/Arguments.antt`
+//! says how a line has an argument of each kind. `specs/Forms.antt` says by both what the arguments of a
+//! command make, and `specs/Readers.antt` the same as a function. The readers of arguments are given all
+//! that stands behind a command word.
 #![tactic(auto)]
 
+mod arguments;
+mod command;
+mod fault;
+pub mod forms;
 mod laws;
+mod lists;
 mod reading;
+pub mod rows;
 mod table;
 
-pub use command_forms::{Command, ReadFault, Request};
+pub use command::{Command, ReadFault, Request};
+pub use fault::ReadError;
 pub use laws::{fits_into_its_line, keeps_kinds, reads_as_one_request};
 pub use reading::read_request;

@@ -1,14 +1,15 @@
 //! Reading a line.
 
 ghost use Rattle.std.specs.Prelude.{◌≡◌, IfOk, OnErr, IsTrue};
-ghost use Rattle.command_forms.specs.declared.command.Request.{Request};
-ghost use Rattle.command_forms.specs.Owning.{owns_bytes};
-ghost use Rattle.command_forms.specs.Reading.{Gives, without_spaces, needs_memory, command_of};
+ghost use Rattle.command_grammar.specs.declared.command.Request.{Request};
+ghost use Rattle.command_grammar.specs.Owning.{owns_bytes};
+ghost use Rattle.command_grammar.specs.Readers.{Gives, without_spaces, needs_memory, command_of};
 ghost use Rattle.command_grammar.specs.Reading.{text_of, id_of, with_id, numbered};
 ghost use Rattle.command_grammar.specs.Reads.{Reads};
 
+use crate::command::{Command, ReadFault, Request};
+use crate::fault::ReadError;
 use crate::table::read_arguments;
-use command_forms::{Command, ReadError, ReadFault, Request};
 use line_words::{Words, is_text, read_number, split_at_byte};
 use std::alloc::{AllocError, Global};
 

@@ -1,21 +1,23 @@
 //! The table of commands: a line for each has its word, and what reads the arguments behind it.
 //!
-//! A word is looked for in one part of the table after another, as `specs/Table.antt` of
-//! `command_forms` has them. Each part is a function, since one over all lines is proved slower.
+//! A word is looked for in one part of the table after another, as `specs/Table.antt` has them. Each part
+//! is a function, since one over all lines is proved slower.
 
 ghost use Rattle.std.specs.Prelude.{◌≡◌, IsTrue};
 ghost use Rattle.line_words.specs.Bytes.{is_text};
-ghost use Rattle.command_forms.specs.Forms.{entry_named, is_same};
-ghost use Rattle.command_forms.specs.Reading.{Gives, known_at};
-ghost use Rattle.command_forms.specs.Table.{entries, battle_entries, room_entries, host_entries};
+ghost use Rattle.command_grammar.specs.Forms.{entry_named, is_same};
+ghost use Rattle.command_grammar.specs.Readers.{Gives, known_at};
+ghost use Rattle.command_grammar.specs.Table.{entries, battle_entries, room_entries, host_entries};
 
-use command_forms::rows::{name_and_number, name_and_text, one_name, one_text, some_words};
-use command_forms::{Command, ReadError, ReadFault, forms};
+use crate::command::{Command, ReadFault};
+use crate::fault::ReadError;
+use crate::forms;
+use crate::rows::{name_and_number, name_and_text, one_name, one_text, some_words};
 use std::alloc::Global;
 
 /// The command of a word, byte for byte, and of the arguments behind it. Users and channels, the
 /// frequent ones first, since they are tried in this order.
-#[tactic(auto, unfolding(command_forms::specs::Table::entries))]
+#[tactic(auto, unfolding(crate::specs::Table::entries))]
 pub(crate) fn read_arguments(alloc: Global, word: &[u8], rest: &[u8]) -> Result<Command, ReadError>
     requires { IsTrue (is_text rest.now) }
     ensures { Gives result (known_at (entry_named entries word.now) rest.now) }
@@ -47,7 +49,7 @@ pub(crate) fn read_arguments(alloc: Global, word: &[u8], rest: &[u8]) -> Result<
 }
 
 /// Battles.
-#[tactic(auto, unfolding(command_forms::specs::Table::battle_entries))]
+#[tactic(auto, unfolding(crate::specs::Table::battle_entries))]
 fn of_battle(alloc: Global, word: &[u8], rest: &[u8]) -> Result<Command, ReadError>
     requires { IsTrue (is_text rest.now) }
     ensures { Gives result (known_at (entry_named battle_entries word.now) rest.now) }
@@ -73,7 +75,7 @@ fn of_battle(alloc: Global, word: &[u8], rest: &[u8]) -> Result<Command, ReadErr
 }
 
 /// Bots, start rectangles, script tags and units.
-#[tactic(auto, unfolding(command_forms::specs::Table::room_entries))]
+#[tactic(auto, unfolding(crate::specs::Table::room_entries))]
 fn of_room(alloc: Global, word: &[u8], rest: &[u8]) -> Result<Command, ReadError>
     requires { IsTrue (is_text rest.now) }
     ensures { Gives result (known_at (entry_named room_entries word.now) rest.now) }
@@ -100,7 +102,7 @@ fn of_room(alloc: Global, word: &[u8], rest: &[u8]) -> Result<Command, ReadError
 }
 
 /// What a founder does to players.
-#[tactic(auto, unfolding(command_forms::specs::Table::host_entries))]
+#[tactic(auto, unfolding(crate::specs::Table::host_entries))]
 fn of_host(alloc: Global, word: &[u8], rest: &[u8]) -> Result<Command, ReadError>
     requires { IsTrue (is_text rest.now) }
     ensures { Gives result (known_at (entry_named host_entries word.now) rest.now) }

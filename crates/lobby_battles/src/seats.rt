@@ -7,7 +7,7 @@ ghost use Rattle.lobby_battles.specs.Battles.{battle_at};
 ghost use Rattle.lobby_battles.specs.Seats.{IsSet, client_number, seat_in, seat_with, users_of, where_some};
 ghost use Rattle.lobby_battles.specs.Seats.{without_one};
 
-use account_entries::Country;
+use account_book::Country;
 use line_words::NameBuf;
 use lobby_post::ClientKey;
 use status_bits::UserStatus;

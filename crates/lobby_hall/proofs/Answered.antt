@@ -2,8 +2,8 @@
 use Rattle.std.proofs.Common.{◌≡◌, ◌≢◌, ℕ, List, [], ◌∷◌, ◌++◌, length, min, refl, sym, ap, subst, ◌∙◌, append-nil, append_assoc, true, arith}
 use Rattle.std.specs.Prelude.{Option, Some, None, Result, Ok, Err, OnOk, is_some}
 use Rattle.std.specs.List.{AllByRecursion}
-use Rattle.command_forms.specs.declared.command.Request.{Request}
-use Rattle.account_entries.specs.Account.{Account}
+use Rattle.command_grammar.specs.declared.command.Request.{Request}
+use Rattle.account_book.specs.Account.{Account}
 use Rattle.lobby_model.specs.declared.event.Event.TheVariants as event
 use Rattle.lobby_model.specs.declared.schedule.Step.TheVariants as step
 use Rattle.line_words.specs.Table.{at_number}

@@ -8,8 +8,8 @@ use Rattle.std.specs.Cmp.{nat_cmp_total}
 use Rattle.std.specs.FinMap.{nat_cmp-IsAntisymmetric}
 use Rattle.std.proofs.lemmas.List.{drop_all}
 use Rattle.std.proofs.lemmas.Option.{same_Some}
-use Rattle.command_forms.specs.declared.command.Request.{Request}
-use Rattle.account_entries.specs.Account.{Account}
+use Rattle.command_grammar.specs.declared.command.Request.{Request}
+use Rattle.account_book.specs.Account.{Account}
 use Rattle.line_words.specs.Table.{ByNumber, at_number, same_number}
 use Rattle.line_words.proofs.Tables.{at-put, at-without, at-change}
 use Rattle.lobby_model.specs.declared.event.Event.{Event}

@@ -5,7 +5,7 @@ use Rattle.std.specs.Option.{option_map}
 use Rattle.std.specs.Ordering.{nat_cmp}
 use Rattle.std.specs.Cmp.{nat_cmp_total}
 use Rattle.std.specs.FinMap.Entries.{is_sorted}
-use Rattle.account_entries.specs.Account.{Account}
+use Rattle.account_book.specs.Account.{Account}
 use Rattle.lobby_model.specs.declared.event.Event.{Event}
 use Rattle.lobby_model.specs.declared.event.Event.TheVariants as event
 use Rattle.line_words.specs.Table.{at_number, put_number}

@@ -4,7 +4,7 @@ use Rattle.std.specs.Prelude.{Some, None, slice_get, IfSome}
 use Rattle.std.specs.List.{AllByRecursion}
 use Rattle.std.specs.Option.{option_map}
 use Rattle.std.proofs.lemmas.List.{drop_all, drop_at, drop-drop}
-use Rattle.account_entries.specs.Account.{Account}
+use Rattle.account_book.specs.Account.{Account}
 use Rattle.lobby_model.specs.declared.event.Event.{Event}
 use Rattle.line_words.specs.Table.{at_number}
 use Rattle.lobby_model.specs.Configuration.{Configuration}

@@ -8,8 +8,8 @@ use Rattle.std.specs.Cmp.{nat_cmp_total}
 use Rattle.std.specs.FinMap.Entries.{find-put, is_sorted}
 use Rattle.line_framer.specs.Frames.{frames}
 use Rattle.line_framer.specs.Framed.{Framed, first, next_line}
-use Rattle.command_forms.specs.declared.command.Request.{Request}
-use Rattle.account_entries.specs.Account.{Account}
+use Rattle.command_grammar.specs.declared.command.Request.{Request}
+use Rattle.account_book.specs.Account.{Account}
 use Rattle.lobby_model.specs.declared.event.Event.{Event}
 use Rattle.lobby_model.specs.declared.event.Event.TheVariants as event
 use Rattle.lobby_model.specs.declared.schedule.Step.TheVariants as step

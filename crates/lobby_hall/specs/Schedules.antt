@@ -1,6 +1,6 @@
 -- A hall stands for a whole schedule.
 use Rattle.std.specs.Prelude.{List}
-use Rattle.account_entries.specs.Account.{Account}
+use Rattle.account_book.specs.Account.{Account}
 use Rattle.lobby_model.specs.declared.event.Event.{Event}
 use Rattle.lobby_model.specs.declared.schedule.Step.{Step}
 use Rattle.lobby_model.specs.Configuration.{Configuration}

@@ -1,6 +1,6 @@
 -- What a hall stands for: the world that a schedule leaves, and the record of its events.
 use Rattle.std.specs.Prelude.{◌≡◌, ℕ, ◌≤◌, ◌<◌, Bool, ◌&&◌, true, false, List, ◌++◌, length, Option, Some, None}
-use Rattle.account_entries.specs.Account.{Account}
+use Rattle.account_book.specs.Account.{Account}
 use Rattle.lobby_model.specs.declared.event.Event.{Event}
 use Rattle.lobby_model.specs.declared.schedule.Step.{Step}
 use Rattle.lobby_model.specs.declared.schedule.Step.TheVariants as step

@@ -2,8 +2,8 @@
 
 ghost use Rattle.std.specs.Prelude.{◌≡◌, ◌≢◌, ℕ, ◌≤◌, List, [], ◌∷◌, ◌++◌, IfOk, IsTrue, OnOk, OnErr, None, length};
 ghost use Rattle.std.specs.List.{AllByRecursion};
-ghost use Rattle.account_entries.specs.Account.{Account};
-ghost use Rattle.command_forms.specs.Kinds.{keeps_kinds};
+ghost use Rattle.account_book.specs.Account.{Account};
+ghost use Rattle.command_grammar.specs.Kinds.{keeps_kinds};
 ghost use Rattle.lobby_model.specs.declared.event.Event.{Event};
 ghost use Rattle.lobby_model.specs.declared.event.Event.TheVariants as event;
 ghost use Rattle.lobby_model.specs.declared.schedule.Step.{Step};

@@ -4,7 +4,7 @@ use Rattle.std.specs.Prelude.{Option, Some, None, IsSome, slice_get}
 use Rattle.line_framer.specs.Frames.{frames, is_spoilt, rest_of}
 use Rattle.line_framer.specs.Framed.{next_line}
 use Rattle.line_framer.proofs.Stands.{frames-append, spoilt_for_good, next_frame}
-use Rattle.command_forms.specs.declared.command.Request.{Request}
+use Rattle.command_grammar.specs.declared.command.Request.{Request}
 use Rattle.lobby_model.specs.Schedule.{line_limit}
 use Rattle.client_session.specs.declared.session.Next.TheVariants.{Line}
 use Rattle.client_session.specs.Serving.{Serving}

@@ -1,6 +1,6 @@
 -- What a part of a turn did.
 use Rattle.std.specs.Prelude.{◌≡◌, ℕ, ◌+◌, List, [], ◌∷◌, ◌++◌, map, length}
-use Rattle.command_forms.specs.declared.command.Request.{Request}
+use Rattle.command_grammar.specs.declared.command.Request.{Request}
 use Rattle.lobby_lock.specs.History.{Entry, after_history}
 use Rattle.lobby_lock.specs.Passes.{ShownPass}
 use Rattle.client_session.specs.declared.session.Next.TheVariants.{Line}

@@ -1,5 +1,5 @@
 -- An event as a hold notes it: what it is, and the request of a line
-use Rattle.command_forms.specs.declared.command.Request.{Request}
+use Rattle.command_grammar.specs.declared.command.Request.{Request}
 use Rattle.lobby_model.specs.declared.event.Event.{Event}
 use Rattle.lobby_model.specs.declared.event.Event.TheVariants as event
 use Rattle.lobby_lock.specs.declared.events.Kind.{Kind}

@@ -1,12 +1,12 @@
 //! The events of a hold, which only proofs read.
 
 ghost use Rattle.std.specs.Prelude.{◌≡◌, ◌<◌, ◌++◌, [], ◌∷◌, length};
-ghost use Rattle.command_forms.specs.declared.command.Request.{Request};
+ghost use Rattle.command_grammar.specs.declared.command.Request.{Request};
 ghost use Rattle.lobby_model.specs.declared.event.Event.TheVariants as event;
 ghost use Rattle.lobby_lock.specs.Events.{event_of};
 
 use crate::desk::MOST_EVENTS;
-use command_forms::{Command, Request};
+use command_grammar::{Command, Request};
 use http_server::Log;
 use std::marker::Model;
 

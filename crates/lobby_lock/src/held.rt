@@ -2,7 +2,7 @@
 
 ghost use Rattle.std.specs.Prelude.{◌≡◌, ◌-◌, ◌<◌, ◌≤◌, ◌↔◌, ◌++◌, [], length, take, drop, min, OnOk, OnErr, IfNone};
 ghost use Rattle.std.specs.Prelude.{IfOk, IsTrue, false};
-ghost use Rattle.command_forms.specs.Kinds.{keeps_kinds};
+ghost use Rattle.command_grammar.specs.Kinds.{keeps_kinds};
 ghost use Rattle.lobby_model.specs.declared.event.Event.TheVariants as event;
 ghost use Rattle.lobby_model.specs.Sessions.{has_place};
 ghost use Rattle.lobby_model.specs.State.{hears};

@@ -2,7 +2,7 @@
 use Rattle.std.proofs.Common.{◌≡◌, ℕ, sym, ap, ◌∙◌, true}
 use Rattle.std.specs.Prelude.{Result, Ok, Err, OnOk, IfOk, None, if◌then◌else◌}
 use Rattle.reply_kinds.specs.Replies.{print_all}
-use Rattle.command_forms.specs.declared.command.Request.{Request}
+use Rattle.command_grammar.specs.declared.command.Request.{Request}
 use Rattle.line_words.specs.Table.{same_number}
 use Rattle.lobby_model.specs.declared.event.Event.{Event}
 use Rattle.lobby_model.specs.declared.event.Event.TheVariants as event

@@ -1,7 +1,7 @@
 -- What single commands come to.
 use Rattle.std.proofs.Common.{◌≡◌, ℕ, ℤ, List, [], ◌∷◌, refl, sym, ap, subst, ◌∙◌, true, false}
 use Rattle.std.specs.Prelude.{None, Bool, Result, Ok, Err, is_ok, is_some}
-use Rattle.account_entries.specs.Account.{Account}
+use Rattle.account_book.specs.Account.{Account}
 use Rattle.account_book.specs.declared.error.LoginFault.{LoginFault}
 use Rattle.status_bits.specs.Fields.{merge}
 use Rattle.status_bits.specs.UserWord.{user_table}

@@ -1,7 +1,7 @@
 -- What a command lists.
 use Rattle.std.specs.Prelude.{ℕ, length}
-use Rattle.command_forms.specs.declared.command.Command.{Command}
-use Rattle.command_forms.specs.declared.command.Command.TheVariants as command
+use Rattle.command_grammar.specs.declared.command.Command.{Command}
+use Rattle.command_grammar.specs.declared.command.Command.TheVariants as command
 
 -- how many words or pairs it lists
 abbrev pub list_length : Command → ℕ

@@ -2,7 +2,7 @@
 //! of docs/PROTOCOL.md, "The commands", and the order of checks that of "The texts".
 
 ghost use Rattle.std.specs.Prelude.{◌≡◌, [], ◌∷◌, OnOk, IfOk, IsTrue, Some, None, true, option_copied};
-ghost use Rattle.command_forms.specs.Kinds.{keeps_kinds};
+ghost use Rattle.command_grammar.specs.Kinds.{keeps_kinds};
 ghost use Rattle.lobby_model.specs.State.{State, hears, name_of};
 ghost use Rattle.lobby_model.specs.Outcome.{tell, issuer};
 ghost use Rattle.lobby_model.specs.Commands.{answer};

@@ -1,6 +1,6 @@
 -- What contracts see of a lobby.
 use Rattle.std.specs.Prelude.{ℕ, Bool, List, [], slice_index_or}
-use Rattle.account_entries.specs.Account.{Account}
+use Rattle.account_book.specs.Account.{Account}
 use Rattle.line_words.specs.Table.{ByName, ByNumber, at_number}
 use Rattle.channel_book.specs.Channels.{Channels}
 use Rattle.lobby_model.specs.Configuration.{Configuration}

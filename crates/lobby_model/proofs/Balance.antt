@@ -3,7 +3,7 @@ use Rattle.std.proofs.Common.{Bool, ◌≡◌, ℕ, ◌+◌, ◌<◌, ◌≤◌,
 use Rattle.std.specs.Prelude.{Some, None, if◌then◌else◌, not, ◌&&◌}
 use Rattle.std.specs.Option.{option_map}
 use Rattle.lobby_model.specs.declared.event.Event.{Event}
-use Rattle.account_entries.specs.Account.{Account}
+use Rattle.account_book.specs.Account.{Account}
 use Rattle.line_words.specs.Table.{at_number}
 use Rattle.lobby_model.specs.Configuration.{Configuration}
 use Rattle.lobby_model.specs.State.{State, Client, is_live, is_ended, empty_lobby}

@@ -3,7 +3,7 @@ use Rattle.std.proofs.Common.{◌≡◌, ℕ, List, [], ◌∷◌, ◌++◌, ref
 use Rattle.std.specs.Prelude.{pos, negsuc, codes, Some, None}
 use Prim.Native.String.{String}
 use Rattle.std.specs.Fmt.{digits}
-use Rattle.command_forms.specs.declared.command.Command.TheVariants as command
+use Rattle.command_grammar.specs.declared.command.Command.TheVariants as command
 use Rattle.lobby_model.specs.declared.event.Event.{Event}
 use Rattle.lobby_model.specs.declared.event.Event.TheVariants as event
 use Rattle.line_words.specs.Table.{ByName, map_values}

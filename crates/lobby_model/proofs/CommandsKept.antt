@@ -3,8 +3,8 @@ use Rattle.std.proofs.Common.{◌≡◌, ℕ, List, [], ◌∷◌, refl, true, f
 use Rattle.std.specs.Prelude.{Option, Some, None, IsSome, ◌==◌, is_some}
 use Rattle.account_book.specs.Book.{login}
 use Rattle.reply_kinds.specs.declared.Reply.TheVariants as reply
-use Rattle.command_forms.specs.declared.command.Command.{Command}
-use Rattle.command_forms.specs.declared.command.Command.TheVariants as command
+use Rattle.command_grammar.specs.declared.command.Command.{Command}
+use Rattle.command_grammar.specs.declared.command.Command.TheVariants as command
 use Rattle.status_bits.specs.Fields.{merge}
 use Rattle.status_bits.specs.BattleWord.{battle_table}
 use Rattle.status_bits.specs.UserWord.{user_table}

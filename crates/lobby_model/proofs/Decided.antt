@@ -1,8 +1,8 @@
 -- What an open and a command come to, at the test that decides whether they come to anything.
 use Rattle.std.proofs.Common.{◌≡◌, ℕ, ◌+◌, List, ap, Bool, true, false}
 use Rattle.std.specs.Prelude.{if◌then◌else◌}
-use Rattle.command_forms.specs.declared.command.Command.{Command}
-use Rattle.command_forms.specs.declared.command.Request.{Request}
+use Rattle.command_grammar.specs.declared.command.Command.{Command}
+use Rattle.command_grammar.specs.declared.command.Request.{Request}
 use Rattle.lobby_model.specs.declared.event.Event.TheVariants as event
 use Rattle.lobby_model.specs.State.{State, hears, name_of}
 use Rattle.lobby_model.specs.Outcome.{Outcome, nothing, done}

@@ -1,8 +1,8 @@
 -- Each event keeps the lobby sound, and so does each history.
 use Rattle.std.proofs.Common.{◌≡◌, ℕ, List, [], ◌∷◌, refl, true, false}
 use Rattle.std.specs.Prelude.{Option, Some, None, IsSome, is_some}
-use Rattle.account_entries.specs.Account.{Account}
-use Rattle.command_forms.specs.declared.command.Command.{Command}
+use Rattle.account_book.specs.Account.{Account}
+use Rattle.command_grammar.specs.declared.command.Command.{Command}
 use Rattle.line_words.specs.Table.{at_number}
 use Rattle.lobby_model.specs.declared.event.Event.{Event}
 use Rattle.lobby_model.specs.declared.event.Event.TheVariants as event

@@ -2,9 +2,9 @@
 use Rattle.std.proofs.Common.{◌≡◌, ℕ, List, [], ◌∷◌, ◌++◌, refl, false}
 use Rattle.std.specs.Prelude.{codes, pos, map, replicate, Some, is_some}
 use Rattle.std.specs.Fmt.{digits}
-use Rattle.command_forms.specs.declared.command.Command.{Command}
-use Rattle.command_forms.specs.declared.command.Command.TheVariants as command
-use Rattle.command_forms.specs.declared.command.ReadFault.TheVariants as fault
+use Rattle.command_grammar.specs.declared.command.Command.{Command}
+use Rattle.command_grammar.specs.declared.command.Command.TheVariants as command
+use Rattle.command_grammar.specs.declared.command.ReadFault.TheVariants as fault
 use Rattle.lobby_model.specs.declared.event.Event.{Event}
 use Rattle.lobby_model.specs.declared.event.Event.TheVariants as event
 use Rattle.line_words.specs.Table.{at_name}

@@ -7,7 +7,7 @@ use Rattle.std.specs.Cmp.{nat_cmp_total}
 use Rattle.std.specs.List.{list_any}
 use Rattle.std.specs.FinMap.Entries.{is_sorted, find-put, is_sorted-put}
 use Rattle.reply_kinds.specs.Replies.{print, print_all}
-use Rattle.command_forms.specs.declared.command.Request.{Request}
+use Rattle.command_grammar.specs.declared.command.Request.{Request}
 use Rattle.reply_kinds.specs.declared.Reply.{Reply}
 use Rattle.lobby_model.specs.declared.event.Event.{Event}
 use Rattle.lobby_model.specs.declared.event.Event.TheVariants as event

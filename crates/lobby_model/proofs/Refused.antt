@@ -1,7 +1,7 @@
 -- A command that is refused changes nothing but what is put to its issuer.
 use Rattle.std.proofs.Common.{◌≡◌, ℕ, List, [], ◌++◌, ap, refl, ◌∙◌, true, false}
 use Rattle.std.specs.Prelude.{Some, if◌then◌else◌}
-use Rattle.command_forms.specs.declared.command.Request.{Request}
+use Rattle.command_grammar.specs.declared.command.Request.{Request}
 use Rattle.reply_kinds.specs.declared.Reply.{Reply}
 use Rattle.lobby_model.specs.declared.event.Event.TheVariants as event
 use Rattle.lobby_model.specs.declared.event.Event.{Event}

@@ -2,8 +2,8 @@
 use Rattle.std.proofs.Common.{◌≡◌, ℕ, List, [], ◌∷◌, ◌++◌, refl}
 use Rattle.std.specs.Prelude.{pos, negsuc, codes, map, replicate, Some}
 use Rattle.std.specs.Fmt.{digits}
-use Rattle.command_forms.specs.declared.command.Command.{Command}
-use Rattle.command_forms.specs.declared.command.Command.TheVariants as command
+use Rattle.command_grammar.specs.declared.command.Command.{Command}
+use Rattle.command_grammar.specs.declared.command.Command.TheVariants as command
 use Rattle.lobby_model.specs.declared.event.Event.{Event}
 use Rattle.lobby_model.proofs.Fixture.{anna, bert, cleo, says, says_with, lines, three, gets, each_gets, each, tag, opens, joins, commands_of_members, commands_of_founders, commands_on_user}
 

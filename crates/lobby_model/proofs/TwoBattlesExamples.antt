@@ -2,7 +2,7 @@
 use Rattle.std.proofs.Common.{◌≡◌, List, [], ◌∷◌, ◌++◌, refl, true}
 use Rattle.std.specs.Prelude.{ℕ, pos, codes, map, replicate, Some}
 use Rattle.std.specs.Fmt.{digits}
-use Rattle.command_forms.specs.declared.command.Command.TheVariants as command
+use Rattle.command_grammar.specs.declared.command.Command.TheVariants as command
 use Rattle.lobby_model.specs.declared.event.Event.{Event}
 use Rattle.lobby_model.specs.declared.event.Event.TheVariants as event
 use Rattle.lobby_model.proofs.Fixture.{anna, bert, cleo, right_word, connect, login, says, says_with, lines, three, gets, each_gets, each, tag, opens, joins, commands_on_user}

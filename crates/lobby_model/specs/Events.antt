@@ -1,6 +1,6 @@
 -- What each event comes to, the state after it, and the lines that it sends to one client.
 use Rattle.std.specs.Prelude.{ℕ, ◌+◌, Bool, if◌then◌else◌, List, map, Option, None}
-use Rattle.command_forms.specs.declared.command.Command.{Command}
+use Rattle.command_grammar.specs.declared.command.Command.{Command}
 use Rattle.reply_kinds.specs.declared.Reply.{Reply}
 use Rattle.reply_kinds.specs.Replies.{Line}
 use Rattle.line_words.specs.Table.{same_number}

@@ -3,9 +3,9 @@
 ghost use Rattle.std.specs.Prelude.{◌≡◌, ◌≤◌, ◌<◌, ◌⊎◌, ℕ, List, [], ◌∷◌, ◌++◌, Option, Some, None, IsSome, true};
 ghost use Rattle.std.specs.Prelude.{false};
 ghost use Rattle.std.specs.Option.{unwrap_or};
-ghost use Rattle.account_entries.specs.Account.{Account};
-ghost use Rattle.command_forms.specs.declared.command.Command.{Command};
-ghost use Rattle.command_forms.specs.declared.command.Request.{Request};
+ghost use Rattle.account_book.specs.Account.{Account};
+ghost use Rattle.command_grammar.specs.declared.command.Command.{Command};
+ghost use Rattle.command_grammar.specs.declared.command.Request.{Request};
 ghost use Rattle.reply_kinds.specs.declared.Reply.{Reply};
 ghost use Rattle.lobby_model.specs.declared.event.Event.{Event};
 ghost use Rattle.lobby_model.specs.declared.event.Event.TheVariants.{Say};

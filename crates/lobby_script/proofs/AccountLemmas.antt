@@ -2,13 +2,13 @@
 use Rattle.std.proofs.Common.{◌≡◌, ◌≢◌, ℕ, ◌<◌, ◌^◌, Bool, true, false, List, Option, Some, None, Result, Ok, Err, inl, inr, refl, sym, ap, ◌∙◌, subst, arith, codes, decimal}
 use Rattle.std.specs.Prelude.{◌↔◌, IfErr, IsSomeAnd, MatchOption, unwrap_or}
 use Rattle.std.specs.Borrow.{Bor}
-use Rattle.account_entries.specs.Account.{Account}
-use Rattle.account_entries.specs.declared.error.AccountsError.{AccountsError}
-use Rattle.account_entries.specs.declared.error.AccountsError.TheVariants.{BadField, Memory}
+use Rattle.account_book.specs.Account.{Account}
+use Rattle.account_book.specs.declared.error.AccountsError.{AccountsError}
+use Rattle.account_book.specs.declared.error.AccountsError.TheVariants.{BadField, Memory}
 use Rattle.line_words.specs.Bytes.{has_byte}
-use Rattle.address_words.specs.Words.{PartedAt, LeadsWith}
+use Rattle.proxy_line.specs.Words.{PartedAt, LeadsWith}
 use Rattle.lobby_script.specs.Accounts.{HasFields, IsRankAndCountry}
-use Rattle.address_words.proofs.Parts.{parted_once, never_parted, lacks_digits}
+use Rattle.proxy_line.proofs.Parts.{parted_once, never_parted, lacks_digits}
 
 -- the part before the first space, if there is one
 pub none_parted : (mark : ℕ) (text front behind : List ℕ) → has_byte mark text ≡ false → PartedAt mark text front behind → ⊥

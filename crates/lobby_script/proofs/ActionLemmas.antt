@@ -5,8 +5,8 @@ use Rattle.lobby_script.specs.declared.action.Action.{Action}
 use Rattle.lobby_script.specs.declared.action.Action.TheVariants as action
 use Rattle.lobby_script.specs.declared.action.Setting.TheVariants as setting
 use Rattle.lobby_script.specs.declared.action.Order.TheVariants as order
-use Rattle.address_words.specs.Words.{Finds, PartedAt}
-use Rattle.address_words.proofs.Parts.{parted_once}
+use Rattle.proxy_line.specs.Words.{Finds, PartedAt}
+use Rattle.proxy_line.proofs.Parts.{parted_once}
 use Rattle.lobby_script.specs.Actions.{Arguments, IsAccount, IsLimit, IsMotd, IsOpen, IsPlain, IsRead, IsSend, Says, verb_of}
 
 finds_same : {X : Type 0} (P Q : X → Type 0) (o : Option X) → ((x : X) → P x → Q x) → ((x : X) → Q x → P x) → Finds P o → Finds Q o

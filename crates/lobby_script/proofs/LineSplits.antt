@@ -4,7 +4,7 @@ use Rattle.std.specs.Prelude.{Option, Some}
 use Rattle.std.specs.List.{onto_first}
 use Rattle.std.specs.Borrow.{Bor}
 use Rattle.line_words.specs.Bytes.{has_byte}
-use Rattle.address_words.specs.Words.{PartedAt}
+use Rattle.proxy_line.specs.Words.{PartedAt}
 use Rattle.lobby_script.specs.Lines.{lines_of, lines_left}
 use Rattle.std.proofs.lemmas.Bool.{or_parts}
 

@@ -4,7 +4,7 @@ use Rattle.std.specs.Prelude.{Option, Some, None}
 use Rattle.std.proofs.Math.Seq.{take-append_seam}
 use Rattle.lobby_script.specs.declared.action.Action.{Action}
 use Rattle.lobby_script.specs.declared.player.Player.{Player}
-use Rattle.address_words.specs.Words.{Finds}
+use Rattle.proxy_line.specs.Words.{Finds}
 use Rattle.lobby_script.specs.Actions.{Says}
 use Rattle.lobby_script.specs.Scene.{Scene, is_allowed}
 use Rattle.lobby_script.specs.Lines.{lines_of}

@@ -3,11 +3,11 @@ use Rattle.std.proofs.Common.{◌≡◌, ◌≢◌, ℕ, ◌+◌, ◌*◌, ◌<�
 use Rattle.std.specs.Char.{digit_value}
 use Rattle.std.proofs.lemmas.Bool.{eqb-true}
 use Rattle.std.proofs.lemmas.Fmt.{decimal_injective}
-use Rattle.account_entries.specs.Account.{Account}
-use Rattle.address_words.specs.Words.{IsNumber, LeadsWith, PartedAt, IsAddress, dotted}
+use Rattle.account_book.specs.Account.{Account}
+use Rattle.proxy_line.specs.Words.{IsNumber, LeadsWith, PartedAt, IsAddress, dotted}
 use Rattle.lobby_script.specs.Escapes.{Written, plain, line_feed, tab, carriage_return, backslash, hexadecimal, BeginsWritten, StandsForBytes}
 use Rattle.lobby_script.specs.Accounts.{HasFields, IsRankAndCountry}
-use Rattle.address_words.proofs.Parts.{parted_once, never_parted, lacks_digits}
+use Rattle.proxy_line.proofs.Parts.{parted_once, never_parted, lacks_digits}
 use Rattle.lobby_script.proofs.EscapeLemmas.{front_of_nothing}
 use Rattle.lobby_script.proofs.AccountLemmas.{digits_lack_space, same_parts}
 

@@ -5,7 +5,7 @@ use Rattle.std.specs.Io.KnownBytes.{Appends}
 use Rattle.std.proofs.KnownBytes.{Appends-trans}
 use Rattle.line_framer.specs.Frames.{Parts, parts, with_byte, lines_in}
 use Rattle.line_words.specs.Bytes.{has_byte}
-use Rattle.address_words.specs.Words.{PartedAt}
+use Rattle.proxy_line.specs.Words.{PartedAt}
 use Rattle.std.proofs.lemmas.Bool.{or_parts}
 use Rattle.lobby_script.specs.Acts.{labelled}
 

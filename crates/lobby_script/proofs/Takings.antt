@@ -9,7 +9,7 @@ use Rattle.std.specs.FinMap.Entries.{find, find-put}
 use Rattle.std.proofs.lemmas.Bool.{false≢true}
 use Rattle.line_framer.specs.Frames.{frames, is_spoilt, lines_in, without_cr}
 use Rattle.line_framer.specs.Framed.{Framed, StandsFor}
-use Rattle.account_entries.specs.Account.{Account}
+use Rattle.account_book.specs.Account.{Account}
 use Rattle.lobby_model.specs.declared.event.Event.{Event}
 use Rattle.lobby_model.specs.declared.event.Event.TheVariants as event
 use Rattle.lobby_model.specs.declared.schedule.Step.TheVariants as step

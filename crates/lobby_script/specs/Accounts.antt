@@ -1,7 +1,7 @@
 -- How a script writes an account.
 use Rattle.std.specs.Prelude.{◌≡◌, ℕ, ◌^◌, ◌<◌, ◌⊎◌, true, false, List, ◌∷◌, ◌++◌, codes, decimal}
-use Rattle.account_entries.specs.Account.{Account, is_sound}
-use Rattle.address_words.specs.Words.{PartedAt, LeadsWith}
+use Rattle.account_book.specs.Account.{Account, is_sound}
+use Rattle.proxy_line.specs.Words.{PartedAt, LeadsWith}
 
 -- a rank, and a country behind one space; without it the country is not known
 abbrev pub IsRankAndCountry : List ℕ → ℕ → List ℕ → Type 0

@@ -1,13 +1,13 @@
 -- What a line of a script says.
 use Rattle.std.specs.Prelude.{◌≡◌, ℕ, List, ◌∷◌, ◌++◌, codes, IsTrue}
 use Rattle.line_words.specs.Bytes.{is_text}
-use Rattle.account_entries.specs.Account.{Account}
+use Rattle.account_book.specs.Account.{Account}
 use Rattle.lobby_script.specs.declared.action.Action.{Action}
 use Rattle.lobby_script.specs.declared.action.Action.TheVariants as action
 use Rattle.lobby_script.specs.declared.action.Setting.TheVariants as setting
 use Rattle.lobby_script.specs.declared.action.Order.{Order}
 use Rattle.lobby_script.specs.declared.action.Order.TheVariants as order
-use Rattle.address_words.specs.Words.{IsNumber, LeadsWith, IsAddress}
+use Rattle.proxy_line.specs.Words.{IsNumber, LeadsWith, IsAddress}
 use Rattle.lobby_script.specs.Accounts.{WritesAccount}
 use Rattle.lobby_script.specs.Escapes.{StandsForBytes}
 

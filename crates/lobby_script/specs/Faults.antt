@@ -1,7 +1,7 @@
 -- Which fault is told.
 use Rattle.std.specs.Prelude.{ℕ}
-use Rattle.account_entries.specs.declared.error.AccountsError.{AccountsError}
-use Rattle.account_entries.specs.declared.error.AccountsError.TheVariants as accounts
+use Rattle.account_book.specs.declared.error.AccountsError.{AccountsError}
+use Rattle.account_book.specs.declared.error.AccountsError.TheVariants as accounts
 use Rattle.lobby_model.specs.declared.settings.SettingsError.{SettingsError}
 use Rattle.lobby_model.specs.declared.settings.SettingsError.TheVariants as settings
 use Rattle.lobby_script.specs.declared.fault.LineFault.{LineFault}

@@ -1,6 +1,6 @@
 -- What calls of the hall come to.
 use Rattle.std.specs.Prelude.{List, ◌++◌}
-use Rattle.account_entries.specs.Account.{Account}
+use Rattle.account_book.specs.Account.{Account}
 use Rattle.lobby_model.specs.declared.event.Event.{Event}
 use Rattle.lobby_model.specs.Configuration.{Configuration}
 use Rattle.lobby_model.specs.Schedule.{World}

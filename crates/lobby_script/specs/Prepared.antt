@@ -1,6 +1,6 @@
 -- What a script has set before its first open.
 use Rattle.std.specs.Prelude.{ℕ, Bool, not, List, [], ◌∷◌, ◌++◌, is_some, codes}
-use Rattle.account_entries.specs.Account.{Account}
+use Rattle.account_book.specs.Account.{Account}
 use Rattle.account_book.specs.Book.{account_of}
 use Rattle.lobby_model.specs.Configuration.{Configuration, configuration, is_configuration}
 use Rattle.lobby_script.specs.declared.action.Setting.{Setting}

@@ -1,13 +1,13 @@
 //! The accounts that a script writes.
 
 ghost use Rattle.std.specs.Prelude.{◌≡◌, ◌<◌, ℕ, List, IfOk, IfSome, IsSomeAnd};
-ghost use Rattle.account_entries.specs.Account.{Account as Written};
-ghost use Rattle.address_words.specs.Words.{Finds};
+ghost use Rattle.account_book.specs.Account.{Account as Written};
+ghost use Rattle.proxy_line.specs.Words.{Finds};
 ghost use Rattle.lobby_script.specs.Accounts.{HasFields, IsRankAndCountry, WritesAccount};
 ghost use Rattle.lobby_script.specs.Fields.{stated_by};
 
 use account_book::{Account, AccountsError};
-use address_words::{number, number_before, part_at};
+use proxy_line::{number, number_before, part_at};
 use std::alloc::{AllocError, Global};
 
 /// A country that is not known.

@@ -1,16 +1,16 @@
 //! What the lines of a script ask for.
 
 ghost use Rattle.std.specs.Prelude.{◌≡◌, IfOk};
-ghost use Rattle.address_words.specs.Words.{Finds};
+ghost use Rattle.proxy_line.specs.Words.{Finds};
 ghost use Rattle.lobby_script.specs.Actions.{Arguments, IsAccount, IsLimit, IsMotd, IsOpen, IsPlain, IsRead, IsSend};
 ghost use Rattle.lobby_script.specs.Actions.{Says, verb_of};
 
 use crate::accounts::read_account;
 use crate::escapes::unescape;
 use account_book::Account;
-use address_words::{address, number, number_before, part_at};
 use line_words::{TextBuf, is_text};
 use lobby_model::schedule::Piece;
+use proxy_line::{address, number, number_before, part_at};
 use std::alloc::{AllocError, Global};
 
 /// What a line of a script asks for. A label names a client within the script.

@@ -4,7 +4,7 @@ ghost use Rattle.std.specs.Prelude.{◌≡◌};
 ghost use Rattle.std.specs.Iterator.{YieldsFirstRef, item_count};
 ghost use Rattle.lobby_script.specs.Lines.{lines_left, lines_of};
 
-use address_words::part_at;
+use proxy_line::part_at;
 
 /// Yields the parts of a script between its line feeds: behind a last line feed stands one empty
 /// part more.

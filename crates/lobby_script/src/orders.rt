@@ -1,7 +1,7 @@
 //! What is done for a client, as steps of the hall.
 
 ghost use Rattle.std.specs.Prelude.{◌≡◌, List, IfOk, OnOk};
-ghost use Rattle.account_entries.specs.Account.{Account};
+ghost use Rattle.account_book.specs.Account.{Account};
 ghost use Rattle.lobby_model.specs.declared.event.Event.{Event};
 ghost use Rattle.lobby_model.specs.Configuration.{Configuration};
 ghost use Rattle.lobby_model.specs.Schedule.{World, StepGives};

@@ -7,9 +7,9 @@ ghost use Rattle.lobby_script.specs.Acts.{labelled};
 ghost use Rattle.lobby_script.specs.declared.fault.LineFault.TheVariants as fault;
 
 use crate::fault::LineFault;
-use address_words::part_at;
 use itoa::Buffer;
 use lobby_hall::Hall;
+use proxy_line::part_at;
 use std::io;
 use std::io::Write;
 

@@ -2,7 +2,7 @@
 use Rattle.std.proofs.Common.{◌≡◌, ℕ, List, Option, None, Result, Ok, Err, refl, sym, subst}
 use Rattle.toml_fields.specs.declared.fault.FieldFault.{FieldFault}
 use Rattle.toml_fields.specs.declared.fault.FieldFault.TheVariants.{NotAllowed}
-use Rattle.address_words.specs.Words.{Finds, IsSocketAddress}
+use Rattle.proxy_line.specs.Words.{Finds, IsSocketAddress}
 use Rattle.lobby_setup.specs.Written.{IsWritten}
 
 pub no_endpoint : (said : Result (List ℕ) FieldFault) (text bytes : List ℕ) (found : Option (List ℕ × ℕ)) → Ok text ≡ said → bytes ≡ text

@@ -5,7 +5,7 @@ use Rattle.toml.specs.Data.{Data, Items, no_items, Members}
 use Rattle.toml_fields.specs.Fields.{◌>>=◌, flag, list, number, required, text}
 use Rattle.toml_fields.specs.declared.fault.FieldFault.{FieldFault}
 use Rattle.toml_fields.specs.declared.fault.FieldFault.TheVariants.{NotAllowed}
-use Rattle.address_words.specs.Words.{IsSocketAddress}
+use Rattle.proxy_line.specs.Words.{IsSocketAddress}
 use Rattle.lobby_model.specs.Configuration.{Configuration, configuration, is_version}
 use Rattle.lobby_setup.specs.At.{at, field}
 use Rattle.lobby_setup.specs.Keys.{name_of}

@@ -3,7 +3,7 @@ use Rattle.std.specs.Prelude.{◌≡◌, ℕ, ◌+◌, ◌≤◌, List, [], ◌�
 use Rattle.toml.specs.Data.{Items, no_items, item, Members}
 use Rattle.toml_fields.specs.Fields.{◌>>=◌, list, text}
 use Rattle.toml_fields.specs.declared.fault.FieldFault.{FieldFault}
-use Rattle.address_words.specs.Words.{IsAddress}
+use Rattle.proxy_line.specs.Words.{IsAddress}
 use Rattle.proxy_line.specs.Sets.{listed}
 use Rattle.proxy_line.specs.declared.proxies.Proxies as set
 use Rattle.lobby_setup.specs.At.{field}

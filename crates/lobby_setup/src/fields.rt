@@ -3,7 +3,7 @@
 ghost use Rattle.std.specs.Prelude.{◌≡◌, ◌≤◌, IfOk, IsTrue, None, true, false};
 ghost use Rattle.toml.specs.View.{table_view, items_view};
 ghost use Rattle.toml_fields.specs.Fields.{flag, lent, number, required, seen_list, text};
-ghost use Rattle.address_words.specs.Words.{IsSocketAddress};
+ghost use Rattle.proxy_line.specs.Words.{IsSocketAddress};
 ghost use Rattle.lobby_model.specs.Configuration.{is_configuration, is_version};
 ghost use Rattle.lobby_setup.specs.Keys.{name_of};
 ghost use Rattle.lobby_setup.specs.Motd.{motd_fault};
@@ -17,12 +17,11 @@ use crate::error::Refusal;
 use crate::key::Key;
 use crate::level::log_field;
 use crate::motd::motd_fault;
-use address_words::socket_address;
 use lobby_model::WORKERS;
 use lobby_model::settings::{
     DEFAULT_OUTBOX_LIMIT, GREATEST_OUTBOX_LIMIT, LEAST_OUTBOX_LIMIT, is_version,
 };
-use proxy_line::Proxies;
+use proxy_line::{Proxies, socket_address};
 use server_log::LogLevel;
 use toml::{Table, Value};
 use toml_fields::{FieldFault, flag_or, list_or_empty, number_or, text_at, text_or};

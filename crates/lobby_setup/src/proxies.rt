@@ -7,8 +7,7 @@ ghost use Rattle.lobby_setup.specs.Proxies.{all_listed, AreProxies, IsProxy, Say
 
 use crate::error::Refusal;
 use crate::key::Key;
-use address_words::address;
-use proxy_line::{MOST_PROXIES, Proxies};
+use proxy_line::{MOST_PROXIES, Proxies, address};
 use toml::{Table, Value};
 use toml_fields::{FieldFault, list_or_empty, text_of};
 

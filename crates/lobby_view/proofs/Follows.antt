@@ -1,11 +1,11 @@
 -- No event looks at unread bytes, save for how many they are: it comes to the same where some are blotted out.
 use Rattle.std.proofs.Common.{◌≡◌, ℕ, ◌+◌, ℤ, List, [], ◌∷◌, ◌++◌, refl, sym, ap, ◌∙◌, Bool, true, false, not}
 use Rattle.std.specs.Prelude.{Option, Some, None, ◌&&◌, nat_lt, if◌then◌else◌, is_some, Result, Ok, Err}
-use Rattle.command_forms.specs.declared.command.Command.{Command}
-use Rattle.command_forms.specs.declared.command.Command.TheVariants as command
+use Rattle.command_grammar.specs.declared.command.Command.{Command}
+use Rattle.command_grammar.specs.declared.command.Command.TheVariants as command
 use Rattle.reply_kinds.specs.declared.Reply.TheVariants as reply
 use Rattle.reply_kinds.specs.Replies.{print_all}
-use Rattle.account_entries.specs.Account.{Account}
+use Rattle.account_book.specs.Account.{Account}
 use Rattle.account_book.specs.Book.{login}
 use Rattle.account_book.specs.declared.error.LoginFault.{LoginFault}
 use Rattle.line_words.specs.Table.{ByNumber, at_number, at_name, same_name, without_number, same_number, map_values}

@@ -7,12 +7,12 @@ use Rattle.reply_kinds.specs.declared.Reply.{Reply}
 use Rattle.reply_kinds.specs.declared.Reply.TheVariants as reply
 use Rattle.reply_kinds.specs.Kinds.{fits}
 use Rattle.reply_kinds.specs.Replies.{status_word}
-use Rattle.command_forms.specs.declared.command.Command.{Command}
-use Rattle.command_forms.specs.declared.command.Command.TheVariants as command
-use Rattle.command_forms.specs.declared.command.ReadFault.{ReadFault}
-use Rattle.command_forms.specs.declared.command.ReadFault.TheVariants.{UnknownCommand, MissingArgument, BadNumber, BadName, BadByte, BadPair}
-use Rattle.command_forms.specs.Kinds.{keeps_kinds, is_up_to, is_some_text}
-use Rattle.command_forms.specs.Sizes.{argument_bytes, optional_size}
+use Rattle.command_grammar.specs.declared.command.Command.{Command}
+use Rattle.command_grammar.specs.declared.command.Command.TheVariants as command
+use Rattle.command_grammar.specs.declared.command.ReadFault.{ReadFault}
+use Rattle.command_grammar.specs.declared.command.ReadFault.TheVariants.{UnknownCommand, MissingArgument, BadNumber, BadName, BadByte, BadPair}
+use Rattle.command_grammar.specs.Kinds.{keeps_kinds, is_up_to, is_some_text}
+use Rattle.command_grammar.specs.Sizes.{argument_bytes, optional_size}
 use Rattle.status_bits.specs.Fields.{Field, merge}
 use Rattle.status_bits.specs.UserWord.{user_table}
 use Rattle.status_bits.specs.BattleWord.{battle_table, team, ally, player, handicap}

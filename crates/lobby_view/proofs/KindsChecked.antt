@@ -10,7 +10,7 @@ use Rattle.reply_kinds.specs.declared.Reply.{Reply}
 use Rattle.reply_kinds.specs.declared.Reply.TheVariants as reply
 use Rattle.reply_kinds.specs.Kinds.{Words, fits, all_fit, pairs_text, words_text, optional_text, pair_text}
 use Rattle.reply_kinds.specs.Replies.{status_word}
-use Rattle.command_forms.specs.Sizes.{size, pair_size, optional_size}
+use Rattle.command_grammar.specs.Sizes.{size, pair_size, optional_size}
 use Rattle.status_bits.specs.Fields.{Field, with_number}
 use Rattle.status_bits.specs.BattleWord.{battle_table}
 use Rattle.line_words.specs.Bytes.{is_word, is_text}

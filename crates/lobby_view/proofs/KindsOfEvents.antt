@@ -6,15 +6,15 @@ use Rattle.std.specs.Ordering.{nat_cmp}
 use Rattle.std.specs.FinMap.{nat_cmp-IsAntisymmetric}
 use Rattle.std.specs.Str.{bytes_eq}
 use Rattle.std.specs.Option.{option_map_or}
-use Rattle.account_entries.specs.Account.{Account}
+use Rattle.account_book.specs.Account.{Account}
 use Rattle.account_book.specs.Book.{login, account_of}
 use Rattle.account_book.specs.declared.error.LoginFault.{LoginFault}
 use Rattle.account_book.specs.declared.error.LoginFault.TheVariants.{NoAccount, BadPassword}
 use Rattle.reply_kinds.specs.declared.Reply.TheVariants as reply
-use Rattle.command_forms.specs.declared.command.Command.{Command}
-use Rattle.command_forms.specs.declared.command.Command.TheVariants as command
-use Rattle.command_forms.specs.Kinds.{keeps_kinds}
-use Rattle.command_forms.specs.Sizes.{argument_bytes}
+use Rattle.command_grammar.specs.declared.command.Command.{Command}
+use Rattle.command_grammar.specs.declared.command.Command.TheVariants as command
+use Rattle.command_grammar.specs.Kinds.{keeps_kinds}
+use Rattle.command_grammar.specs.Sizes.{argument_bytes}
 use Rattle.line_words.specs.Bytes.{is_word, is_sentence}
 use Rattle.line_words.specs.Kinds.{is_wide}
 use Rattle.line_words.specs.Table.{ByNumber, at_number, at_name, put_number, without_number, change_number, name_cmp}

@@ -13,7 +13,7 @@ use Rattle.line_words.specs.Table.{ByNumber, ByName, at_number, put_name, name_c
 use Rattle.line_words.proofs.Tables.{name_cmp_same}
 use Rattle.channel_book.specs.Channels.{Channels, names_in, channels_of, all_left}
 use Rattle.room_lists.specs.Room.{Room, Asker, has_member, with_member, without_member, with_asker, without_asker}
-use Rattle.account_entries.specs.Account.{Account}
+use Rattle.account_book.specs.Account.{Account}
 use Rattle.lobby_model.specs.State.{State, Client, User, user_with, Info, Battle, asked_by, battle_of, updated}
 use Rattle.lobby_model.specs.Outcome.{Happening, Letter, happens, tell, user, users, everyone}
 use Rattle.lobby_model.specs.Channels.{joins, leaves, leaves_all}

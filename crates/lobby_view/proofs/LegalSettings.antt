@@ -7,7 +7,7 @@ use Rattle.std.specs.List.{AllByRecursion, list_all}
 use Rattle.std.proofs.lemmas.Bool.{and_parts, and_from, leb-true, le-leb, eqb-true}
 use Rattle.line_words.specs.Bytes.{is_name, is_word, is_word_byte, is_text}
 use Rattle.line_words.proofs.WordLemmas.{upper_case_in_word}
-use Rattle.account_entries.specs.Account.{Account, IsHeld, is_country, is_password_word}
+use Rattle.account_book.specs.Account.{Account, IsHeld, is_country, is_password_word}
 use Rattle.reply_kinds.specs.declared.Reply.TheVariants as reply
 use Rattle.reply_kinds.proofs.Bytes.{all_more}
 use Rattle.status_bits.specs.UserWord.{account_word}

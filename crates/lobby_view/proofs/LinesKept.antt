@@ -2,7 +2,7 @@
 use Rattle.std.proofs.Common.{◌≡◌, ℕ, ◌≤◌, List, [], ◌∷◌, false, length, arith, length-append}
 use Rattle.std.specs.Prelude.{IsTrue}
 use Rattle.std.specs.List.{AllByRecursion}
-use Rattle.account_entries.specs.Account.{Account, IsHeld}
+use Rattle.account_book.specs.Account.{Account, IsHeld}
 use Rattle.line_framer.specs.Frames.{is_spoilt}
 use Rattle.reply_kinds.specs.Replies.{Line, Fits, IsId, line_text, print}
 use Rattle.lobby_model.specs.declared.event.Event.{Event}

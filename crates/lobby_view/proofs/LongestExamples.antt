@@ -3,7 +3,7 @@
 use Rattle.std.proofs.Common.{◌≡◌, ℕ, zero, suc, List, [], ◌∷◌, ◌++◌, refl, Bool, true, length}
 use Rattle.std.specs.Prelude.{pos, codes, map, Some, false, ◌&&◌, ◌==◌}
 use Rattle.std.specs.Fmt.{digits}
-use Rattle.command_forms.specs.declared.command.Command.TheVariants as command
+use Rattle.command_grammar.specs.declared.command.Command.TheVariants as command
 use Rattle.line_words.specs.Table.{ByNumber, same_name}
 use Rattle.reply_kinds.specs.Replies.{print}
 use Rattle.lobby_model.specs.declared.event.Event.{Event}

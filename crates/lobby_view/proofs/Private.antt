@@ -4,7 +4,7 @@ use Rattle.std.specs.Prelude.{Option, Some, None, ◌||◌, ◌&&◌, if◌then�
 use Rattle.reply_kinds.specs.declared.Reply.{Reply}
 use Rattle.reply_kinds.specs.declared.Reply.TheVariants as reply
 use Rattle.reply_kinds.specs.Replies.{print, print_all, id_text}
-use Rattle.command_forms.specs.declared.command.Command.TheVariants as command
+use Rattle.command_grammar.specs.declared.command.Command.TheVariants as command
 use Rattle.line_words.specs.Table.{at_number, at_name, same_name, same_number, map_values}
 use Rattle.line_words.proofs.Tables.{same_name_is}
 use Rattle.lobby_model.specs.declared.event.Event.{Event}

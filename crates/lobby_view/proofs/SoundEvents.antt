@@ -8,8 +8,8 @@ use Rattle.line_words.specs.Bytes.{is_word, is_word_byte}
 use Rattle.reply_kinds.specs.Replies.{IsId}
 use Rattle.reply_kinds.proofs.Bytes.{all_append}
 use Rattle.reply_kinds.proofs.Decimals.{signed_words}
-use Rattle.command_forms.specs.Kinds.{keeps_kinds}
-use Rattle.command_forms.specs.Sizes.{argument_bytes}
+use Rattle.command_grammar.specs.Kinds.{keeps_kinds}
+use Rattle.command_grammar.specs.Sizes.{argument_bytes}
 use Rattle.command_grammar.proofs.Bounds.{request_fits, request_id_keeps, request_keeps}
 use Rattle.lobby_model.specs.declared.event.Event.{Event}
 use Rattle.lobby_model.specs.declared.event.Event.TheVariants as event

@@ -8,7 +8,7 @@ use Rattle.room_lists.specs.Room.{Room, Member, Bot}
 use Rattle.reply_fields.specs.Fields.{piece_at, natural, whole, number_in, number_at, wide_at, flag_at, word_at, words_at, name_at, names_at, optional_at, sentence_at, text_at, pair_in, pairs_at, many}
 use Rattle.reply_reader.specs.Reading.{shaped}
 use Rattle.reply_reader.specs.Lines.{named, read_body, read_numbered, read_line}
-use Rattle.command_forms.specs.declared.command.Command.TheVariants as command
+use Rattle.command_grammar.specs.declared.command.Command.TheVariants as command
 use Rattle.lobby_model.specs.declared.event.Event.{Event}
 use Rattle.lobby_model.proofs.Fixture as fixture
 use Rattle.lobby_model.proofs.Fixture.{anna, bert, cleo, main, lines, tag, says, three, opens, gets}

@@ -2,7 +2,7 @@
 use Rattle.std.proofs.Common.{◌≡◌, ℕ, List, [], ◌++◌, sym, ap, ◌∙◌, true, false, append-nil}
 use Rattle.std.specs.Prelude.{Some, not, ◌&&◌, IsTrue}
 use Rattle.std.specs.List.{AllByRecursion}
-use Rattle.account_entries.specs.Account.{Account, IsHeld}
+use Rattle.account_book.specs.Account.{Account, IsHeld}
 use Rattle.line_words.specs.Table.{at_number}
 use Rattle.lobby_model.specs.declared.event.Event.{Event}
 use Rattle.lobby_model.specs.declared.event.Phase.TheVariants.{In}

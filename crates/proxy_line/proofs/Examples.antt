@@ -3,7 +3,7 @@ use Rattle.std.proofs.Common.{◌≡◌, ◌≢◌, ℕ, ◌≤◌, ◌⊎◌, i
 use Rattle.std.specs.Prelude.{codes, reverse, replicate}
 use Rattle.std.specs.Fmt.{digits}
 use Rattle.std.proofs.lemmas.List.{reverse-append}
-use Rattle.address_words.specs.Words.{IsAddress}
+use Rattle.proxy_line.specs.Words.{IsAddress}
 use Rattle.proxy_line.specs.Routes.{IsRoute}
 use Rattle.proxy_line.specs.Lines.{IsLineOf, IsProxyLine, Says}
 use Rattle.proxy_line.specs.declared.line.ProxySource.{ProxySource}

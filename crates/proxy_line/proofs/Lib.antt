@@ -1,3 +1,6 @@
+pub mod Parts
+pub mod Readings
+pub mod SocketAddresses
 pub mod Texts
 pub mod Sources
 pub mod Ends

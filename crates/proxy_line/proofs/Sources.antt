@@ -2,8 +2,8 @@
 use Rattle.std.proofs.Common.{◌≡◌, ℕ, inl, inr, List, ◌++◌, Option, Some, None, sym, ap, ◌∙◌, subst, refl, get_or, arith}
 use Rattle.std.specs.Prelude.{codes, option_map}
 use Rattle.std.proofs.lemmas.List.{append_cancel_left}
-use Rattle.address_words.specs.Words.{Finds}
-use Rattle.address_words.proofs.Readings.{finds_none}
+use Rattle.proxy_line.specs.Words.{Finds}
+use Rattle.proxy_line.proofs.Readings.{finds_none}
 use Rattle.proxy_line.specs.Routes.{IsRoute}
 use Rattle.proxy_line.specs.Lines.{Says}
 use Rattle.proxy_line.specs.declared.line.ProxySource.{ProxySource}

@@ -1,8 +1,8 @@
 -- Where a text parts at a byte that its front lacks.
 use Rattle.std.proofs.Common.{◌≡◌, ℕ, false, List, ◌∷◌, ◌++◌, sym, ◌∙◌, subst, arith}
 use Rattle.line_words.specs.Bytes.{has_byte}
-use Rattle.address_words.specs.Words.{PartedAt}
-use Rattle.address_words.proofs.Parts.{lacks_digits, parted_once}
+use Rattle.proxy_line.specs.Words.{PartedAt}
+use Rattle.proxy_line.proofs.Parts.{lacks_digits, parted_once}
 use Rattle.proxy_line.specs.Routes.{ArePorts, IsSomePort}
 
 -- the part before a byte that the front lacks, and the part behind it

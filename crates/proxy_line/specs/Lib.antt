@@ -1,3 +1,4 @@
+pub mod Words
 pub mod Routes
 pub mod Lines
 pub mod Steps

@@ -1,6 +1,6 @@
 -- From where to where a connection goes: SOURCE DESTINATION SOURCE_PORT DESTINATION_PORT.
 use Rattle.std.specs.Prelude.{◌≡◌, ℕ, List, ◌∷◌, ◌++◌}
-use Rattle.address_words.specs.Words.{IsAddress, IsPort}
+use Rattle.proxy_line.specs.Words.{IsAddress, IsPort}
 
 -- an address, a space, and the rest
 abbrev pub LeadsWithAddress : List ℕ → List ℕ → List ℕ → Type 0

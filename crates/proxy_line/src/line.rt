@@ -1,11 +1,12 @@
 //! The whole line.
 
 ghost use Rattle.std.specs.Prelude.{◌≡◌, ℕ, ◌↔◌, List, IfSome, IsSomeAnd, IsTrue};
-ghost use Rattle.address_words.specs.Words.{Finds, IsPort};
+ghost use Rattle.proxy_line.specs.Words.{Finds, IsPort};
 ghost use Rattle.proxy_line.specs.Routes.{ArePorts, IsRoute, IsSomePort, LeadsWithAddress};
 ghost use Rattle.proxy_line.specs.Lines.{address, IsLineOf, IsProxyLine, Says};
 
-use address_words::{address, part_at, port};
+use crate::addresses::{address, port};
+use crate::numbers::part_at;
 
 /// The most bytes that a line has, its CR LF counted.
 pub const LONGEST: usize = 107;

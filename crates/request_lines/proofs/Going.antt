@@ -4,8 +4,8 @@ use Rattle.std.proofs.lemmas.List.{append-nil, drop_more, drop_all}
 use Rattle.std.specs.Prelude.{Bool, true, false, ◌||◌, ◌==◌, Result, Ok, Err}
 use Rattle.line_words.specs.Bytes.{is_key, is_sentence, is_word}
 use Rattle.line_words.specs.declared.lists.Pair.{Pair}
-use Rattle.command_forms.specs.Table as kind
-use Rattle.command_forms.specs.Table.{Kind}
+use Rattle.command_grammar.specs.Table as kind
+use Rattle.command_grammar.specs.Table.{Kind}
 use Rattle.reply_kinds.specs.Kinds.{words_text, pairs_text}
 use Rattle.request_printer.specs.Writing.{mark_behind}
 use Rattle.lobby_lines.specs.declared.fields.FieldRow.{FieldRow}

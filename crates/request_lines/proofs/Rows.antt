@@ -3,7 +3,7 @@ use Rattle.std.proofs.Common.{◌≡◌, ◌-◌, ◌≤◌, ℕ, List, [], ◌�
 use Rattle.std.specs.Prelude.{Option, Some, None, IfSome, IfNone, slice_get, suc, zero}
 use Rattle.std.proofs.lemmas.Option.{slice_get_past, slice_get_read}
 use Rattle.std.specs.Slice.{IsItemAt}
-use Rattle.command_forms.specs.Table.{Entry, entries}
+use Rattle.command_grammar.specs.Table.{Entry, entries}
 use Rattle.request_lines.specs.declared.request_table.RequestRow.{RequestRow}
 use Rattle.request_lines.specs.Requests.{entry_at}
 use Rattle.request_lines.specs.Table.{AreRows, IsRow, IsRowOf}

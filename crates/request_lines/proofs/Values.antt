@@ -3,12 +3,12 @@ use Rattle.std.proofs.Common.{◌≡◌, ◌++◌, ◌<◌, ◌≤◌, ◌∙◌
 use Rattle.std.specs.Prelude.{Bool, true, false, not, ◌&&◌, ◌||◌, ◌==◌, nat_le, ℤ, pos, negsuc, Option, Some, None, Result, Ok, Err, slice_get, zero, suc}
 use Rattle.std.proofs.lemmas.Bool.{le-leb}
 use Rattle.line_words.specs.Kinds.{is_wide}
-use Rattle.command_forms.specs.declared.command.Command.{Command}
-use Rattle.command_forms.specs.declared.command.Request.{Request}
-use Rattle.command_forms.specs.Forms.{applied, command_named}
-use Rattle.command_forms.specs.Table as kind
-use Rattle.command_forms.specs.Table.{Kind, Value, Values, Entry, Arguments, given, arguments_of, entries, battle_entries, room_entries, host_entries}
-use Rattle.command_forms.proofs.Bounds.{entry_again}
+use Rattle.command_grammar.specs.declared.command.Command.{Command}
+use Rattle.command_grammar.specs.declared.command.Request.{Request}
+use Rattle.command_grammar.specs.Forms.{applied, command_named}
+use Rattle.command_grammar.specs.Table as kind
+use Rattle.command_grammar.specs.Table.{Kind, Value, Values, Entry, Arguments, given, arguments_of, entries, battle_entries, room_entries, host_entries}
+use Rattle.command_grammar.proofs.ArgumentBounds.{entry_again}
 use Rattle.command_grammar.specs.Reads.{id_limit}
 use Rattle.reply_kinds.specs.Replies.{id_text}
 use Rattle.request_printer.specs.Faults.{is_absent, all_absent, has_gap, in_range, all_listed, is_id, fault_in, fault_of, line_limit}

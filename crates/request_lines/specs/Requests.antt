@@ -5,10 +5,10 @@ use Rattle.std.specs.Prelude.{List, [], ◌∷◌, length, take, drop, slice_get
 use Rattle.line_words.specs.Bytes.{is_word, is_name, is_key, is_sentence, is_text}
 use Rattle.line_words.specs.Kinds.{is_wide}
 use Rattle.line_words.specs.declared.lists.Pair.{Pair}
-use Rattle.command_forms.specs.declared.command.Request.{Request}
-use Rattle.command_forms.specs.Forms.{applied}
-use Rattle.command_forms.specs.Table as kind
-use Rattle.command_forms.specs.Table.{Kind, Value, Values, Entry, entries}
+use Rattle.command_grammar.specs.declared.command.Request.{Request}
+use Rattle.command_grammar.specs.Forms.{applied}
+use Rattle.command_grammar.specs.Table as kind
+use Rattle.command_grammar.specs.Table.{Kind, Value, Values, Entry, entries}
 use Rattle.command_grammar.specs.Reads.{id_limit}
 use Rattle.request_printer.specs.Faults.{is_absent}
 use Rattle.lobby_lines.specs.declared.fields.FieldRow.{FieldRow}

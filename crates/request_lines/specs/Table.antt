@@ -1,6 +1,6 @@
 -- The table of requests in code, and that of commands.
 use Rattle.std.specs.Prelude.{◌≡◌, List, [], ◌∷◌, Option, Some, None, map}
-use Rattle.command_forms.specs.Table.{Entry}
+use Rattle.command_grammar.specs.Table.{Entry}
 use Rattle.request_lines.specs.declared.request_table.RequestRow.{RequestRow}
 use Rattle.request_lines.specs.Requests.{kind_of}
 

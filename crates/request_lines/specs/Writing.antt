@@ -1,8 +1,8 @@
 -- A request written from its fields.
 use Rattle.std.specs.Prelude.{◌≡◌, ◌++◌, ℕ, Bool, false, ◌||◌, List, [], ◌∷◌, Result, Ok, Err}
 use Rattle.line_words.specs.Bytes.{is_key, is_sentence}
-use Rattle.command_forms.specs.Table.{Kind}
-use Rattle.command_forms.specs.declared.command.Request.{Request}
+use Rattle.command_grammar.specs.Table.{Kind}
+use Rattle.command_grammar.specs.declared.command.Request.{Request}
 use Rattle.reply_kinds.specs.Kinds.{words_text, pairs_text}
 use Rattle.request_printer.specs.Faults.{is_absent, Printed, Refuses}
 use Rattle.request_printer.specs.Writing.{written, mark_behind}

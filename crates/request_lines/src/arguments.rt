@@ -4,7 +4,7 @@
 //! absent. Where it fails a part may be written.
 
 ghost use Rattle.std.specs.Prelude.{◌≡◌, ◌||◌, [], IfErr, IfOk, Ok, false, map};
-ghost use Rattle.command_forms.specs.Table as kind;
+ghost use Rattle.command_grammar.specs.Table as kind;
 ghost use Rattle.request_printer.specs.Writing.{mark_behind};
 ghost use Rattle.request_lines.specs.Requests.{kind_of, unless_skipped};
 ghost use Rattle.request_lines.specs.Writing.{Blames, Put, PutAll, pair_part, pairs_put, part, parts, words_put};

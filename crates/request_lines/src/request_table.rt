@@ -1,7 +1,7 @@
 //! The table of requests: of each its command word and the kinds of its arguments.
 
 ghost use Rattle.std.specs.Prelude.{◌≡◌, IfNone, IfSome, None};
-ghost use Rattle.command_forms.specs.Table.{entries};
+ghost use Rattle.command_grammar.specs.Table.{entries};
 ghost use Rattle.request_lines.specs.Requests.{entry_at};
 ghost use Rattle.request_lines.specs.Table.{AreRows, IsRowOf};
 
@@ -218,7 +218,7 @@ pub(crate) fn row_of(kind: u32) -> Option<&'static RequestRow>
 }
 
 /// The whole table.
-#[tactic(auto, unfolding(command_forms::specs::Table::entries, command_forms::specs::Table::battle_entries, command_forms::specs::Table::room_entries, command_forms::specs::Table::host_entries))]
+#[tactic(auto, unfolding(command_grammar::specs::Table::entries, command_grammar::specs::Table::battle_entries, command_grammar::specs::Table::room_entries, command_grammar::specs::Table::host_entries))]
 fn requests() -> &'static [RequestRow]
     ensures { AreRows entries result.now }
 {

@@ -15,11 +15,11 @@ use Rattle.line_words.specs.Parts.{from, between, tails, Ends}
 use Rattle.line_words.specs.Words.{EndsWord, NextWord}
 use Rattle.line_words.specs.declared.lists.Pair.{Pair}
 use Rattle.line_words.proofs.Splitting.{lacks, before-append, from-append, between-cons}
-use Rattle.command_forms.specs.declared.command.ReadFault.TheVariants as fault
-use Rattle.command_forms.specs.declared.command.Command.{Command}
-use Rattle.command_forms.specs.Arguments.{IsFault, Word, OptionalWord, Name, Number, Natural, Wide, Flag, Sentence}
-use Rattle.command_forms.specs.Arguments.{PairsIn, AtLeastOne, Pairs, AreWords, Words}
-use Rattle.command_forms.specs.Kinds.{are_some}
+use Rattle.command_grammar.specs.declared.command.ReadFault.TheVariants as fault
+use Rattle.command_grammar.specs.declared.command.Command.{Command}
+use Rattle.command_grammar.specs.Arguments.{IsFault, Word, OptionalWord, Name, Number, Natural, Wide, Flag, Sentence}
+use Rattle.command_grammar.specs.Arguments.{PairsIn, AtLeastOne, Pairs, AreWords, Words}
+use Rattle.command_grammar.specs.Kinds.{are_some}
 use Rattle.reply_kinds.specs.Kinds.{words_text, pair_text, pairs_text}
 use Rattle.reply_kinds.proofs.Bytes.{all_append, all_more, word_name}
 use Rattle.request_printer.proofs.Numbers.{decimal_word, decimal_numeral, signed_word, signed_numeral, wide_low}

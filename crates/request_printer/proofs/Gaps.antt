@@ -8,17 +8,17 @@ use Rattle.std.proofs.lemmas.Option.{same_Some}
 use Rattle.line_words.specs.Bytes.{has_byte, is_text, is_word}
 use Rattle.line_words.specs.Kinds.{is_pair, is_wide}
 use Rattle.line_words.specs.Words.{NextWord}
-use Rattle.command_forms.specs.declared.command.Command.{Command}
-use Rattle.command_forms.specs.declared.command.Command.TheVariants as command
-use Rattle.command_forms.specs.declared.command.Request.{Request}
-use Rattle.command_forms.specs.declared.command.ReadFault.TheVariants as fault
-use Rattle.command_forms.specs.Arguments.{IsFault, AtLeastOne, AreWords}
-use Rattle.command_forms.specs.Forms.{applied, Argument, Row, is_same, entry_named, command_named, Form}
-use Rattle.command_forms.specs.Table as kind
-use Rattle.command_forms.specs.Table.{Kind, Value, Values, Maker, Arguments, Entry, entries, given, arguments_of}
-use Rattle.command_forms.proofs.Bounds.{entry_again}
-use Rattle.command_forms.proofs.Slices.{text_back}
-use Rattle.command_forms.proofs.Taken.{IsUnread, EachFits, unless_unread, if_so}
+use Rattle.command_grammar.specs.declared.command.Command.{Command}
+use Rattle.command_grammar.specs.declared.command.Command.TheVariants as command
+use Rattle.command_grammar.specs.declared.command.Request.{Request}
+use Rattle.command_grammar.specs.declared.command.ReadFault.TheVariants as fault
+use Rattle.command_grammar.specs.Arguments.{IsFault, AtLeastOne, AreWords}
+use Rattle.command_grammar.specs.Forms.{applied, Argument, Row, is_same, entry_named, command_named, Form}
+use Rattle.command_grammar.specs.Table as kind
+use Rattle.command_grammar.specs.Table.{Kind, Value, Values, Maker, Arguments, Entry, entries, given, arguments_of}
+use Rattle.command_grammar.proofs.ArgumentBounds.{entry_again}
+use Rattle.command_grammar.proofs.Slices.{text_back}
+use Rattle.command_grammar.proofs.Taken.{IsUnread, EachFits, unless_unread, if_so}
 use Rattle.command_grammar.specs.Reads.{id_limit, Carries, Asks, Reads}
 use Rattle.command_grammar.proofs.Bounds.{request_keeps, request_id_keeps}
 use Rattle.reply_kinds.specs.Replies.{id_text}

@@ -14,14 +14,14 @@ use Rattle.line_words.specs.Numbers.{IsNumeral, is_digits, value_of}
 use Rattle.line_words.specs.Parts.{before, from}
 use Rattle.line_words.specs.declared.lists.Pair.{Pair}
 use Rattle.line_words.proofs.Splitting.{before-from}
-use Rattle.command_forms.specs.declared.command.ReadFault.TheVariants as fault
-use Rattle.command_forms.specs.declared.command.Command.{Command}
-use Rattle.command_forms.specs.Arguments.{IsFault, Number, Natural, flagged, has_flag}
-use Rattle.command_forms.specs.Forms.{Argument}
-use Rattle.command_forms.specs.Sizes.{size, pair_size}
-use Rattle.command_forms.specs.Table as kind
-use Rattle.command_forms.specs.Table.{Kind, Value}
-use Rattle.command_forms.proofs.Taken.{IsUnread, Taken, taken, unless_unread}
+use Rattle.command_grammar.specs.declared.command.ReadFault.TheVariants as fault
+use Rattle.command_grammar.specs.declared.command.Command.{Command}
+use Rattle.command_grammar.specs.Arguments.{IsFault, Number, Natural, flagged, has_flag}
+use Rattle.command_grammar.specs.Forms.{Argument}
+use Rattle.command_grammar.specs.Sizes.{size, pair_size}
+use Rattle.command_grammar.specs.Table as kind
+use Rattle.command_grammar.specs.Table.{Kind, Value}
+use Rattle.command_grammar.proofs.Taken.{IsUnread, Taken, taken, unless_unread}
 use Rattle.reply_kinds.specs.Kinds.{words_text, pair_text, pairs_text}
 use Rattle.reply_kinds.proofs.Decimals.{all_digits, own}
 use Rattle.request_printer.specs.Writing.{written}

@@ -7,17 +7,17 @@ use Rattle.std.proofs.lemmas.Bool.{and_parts, leb-true, eq-eqb}
 use Rattle.line_words.specs.Bytes.{has_byte, is_text, is_text_byte, is_word, is_word_byte}
 use Rattle.line_words.specs.Numbers.{is_digits, value_of}
 use Rattle.line_words.specs.Words.{BeginsApart}
-use Rattle.command_forms.specs.declared.command.ReadFault.TheVariants as fault
-use Rattle.command_forms.specs.declared.command.Command.{Command}
-use Rattle.command_forms.specs.declared.command.Request.{Request}
-use Rattle.command_forms.specs.Arguments.{IsFault}
-use Rattle.command_forms.specs.Forms.{is_same, entry_named, command_named, Form, Row}
-use Rattle.command_forms.specs.Kinds.{fits, all_fit, keeps_kinds}
-use Rattle.command_forms.specs.Table.{Kind, Values, Arguments, Entry, entries, battle_entries, room_entries}
-use Rattle.command_forms.specs.Table.{host_entries, given, arguments_of}
-use Rattle.command_forms.proofs.Bounds.{entry_again}
-use Rattle.command_forms.proofs.Taken.{EachFits}
-use Rattle.command_forms.proofs.Cuts.{nor_first}
+use Rattle.command_grammar.specs.declared.command.ReadFault.TheVariants as fault
+use Rattle.command_grammar.specs.declared.command.Command.{Command}
+use Rattle.command_grammar.specs.declared.command.Request.{Request}
+use Rattle.command_grammar.specs.Arguments.{IsFault}
+use Rattle.command_grammar.specs.Forms.{is_same, entry_named, command_named, Form, Row}
+use Rattle.command_grammar.specs.Kinds.{fits, all_fit, keeps_kinds}
+use Rattle.command_grammar.specs.Table.{Kind, Values, Arguments, Entry, entries, battle_entries, room_entries}
+use Rattle.command_grammar.specs.Table.{host_entries, given, arguments_of}
+use Rattle.command_grammar.proofs.ArgumentBounds.{entry_again}
+use Rattle.command_grammar.proofs.Taken.{EachFits}
+use Rattle.command_grammar.proofs.Cuts.{nor_first}
 use Rattle.command_grammar.specs.Reads.{id_limit, Composed, Asks, Reads}
 use Rattle.reply_kinds.proofs.Bytes.{all_append}
 use Rattle.reply_kinds.proofs.Plain.{a_word}

@@ -3,10 +3,10 @@ use Rattle.std.proofs.Common.{◌≡◌, ℕ, List, [], ◌∷◌, length, refl,
 use Rattle.std.proofs.Common.{inr, Option, Some, arith, rules}
 use Rattle.std.specs.Prelude.{codes, nat_eq, IfSome, None}
 use Rattle.std.proofs.lemmas.Bool.{and_parts}
-use Rattle.command_forms.specs.declared.command.Command.{Command}
-use Rattle.command_forms.specs.declared.command.Command.TheVariants as command
-use Rattle.command_forms.specs.Forms.{applied, is_same, entry_named, command_named}
-use Rattle.command_forms.specs.Table.{Values, Entry, entries, battle_entries, room_entries, host_entries}
+use Rattle.command_grammar.specs.declared.command.Command.{Command}
+use Rattle.command_grammar.specs.declared.command.Command.TheVariants as command
+use Rattle.command_grammar.specs.Forms.{applied, is_same, entry_named, command_named}
+use Rattle.command_grammar.specs.Table.{Values, Entry, entries, battle_entries, room_entries, host_entries}
 use Rattle.request_printer.specs.Writing.{HasWord}
 
 -- the word of each command; of a line that was not read there is none

@@ -6,10 +6,10 @@ use Rattle.std.specs.List.{list_all}
 use Rattle.std.proofs.lemmas.Bool.{and_parts, and_from, leb-true}
 use Rattle.line_words.specs.Bytes.{is_text, is_text_byte, is_word}
 use Rattle.line_words.specs.Kinds.{is_pair}
-use Rattle.command_forms.specs.Kinds.{fits, is_some_text}
-use Rattle.command_forms.specs.Table as kind
-use Rattle.command_forms.specs.Table.{Kind, Value, Values}
-use Rattle.command_forms.proofs.Taken.{EachFits}
+use Rattle.command_grammar.specs.Kinds.{fits, is_some_text}
+use Rattle.command_grammar.specs.Table as kind
+use Rattle.command_grammar.specs.Table.{Kind, Value, Values}
+use Rattle.command_grammar.proofs.Taken.{EachFits}
 use Rattle.reply_kinds.specs.Kinds.{optional_text}
 use Rattle.reply_kinds.proofs.Bytes.{all_append}
 use Rattle.reply_kinds.proofs.Decimals.{signed_words}

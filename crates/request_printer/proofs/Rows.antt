@@ -7,11 +7,11 @@ use Rattle.line_words.specs.Kinds.{is_some_word}
 use Rattle.line_words.specs.declared.lists.Pair.{Pair}
 use Rattle.line_words.specs.Parts.{Ends}
 use Rattle.line_words.specs.Words.{EndsWord}
-use Rattle.command_forms.specs.declared.command.Command.{Command}
-use Rattle.command_forms.specs.Forms.{applied, Argument, Row}
-use Rattle.command_forms.specs.Table as kind
-use Rattle.command_forms.specs.Table.{Kind, Value, Values, Maker}
-use Rattle.command_forms.proofs.Taken.{EachFits}
+use Rattle.command_grammar.specs.declared.command.Command.{Command}
+use Rattle.command_grammar.specs.Forms.{applied, Argument, Row}
+use Rattle.command_grammar.specs.Table as kind
+use Rattle.command_grammar.specs.Table.{Kind, Value, Values, Maker}
+use Rattle.command_grammar.proofs.Taken.{EachFits}
 use Rattle.reply_kinds.specs.Kinds.{optional_text, words_text, pairs_text}
 use Rattle.request_printer.specs.Faults.{is_absent, all_absent, has_gap}
 use Rattle.request_printer.specs.Writing.{written, mark_behind, all_written}

@@ -2,13 +2,13 @@
 use Rattle.std.specs.Prelude.{◌≡◌, ℕ, ◌<◌, ◌≤◌, Bool, true, false, not, ◌&&◌, ◌||◌, nat_le, if◌then◌else◌, is_some}
 use Rattle.std.specs.Prelude.{List, [], ◌∷◌, ◌++◌, length, Option, Some, None, IsTrue}
 use Rattle.line_words.specs.Kinds.{is_wide}
-use Rattle.command_forms.specs.declared.command.Command.{Command}
-use Rattle.command_forms.specs.declared.command.Command.TheVariants as command
-use Rattle.command_forms.specs.declared.command.ReadFault.{ReadFault}
-use Rattle.command_forms.specs.declared.command.Request.{Request}
-use Rattle.command_forms.specs.Kinds.{keeps_kinds}
-use Rattle.command_forms.specs.Table.{Kind, OptionalWord, Natural, Wide, OptionalText, LoginFlags, Pairs, Words, Value}
-use Rattle.command_forms.specs.Table.{Values, arguments_of}
+use Rattle.command_grammar.specs.declared.command.Command.{Command}
+use Rattle.command_grammar.specs.declared.command.Command.TheVariants as command
+use Rattle.command_grammar.specs.declared.command.ReadFault.{ReadFault}
+use Rattle.command_grammar.specs.declared.command.Request.{Request}
+use Rattle.command_grammar.specs.Kinds.{keeps_kinds}
+use Rattle.command_grammar.specs.Table.{Kind, OptionalWord, Natural, Wide, OptionalText, LoginFlags, Pairs, Words}
+use Rattle.command_grammar.specs.Table.{Value, Values, arguments_of}
 use Rattle.command_grammar.specs.Reads.{id_limit, Reads}
 use Rattle.request_printer.specs.declared.error.PrintError.{PrintError}
 use Rattle.request_printer.specs.declared.error.PrintError.TheVariants.{Unread, OutOfRange, NothingListed, Skipped}

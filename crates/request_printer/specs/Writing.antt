@@ -1,12 +1,12 @@
 -- The line of a request, by the table of commands and the kinds of their arguments.
 use Rattle.std.specs.Prelude.{◌≡◌, ℕ, if◌then◌else◌, ◌⊎◌, List, [], ◌∷◌, ◌++◌, codes, decimal, Some}
 use Rattle.std.specs.Fmt.{signed_decimal}
-use Rattle.command_forms.specs.declared.command.Command.{Command}
-use Rattle.command_forms.specs.declared.command.Command.TheVariants as command
-use Rattle.command_forms.specs.declared.command.Request.{Request}
-use Rattle.command_forms.specs.Forms.{applied, command_named}
-use Rattle.command_forms.specs.Table.{Kind, Word, OptionalWord, Name, Natural, Wide, Flag, Sentence, Text, OptionalText}
-use Rattle.command_forms.specs.Table.{LoginFlags, Pairs, Words, Value, Values, Entry, arguments_of}
+use Rattle.command_grammar.specs.declared.command.Command.{Command}
+use Rattle.command_grammar.specs.declared.command.Command.TheVariants as command
+use Rattle.command_grammar.specs.declared.command.Request.{Request}
+use Rattle.command_grammar.specs.Forms.{applied, command_named}
+use Rattle.command_grammar.specs.Table.{Kind, Word, OptionalWord, Name, Natural, Wide, Flag, Sentence, Text}
+use Rattle.command_grammar.specs.Table.{OptionalText, LoginFlags, Pairs, Words, Value, Values, Entry, arguments_of}
 use Rattle.reply_kinds.specs.Kinds.{words_text, pairs_text, optional_text}
 use Rattle.reply_kinds.specs.Replies.{id_text}
 

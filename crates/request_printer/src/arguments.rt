@@ -3,14 +3,15 @@
 
 ghost use Rattle.std.specs.Prelude.{◌≡◌, ◌∷◌, ◌++◌, IfOk, decimal};
 ghost use Rattle.std.specs.Fmt.{signed_decimal};
-ghost use Rattle.command_forms.specs.Table as kind;
-ghost use Rattle.command_forms.specs.Table.{add_bot_row, add_rectangle_row, arguments_of, battle_info_row};
-ghost use Rattle.command_forms.specs.Table.{battle_status_row, color_row, deny_row, join_battle_row, join_row};
-ghost use Rattle.command_forms.specs.Table.{login_row, name_and_number, name_and_text, open_battle_row, update_bot_row};
+ghost use Rattle.command_grammar.specs.Table as kind;
+ghost use Rattle.command_grammar.specs.Table.{add_bot_row, add_rectangle_row, arguments_of, battle_info_row};
+ghost use Rattle.command_grammar.specs.Table.{battle_status_row, color_row, deny_row, join_battle_row, join_row};
+ghost use Rattle.command_grammar.specs.Table.{login_row, name_and_number, name_and_text};
+ghost use Rattle.command_grammar.specs.Table.{open_battle_row, update_bot_row};
 ghost use Rattle.reply_printer.specs.Fronts.{Keeps};
 ghost use Rattle.request_printer.specs.Writing.{all_written, argument_text, written};
 
-use command_forms::Command;
+use command_grammar::Command;
 use line_words::{NameBuf, SentenceBuf, TextBuf, WordBuf};
 use reply_printer::pieces::{
     put_behind, put_flag, put_name, put_next_sentence, put_number, put_optional, put_pairs,

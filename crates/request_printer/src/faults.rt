@@ -2,11 +2,11 @@
 
 ghost use Rattle.std.specs.Prelude.{◌≡◌, ◌&&◌, true, nat_le, [], ◌∷◌};
 ghost use Rattle.line_words.specs.Kinds.{is_wide};
-ghost use Rattle.command_forms.specs.Table.{OptionalWord, add_rectangle_row, arguments_of, open_battle_row};
+ghost use Rattle.command_grammar.specs.Table.{OptionalWord, add_rectangle_row, arguments_of, open_battle_row};
 ghost use Rattle.request_printer.specs.Faults.{all_listed, argument_fault, fault_of, has_gap, in_range, is_id};
 
 use crate::error::PrintError;
-use command_forms::{Command, Request};
+use command_grammar::{Command, Request};
 use line_words::WordBuf;
 
 /// The largest message id, and the largest number of a battle.

@@ -1,8 +1,8 @@
 //! The laws of the lines of requests.
 
 ghost use Rattle.std.specs.Prelude.{◌≡◌, ◌≤◌, List, ℕ, None, IsTrue, length};
-ghost use Rattle.command_forms.specs.declared.command.Request.{Request};
-ghost use Rattle.command_forms.specs.Kinds.{keeps_kinds};
+ghost use Rattle.command_grammar.specs.declared.command.Request.{Request};
+ghost use Rattle.command_grammar.specs.Kinds.{keeps_kinds};
 ghost use Rattle.command_grammar.specs.Reads.{Reads};
 ghost use Rattle.request_printer.specs.Faults.{fault_of};
 ghost use Rattle.request_printer.specs.Writing.{Writes};

@@ -10,7 +10,7 @@ use crate::arguments::put_arguments;
 use crate::error::PrintError;
 use crate::faults::fault_of;
 use crate::words::word_of;
-use command_forms::Request;
+use command_grammar::Request;
 use reply_printer::pieces::{put_end, put_id, whole};
 use std::alloc::AllocError;
 

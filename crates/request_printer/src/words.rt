@@ -5,7 +5,7 @@ ghost use Rattle.std.specs.Prelude.{IfSome, IsNone};
 ghost use Rattle.request_printer.specs.Faults.{IsUnread};
 ghost use Rattle.request_printer.specs.Writing.{HasWord};
 
-use command_forms::Command;
+use command_grammar::Command;
 
 /// The word of a command; no byte for a blank line, and None for one that was not read.
 pub(crate) fn word_of(command: &Command) -> Option<&'static [u8]>

@@ -1,7 +1,7 @@
 //! The users' books, settings and lobbies of them. Each is `None` where memory is refused.
 
 ghost use Rattle.std.specs.Prelude.{IfOk, IsTrue};
-ghost use Rattle.command_forms.specs.Kinds.{keeps_kinds};
+ghost use Rattle.command_grammar.specs.Kinds.{keeps_kinds};
 
 use crate::users::{ACCOUNTS, WORD};
 use account_book::{Account, AccountBook};

@@ -1,7 +1,7 @@
 //! Numbers and addresses that are written as they have to be, and ones that nearly are.
 
 use crate::verdict::{same, same_for};
-use address_words::{address, number, number_before, part_at, socket_address};
+use proxy_line::{address, number, number_before, part_at, socket_address};
 
 static NUMBERS: [(&[u8], Option<u32>); 9] = [
     (b"0", Some(0)),

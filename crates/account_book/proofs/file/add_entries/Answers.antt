@@ -3,12 +3,12 @@ use Rattle.std.proofs.lemmas.Grind.{common_steps}
 use Rattle.std.proofs.lemmas.List.{at_drop_more}
 use Rattle.toml.specs.View.{view, items_view}
 use Rattle.toml.specs.declared.value.Value.{Value}
-use Rattle.account_entries.specs.Account.{Account}
-use Rattle.account_entries.specs.Entries.{Profile, described, descriptions}
-use Rattle.account_entries.specs.Fields.{shown, shown_contents}
-use Rattle.account_entries.specs.declared.error.AccountsError.{AccountsError}
-use Rattle.account_entries.specs.declared.error.AccountsError.TheVariants.{DuplicateName}
-use Rattle.account_entries.specs.declared.listing.Listing.{Listing}
+use Rattle.account_book.specs.Account.{Account}
+use Rattle.account_book.specs.Entries.{Profile, described, descriptions}
+use Rattle.account_book.specs.Fields.{shown, shown_contents}
+use Rattle.account_book.specs.declared.error.AccountsError.{AccountsError}
+use Rattle.account_book.specs.declared.error.AccountsError.TheVariants.{DuplicateName}
+use Rattle.account_book.specs.declared.listing.Listing.{Listing}
 use Rattle.account_book.specs.File.{entries_in}
 use Rattle.account_book.proofs.Listed.{SoFar, SoFar-start, SoFar-next, SoFar-duplicate, SoFar-twin, SoFar-lists}
 use Rattle.account_book.proofs.file.add_entries.Goals as goal

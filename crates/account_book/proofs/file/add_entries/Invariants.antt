@@ -1,7 +1,7 @@
 use Rattle.std.proofs.Common.{◌+◌, drop}
 use Rattle.toml.specs.View.{items_view}
-use Rattle.account_entries.specs.Entries.{descriptions}
-use Rattle.account_entries.specs.Fields.{shown}
+use Rattle.account_book.specs.Entries.{descriptions}
+use Rattle.account_book.specs.Fields.{shown}
 use Rattle.account_book.proofs.Listed.{SoFar}
 use Rattle.account_book.proofs.file.add_entries.Given as goal
 

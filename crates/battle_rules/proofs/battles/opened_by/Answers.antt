@@ -5,7 +5,7 @@ use Rattle.std.specs.Prelude.{Some, false}
 use Rattle.std.specs.Str.{bytes_eq}
 use Rattle.line_words.specs.Table.{same_name}
 use Rattle.room_lists.specs.Room.{new_room}
-use Rattle.command_forms.specs.declared.command.Command.{Command}
+use Rattle.command_grammar.specs.declared.command.Command.{Command}
 use Rattle.lobby_model.specs.Battles.{no_password, open_battle}
 use Rattle.lobby_model.specs.Commands.{answer}
 use Rattle.battle_rules.specs.Opening.{HasTexts, game_hash_in, password_in}

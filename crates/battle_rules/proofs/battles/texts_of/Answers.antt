@@ -1,5 +1,5 @@
 use Rattle.std.proofs.Common.{sym, subst}
-use Rattle.command_forms.specs.declared.command.Command.{Command}
+use Rattle.command_grammar.specs.declared.command.Command.{Command}
 use Rattle.battle_rules.specs.Opening.{HasTexts}
 use Rattle.battle_rules.proofs.battles.texts_of.Goals as goal
 

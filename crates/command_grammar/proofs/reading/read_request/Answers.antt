@@ -1,6 +1,6 @@
 use Rattle.std.proofs.Common.{subst, ◌∙◌}
 use Rattle.std.proofs.lemmas.Result.{err_from_is_err_and}
-use Rattle.command_forms.specs.declared.command.Request.{Request}
+use Rattle.command_grammar.specs.declared.command.Request.{Request}
 use Rattle.command_grammar.specs.Reads.{Reads}
 use Rattle.command_grammar.proofs.Lines.{request_read, request_only}
 use Rattle.command_grammar.proofs.Whole.{read_as, refused_as}

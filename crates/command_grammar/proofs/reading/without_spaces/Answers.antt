@@ -1,6 +1,6 @@
 use Rattle.std.proofs.Common.{List, ℕ, subst, ◌∙◌}
 use Rattle.line_words.specs.Words.{SkipsSpaces}
-use Rattle.command_forms.proofs.Cuts.{skipped_to}
+use Rattle.command_grammar.proofs.Cuts.{skipped_to}
 use Rattle.command_grammar.proofs.reading.without_spaces.Goals as goal
 
 pub returns : goal.returns

@@ -1,5 +1,5 @@
 use Rattle.std.proofs.Common.{take, List, []}
-use Rattle.account_entries.specs.Account.{Account}
+use Rattle.account_book.specs.Account.{Account}
 use Rattle.lobby_model.specs.Configuration.{Configuration}
 use Rattle.lobby_hall.specs.Schedules.{StandsFor}
 use Rattle.lobby_hall.proofs.hall.take_steps.Given as goal

@@ -2,8 +2,8 @@ use Rattle.std.proofs.Common.{◌≡◌, ◌∙◌, arith, IsTrue, ap, subst, sy
 use Rattle.std.proofs.lemmas.Bool.{and_parts, leb-true}
 use Rattle.std.specs.Prelude.{◌&&◌}
 use Rattle.line_words.specs.Bytes.{is_name}
-use Rattle.command_forms.specs.declared.command.Command.{Command}
-use Rattle.command_forms.specs.Kinds.{is_up_to, keeps_kinds}
+use Rattle.command_grammar.specs.declared.command.Command.{Command}
+use Rattle.command_grammar.specs.Kinds.{is_up_to, keeps_kinds}
 use Rattle.lobby_model.specs.Outcome.{Outcome}
 use Rattle.lobby_model.specs.State.{updated}
 use Rattle.lobby_model.specs.Battles.{deny, update_battle}

@@ -1,9 +1,9 @@
 use Rattle.std.proofs.Common.{◌≡◌, ◌∙◌, true, Some, sym, ap, subst}
 use Rattle.std.proofs.lemmas.Bool.{false≢true}
-use Rattle.account_entries.specs.Account.{is_sound}
+use Rattle.account_book.specs.Account.{is_sound}
 use Rattle.lobby_script.specs.Accounts.{HasFields, WritesAccount}
 use Rattle.lobby_script.specs.Fields.{stated_by}
-use Rattle.address_words.proofs.Readings.{finds_none}
+use Rattle.proxy_line.proofs.Readings.{finds_none}
 use Rattle.lobby_script.proofs.AccountLemmas.{no_some, the_some, made_is_sound, refused_is_unsound}
 use Rattle.lobby_script.proofs.accounts.read_account.Goals as goal
 

@@ -1,5 +1,5 @@
 use Rattle.std.proofs.Common.{◌≡◌, ℕ, suc, true, List, ◌++◌, sym, ◌∙◌, subst, append_assoc}
-use Rattle.account_entries.specs.Account.{Account}
+use Rattle.account_book.specs.Account.{Account}
 use Rattle.lobby_model.specs.declared.event.Event.{Event}
 use Rattle.lobby_model.specs.declared.schedule.Step.TheVariants as step
 use Rattle.lobby_model.specs.Configuration.{Configuration}

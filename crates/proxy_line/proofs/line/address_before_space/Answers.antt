@@ -1,7 +1,7 @@
-use Rattle.address_words.proofs.SocketAddresses.{no_space}
+use Rattle.proxy_line.proofs.SocketAddresses.{no_space}
 use Rattle.proxy_line.proofs.Texts.{same_parts}
 use Rattle.std.proofs.Common.{sym, subst}
-use Rattle.address_words.specs.Words.{IsAddress}
+use Rattle.proxy_line.specs.Words.{IsAddress}
 use Rattle.proxy_line.proofs.line.address_before_space.Goals as goal
 
 pub returns-in_err-address-clause-complete : goal.returns-in_err-address-clause-complete

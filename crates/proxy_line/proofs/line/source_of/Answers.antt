@@ -1,6 +1,6 @@
 use Rattle.std.proofs.Common.{ap, refl, sym, subst, Some}
 use Rattle.std.proofs.lemmas.Bool.{false≢true}
-use Rattle.address_words.proofs.Readings.{finds_none}
+use Rattle.proxy_line.proofs.Readings.{finds_none}
 use Rattle.proxy_line.specs.Routes.{ArePorts, IsRoute, LeadsWithAddress}
 use Rattle.proxy_line.proofs.line.source_of.Goals as goal
 

@@ -1,6 +1,6 @@
 use Rattle.std.proofs.Common.{◌∷◌}
 use Rattle.std.specs.Fmt.{signed_decimal}
-use Rattle.command_forms.specs.Table as kind
+use Rattle.command_grammar.specs.Table as kind
 use Rattle.request_printer.specs.Writing.{written}
 use Rattle.request_printer.proofs.Opened.{logged_in}
 use Rattle.request_printer.proofs.arguments.put_login.Goals as goal

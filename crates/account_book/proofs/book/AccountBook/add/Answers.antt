@@ -3,7 +3,7 @@ use Rattle.std.specs.Str.{bytes_eq}
 use Rattle.std.proofs.lemmas.List.{map-append}
 use Rattle.account_book.specs.Book.{account_of}
 use Rattle.line_words.proofs.Options.{none_from_is_some}
-use Rattle.account_book.proofs.Entries.{Entry, accounts_in, insert_entry-push, IsIndex-push, from_ok}
+use Rattle.account_book.proofs.Index.{Entry, accounts_in, insert_entry-push, IsIndex-push, from_ok}
 use Rattle.account_book.proofs.book.AccountBook.add.Goals as goal
 
 -- no account has the new one's name

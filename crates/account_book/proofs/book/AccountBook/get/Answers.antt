@@ -1,5 +1,5 @@
 use Rattle.std.proofs.Common.{◌∙◌, ap, refl}
-use Rattle.account_book.proofs.Entries.{lookup-account_of}
+use Rattle.account_book.proofs.Index.{lookup-account_of}
 use Rattle.account_book.specs.Book.{account_of}
 use Rattle.account_book.proofs.book.AccountBook.get.Goals as goal
 

@@ -1,8 +1,8 @@
 use Rattle.std.proofs.Common.{subst}
 use Rattle.std.specs.List.{AllByRecursion}
-use Rattle.account_entries.specs.Account.{IsHeld}
+use Rattle.account_book.specs.Account.{IsHeld}
 use Rattle.account_book.specs.Book.{HasDistinctNames}
-use Rattle.account_book.proofs.Entries.{all_held}
+use Rattle.account_book.proofs.Index.{all_held}
 use Rattle.account_book.proofs.book.AccountBook.keeps_its_rules.Goals as goal
 
 pub returns-clause-accounts : goal.returns-clause-accounts

@@ -2,7 +2,7 @@ use Rattle.std.proofs.Common.{◌≡◌, ◌≢◌, ℕ, Bool, false, nat_eq, Li
 use Rattle.std.proofs.KnownBytes.{Appends-nil}
 use Rattle.std.proofs.lemmas.Bool.{false≢true}
 use Rattle.std.proofs.lemmas.Result.{IfOk-weaker}
-use Rattle.address_words.proofs.Parts.{nothing_left}
+use Rattle.proxy_line.proofs.Parts.{nothing_left}
 use Rattle.lobby_script.proofs.LinesPlay.{says_it_found, line_plays, line_is_bad, says_nothing}
 use Rattle.lobby_script.proofs.player.Player.play_line.Goals as goal
 

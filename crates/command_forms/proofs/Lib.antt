@@ -1,9 +1,0 @@
-pub mod Cuts
-pub mod Numerals
-pub mod Settles
-pub mod Sequences
-pub mod Tables
-pub mod Slices
-pub mod Checks
-pub mod Taken
-pub mod Bounds
