@@ -1,8 +1,8 @@
 -- The exit statuses of the server's program.
 use Rattle.std.specs.Prelude.{◌≡◌, ◌⊎◌, ℕ}
-use Rattle.new_workers.specs.declared.error.ServerError.{ServerError}
-use Rattle.new_workers.specs.declared.error.ServerError.TheVariants.{Settings, Accounts, Input, Listener, Random}
-use Rattle.new_workers.specs.declared.error.ServerError.TheVariants.{Memory}
+use Rattle.lobby_workers.specs.declared.error.ServerError.{ServerError}
+use Rattle.lobby_workers.specs.declared.error.ServerError.TheVariants.{Settings, Accounts, Input, Listener, Random}
+use Rattle.lobby_workers.specs.declared.error.ServerError.TheVariants.{Memory}
 
 abbrev pub status_of : ServerError → ℕ
 status_of Settings = 2

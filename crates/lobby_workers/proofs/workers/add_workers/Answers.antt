@@ -1,6 +1,6 @@
 use Rattle.std.proofs.Common.{◌≡◌}
-use Rattle.new_workers.proofs.Pushed.{all_pushed}
-use Rattle.new_workers.proofs.workers.add_workers.Goals as goal
+use Rattle.lobby_workers.proofs.Pushed.{all_pushed}
+use Rattle.lobby_workers.proofs.workers.add_workers.Goals as goal
 
 pub loop-preserved : goal.loop-preserved
 loop-preserved g c =

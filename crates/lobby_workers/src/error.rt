@@ -1,7 +1,7 @@
 //! Why a server ends.
 
 ghost use Rattle.std.specs.Prelude.{◌≡◌, ◌≤◌, ◌↔◌, None, IfSome};
-ghost use Rattle.new_workers.specs.Statuses.{status_of, IsEnd};
+ghost use Rattle.lobby_workers.specs.Statuses.{status_of, IsEnd};
 
 use std::alloc::AllocError;
 use thiserror::Error;

@@ -1,2 +1,0 @@
-pub use Rattle.lobby_turns.specs.Wire
-pub mod Statuses
