@@ -1,3 +1,9 @@
+pub mod Wire
+pub mod Moments
+pub mod Snapshot
+pub mod Went
+pub mod Talk
+pub mod Holds
 pub mod Receiving
 pub mod Sending
 pub mod Turned

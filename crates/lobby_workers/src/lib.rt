@@ -1,14 +1,18 @@
-//! The server over sockets: its workers in threads of their own, each with its connections, and a log for its
-//! operators.
+//! The server over sockets: what it makes before its workers start, these in threads of their own, each with its
+//! connections, a log for its operators, and why a server ends.
 //!
-//! What a server makes before they start is in `new_workers`, what a worker does in `worker_loop`.
+//! What a worker does is in `worker_loop`.
 #![tactic(auto)]
 
+mod error;
 mod logged;
 mod server;
+mod workers;
 
+pub use error::ServerError;
+pub use lobby_machine::HashSeed;
 pub use lobby_turns::{Conn, Gate, Got, Link, Sent, Turn, TurnState, serve};
 pub use logged::{Log, run_server_logged};
-pub use new_workers::{HashSeed, ServerError};
 pub use server::{Service, run_server, run_service};
 pub use worker_loop::{Arrival, Inboxes, ListenError, Wakers, WorkerListener, run_worker};
+pub use workers::{Handles, NewWorker, new_workers, open_desk};

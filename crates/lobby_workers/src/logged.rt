@@ -1,14 +1,14 @@
 //! The server with a log for its operators.
 
 ghost use Rattle.std.specs.Prelude.{◌≤◌};
-ghost use Rattle.new_workers.specs.Statuses.{IsEnd};
+ghost use Rattle.lobby_workers.specs.Statuses.{IsEnd};
 
+use crate::error::ServerError;
 use crate::server::{Service, run_service};
 use lobby_model::WORKERS;
 use lobby_turns::Gate;
 use log_queue::{Lines, LogQueue, Reporter};
 use mio::net::TcpListener;
-use new_workers::ServerError;
 use server_log::{LogLevel, Started};
 use std::alloc::{AllocError, Global};
 use std::io::{Read, Write};

@@ -2,14 +2,16 @@
 
 ghost use Rattle.std.specs.Prelude.{◌≡◌, ◌≤◌, [], IfOk, IfErr, vec_len, vec_capacity};
 ghost use Rattle.std.specs.List.{All};
-ghost use Rattle.new_workers.specs.Statuses.{IsEnd};
+ghost use Rattle.lobby_workers.specs.Statuses.{IsEnd};
 
+use crate::error::ServerError;
+use crate::workers::{Handles, NewWorker, new_workers, open_desk};
 use account_book::AccountBook;
 use lobby_lock::{Closing, Count, Desk, Pass};
+use lobby_machine::HashSeed;
 use lobby_model::{Settings, WORKERS};
 use lobby_turns::Gate;
 use mio::net::TcpListener;
-use new_workers::{Handles, HashSeed, NewWorker, ServerError, new_workers, open_desk};
 use proxy_line::Proxies;
 use server_log::Happening;
 use std::alloc::Global;

@@ -1,7 +1,7 @@
 //! The gate through which workers tell operators.
 
 use crate::queue::LogQueue;
-use lobby_holds::Gate;
+use lobby_turns::Gate;
 use server_log::Happening;
 use std::sync::Wait;
 

@@ -6,7 +6,7 @@ ghost use Rattle.std.specs.Prelude.{◌≡◌, ◌∷◌, ◌++◌, [], ◌<◌}
 ghost use Rattle.wire_link.specs.Progress.{IsProgress};
 
 use crate::try_read;
-use lobby_holds::Got;
+use lobby_turns::Got;
 use mio::net::TcpStream;
 use mio::{Interest, Registry, Token};
 use proxy_line::{HalfLine, LONGEST, Step};

@@ -1,1 +1,1 @@
-pub use Rattle.lobby_holds.specs.Wire
+pub use Rattle.lobby_turns.specs.Wire

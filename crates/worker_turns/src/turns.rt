@@ -2,16 +2,15 @@
 
 ghost use Rattle.std.specs.Prelude.{◌≡◌, ◌<◌, [], ◌∷◌, ◌++◌, OnOk, OnErr};
 ghost use Rattle.lobby_model.specs.declared.event.Event.TheVariants as event;
-ghost use Rattle.lobby_holds.specs.Holds.{IsTaken, Stands};
+ghost use Rattle.lobby_turns.specs.Holds.{IsTaken, Stands};
 
 use crate::inboxes::{Arrival, Inboxes};
 use crate::wakers::Wakers;
 use lobby_connections::{Connection, Connections, NAMES_IN_HOLD, PollTimeout};
-use lobby_holds::GatedDesk;
 use lobby_lock::{Desk, Held, Pass};
 use lobby_machine::{OpenError, Wakes};
 use lobby_model::WORKERS;
-use lobby_turns::{Conn, Gate, Link, Turn, TurnState, close, serve};
+use lobby_turns::{Conn, Gate, GatedDesk, Link, Turn, TurnState, close, serve};
 use mio::{Registry, Token};
 use server_log::{Cause, Happening, Refusal};
 use std::sync::Wait;

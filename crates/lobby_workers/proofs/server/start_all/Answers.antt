@@ -1,6 +1,6 @@
 use Rattle.std.proofs.Common.{rules, ◌≡◌, Some, ap, ◌∙◌}
 use Rattle.std.proofs.lemmas.List.Elements.{All-pop}
-use Rattle.new_workers.proofs.Pushed.{all_pushed}
+use Rattle.lobby_workers.proofs.Pushed.{all_pushed}
 use Rattle.lobby_workers.proofs.server.start_all.Goals as goal
 
 pub loop-worker-preserved : goal.loop-worker-preserved

@@ -1,2 +1,0 @@
-pub use Rattle.lobby_holds.specs.Wire
-pub mod Statuses
