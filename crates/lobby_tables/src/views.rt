@@ -6,9 +6,9 @@ ghost use Rattle.lent_tables.specs.Layout.{place, itself, IsTable};
 ghost use Rattle.lobby_tables.specs.Rows.{user_row, user_shown, battle_row, battle_shown};
 
 use crate::rows::{BattleRow, UserRow, put_battle, put_user};
+use client_view::{Battles, Channels, Users};
 use lent_tables::{Place, Table, put_text};
 use std::alloc::{AllocError, Global};
-use view_lists::{Battles, Channels, Users};
 
 /// The users, in the order of the bytes of their names.
 #[tactic(auto, using(lent_tables::proofs::Laying::none))]
