@@ -4,8 +4,8 @@ ghost use Rattle.std.specs.Prelude.{◌≡◌, ◌++◌, ℕ, List, IfOk, OnOk, 
 ghost use Rattle.lobby_tables.specs.Rows.{user_row, user_shown, battle_row, battle_shown, member_row, member_shown};
 ghost use Rattle.lobby_tables.specs.Rows.{bot_row, bot_shown, tag_row, tag_shown, rect_row};
 
+use crate::table::{Listed, Place, put_text};
 use client_view::{Battle, Bot, Member, User};
-use lent_tables::{Listed, Place, put_text};
 use line_words::{NameBuf, Pair};
 use room_lists::Rect;
 use std::alloc::AllocError;

@@ -2,8 +2,8 @@
 use Rattle.std.specs.Prelude.{◌≡◌, ◌++◌, ◌&&◌, ℕ, Bool, true, false, nat_le, nat_eq, List, [], ◌∷◌, length, drop}
 use Rattle.std.specs.Prelude.{flat_map, Option, Some, None, IsTrue}
 use Rattle.std.specs.List.{list_any}
-use Rattle.lent_tables.specs.declared.table.Size.{Size}
-use Rattle.lent_tables.specs.Layout.{rows_from}
+use Rattle.lobby_tables.specs.declared.table.Size.{Size}
+use Rattle.lobby_tables.specs.Layout.{rows_from}
 
 -- the statuses
 abbrev pub ok : ℕ

@@ -4,7 +4,7 @@ use Rattle.std.proofs.Common.{◌≡◌, sym, subst, refl, arith, ◌+◌, ◌++
 use Rattle.std.proofs.Math.Seq.{take-suc}
 use Rattle.std.proofs.lemmas.Option.{slice_get_within, get_or_from_slice_get}
 use Rattle.std.specs.Prelude.{flat_map, slice_get, take, Some}
-use Rattle.lent_tables.specs.Layout.{rows_from, IsTable}
+use Rattle.lobby_tables.specs.Layout.{rows_from, IsTable}
 
 -- one more of a list, which stands behind the first k
 pub next_taken : {X : Type 0} (xs : List X) (k : ℕ) (x : X) → slice_get xs k ≡ Some x → take (k + 1) xs ≡ take k xs ++ x ∷ []

@@ -1,6 +1,6 @@
 -- How a table lies in memory: its rows, and one text, in which the texts of a row stand one behind the other.
 use Rattle.std.specs.Prelude.{◌≡◌, ◌+◌, ℕ, List, [], ◌∷◌, length, flat_map}
-use Rattle.lent_tables.specs.declared.table.Place.{Place}
+use Rattle.lobby_tables.specs.declared.table.Place.{Place}
 
 -- the place of these bytes, where the first stands at n
 abbrev pub place : ℕ → List ℕ → Place

@@ -1,6 +1,6 @@
 //! Names and words as rows of a table: each is the place of its bytes.
 
-ghost use Rattle.lent_tables.specs.Layout.{place, itself};
+ghost use Rattle.lobby_tables.specs.Layout.{place, itself};
 
 use crate::table::{Listed, Place, put_text};
 use line_words::{NameBuf, WordBuf};

@@ -1,7 +1,7 @@
 //! What a call that gives a table answers.
 
 ghost use Rattle.std.specs.Prelude.{◌≡◌, ℕ, List, IfOk};
-ghost use Rattle.lent_tables.specs.Answers.{Answers, lent};
+ghost use Rattle.lobby_tables.specs.Answers.{Answers, lent};
 
 use crate::status::{NO_MEMORY, NO_ROOM, OK};
 use crate::table::{Size, Table};

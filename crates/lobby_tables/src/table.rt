@@ -1,8 +1,8 @@
 //! A table: its rows and its text.
 
 ghost use Rattle.std.specs.Prelude.{◌≡◌, ◌++◌, ℕ, List, IfOk, OnOk, length, true, false, if◌then◌else◌};
-ghost use Rattle.lent_tables.specs.Answers.{lent, size_of, fits, filled};
-ghost use Rattle.lent_tables.specs.Layout.{place, IsTable};
+ghost use Rattle.lobby_tables.specs.Answers.{lent, size_of, fits, filled};
+ghost use Rattle.lobby_tables.specs.Layout.{place, IsTable};
 
 use std::alloc::{AllocError, Global};
 

@@ -1,7 +1,7 @@
 use Rattle.std.proofs.lemmas.Grind.{common_steps}
 use Rattle.std.proofs.Common.{arith}
-use Rattle.lent_tables.proofs.Laying.{one_more}
-use Rattle.lent_tables.proofs.table.Table.of.Goals as goal
+use Rattle.lobby_tables.proofs.Laying.{one_more}
+use Rattle.lobby_tables.proofs.table.Table.of.Goals as goal
 
 pub loop-item-preserved : goal.loop-item-preserved
 loop-item-preserved g c =
