@@ -8,7 +8,7 @@ from pathlib import Path
 
 ROOT = Path(__file__).resolve().parent.parent
 HEADER = ROOT / "include/lobby.h"
-CRATES = ["lobby_c", "lobby_lines", "lobby_tables", "lent_tables"]
+CRATES = ["lobby_c", "lobby_lines", "lobby_tables"]
 SOURCES = [path for crate in CRATES for path in sorted((ROOT / "crates" / crate / "src").glob("*.rt"))]
 # The tables by which replies and requests are numbered, from 1 on: each word in its order.
 NUMBERED = [

@@ -1,5 +1,8 @@
+pub mod Battles
 pub mod Following
 pub mod Kept
 pub mod Kinds
+pub mod Names
 pub mod Refused
+pub mod RoomKept
 pub mod Told

@@ -5,15 +5,17 @@ ghost use Rattle.std.specs.Map.{keys_of};
 ghost use Rattle.std.specs.Option.{option_map};
 ghost use Rattle.line_words.specs.Bytes.{is_name};
 ghost use Rattle.line_words.specs.Table.{at_name, at_number};
-ghost use Rattle.lent_tables.specs.Answers.{lent, Shows, ShowsIf};
-ghost use Rattle.lent_tables.specs.Layout.{place, itself};
+ghost use Rattle.lobby_tables.specs.Answers.{lent, Shows, ShowsIf};
+ghost use Rattle.lobby_tables.specs.Layout.{place, itself};
 ghost use Rattle.lobby_tables.specs.Rows.{user_row, user_shown, battle_row, battle_shown};
 ghost use Rattle.lobby_c.specs.Slot.{content, IsFull};
 
 use crate::slot::Slot;
-use lent_tables::{NOT_THERE, Place, Size, Table, answer};
 use line_words::NameBuf;
-use lobby_tables::{BattleRow, UserRow, battle_table, channel_table, text_table, user_table};
+use lobby_tables::{
+    BattleRow, NOT_THERE, Place, Size, Table, UserRow, answer, battle_table, channel_table,
+    text_table, user_table,
+};
 use std::alloc::Global;
 
 /// The name under which the client is logged in: one row, whose text is empty before a login.

@@ -2,7 +2,7 @@
 use Rattle.std.proofs.Common.{◌≡◌, ◌++◌, ℕ, List, [], ◌∷◌, length, refl, sym, ap, subst, ◌∙◌, append_assoc, cond}
 use Rattle.std.specs.Prelude.{Option, Some, None, Bool, true, false, ◌==◌}
 use Rattle.std.proofs.lemmas.List.{append-nil}
-use Rattle.lent_tables.specs.Layout.{IsTable}
+use Rattle.lobby_tables.specs.Layout.{IsTable}
 use Rattle.reply_kinds.specs.declared.command_word.CommandWord.{CommandWord}
 use Rattle.reply_kinds.specs.declared.command_word.CommandWord.TheVariants as command
 use Rattle.reply_kinds.specs.Kinds.{Kind, Value, Values}

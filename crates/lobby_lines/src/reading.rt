@@ -1,7 +1,7 @@
 //! A line of the server, read as the fields of its reply.
 
 ghost use Rattle.std.specs.Prelude.{◌≡◌, ℕ, List, IfNone, IfOk, IfSome};
-ghost use Rattle.lent_tables.specs.Layout.{IsTable};
+ghost use Rattle.lobby_tables.specs.Layout.{IsTable};
 ghost use Rattle.reply_kinds.specs.Replies.{Line, ReadsAs};
 ghost use Rattle.lobby_lines.specs.Fields.{field_row, field_shown};
 ghost use Rattle.lobby_lines.specs.Replies.{fields_of, HeadOf, IdIs};
@@ -9,7 +9,7 @@ ghost use Rattle.lobby_lines.specs.Replies.{fields_of, HeadOf, IdIs};
 use crate::arguments::put_arguments;
 use crate::fields::{FieldRow, Fields, HeadRow};
 use crate::reply_table::{kinds_of, number_of};
-use lent_tables::Table;
+use lobby_tables::Table;
 use reply_fields::ReadError;
 use reply_reader::read_head;
 use std::alloc::{AllocError, Global};

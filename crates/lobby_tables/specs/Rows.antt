@@ -3,7 +3,7 @@ use Rattle.std.specs.Prelude.{◌+◌, ◌++◌, ℕ, Bool, true, false, List, l
 use Rattle.line_words.specs.declared.lists.Pair.{Pair}
 use Rattle.room_lists.specs.Room.{Member, Bot, Rect}
 use Rattle.lobby_view.specs.View.{Known, Listed}
-use Rattle.lent_tables.specs.Layout.{place}
+use Rattle.lobby_tables.specs.Layout.{place}
 use Rattle.lobby_tables.specs.declared.rows.UserRow.{UserRow}
 use Rattle.lobby_tables.specs.declared.rows.BattleRow.{BattleRow}
 use Rattle.lobby_tables.specs.declared.rows.MemberRow.{MemberRow}

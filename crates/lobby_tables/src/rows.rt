@@ -4,12 +4,11 @@ ghost use Rattle.std.specs.Prelude.{◌≡◌, ◌++◌, ℕ, List, IfOk, OnOk, 
 ghost use Rattle.lobby_tables.specs.Rows.{user_row, user_shown, battle_row, battle_shown, member_row, member_shown};
 ghost use Rattle.lobby_tables.specs.Rows.{bot_row, bot_shown, tag_row, tag_shown, rect_row};
 
-use lent_tables::{Listed, Place, put_text};
+use crate::table::{Listed, Place, put_text};
+use client_view::{Battle, Bot, Member, User};
 use line_words::{NameBuf, Pair};
 use room_lists::Rect;
 use std::alloc::AllocError;
-use view_lists::{Battle, User};
-use view_room::{Bot, Member};
 
 /// A user who is logged in. The fields are those of `User`.
 #[repr(C)]

@@ -2,16 +2,16 @@
 
 ghost use Rattle.std.specs.Prelude.{◌≡◌, IfOk, [], ◌∷◌};
 ghost use Rattle.std.specs.Map.{keys_of};
-ghost use Rattle.lent_tables.specs.Layout.{place, itself, IsTable};
+ghost use Rattle.lobby_tables.specs.Layout.{place, itself, IsTable};
 ghost use Rattle.lobby_tables.specs.Rows.{user_row, user_shown, battle_row, battle_shown};
 
 use crate::rows::{BattleRow, UserRow, put_battle, put_user};
-use lent_tables::{Place, Table, put_text};
+use crate::table::{Place, Table, put_text};
+use client_view::{Battles, Channels, Users};
 use std::alloc::{AllocError, Global};
-use view_lists::{Battles, Channels, Users};
 
 /// The users, in the order of the bytes of their names.
-#[tactic(auto, using(lent_tables::proofs::Laying::none))]
+#[tactic(auto, using(crate::proofs::Laying::none))]
 pub fn user_table(alloc: Global, users: &Users<'_>) -> Result<Table<UserRow>, AllocError>
     ensures { IfOk result (λ table. IsTable user_row user_shown users.now table.rows.items table.text.items) }
 {
@@ -25,7 +25,7 @@ pub fn user_table(alloc: Global, users: &Users<'_>) -> Result<Table<UserRow>, Al
 }
 
 /// The battles, in the order of their numbers.
-#[tactic(auto, using(lent_tables::proofs::Laying::none))]
+#[tactic(auto, using(crate::proofs::Laying::none))]
 pub fn battle_table(alloc: Global, battles: &Battles<'_>) -> Result<Table<BattleRow>, AllocError>
     ensures { IfOk result (λ table. IsTable battle_row battle_shown battles.now table.rows.items table.text.items) }
 {
@@ -39,7 +39,7 @@ pub fn battle_table(alloc: Global, battles: &Battles<'_>) -> Result<Table<Battle
 }
 
 /// The names of channels, in the order of their bytes.
-#[tactic(auto, using(lent_tables::proofs::Laying::none))]
+#[tactic(auto, using(crate::proofs::Laying::none))]
 pub fn channel_table(alloc: Global, channels: &Channels<'_>) -> Result<Table<Place>, AllocError>
     ensures { IfOk result (λ table. IsTable place itself (keys_of channels.now) table.rows.items table.text.items) }
 {

@@ -7,11 +7,11 @@ ghost use Rattle.noted_map.specs.Undoable.{Changes};
 ghost use Rattle.client_view.specs.Kinds.{Members, Bots, Rects, Tags, Units, is_of_room, kind_of};
 
 use crate::known::Known;
+use crate::room::Bot;
 use line_words::{NameBuf, WordBuf};
 use reply_kinds::Reply;
 use room_lists::Rect;
 use std::alloc::AllocError;
-use view_room::Bot;
 
 impl Known {
     /// What changes the own room.

@@ -7,10 +7,10 @@ ghost use Rattle.noted_map.specs.Undoable.{Changes};
 ghost use Rattle.client_view.specs.Kinds.{Users, kind_of};
 
 use crate::known::Known;
+use crate::lists::User;
 use line_words::{NameBuf, WordBuf};
 use reply_kinds::Reply;
 use std::alloc::AllocError;
-use view_lists::User;
 
 impl Known {
     /// Who comes and goes. Not inlined, as the others: what comes most is folded without their moves.

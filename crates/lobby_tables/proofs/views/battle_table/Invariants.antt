@@ -1,6 +1,6 @@
 use Rattle.std.proofs.Common.{map}
 use Rattle.std.specs.Map.Iter.{deref_pair}
-use Rattle.lent_tables.specs.Layout.{IsTable}
+use Rattle.lobby_tables.specs.Layout.{IsTable}
 use Rattle.lobby_tables.specs.Rows.{battle_row, battle_shown}
 use Rattle.lobby_tables.proofs.views.battle_table.Given as goal
 

@@ -3,8 +3,8 @@ use Rattle.std.proofs.Common.{◌≡◌, ◌<◌, [], take, length, arith}
 use Rattle.std.proofs.lemmas.Option.{slice_get-get_or}
 use Rattle.std.specs.Prelude.{slice_get, Some}
 use Rattle.std.specs.Map.{keys_of}
-use Rattle.lent_tables.specs.Layout.{place, itself}
-use Rattle.lent_tables.proofs.Laying.{next_taken, one_more}
+use Rattle.lobby_tables.specs.Layout.{place, itself}
+use Rattle.lobby_tables.proofs.Laying.{next_taken, one_more}
 use Rattle.lobby_tables.proofs.views.channel_table.Goals as goal
 use Rattle.lobby_tables.proofs.views.channel_table.Goals.{in-Some+in_ok-row+in_ok-push, in_default}
 

@@ -1,6 +1,6 @@
 use Rattle.std.proofs.Common.{take}
 use Rattle.std.specs.Map.{keys_of}
-use Rattle.lent_tables.specs.Layout.{place, itself, IsTable}
+use Rattle.lobby_tables.specs.Layout.{place, itself, IsTable}
 use Rattle.lobby_tables.proofs.views.channel_table.Given as goal
 
 abbrev pub invariant-loop-k : goal.invariant-loop-k

@@ -1,7 +1,7 @@
 use Rattle.std.proofs.lemmas.Grind.{common_steps}
 use Rattle.std.proofs.Common.{arith}
 use Rattle.lobby_tables.specs.Rows.{user_row, user_shown}
-use Rattle.lent_tables.proofs.Laying.{one_more}
+use Rattle.lobby_tables.proofs.Laying.{one_more}
 use Rattle.lobby_tables.proofs.views.user_table.Goals as goal
 
 pub loop-name-preserved : goal.loop-name-preserved

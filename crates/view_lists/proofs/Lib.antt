@@ -1,2 +1,0 @@
-pub mod FirstNames
-pub mod NthKey
