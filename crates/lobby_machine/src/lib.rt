@@ -11,5 +11,4 @@ mod rules;
 
 pub use battle_room::HashSeed;
 pub use lobby::{Lobby, OpenError};
-pub use lobby_clients::Drained;
-pub use lobby_post::Wakes;
+pub use lobby_post::{Drained, Wakes};

@@ -16,7 +16,7 @@ use Rattle.lobby_model.proofs.Delivered.{delivered_at, find-values}
 use Rattle.lobby_model.proofs.Quiet.{touched_is}
 use Rattle.lobby_model.specs.Touched.{is_touched}
 use Rattle.lobby_post.specs.Mail.{Held, plain}
-use Rattle.lobby_clients.specs.Crowd.{Crowd, Known, waits}
+use Rattle.lobby_post.specs.Crowd.{Crowd, Known, waits}
 use Rattle.lobby_post.specs.Posted.{Posted, has_number}
 use Rattle.lobby_post.specs.Dirty.{IsNewly, news, news_of}
 use Rattle.lobby_post.proofs.Parcels.{touched_alike}

@@ -9,7 +9,7 @@ use Rattle.lobby_maps.specs.declared.change.Change.TheVariants.{Nothing, Status,
 use Rattle.lobby_battles.specs.declared.battles.BattleChange.TheVariants as battle
 use Rattle.lobby_battles.specs.declared.battles.BattleChange.TheVariants.{Open, Update, InRoom}
 use Rattle.lobby_maps.specs.Changes.{CanBe, last_after}
-use Rattle.lobby_clients.specs.Crowd.{Crowd, Known}
+use Rattle.lobby_post.specs.Crowd.{Crowd, Known}
 use Rattle.lobby_post.specs.Mail.{AreDue, plain, deliver}
 use Rattle.lobby_battles.specs.Seats.{Agree, IsListed}
 use Rattle.lobby_maps.specs.Fit.{Numbered, Fit}

@@ -13,11 +13,11 @@ use Rattle.line_words.proofs.Tables.{at-without}
 use Rattle.lobby_model.specs.State.{Client}
 use Rattle.lobby_model.proofs.Delivered.{same_number_is}
 use Rattle.lobby_post.specs.Mail.{Held, Line, parted, plain}
-use Rattle.lobby_clients.specs.Crowd.{Crowd, Known, all_but_client, for_homes, line_at, waits}
+use Rattle.lobby_post.specs.Crowd.{Crowd, Known, all_but_client, for_homes, line_at, waits}
 use Rattle.lobby_post.specs.Posted.{has_number}
 use Rattle.lobby_post.specs.Dirty.{Mark, AreKnown, is_of, mark_of, marks_of, stands, times}
-use Rattle.lobby_clients.proofs.Crowds.{plain-is_some}
-use Rattle.lobby_clients.proofs.Homes.{at_home}
+use Rattle.lobby_post.proofs.Crowds.{plain-is_some}
+use Rattle.lobby_post.proofs.Homes.{at_home}
 use Rattle.lobby_maps.specs.Dirty.{lists_of, those_there}
 
 -- the list of a worker

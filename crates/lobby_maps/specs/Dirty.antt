@@ -10,7 +10,7 @@ use Rattle.lobby_model.specs.State.{State, Client}
 use Rattle.lobby_model.specs.Events.{effect}
 use Rattle.lobby_model.specs.Next.{batch, next}
 use Rattle.lobby_model.specs.Touched.{is_touched}
-use Rattle.lobby_clients.specs.Crowd.{Crowd, for_homes, waits}
+use Rattle.lobby_post.specs.Crowd.{Crowd, for_homes, waits}
 use Rattle.lobby_post.specs.Posted.{has_number}
 use Rattle.lobby_post.specs.Dirty.{times}
 

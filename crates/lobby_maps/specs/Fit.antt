@@ -8,7 +8,7 @@ use Rattle.lobby_battles.specs.declared.seats.Seat.{Seat}
 use Rattle.lobby_battles.specs.Battles.{AreSeated}
 use Rattle.lobby_battles.specs.Seats.{Agree, IsListed, client_in}
 use Rattle.lobby_post.specs.Posted.{Posted, Reaches, addressed, has_number}
-use Rattle.lobby_clients.specs.Crowd.{Crowd, Known}
+use Rattle.lobby_post.specs.Crowd.{Crowd, Known}
 use Rattle.lobby_post.specs.Mail.{AreDue, plain}
 
 -- the clients at which the users of these names are

@@ -22,8 +22,7 @@ use crate::maps::Maps;
 use battle_room::{Asker, Member, Room};
 use line_words::NameBuf;
 use lobby_battles::Seats;
-use lobby_clients::Clients;
-use lobby_post::{ClientKey, Post};
+use lobby_post::{ClientKey, Clients, Post};
 use reply_kinds::LentReply;
 use std::alloc::AllocError;
 

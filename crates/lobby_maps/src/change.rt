@@ -3,7 +3,7 @@
 ghost use Rattle.std.specs.Prelude.{◌≡◌, ℕ, ◌≤◌, List, OnOk, OnErr, option_copied};
 ghost use Rattle.line_words.specs.Table.{ByNumber};
 ghost use Rattle.channel_book.specs.Channels.{all_left};
-ghost use Rattle.lobby_clients.specs.Crowd.{waits, Known};
+ghost use Rattle.lobby_post.specs.Crowd.{waits, Known};
 ghost use Rattle.lobby_post.specs.Mail.{AreDue, AreReady, plain};
 ghost use Rattle.lobby_battles.specs.Battles.{AreSeated, left_own, unasked_own};
 ghost use Rattle.lobby_maps.specs.Dirty.{those_there};
@@ -14,8 +14,7 @@ ghost use Rattle.lobby_maps.specs.Changes.{last_after};
 use channel_book::ChannelBook;
 use line_words::NameBuf;
 use lobby_battles::{BattleChange, Battles, Seat, Seats};
-use lobby_clients::Clients;
-use lobby_post::ClientKey;
+use lobby_post::{ClientKey, Clients};
 use status_bits::UserStatus;
 use std::alloc::AllocError;
 

@@ -23,9 +23,8 @@ use channel_book::ChannelBook;
 use line_words::NameBuf;
 use lobby_battles::{Battle, Battles, Seats};
 use lobby_burst::greeting_of;
-use lobby_clients::{Clients, Drained};
 use lobby_model::Settings;
-use lobby_post::{ClientKey, Post, Wakes};
+use lobby_post::{ClientKey, Clients, Drained, Post, Wakes};
 use std::alloc::{AllocError, Global};
 use std::marker::Model;
 

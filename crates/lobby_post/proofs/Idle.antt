@@ -1,11 +1,14 @@
--- How many clients of a worker stand in no list, before and after one of them is written.
-use Rattle.std.proofs.Common.{◌≡◌, ℕ, ◌+◌, [], ◌∷◌, length, refl, sym, ap, ◌∙◌, true, false, cond, filter, sum_by, arith}
-use Rattle.std.specs.Prelude.{Some, if◌then◌else◌}
+-- How many clients of a worker stand in no list, before and after one of them is written, inserted or removed.
+use Rattle.std.proofs.Common.{◌≡◌, ℕ, ◌+◌, [], ◌∷◌, length, refl, sym, ap, ◌∙◌, true, false, cond, filter, sum_by, arith, map}
+use Rattle.std.specs.Prelude.{Some, if◌then◌else◌, None}
 use Rattle.std.specs.Ordering.{nat_cmp}
-use Rattle.std.specs.BTreeMap.{is_at}
-use Rattle.std.specs.Map.{lookup, set_value, values_of}
+use Rattle.std.specs.BTreeMap.{is_at, insert_entry}
+use Rattle.std.specs.Map.{lookup, set_value, values_of, remove_entry}
 use Rattle.std.proofs.lemmas.List.Sums.{sum_by-cons}
-use Rattle.std.proofs.lemmas.Map.Entries.{sum_by-set_value}
+use Rattle.std.proofs.lemmas.Map.Entries.{sum_by-set_value, sum_by-insert_entry, sum_by-remove_entry}
+use Rattle.std.specs.Cmp.{nat_cmp_total}
+use Rattle.std.specs.List.Sorted.{IsStrictlySortedBy}
+use Rattle.std.specs.Option.{option_map, unwrap_or}
 use Rattle.line_words.specs.Table.{ByNumber}
 use Rattle.lobby_post.specs.Mail.{Held}
 use Rattle.lobby_post.specs.Dirty.{idle_of, is_idle, mark_of, marks_of}
@@ -34,3 +37,34 @@ module _ (home : ℕ) where
         let sums = sum_by-set_value idle_one (is_at (nat_cmp c)) es x w found in
         let same = ap (λ m. sum_by idle_one (values_of m)) is in
         omega (arith, old, new, sums, same)
+
+module _ (home c : ℕ) (es fs : ByNumber Held) where
+  pub idle_inserted : (w : Held) → fs ≡ insert_entry nat_cmp es c w → IsStrictlySortedBy nat_cmp (map (λ e. e.0) es) → lookup (is_at (nat_cmp c)) es ≡ None
+      → idle_of home (marks_of fs) ≡ idle_of home (marks_of es) + idle_one home w
+  idle_inserted w is ordered none =
+      let old = idle-sum home es in
+      let new = idle-sum home fs in
+      let sums = sum_by-insert_entry (idle_one home) nat_cmp_total es c w ordered in
+      let nothing : unwrap_or (option_map (idle_one home) (lookup (is_at (nat_cmp c)) es)) 0 ≡ 0 = ap (λ o. unwrap_or (option_map (idle_one home) o) 0) none in
+      let same = ap (λ m. sum_by (idle_one home) (values_of m)) is in
+      omega (arith, old, new, sums, nothing, same)
+
+  pub idle_removed : (x : Held) → fs ≡ remove_entry (is_at (nat_cmp c)) es → lookup (is_at (nat_cmp c)) es ≡ Some x
+      → idle_of home (marks_of fs) + idle_one home x ≡ idle_of home (marks_of es)
+  idle_removed x is found =
+      let old = idle-sum home es in
+      let new = idle-sum home fs in
+      let sums = sum_by-remove_entry (idle_one home) (is_at (nat_cmp c)) es in
+      let one : unwrap_or (option_map (idle_one home) (lookup (is_at (nat_cmp c)) es)) 0 ≡ idle_one home x = ap (λ o. unwrap_or (option_map (idle_one home) o) 0) found in
+      let same = ap (λ m. sum_by (idle_one home) (values_of m)) is in
+      omega (arith, old, new, sums, one, same)
+
+  pub idle_unremoved : fs ≡ remove_entry (is_at (nat_cmp c)) es → lookup (is_at (nat_cmp c)) es ≡ None
+      → idle_of home (marks_of fs) ≡ idle_of home (marks_of es)
+  idle_unremoved is none =
+      let old = idle-sum home es in
+      let new = idle-sum home fs in
+      let sums = sum_by-remove_entry (idle_one home) (is_at (nat_cmp c)) es in
+      let nothing : unwrap_or (option_map (idle_one home) (lookup (is_at (nat_cmp c)) es)) 0 ≡ 0 = ap (λ o. unwrap_or (option_map (idle_one home) o) 0) none in
+      let same = ap (λ m. sum_by (idle_one home) (values_of m)) is in
+      omega (arith, old, new, sums, nothing, same)

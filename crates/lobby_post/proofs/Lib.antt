@@ -14,3 +14,7 @@ pub mod Newly
 pub mod Underway
 pub mod Lines
 pub mod Telling
+pub mod Homes
+pub mod Waiting
+pub mod Newcomers
+pub mod Changed

@@ -1,6 +1,6 @@
--- The marks of all clients, before and after one of them is written.
+-- The marks of all clients, before and after one of them is written or removed, and a look-up among them.
 use Rattle.std.proofs.Common.{◌≡◌, ℕ, List, ◌++◌, [], refl, sym, ap, ◌∙◌, true, false, cond}
-use Rattle.std.specs.Prelude.{Some, if◌then◌else◌}
+use Rattle.std.specs.Prelude.{Some, if◌then◌else◌, None, not, ◌&&◌}
 use Rattle.std.specs.Option.{option_map}
 use Rattle.std.specs.Ordering.{nat_cmp}
 use Rattle.std.specs.BTreeMap.{is_at}
@@ -53,3 +53,44 @@ module _ (c : ℕ) (old new : ByNumber Mark) (h : ℕ) where
         | true ↦ λ t. ap (λ k. same_number k h) same ∙ ap (is_of h) (sym found) ∙ ap (stands old h) (same_number_is c q t)
         | false ↦ λ t. refl
       ] refl
+
+-- what look-ups say of marks where the one at c was taken
+abbrev pub IsTaken : ℕ → ByNumber Mark → ByNumber Mark → Type 0
+IsTaken c old new = (q : ℕ) → lookup (is_at (nat_cmp q)) new ≡ cond (same_number c q) None (lookup (is_at (nat_cmp q)) old)
+
+pub marks_taken : (c : ℕ) (es fs : ByNumber Held)
+    → ((q : ℕ) → lookup (is_at (nat_cmp q)) fs ≡ cond (is_at (nat_cmp c) q) None (lookup (is_at (nat_cmp q)) es))
+    → IsTaken c (marks_of es) (marks_of fs)
+marks_taken c es fs removed = λ q.
+    lookup-map_values mark_of (is_at (nat_cmp q)) fs ∙ ap (option_map mark_of) (removed q)
+    ∙ elim (same_number c q) as (λ b. option_map mark_of (cond b None (lookup (is_at (nat_cmp q)) es))
+    ≡ cond b None (lookup (is_at (nat_cmp q)) (marks_of es))) [
+      | true ↦ refl
+      | false ↦ sym (lookup-map_values mark_of (is_at (nat_cmp q)) es)
+    ]
+
+-- a look-up among the slots, by one among the marks
+pub unmarked : (c : ℕ) (es : ByNumber Held) → lookup (is_at (nat_cmp c)) (marks_of es) ≡ None → lookup (is_at (nat_cmp c)) es ≡ None
+unmarked c es none =
+    elim (lookup (is_at (nat_cmp c)) es) as (λ o. option_map mark_of o ≡ None → o ≡ None) [
+      | None ↦ λ n. refl
+      | Some x ↦ λ n. absurd (cc)
+    ] (sym (lookup-map_values mark_of (is_at (nat_cmp c)) es) ∙ none)
+
+pub marked : (c : ℕ) (es : ByNumber Held) (x : Held) → lookup (is_at (nat_cmp c)) es ≡ Some x → lookup (is_at (nat_cmp c)) (marks_of es) ≡ Some (mark_of x)
+marked c es x found = lookup-map_values mark_of (is_at (nat_cmp c)) es ∙ ap (option_map mark_of) found
+
+-- the slot of a client that is there and this worker's
+pub stands_slot : (home c : ℕ) (es : ByNumber Held) → stands (marks_of es) home c ≡ true → (x : Held) × (lookup (is_at (nat_cmp c)) es ≡ Some x)
+stands_slot home c es passes =
+    elim (lookup (is_at (nat_cmp c)) es) as (λ o. is_of home (option_map mark_of o) ≡ true → (x : Held) × (o ≡ Some x)) [
+      | None ↦ λ t. absurd (cc)
+      | Some x ↦ λ t. (x, refl)
+    ] (sym (ap (is_of home) (lookup-map_values mark_of (is_at (nat_cmp c)) es)) ∙ passes)
+
+module _ (c : ℕ) (old new : ByNumber Mark) (h : ℕ) where
+  pub stands_taken : IsTaken c old new → (q : ℕ) → stands new h q ≡ (not (same_number c q) && stands old h q)
+  stands_taken taken q =
+      ap (is_of h) (taken q)
+      ∙ elim (same_number c q) as (λ b. is_of h (cond b None (lookup (is_at (nat_cmp q)) old))
+      ≡ (not b && is_of h (lookup (is_at (nat_cmp q)) old))) [ true ↦ refl | false ↦ refl ]

@@ -246,7 +246,7 @@ impl Post {
 
     /// Makes room for all that is told, in each outbox that takes it: all of that is due then, and
     /// `deliver` cannot fail. No client sees a difference. Where memory is refused, nothing is due.
-    pub fn reserve(&self, slots: &mut Slots, pool: &mut BufferPool) -> Result<(), AllocError>
+    pub(crate) fn reserve(&self, slots: &mut Slots, pool: &mut BufferPool) -> Result<(), AllocError>
         requires due { AreDue [] slots.old }
         ensures clients { plain slots.new ≡ plain slots.old }
         ensures limits { (limit : ℕ) → HaveLimit limit slots.old → HaveLimit limit slots.new }
@@ -260,7 +260,7 @@ impl Post {
     }
 
     /// Gives up what `reserve` promised: nothing is due any more. What was told stays told.
-    pub fn cancel(&self, slots: &mut Slots)
+    pub(crate) fn cancel(&self, slots: &mut Slots)
         requires due { AreDue self.now.sent slots.old }
         ensures clients { plain slots.new ≡ plain slots.old }
         ensures limits { (limit : ℕ) → HaveLimit limit slots.old → HaveLimit limit slots.new }
@@ -275,7 +275,12 @@ impl Post {
     /// work the event is: one for each 32 bytes that were printed, one for each piece, and one more for each
     /// 1,024 bytes of it. That count begins anew behind 2^64 - 1. Nothing is told any more then, and no share
     /// is kept.
-    pub fn deliver(&mut self, slots: &mut Slots, dirty: &mut DirtyLists, told: &mut u64) -> Wakes
+    pub(crate) fn deliver(
+        &mut self,
+        slots: &mut Slots,
+        dirty: &mut DirtyLists,
+        told: &mut u64,
+    ) -> Wakes
         requires due { AreDue self.old.sent slots.old }
         requires ready { AreReady slots.old }
         ensures clients { (limit : ℕ) → HaveLimit limit slots.old

@@ -3,7 +3,7 @@ use Rattle.line_words.specs.Table.{ByName, ByNumber}
 use Rattle.lobby_model.specs.State.{State, Client, Battle}
 use Rattle.lobby_battles.specs.declared.seats.Seat.{Seat}
 use Rattle.lobby_post.specs.Mail.{plain, deliver, wakes_home}
-use Rattle.lobby_clients.specs.Crowd.{Crowd, Known, waits}
+use Rattle.lobby_post.specs.Crowd.{Crowd, Known, waits}
 use Rattle.lobby_maps.specs.Dirty.{DirtyAfter, lists_of, those_there}
 use Rattle.lobby_maps.specs.Changes.{CanBe, changed, clients_after, users_after}
 use Rattle.lobby_battles.specs.Seats.{Agree, IsListed, users_of}

@@ -1,9 +1,0 @@
-pub mod Counts
-pub mod Crowds
-pub mod Marks
-pub mod Idle
-pub mod Dues
-pub mod Homes
-pub mod Waiting
-pub mod Newcomers
-pub mod Changed
