@@ -9,3 +9,6 @@ pub mod Arrivals
 pub mod Bursts
 pub mod Numbered
 pub mod AllBut
+pub mod Newcomer
+pub mod RoomLines
+pub mod Written

@@ -3,3 +3,5 @@ pub mod Shown
 pub mod Dirty
 pub mod Calls
 pub mod Changes
+pub mod Recipients
+pub mod BurstParts

@@ -8,10 +8,10 @@ ghost use Rattle.lobby_post.specs.Posted.{Told};
 ghost use Rattle.lobby_battles.specs.Seats.{user_in};
 
 use crate::audiences::address_all;
+use crate::burst_parts::{Part, write_battles, write_motd, write_parts};
 use crate::maps::Maps;
 use line_words::NameBuf;
 use lobby_battles::Seat;
-use lobby_burst::{Part, write_battles, write_motd, write_parts};
 use lobby_post::Post;
 use reply_kinds::LentReply;
 use std::alloc::AllocError;

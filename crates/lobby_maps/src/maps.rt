@@ -17,12 +17,12 @@ ghost use Rattle.lobby_maps.specs.Dirty.{those_there};
 ghost use Rattle.lobby_maps.specs.Shown.{dirty_at, unread_of, is_finished};
 
 use crate::change::{Change, apply};
+use crate::greeting::greeting_of;
 use account_book::AccountBook;
 use battle_room::HashSeed;
 use channel_book::ChannelBook;
 use line_words::NameBuf;
 use lobby_battles::{Battle, Battles, Seats};
-use lobby_burst::greeting_of;
 use lobby_model::Settings;
 use lobby_post::{ClientKey, Clients, Drained, Post, Wakes};
 use std::alloc::{AllocError, Global};

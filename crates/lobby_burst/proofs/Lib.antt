@@ -1,3 +1,0 @@
-pub mod Newcomer
-pub mod Rooms
-pub mod Written

@@ -1,0 +1,159 @@
+//! What one who joins a battle is told of what its members share, line by line: docs/PROTOCOL.md, "What the
+//! server does", under "JOINBATTLE".
+
+ghost use Rattle.std.specs.Prelude.{◌≡◌, [], ◌∷◌, map, OnOk};
+ghost use Rattle.reply_kinds.specs.declared.Reply.TheVariants as reply;
+ghost use Rattle.reply_kinds.specs.Lent.{reply_of};
+ghost use Rattle.lobby_model.specs.Battles.{bot_line, rect_line, room_lines, status_line};
+ghost use Rattle.lobby_maps.specs.Recipients.{written};
+
+use battle_room::{ALLY_COUNT, Room};
+use lobby_post::{ClientKey, Post};
+use reply_kinds::LentReply;
+use std::alloc::AllocError;
+use std::slice;
+
+/// For whom lines are written.
+#[derive(Clone, Copy)]
+pub enum Recipient {
+    /// The one whose event it is: each line has the id of its request.
+    Issuer,
+    /// Another one.
+    Other,
+}
+
+/// Writes one more line for its recipient.
+pub fn write_line(recipient: Recipient, line: LentReply, post: &mut Post) -> Result<(), AllocError>
+    ensures { OnOk result (post.new ≡ written recipient post.old (reply_of line.entry ∷ [])) }
+{
+    match recipient {
+        Recipient::Issuer => post.write_own(line),
+        Recipient::Other => post.write_more_for_others(line),
+    }
+}
+
+/// Writes what the members of a battle share, behind a line.
+pub fn write_room(
+    recipient: Recipient,
+    number: u32,
+    room: &Room<ClientKey>,
+    post: &mut Post,
+) -> Result<(), AllocError>
+    requires { written recipient post.old [] ≡ post.old }
+    ensures { OnOk result (post.new ≡ written recipient post.old (room_lines number room.now)) }
+{
+    write_statuses(recipient, room, post)?;
+    write_bots(recipient, number, room, post)?;
+    write_rects(recipient, room, post)?;
+    write_tags(recipient, room, post)?;
+    write_units(recipient, room, post)
+}
+
+/// Writes the status of each member of a battle, behind a line.
+fn write_statuses(
+    recipient: Recipient,
+    room: &Room<ClientKey>,
+    post: &mut Post,
+) -> Result<(), AllocError>
+    requires { written recipient post.old [] ≡ post.old }
+    ensures { OnOk result (post.new ≡ written recipient post.old (map status_line room.now.members)) }
+{
+    for member in room.members() {
+        let status = member.status().word();
+        let line = LentReply::ClientBattleStatus {
+            user: member.name(),
+            battle_status: status,
+            team_color: member.colour(),
+        };
+        write_line(recipient, line, post)?;
+    }
+    Ok(())
+}
+
+/// Writes the bots of a battle, behind a line.
+fn write_bots(
+    recipient: Recipient,
+    number: u32,
+    room: &Room<ClientKey>,
+    post: &mut Post,
+) -> Result<(), AllocError>
+    requires { written recipient post.old [] ≡ post.old }
+    ensures { OnOk result (post.new ≡ written recipient post.old (map (bot_line number) room.now.bots)) }
+{
+    for bot in room.bots() {
+        let status = bot.status().word();
+        let line = LentReply::AddBot {
+            battle: number,
+            bot: bot.name(),
+            owner: bot.owner(),
+            battle_status: status,
+            team_color: bot.colour(),
+            ai: bot.ai(),
+        };
+        write_line(recipient, line, post)?;
+    }
+    Ok(())
+}
+
+/// Writes the start rectangles of a battle, behind a line.
+fn write_rects(
+    recipient: Recipient,
+    room: &Room<ClientKey>,
+    post: &mut Post,
+) -> Result<(), AllocError>
+    requires { written recipient post.old [] ≡ post.old }
+    ensures { OnOk result (post.new ≡ written recipient post.old (map (λ e. rect_line e.0 e.1) room.now.rects)) }
+{
+    let places = room.rects();
+    for ally in 0..ALLY_COUNT as u8 {
+        if let Some(rect) = places[usize::from(ally)] {
+            let line = LentReply::AddStartRect {
+                ally_no: ally,
+                left: rect.left,
+                top: rect.top,
+                right: rect.right,
+                bottom: rect.bottom,
+            };
+            write_line(recipient, line, post)?;
+        }
+    }
+    Ok(())
+}
+
+/// Writes the script tags of a battle, each in a line, behind a line.
+fn write_tags(
+    recipient: Recipient,
+    room: &Room<ClientKey>,
+    post: &mut Post,
+) -> Result<(), AllocError>
+    requires { written recipient post.old [] ≡ post.old }
+    ensures { OnOk result (post.new ≡ written recipient post.old (map (λ t.
+        reply.SetScriptTags (t ∷ [])) room.now.tags)) }
+{
+    for pair in room.tags() {
+        let line = LentReply::SetScriptTags {
+            pairs: slice::from_ref(pair),
+        };
+        write_line(recipient, line, post)?;
+    }
+    Ok(())
+}
+
+/// Writes the disabled units of a battle, each in a line, behind a line.
+fn write_units(
+    recipient: Recipient,
+    room: &Room<ClientKey>,
+    post: &mut Post,
+) -> Result<(), AllocError>
+    requires { written recipient post.old [] ≡ post.old }
+    ensures { OnOk result (post.new ≡ written recipient post.old (map (λ unit.
+        reply.DisableUnits (unit ∷ [])) room.now.units)) }
+{
+    for unit in room.units() {
+        let line = LentReply::DisableUnits {
+            units: slice::from_ref(unit),
+        };
+        write_line(recipient, line, post)?;
+    }
+    Ok(())
+}
