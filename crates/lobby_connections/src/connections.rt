@@ -371,7 +371,7 @@ impl Connections {
     }
 
     /// Lets go what came for a connection that lingers. Whether a poll's token is of one.
-    pub fn let_go(&mut self, registry: &Registry, token: Token) -> bool
+    pub fn discard_input(&mut self, registry: &Registry, token: Token) -> bool
         ensures { self.new ≡ self.old }
     {
         self.lingering.turn(registry, token)
@@ -475,7 +475,7 @@ impl Connections {
     pub fn let_all_go(&mut self) -> bool
         ensures { self.new ≡ self.old }
     {
-        self.lingering.let_go()
+        self.lingering.discard_input()
     }
 
     /// Marks the worker where a turn touched its clients, which are those of this home: the lobby may name more of

@@ -15,7 +15,7 @@ use Rattle.lobby_model.specs.Next.{batch, next, with_batch}
 use Rattle.lobby_model.proofs.Delivered.{delivered_at, find-values}
 use Rattle.lobby_model.proofs.Quiet.{touched_is}
 use Rattle.lobby_model.specs.Touched.{is_touched}
-use Rattle.lobby_post.specs.Mail.{Held, plain}
+use Rattle.lobby_post.specs.Mail.{Mailbox, plain}
 use Rattle.lobby_post.specs.Crowd.{Crowd, Known, waits}
 use Rattle.lobby_post.specs.Posted.{Posted, has_number}
 use Rattle.lobby_post.specs.Dirty.{IsNewly, news, news_of}
@@ -77,11 +77,11 @@ module _ (s t : State) (e : Event) (post : Posted) (changed : effect s e ≡ t) 
   and_again false h l u same = refl
 
   -- who is there stands in the list where its mark says so
-  listed_is : (c : ℕ) (held : Held) → lookup (is_at (nat_cmp c)) clients.slots ≡ Some held → same_number held.client.home home ≡ true
+  listed_is : (c : ℕ) (held : Mailbox) → lookup (is_at (nat_cmp c)) clients.slots ≡ Some held → same_number held.client.home home ≡ true
       → has_number old c ≡ held.listed
   listed_is c held found here =
       let there : is_some (at_number (plain clients.slots) c) ≡ true =
-      ap is_some (find-values (λ d (h : Held). h.client) c clients.slots ∙ ap (option_map (λ (h : Held). h.client)) (sym (lookup_is_find nat_cmp c clients.slots) ∙ found)) in
+      ap is_some (find-values (λ d (h : Mailbox). h.client) c clients.slots ∙ ap (option_map (λ (h : Mailbox). h.client)) (sym (lookup_is_find nat_cmp c clients.slots) ∙ found)) in
       sym (has_kept (λ d. is_some (at_number (plain clients.slots) d)) c old there)
       ∙ ap (λ list. has_number list c) (sym left)
       ∙ waits_marked clients last home c held known found here
@@ -89,7 +89,7 @@ module _ (s t : State) (e : Event) (post : Posted) (changed : effect s e ≡ t) 
   news_is : (c : ℕ) → news post.sent clients.slots home c ≡ (if changes s e home c && not (has_number old c) then 1 else 0)
   news_is c =
       elim (lookup (is_at (nat_cmp c)) clients.slots) as (λ o. lookup (is_at (nat_cmp c)) clients.slots ≡ o
-      → news_of post.sent home c o ≡ (if is_changed s.settings.outbox_limit (batch s e c) home (option_map (λ (h : Held). h.client) o) && not (has_number old c) then 1 else 0)) [
+      → news_of post.sent home c o ≡ (if is_changed s.settings.outbox_limit (batch s e c) home (option_map (λ (h : Mailbox). h.client) o) && not (has_number old c) then 1 else 0)) [
         | None ↦ λ found. refl
         | Some held ↦ λ found.
             ap (λ b. if b then 1 else 0) (
@@ -98,8 +98,8 @@ module _ (s t : State) (e : Event) (post : Posted) (changed : effect s e ≡ t) 
             ∙ and_again (same_number held.client.home home) (has_number old c) held.listed _ (listed_is c held found))
       ] refl
       ∙ ap (λ (o : Option Client). if is_changed s.settings.outbox_limit (batch s e c) home o && not (has_number old c) then 1 else 0)
-      (ap (option_map (λ (h : Held). h.client)) (lookup_is_find nat_cmp c clients.slots)
-      ∙ sym (find-values (λ d (h : Held). h.client) c clients.slots) ∙ ap (λ (m : ByNumber Client). at_number m c) (sym all))
+      (ap (option_map (λ (h : Mailbox). h.client)) (lookup_is_find nat_cmp c clients.slots)
+      ∙ sym (find-values (λ d (h : Mailbox). h.client) c clients.slots) ∙ ap (λ (m : ByNumber Client). at_number m c) (sym all))
 
   pub dirty_so : IsNewly post.sent clients.slots home (waits clients home) new → DirtyAfter s e home old new
   dirty_so newly = record {

@@ -12,7 +12,7 @@ use Rattle.line_words.specs.Table.{ByNumber, at_number, same_number}
 use Rattle.line_words.proofs.Tables.{at-without}
 use Rattle.lobby_model.specs.State.{Client}
 use Rattle.lobby_model.proofs.Delivered.{same_number_is}
-use Rattle.lobby_post.specs.Mail.{Held, Line, parted, plain}
+use Rattle.lobby_post.specs.Mail.{Mailbox, Line, parted, plain}
 use Rattle.lobby_post.specs.Crowd.{Crowd, Known, all_but_client, for_homes, line_at, waits}
 use Rattle.lobby_post.specs.Posted.{has_number}
 use Rattle.lobby_post.specs.Dirty.{Mark, AreKnown, is_of, mark_of, marks_of, stands, times}
@@ -106,7 +106,7 @@ module _ (clients : Crowd) where
   waits_there home = filter_passed _ _ (stands_there home) (line_at clients.lines home).waiting
 
   -- whether a client that is there waits is what its mark says
-  pub waits_marked : (last home c : ℕ) (held : Held) → Known clients last → lookup (is_at (nat_cmp c)) clients.slots ≡ Some held
+  pub waits_marked : (last home c : ℕ) (held : Mailbox) → Known clients last → lookup (is_at (nat_cmp c)) clients.slots ≡ Some held
       → same_number held.client.home home ≡ true → has_number (waits clients home) c ≡ held.listed
   waits_marked last home c held known found here =
       let mark : lookup (is_at (nat_cmp c)) (marks_of clients.slots) ≡ Some (mark_of held) = mark_at c ∙ ap (option_map mark_of) found in
@@ -136,7 +136,7 @@ module _ (clients : Crowd) where
       ∙ filter_alike _ _ gone old
 
   pub none_wait : (home : ℕ) → clients.slots ≡ [] → waits clients home ≡ []
-  none_wait home nobody = ap (λ (m : ByNumber Held). filter (stands (marks_of m) home) (line_at clients.lines home).waiting) nobody
+  none_wait home nobody = ap (λ (m : ByNumber Mailbox). filter (stands (marks_of m) home) (line_at clients.lines home).waiting) nobody
       ∙ nothing (line_at clients.lines home).waiting
     where
       nothing : (xs : List ℕ) → filter (λ c. false) xs ≡ []

@@ -8,7 +8,7 @@ use Rattle.std.specs.FinMap.Entries.{is_sorted, below_all}
 use Rattle.line_words.specs.Table.{ByNumber}
 use Rattle.line_words.proofs.Tables.{both}
 use Rattle.lobby_model.proofs.Splits.{keys-values}
-use Rattle.lobby_post.specs.Mail.{Held, plain}
+use Rattle.lobby_post.specs.Mail.{Mailbox, plain}
 
 below : {X : Type 0} (k : ℕ) (es : ByNumber X) → AllByRecursion (λ y. nat_cmp k y ≡ Less) (map (λ e. e.0) es) → T (below_all nat_cmp k es)
 below k [] h = tt
@@ -19,5 +19,5 @@ unfolding IsStrictlySortedBy
 ordered_is_sorted [] h = tt
 ordered_is_sorted (e ∷ es) h = both _ _ (below e.0 es h.0) (ordered_is_sorted es h.1)
 
-pub plain_sorted : (es : ByNumber Held) → IsStrictlySortedBy nat_cmp (map (λ e. e.0) es) → T (is_sorted nat_cmp (plain es))
+pub plain_sorted : (es : ByNumber Mailbox) → IsStrictlySortedBy nat_cmp (map (λ e. e.0) es) → T (is_sorted nat_cmp (plain es))
 plain_sorted es h = ordered_is_sorted (plain es) (subst (IsStrictlySortedBy nat_cmp) (sym (keys-values (λ held. held.client) es)) h)

@@ -18,7 +18,7 @@ use Rattle.line_words.proofs.Tables.{lookup_is_find, insert_is_put}
 use Rattle.line_words.proofs.Written.{set_is_put}
 use Rattle.lobby_model.proofs.Delivered.{same_number_is, same_itself, find-values}
 use Rattle.lobby_model.proofs.Splits.{Apart, apart_above, apart_of_none, values_apart, same_either_way}
-use Rattle.lobby_post.specs.Mail.{Held}
+use Rattle.lobby_post.specs.Mail.{Mailbox}
 use Rattle.lobby_post.specs.declared.slots.Cell.{Cell}
 use Rattle.lobby_post.specs.Cells.{owner, nobody, held_in, held_by, AreTied}
 
@@ -80,7 +80,7 @@ pub insert_is_set : {X : Type 0} (k : ℕ) (x w : X) (m : ByNumber X) → IsStri
 insert_is_set k x w m h found = set_is_put nat_cmp nat_cmp_total k x w m h found ∙ sym (insert_is_put nat_cmp m k w)
 
 -- the slot of a client, and of another
-pub held-own : (c : ℕ) (w : Held) → held_in c (Some (record { client = c; slot = w })) ≡ w
+pub held-own : (c : ℕ) (w : Mailbox) → held_in c (Some (record { client = c; slot = w })) ≡ w
 held-own c w = ap (λ b. if b then w else nobody) (same_itself c)
 
 held-cell : (c : ℕ) (cell : Cell) → cell.client ≡ c → held_in c (Some cell) ≡ cell.slot
@@ -130,7 +130,7 @@ module _ (cells : Slab Cell) (index : ByNumber ℕ) (tied : AreTied cells index)
         ∙ ap (λ o. Some (held_in c o)) at ∙ ap Some (held-cell c cell (owned cell at)))
 
     -- a slot written in its cell
-    module _ (w : Held) (cell : Cell) (at : get cells slot ≡ Some cell) where
+    module _ (w : Mailbox) (cell : Cell) (at : get cells slot ≡ Some cell) where
       abbrev after : Slab Cell
       after = with_value cells slot (record { client = cell.client; slot = w })
 
@@ -208,7 +208,7 @@ module _ (cells : Slab Cell) (index : ByNumber ℕ) (tied : AreTied cells index)
               ]
 
   -- a client added, in a cell that was vacant
-  module _ (none : lookup (is_at (nat_cmp c)) index ≡ None) (slot : ℕ) (w : Held) (vacant : get cells slot ≡ None) (after : Slab Cell) (more : ByNumber ℕ)
+  module _ (none : lookup (is_at (nat_cmp c)) index ≡ None) (slot : ℕ) (w : Mailbox) (vacant : get cells slot ≡ None) (after : Slab Cell) (more : ByNumber ℕ)
       (updates : Updates cells after slot (Some (record { client = c; slot = w })))
       (rising : IsStrictlySortedBy nat_cmp (map (λ e. e.0) more))
       (added : (q : ℕ) → lookup (is_at (nat_cmp q)) more ≡ cond (is_at (nat_cmp c) q) (Some slot) (lookup (is_at (nat_cmp q)) index)) where

@@ -8,7 +8,7 @@ use Rattle.std.specs.Map.{lookup, set_value}
 use Rattle.line_words.specs.Table.{ByNumber, change_number}
 use Rattle.lobby_model.specs.State.{Client, is_live}
 use Rattle.lobby_post.specs.declared.clients.Clients.TheInside.{Inside}
-use Rattle.lobby_post.specs.Mail.{Held, AreDue, AreReady, HaveLimit, IsReady, plain}
+use Rattle.lobby_post.specs.Mail.{Mailbox, AreDue, AreReady, HaveLimit, IsReady, plain}
 use Rattle.lobby_post.specs.Dirty.{marks_of}
 use Rattle.lobby_post.proofs.Crowds.{written_through, due_kept, plain_changed, plain_unchanged}
 use Rattle.lobby_post.proofs.Listed.{marks_kept}
@@ -25,7 +25,7 @@ pub record IsChanged (c : ℕ) (f : Client → Client) (old new : Inside) : Type
 
 module _ (c : ℕ) (f : Client → Client) (old : Inside) where
   -- its slot x is written, and is w then
-  pub written : ((client : Client) → (f client).home ≡ client.home) → (x w : Held) → IsStrictlySortedBy nat_cmp (map (λ e. e.0) old.slots)
+  pub written : ((client : Client) → (f client).home ≡ client.home) → (x w : Mailbox) → IsStrictlySortedBy nat_cmp (map (λ e. e.0) old.slots)
       → Some x ≡ lookup (is_at (nat_cmp c)) old.slots → w.client ≡ f x.client → w.limit ≡ x.limit → w.listed ≡ x.listed → (is_live w.client ≡ true → is_live x.client ≡ true) → w.due ≡ x.due
       → (IsReady x → IsReady w) → IsChanged c f old (record old { slots = set_value (is_at (nat_cmp c)) old.slots w })
   written stays x w rising found client limit listed heard due ready =

@@ -10,15 +10,15 @@ use Rattle.std.specs.Cmp.{nat_cmp_total}
 use Rattle.std.specs.List.Sorted.{IsStrictlySortedBy}
 use Rattle.std.specs.Option.{option_map, unwrap_or}
 use Rattle.line_words.specs.Table.{ByNumber}
-use Rattle.lobby_post.specs.Mail.{Held}
+use Rattle.lobby_post.specs.Mail.{Mailbox}
 use Rattle.lobby_post.specs.Dirty.{idle_of, is_idle, mark_of, marks_of}
 
 module _ (home : ℕ) where
   -- 1 for a client of the worker that stands in no list, else 0
-  abbrev pub idle_one : Held → ℕ
+  abbrev pub idle_one : Mailbox → ℕ
   idle_one held = if is_idle home (mark_of held) then 1 else 0
 
-  pub idle-sum : (es : ByNumber Held) → idle_of home (marks_of es) ≡ sum_by idle_one (values_of es)
+  pub idle-sum : (es : ByNumber Mailbox) → idle_of home (marks_of es) ≡ sum_by idle_one (values_of es)
   idle-sum [] = refl
   idle-sum (e ∷ es) =
       let rest = idle-sum es in
@@ -28,8 +28,8 @@ module _ (home : ℕ) where
         | false ↦ omega (arith, rest)
       ] ∙ sym (sum_by-cons idle_one e.1 (values_of es))
 
-  module _ (c : ℕ) (es fs : ByNumber Held) where
-    pub idle_written : (x w : Held) → fs ≡ set_value (is_at (nat_cmp c)) es w → lookup (is_at (nat_cmp c)) es ≡ Some x
+  module _ (c : ℕ) (es fs : ByNumber Mailbox) where
+    pub idle_written : (x w : Mailbox) → fs ≡ set_value (is_at (nat_cmp c)) es w → lookup (is_at (nat_cmp c)) es ≡ Some x
         → idle_of home (marks_of fs) + idle_one x ≡ idle_of home (marks_of es) + idle_one w
     idle_written x w is found =
         let old = idle-sum es in
@@ -38,8 +38,8 @@ module _ (home : ℕ) where
         let same = ap (λ m. sum_by idle_one (values_of m)) is in
         omega (arith, old, new, sums, same)
 
-module _ (home c : ℕ) (es fs : ByNumber Held) where
-  pub idle_inserted : (w : Held) → fs ≡ insert_entry nat_cmp es c w → IsStrictlySortedBy nat_cmp (map (λ e. e.0) es) → lookup (is_at (nat_cmp c)) es ≡ None
+module _ (home c : ℕ) (es fs : ByNumber Mailbox) where
+  pub idle_inserted : (w : Mailbox) → fs ≡ insert_entry nat_cmp es c w → IsStrictlySortedBy nat_cmp (map (λ e. e.0) es) → lookup (is_at (nat_cmp c)) es ≡ None
       → idle_of home (marks_of fs) ≡ idle_of home (marks_of es) + idle_one home w
   idle_inserted w is ordered none =
       let old = idle-sum home es in
@@ -49,7 +49,7 @@ module _ (home c : ℕ) (es fs : ByNumber Held) where
       let same = ap (λ m. sum_by (idle_one home) (values_of m)) is in
       omega (arith, old, new, sums, nothing, same)
 
-  pub idle_removed : (x : Held) → fs ≡ remove_entry (is_at (nat_cmp c)) es → lookup (is_at (nat_cmp c)) es ≡ Some x
+  pub idle_removed : (x : Mailbox) → fs ≡ remove_entry (is_at (nat_cmp c)) es → lookup (is_at (nat_cmp c)) es ≡ Some x
       → idle_of home (marks_of fs) + idle_one home x ≡ idle_of home (marks_of es)
   idle_removed x is found =
       let old = idle-sum home es in

@@ -6,13 +6,13 @@ use Rattle.std.proofs.Math.Seq.{drop-append_seam, drop-length}
 use Rattle.std.proofs.lemmas.List.{drop-append-le, take-append-le, length-drop, map-append, take_all}
 use Rattle.reply_kinds.specs.declared.Reply.{Reply}
 use Rattle.reply_kinds.specs.Replies.{id_text, body, printed_line}
-use Rattle.lobby_post.specs.declared.delivery.Piece.{Piece}
+use Rattle.lobby_post.specs.declared.delivery.Delivery.{Delivery}
 use Rattle.line_words.specs.Table.{ByNumber}
 use Rattle.lobby_post.specs.Dues.{is_long, shares_of, with_share}
 use Rattle.lobby_post.specs.Pieces.{LiesIn, bytes_of, pieces_of}
 use Rattle.lobby_post.specs.Posted.{Posted}
 
-bytes_same : (text more : List ℕ) (p : Piece) → LiesIn text p → bytes_of (text ++ more) p ≡ bytes_of text p
+bytes_same : (text more : List ℕ) (p : Delivery) → LiesIn text p → bytes_of (text ++ more) p ≡ bytes_of text p
 bytes_same text more p h =
     let rises : p.from ≤ p.to = h.0 in
     let ends : p.to ≤ length text = h.1 in
@@ -20,23 +20,23 @@ bytes_same text more p h =
     ap (take (p.to - p.from)) (drop-append-le p.from text more (omega (arith, rises, ends)))
     ∙ take-append-le (p.to - p.from) (drop p.from text) more (omega (arith, rises, ends, long))
 
-pub pieces_same : (text more : List ℕ) (ps : List Piece) → AllByRecursion (LiesIn text) ps → pieces_of (text ++ more) ps ≡ pieces_of text ps
+pub pieces_same : (text more : List ℕ) (ps : List Delivery) → AllByRecursion (LiesIn text) ps → pieces_of (text ++ more) ps ≡ pieces_of text ps
 pieces_same text more [] h = refl
 pieces_same text more (p ∷ ps) h = λ i. (p.key.number, bytes_same text more p h.0 i) ∷ pieces_same text more ps h.1 i
 
-inside_more : (text more : List ℕ) (ps : List Piece) → AllByRecursion (LiesIn text) ps → AllByRecursion (LiesIn (text ++ more)) ps
+inside_more : (text more : List ℕ) (ps : List Delivery) → AllByRecursion (LiesIn text) ps → AllByRecursion (LiesIn (text ++ more)) ps
 inside_more text more [] h = tt
 inside_more text more (p ∷ ps) h =
     let ends : p.to ≤ length text = h.0.1 in
     let long = length-append text more in
     ((h.0.0, omega (arith, ends, long)), inside_more text more ps h.1)
 
-pub inside_and : (text : List ℕ) (ps : List Piece) (p : Piece) → AllByRecursion (LiesIn text) ps → LiesIn text p → AllByRecursion (LiesIn text) (ps ++ p ∷ [])
+pub inside_and : (text : List ℕ) (ps : List Delivery) (p : Delivery) → AllByRecursion (LiesIn text) ps → LiesIn text p → AllByRecursion (LiesIn text) (ps ++ p ∷ [])
 inside_and text [] p h here = (here, tt)
 inside_and text (q ∷ ps) p h here = (h.0, inside_and text ps p h.1 here)
 
 -- the pieces and their shares, where more is printed
-pub parts_more : (text more out : List ℕ) (ps : List Piece) (shares : List (List ℕ)) → out ≡ text ++ more → AllByRecursion (LiesIn text) ps
+pub parts_more : (text more out : List ℕ) (ps : List Delivery) (shares : List (List ℕ)) → out ≡ text ++ more → AllByRecursion (LiesIn text) ps
     → shares ≡ shares_of (pieces_of text ps) → AllByRecursion (LiesIn out) ps × (shares ≡ shares_of (pieces_of out ps))
 parts_more text more out ps shares is inside all =
     subst (λ t. AllByRecursion (LiesIn t) ps × (shares ≡ shares_of (pieces_of t ps))) (sym is)
@@ -59,7 +59,7 @@ shares-append (p ∷ sent) c bytes =
     ]
 
 -- one more piece with its share
-pub shares_more : (text : List ℕ) (ps : List Piece) (p : Piece) (old new : List (List ℕ)) → old ≡ shares_of (pieces_of text ps)
+pub shares_more : (text : List ℕ) (ps : List Delivery) (p : Delivery) (old new : List (List ℕ)) → old ≡ shares_of (pieces_of text ps)
     → new ≡ old ++ with_share (bytes_of text p) [] → new ≡ shares_of (pieces_of text (ps ++ p ∷ []))
 shares_more text ps p old new all added =
     added ∙ ap (λ rest. rest ++ with_share (bytes_of text p) []) all ∙ sym (shares-append (pieces_of text ps) p.key.number (bytes_of text p))
@@ -68,7 +68,7 @@ shares_more text ps p old new all added =
 whole_line : (id : Option ℕ) (r : Reply) → id_text id ++ printed_line None r ≡ printed_line id r
 whole_line id r = sym (append_assoc (id_text id) (body r) (10 ∷ []))
 
-pub written : (issuer : ℕ) (id : Option ℕ) (text mid out : List ℕ) (ps : List Piece) (r : Reply) (own shared : ℕ) → mid ≡ text ++ id_text id → out
+pub written : (issuer : ℕ) (id : Option ℕ) (text mid out : List ℕ) (ps : List Delivery) (r : Reply) (own shared : ℕ) → mid ≡ text ++ id_text id → out
     ≡ mid ++ printed_line None r → own ≡ length text → shared ≡ length mid → AllByRecursion (LiesIn text) ps
     → ◌≡◌ {A = Posted} (record { issuer = issuer; id = id; text = length out; own = drop own out; shared = drop shared out; sent = pieces_of out ps })
     (record { issuer = issuer; id = id; text = length text + length (printed_line id r); own = printed_line id r; shared = printed_line None r; sent = pieces_of text ps })
@@ -80,7 +80,7 @@ written issuer id text mid out ps r own shared m o begins line h =
     let long : length out ≡ length text + length (printed_line id r) = ap length (all ∙ ap (λ line. text ++ line) (whole_line id r)) ∙ length-append text _ in
     λ i. record { issuer = issuer; id = id; text = long i; own = first i; shared = second i; sent = rest i }
 
-pub written_for_others : (issuer : ℕ) (id : Option ℕ) (text out : List ℕ) (ps : List Piece) (r : Reply) (own shared : ℕ) → out ≡ text
+pub written_for_others : (issuer : ℕ) (id : Option ℕ) (text out : List ℕ) (ps : List Delivery) (r : Reply) (own shared : ℕ) → out ≡ text
     ++ printed_line None r → shared ≡ length text → own ≡ length out → AllByRecursion (LiesIn text) ps
     → ◌≡◌ {A = Posted} (record { issuer = issuer; id = id; text = length out; own = drop own out; shared = drop shared out; sent = pieces_of out ps })
     (record { issuer = issuer; id = id; text = length text + length (printed_line None r); own = []; shared = printed_line None r; sent = pieces_of text ps })
@@ -94,7 +94,7 @@ written_for_others issuer id text out ps r own shared o line ends h =
 behind : (n : ℕ) (text line out : List ℕ) → out ≡ text ++ line → n ≤ length text → drop n out ≡ drop n text ++ line
 behind n text line out is within = ap (drop n) is ∙ drop-append-le n text line within
 
-module _ (issuer : ℕ) (id : Option ℕ) (text line out : List ℕ) (ps : List Piece) (own shared : ℕ) (is : out ≡ text ++ line)
+module _ (issuer : ℕ) (id : Option ℕ) (text line out : List ℕ) (ps : List Delivery) (own shared : ℕ) (is : out ≡ text ++ line)
     (h : AllByRecursion (LiesIn text) ps) (within : shared ≤ length text) where
   longer : length out ≡ length text + length line
   longer = ap length is ∙ length-append text line

@@ -10,7 +10,7 @@ use Rattle.line_words.specs.Table.{ByNumber, same_number}
 use Rattle.lobby_model.specs.State.{Client}
 use Rattle.lobby_model.proofs.Delivered.{same_number_is, same_itself}
 use Rattle.lobby_model.proofs.Splits.{lookup-values, set_value-values}
-use Rattle.lobby_post.specs.Mail.{Held}
+use Rattle.lobby_post.specs.Mail.{Mailbox}
 use Rattle.lobby_post.specs.Dirty.{IsTrimmed, times, mark_of, marks_of}
 use Rattle.lobby_post.proofs.Filtered.{filter-twice}
 
@@ -25,14 +25,14 @@ same_is_eq a b =
     ] refl
 
 -- a slot written with its mark as it was
-pub marks_kept : (c : ℕ) (x w : Held) (es fs : ByNumber Held) → fs ≡ set_value (is_at (nat_cmp c)) es w → Some x ≡ lookup (is_at (nat_cmp c)) es
+pub marks_kept : (c : ℕ) (x w : Mailbox) (es fs : ByNumber Mailbox) → fs ≡ set_value (is_at (nat_cmp c)) es w → Some x ≡ lookup (is_at (nat_cmp c)) es
     → w.client.home ≡ x.client.home → w.listed ≡ x.listed → marks_of fs ≡ marks_of es
 marks_kept c x w es fs is found home listed =
     ap marks_of is ∙ set_value-values mark_of (is_at (nat_cmp c)) w es
     ∙ ap (set_value (is_at (nat_cmp c)) (marks_of es)) (λ i. record { home = home i; listed = listed i })
     ∙ set_value_same (is_at (nat_cmp c)) (marks_of es) (mark_of x) (lookup-values mark_of (is_at (nat_cmp c)) x es (sym found))
 
-pub marks_same : (c : ℕ) (x w : Held) (es fs : ByNumber Held) → fs ≡ set_value (is_at (nat_cmp c)) es w → Some x ≡ lookup (is_at (nat_cmp c)) es
+pub marks_same : (c : ℕ) (x w : Mailbox) (es fs : ByNumber Mailbox) → fs ≡ set_value (is_at (nat_cmp c)) es w → Some x ≡ lookup (is_at (nat_cmp c)) es
     → w.client ≡ x.client → w.listed ≡ x.listed → marks_of fs ≡ marks_of es
 marks_same c x w es fs is found same listed = marks_kept c x w es fs is found (ap (λ (client : Client). client.home) same) listed
 

@@ -10,7 +10,7 @@ use Rattle.line_words.specs.Table.{ByNumber, same_number}
 use Rattle.lobby_model.proofs.Delivered.{same_number_is}
 use Rattle.lobby_model.specs.State.{Client, is_live}
 use Rattle.lobby_model.specs.Next.{with_batch, has_room_for}
-use Rattle.lobby_post.specs.Mail.{Held}
+use Rattle.lobby_post.specs.Mail.{Mailbox}
 use Rattle.lobby_post.specs.Dirty.{Mark, is_of, mark_of, marks_of, stands}
 use Rattle.lobby_post.proofs.Crowds.{IsWritten}
 
@@ -18,7 +18,7 @@ use Rattle.lobby_post.proofs.Crowds.{IsWritten}
 abbrev pub IsPut : ℕ → Mark → ByNumber Mark → ByNumber Mark → Type 0
 IsPut c mark old new = (q : ℕ) → lookup (is_at (nat_cmp q)) new ≡ cond (same_number c q) (Some mark) (lookup (is_at (nat_cmp q)) old)
 
-pub marks_put : (c : ℕ) (w : Held) (es fs : ByNumber Held) → IsWritten c w es fs → IsPut c (mark_of w) (marks_of es) (marks_of fs)
+pub marks_put : (c : ℕ) (w : Mailbox) (es fs : ByNumber Mailbox) → IsWritten c w es fs → IsPut c (mark_of w) (marks_of es) (marks_of fs)
 marks_put c w es fs written = λ q.
     lookup-map_values mark_of (is_at (nat_cmp q)) fs ∙ ap (option_map mark_of) (written q)
     ∙ elim (same_number c q) as (λ b. option_map mark_of (cond b (Some w) (lookup (is_at (nat_cmp q)) es))
@@ -58,7 +58,7 @@ module _ (c : ℕ) (old new : ByNumber Mark) (h : ℕ) where
 abbrev pub IsTaken : ℕ → ByNumber Mark → ByNumber Mark → Type 0
 IsTaken c old new = (q : ℕ) → lookup (is_at (nat_cmp q)) new ≡ cond (same_number c q) None (lookup (is_at (nat_cmp q)) old)
 
-pub marks_taken : (c : ℕ) (es fs : ByNumber Held)
+pub marks_taken : (c : ℕ) (es fs : ByNumber Mailbox)
     → ((q : ℕ) → lookup (is_at (nat_cmp q)) fs ≡ cond (is_at (nat_cmp c) q) None (lookup (is_at (nat_cmp q)) es))
     → IsTaken c (marks_of es) (marks_of fs)
 marks_taken c es fs removed = λ q.
@@ -70,20 +70,20 @@ marks_taken c es fs removed = λ q.
     ]
 
 -- a look-up among the slots, by one among the marks
-pub unmarked : (c : ℕ) (es : ByNumber Held) → lookup (is_at (nat_cmp c)) (marks_of es) ≡ None → lookup (is_at (nat_cmp c)) es ≡ None
+pub unmarked : (c : ℕ) (es : ByNumber Mailbox) → lookup (is_at (nat_cmp c)) (marks_of es) ≡ None → lookup (is_at (nat_cmp c)) es ≡ None
 unmarked c es none =
     elim (lookup (is_at (nat_cmp c)) es) as (λ o. option_map mark_of o ≡ None → o ≡ None) [
       | None ↦ λ n. refl
       | Some x ↦ λ n. absurd (cc)
     ] (sym (lookup-map_values mark_of (is_at (nat_cmp c)) es) ∙ none)
 
-pub marked : (c : ℕ) (es : ByNumber Held) (x : Held) → lookup (is_at (nat_cmp c)) es ≡ Some x → lookup (is_at (nat_cmp c)) (marks_of es) ≡ Some (mark_of x)
+pub marked : (c : ℕ) (es : ByNumber Mailbox) (x : Mailbox) → lookup (is_at (nat_cmp c)) es ≡ Some x → lookup (is_at (nat_cmp c)) (marks_of es) ≡ Some (mark_of x)
 marked c es x found = lookup-map_values mark_of (is_at (nat_cmp c)) es ∙ ap (option_map mark_of) found
 
 -- the slot of a client that is there and this worker's
-pub stands_slot : (home c : ℕ) (es : ByNumber Held) → stands (marks_of es) home c ≡ true → (x : Held) × (lookup (is_at (nat_cmp c)) es ≡ Some x)
+pub stands_slot : (home c : ℕ) (es : ByNumber Mailbox) → stands (marks_of es) home c ≡ true → (x : Mailbox) × (lookup (is_at (nat_cmp c)) es ≡ Some x)
 stands_slot home c es passes =
-    elim (lookup (is_at (nat_cmp c)) es) as (λ o. is_of home (option_map mark_of o) ≡ true → (x : Held) × (o ≡ Some x)) [
+    elim (lookup (is_at (nat_cmp c)) es) as (λ o. is_of home (option_map mark_of o) ≡ true → (x : Mailbox) × (o ≡ Some x)) [
       | None ↦ λ t. absurd (cc)
       | Some x ↦ λ t. (x, refl)
     ] (sym (ap (is_of home) (lookup-map_values mark_of (is_at (nat_cmp c)) es)) ∙ passes)

@@ -7,7 +7,7 @@ use Rattle.std.specs.Map.{lookup}
 use Rattle.std.proofs.lemmas.List.Elements.{filter-append}
 use Rattle.line_words.specs.Table.{ByNumber, same_number}
 use Rattle.lobby_model.proofs.Splits.{lookup-values}
-use Rattle.lobby_post.specs.Mail.{Held, Line}
+use Rattle.lobby_post.specs.Mail.{Mailbox, Line}
 use Rattle.lobby_post.specs.Dirty.{IsNewly, Roomy, is_of, line_of, mark_of, marks_of, news, news_of, stands, times}
 use Rattle.lobby_post.specs.Crowd.{line_at, lines_of}
 use Rattle.lobby_post.proofs.Counts.{times-first}
@@ -26,7 +26,7 @@ counts_yes : (b : Bool) → 0 < (if b then 1 else 0) → b ≡ true
 counts_yes true more = refl
 counts_yes false more = absurd (omega (arith, more))
 
-module _ (pieces : ByNumber (List ℕ)) (slots : ByNumber Held) (home : ℕ) where
+module _ (pieces : ByNumber (List ℕ)) (slots : ByNumber Mailbox) (home : ℕ) where
   news_stand : (c : ℕ) → 0 < news pieces slots home c → stands (marks_of slots) home c ≡ true
   news_stand c more =
       elim (lookup (is_at (nat_cmp c)) slots) as (λ o. lookup (is_at (nat_cmp c)) slots ≡ o → 0 < news_of pieces home c o → stands (marks_of slots) home c ≡ true) [
@@ -35,7 +35,7 @@ module _ (pieces : ByNumber (List ℕ)) (slots : ByNumber Held) (home : ℕ) whe
             ∙ and_first (same_number held.client.home home) _ (counts_yes _ m)
       ] refl more
 
-  module _ (after : ByNumber Held) (same : (c : ℕ) → stands (marks_of after) home c ≡ stands (marks_of slots) home c) where
+  module _ (after : ByNumber Mailbox) (same : (c : ℕ) → stands (marks_of after) home c ≡ stands (marks_of slots) home c) where
     newly_there : (old new : List ℕ) → IsNewly pieces slots home old new
         → IsNewly pieces slots home (filter (stands (marks_of slots) home) old) (filter (stands (marks_of after) home) new)
     newly_there old new newly =

@@ -13,7 +13,7 @@ use Rattle.line_words.specs.Table.{ByNumber, same_number}
 use Rattle.lobby_model.proofs.Delivered.{same_number_is}
 use Rattle.lobby_model.proofs.Splits.{same_either_way}
 use Rattle.lobby_model.specs.Touched.{is_touched}
-use Rattle.lobby_post.specs.Mail.{Held, Line}
+use Rattle.lobby_post.specs.Mail.{Mailbox, Line}
 use Rattle.lobby_post.specs.Dirty.{AllMarks, Mark, news, news_of, pushed, times}
 use Rattle.lobby_post.proofs.Counts.{times-append}
 use Rattle.lobby_post.proofs.Marks.{IsPut}
@@ -113,12 +113,12 @@ next_line false c old room = record {
 
 -- a piece for another client leaves the news of this one
 module _ (c : ℕ) (bytes : List ℕ) (rest : ByNumber (List ℕ)) where
-  pub news_other : (home q : ℕ) → same_number q c ≡ false → (o : Option Held) → news_of rest home q o ≡ news_of ((c, bytes) ∷ rest) home q o
+  pub news_other : (home q : ℕ) → same_number q c ≡ false → (o : Option Mailbox) → news_of rest home q o ≡ news_of ((c, bytes) ∷ rest) home q o
   news_other home q e None = refl
   news_other home q e (Some held) =
       ap (λ b. if same_number held.client.home home && (not held.listed && is_touched held.limit b held.client) then 1 else 0) (other_piece c bytes rest q e)
 
-  pub news_past : (es : ByNumber Held) → lookup (is_at (nat_cmp c)) es ≡ None → (home q : ℕ) → news rest es home q ≡ news ((c, bytes) ∷ rest) es home q
+  pub news_past : (es : ByNumber Mailbox) → lookup (is_at (nat_cmp c)) es ≡ None → (home q : ℕ) → news rest es home q ≡ news ((c, bytes) ∷ rest) es home q
   news_past es none home q =
       elim (same_number q c) as (λ b. same_number q c ≡ b → news rest es home q ≡ news ((c, bytes) ∷ rest) es home q) [
         | true ↦ λ t. subst (λ k. news rest es home k ≡ news ((c, bytes) ∷ rest) es home k) (sym (same_number_is q c t))

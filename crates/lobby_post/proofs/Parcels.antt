@@ -1,4 +1,4 @@
--- Piece by piece is all at once: one piece put, and the rest delivered, is the whole delivered.
+-- Delivery by piece is all at once: one piece put, and the rest delivered, is the whole delivered.
 use Rattle.std.proofs.Common.{◌≡◌, ℕ, ◌+◌, ◌-◌, ◌^◌, ◌<◌, List, [], ◌∷◌, ◌++◌, length, refl, sym, ap, subst, ◌∙◌, Bool, true, false, not, map, arith, append_assoc, append-nil, length-append}
 use Rattle.std.specs.Prelude.{Some, None, ◌&&◌, ◌||◌, nat_le, if◌then◌else◌}
 use Rattle.std.proofs.lemmas.Bool.{leb-true, leb-false, le-leb, lt-leb}

@@ -14,18 +14,18 @@ use Rattle.line_words.specs.Table.{ByNumber, same_number}
 use Rattle.lobby_model.specs.State.{Client, is_live}
 use Rattle.lobby_model.proofs.Splits.{keys-values, lookup-values, lookup-values-none, set_value-values}
 use Rattle.lobby_post.specs.Mask.{has_home}
-use Rattle.lobby_post.specs.declared.delivery.Piece.{Piece}
+use Rattle.lobby_post.specs.declared.delivery.Delivery.{Delivery}
 use Rattle.lobby_post.specs.declared.due.Due.{Due}
 use Rattle.lobby_post.specs.Dues.{counted, due_and, due_but, count_for, nothing_due, shares_of, shared_pieces_in, Covers}
 use Rattle.lobby_post.specs.Pieces.{LiesIn, bytes_of, pieces_of}
 use Rattle.lobby_post.specs.Weights.{counted_on, weight, weight_of}
 use Rattle.std.proofs.Math.Nat.{mod-add-mod, mod-eq_of_lt}
-use Rattle.lobby_post.specs.Mail.{Held, plain, bytes_for, due_for, deliver, wakes_one, wakes_home, AllSlots, AwaitsPiece, HaveLimit, PutsFirst, AreDue, IsDue, IsReady, AreReady, IsShort, WantsMemory}
+use Rattle.lobby_post.specs.Mail.{Mailbox, plain, bytes_for, due_for, deliver, wakes_one, wakes_home, AllSlots, AwaitsPiece, HaveLimit, PutsFirst, AreDue, IsDue, IsReady, AreReady, IsShort, WantsMemory}
 use Rattle.lobby_post.proofs.Crowds.{IsWritten, all_written, all_past}
 use Rattle.lobby_post.proofs.Dues.{bytes_front, copied_within, count_front, counted_less, due_covers, due_grown, due_left, due_other, due_same}
 use Rattle.lobby_post.proofs.Parcels.{deliver_step, deliver_past, deliver_nil, touched_alike, wakes_step, wakes_past, wakes_nil}
 
-abbrev pub blank : Piece
+abbrev pub blank : Delivery
 blank = record { key = record { number = 0; slot = 0 }; from = 0; to = 0 }
 
 -- a count that goes on twice
@@ -43,7 +43,7 @@ or_none true b e = refl
 or_none false b e = e
 
 -- a slot written with its client as it was
-pub plain_same : (c : ℕ) (x w : Held) (es fs : ByNumber Held) → fs ≡ set_value (is_at (nat_cmp c)) es w → Some x ≡ lookup (is_at (nat_cmp c)) es
+pub plain_same : (c : ℕ) (x w : Mailbox) (es fs : ByNumber Mailbox) → fs ≡ set_value (is_at (nat_cmp c)) es w → Some x ≡ lookup (is_at (nat_cmp c)) es
     → w.client ≡ x.client → plain fs ≡ plain es
 plain_same c x w es fs is found same =
     ap plain is ∙ set_value-values (λ held. held.client) (is_at (nat_cmp c)) w es
@@ -51,12 +51,12 @@ plain_same c x w es fs is found same =
     ∙ set_value_same (is_at (nat_cmp c)) (plain es) x.client (lookup-values (λ held. held.client) (is_at (nat_cmp c)) x es (sym found))
 
 -- the limits of outboxes where one slot is written
-pub limits_next : (limit c : ℕ) (x w : Held) (es fs : ByNumber Held) → IsWritten c w es fs → Some x ≡ lookup (is_at (nat_cmp c)) es → w.limit
+pub limits_next : (limit c : ℕ) (x w : Mailbox) (es fs : ByNumber Mailbox) → IsWritten c w es fs → Some x ≡ lookup (is_at (nat_cmp c)) es → w.limit
     ≡ x.limit → HaveLimit limit es → HaveLimit limit fs
 limits_next limit c x w es fs written found same = all_written (λ q held. held.limit ≡ limit) (λ q held. held.limit ≡ limit) c
     (λ q held e h. h) x w es fs written found (λ h. same ∙ h)
 
-pub ready_next : (c : ℕ) (x w : Held) (es fs : ByNumber Held) → IsWritten c w es fs → Some x ≡ lookup (is_at (nat_cmp c)) es → IsReady w
+pub ready_next : (c : ℕ) (x w : Mailbox) (es fs : ByNumber Mailbox) → IsWritten c w es fs → Some x ≡ lookup (is_at (nat_cmp c)) es → IsReady w
     → AreReady es → AreReady fs
 ready_next c x w es fs written found ready = all_written (λ q held. IsReady held) (λ q held. IsReady held) c
     (λ q held e h. h) x w es fs written found (λ h. ready)
@@ -70,7 +70,7 @@ module _ (c : ℕ) (bytes : List ℕ) (rest : ByNumber (List ℕ)) where
     | inr many ↦ inr (uncounted many)
   ]
 
-  pub less_due : (x w : Held) (es fs : ByNumber Held) → IsWritten c w es fs → Some x ≡ lookup (is_at (nat_cmp c)) es
+  pub less_due : (x w : Mailbox) (es fs : ByNumber Mailbox) → IsWritten c w es fs → Some x ≡ lookup (is_at (nat_cmp c)) es
       → (is_live w.client ≡ true → is_live x.client ≡ true)
       → (is_live w.client ≡ true → w.due ≡ due_but x.due (length bytes))
       → (is_live w.client ≡ true → 2 ^ 32 - 1 ≤ x.due.bytes → length bytes ≡ 0)
@@ -83,23 +83,23 @@ module _ (c : ℕ) (bytes : List ℕ) (rest : ByNumber (List ℕ)) where
       less hears ∙ ap (λ d. due_but d (length bytes)) was
       ∙ due_left c bytes rest (few_or_none (λ many. uncounted hears (subst (λ (d : Due). 2 ^ 32 - 1 ≤ d.bytes) (sym was) many))))
 
-  pub less_past : (es : ByNumber Held) → lookup (is_at (nat_cmp c)) es ≡ None → AreDue ((c, bytes) ∷ rest) es → AreDue rest es
+  pub less_past : (es : ByNumber Mailbox) → lookup (is_at (nat_cmp c)) es ≡ None → AreDue ((c, bytes) ∷ rest) es → AreDue rest es
   less_past es none =
       all_past (λ q held. IsDue (due_for ((c, bytes) ∷ rest) q) held) (λ q held. IsDue (due_for rest q) held) c
       (λ q held e h hears. h hears ∙ due_other c bytes rest q e) es none
 
-  pub due_here : (x : Held) (es : ByNumber Held) → Some x ≡ lookup (is_at (nat_cmp c)) es → AreDue ((c, bytes) ∷ rest) es
+  pub due_here : (x : Mailbox) (es : ByNumber Mailbox) → Some x ≡ lookup (is_at (nat_cmp c)) es → AreDue ((c, bytes) ∷ rest) es
       → AwaitsPiece x (length bytes)
   due_here x es found due = λ hears few.
       let is = due c x (sym found) hears in
       subst (λ d. Covers d (length bytes)) (sym is) (due_covers c bytes rest (subst (λ (d : Due). d.bytes < 2 ^ 32 - 1) is few))
 
 -- what is due is forgotten, client by client: to each that hears nothing is due, or what was
-abbrev pub AreLeft : ByNumber (List ℕ) → ByNumber Held → Type 0
+abbrev pub AreLeft : ByNumber (List ℕ) → ByNumber Mailbox → Type 0
 AreLeft rest = AllSlots (λ q held. is_live held.client ≡ true → (held.due ≡ nothing_due) ⊎ (held.due ≡ due_for rest q))
 
 module _ (c : ℕ) (bytes : List ℕ) (rest : ByNumber (List ℕ)) where
-  left_other : (q : ℕ) (held : Held) → same_number q c ≡ false
+  left_other : (q : ℕ) (held : Mailbox) → same_number q c ≡ false
       → (is_live held.client ≡ true → (held.due ≡ nothing_due) ⊎ (held.due ≡ due_for ((c, bytes) ∷ rest) q))
       → is_live held.client ≡ true → (held.due ≡ nothing_due) ⊎ (held.due ≡ due_for rest q)
   left_other q held e h hears = elim (h hears) [
@@ -107,39 +107,39 @@ module _ (c : ℕ) (bytes : List ℕ) (rest : ByNumber (List ℕ)) where
     | inr due ↦ inr (due ∙ due_other c bytes rest q e)
   ]
 
-  pub forgets : (x w : Held) (es fs : ByNumber Held) → IsWritten c w es fs → Some x ≡ lookup (is_at (nat_cmp c)) es → w.due ≡ nothing_due
+  pub forgets : (x w : Mailbox) (es fs : ByNumber Mailbox) → IsWritten c w es fs → Some x ≡ lookup (is_at (nat_cmp c)) es → w.due ≡ nothing_due
       → AreLeft ((c, bytes) ∷ rest) es → AreLeft rest fs
   forgets x w es fs written found none =
       all_written (λ q held. is_live held.client ≡ true → (held.due ≡ nothing_due) ⊎ (held.due ≡ due_for ((c, bytes) ∷ rest) q))
       (λ q held. is_live held.client ≡ true → (held.due ≡ nothing_due) ⊎ (held.due ≡ due_for rest q)) c left_other
       x w es fs written found (λ h hears. inl none)
 
-  pub forgets_past : (es : ByNumber Held) → lookup (is_at (nat_cmp c)) es ≡ None → AreLeft ((c, bytes) ∷ rest) es → AreLeft rest es
+  pub forgets_past : (es : ByNumber Mailbox) → lookup (is_at (nat_cmp c)) es ≡ None → AreLeft ((c, bytes) ∷ rest) es → AreLeft rest es
   forgets_past es none =
       all_past (λ q held. is_live held.client ≡ true → (held.due ≡ nothing_due) ⊎ (held.due ≡ due_for ((c, bytes) ∷ rest) q))
       (λ q held. is_live held.client ≡ true → (held.due ≡ nothing_due) ⊎ (held.due ≡ due_for rest q)) c left_other es none
 
-pub all_left : (pieces : ByNumber (List ℕ)) (es : ByNumber Held) → AreDue pieces es → AreLeft pieces es
+pub all_left : (pieces : ByNumber (List ℕ)) (es : ByNumber Mailbox) → AreDue pieces es → AreLeft pieces es
 all_left pieces es due = λ q held f hears. inr (due q held f hears)
 
-pub all_forgotten : (es : ByNumber Held) → AreLeft [] es → AreDue [] es
+pub all_forgotten : (es : ByNumber Mailbox) → AreLeft [] es → AreDue [] es
 all_forgotten es left = λ q held f hears. elim (left q held f hears) [
   | inl none ↦ none
   | inr due ↦ due
 ]
 
 -- the slot of a client before room was made: the same client, with no more room than now
-pub record CameFrom (first : ByNumber Held) (q : ℕ) (held : Held) : Type 0 where
-  pub was : Held
+pub record CameFrom (first : ByNumber Mailbox) (q : ℕ) (held : Mailbox) : Type 0 where
+  pub was : Mailbox
   pub found : lookup (is_at (nat_cmp q)) first ≡ Some was
   pub client : held.client ≡ was.client
   pub spare : was.spare ≤ held.spare
   pub pieces : was.spare_pieces ≤ held.spare_pieces
 
-pub came_first : (es : ByNumber Held) → AllSlots (CameFrom es) es
+pub came_first : (es : ByNumber Mailbox) → AllSlots (CameFrom es) es
 came_first es = λ q held f. record { was = held; found = f; client = refl; spare = omega arith; pieces = omega arith }
 
-pub came_next : (first : ByNumber Held) (c : ℕ) (x w : Held) (es fs : ByNumber Held) → IsWritten c w es fs → Some x ≡ lookup (is_at (nat_cmp c)) es
+pub came_next : (first : ByNumber Mailbox) (c : ℕ) (x w : Mailbox) (es fs : ByNumber Mailbox) → IsWritten c w es fs → Some x ≡ lookup (is_at (nat_cmp c)) es
     → w.client ≡ x.client → x.spare ≤ w.spare → x.spare_pieces ≤ w.spare_pieces → AllSlots (CameFrom first) es → AllSlots (CameFrom first) fs
 came_next first c x w es fs written found same spare pieces =
     all_written (CameFrom first) (CameFrom first) c (λ q held e h. h) x w es fs written found
@@ -150,7 +150,7 @@ came_next first c x w es fs written found same spare pieces =
 
 -- one more piece
 module _ (c : ℕ) (bytes : List ℕ) (done : ByNumber (List ℕ)) where
-  pub grown_due : (x w : Held) (es fs : ByNumber Held) → IsWritten c w es fs → Some x ≡ lookup (is_at (nat_cmp c)) es → w.client ≡ x.client
+  pub grown_due : (x w : Mailbox) (es fs : ByNumber Mailbox) → IsWritten c w es fs → Some x ≡ lookup (is_at (nat_cmp c)) es → w.client ≡ x.client
       → (is_live x.client ≡ true → w.due ≡ due_and x.due (length bytes)) → AreDue done es → AreDue (done ++ (c, bytes) ∷ []) fs
   grown_due x w es fs written found same more =
       all_written (λ q held. IsDue (due_for done q) held) (λ q held. IsDue (due_for (done ++ (c, bytes) ∷ []) q) held) c
@@ -159,13 +159,13 @@ module _ (c : ℕ) (bytes : List ℕ) (done : ByNumber (List ℕ)) where
       let heard : is_live x.client ≡ true = ap is_live (sym same) ∙ hears in
       more heard ∙ ap (λ d. due_and d (length bytes)) (h heard) ∙ due_grown c bytes done)
 
-  pub grown_past : (es : ByNumber Held) → lookup (is_at (nat_cmp c)) es ≡ None → AreDue done es → AreDue (done ++ (c, bytes) ∷ []) es
+  pub grown_past : (es : ByNumber Mailbox) → lookup (is_at (nat_cmp c)) es ≡ None → AreDue done es → AreDue (done ++ (c, bytes) ∷ []) es
   grown_past es none =
       all_past (λ q held. IsDue (due_for done q) held) (λ q held. IsDue (due_for (done ++ (c, bytes) ∷ []) q) held) c
       (λ q held e h hears. h hears ∙ due_same c bytes done q e) es none
 
   -- who has too little room for this piece and those before it has too little for all
-  pub wants : (back : ByNumber (List ℕ)) (x : Held) (first es : ByNumber Held) → Some x ≡ lookup (is_at (nat_cmp c)) es → AllSlots (CameFrom first) es
+  pub wants : (back : ByNumber (List ℕ)) (x : Mailbox) (first es : ByNumber Mailbox) → Some x ≡ lookup (is_at (nat_cmp c)) es → AllSlots (CameFrom first) es
       → AreDue done es → IsShort x (due_and x.due (length bytes)) → WantsMemory ((done ++ (c, bytes) ∷ []) ++ back) first
   wants back x first es found came due short =
       let origin = came c x (sym found) in
@@ -191,8 +191,8 @@ module _ (c : ℕ) (bytes : List ℕ) (done : ByNumber (List ℕ)) where
         ];
       }
 
-module _ (text : List ℕ) (pieces : List Piece) (i : ℕ) (within : i < length pieces) where
-  abbrev piece : Piece
+module _ (text : List ℕ) (pieces : List Delivery) (i : ℕ) (within : i < length pieces) where
+  abbrev piece : Delivery
   piece = slice_index_or pieces i blank
 
   abbrev bytes : List ℕ
@@ -217,7 +217,7 @@ module _ (text : List ℕ) (pieces : List Piece) (i : ℕ) (within : i < length 
       let taken : take (i + 1) pieces ≡ take i pieces ++ (piece ∷ []) = rw add-one (take-suc pieces i blank within) in
       ap (pieces_of text) taken ∙ map-append _ (take i pieces) _
 
-  pub due_more : (x w : Held) (es fs : ByNumber Held) → IsWritten piece.key.number w es fs → Some x ≡ lookup (is_at (nat_cmp piece.key.number)) es
+  pub due_more : (x w : Mailbox) (es fs : ByNumber Mailbox) → IsWritten piece.key.number w es fs → Some x ≡ lookup (is_at (nat_cmp piece.key.number)) es
       → w.client ≡ x.client → (is_live x.client ≡ true → w.due ≡ due_and x.due (length bytes)) → AreDue (pieces_of text (take i pieces)) es
       → AreDue (pieces_of text (take (i + 1) pieces)) fs
   due_more x w es fs written found same more due = subst (λ ps. AreDue ps fs) (sym pieces_done)
@@ -226,7 +226,7 @@ module _ (text : List ℕ) (pieces : List Piece) (i : ℕ) (within : i < length 
   pieces_whole : (pieces_of text (take i pieces) ++ (piece.key.number, bytes) ∷ []) ++ rest ≡ pieces_of text pieces
   pieces_whole = ap (λ ps. ps ++ rest) (sym pieces_done) ∙ sym (map-append _ (take (i + 1) pieces) _) ∙ ap (pieces_of text) (take-append-drop (i + 1) pieces)
 
-  pub wants_here : (x : Held) (first es : ByNumber Held) → Some x ≡ lookup (is_at (nat_cmp piece.key.number)) es → AllSlots (CameFrom first) es
+  pub wants_here : (x : Mailbox) (first es : ByNumber Mailbox) → Some x ≡ lookup (is_at (nat_cmp piece.key.number)) es → AllSlots (CameFrom first) es
       → AreDue (pieces_of text (take i pieces)) es → IsShort x (due_and x.due (length bytes)) → WantsMemory (pieces_of text pieces) first
   wants_here x first es found came due short = subst (λ ps. WantsMemory ps first) pieces_whole
       (wants piece.key.number bytes (pieces_of text (take i pieces)) rest x first es found came due short)
@@ -244,7 +244,7 @@ module _ (text : List ℕ) (pieces : List Piece) (i : ℕ) (within : i < length 
       let b = h.1 in
       length-take-le (piece.to - piece.from) (drop piece.from text) (omega (arith, d, a, b))
 
-  module _ (x w : Held) (es fs : ByNumber Held) (is : fs ≡ set_value (is_at (nat_cmp piece.key.number)) es w)
+  module _ (x w : Mailbox) (es fs : ByNumber Mailbox) (is : fs ≡ set_value (is_at (nat_cmp piece.key.number)) es w)
       (found : Some x ≡ lookup (is_at (nat_cmp piece.key.number)) es) (made : PutsFirst x.limit x.due.bytes bytes x.client w.client)
       (ordered : IsStrictlySortedBy nat_cmp (map (λ e. e.0) es)) (due : AreDue (pieces_of text (drop i pieces)) es) where
     due_now : is_live x.client ≡ true → x.due.bytes ≡ counted (length (bytes_for ((piece.key.number, bytes) ∷ rest) piece.key.number))
@@ -280,7 +280,7 @@ module _ (text : List ℕ) (pieces : List Piece) (i : ℕ) (within : i < length 
         (plain es) ordered_plain found_plain due_now home)
         ∙ ap (λ b. has_home wakes home || b) (ap (λ ps. wakes_home x.limit ps (plain es) home) (sym pieces_is) ∙ wakes_all limit home _ (plain es))
 
-  module _ (es : ByNumber Held) (none : lookup (is_at (nat_cmp piece.key.number)) es ≡ None) where
+  module _ (es : ByNumber Mailbox) (none : lookup (is_at (nat_cmp piece.key.number)) es ≡ None) where
     none_plain : lookup (is_at (nat_cmp piece.key.number)) (plain es) ≡ None
     none_plain = lookup-values-none (λ held. held.client) (is_at (nat_cmp piece.key.number)) es none
 
@@ -293,7 +293,7 @@ module _ (text : List ℕ) (pieces : List Piece) (i : ℕ) (within : i < length 
         (wakes_past piece.key.number bytes rest (plain es) none_plain limit home ∙ ap (λ ps. wakes_home limit ps (plain es) home) (sym pieces_is))
 
 -- at the end
-module _ (text : List ℕ) (pieces : List Piece) (i : ℕ) (past : length pieces ≤ i) where
+module _ (text : List ℕ) (pieces : List Delivery) (i : ℕ) (past : length pieces ≤ i) where
   pub none_left : pieces_of text (drop i pieces) ≡ []
   none_left = ap (pieces_of text) (drop_all i pieces past)
 

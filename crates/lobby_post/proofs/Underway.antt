@@ -10,7 +10,7 @@ use Rattle.lobby_model.proofs.Delivered.{same_number_is, same_itself}
 use Rattle.lobby_model.proofs.Splits.{same_either_way, lookup-values}
 use Rattle.lobby_model.specs.Touched.{is_touched}
 use Rattle.lobby_model.proofs.Quiet.{touched_is}
-use Rattle.lobby_post.specs.Mail.{Held, Line, PutsFirst, bytes_for}
+use Rattle.lobby_post.specs.Mail.{Mailbox, Line, PutsFirst, bytes_for}
 use Rattle.lobby_post.specs.Dirty.{AllMarks, AreKnown, IsNewly, IsSettled, idle_of, mark_of, marks_of, news, news_of, pushed, stands, times}
 use Rattle.lobby_post.proofs.Counts.{times-append}
 use Rattle.lobby_post.proofs.Crowds.{IsWritten, written_through}
@@ -21,7 +21,7 @@ use Rattle.lobby_post.proofs.Newly.{IsNext, less_idle, marks_next, more_listed, 
 use Rattle.lobby_model.proofs.Versions.{and_first}
 
 -- what holds between two pieces: all that are told, and those that are left
-pub record IsUnderway (whole rest : ByNumber (List ℕ)) (first slots : ByNumber Held) (before lines : ℕ → Line) (last : ℕ) : Type 0 where
+pub record IsUnderway (whole rest : ByNumber (List ℕ)) (first slots : ByNumber Mailbox) (before lines : ℕ → Line) (last : ℕ) : Type 0 where
   pub homes : AllMarks (λ c mark. mark.home < 64) (marks_of slots)
   pub marked : AllMarks (λ c mark. times c (lines mark.home).waiting + times c (lines mark.home).fresh ≡ (if mark.listed then 1 else 0)) (marks_of slots)
   pub counted : (home : ℕ) → home < 64 → (lines home).idle ≡ idle_of home (marks_of slots)
@@ -30,7 +30,7 @@ pub record IsUnderway (whole rest : ByNumber (List ℕ)) (first slots : ByNumber
   pub numbered : AllMarks (λ c mark. c ≤ last) (marks_of slots)
 
 -- before the first piece
-pub underway_first : (whole : ByNumber (List ℕ)) (first : ByNumber Held) (before : ℕ → Line) (last : ℕ) → AreKnown (marks_of first) before last
+pub underway_first : (whole : ByNumber (List ℕ)) (first : ByNumber Mailbox) (before : ℕ → Line) (last : ℕ) → AreKnown (marks_of first) before last
     → IsUnderway whole whole first first before before last
 underway_first whole first before last known = record {
   homes = known.homes;
@@ -45,9 +45,9 @@ underway_first whole first before last known = record {
 }
 
 -- one piece put to its client
-module _ (c : ℕ) (bytes : List ℕ) (x w : Held) (es : ByNumber Held) (found : Some x ≡ lookup (is_at (nat_cmp c)) es)
+module _ (c : ℕ) (bytes : List ℕ) (x w : Mailbox) (es : ByNumber Mailbox) (found : Some x ≡ lookup (is_at (nat_cmp c)) es)
     (made : PutsFirst x.limit x.due.bytes bytes x.client w.client) (listed : w.listed ≡ (x.listed || is_touched x.limit bytes x.client)) where
-  abbrev es_next : ByNumber Held
+  abbrev es_next : ByNumber Mailbox
   es_next = set_value (is_at (nat_cmp c)) es w
 
   abbrev now_fresh : ℕ → Bool
@@ -97,7 +97,7 @@ module _ (c : ℕ) (bytes : List ℕ) (x w : Held) (es : ByNumber Held) (found :
               omega (arith, none, same)
         ] refl
 
-    module _ (whole : ByNumber (List ℕ)) (first : ByNumber Held) (before lines lines_next : ℕ → Line) (last : ℕ)
+    module _ (whole : ByNumber (List ℕ)) (first : ByNumber Mailbox) (before lines lines_next : ℕ → Line) (last : ℕ)
         (put : (h : ℕ) → lines_next h ≡ (if now_fresh h then pushed c (lines h) else lines h))
         (now : IsUnderway whole ((c, bytes) ∷ rest) first es before lines last) where
       idle_next : (home : ℕ) → idle_of home (marks_of es_next) + (if now_fresh home then 1 else 0) ≡ idle_of home (marks_of es)
@@ -163,7 +163,7 @@ module _ (c : ℕ) (bytes : List ℕ) (x w : Held) (es : ByNumber Held) (found :
       }
 
 -- a piece for nobody
-pub underway_past : (c : ℕ) (bytes : List ℕ) (rest whole : ByNumber (List ℕ)) (first es : ByNumber Held) (before lines : ℕ → Line) (last : ℕ)
+pub underway_past : (c : ℕ) (bytes : List ℕ) (rest whole : ByNumber (List ℕ)) (first es : ByNumber Mailbox) (before lines : ℕ → Line) (last : ℕ)
     → lookup (is_at (nat_cmp c)) es ≡ None → IsUnderway whole ((c, bytes) ∷ rest) first es before lines last → IsUnderway whole rest first es before lines last
 underway_past c bytes rest whole first es before lines last none now = record {
   homes = now.homes;
@@ -175,21 +175,21 @@ underway_past c bytes rest whole first es before lines last none now = record {
 }
 
 -- at the end
-nothing_new : (es : ByNumber Held) (home q : ℕ) → news [] es home q ≡ 0
+nothing_new : (es : ByNumber Mailbox) (home q : ℕ) → news [] es home q ≡ 0
 nothing_new es home q = elim (lookup (is_at (nat_cmp q)) es) as (λ o. news_of [] home q o ≡ 0) [
   | None ↦ refl
   | Some held ↦ ap (λ t. if same_number held.client.home home && (not held.listed && t) then 1 else 0) (touched_is held.limit [] held.client)
       ∙ no_news (same_number held.client.home home) held.listed (is_live held.client)
 ]
 
-news_numbered : (pieces : ByNumber (List ℕ)) (es : ByNumber Held) (last home q : ℕ) → AllMarks (λ c mark. c ≤ last) (marks_of es) → 0 < news pieces es home q → q ≤ last
+news_numbered : (pieces : ByNumber (List ℕ)) (es : ByNumber Mailbox) (last home q : ℕ) → AllMarks (λ c mark. c ≤ last) (marks_of es) → 0 < news pieces es home q → q ≤ last
 news_numbered pieces es last home q all more =
     elim (lookup (is_at (nat_cmp q)) es) as (λ o. lookup (is_at (nat_cmp q)) es ≡ o → 0 < news_of pieces home q o → q ≤ last) [
       | None ↦ λ e m. absurd (omega (arith, m))
       | Some held ↦ λ e m. all q (mark_of held) (lookup-values mark_of (is_at (nat_cmp q)) held es e)
     ] refl more
 
-module _ (whole : ByNumber (List ℕ)) (first es : ByNumber Held) (before lines settled : ℕ → Line) (last : ℕ) (known : AreKnown (marks_of first) before last)
+module _ (whole : ByNumber (List ℕ)) (first es : ByNumber Mailbox) (before lines settled : ℕ → Line) (last : ℕ) (known : AreKnown (marks_of first) before last)
     (now : IsUnderway whole [] first es before lines last) (ends : (h : ℕ) → IsSettled (lines h) (settled h)) where
   exact_end : (home q : ℕ) → home < 64 → times q (ends home).behind ≡ news whole first home q
   exact_end home q small =

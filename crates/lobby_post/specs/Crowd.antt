@@ -4,13 +4,13 @@ use Rattle.std.specs.Ordering.{nat_cmp}
 use Rattle.std.specs.BTreeMap.{is_at}
 use Rattle.std.specs.Map.{lookup}
 use Rattle.line_words.specs.Table.{ByNumber, same_number}
-use Rattle.lobby_post.specs.Mail.{Held, Line}
+use Rattle.lobby_post.specs.Mail.{Mailbox, Line}
 use Rattle.lobby_post.specs.Dirty.{Roomy, AreKnown, line_of, marks_of, none_waits, stands}
 
 -- All clients by their numbers, the limit that each outbox has, and the lines of the 64 workers
 pub record Crowd : Type 0 where
   pub limit : ℕ
-  pub slots : ByNumber Held
+  pub slots : ByNumber Mailbox
   pub lines : List Line
 
 -- a thing for each of the first n workers
@@ -38,6 +38,7 @@ abbrev pub all_but_client : ℕ → List ℕ → List ℕ
 all_but_client client clients = filter (λ c. not (same_number client c)) clients
 
 -- where a client has read all, no memory is kept for it
-abbrev pub KeepsNothing : ℕ → ByNumber Held → Type 0
-KeepsNothing client slots = (held : Held) → lookup (is_at (nat_cmp client)) slots ≡ Some held → held.client.unread ≡ []
+abbrev pub KeepsNothing : ℕ → ByNumber Mailbox → Type 0
+KeepsNothing client slots = (held : Mailbox) → lookup (is_at (nat_cmp client)) slots ≡ Some held
+    → held.client.unread ≡ []
     → (held.spare ≡ 0) × (held.spare_pieces ≡ 0)

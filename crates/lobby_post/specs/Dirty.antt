@@ -9,7 +9,7 @@ use Rattle.std.specs.BTreeMap.{is_at}
 use Rattle.std.specs.Map.{lookup}
 use Rattle.line_words.specs.Table.{ByNumber, map_values, same_number}
 use Rattle.lobby_model.specs.Touched.{is_touched}
-use Rattle.lobby_post.specs.Mail.{Held, Line, bytes_for}
+use Rattle.lobby_post.specs.Mail.{Mailbox, Line, bytes_for}
 
 -- a line, for how many more clients there is room in it, and how many that wait in it are known to be gone
 pub record Roomy : Type 0 where
@@ -85,10 +85,10 @@ pub record Mark : Type 0 where
   pub home : ℕ
   pub listed : Bool
 
-abbrev pub mark_of : Held → Mark
+abbrev pub mark_of : Mailbox → Mark
 mark_of held = record { home = held.client.home; listed = held.listed }
 
-abbrev pub marks_of : ByNumber Held → ByNumber Mark
+abbrev pub marks_of : ByNumber Mailbox → ByNumber Mark
 marks_of slots = map_values (λ c held. mark_of held) slots
 
 -- a client is there and this worker's
@@ -122,17 +122,17 @@ pub record AreKnown (marks : ByNumber Mark) (lines : ℕ → Line) (last : ℕ) 
   pub past : (home c : ℕ) → home < 64 → 0 < times c (lines home).waiting → c ≤ last
 
 -- 1 for a client of a worker that these pieces touch and that does not wait yet, else 0
-abbrev pub news_of : ByNumber (List ℕ) → ℕ → ℕ → Option Held → ℕ
+abbrev pub news_of : ByNumber (List ℕ) → ℕ → ℕ → Option Mailbox → ℕ
 news_of pieces home c None = 0
 news_of pieces home c (Some held) = if same_number held.client.home home
     && (not held.listed && is_touched held.limit (bytes_for pieces c) held.client) then 1 else 0
 
-abbrev pub news : ByNumber (List ℕ) → ByNumber Held → ℕ → ℕ → ℕ
+abbrev pub news : ByNumber (List ℕ) → ByNumber Mailbox → ℕ → ℕ → ℕ
 news pieces slots home c = news_of pieces home c (lookup (is_at (nat_cmp c)) slots)
 
 -- Behind those that wait stand the clients of a worker that these pieces touch and that did not wait yet, each once, in
 -- rising numbers
-pub record IsNewly (pieces : ByNumber (List ℕ)) (slots : ByNumber Held) (home : ℕ) (old new : List ℕ) : Type 0 where
+pub record IsNewly (pieces : ByNumber (List ℕ)) (slots : ByNumber Mailbox) (home : ℕ) (old new : List ℕ) : Type 0 where
   pub behind : List ℕ
   pub waiting : new ≡ old ++ behind
   pub rising : IsSorted nat_cmp behind

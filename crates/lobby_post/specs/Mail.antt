@@ -17,7 +17,7 @@ use Rattle.lobby_model.specs.Touched.{is_touched, touches}
 
 -- a client, the limit of its outbox, how many bytes may be copied and how many pieces shared to it without memory, what
 -- is still due to it, and whether it stands in its worker's list of those that were touched
-pub record Held : Type 0 where
+pub record Mailbox : Type 0 where
   pub client : Client
   pub limit : ℕ
   pub spare : ℕ
@@ -33,7 +33,7 @@ pub record Line : Type 0 where
   pub idle : ℕ
 
 -- the clients alone
-abbrev pub plain : ByNumber Held → ByNumber Client
+abbrev pub plain : ByNumber Mailbox → ByNumber Client
 plain m = map_values (λ c held. held.client) m
 
 -- a client that stays ends, and one that does not is there no more
@@ -81,43 +81,43 @@ pub record PutsFirst (limit due : ℕ) (piece : List ℕ) (old new : Client) : T
       ≡ is_touched limit (piece ++ rest) old
 
 -- something holds of each slot
-abbrev pub AllSlots : (ℕ → Held → Type 0) → ByNumber Held → Type 0
-AllSlots P clients = (q : ℕ) (held : Held) → lookup (is_at (nat_cmp q)) clients ≡ Some held → P q held
+abbrev pub AllSlots : (ℕ → Mailbox → Type 0) → ByNumber Mailbox → Type 0
+AllSlots P clients = (q : ℕ) (held : Mailbox) → lookup (is_at (nat_cmp q)) clients ≡ Some held → P q held
 
 -- each outbox has this limit
-abbrev pub HaveLimit : ℕ → ByNumber Held → Type 0
+abbrev pub HaveLimit : ℕ → ByNumber Mailbox → Type 0
 HaveLimit limit = AllSlots (λ q held. held.limit ≡ limit)
 
 -- so much is still due to a client that hears. One that does not gets nothing, whatever was counted for it
-abbrev pub IsDue : Due → Held → Type 0
+abbrev pub IsDue : Due → Mailbox → Type 0
 IsDue due held = is_live held.client ≡ true → held.due ≡ due
 
 -- these pieces, and no others, are still due
-abbrev pub AreDue : ByNumber (List ℕ) → ByNumber Held → Type 0
+abbrev pub AreDue : ByNumber (List ℕ) → ByNumber Mailbox → Type 0
 AreDue pieces = AllSlots (λ q held. IsDue (due_for pieces q) held)
 
 -- a piece of so many bytes is part of what is due, where all of that was counted
-abbrev pub AwaitsPiece : Held → ℕ → Type 0
+abbrev pub AwaitsPiece : Mailbox → ℕ → Type 0
 AwaitsPiece held n = is_live held.client ≡ true → held.due.bytes < 2 ^ 32 - 1 → Covers held.due n
 
 -- what is due can be put without memory
-abbrev pub IsReady : Held → Type 0
+abbrev pub IsReady : Mailbox → Type 0
 IsReady held = is_live held.client ≡ true → length held.client.unread + held.due.bytes ≤ held.limit
     → (copied held.due ≤ held.spare) × (held.due.shared_pieces ≤ held.spare_pieces)
 
 -- the same of all clients
-abbrev pub AreReady : ByNumber Held → Type 0
+abbrev pub AreReady : ByNumber Mailbox → Type 0
 AreReady = AllSlots (λ q held. IsReady held)
 
 -- a client hears, and of so much that is due more is copied, or more is shared, than it has room for
-abbrev pub IsShort : Held → Due → Type 0
+abbrev pub IsShort : Mailbox → Due → Type 0
 IsShort held due = (is_live held.client ≡ true) × ((held.spare < copied due) ⊎ (held.spare_pieces < due.shared_pieces))
 
 -- Memory is wanted for these pieces: some client that hears gets more bytes of them, or more that are shared, than it
 -- has room for
-pub record WantsMemory (pieces : ByNumber (List ℕ)) (clients : ByNumber Held) : Type 0 where
+pub record WantsMemory (pieces : ByNumber (List ℕ)) (clients : ByNumber Mailbox) : Type 0 where
   pub client : ℕ
-  pub held : Held
+  pub held : Mailbox
   pub found : lookup (is_at (nat_cmp client)) clients ≡ Some held
   pub hears : is_live held.client ≡ true
   pub short : (held.spare < length (bytes_for pieces client))

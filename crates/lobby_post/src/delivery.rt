@@ -28,7 +28,7 @@ use std::collections::VecDeque;
 
 /// A client gets a part of the text.
 #[derive(Clone, Copy)]
-pub struct Piece {
+pub struct Delivery {
     /// The client.
     pub key: ClientKey,
     /// How many bytes of the text stand before it.
@@ -43,7 +43,7 @@ pub fn reserve(
     clients: &mut Slots,
     pool: &mut BufferPool,
     text: &[u8],
-    pieces: &[Piece],
+    pieces: &[Delivery],
 ) -> Result<(), AllocError>
     requires inside { AllByRecursion (LiesIn text.now) pieces.now }
     requires due { AreDue [] clients.old }
@@ -71,7 +71,7 @@ pub fn reserve(
 }
 
 /// Nothing is due any more.
-pub fn cancel(clients: &mut Slots, text: &[u8], pieces: &[Piece])
+pub fn cancel(clients: &mut Slots, text: &[u8], pieces: &[Delivery])
     requires inside { AllByRecursion (LiesIn text.now) pieces.now }
     requires due { AreDue (pieces_of text.now pieces.now) clients.old }
     ensures clients { plain clients.new ≡ plain clients.old }
@@ -128,7 +128,7 @@ pub fn deliver(
     clients: &mut Slots,
     dirty: &mut DirtyLists,
     text: &[u8],
-    pieces: &[Piece],
+    pieces: &[Delivery],
     shares: &mut VecDeque<Bytes>,
     told: &mut u64,
 ) -> Wakes

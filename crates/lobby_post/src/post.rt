@@ -13,7 +13,7 @@ ghost use Rattle.lobby_model.specs.Outcome.{tell, issuer};
 
 use crate::buffer_pool::BufferPool;
 use crate::delivery;
-use crate::delivery::Piece;
+use crate::delivery::Delivery;
 use crate::dirty::DirtyLists;
 use crate::key::ClientKey;
 use crate::shares::{add_share, add_share_of_line, forget_line};
@@ -47,7 +47,7 @@ pub struct Post {
     issuer: u64,
     id: Option<u32>,
     text: Vec<u8>,
-    pieces: Vec<Piece>,
+    pieces: Vec<Delivery>,
     /// The shares of those pieces that are long, in their order.
     shares: VecDeque<Bytes>,
     /// Where the lines begin that are being told, as the issuer gets them, and as others get them.
@@ -231,7 +231,7 @@ impl Post {
         } else {
             add_share(self.alloc, bytes, &mut self.shares)?;
         }
-        self.pieces.push_reserved(Piece { key, from, to });
+        self.pieces.push_reserved(Delivery { key, from, to });
         Ok(())
     }
 

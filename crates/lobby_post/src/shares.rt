@@ -87,14 +87,14 @@ pub fn forget_line(line: &mut Option<Bytes>)
     ensures { line.new ≡ None }
 {
     if line.is_some() {
-        let_go(line);
+        drop_line(line);
     }
 }
 
 /// Lets a share go. It stands apart, so that each line which is written pays for a test and no more.
 #[cold]
 #[inline(never)]
-fn let_go(line: &mut Option<Bytes>)
+fn drop_line(line: &mut Option<Bytes>)
     ensures { line.new ≡ None }
 {
     *line = None;

@@ -39,9 +39,9 @@ pub struct Slot {
 
 impl Model for Slot {
     ghost use Rattle.std.specs.Prelude.{◌≡◌, ◌-◌, ◌^◌, ◌<◌, true, []};
-    ghost use Rattle.lobby_post.specs.Mail.{Held};
+    ghost use Rattle.lobby_post.specs.Mail.{Mailbox};
 
-    ghost Value = { Held };
+    ghost Value = { Mailbox };
 
     ghost view = { λ s. record {
       client = record

@@ -9,7 +9,7 @@ ghost use Rattle.std.specs.Borrow.{sem};
 ghost use Rattle.std.specs.BTreeMap.{is_at, insert_entry};
 ghost use Rattle.std.specs.Map.{lookup, remove_entry};
 ghost use Rattle.line_words.specs.Table.{ByNumber};
-ghost use Rattle.lobby_post.specs.Mail.{Held};
+ghost use Rattle.lobby_post.specs.Mail.{Mailbox};
 
 use crate::key::ClientKey;
 use crate::near::Near;
@@ -39,9 +39,9 @@ pub struct Slots {
 
 impl Model for Slots {
     ghost use Rattle.line_words.specs.Table.{ByNumber};
-    ghost use Rattle.lobby_post.specs.Mail.{Held};
+    ghost use Rattle.lobby_post.specs.Mail.{Mailbox};
 
-    ghost Value = { ByNumber Held };
+    ghost Value = { ByNumber Mailbox };
 
     ghost use Rattle.lobby_post.specs.Cells.{held_by, AreTied};
 

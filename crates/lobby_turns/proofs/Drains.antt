@@ -17,13 +17,13 @@ use Rattle.lobby_model.proofs.Delivered.{same_itself}
 use Rattle.lobby_model.proofs.Quiet.{next_drain}
 use Rattle.lobby_machine.specs.Shown.{unread_of, unread_in, is_finished}
 use Rattle.lobby_lock.specs.Passes.{ShownPass, ShownHold, pass_after}
-use Rattle.lobby_turns.specs.declared.holds.Piece.{Piece}
+use Rattle.lobby_turns.specs.declared.holds.Chunk.{Chunk}
 use Rattle.lobby_turns.specs.Wire.{Wire}
 use Rattle.lobby_turns.specs.Moments.{Moment, moment, questioned, questions, drained_for, tells_end, told_end}
 use Rattle.lobby_turns.specs.Snapshot.{Carried, snapshot}
 use Rattle.lobby_turns.specs.Talk.{AreDrains}
 use Rattle.lobby_turns.specs.Went.{Joined, Went}
-use Rattle.lobby_turns.specs.Holds.{IsTaken, Stands, Drains, Asks, DrainedInto, DrainedBehind, LetsGo}
+use Rattle.lobby_turns.specs.Holds.{IsTaken, Stands, Drains, Asks, DrainedInto, DrainedBehind, GivesUp}
 use Rattle.lobby_turns.proofs.Joins.{held_none, joined_none, joined_then, joined_more, stands_more}
 use Rattle.lobby_turns.proofs.Parts.{questions-append, drained-append, went_drains}
 use Rattle.lobby_turns.proofs.Talks.{are_drains-append, told_end-append, dry_behind}
@@ -52,7 +52,7 @@ few_came s c n count into rest count_is given =
     omega (arith, ap length given, length-append (take count u) rest, length-take-le count u few)
 
 -- what came into a slice was copied behind what stood in a buffer
-pub drained_behind : (p q : ShownPass) (c n : ℕ) (into before after : List ℕ) (piece : Piece) → 0 < n → DrainedInto p q c n into piece → after ≡ before ++ take piece.count into
+pub drained_behind : (p q : ShownPass) (c n : ℕ) (into before after : List ℕ) (piece : Chunk) → 0 < n → DrainedInto p q c n into piece → after ≡ before ++ take piece.count into
     → DrainedBehind p q c before after piece
 drained_behind p q c n into before after piece some d is = record {
   talk = d.talk;
@@ -66,7 +66,7 @@ drained_behind p q c n into before after piece some d is = record {
 }
 
 -- and more behind it
-pub drained_further : (p q r : ShownPass) (c : ℕ) (before between after : List ℕ) (first rest : Piece) → first.finished ≡ false → DrainedBehind p q c before between first
+pub drained_further : (p q r : ShownPass) (c : ℕ) (before between after : List ℕ) (first rest : Chunk) → first.finished ≡ false → DrainedBehind p q c before between first
     → DrainedBehind q r c between after rest → DrainedBehind p r c before after rest
 drained_further p q r c before between after first rest goes_on h k = record {
   talk = h.talk ++ k.talk;
@@ -91,7 +91,7 @@ hold_length : (k : ShownHold) (q : ShownPass) → q ≡ pass_after k → length 
 hold_length k q is = ap (λ (x : ShownPass). length x.worker.mine) is ∙ length-append k.pass.worker.mine k.events
 
 -- the whole hold, from the take to the give, for a connection that had nothing to write
-pub drains_held : (old new : Carried) (wire : Wire) (p q : ShownPass) (h k : ShownHold) (c : ℕ) (before after : List ℕ) (piece : Piece) → IsTaken p h → q ≡ pass_after k
+pub drains_held : (old new : Carried) (wire : Wire) (p q : ShownPass) (h k : ShownHold) (c : ℕ) (before after : List ℕ) (piece : Chunk) → IsTaken p h → q ≡ pass_after k
     → h.events ≡ [] → k.pass ≡ h.pass → length k.events ≤ 8
     → c ≡ old.session.client → DrainedBehind (pass_after h) (pass_after k) c before after piece → new.session ≡ old.session → new.unfed ≡ old.unfed
     → old.unwritten ≡ before → new.unwritten ≡ after → Drains (snapshot old wire p) (snapshot new wire q) piece.finished piece.dry
@@ -119,7 +119,7 @@ take_none n xs few =
     ap (λ k. take k xs) none
 
 -- asked with an empty slice
-pub asks : (conn : Carried) (wire : Wire) (p q : ShownPass) (c : ℕ) (into : List ℕ) (piece : Piece) → c ≡ conn.session.client
+pub asks : (conn : Carried) (wire : Wire) (p q : ShownPass) (c : ℕ) (into : List ℕ) (piece : Chunk) → c ≡ conn.session.client
     → DrainedInto p q c 0 into piece → Asks (snapshot conn wire p) (snapshot conn wire q) piece.finished
 asks conn wire p q c into piece same d =
     let e : DrainedInto p q conn.session.client 0 into piece = subst (λ (x : ℕ). DrainedInto p q x 0 into piece) same d in
@@ -155,7 +155,7 @@ for_bytes c zero some = absurd (omega (arith, some))
 for_bytes c (suc n) some = refl
 
 -- a drain of a hold that goes on
-pub drained_once : (h k : ShownHold) (c n : ℕ) (into rest : List ℕ) (piece : Piece) → n ≤ 4096 → Stands h → k ≡ record h { lobby = k.lobby; events = h.events ++ event.Drain c n ∷ [] }
+pub drained_once : (h k : ShownHold) (c n : ℕ) (into rest : List ℕ) (piece : Chunk) → n ≤ 4096 → Stands h → k ≡ record h { lobby = k.lobby; events = h.events ++ event.Drain c n ∷ [] }
     → k.lobby.plain ≡ next h.lobby.plain (event.Drain c n) → piece.count ≡ min (length (unread_of h.lobby.plain c)) n
     → into ≡ take piece.count (unread_of h.lobby.plain c) ++ rest → piece.finished ≡ is_finished k.lobby.plain c → (piece.dry ≡ true → piece.count ≡ 0) → (piece.dry ≡ false → 0 < piece.count)
     → DrainedInto (pass_after h) (pass_after k) c n into piece
@@ -186,7 +186,7 @@ rest_length n xs few =
     omega (arith, length-take-le (length xs - n) (drop n xs) all, few)
 
 -- and another behind it, into the rest of the slice
-pub drained_twice : (p q r : ShownPass) (c n m : ℕ) (front back tail : List ℕ) (first rest both : Piece) → DrainedInto p q c n front first → DrainedInto q r c m back rest
+pub drained_twice : (p q r : ShownPass) (c n m : ℕ) (front back tail : List ℕ) (first rest both : Chunk) → DrainedInto p q c n front first → DrainedInto q r c m back rest
     → first.finished ≡ false → 0 < m → first.count + m ≡ n
     → both.count ≡ first.count + rest.count → both.finished ≡ rest.finished → both.dry ≡ rest.dry → DrainedInto p r c n (take first.count front ++ (back ++ tail)) both
 drained_twice p q r c n m front back tail first rest both h k goes_on some lengths count finished dry = record {
@@ -213,7 +213,7 @@ drained_twice p q r c n m front back tail first rest both h k goes_on some lengt
     long = length-take-le first.count front h.few
 
 -- the whole hold, from the take to the give
-pub drained_held : (p q : ShownPass) (h k : ShownHold) (c n : ℕ) (into : List ℕ) (piece : Piece) → IsTaken p h → q ≡ pass_after k
+pub drained_held : (p q : ShownPass) (h k : ShownHold) (c n : ℕ) (into : List ℕ) (piece : Chunk) → IsTaken p h → q ≡ pass_after k
     → DrainedInto (pass_after h) (pass_after k) c n into piece → DrainedInto p q c n into piece
 drained_held p q h k c n into piece taken is d =
     subst (λ (x : ShownPass). DrainedInto p x c n into piece) (sym is) (record {
@@ -244,7 +244,7 @@ pub record LetsFull (old new : ShownPass) (c pieces : ℕ) : Type 0 where
 pub lets_none : (p : ShownPass) (c : ℕ) → LetsFull p p c 0
 lets_none p c = record { talk = []; joined = joined_none p; own = tt; full = refl }
 
-module _ (p q r : ShownPass) (c d pieces : ℕ) (into : List ℕ) (piece : Piece) (same : d ≡ c) (h : LetsFull p q c pieces) (k : DrainedInto q r d 4096 into piece) where
+module _ (p q r : ShownPass) (c d pieces : ℕ) (into : List ℕ) (piece : Chunk) (same : d ≡ c) (h : LetsFull p q c pieces) (k : DrainedInto q r d 4096 into piece) where
   own_piece : DrainedInto q r c 4096 into piece
   own_piece = subst (λ (x : ℕ). DrainedInto q r x 4096 into piece) same k
 
@@ -263,7 +263,7 @@ module _ (p q r : ShownPass) (c d pieces : ℕ) (into : List ℕ) (piece : Piece
       }
 
   -- a piece that is not full, behind which nothing is left
-  pub lets_last : piece.count < 4096 → LetsGo p r c
+  pub lets_last : piece.count < 4096 → GivesUp p r c
   lets_last less =
       let e = own_piece in
       record {
@@ -274,7 +274,7 @@ module _ (p q r : ShownPass) (c d pieces : ℕ) (into : List ℕ) (piece : Piece
       }
 
 -- as many pieces as may be let go at once
-pub lets_most : (p q : ShownPass) (c pieces : ℕ) → 1024 ≤ pieces → LetsFull p q c pieces → LetsGo p q c
+pub lets_most : (p q : ShownPass) (c pieces : ℕ) → 1024 ≤ pieces → LetsFull p q c pieces → GivesUp p q c
 lets_most p q c pieces most h = record {
   talk = h.talk;
   joined = h.joined;

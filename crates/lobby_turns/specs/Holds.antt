@@ -17,7 +17,7 @@ use Rattle.client_session.specs.declared.session.Next.TheVariants.{Line, Nothing
 use Rattle.client_session.specs.OneSession.{HasLineNext, IsNextOf}
 use Rattle.client_session.specs.Sessions.{Heard, IsNext}
 use Rattle.lobby_turns.specs.declared.holds.Said.{Said}
-use Rattle.lobby_turns.specs.declared.holds.Piece.{Piece}
+use Rattle.lobby_turns.specs.declared.holds.Chunk.{Chunk}
 use Rattle.lobby_turns.specs.Moments.{Moment, moment, requests, questions, drained_for, touched, tells_end, told_end}
 use Rattle.lobby_turns.specs.Snapshot.{Snapshot}
 use Rattle.lobby_turns.specs.Talk.{AreDrains, AreTalk, BeginsWith, EndsDry}
@@ -116,7 +116,7 @@ HasNoneFor c pass = unread_of (after_history pass.start pass.worker.seen) c ≡ 
 
 -- the same of a pass alone, for client c into a slice of n bytes: those that came stand at its front, and where fewer
 -- came, these were all
-pub record DrainedInto (old new : ShownPass) (c n : ℕ) (into : List ℕ) (piece : Piece) : Type 0 where
+pub record DrainedInto (old new : ShownPass) (c n : ℕ) (into : List ℕ) (piece : Chunk) : Type 0 where
   pub talk : List Moment
   pub joined : Joined old new talk
   pub own : AreDrains c talk
@@ -132,7 +132,7 @@ pub record DrainedInto (old new : ShownPass) (c n : ℕ) (into : List ℕ) (piec
   pub all : piece.count < n → HasNoneFor c new
 
 -- the same behind what stands in a buffer
-pub record DrainedBehind (old new : ShownPass) (c : ℕ) (before after : List ℕ) (piece : Piece) : Type 0 where
+pub record DrainedBehind (old new : ShownPass) (c : ℕ) (before after : List ℕ) (piece : Chunk) : Type 0 where
   pub talk : List Moment
   pub joined : Joined old new talk
   pub own : AreDrains c talk
@@ -143,7 +143,7 @@ pub record DrainedBehind (old new : ShownPass) (c : ℕ) (before after : List �
   pub came : piece.dry ≡ false → length before < length after
 
 -- it drained for client c, and did nothing else, until nothing was left unread for that client, or 4 MiB were drained
-pub record LetsGo (old new : ShownPass) (c : ℕ) : Type 0 where
+pub record GivesUp (old new : ShownPass) (c : ℕ) : Type 0 where
   pub talk : List Moment
   pub joined : Joined old new talk
   pub own : AreDrains c talk

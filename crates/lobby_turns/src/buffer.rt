@@ -7,7 +7,7 @@ ghost use Rattle.lobby_lock.specs.Passes.{pass_after};
 ghost use Rattle.lobby_turns.specs.Wire.{MayGoOn, and_more, got_count};
 ghost use Rattle.lobby_turns.specs.Holds.{Stands, DrainedBehind};
 
-use crate::holds::{Piece, drain_all};
+use crate::holds::{Chunk, drain_all};
 use crate::link::{Got, Link};
 use lobby_lock::{Held, MOST_EVENTS};
 use std::alloc::{AllocError, Global};
@@ -168,7 +168,7 @@ impl Buffer {
     }
 
     /// Drains a piece behind the bytes that wait, in a hold that goes on.
-    pub(crate) fn drain(&mut self, held: &mut Held, client: u64) -> Piece
+    pub(crate) fn drain(&mut self, held: &mut Held, client: u64) -> Chunk
         requires few { length held.old.events + 2 ≤ MOST_EVENTS }
         requires stands { Stands held.old }
         requires room { PIECE ≤ self.old.room }

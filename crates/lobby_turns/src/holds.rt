@@ -13,7 +13,7 @@ ghost use Rattle.lobby_turns.specs.Wire.{Wire};
 ghost use Rattle.lobby_turns.specs.Snapshot.{snapshot};
 ghost use Rattle.lobby_turns.specs.Went.{Went};
 ghost use Rattle.lobby_turns.specs.Holds.{Stands, Made, SaysLines, IsWithin, HasNoLineNext, HasLoudNext, StopsAt};
-ghost use Rattle.lobby_turns.specs.Holds.{is_quiet, Drains, Asks, DrainedInto, DrainedBehind, LetsGo};
+ghost use Rattle.lobby_turns.specs.Holds.{is_quiet, Drains, Asks, DrainedInto, DrainedBehind, GivesUp};
 
 use crate::buffer::{Buffer, PIECE};
 use crate::conn::Conn;
@@ -46,7 +46,7 @@ pub struct Said {
 
 /// What was drained in a hold.
 #[derive(Clone, Copy)]
-pub struct Piece {
+pub struct Chunk {
     /// How many bytes came.
     pub count: usize,
     /// Whether nothing will ever come of the client.
@@ -223,7 +223,7 @@ pub fn say<R: Wait, G: Gate>(
 }
 
 /// Drains into a slice, in a hold that goes on.
-fn drain_once(held: &mut Held, client: u64, into: &mut [u8]) -> Piece
+fn drain_once(held: &mut Held, client: u64, into: &mut [u8]) -> Chunk
     requires few { length held.old.events < MOST_EVENTS }
     requires small { length into.old ≤ PIECE }
     requires stands { Stands held.old }
@@ -233,7 +233,7 @@ fn drain_once(held: &mut Held, client: u64, into: &mut [u8]) -> Piece
     ensures pass { held.new.pass ≡ held.old.pass }
 {
     let drained = held.drain(client, into);
-    Piece {
+    Chunk {
         count: drained.count,
         finished: drained.finished,
         dry: drained.count == 0,
@@ -242,7 +242,7 @@ fn drain_once(held: &mut Held, client: u64, into: &mut [u8]) -> Piece
 
 /// Drains into a slice, in a hold that goes on, and where less came than it has room for, once more
 /// into the rest of it: that a client has been told everything is known by a drain that gives nothing.
-pub(crate) fn drain_all(held: &mut Held, client: u64, into: &mut [u8]) -> Piece
+pub(crate) fn drain_all(held: &mut Held, client: u64, into: &mut [u8]) -> Chunk
     requires few { length held.old.events + 2 ≤ MOST_EVENTS }
     requires small { length into.old ≤ PIECE }
     requires stands { Stands held.old }
@@ -256,7 +256,7 @@ pub(crate) fn drain_all(held: &mut Held, client: u64, into: &mut [u8]) -> Piece
         return first;
     }
     let rest = drain_once(held, client, &mut into[first.count..]);
-    Piece {
+    Chunk {
         count: first.count + rest.count,
         finished: rest.finished,
         dry: rest.dry,
@@ -265,7 +265,7 @@ pub(crate) fn drain_all(held: &mut Held, client: u64, into: &mut [u8]) -> Piece
 
 /// Drains behind what stands in a buffer that has room for a piece, in a new hold: one piece, and as long
 /// as they are full and memory is there, further ones, so that one write carries more.
-fn drain_pieces(held: &mut Held, client: u64, unwritten: &mut Buffer) -> Piece
+fn drain_pieces(held: &mut Held, client: u64, unwritten: &mut Buffer) -> Chunk
     requires new { held.old.events ≡ [] }
     requires stands { Stands held.old }
     requires room { PIECE ≤ unwritten.old.room }
@@ -291,7 +291,7 @@ fn drain_into<R: Wait, G: Gate>(
     desk: &GatedDesk<'_, G>,
     pass: Pass,
     into: &mut [u8],
-) -> (Pass, Piece)
+) -> (Pass, Chunk)
     requires desk { pass.desk ≡ desk.now.desk.now }
     requires small { length into.old ≤ PIECE }
     ensures { DrainedInto pass result.0 client (length into.old) into.new result.1 }
@@ -307,7 +307,7 @@ pub fn drain<R: Wait, G: Gate>(
     conn: &mut Conn,
     desk: &GatedDesk<'_, G>,
     pass: Pass,
-) -> (Pass, Result<Piece, AllocError>)
+) -> (Pass, Result<Chunk, AllocError>)
     requires desk { pass.desk ≡ desk.now.desk.now }
     requires written { conn.old.unwritten ≡ [] }
     ensures ok { IfOk result.1 (λ piece. (wire : Wire)
@@ -342,20 +342,26 @@ pub fn is_finished<R: Wait, G: Gate>(
 
 /// The most pieces that are let go at once, 4 MiB in all: as much as waits for a client at most where no other limit is
 /// set.
-const PIECES_LET_GO: usize = 1_024;
+const PIECES_GIVEN_UP: usize = 1_024;
 
 /// Lets go what waits unread for a client: all of it, or 4 MiB where there is more. It takes no memory. It is for a
 /// client whose link has failed and whose shut was refused memory: what it will never read makes room for what others
 /// are told.
-pub fn let_go<R: Wait, G: Gate>(rt: &R, conn: &Conn, desk: &Desk, pass: Pass, gate: &G) -> Pass
+pub fn give_up_unread<R: Wait, G: Gate>(
+    rt: &R,
+    conn: &Conn,
+    desk: &Desk,
+    pass: Pass,
+    gate: &G,
+) -> Pass
     requires { pass.desk ≡ desk.now }
-    ensures lets_go { LetsGo pass result conn.now.session.client }
+    ensures gives_up { GivesUp pass result conn.now.session.client }
     ensures desk { result.desk ≡ pass.desk }
     ensures number { result.worker.number ≡ pass.worker.number }
 {
     let gated = GatedDesk { desk, gate };
     let mut pass = pass;
-    for _ in 0..PIECES_LET_GO {
+    for _ in 0..PIECES_GIVEN_UP {
         let mut piece = [0u8; PIECE];
         let (next, drained) = drain_into(rt, conn.client(), &gated, pass, &mut piece);
         pass = next;

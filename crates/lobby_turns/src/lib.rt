@@ -25,7 +25,7 @@ pub use buffer::{Buffers, PIECE};
 pub use conn::Conn;
 pub use gate::Gate;
 pub use gated_desk::GatedDesk;
-pub use holds::let_go;
+pub use holds::give_up_unread;
 pub use link::{Got, Link, Sent};
 pub use sending::SendState;
 pub use serving::{close, send_rest, serve};

@@ -358,7 +358,7 @@ impl Outbox {
         ensures none { IfNone result ((self.new ≡ self.old) × (self.old.unread ≢ [])) }
     {
         if self.unread() == 0 {
-            self.shares.let_go();
+            self.shares.give_up();
             Some(self.own.take_buffer())
         } else {
             None

@@ -192,7 +192,7 @@ impl Shares {
     }
 
     /// Gives the pieces up, and the memory that they have.
-    pub fn let_go(&mut self)
+    pub fn give_up(&mut self)
         ensures { self.new ≡ record { items = []; places = 0 } }
     {
         // Where there is none, its place is not written either: it lies on a line of its own of the cache.

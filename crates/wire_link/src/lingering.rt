@@ -61,7 +61,7 @@ impl Lingerer {
     }
 
     /// Reads what is there and lets it go, in 16 reads at most.
-    fn let_go(&mut self) -> Rest
+    fn discard_input(&mut self) -> Rest
         ensures { self.new.left ≤ self.old.left }
     {
         let mut piece = [0u8; PIECE];
@@ -88,7 +88,7 @@ impl Lingerer {
 
     /// A turn, under this token. Whether the connection goes on.
     fn turn(&mut self, registry: &Registry, token: Token) -> bool {
-        match self.let_go() {
+        match self.discard_input() {
             Rest::Nothing => true,
             Rest::More => self.listen(registry, token),
             Rest::Over => false,
@@ -144,9 +144,9 @@ impl Lingering {
         self.next = (self.next + 1) % MOST;
     }
 
-    /// Has one more connection linger whose client was shut, beside all others: no poll tells of it, and `let_go` alone
-    /// reads it. Only a worker that ends does so, which bounds how often that is. It is closed at once where its other
-    /// side has ended or did not take all, or the system or memory do not allow it.
+    /// Has one more connection linger whose client was shut, beside all others: no poll tells of it, and
+    /// `discard_input` alone reads it. Only a worker that ends does so, which bounds how often that is. It is closed at
+    /// once where its other side has ended or did not take all, or the system or memory do not allow it.
     pub fn add(&mut self, link: WireLink) {
         if let Some(stream) = link.into_lingering() {
             let left = usize::MAX;
@@ -155,11 +155,11 @@ impl Lingering {
     }
 
     /// Reads what is there for each connection and lets it go, in 16 reads of each at most. Whether any goes on.
-    pub fn let_go(&mut self) -> bool {
+    pub fn discard_input(&mut self) -> bool {
         let mut goes_any_on = false;
         for place in &mut self.places {
             if let Some(lingerer) = place {
-                match lingerer.let_go() {
+                match lingerer.discard_input() {
                     Rest::Nothing | Rest::More => goes_any_on = true,
                     Rest::Over => drop(mem::replace(place, None)),
                 }

@@ -182,7 +182,7 @@ pub fn turn_told<R: Wait, G: Gate>(
             None => pass,
         };
     }
-    if connections.let_go(registry, token) {
+    if connections.discard_input(registry, token) {
         return pass;
     }
     turn(rt, shared, pass, connections, registry, token.0)
@@ -400,7 +400,7 @@ fn serve_or_shut<R: Wait, G: Gate>(
     if turn.state != TurnState::Memory || !connection.refuse() {
         return (pass, turn);
     }
-    let pass = lobby_turns::let_go(rt, &connection.conn, shared.desk, pass, shared.gate);
+    let pass = lobby_turns::give_up_unread(rt, &connection.conn, shared.desk, pass, shared.gate);
     (pass, turn)
 }
 

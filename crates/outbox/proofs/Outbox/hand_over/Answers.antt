@@ -9,4 +9,4 @@ pub invariant_of-self : goal.invariant_of-self
 invariant_of-self c =
     let none = none_own c.self.invariant (omega (arith, ap (λ (q : Queue). length q.unread) c.self.view_is)) in
     let none_left = none_shared c.self.invariant (omega (arith, ap (λ (q : Queue). length q.unread) c.self.view_is)) in
-    rw (ap (λ (w : Waiting). w.bytes) c.take_buffer.ensures.left ∙ sym none) (rw (ap (λ (p : Pending). p.items) c.let_go.ensures ∙ sym none_left) c.self.invariant)
+    rw (ap (λ (w : Waiting). w.bytes) c.take_buffer.ensures.left ∙ sym none) (rw (ap (λ (p : Pending). p.items) c.give_up.ensures ∙ sym none_left) c.self.invariant)

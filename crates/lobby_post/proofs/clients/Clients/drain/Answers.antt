@@ -5,7 +5,7 @@ use Rattle.std.specs.BTreeMap.{is_at}
 use Rattle.std.specs.Map.{lookup}
 use Rattle.std.proofs.lemmas.Option.{same_Some, none-some}
 use Rattle.lobby_model.proofs.Delivered.{same_itself}
-use Rattle.lobby_post.specs.Mail.{Held}
+use Rattle.lobby_post.specs.Mail.{Mailbox}
 use Rattle.lobby_model.specs.State.{Client, is_live}
 use Rattle.lobby_model.specs.Sessions.{drained}
 use Rattle.lobby_post.specs.Unread.{unread_in, is_over}
@@ -86,7 +86,7 @@ returns-in-Some-clause-given_back c = λ held found.
     let at : Some c.drain-count.new.self ≡ Some held =
     sym (written_through c.args.client c.in-Some.slot.now c.drain-count.new.self c.self.inside.slots c.in-Some.ensures.value c.args.client
     ∙ ap (λ b. cond b (Some c.drain-count.new.self) (lookup (is_at (nat_cmp c.args.client)) c.self.inside.slots)) (same_itself c.args.client)) ∙ found in
-    subst (λ (h : Held). h.client.unread ≡ [] → (h.spare ≡ 0) × (h.spare_pieces ≡ 0)) (same_Some c.drain-count.new.self held at) c.drain-count.ensures.given_back
+    subst (λ (h : Mailbox). h.client.unread ≡ [] → (h.spare ≡ 0) × (h.spare_pieces ≡ 0)) (same_Some c.drain-count.new.self held at) c.drain-count.ensures.given_back
 
 pub returns-in-None-clause-given_back : goal.returns-in-None-clause-given_back
 returns-in-None-clause-given_back c = λ held found. absurd (none-some held (c.in-None.ensures.value ∙ found))

@@ -7,7 +7,7 @@ use Rattle.std.specs.Map.{lookup}
 use Rattle.line_words.specs.Table.{ByNumber, put_number, same_number}
 use Rattle.lobby_model.specs.State.{Client}
 use Rattle.lobby_model.specs.Sessions.{greeted}
-use Rattle.lobby_post.specs.Mail.{Held, IsDue, Line, due_for, plain}
+use Rattle.lobby_post.specs.Mail.{Mailbox, IsDue, Line, due_for, plain}
 use Rattle.lobby_post.specs.Dirty.{Mark, added, idle_of, line_of, marks_of, stands}
 use Rattle.lobby_post.proofs.Crowds.{plain-insert, all_inserted, written_in}
 use Rattle.lobby_post.proofs.Homes.{known_of_lines, known_of_lists, line-at, same_lines}
@@ -19,7 +19,7 @@ use Rattle.lobby_post.proofs.Refusals.{on_err}
 use Rattle.lobby_post.proofs.clients.Clients.insert.Goals as goal
 
 -- a slot inserted that is listed
-module _ (client home : ℕ) (w : Held) (es fs : ByNumber Held) (is : fs ≡ insert_entry nat_cmp es client w)
+module _ (client home : ℕ) (w : Mailbox) (es fs : ByNumber Mailbox) (is : fs ≡ insert_entry nat_cmp es client w)
     (here : w.client.home ≡ home) (listed : w.listed ≡ true) where
   put : IsPut client (record { home = home; listed = true }) (marks_of es) (marks_of fs)
   put = subst (λ (m : Mark). IsPut client m (marks_of es) (marks_of fs)) (λ i. record { home = here i; listed = listed i })

@@ -5,7 +5,7 @@ use Rattle.std.specs.BTreeMap.{is_at}
 use Rattle.std.specs.Map.{lookup, set_value}
 use Rattle.line_words.specs.Table.{ByNumber}
 use Rattle.line_words.proofs.Ties.{none_of}
-use Rattle.lobby_post.specs.Mail.{Held, IsReady, Line}
+use Rattle.lobby_post.specs.Mail.{Mailbox, IsReady, Line}
 use Rattle.lobby_post.specs.Dirty.{idle_of, is_idle, line_of, mark_of, marks_of, stands}
 use Rattle.lobby_model.specs.State.{is_live}
 use Rattle.lobby_post.proofs.Crowds.{written_through, due_kept}
@@ -18,14 +18,14 @@ use Rattle.lobby_post.proofs.clients.Clients.next_dirty.Goals as goal
 use Rattle.lobby_post.proofs.clients.Clients.next_dirty.Goals.{in-Some, in_default}
 
 -- a slot whose client does not wait any more
-module _ (c : ℕ) (x w : Held) (es : ByNumber Held) (found : Some x ≡ lookup (is_at (nat_cmp c)) es) (is : w ≡ record x { listed = false }) where
+module _ (c : ℕ) (x w : Mailbox) (es : ByNumber Mailbox) (found : Some x ≡ lookup (is_at (nat_cmp c)) es) (is : w ≡ record x { listed = false }) where
   put : IsPut c (record { home = x.client.home; listed = false }) (marks_of es) (marks_of (set_value (is_at (nat_cmp c)) es w))
-  put = subst (λ (h : Held). IsPut c (mark_of h) (marks_of es) (marks_of (set_value (is_at (nat_cmp c)) es w))) is
+  put = subst (λ (h : Mailbox). IsPut c (mark_of h) (marks_of es) (marks_of (set_value (is_at (nat_cmp c)) es w))) is
       (marks_put c w es _ (written_through c x w es found))
 
   idle : (h : ℕ) → idle_of h (marks_of (set_value (is_at (nat_cmp c)) es w)) + (if is_idle h (mark_of x) then 1 else 0)
       ≡ idle_of h (marks_of es) + (if is_idle h (record { home = x.client.home; listed = false }) then 1 else 0)
-  idle h = subst (λ (k : Held). idle_of h (marks_of (set_value (is_at (nat_cmp c)) es w)) + (if is_idle h (mark_of x) then 1 else 0)
+  idle h = subst (λ (k : Mailbox). idle_of h (marks_of (set_value (is_at (nat_cmp c)) es w)) + (if is_idle h (mark_of x) then 1 else 0)
       ≡ idle_of h (marks_of es) + (if is_idle h (mark_of k) then 1 else 0)) is (idle_written h c es _ x w refl (sym found))
 
 pub returns-in_err-client-clause-due : goal.returns-in_err-client-clause-due
@@ -37,7 +37,7 @@ invariant_of-self-2 c =
       | in-Some w ↦ rw w.self-inside-is (
         (limits_next c.self.inside.limit c.in_ok-client.client w.in-Some.slot.now w.unlist.new.self c.self.inside.slots _
             (written_through c.in_ok-client.client w.in-Some.slot.now w.unlist.new.self c.self.inside.slots w.in-Some.ensures.value)
-            w.in-Some.ensures.value (ap (λ (h : Held). h.limit) w.unlist.ensures) c.self.invariant.0),
+            w.in-Some.ensures.value (ap (λ (h : Mailbox). h.limit) w.unlist.ensures) c.self.invariant.0),
         c.self.invariant.1,
       )
       | in_default w ↦ rw w.self-inside-is c.self.invariant
@@ -48,7 +48,7 @@ returns-clause-clients c =
     rw (← c.self.view_is) (elim c.match-get_mut.branch [
       | in-Some w ↦ rw w.self-inside-is
           (plain_same c.in_ok-client.client w.in-Some.slot.now w.unlist.new.self c.self.inside.slots _ refl w.in-Some.ensures.value
-          (ap (λ (h : Held). h.client) w.unlist.ensures))
+          (ap (λ (h : Mailbox). h.client) w.unlist.ensures))
       | in_default w ↦ rw w.self-inside-is refl
     ])
 
@@ -58,8 +58,8 @@ returns-clause-due c =
       | in-Some w ↦ rw w.self-inside-is
           (due_kept pieces c.in_ok-client.client w.in-Some.slot.now w.unlist.new.self c.self.inside.slots _
           (written_through c.in_ok-client.client w.in-Some.slot.now w.unlist.new.self c.self.inside.slots w.in-Some.ensures.value)
-          w.in-Some.ensures.value (λ hears. ap (λ (h : Held). is_live h.client) (sym w.unlist.ensures) ∙ hears)
-          (ap (λ (h : Held). h.due) w.unlist.ensures) all)
+          w.in-Some.ensures.value (λ hears. ap (λ (h : Mailbox). is_live h.client) (sym w.unlist.ensures) ∙ hears)
+          (ap (λ (h : Mailbox). h.due) w.unlist.ensures) all)
       | in_default w ↦ rw w.self-inside-is all
     ])
 
@@ -102,7 +102,7 @@ returns-clause-ready c =
       | in-Some w ↦ rw w.self-inside-is
           (ready_next c.in_ok-client.client w.in-Some.slot.now w.unlist.new.self c.self.inside.slots _
           (written_through c.in_ok-client.client w.in-Some.slot.now w.unlist.new.self c.self.inside.slots w.in-Some.ensures.value) w.in-Some.ensures.value
-          (subst (λ (h : Held). IsReady h) (sym w.unlist.ensures) (all c.in_ok-client.client w.in-Some.slot.now (sym w.in-Some.ensures.value))) all)
+          (subst (λ (h : Mailbox). IsReady h) (sym w.unlist.ensures) (all c.in_ok-client.client w.in-Some.slot.now (sym w.in-Some.ensures.value))) all)
       | in_default w ↦ rw w.self-inside-is all
     ])
 

@@ -4,7 +4,7 @@ use Rattle.std.specs.Option.{option_map}
 use Rattle.std.specs.Ordering.{nat_cmp}
 use Rattle.std.specs.BTreeMap.{is_at}
 use Rattle.std.specs.Map.{lookup}
-use Rattle.lobby_post.specs.Mail.{Held, IsDue, Line, IsReady, due_for}
+use Rattle.lobby_post.specs.Mail.{Mailbox, IsDue, Line, IsReady, due_for}
 use Rattle.lobby_post.specs.Dirty.{Mark, idle_of, is_idle, line_of, mark_of, marks_of, stands}
 use Rattle.lobby_post.specs.Crowd.{all_but_client, line_at, lines_of}
 use Rattle.lobby_post.proofs.Crowds.{plain_removed, all_removed, removed_from}
@@ -15,14 +15,14 @@ use Rattle.lobby_post.proofs.Waiting.{known_gone, known_unmoved, waits_gone, wai
 use Rattle.lobby_post.proofs.clients.Clients.remove.Goals as goal
 
 -- the slot of which a listing tells
-listed_slot : (o : Option Held) (home : ℕ) (listed : Bool) → ◌≡◌ {A = Option (ℕ × Bool)} (Some (home, listed)) (option_map (λ (held : Held). (held.client.home, held.listed)) o)
-    → (x : Held) × (o ≡ Some x) × (mark_of x ≡ record { home = home; listed = listed })
+listed_slot : (o : Option Mailbox) (home : ℕ) (listed : Bool) → ◌≡◌ {A = Option (ℕ × Bool)} (Some (home, listed)) (option_map (λ (held : Mailbox). (held.client.home, held.listed)) o)
+    → (x : Mailbox) × (o ≡ Some x) × (mark_of x ≡ record { home = home; listed = listed })
 listed_slot None home listed is = absurd (cc)
 listed_slot (Some x) home listed is =
     let pair : ◌≡◌ {A = ℕ × Bool} (x.client.home, x.listed) (home, listed) = cc in
     (x, refl, λ i. record { home = (pair i).0; listed = (pair i).1 })
 
-no_slot : (o : Option Held) → ◌≡◌ {A = Option (ℕ × Bool)} None (option_map (λ (held : Held). (held.client.home, held.listed)) o) → o ≡ None
+no_slot : (o : Option Mailbox) → ◌≡◌ {A = Option (ℕ × Bool)} None (option_map (λ (held : Mailbox). (held.client.home, held.listed)) o) → o ≡ None
 no_slot None is = refl
 no_slot (Some x) is = absurd (cc)
 

@@ -1,7 +1,7 @@
 use Rattle.std.proofs.lemmas.Grind.{common_steps}
 use Rattle.std.proofs.Common.{◌≡◌, ◌≤◌, ◌-◌, ◌++◌, ◌∷◌, [], ◌∙◌, length, take, drop, ap, subst, rules, arith}
 use Rattle.std.specs.Prelude.{IfSome}
-use Rattle.lobby_post.specs.declared.delivery.Piece.{Piece}
+use Rattle.lobby_post.specs.declared.delivery.Delivery.{Delivery}
 use Rattle.lobby_post.specs.Dues.{with_share}
 use Rattle.lobby_post.proofs.Lines.{inside_and, shares_more, whole_part}
 use Rattle.lobby_post.proofs.post.Post.address_key.Goals as goal
@@ -11,7 +11,7 @@ pub invariant_of-self-2 : goal.invariant_of-self-2
 invariant_of-self-2 c =
     let i = c.self.inside in
     let text = i.text.items in
-    let p : Piece = record { key = c.args.key; from = c.if-key-self.from; to = c.len-to.result } in
+    let p : Delivery = record { key = c.args.key; from = c.if-key-self.from; to = c.len-to.result } in
     let ends : c.len-to.result ≡ length text = search rules in
     let starts : p.from ≤ length text = elim c.if-key-self.branch [
       | then-key-self w ↦ rw w.from-is c.self.invariant.1

@@ -1,6 +1,6 @@
 use Rattle.std.proofs.Common.{◌≡◌}
 use Rattle.lobby_turns.proofs.Drains.{LetsFull}
-use Rattle.lobby_turns.proofs.holds.let_go.Given as goal
+use Rattle.lobby_turns.proofs.holds.give_up_unread.Given as goal
 
 abbrev pub invariant-loop : goal.invariant-loop
 invariant-loop g l =
