@@ -3,9 +3,9 @@ use Rattle.std.specs.Prelude.{◌≡◌, ◌++◌, ◌⊎◌, ℕ, nat_le, List,
 use Rattle.lobby_tables.specs.Answers.{ok, no_memory, no_room, no_command, bad_fields, out_of_range, nothing_listed}
 use Rattle.lobby_tables.specs.Answers.{word_skipped, request_too_long}
 use Rattle.command_grammar.specs.declared.command.Request.{Request}
-use Rattle.request_lines.specs.declared.error.RequestError.{RequestError}
-use Rattle.request_lines.specs.declared.error.RequestError.TheVariants as error
-use Rattle.request_lines.specs.Writing.{IsLine, IsRefused}
+use Rattle.lobby_lines.specs.declared.error.RequestError.{RequestError}
+use Rattle.lobby_lines.specs.declared.error.RequestError.TheVariants as error
+use Rattle.lobby_lines.specs.Writing.{IsLine, IsRefused}
 
 -- why a request is not printed, as its status
 abbrev pub status_of : RequestError → ℕ

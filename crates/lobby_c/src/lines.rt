@@ -6,15 +6,14 @@ ghost use Rattle.lobby_tables.specs.Answers.{lent, no_memory, no_reply, ok, Show
 ghost use Rattle.reply_kinds.specs.Replies.{Line, ReadsAs};
 ghost use Rattle.lobby_lines.specs.Fields.{field_row, field_shown};
 ghost use Rattle.lobby_lines.specs.Replies.{fields_of, HeadOf};
-ghost use Rattle.request_lines.specs.Requests.{request_of};
+ghost use Rattle.lobby_lines.specs.Requests.{request_of};
 ghost use Rattle.lobby_c.specs.Lines.{Gave, Told, status_of};
 
-use lobby_lines::{FieldRow, HeadRow, ReplyRead, read_reply};
+use lobby_lines::{FieldRow, HeadRow, ReplyRead, RequestError, print_request, read_reply};
 use lobby_tables::{
     BAD_FIELDS, NO_COMMAND, NO_MEMORY, NO_REPLY, NO_ROOM, NOTHING_LISTED, OK, OUT_OF_RANGE,
     REQUEST_TOO_LONG, Size, WORD_SKIPPED, answer,
 };
-use request_lines::{RequestError, print_request};
 use std::alloc::Global;
 
 /// The head and the fields of the reply that a line, without its LF, reads as: `OK`, `NO_ROOM` or `NO_MEMORY`, as for a

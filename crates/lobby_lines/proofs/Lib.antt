@@ -1,4 +1,7 @@
 mod Adding
-mod Going
 mod Numbers
+mod ReplyGoing
+mod RequestGoing
+mod Rows
 mod Telling
+mod Values

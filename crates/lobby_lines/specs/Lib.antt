@@ -1,3 +1,6 @@
 pub mod Fields
-pub mod Replies
 pub mod Reading
+pub mod Replies
+pub mod RequestTable
+pub mod Requests
+pub mod Writing

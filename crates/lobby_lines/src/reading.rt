@@ -6,8 +6,8 @@ ghost use Rattle.reply_kinds.specs.Replies.{Line, ReadsAs};
 ghost use Rattle.lobby_lines.specs.Fields.{field_row, field_shown};
 ghost use Rattle.lobby_lines.specs.Replies.{fields_of, HeadOf, IdIs};
 
-use crate::arguments::put_arguments;
 use crate::fields::{FieldRow, Fields, HeadRow};
+use crate::reply_arguments::put_arguments;
 use crate::reply_table::{kinds_of, number_of};
 use lobby_tables::Table;
 use reply_fields::ReadError;
