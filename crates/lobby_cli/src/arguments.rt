@@ -2,6 +2,7 @@
 
 ghost use Rattle.std.specs.Prelude.{◌≡◌, ◌≤◌};
 
+use crate::error::ProgramError;
 use crate::hash::hash_line;
 use crate::serve::serve;
 use lobby_workers::ServerError;
@@ -24,7 +25,7 @@ fn fail<R: Eprint, D: Display + Drop>(rt: &R, reason: D, status: u8) -> u8
 }
 
 /// Tells by which error the program ends, and gives its exit status.
-fn fail_by<R: Eprint>(rt: &R, error: ServerError) -> u8
+fn fail_by<R: Eprint>(rt: &R, error: ProgramError) -> u8
     ensures { result ≤ 4 }
 {
     fail(rt, error, error.status())
@@ -39,7 +40,7 @@ fn print_word<R: Input + Print + Eprint>(rt: &R) -> u8
     match hash_line(&mut reader, &mut writer) {
         0 => 0,
         1 => fail(rt, USAGE, 1),
-        _ => fail_by(rt, ServerError::Input),
+        _ => fail_by(rt, ServerError::Input.into()),
     }
 }
 
@@ -75,7 +76,10 @@ where
 {
     let mut words = match env::args(rt) {
         Ok(words) => words,
-        Err(e) if e.kind() == io::ErrorKind::OutOfMemory => return fail_by(rt, ServerError::Memory),
+        Err(e) if e.kind() == io::ErrorKind::OutOfMemory => return fail_by(
+            rt,
+            ServerError::Memory.into(),
+        ),
         Err(_) => return fail(rt, USAGE, 1),
     };
     words.next();

@@ -3,6 +3,7 @@
 #![tactic(auto)]
 
 mod arguments;
+mod error;
 mod hash;
 mod output;
 mod serve;

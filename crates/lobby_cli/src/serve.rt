@@ -2,6 +2,7 @@
 
 ghost use Rattle.std.specs.Prelude.{◌≤◌, IfOk};
 
+use crate::error::ProgramError;
 use crate::output::{ErrorWriter, Output, PatientOutput};
 use account_book::AccountBook;
 use lobby_files::{CLIENT_LIMIT, FileError, accounts_at, settings_at};
@@ -30,31 +31,31 @@ impl Gate for OpenGate {
 }
 
 /// What a server is set up to by its file of settings.
-fn setup_at<R: Files + AllocGlobal>(rt: &R, path: &str) -> Result<Setup, ServerError>
+fn setup_at<R: Files + AllocGlobal>(rt: &R, path: &str) -> Result<Setup, ProgramError>
     ensures { IfOk result (λ setup. (1 ≤ setup.workers) × (setup.workers ≤ 64)) }
 {
     match settings_at(rt, path) {
         Ok(setup) => Ok(setup),
-        Err(FileError::Memory) => Err(ServerError::Memory),
-        Err(_) => Err(ServerError::Settings),
+        Err(FileError::Memory) => Err(ServerError::Memory.into()),
+        Err(_) => Err(ProgramError::Settings),
     }
 }
 
 /// The accounts of a server.
-fn book_at<R: Files + AllocGlobal>(rt: &R, path: &str) -> Result<AccountBook, ServerError> {
+fn book_at<R: Files + AllocGlobal>(rt: &R, path: &str) -> Result<AccountBook, ProgramError> {
     match accounts_at(rt, path) {
         Ok(accounts) => Ok(accounts),
-        Err(FileError::Memory) => Err(ServerError::Memory),
-        Err(_) => Err(ServerError::Accounts),
+        Err(FileError::Memory) => Err(ServerError::Memory.into()),
+        Err(_) => Err(ProgramError::Accounts),
     }
 }
 
 /// By what the words that clients choose are hashed: none of them knows it.
-fn new_seed<R: RandomSource>(rt: &R) -> Result<HashSeed, ServerError> {
+fn new_seed<R: RandomSource>(rt: &R) -> Result<HashSeed, ProgramError> {
     let mut bytes = [0; 16];
     match rt.fill_bytes(&mut bytes) {
         Ok(()) => Ok(HashSeed::new(&bytes)),
-        Err(_) => Err(ServerError::Random),
+        Err(_) => Err(ProgramError::Random),
     }
 }
 
@@ -77,7 +78,7 @@ fn text_of(
 
 /// Runs a server by its files, until its input ends or the program is killed. The first fault in the order of
 /// settings, accounts and listener is the answer, and then what `run_server_logged` gives.
-pub fn serve<R>(rt: &R, settings: &str, accounts: &str) -> Result<(), ServerError>
+pub fn serve<R>(rt: &R, settings: &str, accounts: &str) -> Result<(), ProgramError>
 where
     R: Files + Input + Print + Eprint + AllocGlobal + Threads + Wait + Net + RandomSource + Sync,
 {
@@ -91,7 +92,7 @@ where
     } = setup_at(rt, settings)?;
     let accounts = book_at(rt, accounts)?;
     let Ok(listener) = TcpListener::bind(rt, SocketAddr::V4(address)) else {
-        return Err(ServerError::Listener);
+        return Err(ServerError::Listener.into());
     };
     let address = text_of(rt.alloc(), &listener, address)?;
     let started = Started {
@@ -130,6 +131,6 @@ where
     );
     match ServerError::of_run(status) {
         None => Ok(()),
-        Some(error) => Err(error),
+        Some(error) => Err(error.into()),
     }
 }

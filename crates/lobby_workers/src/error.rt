@@ -11,12 +11,6 @@ use worker_loop::ListenError;
 /// tells.
 #[derive(Clone, Copy, PartialEq, Eq, Debug, Error)]
 pub enum ServerError {
-    /// The settings cannot be used.
-    #[error("cannot use settings")]
-    Settings,
-    /// The accounts cannot be used.
-    #[error("cannot use accounts")]
-    Accounts,
     /// Reading the input failed.
     #[error("cannot read input")]
     Input,
@@ -24,24 +18,20 @@ pub enum ServerError {
     /// listener.
     #[error("cannot listen")]
     Listener,
-    /// The system gave no random bytes.
-    #[error("no random bytes")]
-    Random,
     /// Memory was refused while starting.
     #[error("no memory")]
     Memory,
 }
 
 impl ServerError {
-    /// The exit status of a program that ends so: 2 for settings, accounts and input, 3 for a listener or random bytes,
-    /// 4 for memory.
+    /// The exit status of a program that ends so: 2 for input, 3 for a listener, 4 for memory.
     pub fn status(self) -> u8
         ensures value { result ≡ status_of self }
         ensures within { (2 ≤ result) × (result ≤ 4) }
     {
         match self {
-            ServerError::Settings | ServerError::Accounts | ServerError::Input => 2,
-            ServerError::Listener | ServerError::Random => 3,
+            ServerError::Input => 2,
+            ServerError::Listener => 3,
             ServerError::Memory => 4,
         }
     }
