@@ -182,17 +182,18 @@ impl Connections {
     }
 
     /// A round begins, in which nothing was told yet. Where each of those who were due had its turn, those are due who
-    /// were left over.
+    /// were left over, and the worker may wait as long as it likes. Else it waits no longer than it did, or whom earlier
+    /// rounds left over would be forgotten.
     pub fn begin_round(&mut self)
         ensures over { due_count self.old ≤ self.old.served
             → self.new ≡ record (with_left self.old) { timeout = PollTimeout.Endless; told = 0 } }
         ensures goes_on { self.old.served < due_count self.old
-            → self.new ≡ record self.old { timeout = PollTimeout.Endless; told = 0 } }
+            → self.new ≡ record self.old { told = 0 } }
     {
         self.round = self.round.wrapping_add(1);
-        self.timeout = PollTimeout::Endless;
         self.told = 0;
         if self.served >= self.due() {
+            self.timeout = PollTimeout::Endless;
             self.due.clear();
             mem::swap(&mut self.due, &mut self.left);
             self.is_each_due = self.is_each_left;
