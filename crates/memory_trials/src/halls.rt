@@ -164,7 +164,8 @@ fn long_line(alloc: Global, user: &[u8]) -> Result<Vec<u8>, AllocError> {
     Ok(line)
 }
 
-/// Dora connects under this number, logs in, and says more to each user than a buffer has that is kept.
+/// Dora connects under this number, logs in, and says more to each user than a buffer has that is kept. She reads in
+/// between, or her own outbox would pass its limit.
 fn say_all(hall: &mut Hall, alloc: Global, dora: u64) -> Result<(), HallError> {
     hall.step(&Step::Open {
         ip: [10, 0, 0, 4],
@@ -175,6 +176,10 @@ fn say_all(hall: &mut Hall, alloc: Global, dora: u64) -> Result<(), HallError> {
         for _ in 0..TEXTS {
             say(hall, dora, long_line(alloc, user)?)?;
         }
+        hall.step(&Step::Read {
+            client: dora,
+            count: LEAST_OUTBOX_LIMIT,
+        })?;
     }
     Ok(())
 }

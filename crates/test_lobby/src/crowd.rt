@@ -12,11 +12,11 @@ pub const HOME: u8 = 0;
 /// The most bytes that one reads at a time.
 pub const PIECE: usize = 4_096;
 
-/// So many reads take more than a buffer has that is kept, 16,384 bytes.
-pub const READS: u32 = 5;
+/// So many reads take more than a buffer has that is kept, 32,768 bytes.
+pub const READS: u32 = 9;
 
 /// So many lines of `LONG` bytes are more than such a buffer has.
-const LINES: u32 = 9;
+const LINES: u32 = 18;
 
 const LONG: usize = 1_900;
 
