@@ -13,8 +13,8 @@ const MEMBERS: usize = MANY as usize - 1;
 /// The users of a small crowd.
 pub const FEW: u32 = 4;
 
-/// How long a line is as it is told, in bytes: one that is copied, of which a buffer that is kept has room for eight,
-/// and the shortest that is shared.
+/// How long a line is as it is told, in bytes: one that is copied, of which a buffer that is kept has room for
+/// seventeen, and the shortest that is shared.
 pub const SHORT: usize = 1_900;
 
 pub const LONG: usize = 2_048;
@@ -59,11 +59,11 @@ pub static MANY_PARTS: [Part; 7] = [
     },
     Part {
         rule: "a buffer that grows doubles, and goes once it is read if it is large",
-        acts: &[(9, Act::Short), (5, Act::Read(4_096))],
+        acts: &[(18, Act::Short), (9, Act::Read(4_096))],
         before: 0,
         times: 1,
-        growths: 9 * (MEMBERS + 1),
-        asked: 4 * 9 * SHORT * (MEMBERS + 1),
+        growths: 18 * (MEMBERS + 1),
+        asked: 4 * 18 * SHORT * (MEMBERS + 1),
         kept: 0,
     },
     Part {
