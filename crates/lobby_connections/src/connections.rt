@@ -182,8 +182,8 @@ impl Connections {
     }
 
     /// A round begins, in which nothing was told yet. Where each of those who were due had its turn, those are due who
-    /// were left over, and the worker may wait as long as it likes. Else it waits no longer than it did, or whom earlier
-    /// rounds left over would be forgotten.
+    /// were left over, and the worker may wait as long as it likes. Else it waits no longer than it did, or it would
+    /// forget whom earlier rounds left over.
     pub fn begin_round(&mut self)
         ensures over { due_count self.old ≤ self.old.served
             → self.new ≡ record (with_left self.old) { timeout = PollTimeout.Endless; told = 0 } }

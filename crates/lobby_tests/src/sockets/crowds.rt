@@ -112,8 +112,8 @@ static LISTERS_SEND: [Act; 6] = [
     },
 ];
 
-/// Each of four sends lines that fill a turn, three a round. So those who are left over take two rounds, and the last of
-/// them has nothing left then, while the others were left over in the round before: they are not forgotten.
+/// Each of four sends lines that fill a turn, three a round. So those who are left over take two rounds, and the last
+/// of them has nothing left then, while the others were left over in the round before: they are not forgotten.
 #[test]
 fn who_is_left_over_by_an_earlier_round_is_served(rt: HostRuntime) {
     drop(play(&rt, rt, 1, Hold::Crowd, &LISTERS_SEND));
