@@ -1,14 +1,16 @@
 //! The connections of a worker, and who gets the next turn.
 
-ghost use Rattle.std.specs.Prelude.{◌≡◌, ◌⊎◌, ◌↔◌, ◌+◌, ◌-◌, ◌/◌, ◌^◌, ◌<◌, ◌≤◌, ◌||◌, [], ◌++◌, true, false, length};
-ghost use Rattle.std.specs.Prelude.{max, min, None, IfSome, IsTrue, OnOk, OnSome};
+ghost use Rattle.std.specs.Prelude.{◌≡◌, ◌⊎◌, ◌↔◌, ◌+◌, ◌-◌, ◌/◌, ◌^◌, ◌<◌, ◌≤◌, ◌||◌, [], ◌++◌, true, false};
+ghost use Rattle.std.specs.Prelude.{length, max, min, None, IfSome, IsTrue, OnOk, OnSome};
 ghost use Rattle.std.specs.Option.{option_to_list};
 ghost use Rattle.lobby_post.specs.Mask.{has_home};
 ghost use Rattle.lobby_connections.specs.Table.{Leaves, Stays, due_count, next_key, with_left};
 ghost use Rattle.lobby_connections.specs.Timeouts.{shorter};
 
 use crate::connection::Connection;
+use crate::lingering::Lingering;
 use crate::poll_timeout::PollTimeout;
+use crate::wire_link::WireLink;
 use lobby_lock::{Held, MOST_EVENTS};
 use lobby_machine::Wakes;
 use lobby_turns::{Buffers, Conn, TurnState};
@@ -20,7 +22,6 @@ use std::alloc::{AllocError, Global};
 use std::collections::HashMap;
 use std::marker::Model;
 use std::mem;
-use wire_link::{Lingering, WireLink};
 
 /// The most names that are taken in a hold, so that no other worker waits long for the lobby.
 pub const NAMES_IN_HOLD: usize = 64;

@@ -1,9 +1,12 @@
 //! What all are told of a battle.
 
+ghost use Rattle.std.specs.Prelude.{◌≡◌};
+ghost use Rattle.reply_kinds.specs.declared.Reply.TheVariants as reply;
+
+use crate::{BattleNumber, HeldOpened, Opened, Reply};
 use line_words::{NameBuf, SentenceBuf, WordBuf};
 
-/// What BATTLEOPENED tells of a battle besides its number. The fields are those of
-/// `Reply::BattleOpened`, in the same ranges.
+/// What BATTLEOPENED tells of a battle besides its number, in the order of its arguments.
 #[derive(Drop)]
 pub struct OpenedBattle {
     /// 0 for a game, 1 for a replay (`type`).
@@ -34,4 +37,16 @@ pub struct OpenedBattle {
     pub title: SentenceBuf,
     /// The name of the game.
     pub game_name: SentenceBuf,
+}
+
+impl OpenedBattle {
+    /// The reply that tells this of the battle of that number.
+    pub fn told(&self, battle: u32) -> Reply<'_>
+        ensures { result ≡ reply.BattleOpened battle self.now }
+    {
+        Reply::BattleOpened {
+            battle: BattleNumber(battle),
+            opened: Opened(HeldOpened::Lent(self)),
+        }
+    }
 }
