@@ -6,7 +6,7 @@ ghost use Rattle.lobby_turns.specs.Holds.{IsTaken, Stands};
 
 use crate::inboxes::{Arrival, Inboxes};
 use crate::wakers::Wakers;
-use lobby_connections::{Connection, Connections, NAMES_IN_HOLD, Newcomers, PollTimeout};
+use lobby_connections::{Connection, Connections, NAMES_IN_HOLD, Newcomers};
 use lobby_lock::{Desk, Held, Pass};
 use lobby_machine::{OpenError, Wakes};
 use lobby_model::WORKERS;
@@ -224,9 +224,6 @@ pub fn turn_left<R: Wait, G: Gate>(
         pass = turn_within(rt, shared, pass, connections, registry, key, allowance);
         connections.count_told(LEFT_TURN);
     }
-    if connections.has_due() {
-        connections.hurry(PollTimeout::Zero);
-    }
     pass
 }
 
@@ -270,8 +267,7 @@ pub fn turn_named<R: Wait, G: Gate>(
     pass
 }
 
-/// Before the worker waits: where its own turns touched its clients, takes the names of those, and has
-/// it not wait if there are any.
+/// Before the worker waits: where its own turns touched its clients, takes the names of those.
 pub fn look_for_own<R: Wait, G: Gate>(
     rt: &R,
     shared: &Shared<'_, G>,
@@ -285,11 +281,7 @@ pub fn look_for_own<R: Wait, G: Gate>(
     if !connections.is_marked() && connections.named() == 0 {
         return pass;
     }
-    let pass = take_names(rt, shared, pass, connections);
-    if connections.is_marked() || connections.named() > 0 {
-        connections.hurry(PollTimeout::Zero);
-    }
-    pass
+    take_names(rt, shared, pass, connections)
 }
 
 /// Takes the names of changed clients, as many as there is room for, and is marked where there may be
