@@ -1,2 +1,3 @@
+pub mod Countries
 pub mod Index
 pub mod Listed

@@ -3,6 +3,7 @@
 ghost use Rattle.std.specs.Prelude.{◌≡◌, true};
 ghost use Rattle.account_book.specs.Account.{is_country};
 
+use line_words::Word;
 use std::marker::Model;
 
 /// A country as ADDUSER tells it: two upper-case letters, or `??` where it is not known.
@@ -37,5 +38,16 @@ impl Country {
         ensures kind { is_country result.now ≡ true }
     {
         &self.letters
+    }
+
+    /// The two letters, lent as a word.
+    #[tactic(auto, using(crate::proofs::Countries::country_is_word))]
+    pub fn as_word(&self) -> Word<'_>
+        ensures { result ≡ self.now }
+    {
+        match Word::of(&self.letters) {
+            Some(word) => word,
+            None => unreachable!(),
+        }
     }
 }

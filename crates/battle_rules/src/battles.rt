@@ -4,7 +4,6 @@
 ghost use Rattle.std.specs.Prelude.{◌≡◌, [], ◌∷◌, ◌++◌, decimal, OnOk, IfOk, true, Some, is_some};
 ghost use Rattle.reply_kinds.specs.declared.Reply.TheVariants as reply;
 ghost use Rattle.line_words.specs.Table.{at_number};
-ghost use Rattle.reply_kinds.specs.Lent.{reply_of};
 ghost use Rattle.room_lists.specs.Room.{asker_names, new_room};
 ghost use Rattle.lobby_model.specs.State.{name_of, updated};
 ghost use Rattle.lobby_model.specs.Outcome.{everyone, tell, user, users};
@@ -29,7 +28,7 @@ use lobby_guards::battle_guards::{
 use lobby_guards::{Issuer, Refusal, Stop};
 use lobby_maps::{Battle, BattleChange, Change, Maps, NO_PASSWORD, RoomChange};
 use lobby_post::{ClientKey, Post};
-use reply_kinds::{LentReply, OpenedBattle};
+use reply_kinds::{BattleNumber, Held, HeldText, Name, OpenedBattle, Reply, Sentence, Wide, Word};
 use status_bits::{BattleStatus, merge_battle};
 use std::alloc::{AllocError, Global};
 
@@ -110,11 +109,7 @@ fn tell_opening(
     ensures { OnOk result (Told maps.now.plain post.old post.new (tell everyone (opened_line number battle.now.info
         ∷ []) ∷ tell (user me.now) (reply.OpenBattle number ∷ reply.RequestBattleStatus ∷ []) ∷ [])) }
 {
-    let line = LentReply::BattleOpened {
-        battle: number,
-        opened: &battle.opened,
-    };
-    maps.tell_all(line, post)?;
+    maps.tell_all(battle.opened.told(number), post)?;
     tell_opener(maps, me, number, post)?;
     Ok(())
 }
@@ -275,8 +270,10 @@ fn tell_opener(maps: &Maps, me: &NameBuf, number: u32, post: &mut Post) -> Resul
         ∷ reply.RequestBattleStatus ∷ []) ∷ [])) }
 {
     post.begin_own();
-    post.write_own(LentReply::OpenBattle { battle: number })?;
-    post.write_own(LentReply::RequestBattleStatus)?;
+    post.write_own(Reply::OpenBattle {
+        battle: BattleNumber(number),
+    })?;
+    post.write_own(Reply::RequestBattleStatus)?;
     maps.address_user(me, post)?;
     Ok(())
 }
@@ -314,9 +311,9 @@ pub fn tell_leaving(
         return tell_closing(maps, number, &battle.room, leaving, post);
     }
     tell_bots_gone(maps, name, number, &battle.room, leaving, post)?;
-    let line = LentReply::LeftBattle {
-        battle: number,
-        user: name,
+    let line = Reply::LeftBattle {
+        battle: BattleNumber(number),
+        user: Name(Held::Lent(name)),
     };
     tell_leaving_all(maps, line, leaving, post)
 }
@@ -334,12 +331,16 @@ fn tell_closing(
         ∷ shown_to leaving (tell everyone (reply.BattleClosed number ∷ [])) ∷ [])) }
 {
     let text = Text::lend(b"The battle was closed");
-    let line = LentReply::JoinBattleFailed { text: &text };
+    let line = Reply::JoinBattleFailed {
+        text: reply_kinds::Text(HeldText::Fixed(&text)),
+    };
     match leaving {
         Leaving::Seen => maps.tell_askers(room, line, post)?,
         Leaving::Unseen => maps.tell_other_askers(room, line, post)?,
     }
-    let line = LentReply::BattleClosed { battle: number };
+    let line = Reply::BattleClosed {
+        battle: BattleNumber(number),
+    };
     tell_leaving_all(maps, line, leaving, post)
 }
 
@@ -356,9 +357,9 @@ fn tell_bots_gone(
 {
     for bot in room.bots() {
         if owner.cmp(bot.owner()).is_eq() {
-            let line = LentReply::RemoveBot {
-                battle: number,
-                bot: bot.name(),
+            let line = Reply::RemoveBot {
+                battle: BattleNumber(number),
+                bot: Word(Held::Lent(bot.name())),
             };
             match leaving {
                 Leaving::Seen => maps.tell_room(room, line, post)?,
@@ -372,11 +373,11 @@ fn tell_bots_gone(
 /// Tells all users that one leaves, itself among them or not.
 fn tell_leaving_all(
     maps: &Maps,
-    line: LentReply,
+    line: Reply,
     leaving: Leaving,
     post: &mut Post,
 ) -> Result<(), AllocError>
-    ensures { OnOk result (Told maps.now.plain post.old post.new (shown_to leaving (tell everyone (reply_of line.entry
+    ensures { OnOk result (Told maps.now.plain post.old post.new (shown_to leaving (tell everyone (line.entry
         ∷ [])) ∷ [])) }
 {
     match leaving {
@@ -399,12 +400,12 @@ pub fn update_battle(
 {
     let (number, battle) = own_battle(by.maps, by.me)?;
     founded_by(battle, by.me)?;
-    let line = LentReply::UpdateBattleInfo {
-        battle: number,
+    let line = Reply::UpdateBattleInfo {
+        battle: BattleNumber(number),
         spectator_count: spectators,
         locked,
-        map_hash,
-        map,
+        map_hash: Wide(map_hash),
+        map: Sentence(Held::Lent(map)),
     };
     by.maps.tell_all(line, post)?;
     Ok(Change::InBattles(BattleChange::Update {
@@ -448,10 +449,10 @@ pub fn give_status(
         (member_has name.now status colour number battle.now).told) }
     ensures change { IfOk result (λ change. change ≡ status_change number name.now status colour) }
 {
-    let line = LentReply::ClientBattleStatus {
-        user: name,
+    let line = Reply::ClientBattleStatus {
+        user: Name(Held::Lent(name)),
         battle_status: status.word(),
-        team_color: colour,
+        team_color: Wide(colour),
     };
     maps.tell_room(&battle.room, line, post)?;
     Ok(in_room(
@@ -465,9 +466,9 @@ pub fn give_status(
 }
 
 /// `SAYBATTLE` and `SAYBATTLEEX`: the user is in a battle.
-pub fn say_in_battle(by: &Issuer, line: LentReply, post: &mut Post) -> Result<Change, Stop>
+pub fn say_in_battle(by: &Issuer, line: Reply, post: &mut Post) -> Result<Change, Stop>
     ensures { Answers by.now.maps.now.plain by.now.client post.old post.new
-        (say_in_battle by.now.maps.now.plain by.now.me.now (reply_of line.entry)) result }
+        (say_in_battle by.now.maps.now.plain by.now.me.now line.entry) result }
 {
     let (_, battle) = own_battle(by.maps, by.me)?;
     by.maps.tell_room(&battle.room, line, post)?;

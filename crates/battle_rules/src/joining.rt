@@ -23,7 +23,7 @@ use lobby_guards::battle_guards::{
 use lobby_guards::{Issuer, Refusal, Stop};
 use lobby_maps::{Battle, BattleChange, Change, Maps, Recipient, write_line, write_room};
 use lobby_post::Post;
-use reply_kinds::LentReply;
+use reply_kinds::{BattleNumber, Held, HeldText, Name, Reply, Wide, Word};
 use std::alloc::{AllocError, Global};
 
 /// `JOINBATTLE`: the user is in no battle and asks to join none; there is a battle of that number,
@@ -81,9 +81,9 @@ fn ask_to_join(
         change ≡ InBattles (Ask number by.now.me.now (option_copied script_password.entry))) }
 {
     let ip = address_of(by.maps, by.client)?;
-    let line = LentReply::JoinBattleRequest {
-        user: by.me,
-        ip: &ip,
+    let line = Reply::JoinBattleRequest {
+        user: Name(Held::Lent(by.me)),
+        ip: Word(Held::Lent(&ip)),
     };
     let told = by.maps.tell_user(&battle.opened.founder, line, post);
     drop(ip);
@@ -136,8 +136,13 @@ pub fn deny(
     founded_by(battle, by.me)?;
     asker_named(battle, name)?;
     let reason = reason_given(reason);
-    by.maps
-        .tell_user(name, LentReply::JoinBattleFailed { text: &reason }, post)?;
+    by.maps.tell_user(
+        name,
+        Reply::JoinBattleFailed {
+            text: reply_kinds::Text(HeldText::Fixed(&reason)),
+        },
+        post,
+    )?;
     Ok(stop_asking(number, name))
 }
 
@@ -157,15 +162,15 @@ fn tell_joining(
 {
     tell_joiner(maps, name, number, battle, recipient, post)?;
     let founder = &battle.opened.founder;
-    let line = LentReply::JoinedBattle {
-        battle: number,
-        user: name,
-        script_password,
+    let line = Reply::JoinedBattle {
+        battle: BattleNumber(number),
+        user: Name(Held::Lent(name)),
+        script_password: lent_word(script_password),
     };
     maps.tell_user(founder, line, post)?;
-    let line = LentReply::JoinedBattle {
-        battle: number,
-        user: name,
+    let line = Reply::JoinedBattle {
+        battle: BattleNumber(number),
+        user: Name(Held::Lent(name)),
         script_password: None,
     };
     maps.tell_all_but(name, founder, line, post)
@@ -186,19 +191,19 @@ fn tell_joiner(
         ∷ (room_lines number battle.now.room ++ reply.RequestBattleStatus ∷ [])) ∷ [])) }
 {
     post.begin_own();
-    let line = LentReply::JoinBattle {
-        battle: number,
-        game_hash: battle.game_hash,
+    let line = Reply::JoinBattle {
+        battle: BattleNumber(number),
+        game_hash: Wide(battle.game_hash),
     };
     write_line(recipient, line, post)?;
-    let line = LentReply::JoinedBattle {
-        battle: number,
-        user: name,
+    let line = Reply::JoinedBattle {
+        battle: BattleNumber(number),
+        user: Name(Held::Lent(name)),
         script_password: None,
     };
     write_line(recipient, line, post)?;
     write_room(recipient, number, &battle.room, post)?;
-    write_line(recipient, LentReply::RequestBattleStatus, post)?;
+    write_line(recipient, Reply::RequestBattleStatus, post)?;
     maps.address_user(name, post)?;
     Ok(())
 }
@@ -210,6 +215,16 @@ fn reason_given(reason: Option<&TextBuf>) -> Text<'_>
     match reason {
         Some(reason) => reason.as_text(),
         None => Text::lend(b"Denied by the founder"),
+    }
+}
+
+/// Lends a word, where there is one.
+fn lent_word(word: Option<&WordBuf>) -> Option<Word<'_>>
+    ensures { result ≡ option_copied word.entry }
+{
+    match word {
+        Some(word) => Some(Word(Held::Lent(word))),
+        None => None,
     }
 }
 

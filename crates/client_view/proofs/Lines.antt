@@ -4,7 +4,7 @@ use Rattle.std.specs.Prelude.{Bool, map, nat_le, nat_lt, not, Option, Some, None
 use Rattle.std.proofs.lemmas.Bool.Decides.{nat_tests}
 use Rattle.std.proofs.Math.Seq.{take-add}
 use Rattle.std.proofs.lemmas.List.{take_more, take-append-drop, get_or-drop}
-use Rattle.line_framer.specs.Frames.{Parts, frames, fits, is_spoilt, rest_of, sound_lines, without_cr}
+use Rattle.line_framer.specs.Frames.{Parts, frames, is_spoilt, rest_of, sound_lines, without_cr}
 use Rattle.line_framer.specs.Buffered.{HasNoEnd, FirstEndAt, LastEndAt, IsFirstEnd}
 use Rattle.line_framer.proofs.Parts.{parts_none, parts-append, rest-end}
 use Rattle.line_framer.proofs.Limit.{spoilt_in}

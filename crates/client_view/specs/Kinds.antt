@@ -1,22 +1,16 @@
 -- Which replies are folded together.
-use Rattle.std.specs.Prelude.{Bool, true, false}
 use Rattle.reply_kinds.specs.declared.Reply.{Reply}
 use Rattle.reply_kinds.specs.declared.Reply.TheVariants as reply
 
 -- what a reply changes of what a client knows: all, by a login; the users, who is in which channel, the battles and who
--- is in them, the list by a battle that opens; in the own room the members' statuses, the bots, the start rectangles,
--- the script tags and the disabled units; or nothing
+-- is in them, the list by a battle that opens, the own room; or nothing
 pub data Kind : Type 0 where
   Login : Kind
   Users : Kind
   Channels : Kind
   Battles : Kind
   Opening : Kind
-  Members : Kind
-  Bots : Kind
-  Rects : Kind
-  Tags : Kind
-  Units : Kind
+  Room : Kind
   Nothing : Kind
 
 abbrev pub kind_of : Reply → Kind
@@ -36,24 +30,15 @@ kind_of (reply.LeftBattle battle user) = Battles
 kind_of (reply.UpdateBattleInfo battle spectator_count locked map_hash map) = Battles
 kind_of (reply.BattleOpened battle battle_type nat_type founder ip port max_players passworded rank map_hash
     engine_name engine_version map title game_name) = Opening
-kind_of (reply.ClientBattleStatus user status colour) = Members
-kind_of (reply.AddBot battle bot owner status colour ai) = Bots
-kind_of (reply.UpdateBot battle bot status colour) = Bots
-kind_of (reply.RemoveBot battle bot) = Bots
-kind_of (reply.AddStartRect ally left top right bottom) = Rects
-kind_of (reply.RemoveStartRect ally) = Rects
-kind_of (reply.SetScriptTags pairs) = Tags
-kind_of (reply.RemoveScriptTags keys) = Tags
-kind_of (reply.DisableUnits units) = Units
-kind_of (reply.EnableUnits units) = Units
-kind_of reply.EnableAllUnits = Units
+kind_of (reply.ClientBattleStatus user status colour) = Room
+kind_of (reply.AddBot battle bot owner status colour ai) = Room
+kind_of (reply.UpdateBot battle bot status colour) = Room
+kind_of (reply.RemoveBot battle bot) = Room
+kind_of (reply.AddStartRect ally left top right bottom) = Room
+kind_of (reply.RemoveStartRect ally) = Room
+kind_of (reply.SetScriptTags pairs) = Room
+kind_of (reply.RemoveScriptTags keys) = Room
+kind_of (reply.DisableUnits units) = Room
+kind_of (reply.EnableUnits units) = Room
+kind_of reply.EnableAllUnits = Room
 kind_of r = Nothing
-
--- whether a kind is of the own room
-abbrev pub is_of_room : Kind → Bool
-is_of_room Members = true
-is_of_room Bots = true
-is_of_room Rects = true
-is_of_room Tags = true
-is_of_room Units = true
-is_of_room k = false

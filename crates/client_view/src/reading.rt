@@ -12,7 +12,7 @@ ghost use Rattle.client_view.specs.Told.{told};
 
 use crate::undoable_known::UndoableKnown;
 use line_framer::without_cr;
-use reply_kinds::CommandWord;
+use reply_kinds::{CommandWord, Held, Name};
 use reply_reader::{Head, read_client_status, read_head, read_said};
 use std::alloc::AllocError;
 
@@ -32,7 +32,7 @@ impl UndoableKnown {
     }
 
     /// Nine in ten lines are a status or talk. These are folded without a `Reply`, which is as large as
-    /// the largest kind, and whose moves from where it is read to here would cost more than the rest.
+    /// the largest kind, and whose making would cost more than the rest.
     fn take_head(&mut self, head: Head) -> Result<usize, AllocError>
         ensures ok { OnOk result (Changes (λ v.
             shown_all v (told (read_arguments head.entry.command head.entry.arguments.now))) self.old self.new) }
@@ -57,7 +57,8 @@ impl UndoableKnown {
     {
         match read_client_status(self.known.alloc, arguments) {
             Ok(Some((user, status))) => {
-                self.known.client_status(&user, status)?;
+                let name = Name(Held::Lent(&user));
+                self.known.client_status(&name, status)?;
                 Ok(1)
             }
             Ok(None) => Ok(0),
@@ -89,7 +90,7 @@ impl UndoableKnown {
     {
         match head.reply(self.known.alloc) {
             Ok(Some(reply)) => {
-                self.fold(reply)?;
+                self.fold(&reply)?;
                 Ok(1)
             }
             Ok(None) => Ok(0),

@@ -7,8 +7,7 @@ ghost use Rattle.noted_map.specs.Undoable.{Changes};
 ghost use Rattle.client_view.specs.Refused.{Refused};
 
 use crate::known::Known;
-use line_words::NameBuf;
-use reply_kinds::Reply;
+use reply_kinds::{Name, Reply};
 use std::alloc::{AllocError, Global};
 use std::marker::Model;
 use std::mem::replace;
@@ -86,10 +85,8 @@ impl UndoableKnown {
     }
 
     /// Folds a reply.
-    // It stands apart and has few groups, since each call that takes a reply has a place for a whole one here.
-    #[inline(never)]
-    pub(crate) fn fold(&mut self, reply: Reply) -> Result<(), AllocError>
-        ensures ok { OnOk result (Changes (λ v. shown v reply) self.old self.new) }
+    pub(crate) fn fold(&mut self, reply: &Reply) -> Result<(), AllocError>
+        ensures ok { OnOk result (Changes (λ v. shown v reply.now) self.old self.new) }
         ensures err { OnErr result (Refused self.old self.new) }
     {
         match reply {
@@ -123,18 +120,15 @@ impl UndoableKnown {
             | Reply::EnableUnits { .. }
             | Reply::EnableAllUnits => self.known.fold_room(reply),
             // What is said, asked or refused. By the contract it is only what changes nothing.
-            _ => {
-                let_go(reply);
-                Ok(())
-            }
+            _ => Ok(()),
         }
     }
 
     /// The login was accepted: all begins anew.
-    fn accepted(&mut self, name: NameBuf)
-        ensures { Changes (λ v. shown v (reply.Accepted name)) self.old self.new }
+    fn accepted(&mut self, name: &Name)
+        ensures { Changes (λ v. shown v (reply.Accepted name.now)) self.old self.new }
     {
-        let known = Known::new(self.known.alloc, Some(name));
+        let known = Known::new(self.known.alloc, Some(name.to_name()));
         if self.known.is_noting() {
             self.begin_anew(known);
         } else {
@@ -155,10 +149,4 @@ impl UndoableKnown {
             None => self.earlier = Some(last),
         }
     }
-}
-
-/// It stands apart, so that a reply that is folded is moved as a whole, and not field by field.
-#[inline(never)]
-fn let_go(reply: Reply) {
-    reply.discard();
 }

@@ -1,8 +1,11 @@
 //! A line for each reply, read and printed again, and lines that no reply prints.
 
 use crate::verdict::{same, same_for};
-use line_words::{NameBuf, Text, TextBuf};
-use reply_grammar::{LentReply, Reply, print, print_id, print_lent, read_reply};
+use line_words::{NameBuf, TextBuf, Word};
+use reply_grammar::{
+    Country, Held, HeldNames, HeldText, HeldWord, Name, Names, Reply, Text, Wide, print, print_id,
+    read_reply,
+};
 use std::alloc::{AllocError, Global};
 
 static LINES: [&[u8]; 59] = [
@@ -167,37 +170,37 @@ fn a_lent_reply_prints_as_an_owned_one(rt: HostRuntime) {
 
 /// A fixed text.
 fn print_refusal(out: &mut Vec<u8>) -> Result<(), AllocError> {
-    let refusal = Text::lend(b"Log in first");
-    print_lent(LentReply::ServerMsg { text: &refusal }, Some(7), out)
+    let refusal = line_words::Text::lend(b"Log in first");
+    let reply = Reply::ServerMsg {
+        text: Text(HeldText::Fixed(&refusal)),
+    };
+    print(&reply, Some(7), out)
 }
 
 /// Numbers at their ends.
 fn print_user(alloc: Global, out: &mut Vec<u8>) -> Result<(), AllocError> {
     let user = NameBuf::copy_of(alloc, b"Bert")?;
-    print_lent(
-        LentReply::AddUser {
-            user: &user,
-            country: b"??",
-            cpu: -1,
-            account: 4294967295,
-        },
-        None,
-        out,
-    )
+    let Some(country) = Word::of(b"??") else {
+        return Ok(());
+    };
+    let reply = Reply::AddUser {
+        user: Name(Held::Lent(&user)),
+        country: Country(HeldWord::Lent(country)),
+        cpu: Wide(-1),
+        account: 4294967295,
+    };
+    print(&reply, None, out)
 }
 
 /// What a user wrote.
 fn print_private(alloc: Global, out: &mut Vec<u8>) -> Result<(), AllocError> {
     let user = NameBuf::copy_of(alloc, b"Bert")?;
     let text = TextBuf::copy_of(alloc, b"hi  there")?;
-    print_lent(
-        LentReply::SayPrivate {
-            user: &user,
-            text: &text,
-        },
-        Some(9),
-        out,
-    )
+    let reply = Reply::SayPrivate {
+        user: Name(Held::Lent(&user)),
+        text: Text(HeldText::Lent(&text)),
+    };
+    print(&reply, Some(9), out)
 }
 
 #[test]
@@ -218,47 +221,32 @@ fn print_names(alloc: Global, out: &mut Vec<u8>) -> Result<(), AllocError> {
         NameBuf::copy_of(alloc, b"u01")?,
         NameBuf::copy_of(alloc, b"u02")?,
     ];
-    print_lent(
-        LentReply::Clients {
-            channel: &main,
-            names: &names,
-        },
-        Some(3),
-        out,
-    )?;
-    print_lent(
-        LentReply::LastClients {
-            channel: &main,
-            names: &names,
-            last: &last,
-        },
-        None,
-        out,
-    )
+    let reply = Reply::Clients {
+        channel: Name(Held::Lent(&main)),
+        names: Names(HeldNames::Lent(&names)),
+    };
+    print(&reply, Some(3), out)?;
+    let reply = Reply::Clients {
+        channel: Name(Held::Lent(&main)),
+        names: Names(HeldNames::LentAndLast(&names, &last)),
+    };
+    print(&reply, None, out)
 }
 
 #[test]
 fn a_line_behind_an_id_is_the_line_under_it(rt: HostRuntime) {
     let mut out = Vec::new(rt.alloc());
     same(&rt, print_id(Some(7), &mut out), Ok(()));
-    same(&rt, print_lent(LentReply::Pong, None, &mut out), Ok(()));
+    same(&rt, print(&Reply::Pong, None, &mut out), Ok(()));
     same(&rt, print_id(None, &mut out), Ok(()));
-    same(
-        &rt,
-        print_lent(LentReply::EndOfChannels, None, &mut out),
-        Ok(()),
-    );
+    same(&rt, print(&Reply::EndOfChannels, None, &mut out), Ok(()));
     same(&rt, out.as_slice(), b"#7 PONG\nENDOFCHANNELS\n".as_slice());
 }
 
 /// Whether the reply that was read prints this line, with its end; nothing where there is no reply.
 fn prints_again(alloc: Global, line: &[u8]) -> Result<Option<bool>, AllocError> {
     match read_reply(alloc, line) {
-        Ok(Some((id, reply))) => {
-            let printed = prints(alloc, &reply, id, line);
-            reply.discard();
-            Ok(Some(printed))
-        }
+        Ok(Some((id, reply))) => { Ok(Some(prints(alloc, &reply, id, line))) }
         Ok(None) => Ok(None),
         Err(refusal) => Err(refusal),
     }

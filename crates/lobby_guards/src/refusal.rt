@@ -2,13 +2,12 @@
 
 ghost use Rattle.std.specs.Prelude.{◌≡◌, IfErr, IfOk, None, OnOk, Some, false, true};
 ghost use Rattle.lobby_guards.specs.declared.refusal.Stop.TheVariants.{Refused};
-ghost use Rattle.reply_kinds.specs.Lent.{reply_of};
 ghost use Rattle.lobby_model.specs.Texts.{fault_text};
 ghost use Rattle.lobby_guards.specs.Answers.{refusal_text, reply_saying};
 
 use command_grammar::ReadFault;
 use line_words::{NameBuf, Text};
-use reply_kinds::LentReply;
+use reply_kinds::{Held, HeldText, Name, Reply};
 use std::alloc::AllocError;
 
 /// Why a command was refused.
@@ -105,25 +104,26 @@ impl Refusal {
     }
 
     /// The line that says these words.
-    pub fn line<'a>(&'a self, text: &'a Text<'a>) -> LentReply<'a>
-        ensures { reply_of result ≡ reply_saying self.now text.now }
+    pub fn line<'a>(&'a self, text: &'a Text<'a>) -> Reply<'a>
+        ensures { result ≡ reply_saying self.now text.now }
     {
+        let text = reply_kinds::Text(HeldText::Fixed(text));
         match self {
             Refusal::AlreadyIn | Refusal::InvalidLogin | Refusal::UserIsIn => {
-                LentReply::Denied { text }
+                Reply::Denied { text }
             }
-            Refusal::AlreadyInChannel(channel) => LentReply::JoinFailed {
-                channel,
+            Refusal::AlreadyInChannel(channel) => Reply::JoinFailed {
+                channel: Name(Held::Lent(channel)),
                 reason: text,
             },
             Refusal::OpensInBattle | Refusal::OpensAsking | Refusal::NoNumberLeft => {
-                LentReply::OpenBattleFailed { text }
+                Reply::OpenBattleFailed { text }
             }
             Refusal::JoinsInBattle
             | Refusal::JoinsAsking
             | Refusal::NoSuchBattle
             | Refusal::BattleIsLocked
-            | Refusal::WrongPassword => LentReply::JoinBattleFailed { text },
+            | Refusal::WrongPassword => Reply::JoinBattleFailed { text },
             Refusal::Fault(_)
             | Refusal::LogInFirst
             | Refusal::NotInChannel
@@ -138,7 +138,7 @@ impl Refusal {
             | Refusal::BotNameTaken
             | Refusal::TooManyBots
             | Refusal::TooManyTags
-            | Refusal::TooManyUnits => LentReply::ServerMsg { text },
+            | Refusal::TooManyUnits => Reply::ServerMsg { text },
         }
     }
 }

@@ -19,7 +19,7 @@ use line_words::NameBuf;
 use lobby_guards::{Issuer, Refusal, Stop};
 use lobby_maps::{Change, Maps};
 use lobby_post::Post;
-use reply_kinds::LentReply;
+use reply_kinds::{Held, HeldText, Name, Reply, Text};
 use room_rules::rooms::{self, Force};
 pub use session::close;
 use std::alloc::AllocError;
@@ -118,18 +118,18 @@ fn answer_user(by: &Issuer, command: &Command, post: &mut Post) -> Result<Change
         Command::Join { channel, .. } => channels::join(by, channel, post),
         Command::Leave { channel } => channels::leave(by, channel, post),
         Command::Say { channel, text } => {
-            let line = LentReply::Said {
-                channel,
-                user: by.me,
-                text,
+            let line = Reply::Said {
+                channel: Name(Held::Lent(channel)),
+                user: Name(Held::Lent(by.me)),
+                text: Text(HeldText::Lent(text)),
             };
             channels::say_in_channel(by, channel, line, post)
         }
         Command::SayEx { channel, text } => {
-            let line = LentReply::SaidEx {
-                channel,
-                user: by.me,
-                text,
+            let line = Reply::SaidEx {
+                channel: Name(Held::Lent(channel)),
+                user: Name(Held::Lent(by.me)),
+                text: Text(HeldText::Lent(text)),
             };
             channels::say_in_channel(by, channel, line, post)
         }
@@ -159,11 +159,17 @@ fn answer_user(by: &Issuer, command: &Command, post: &mut Post) -> Result<Change
             team_color,
         } => battles::my_battle_status(by, *battle_status, *team_color, post),
         Command::SayBattle { text } => {
-            let line = LentReply::SaidBattle { user: by.me, text };
+            let line = Reply::SaidBattle {
+                user: Name(Held::Lent(by.me)),
+                text: Text(HeldText::Lent(text)),
+            };
             battles::say_in_battle(by, line, post)
         }
         Command::SayBattleEx { text } => {
-            let line = LentReply::SaidBattleEx { user: by.me, text };
+            let line = Reply::SaidBattleEx {
+                user: Name(Held::Lent(by.me)),
+                text: Text(HeldText::Lent(text)),
+            };
             battles::say_in_battle(by, line, post)
         }
         Command::AddBot {

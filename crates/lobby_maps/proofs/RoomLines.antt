@@ -8,7 +8,7 @@ use Rattle.std.proofs.lemmas.List.Elements.{filter-append}
 use Rattle.std.specs.Cmp.{eq_by_cmp_equiv}
 use Rattle.reply_kinds.specs.declared.Reply.{Reply}
 use Rattle.reply_kinds.specs.declared.opened_battle.OpenedBattle.{OpenedBattle}
-use Rattle.reply_kinds.specs.Lent.{battle_opened}
+use Rattle.reply_kinds.specs.Opened.{battle_opened}
 use Rattle.reply_kinds.specs.declared.Reply.TheVariants as reply
 use Rattle.line_words.specs.Table.{ByNumber, all_but, same_name}
 use Rattle.line_words.proofs.Tables.{name_cmp_total}

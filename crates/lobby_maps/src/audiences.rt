@@ -9,7 +9,6 @@ ghost use Rattle.std.specs.Ordering.{nat_cmp};
 ghost use Rattle.std.specs.List.{IsDistinct};
 ghost use Rattle.std.specs.List.Sorted.{IsStrictlySortedBy};
 ghost use Rattle.line_words.specs.Table.{at_name, same_name};
-ghost use Rattle.reply_kinds.specs.Lent.{reply_of};
 ghost use Rattle.room_lists.specs.Room.{asker_names, member_names};
 ghost use Rattle.lobby_model.specs.State.{name_of};
 ghost use Rattle.lobby_model.specs.Outcome.{tell, everyone, everyone_but, others, user, users};
@@ -23,13 +22,13 @@ use battle_room::{Asker, Member, Room};
 use line_words::NameBuf;
 use lobby_battles::Seats;
 use lobby_post::{ClientKey, Clients, Post};
-use reply_kinds::LentReply;
+use reply_kinds::Reply;
 use std::alloc::AllocError;
 
 impl Maps {
     /// Tells all users.
-    pub fn tell_all(&self, line: LentReply, post: &mut Post) -> Result<(), AllocError>
-        ensures { OnOk result (Told self.now.plain post.old post.new (tell everyone (reply_of line.entry ∷ []) ∷ [])) }
+    pub fn tell_all(&self, line: Reply, post: &mut Post) -> Result<(), AllocError>
+        ensures { OnOk result (Told self.now.plain post.old post.new (tell everyone (line.entry ∷ []) ∷ [])) }
     {
         post.write(line)?;
         address_all(&self.seats, &self.clients, post)?;
@@ -37,8 +36,8 @@ impl Maps {
     }
 
     /// Tells all users but the issuer.
-    pub fn tell_others(&self, line: LentReply, post: &mut Post) -> Result<(), AllocError>
-        ensures { OnOk result (Told self.now.plain post.old post.new (tell others (reply_of line.entry ∷ []) ∷ [])) }
+    pub fn tell_others(&self, line: Reply, post: &mut Post) -> Result<(), AllocError>
+        ensures { OnOk result (Told self.now.plain post.old post.new (tell others (line.entry ∷ []) ∷ [])) }
     {
         post.write_for_others(line)?;
         address_all(&self.seats, &self.clients, post)?;
@@ -50,11 +49,11 @@ impl Maps {
         &self,
         first: &NameBuf,
         second: &NameBuf,
-        line: LentReply,
+        line: Reply,
         post: &mut Post,
     ) -> Result<(), AllocError>
         ensures { OnOk result (Told self.now.plain post.old post.new (tell (everyone_but (first.now ∷ second.now
-            ∷ [])) (reply_of line.entry ∷ []) ∷ [])) }
+            ∷ [])) (line.entry ∷ []) ∷ [])) }
     {
         post.write(line)?;
         address_all_but(&self.seats, &self.clients, first, second, post)?;
@@ -62,14 +61,8 @@ impl Maps {
     }
 
     /// Tells one user.
-    pub fn tell_user(
-        &self,
-        name: &NameBuf,
-        line: LentReply,
-        post: &mut Post,
-    ) -> Result<(), AllocError>
-        ensures { OnOk result (Told self.now.plain post.old post.new (tell (user name.now) (reply_of line.entry ∷ [])
-            ∷ [])) }
+    pub fn tell_user(&self, name: &NameBuf, line: Reply, post: &mut Post) -> Result<(), AllocError>
+        ensures { OnOk result (Told self.now.plain post.old post.new (tell (user name.now) (line.entry ∷ []) ∷ [])) }
     {
         post.write(line)?;
         address_user(&self.seats, name, post)?;
@@ -82,11 +75,10 @@ impl Maps {
         &self,
         me: &NameBuf,
         client: u64,
-        line: LentReply,
+        line: Reply,
         post: &mut Post,
     ) -> Result<(), AllocError>
-        ensures { OnOk result (Told self.now.plain post.old post.new (tell (user me.now) (reply_of line.entry ∷ [])
-            ∷ [])) }
+        ensures { OnOk result (Told self.now.plain post.old post.new (tell (user me.now) (line.entry ∷ []) ∷ [])) }
     {
         post.write(line)?;
         let key = self.clients.likely_key_of(client);
@@ -110,12 +102,11 @@ impl Maps {
         &self,
         names: &[NameBuf],
         keys: &[ClientKey],
-        line: LentReply,
+        line: Reply,
         post: &mut Post,
     ) -> Result<(), AllocError>
         requires { IsDistinct same_name names.now }
-        ensures { OnOk result (Told self.now.plain post.old post.new (tell (users names.now) (reply_of line.entry ∷ [])
-            ∷ [])) }
+        ensures { OnOk result (Told self.now.plain post.old post.new (tell (users names.now) (line.entry ∷ []) ∷ [])) }
     {
         post.write(line)?;
         address_names(&self.seats, &self.clients, names, keys, post)?;
@@ -127,12 +118,12 @@ impl Maps {
         &self,
         names: &[NameBuf],
         keys: &[ClientKey],
-        line: LentReply,
+        line: Reply,
         post: &mut Post,
     ) -> Result<(), AllocError>
         requires { IsDistinct same_name names.now }
         ensures { OnOk result (Told self.now.plain post.old post.new
-            (tell (but_issuer (users names.now)) (reply_of line.entry ∷ []) ∷ [])) }
+            (tell (but_issuer (users names.now)) (line.entry ∷ []) ∷ [])) }
     {
         post.write_for_others(line)?;
         address_names(&self.seats, &self.clients, names, keys, post)?;
@@ -143,11 +134,11 @@ impl Maps {
     pub fn tell_room(
         &self,
         room: &Room<ClientKey>,
-        line: LentReply,
+        line: Reply,
         post: &mut Post,
     ) -> Result<(), AllocError>
         ensures { OnOk result (Told self.now.plain post.old post.new
-            (tell (users (member_names room.now)) (reply_of line.entry ∷ []) ∷ [])) }
+            (tell (users (member_names room.now)) (line.entry ∷ []) ∷ [])) }
     {
         post.write(line)?;
         address_members(&self.seats, &self.clients, room.members(), post)?;
@@ -158,11 +149,11 @@ impl Maps {
     pub fn tell_others_in_room(
         &self,
         room: &Room<ClientKey>,
-        line: LentReply,
+        line: Reply,
         post: &mut Post,
     ) -> Result<(), AllocError>
         ensures { OnOk result (Told self.now.plain post.old post.new
-            (tell (but_issuer (users (member_names room.now))) (reply_of line.entry ∷ []) ∷ [])) }
+            (tell (but_issuer (users (member_names room.now))) (line.entry ∷ []) ∷ [])) }
     {
         post.write_for_others(line)?;
         address_members(&self.seats, &self.clients, room.members(), post)?;
@@ -173,11 +164,11 @@ impl Maps {
     pub fn tell_askers(
         &self,
         room: &Room<ClientKey>,
-        line: LentReply,
+        line: Reply,
         post: &mut Post,
     ) -> Result<(), AllocError>
         ensures { OnOk result (Told self.now.plain post.old post.new
-            (tell (users (asker_names room.now)) (reply_of line.entry ∷ []) ∷ [])) }
+            (tell (users (asker_names room.now)) (line.entry ∷ []) ∷ [])) }
     {
         post.write(line)?;
         address_askers(&self.seats, room.askers(), post)?;
@@ -188,11 +179,11 @@ impl Maps {
     pub fn tell_other_askers(
         &self,
         room: &Room<ClientKey>,
-        line: LentReply,
+        line: Reply,
         post: &mut Post,
     ) -> Result<(), AllocError>
         ensures { OnOk result (Told self.now.plain post.old post.new
-            (tell (but_issuer (users (asker_names room.now))) (reply_of line.entry ∷ []) ∷ [])) }
+            (tell (but_issuer (users (asker_names room.now))) (line.entry ∷ []) ∷ [])) }
     {
         post.write_for_others(line)?;
         address_askers(&self.seats, room.askers(), post)?;

@@ -13,7 +13,8 @@ use crate::maps::Maps;
 use line_words::NameBuf;
 use lobby_battles::Seat;
 use lobby_post::Post;
-use reply_kinds::LentReply;
+use reply_kinds::Held::Lent;
+use reply_kinds::{Country, HeldWord, Name, Reply, Wide};
 use std::alloc::AllocError;
 
 impl Maps {
@@ -24,12 +25,14 @@ impl Maps {
             (put_name self.now.plain.users name.now (user_in seat.now)) self.now.plain.battles) ∷ [])) }
     {
         post.begin_own();
-        post.write_own(LentReply::Accepted { user: name })?;
+        post.write_own(Reply::Accepted {
+            user: Name(Lent(name)),
+        })?;
         write_motd(self.settings.motd().as_slice(), post)?;
         write_parts(&self.seats.users, name, seat, Part::Presence, post)?;
         write_parts(&self.seats.users, name, seat, Part::Status, post)?;
         write_battles(&self.battles, post)?;
-        post.write_own(LentReply::LoginInfoEnd)?;
+        post.write_own(Reply::LoginInfoEnd)?;
         post.address_issuer()?;
         Ok(())
     }
@@ -44,15 +47,18 @@ impl Maps {
         ensures { OnOk result (Told self.now.plain post.old post.new (tell others (arrival name.now (user_in seat.now))
             ∷ [])) }
     {
-        post.write_for_others(LentReply::AddUser {
-            user: name,
-            country: seat.country.as_slice(),
-            cpu: seat.cpu,
+        post.write_for_others(Reply::AddUser {
+            user: Name(Lent(name)),
+            country: Country(HeldWord::Lent(seat.country.as_word())),
+            cpu: Wide(seat.cpu),
             account: seat.account,
         })?;
         let status = seat.status.word();
         if status != 0 {
-            post.write_more_for_others(LentReply::ClientStatus { user: name, status })?;
+            post.write_more_for_others(Reply::ClientStatus {
+                user: Name(Lent(name)),
+                status,
+            })?;
         }
         address_all(&self.seats, &self.clients, post)?;
         Ok(())

@@ -11,7 +11,8 @@ ghost use Rattle.lobby_maps.specs.BurstParts.{guest_lines, part_of, parts_of};
 use line_words::{NameBuf, TextBuf};
 use lobby_battles::{Battle, Battles, Seat};
 use lobby_post::Post;
-use reply_kinds::LentReply;
+use reply_kinds::Held::Lent;
+use reply_kinds::{BattleNumber, Country, HeldText, HeldWord, Name, Reply, Sentence, Text, Wide};
 use std::alloc::AllocError;
 use std::cmp::Ordering;
 use std::collections::BTreeMap;
@@ -31,16 +32,13 @@ pub fn write_battles(battles: &Battles, post: &mut Post) -> Result<(), AllocErro
 fn write_battle(number: u32, battle: &Battle, post: &mut Post) -> Result<(), AllocError>
     ensures { OnOk result (post.new ≡ with_own post.old (battle_lines number battle.now)) }
 {
-    post.write_own(LentReply::BattleOpened {
-        battle: number,
-        opened: &battle.opened,
-    })?;
-    post.write_own(LentReply::UpdateBattleInfo {
-        battle: number,
+    post.write_own(battle.opened.told(number))?;
+    post.write_own(Reply::UpdateBattleInfo {
+        battle: BattleNumber(number),
         spectator_count: battle.spectators,
         locked: battle.locked,
-        map_hash: battle.opened.map_hash,
-        map: &battle.opened.map,
+        map_hash: Wide(battle.opened.map_hash),
+        map: Sentence(Lent(&battle.opened.map)),
     })?;
     write_guests(number, battle, post)?;
     Ok(())
@@ -52,9 +50,9 @@ fn write_guests(number: u32, battle: &Battle, post: &mut Post) -> Result<(), All
 {
     for name in battle.room.names() {
         if !battle.is_founder(name) {
-            post.write_own(LentReply::JoinedBattle {
-                battle: number,
-                user: name,
+            post.write_own(Reply::JoinedBattle {
+                battle: BattleNumber(number),
+                user: Name(Lent(name)),
                 script_password: None,
             })?;
         }
@@ -67,7 +65,9 @@ pub fn write_motd(motd: &[TextBuf], post: &mut Post) -> Result<(), AllocError>
     ensures { OnOk result (post.new ≡ with_own post.old (map (λ line. reply.Motd line) motd.now)) }
 {
     for line in motd {
-        post.write_own(LentReply::Motd { text: line })?;
+        post.write_own(Reply::Motd {
+            text: Text(HeldText::Lent(line)),
+        })?;
     }
     Ok(())
 }
@@ -122,16 +122,16 @@ fn write_part(name: &NameBuf, seat: &Seat, part: Part, post: &mut Post) -> Resul
 {
     match part {
         Part::Presence => {
-            post.write_own(LentReply::AddUser {
-                user: name,
-                country: seat.country.as_slice(),
-                cpu: seat.cpu,
+            post.write_own(Reply::AddUser {
+                user: Name(Lent(name)),
+                country: Country(HeldWord::Lent(seat.country.as_word())),
+                cpu: Wide(seat.cpu),
                 account: seat.account,
             })
         }
         Part::Status if seat.status.word() != 0 => {
-            post.write_own(LentReply::ClientStatus {
-                user: name,
+            post.write_own(Reply::ClientStatus {
+                user: Name(Lent(name)),
                 status: seat.status.word(),
             })
         }

@@ -3,13 +3,15 @@
 
 ghost use Rattle.std.specs.Prelude.{◌≡◌, [], ◌∷◌, map, OnOk};
 ghost use Rattle.reply_kinds.specs.declared.Reply.TheVariants as reply;
-ghost use Rattle.reply_kinds.specs.Lent.{reply_of};
 ghost use Rattle.lobby_model.specs.Battles.{bot_line, rect_line, room_lines, status_line};
 ghost use Rattle.lobby_maps.specs.Recipients.{written};
 
 use battle_room::{ALLY_COUNT, Room};
 use lobby_post::{ClientKey, Post};
-use reply_kinds::LentReply;
+use reply_kinds::Held::Lent;
+use reply_kinds::{
+    BattleNumber, HeldPairs, HeldWords, Name, Pairs, Reply, Sentence, UpTo, Wide, Word, Words,
+};
 use std::alloc::AllocError;
 use std::slice;
 
@@ -23,8 +25,8 @@ pub enum Recipient {
 }
 
 /// Writes one more line for its recipient.
-pub fn write_line(recipient: Recipient, line: LentReply, post: &mut Post) -> Result<(), AllocError>
-    ensures { OnOk result (post.new ≡ written recipient post.old (reply_of line.entry ∷ [])) }
+pub fn write_line(recipient: Recipient, line: Reply, post: &mut Post) -> Result<(), AllocError>
+    ensures { OnOk result (post.new ≡ written recipient post.old (line.entry ∷ [])) }
 {
     match recipient {
         Recipient::Issuer => post.write_own(line),
@@ -60,10 +62,10 @@ fn write_statuses(
 {
     for member in room.members() {
         let status = member.status().word();
-        let line = LentReply::ClientBattleStatus {
-            user: member.name(),
+        let line = Reply::ClientBattleStatus {
+            user: Name(Lent(member.name())),
             battle_status: status,
-            team_color: member.colour(),
+            team_color: Wide(member.colour()),
         };
         write_line(recipient, line, post)?;
     }
@@ -82,13 +84,13 @@ fn write_bots(
 {
     for bot in room.bots() {
         let status = bot.status().word();
-        let line = LentReply::AddBot {
-            battle: number,
-            bot: bot.name(),
-            owner: bot.owner(),
+        let line = Reply::AddBot {
+            battle: BattleNumber(number),
+            bot: Word(Lent(bot.name())),
+            owner: Name(Lent(bot.owner())),
             battle_status: status,
-            team_color: bot.colour(),
-            ai: bot.ai(),
+            team_color: Wide(bot.colour()),
+            ai: Sentence(Lent(bot.ai())),
         };
         write_line(recipient, line, post)?;
     }
@@ -107,12 +109,12 @@ fn write_rects(
     let places = room.rects();
     for ally in 0..ALLY_COUNT as u8 {
         if let Some(rect) = places[usize::from(ally)] {
-            let line = LentReply::AddStartRect {
-                ally_no: ally,
-                left: rect.left,
-                top: rect.top,
-                right: rect.right,
-                bottom: rect.bottom,
+            let line = Reply::AddStartRect {
+                ally_no: UpTo(ally),
+                left: UpTo(rect.left),
+                top: UpTo(rect.top),
+                right: UpTo(rect.right),
+                bottom: UpTo(rect.bottom),
             };
             write_line(recipient, line, post)?;
         }
@@ -131,8 +133,8 @@ fn write_tags(
         reply.SetScriptTags (t ∷ [])) room.now.tags)) }
 {
     for pair in room.tags() {
-        let line = LentReply::SetScriptTags {
-            pairs: slice::from_ref(pair),
+        let line = Reply::SetScriptTags {
+            pairs: Pairs(HeldPairs::Lent(slice::from_ref(pair))),
         };
         write_line(recipient, line, post)?;
     }
@@ -150,8 +152,8 @@ fn write_units(
         reply.DisableUnits (unit ∷ [])) room.now.units)) }
 {
     for unit in room.units() {
-        let line = LentReply::DisableUnits {
-            units: slice::from_ref(unit),
+        let line = Reply::DisableUnits {
+            units: Words(HeldWords::Lent(slice::from_ref(unit))),
         };
         write_line(recipient, line, post)?;
     }

@@ -2,7 +2,6 @@
 
 ghost use Rattle.std.specs.Prelude.{◌≡◌, ℕ, ◌<◌, ◌≤◌, [], ◌∷◌, ◌++◌, length, OnOk, OnErr};
 ghost use Rattle.reply_kinds.specs.Replies.{printed_line};
-ghost use Rattle.reply_kinds.specs.Lent.{reply_of};
 ghost use Rattle.lobby_post.specs.Mask.{has_home};
 ghost use Rattle.lobby_post.specs.Mail.{AreDue, AreReady, HaveLimit, WantsMemory, plain, deliver, wakes_home};
 ghost use Rattle.lobby_post.specs.Dirty.{line_of, marks_of, stands, AreKnown, IsNewly};
@@ -21,8 +20,8 @@ use crate::slots::Slots;
 use crate::wakes::Wakes;
 use crate::weight::with_printed;
 use bytes::Bytes;
-use reply_kinds::LentReply;
-use reply_printer::{print_id, print_lent};
+use reply_kinds::Reply;
+use reply_printer::{print, print_id};
 use std::alloc::{AllocError, Global};
 use std::collections::VecDeque;
 use std::marker::Model;
@@ -139,15 +138,15 @@ impl Post {
 
     /// Prints the line that is told next, in place of those before it. Its issuer gets it behind the id
     /// of its request.
-    pub fn write(&mut self, line: LentReply) -> Result<(), AllocError>
-        ensures { OnOk result (self.new ≡ telling self.old (printed_line self.old.id (reply_of line.entry))
-            (printed_line None (reply_of line.entry)) (length (printed_line self.old.id (reply_of line.entry)))) }
+    pub fn write(&mut self, line: Reply) -> Result<(), AllocError>
+        ensures { OnOk result (self.new ≡ telling self.old (printed_line self.old.id line.entry)
+            (printed_line None line.entry) (length (printed_line self.old.id line.entry))) }
     {
         forget_line(&mut self.line);
         let own = self.text.len();
         print_id(self.id, &mut self.text)?;
         let shared = self.text.len();
-        print_lent(line, None, &mut self.text)?;
+        print(&line, None, &mut self.text)?;
         self.own = own;
         self.shared = shared;
         Ok(())
@@ -155,24 +154,24 @@ impl Post {
 
     /// Prints the line that is told next to others, in place of those before it: its issuer gets
     /// nothing of it.
-    pub fn write_for_others(&mut self, line: LentReply) -> Result<(), AllocError>
-        ensures { OnOk result (self.new ≡ telling self.old [] (printed_line None (reply_of line.entry))
-            (length (printed_line None (reply_of line.entry)))) }
+    pub fn write_for_others(&mut self, line: Reply) -> Result<(), AllocError>
+        ensures { OnOk result (self.new ≡ telling self.old [] (printed_line None line.entry)
+            (length (printed_line None line.entry))) }
     {
         forget_line(&mut self.line);
         let shared = self.text.len();
-        print_lent(line, None, &mut self.text)?;
+        print(&line, None, &mut self.text)?;
         self.own = self.text.len();
         self.shared = shared;
         Ok(())
     }
 
     /// Prints one more line that is told to others: its issuer gets nothing of them.
-    pub fn write_more_for_others(&mut self, line: LentReply) -> Result<(), AllocError>
-        ensures { OnOk result (self.new ≡ with_others self.old (reply_of line.entry ∷ [])) }
+    pub fn write_more_for_others(&mut self, line: Reply) -> Result<(), AllocError>
+        ensures { OnOk result (self.new ≡ with_others self.old (line.entry ∷ [])) }
     {
         forget_line(&mut self.line);
-        print_lent(line, None, &mut self.text)?;
+        print(&line, None, &mut self.text)?;
         self.own = self.text.len();
         Ok(())
     }
@@ -187,12 +186,12 @@ impl Post {
     }
 
     /// Prints one more line for the issuer alone, behind the id of its request.
-    pub fn write_own(&mut self, line: LentReply) -> Result<(), AllocError>
-        ensures { OnOk result (self.new ≡ with_own self.old (reply_of line.entry ∷ [])) }
+    pub fn write_own(&mut self, line: Reply) -> Result<(), AllocError>
+        ensures { OnOk result (self.new ≡ with_own self.old (line.entry ∷ [])) }
     {
         forget_line(&mut self.line);
         let id = self.id;
-        print_lent(line, id, &mut self.text)?;
+        print(&line, id, &mut self.text)?;
         Ok(())
     }
 
@@ -236,8 +235,8 @@ impl Post {
     }
 
     /// Tells the issuer alone.
-    pub fn tell_issuer(&mut self, line: LentReply) -> Result<(), AllocError>
-        ensures { OnOk result ((s : State) → Told s self.old self.new (tell issuer (reply_of line.entry ∷ []) ∷ [])) }
+    pub fn tell_issuer(&mut self, line: Reply) -> Result<(), AllocError>
+        ensures { OnOk result ((s : State) → Told s self.old self.new (tell issuer (line.entry ∷ []) ∷ [])) }
     {
         self.write(line)?;
         self.address_issuer()?;

@@ -1,3 +1,4 @@
+pub mod Keeping
 pub mod Kinds
+pub mod Opened
 pub mod Replies
-pub mod Lent

@@ -1,5 +1,9 @@
 //! What all are told of a battle.
 
+ghost use Rattle.std.specs.Prelude.{◌≡◌};
+ghost use Rattle.reply_kinds.specs.Opened.{battle_opened};
+
+use crate::{BattleNumber, Held, Name, NextSentence, Reply, Sentence, UpTo, Wide, Word};
 use line_words::{NameBuf, SentenceBuf, WordBuf};
 
 /// What BATTLEOPENED tells of a battle besides its number. The fields are those of
@@ -34,4 +38,29 @@ pub struct OpenedBattle {
     pub title: SentenceBuf,
     /// The name of the game.
     pub game_name: SentenceBuf,
+}
+
+impl OpenedBattle {
+    /// The reply that tells this of the battle of that number.
+    pub fn told(&self, battle: u32) -> Reply<'_>
+        ensures { result ≡ battle_opened battle self.now }
+    {
+        Reply::BattleOpened {
+            battle: BattleNumber(battle),
+            battle_type: UpTo(self.battle_type),
+            nat_type: UpTo(self.nat_type),
+            founder: Name(Held::Lent(&self.founder)),
+            ip: Word(Held::Lent(&self.ip)),
+            port: self.port,
+            max_players: self.max_players,
+            passworded: self.passworded,
+            rank: Wide(self.rank),
+            map_hash: Wide(self.map_hash),
+            engine_name: Sentence(Held::Lent(&self.engine_name)),
+            engine_version: NextSentence(Held::Lent(&self.engine_version)),
+            map: NextSentence(Held::Lent(&self.map)),
+            title: NextSentence(Held::Lent(&self.title)),
+            game_name: NextSentence(Held::Lent(&self.game_name)),
+        }
+    }
 }

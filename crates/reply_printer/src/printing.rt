@@ -1,30 +1,32 @@
 //! A reply as its line.
+#![tactic(auto, using(crate::proofs::Kept::front_more, crate::proofs::Kept::front_all))]
 
 ghost use Rattle.std.specs.Prelude.{◌≡◌, ◌++◌, IfOk, is_ok, if◌then◌else◌};
 ghost use Rattle.reply_printer.specs.Fronts.{Keeps};
-ghost use Rattle.reply_kinds.specs.Replies.{printed_line};
+ghost use Rattle.reply_kinds.specs.Kinds.{all_printed};
+ghost use Rattle.reply_kinds.specs.Replies.{id_text, line_with, printed_line};
 
-mod battles;
-mod bots;
-mod channels;
-mod lent;
-pub mod pieces;
-mod refusals;
-mod room;
-mod session;
-mod setup;
-mod shapes;
-
-use lent::put_lent;
-pub use lent::{print_id, print_lent};
-use pieces::whole;
-use reply_kinds::Reply;
+use crate::pieces::{put_command, put_end, put_id, whole};
+use crate::rows::PrintedRow;
+use crate::table::{print_by_row, print_row};
+use crate::{row, with_replies};
+use reply_kinds::{CommandWord, Reply};
 use std::alloc::AllocError;
+
+/// Appends what a line begins with under the id of a request: `#id `, or nothing where there is none. A
+/// line printed behind it with no id is the line under that id. Where memory is refused nothing is
+/// appended.
+pub fn print_id(id: Option<u32>, out: &mut Vec<u8>) -> Result<(), AllocError>
+    ensures { out.new.items ≡ (if is_ok result then out.old.items ++ id_text id else out.old.items) }
+{
+    let start = out.len();
+    let done = put_id(out, id);
+    whole(out, start, done)
+}
 
 /// Appends the line of a reply with its LF, behind `#id ` where there is an id. Where memory is
 /// refused nothing is appended.
-#[tactic(auto, using(crate::proofs::Kept::front_all))]
-pub fn print(reply: &Reply, id: Option<u32>, out: &mut Vec<u8>) -> Result<(), AllocError>
+pub fn print(reply: &Reply<'_>, id: Option<u32>, out: &mut Vec<u8>) -> Result<(), AllocError>
     ensures { out.new.items ≡ (if is_ok result then out.old.items ++ printed_line id reply.now else out.old.items) }
 {
     let start = out.len();
@@ -32,59 +34,34 @@ pub fn print(reply: &Reply, id: Option<u32>, out: &mut Vec<u8>) -> Result<(), Al
     whole(out, start, done)
 }
 
-fn put_reply(out: &mut Vec<u8>, id: Option<u32>, reply: &Reply) -> Result<(), AllocError>
+fn put_reply(out: &mut Vec<u8>, id: Option<u32>, reply: &Reply<'_>) -> Result<(), AllocError>
     ensures ok { IfOk result (λ _. out.new.items ≡ out.old.items ++ printed_line id reply.now) }
     ensures kept { Keeps out.old.items out.new.items }
 {
-    match reply {
-        Reply::TasServer { .. }
-        | Reply::Accepted { .. }
-        | Reply::Motd { .. }
-        | Reply::AddUser { .. }
-        | Reply::RemoveUser { .. }
-        | Reply::ClientStatus { .. }
-        | Reply::LoginInfoEnd { .. }
-        | Reply::Pong { .. } => put_lent(out, id, session::lend(reply)),
-        Reply::Join { .. }
-        | Reply::Clients { .. }
-        | Reply::Joined { .. }
-        | Reply::Left { .. }
-        | Reply::Said { .. }
-        | Reply::SaidEx { .. }
-        | Reply::SayPrivate { .. }
-        | Reply::SaidPrivate { .. }
-        | Reply::Channel { .. }
-        | Reply::EndOfChannels { .. } => put_lent(out, id, channels::lend(reply)),
-        Reply::OpenBattle { .. }
-        | Reply::BattleClosed { .. }
-        | Reply::JoinBattle { .. }
-        | Reply::JoinedBattle { .. }
-        | Reply::LeftBattle { .. }
-        | Reply::UpdateBattleInfo { .. }
-        | Reply::RequestBattleStatus { .. }
-        | Reply::ForceQuitBattle { .. } => put_lent(out, id, battles::lend(reply)),
-        Reply::ClientBattleStatus { .. }
-        | Reply::SaidBattle { .. }
-        | Reply::SaidBattleEx { .. }
-        | Reply::Ring { .. }
-        | Reply::JoinBattleRequest { .. } => put_lent(out, id, room::lend(reply)),
-        Reply::AddBot { .. } | Reply::UpdateBot { .. } | Reply::RemoveBot { .. } => put_lent(
-            out,
-            id,
-            bots::lend(reply),
-        ),
-        Reply::AddStartRect { .. }
-        | Reply::RemoveStartRect { .. }
-        | Reply::SetScriptTags { .. }
-        | Reply::RemoveScriptTags { .. }
-        | Reply::DisableUnits { .. }
-        | Reply::EnableUnits { .. }
-        | Reply::EnableAllUnits { .. } => put_lent(out, id, setup::lend(reply)),
-        Reply::Denied { .. }
-        | Reply::ServerMsg { .. }
-        | Reply::JoinFailed { .. }
-        | Reply::OpenBattleFailed { .. }
-        | Reply::JoinBattleFailed { .. } => refusals::put_reply(out, id, reply),
-        Reply::BattleOpened { .. } => battles::put_battle_opened(out, id, reply),
-    }
+    with_replies!(print_by_row(out, id, reply))
+}
+
+/// A whole line: the id, the command word, the arguments and LF.
+#[inline(always)]
+fn put_line<R: PrintedRow + Drop>(
+    out: &mut Vec<u8>,
+    id: Option<u32>,
+    command: CommandWord,
+    row: R,
+) -> Result<(), AllocError>
+    ensures ok { IfOk result (λ _. out.new.items ≡ out.old.items ++ line_with id command R.kinds (R.values row)) }
+    ensures kept { Keeps out.old.items out.new.items }
+{
+    put_command(out, id, command)?;
+    put_row(out, &row)?;
+    put_end(out)
+}
+
+/// The arguments of a line: one function for each shape of row, so that the match of all replies stays small.
+#[inline(never)]
+fn put_row<R: PrintedRow>(out: &mut Vec<u8>, row: &R) -> Result<(), AllocError>
+    ensures ok { IfOk result (λ _. out.new.items ≡ out.old.items ++ all_printed R.kinds (R.values row.now)) }
+    ensures kept { Keeps out.old.items out.new.items }
+{
+    row.put(out)
 }

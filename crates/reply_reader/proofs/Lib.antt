@@ -1,4 +1,4 @@
-pub mod Rows
+pub mod Inverse
 pub mod Whole
 pub mod Dispatch
 pub mod Named

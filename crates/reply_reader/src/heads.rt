@@ -8,8 +8,7 @@ ghost use Rattle.reply_reader.specs.Lines.{read_arguments, read_body, read_line,
 
 use crate::command_words::named;
 use crate::reading::arguments;
-use crate::session::status_of;
-use crate::shapes::two_names_and_text;
+use crate::shapes::{name_and_status, two_names_and_text};
 use line_words::{NameBuf, TextBuf, split_at_byte};
 use reply_fields::{ReadError, id_of};
 use reply_kinds::{CommandWord, Reply};
@@ -83,7 +82,7 @@ fn body_head(id: Option<u32>, bytes: &[u8]) -> Option<Head<'_>>
 impl<'a> Head<'a> {
     /// The reply of the arguments behind this command, or None where they are not of its kinds. Fails
     /// only where memory is refused.
-    pub fn reply(self, alloc: Global) -> Result<Option<Reply>, AllocError>
+    pub fn reply(self, alloc: Global) -> Result<Option<Reply<'static>>, AllocError>
         ensures { IfOk result (λ found. found ≡ read_arguments self.entry.command self.entry.arguments.now) }
     {
         match arguments(alloc, self.command, self.arguments) {
@@ -104,7 +103,7 @@ pub fn read_client_status(
         read_arguments command.ClientStatus arguments.now ≡ Some (reply.ClientStatus x.0 x.1))) }
     ensures none { IfOk result (λ found. IfNone found (read_arguments command.ClientStatus arguments.now ≡ None)) }
 {
-    match status_of(alloc, arguments) {
+    match name_and_status(alloc, arguments) {
         Ok(found) => Ok(Some(found)),
         Err(ReadError::Memory) => Err(AllocError),
         Err(ReadError::Unread) => Ok(None),

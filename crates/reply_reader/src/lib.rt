@@ -3,14 +3,13 @@
 //! Servers print; bots, clients and tests read.
 #![tactic(auto)]
 
-mod battles;
-mod channels;
+mod arguments;
 mod command_words;
 mod heads;
 mod reading;
-mod room;
-mod session;
+mod rows;
 mod shapes;
+mod table;
 
 pub use heads::{Head, read_client_status, read_head, read_said};
 pub use reading::read_reply;

@@ -2,7 +2,6 @@
 //! founder forces on members: docs/PROTOCOL.md, "What the server does", from "ADDBOT" to "RING".
 
 ghost use Rattle.std.specs.Prelude.{◌≡◌, ◌<◌, [], ◌∷◌, OnOk};
-ghost use Rattle.reply_kinds.specs.Lent.{reply_of};
 ghost use Rattle.room_lists.specs.Room.{member_names};
 ghost use Rattle.lobby_model.specs.Outcome.{tell, users};
 ghost use Rattle.lobby_model.specs.Rooms.{add_bot, add_rect, disable, enable, enable_every, kick, new_bot, remove_bot};
@@ -21,7 +20,9 @@ use lobby_guards::battle_guards::{
 use lobby_guards::{Issuer, Stop};
 use lobby_maps::{BattleChange, Change, Maps, RoomChange};
 use lobby_post::{ClientKey, Post};
-use reply_kinds::LentReply;
+use reply_kinds::{
+    BattleNumber, Held, HeldPairs, HeldWords, Name, Pairs, Reply, Sentence, UpTo, Wide, Word, Words,
+};
 use status_bits::{BattleStatus, merge_battle};
 use std::alloc::AllocError;
 
@@ -82,13 +83,14 @@ pub enum Wording {
 
 impl Wording {
     /// The line that says so of words.
-    fn line(self, words: &[WordBuf]) -> LentReply<'_>
-        ensures { reply_of result ≡ words_line self words.now }
+    fn line(self, words: &[WordBuf]) -> Reply<'_>
+        ensures { result ≡ words_line self words.now }
     {
+        let words = Words(HeldWords::Lent(words));
         match self {
-            Wording::TagsGone => LentReply::RemoveScriptTags { keys: words },
-            Wording::UnitsDisabled => LentReply::DisableUnits { units: words },
-            Wording::UnitsEnabled => LentReply::EnableUnits { units: words },
+            Wording::TagsGone => Reply::RemoveScriptTags { keys: words },
+            Wording::UnitsDisabled => Reply::DisableUnits { units: words },
+            Wording::UnitsEnabled => Reply::EnableUnits { units: words },
         }
     }
 }
@@ -109,13 +111,13 @@ pub fn add_bot(
     free_bot_name(battle, name)?;
     room_for_bot(battle)?;
     let status = merge_battle(BattleStatus::zero(), asked);
-    let line = LentReply::AddBot {
-        battle: number,
-        bot: name,
-        owner: by.me,
+    let line = Reply::AddBot {
+        battle: BattleNumber(number),
+        bot: Word(Held::Lent(name)),
+        owner: Name(Held::Lent(by.me)),
         battle_status: status.word(),
-        team_color: colour,
-        ai,
+        team_color: Wide(colour),
+        ai: Sentence(Held::Lent(ai)),
     };
     by.maps.tell_room(&battle.room, line, post)?;
     let name = WordBuf::copy_of(by.maps.alloc(), name.as_slice())?;
@@ -140,11 +142,11 @@ pub fn update_bot(
     let bot = bot_named(battle, name)?;
     may_change(by.me, battle, bot)?;
     let status = merge_battle(bot.status(), asked);
-    let line = LentReply::UpdateBot {
-        battle: number,
-        bot: name,
+    let line = Reply::UpdateBot {
+        battle: BattleNumber(number),
+        bot: Word(Held::Lent(name)),
         battle_status: status.word(),
-        team_color: colour,
+        team_color: Wide(colour),
     };
     by.maps.tell_room(&battle.room, line, post)?;
     let name = WordBuf::copy_of(by.maps.alloc(), name.as_slice())?;
@@ -164,9 +166,9 @@ pub fn remove_bot(by: &Issuer, name: &WordBuf, post: &mut Post) -> Result<Change
     let (number, battle) = own_battle(by.maps, by.me)?;
     let bot = bot_named(battle, name)?;
     may_change(by.me, battle, bot)?;
-    let line = LentReply::RemoveBot {
-        battle: number,
-        bot: name,
+    let line = Reply::RemoveBot {
+        battle: BattleNumber(number),
+        bot: Word(Held::Lent(name)),
     };
     by.maps.tell_room(&battle.room, line, post)?;
     let name = WordBuf::copy_of(by.maps.alloc(), name.as_slice())?;
@@ -181,12 +183,12 @@ pub fn add_rect(by: &Issuer, ally: u8, rect: Rect, post: &mut Post) -> Result<Ch
 {
     let (number, battle) = own_battle(by.maps, by.me)?;
     founded_by(battle, by.me)?;
-    let line = LentReply::AddStartRect {
-        ally_no: ally,
-        left: rect.left,
-        top: rect.top,
-        right: rect.right,
-        bottom: rect.bottom,
+    let line = Reply::AddStartRect {
+        ally_no: UpTo(ally),
+        left: UpTo(rect.left),
+        top: UpTo(rect.top),
+        right: UpTo(rect.right),
+        bottom: UpTo(rect.bottom),
     };
     by.maps.tell_room(&battle.room, line, post)?;
     Ok(in_room(number, RoomChange::SetRect { ally, rect }))
@@ -200,7 +202,9 @@ pub fn remove_rect(by: &Issuer, ally: u8, post: &mut Post) -> Result<Change, Sto
 {
     let (number, battle) = own_battle(by.maps, by.me)?;
     founded_by(battle, by.me)?;
-    let line = LentReply::RemoveStartRect { ally_no: ally };
+    let line = Reply::RemoveStartRect {
+        ally_no: UpTo(ally),
+    };
     by.maps.tell_room(&battle.room, line, post)?;
     Ok(in_room(number, RoomChange::RemoveRect { ally }))
 }
@@ -213,8 +217,8 @@ pub fn set_script_tags(by: &Issuer, pairs: &PairList, post: &mut Post) -> Result
     let (number, battle) = own_battle(by.maps, by.me)?;
     founded_by(battle, by.me)?;
     let last = last_tags(battle, pairs.as_slice())?;
-    let line = LentReply::SetScriptTags {
-        pairs: pairs.as_slice(),
+    let line = Reply::SetScriptTags {
+        pairs: Pairs(HeldPairs::Lent(pairs.as_slice())),
     };
     by.maps.tell_room(&battle.room, line, post)?;
     Ok(in_room(number, RoomChange::SetTags { pairs: last }))
@@ -269,7 +273,7 @@ pub fn enable_all_units(by: &Issuer, post: &mut Post) -> Result<Change, Stop>
     let (number, battle) = own_battle(by.maps, by.me)?;
     founded_by(battle, by.me)?;
     by.maps
-        .tell_room(&battle.room, LentReply::EnableAllUnits, post)?;
+        .tell_room(&battle.room, Reply::EnableAllUnits, post)?;
     Ok(in_room(number, RoomChange::EnableAllUnits))
 }
 
@@ -319,7 +323,7 @@ pub fn kick(by: &Issuer, name: &NameBuf, post: &mut Post) -> Result<Change, Stop
     founded_by(battle, by.me)?;
     not_oneself(by.me, name)?;
     member_named(battle, name)?;
-    by.maps.tell_user(name, LentReply::ForceQuitBattle, post)?;
+    by.maps.tell_user(name, Reply::ForceQuitBattle, post)?;
     tell_leaving(by.maps, name, number, battle, Leaving::Seen, post)?;
     Ok(Change::InBattles(BattleChange::Leave {
         number,
@@ -335,7 +339,12 @@ pub fn ring(by: &Issuer, name: &NameBuf, post: &mut Post) -> Result<Change, Stop
     let (_, battle) = own_battle(by.maps, by.me)?;
     founded_by(battle, by.me)?;
     member_named(battle, name)?;
-    by.maps
-        .tell_user(name, LentReply::Ring { user: by.me }, post)?;
+    by.maps.tell_user(
+        name,
+        Reply::Ring {
+            user: Name(Held::Lent(by.me)),
+        },
+        post,
+    )?;
     Ok(Change::Nothing)
 }

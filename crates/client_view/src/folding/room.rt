@@ -1,43 +1,22 @@
 //! The lines of the client's own room.
 
-ghost use Rattle.std.specs.Prelude.{◌≡◌, true, OnOk, OnErr};
+ghost use Rattle.std.specs.Prelude.{◌≡◌, OnOk, OnErr};
 ghost use Rattle.reply_kinds.specs.declared.Reply.TheVariants as reply;
 ghost use Rattle.lobby_view.specs.View.{shown};
 ghost use Rattle.noted_map.specs.Undoable.{Changes};
-ghost use Rattle.client_view.specs.Kinds.{Members, Bots, Rects, Tags, Units, is_of_room, kind_of};
+ghost use Rattle.client_view.specs.Kinds.{Room, kind_of};
 
 use crate::known::Known;
 use crate::room::Bot;
-use line_words::{NameBuf, WordBuf};
-use reply_kinds::Reply;
+use reply_kinds::{BattleNumber, Name, Pairs, Reply, Sentence, UpTo, Wide, Word, Words};
 use room_lists::Rect;
 use std::alloc::AllocError;
 
 impl Known {
     /// What changes the own room.
-    #[inline(never)]
-    pub(crate) fn fold_room(&mut self, reply: Reply) -> Result<(), AllocError>
-        requires { is_of_room (kind_of reply) ≡ true }
-        ensures ok { OnOk result (Changes (λ v. shown v reply) self.old self.new) }
-        ensures err { OnErr result (self.new ≡ self.old) }
-    {
-        match reply {
-            Reply::ClientBattleStatus { .. } => self.fold_members(reply),
-            Reply::AddBot { .. } | Reply::UpdateBot { .. } | Reply::RemoveBot { .. } =>
-                self.fold_bots(reply),
-            Reply::AddStartRect { .. } | Reply::RemoveStartRect { .. } => self.fold_rects(reply),
-            Reply::SetScriptTags { .. } | Reply::RemoveScriptTags { .. } => self.fold_tags(reply),
-            Reply::DisableUnits { .. } | Reply::EnableUnits { .. } | Reply::EnableAllUnits =>
-                self.fold_units(reply),
-            _ => unreachable!(),
-        }
-    }
-
-    /// The status of a member.
-    #[inline(never)]
-    fn fold_members(&mut self, reply: Reply) -> Result<(), AllocError>
-        requires { kind_of reply ≡ Members }
-        ensures ok { OnOk result (Changes (λ v. shown v reply) self.old self.new) }
+    pub(crate) fn fold_room(&mut self, reply: &Reply) -> Result<(), AllocError>
+        requires { kind_of reply.now ≡ Room }
+        ensures ok { OnOk result (Changes (λ v. shown v reply.now) self.old self.new) }
         ensures err { OnErr result (self.new ≡ self.old) }
     {
         match reply {
@@ -45,32 +24,7 @@ impl Known {
                 user,
                 battle_status,
                 team_color,
-            } => self.client_battle_status(&user, battle_status, team_color),
-            _ => unreachable!(),
-        }
-    }
-
-    fn client_battle_status(
-        &mut self,
-        name: &NameBuf,
-        status: u32,
-        colour: i64,
-    ) -> Result<(), AllocError>
-        ensures ok { OnOk result (Changes (λ v.
-            shown v (reply.ClientBattleStatus name.now status colour)) self.old self.new) }
-        ensures err { OnErr result (self.new ≡ self.old) }
-    {
-        self.room.put_status(name, status, colour)
-    }
-
-    /// A bot comes, changes or goes.
-    #[inline(never)]
-    fn fold_bots(&mut self, reply: Reply) -> Result<(), AllocError>
-        requires { kind_of reply ≡ Bots }
-        ensures ok { OnOk result (Changes (λ v. shown v reply) self.old self.new) }
-        ensures err { OnErr result (self.new ≡ self.old) }
-    {
-        match reply {
+            } => self.client_battle_status(user, *battle_status, team_color),
             Reply::AddBot {
                 battle,
                 bot,
@@ -78,104 +32,126 @@ impl Known {
                 battle_status,
                 team_color,
                 ai,
-            } => {
-                let bot = Bot::new(owner, bot, battle_status, team_color, ai);
-                self.add_bot(battle, bot)
-            }
+            } => self.add_bot(battle, bot, owner, *battle_status, team_color, ai),
             Reply::UpdateBot {
                 battle,
                 bot,
                 battle_status,
                 team_color,
-            } => self.update_bot(battle, &bot, battle_status, team_color),
-            Reply::RemoveBot { battle, bot } => self.remove_bot(battle, &bot),
-            _ => unreachable!(),
-        }
-    }
-
-    fn add_bot(&mut self, number: u32, bot: Bot) -> Result<(), AllocError>
-        ensures ok { OnOk result (Changes (λ v.
-            shown v (reply.AddBot number bot.name bot.owner bot.status bot.colour bot.ai)) self.old self.new) }
-        ensures err { OnErr result (self.new ≡ self.old) }
-    {
-        self.room.add_bot(number, bot)
-    }
-
-    fn update_bot(
-        &mut self,
-        number: u32,
-        name: &WordBuf,
-        status: u32,
-        colour: i64,
-    ) -> Result<(), AllocError>
-        ensures ok { OnOk result (Changes (λ v.
-            shown v (reply.UpdateBot number name.now status colour)) self.old self.new) }
-        ensures err { OnErr result (self.new ≡ self.old) }
-    {
-        self.room.put_bot_status(number, name, status, colour)
-    }
-
-    fn remove_bot(&mut self, number: u32, name: &WordBuf) -> Result<(), AllocError>
-        ensures ok { OnOk result (Changes (λ v. shown v (reply.RemoveBot number name.now)) self.old self.new) }
-        ensures err { OnErr result (self.new ≡ self.old) }
-    {
-        self.room.remove_bot(number, name)
-    }
-
-    /// A start rectangle is set or goes.
-    #[inline(never)]
-    fn fold_rects(&mut self, reply: Reply) -> Result<(), AllocError>
-        requires { kind_of reply ≡ Rects }
-        ensures ok { OnOk result (Changes (λ v. shown v reply) self.old self.new) }
-        ensures err { OnErr result (self.new ≡ self.old) }
-    {
-        match reply {
+            } => self.update_bot(battle, bot, *battle_status, team_color),
+            Reply::RemoveBot { battle, bot } => self.remove_bot(battle, bot),
             Reply::AddStartRect {
                 ally_no,
                 left,
                 top,
                 right,
                 bottom,
-            } => {
-                let rect = Rect {
-                    left,
-                    top,
-                    right,
-                    bottom,
-                };
-                self.room.put_rect(ally_no, rect)
-            }
-            Reply::RemoveStartRect { ally_no } => self.room.remove_rect(ally_no),
-            _ => unreachable!(),
-        }
-    }
-
-    /// Script tags are set or go.
-    #[inline(never)]
-    fn fold_tags(&mut self, reply: Reply) -> Result<(), AllocError>
-        requires { kind_of reply ≡ Tags }
-        ensures ok { OnOk result (Changes (λ v. shown v reply) self.old self.new) }
-        ensures err { OnErr result (self.new ≡ self.old) }
-    {
-        match reply {
-            Reply::SetScriptTags { pairs } => self.room.put_tags(pairs),
-            Reply::RemoveScriptTags { keys } => self.room.remove_tags(&keys),
-            _ => unreachable!(),
-        }
-    }
-
-    /// Units are disabled or enabled.
-    #[inline(never)]
-    fn fold_units(&mut self, reply: Reply) -> Result<(), AllocError>
-        requires { kind_of reply ≡ Units }
-        ensures ok { OnOk result (Changes (λ v. shown v reply) self.old self.new) }
-        ensures err { OnErr result (self.new ≡ self.old) }
-    {
-        match reply {
-            Reply::DisableUnits { units } => self.room.put_units(units),
-            Reply::EnableUnits { units } => self.room.remove_units(&units),
+            } => self.add_start_rect(ally_no, left, top, right, bottom),
+            Reply::RemoveStartRect { ally_no } => self.remove_start_rect(ally_no),
+            Reply::SetScriptTags { pairs } => self.set_script_tags(pairs),
+            Reply::RemoveScriptTags { keys } => self.room.remove_tags(keys.as_slice()),
+            Reply::DisableUnits { units } => self.disable_units(units),
+            Reply::EnableUnits { units } => self.room.remove_units(units.as_slice()),
             Reply::EnableAllUnits => self.room.clear_units(),
             _ => unreachable!(),
         }
+    }
+
+    fn client_battle_status(
+        &mut self,
+        name: &Name,
+        status: u32,
+        colour: &Wide,
+    ) -> Result<(), AllocError>
+        ensures ok { OnOk result (Changes (λ v.
+            shown v (reply.ClientBattleStatus name.now status colour.now)) self.old self.new) }
+        ensures err { OnErr result (self.new ≡ self.old) }
+    {
+        self.room.put_status(name.get(), status, colour.0)
+    }
+
+    fn add_bot(
+        &mut self,
+        battle: &BattleNumber,
+        name: &Word,
+        owner: &Name,
+        status: u32,
+        colour: &Wide,
+        ai: &Sentence,
+    ) -> Result<(), AllocError>
+        ensures ok { OnOk result (Changes (λ v.
+            shown v (reply.AddBot battle.now name.now owner.now status colour.now ai.now)) self.old self.new) }
+        ensures err { OnErr result (self.new ≡ self.old) }
+    {
+        let name = name.to_word(self.alloc)?;
+        let ai = ai.to_sentence(self.alloc)?;
+        let bot = Bot::new(owner.to_name(), name, status, colour.0, ai);
+        self.room.add_bot(battle.0, bot)
+    }
+
+    fn update_bot(
+        &mut self,
+        battle: &BattleNumber,
+        name: &Word,
+        status: u32,
+        colour: &Wide,
+    ) -> Result<(), AllocError>
+        ensures ok { OnOk result (Changes (λ v.
+            shown v (reply.UpdateBot battle.now name.now status colour.now)) self.old self.new) }
+        ensures err { OnErr result (self.new ≡ self.old) }
+    {
+        self.room
+            .put_bot_status(battle.0, name.get(), status, colour.0)
+    }
+
+    fn remove_bot(&mut self, battle: &BattleNumber, name: &Word) -> Result<(), AllocError>
+        ensures ok { OnOk result (Changes (λ v. shown v (reply.RemoveBot battle.now name.now)) self.old self.new) }
+        ensures err { OnErr result (self.new ≡ self.old) }
+    {
+        self.room.remove_bot(battle.0, name.get())
+    }
+
+    fn add_start_rect(
+        &mut self,
+        ally_no: &UpTo<15>,
+        left: &UpTo<200>,
+        top: &UpTo<200>,
+        right: &UpTo<200>,
+        bottom: &UpTo<200>,
+    ) -> Result<(), AllocError>
+        ensures ok { OnOk result (Changes (λ v.
+            shown v (reply.AddStartRect ally_no.now left.now top.now right.now bottom.now)) self.old self.new) }
+        ensures err { OnErr result (self.new ≡ self.old) }
+    {
+        let rect = Rect {
+            left: left.0,
+            top: top.0,
+            right: right.0,
+            bottom: bottom.0,
+        };
+        self.room.put_rect(ally_no.0, rect)
+    }
+
+    fn remove_start_rect(&mut self, ally_no: &UpTo<15>) -> Result<(), AllocError>
+        ensures ok { OnOk result (Changes (λ v. shown v (reply.RemoveStartRect ally_no.now)) self.old self.new) }
+        ensures err { OnErr result (self.new ≡ self.old) }
+    {
+        self.room.remove_rect(ally_no.0)
+    }
+
+    fn set_script_tags(&mut self, pairs: &Pairs) -> Result<(), AllocError>
+        ensures ok { OnOk result (Changes (λ v. shown v (reply.SetScriptTags pairs.now)) self.old self.new) }
+        ensures err { OnErr result (self.new ≡ self.old) }
+    {
+        let pairs = pairs.to_list(self.alloc)?;
+        self.room.put_tags(pairs)
+    }
+
+    fn disable_units(&mut self, units: &Words) -> Result<(), AllocError>
+        ensures ok { OnOk result (Changes (λ v. shown v (reply.DisableUnits units.now)) self.old self.new) }
+        ensures err { OnErr result (self.new ≡ self.old) }
+    {
+        let units = units.to_list(self.alloc)?;
+        self.room.put_units(units)
     }
 }

@@ -8,16 +8,14 @@ ghost use Rattle.client_view.specs.Kinds.{Users, kind_of};
 
 use crate::known::Known;
 use crate::lists::User;
-use line_words::{NameBuf, WordBuf};
-use reply_kinds::Reply;
+use reply_kinds::{Country, Name, Reply, Wide};
 use std::alloc::AllocError;
 
 impl Known {
-    /// Who comes and goes. Not inlined, as the others: what comes most is folded without their moves.
-    #[inline(never)]
-    pub(crate) fn fold_users(&mut self, reply: Reply) -> Result<(), AllocError>
-        requires { kind_of reply ≡ Users }
-        ensures ok { OnOk result (Changes (λ v. shown v reply) self.old self.new) }
+    /// Who comes and goes.
+    pub(crate) fn fold_users(&mut self, reply: &Reply) -> Result<(), AllocError>
+        requires { kind_of reply.now ≡ Users }
+        ensures ok { OnOk result (Changes (λ v. shown v reply.now) self.old self.new) }
         ensures err { OnErr result (self.new ≡ self.old) }
     {
         match reply {
@@ -26,43 +24,44 @@ impl Known {
                 country,
                 cpu,
                 account,
-            } => self.add_user(user, country, cpu, account),
-            Reply::RemoveUser { user } => self.remove_user(&user),
-            Reply::ClientStatus { user, status } => self.client_status(&user, status),
+            } => self.add_user(user, country, cpu, *account),
+            Reply::RemoveUser { user } => self.remove_user(user),
+            Reply::ClientStatus { user, status } => self.client_status(user, *status),
             _ => unreachable!(),
         }
     }
 
     fn add_user(
         &mut self,
-        name: NameBuf,
-        country: WordBuf,
-        cpu: i64,
+        name: &Name,
+        country: &Country,
+        cpu: &Wide,
         account: u32,
     ) -> Result<(), AllocError>
-        ensures ok { OnOk result (Changes (λ v. shown v (reply.AddUser name country cpu account)) self.old self.new) }
+        ensures ok { OnOk result (Changes (λ v.
+            shown v (reply.AddUser name.now country.now cpu.now account)) self.old self.new) }
         ensures err { OnErr result (self.new ≡ self.old) }
     {
         let user = User {
-            country,
-            cpu,
+            country: country.to_word(self.alloc)?,
+            cpu: cpu.0,
             account,
             status: 0,
         };
-        self.users.put(name, user)
+        self.users.put(name.to_name(), user)
     }
 
-    fn remove_user(&mut self, name: &NameBuf) -> Result<(), AllocError>
+    fn remove_user(&mut self, name: &Name) -> Result<(), AllocError>
         ensures ok { OnOk result (Changes (λ v. shown v (reply.RemoveUser name.now)) self.old self.new) }
         ensures err { OnErr result (self.new ≡ self.old) }
     {
-        self.users.remove(name)
+        self.users.remove(name.get())
     }
 
-    pub(crate) fn client_status(&mut self, name: &NameBuf, status: u32) -> Result<(), AllocError>
+    pub(crate) fn client_status(&mut self, name: &Name, status: u32) -> Result<(), AllocError>
         ensures ok { OnOk result (Changes (λ v. shown v (reply.ClientStatus name.now status)) self.old self.new) }
         ensures err { OnErr result (self.new ≡ self.old) }
     {
-        self.users.set_status(name, status)
+        self.users.set_status(name.get(), status)
     }
 }

@@ -282,13 +282,13 @@ impl UndoableRoom {
     }
 
     /// The script tags of some keys go. Where memory is refused, nothing changes.
-    pub fn remove_tags(&mut self, keys: &WordList) -> Result<(), AllocError>
+    pub fn remove_tags(&mut self, keys: &[WordBuf]) -> Result<(), AllocError>
         ensures ok { OnOk result (Changes (in_own_room (room.remove_tags keys.now)) self.old self.new) }
         ensures err { OnErr result (self.new ≡ self.old) }
     {
         if let Some(own) = &mut self.own {
             self.before.keep_tags(self.alloc, &own.tags)?;
-            own.tags.remove(keys.as_slice());
+            own.tags.remove(keys);
         }
         Ok(())
     }
@@ -306,13 +306,13 @@ impl UndoableRoom {
     }
 
     /// Units are enabled. Where memory is refused, nothing changes.
-    pub fn remove_units(&mut self, units: &WordList) -> Result<(), AllocError>
+    pub fn remove_units(&mut self, units: &[WordBuf]) -> Result<(), AllocError>
         ensures ok { OnOk result (Changes (in_own_room (room.enable_units units.now)) self.old self.new) }
         ensures err { OnErr result (self.new ≡ self.old) }
     {
         if let Some(own) = &mut self.own {
             self.before.keep_units(self.alloc, &own.units)?;
-            own.units.remove(units.as_slice());
+            own.units.remove(units);
         }
         Ok(())
     }

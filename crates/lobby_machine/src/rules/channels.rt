@@ -1,7 +1,6 @@
 //! Channels and private talk: docs/PROTOCOL.md, "What the server does", from "JOIN" to "CHANNELS".
 
 ghost use Rattle.std.specs.Prelude.{◌≡◌, [], ◌∷◌, ◌++◌, OnOk};
-ghost use Rattle.reply_kinds.specs.Lent.{reply_of};
 ghost use Rattle.lobby_model.specs.Outcome.{tell, user};
 ghost use Rattle.lobby_model.specs.Channels.{join, leave, name_lines, say_in_channel, say_private, list_channels};
 ghost use Rattle.lobby_post.specs.Posted.{Told, with_own};
@@ -13,7 +12,7 @@ use lobby_guards::guards::{members_with, names_without, user_named};
 use lobby_guards::{Issuer, Stop};
 use lobby_maps::{Change, Maps};
 use lobby_post::Post;
-use reply_kinds::LentReply;
+use reply_kinds::{Held, HeldNames, HeldText, Name, Names, Reply, Text};
 use std::alloc::AllocError;
 
 /// `JOIN`: the user is not in the channel.
@@ -23,15 +22,21 @@ pub fn join(by: &Issuer, channel: &NameBuf, post: &mut Post) -> Result<Change, S
 {
     let names = names_without(by.maps, by.me, channel)?;
     let keys = by.maps.channels().marks_in(channel);
-    by.maps
-        .tell_self(by.me, by.client, LentReply::Join { channel }, post)?;
+    by.maps.tell_self(
+        by.me,
+        by.client,
+        Reply::Join {
+            channel: Name(Held::Lent(channel)),
+        },
+        post,
+    )?;
     tell_members(by.maps, channel, names, by.me, by.client, post)?;
     by.maps.tell_users(
         names,
         keys,
-        LentReply::Joined {
-            channel,
-            user: by.me,
+        Reply::Joined {
+            channel: Name(Held::Lent(channel)),
+            user: Name(Held::Lent(by.me)),
         },
         post,
     )?;
@@ -51,9 +56,9 @@ pub fn leave(by: &Issuer, channel: &NameBuf, post: &mut Post) -> Result<Change, 
     by.maps.tell_users(
         names,
         keys,
-        LentReply::Left {
-            channel,
-            user: by.me,
+        Reply::Left {
+            channel: Name(Held::Lent(channel)),
+            user: Name(Held::Lent(by.me)),
         },
         post,
     )?;
@@ -67,11 +72,11 @@ pub fn leave(by: &Issuer, channel: &NameBuf, post: &mut Post) -> Result<Change, 
 pub fn say_in_channel(
     by: &Issuer,
     channel: &NameBuf,
-    line: LentReply,
+    line: Reply,
     post: &mut Post,
 ) -> Result<Change, Stop>
     ensures { Answers by.now.maps.now.plain by.now.client post.old post.new
-        (say_in_channel by.now.maps.now.plain by.now.me.now channel.now (reply_of line.entry)) result }
+        (say_in_channel by.now.maps.now.plain by.now.me.now channel.now line.entry) result }
 {
     let members = members_with(by.maps, by.me, channel)?;
     let (names, keys) = (members.as_slice(), members.marks());
@@ -90,9 +95,18 @@ pub fn say_private(
         (say_private by.now.maps.now.plain by.now.me.now target.now text.now) result }
 {
     user_named(by.maps, target)?;
-    post.tell_issuer(LentReply::SayPrivate { user: target, text })?;
-    by.maps
-        .tell_user(target, LentReply::SaidPrivate { user: by.me, text }, post)?;
+    post.tell_issuer(Reply::SayPrivate {
+        user: Name(Held::Lent(target)),
+        text: Text(HeldText::Lent(text)),
+    })?;
+    by.maps.tell_user(
+        target,
+        Reply::SaidPrivate {
+            user: Name(Held::Lent(by.me)),
+            text: Text(HeldText::Lent(text)),
+        },
+        post,
+    )?;
     Ok(Change::Nothing)
 }
 
@@ -103,7 +117,7 @@ pub fn list_channels(by: &Issuer, post: &mut Post) -> Result<Change, Stop>
 {
     post.begin_own();
     write_channels(by.maps, post)?;
-    post.write_own(LentReply::EndOfChannels)?;
+    post.write_own(Reply::EndOfChannels)?;
     post.address_issuer()?;
     Ok(Change::Nothing)
 }
@@ -113,8 +127,8 @@ fn write_channels(maps: &Maps, post: &mut Post) -> Result<(), AllocError>
     ensures { OnOk result (post.new ≡ with_own post.old (channel_lines maps.now.plain.channels)) }
 {
     for (channel, members) in maps.channels() {
-        post.write_own(LentReply::Channel {
-            channel,
+        post.write_own(Reply::Channel {
+            channel: Name(Held::Lent(channel)),
             user_count: members.as_slice().len(),
         })?;
     }
@@ -131,7 +145,15 @@ pub fn tell_left(maps: &Maps, me: &NameBuf, post: &mut Post) -> Result<(), Alloc
     if let Some(channels) = book.channels_of(me) {
         for channel in channels {
             let (names, keys) = book.roster(channel);
-            maps.tell_other_users(names, keys, LentReply::Left { channel, user: me }, post)?;
+            maps.tell_other_users(
+                names,
+                keys,
+                Reply::Left {
+                    channel: Name(Held::Lent(channel)),
+                    user: Name(Held::Lent(me)),
+                },
+                post,
+            )?;
         }
     }
     Ok(())
@@ -151,17 +173,16 @@ fn tell_members(
 {
     let mut rest = names;
     while rest.len() >= 32 {
-        let line = LentReply::Clients {
-            channel,
-            names: &rest[..32],
+        let line = Reply::Clients {
+            channel: Name(Held::Lent(channel)),
+            names: Names(HeldNames::Lent(&rest[..32])),
         };
         maps.tell_self(me, client, line, post)?;
         rest = &rest[32..];
     }
-    let line = LentReply::LastClients {
-        channel,
-        names: rest,
-        last: me,
+    let line = Reply::Clients {
+        channel: Name(Held::Lent(channel)),
+        names: Names(HeldNames::LentAndLast(rest, me)),
     };
     maps.tell_self(me, client, line, post)?;
     Ok(())

@@ -24,7 +24,7 @@ use lobby_guards::guards::{account_for, free_name};
 use lobby_guards::{Issuer, Stop};
 use lobby_maps::{Change, Maps, Seat};
 use lobby_post::{ClientKey, Post};
-use reply_kinds::LentReply;
+use reply_kinds::{Held, Name, Reply};
 use status_bits::{UserStatus, merge_user};
 use std::alloc::AllocError;
 
@@ -33,7 +33,7 @@ pub fn ping(maps: &Maps, client: u64, post: &mut Post) -> Result<Change, Stop>
     ensures { Answers maps.now.plain client post.old post.new (done (only_told (tell issuer (reply.Pong ∷ [])
         ∷ []))) result }
 {
-    post.tell_issuer(LentReply::Pong)?;
+    post.tell_issuer(Reply::Pong)?;
     Ok(Change::Nothing)
 }
 
@@ -72,8 +72,8 @@ pub fn my_status(by: &Issuer, asked: u32, post: &mut Post) -> Result<Change, Sto
         Some(status) => merge_user(status, asked),
         None => unreachable!(),
     };
-    let line = LentReply::ClientStatus {
-        user: by.me,
+    let line = Reply::ClientStatus {
+        user: Name(Held::Lent(by.me)),
         status: status.word(),
     };
     by.maps.tell_all(line, post)?;
@@ -107,7 +107,12 @@ pub fn log_out(
     tell_left(maps, me, post)?;
     let asks = maps.asked_by(me);
     let battle = tell_battle_left(maps, me, post)?;
-    maps.tell_others(LentReply::RemoveUser { user: me }, post)?;
+    maps.tell_others(
+        Reply::RemoveUser {
+            user: Name(Held::Lent(me)),
+        },
+        post,
+    )?;
     Ok(Change::LogOut {
         name: Some(me.copy()),
         asks,

@@ -1,4 +1,5 @@
 use Rattle.std.proofs.Common.{◌∙◌, ap, subst, [], ◌∷◌}
+use Rattle.reply_kinds.specs.declared.Reply.{Reply}
 use Rattle.lobby_model.specs.State.{Battle, name_of}
 use Rattle.lobby_model.specs.Outcome.{tell, everyone}
 use Rattle.lobby_model.specs.Battles.{opened_line}
@@ -13,4 +14,6 @@ tell_opener-requires c =
 pub returns : goal.returns
 returns c = told_then c.args.maps.now.plain c.args.post.now c.tell_all.new.post c.tell_opener.new.post _ _
     (subst (λ (b : Battle). Told c.args.maps.now.plain c.args.post.now c.tell_all.new.post (tell everyone (opened_line c.args.number b.info ∷ []) ∷ []))
-    c.battle.view_is c.in_ok-tell_all.ensures) c.in_ok-tell_opener.ensures
+    c.battle.view_is
+    (subst (λ (r : Reply). Told c.args.maps.now.plain c.args.post.now c.tell_all.new.post (tell everyone (r ∷ []) ∷ [])) c.told.ensures
+    c.in_ok-tell_all.ensures)) c.in_ok-tell_opener.ensures

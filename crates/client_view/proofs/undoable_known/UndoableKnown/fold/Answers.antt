@@ -8,7 +8,7 @@ use Rattle.client_view.proofs.undoable_known.UndoableKnown.fold.Goals as goal
 -- the arms above take each reply that changes something; of each of the others it is shown here that it changes nothing
 pub returns-in_default-clause-ok : goal.returns-in_default-clause-ok
 returns-in_default-clause-ok c =
-    elim c.args.reply as (λ r. c.args.reply ≡ r → Changes (λ (v : View). shown v r) c.args.self.now c.args.self.now) [
+    elim c.args.reply.now as (λ r. c.args.reply.now ≡ r → Changes (λ (v : View). shown v r) c.args.self.now c.args.self.now) [
       | reply.Accepted user ↦ λ e. absurd (c.in_default.not-Accepted user e)
       | reply.AddUser user country cpu account ↦ λ e. absurd (c.in_default.not-AddUser user country cpu account e)
       | reply.RemoveUser user ↦ λ e. absurd (c.in_default.not-RemoveUser user e)

@@ -1,5 +1,5 @@
-use Rattle.std.proofs.Common.{◌≡◌, ◌∙◌, ◌+◌, ◌++◌, List, ℕ, ap, sym, subst, refl, length, true, false, T}
-use Rattle.line_framer.specs.Frames.{frames, is_spoilt, rest_of, without_cr}
+use Rattle.std.proofs.Common.{◌∙◌, ◌+◌, ◌++◌, List, ℕ, ap, sym, subst, refl, length, true, T}
+use Rattle.line_framer.specs.Frames.{frames, without_cr}
 use Rattle.lobby_view.specs.View.{View, shown_all}
 use Rattle.lobby_view.specs.Bytes.{frame_limit, all_read}
 use Rattle.client_view.specs.Following.{Following}

@@ -1,5 +1,4 @@
 use Rattle.std.proofs.Common.{subst, [], ◌∷◌}
-use Rattle.reply_kinds.specs.Lent.{reply_of}
 use Rattle.lobby_model.specs.State.{State}
 use Rattle.lobby_model.specs.Outcome.{tell, everyone}
 use Rattle.lobby_post.specs.Posted.{Told}
@@ -10,8 +9,8 @@ use Rattle.lobby_maps.proofs.maps.Maps.tell_all.Goals as goal
 
 pub returns : goal.returns
 returns c =
-    subst (λ (s : State). Told s c.args.post.now c.address_all.new.post (tell everyone (reply_of c.args.line ∷ []) ∷ [])) (plainly c.self.view_is)
-    (told_all _ c.args.post.now c.write.new.self c.address_all.new.post (reply_of c.args.line) everyone
+    subst (λ (s : State). Told s c.args.post.now c.address_all.new.post (tell everyone (c.args.line ∷ []) ∷ [])) (plainly c.self.view_is)
+    (told_all _ c.args.post.now c.write.new.self c.address_all.new.post c.args.line everyone
     (record {
       clients = _;
       reached = reaches_everyone _ _ _ c.in_ok-address_all.ensures.rising c.self.invariant.1.listed;

@@ -1,5 +1,4 @@
 use Rattle.std.proofs.Common.{subst, [], ◌∷◌}
-use Rattle.reply_kinds.specs.Lent.{reply_of}
 use Rattle.lobby_model.specs.State.{State}
 use Rattle.lobby_model.specs.Outcome.{tell, everyone_but}
 use Rattle.lobby_post.specs.Posted.{Told}
@@ -11,8 +10,8 @@ use Rattle.lobby_maps.proofs.maps.Maps.tell_all_but.Goals as goal
 pub returns : goal.returns
 returns c =
     subst (λ (s : State). Told s c.args.post.now c.address_all_but.new.post
-    (tell (everyone_but (c.args.first.now ∷ c.args.second.now ∷ [])) (reply_of c.args.line ∷ []) ∷ [])) (plainly c.self.view_is)
-    (told_all _ c.args.post.now c.write.new.self c.address_all_but.new.post (reply_of c.args.line)
+    (tell (everyone_but (c.args.first.now ∷ c.args.second.now ∷ [])) (c.args.line ∷ []) ∷ [])) (plainly c.self.view_is)
+    (told_all _ c.args.post.now c.write.new.self c.address_all_but.new.post c.args.line
     (everyone_but (c.args.first.now ∷ c.args.second.now ∷ []))
     (record {
       clients = _;

@@ -1,5 +1,4 @@
 use Rattle.std.proofs.Common.{◌∙◌, ap, subst, map, [], ◌∷◌}
-use Rattle.reply_kinds.specs.Lent.{reply_of}
 use Rattle.room_lists.specs.Room.{member_names}
 use Rattle.lobby_model.specs.State.{State}
 use Rattle.lobby_model.specs.Outcome.{tell, users}
@@ -12,9 +11,9 @@ use Rattle.lobby_maps.proofs.maps.Maps.tell_room.Goals as goal
 
 pub returns : goal.returns
 returns c =
-    subst (λ (s : State). Told s c.args.post.now c.address_members.new.post (tell (users (member_names c.args.room.now)) (reply_of c.args.line ∷ [])
+    subst (λ (s : State). Told s c.args.post.now c.address_members.new.post (tell (users (member_names c.args.room.now)) (c.args.line ∷ [])
     ∷ [])) (plainly c.self.view_is)
-    (told_all _ c.args.post.now c.write.new.self c.address_members.new.post (reply_of c.args.line) (users (member_names c.args.room.now))
+    (told_all _ c.args.post.now c.write.new.self c.address_members.new.post c.args.line (users (member_names c.args.room.now))
     (record {
       clients = _;
       reached = reaches_users _ _ _ (member_names c.args.room.now) c.self.invariant.1.agree c.members.ensures.distinct;

@@ -1,5 +1,4 @@
 use Rattle.std.proofs.Common.{subst, [], ◌∷◌}
-use Rattle.reply_kinds.specs.Lent.{reply_of}
 use Rattle.lobby_model.specs.State.{State}
 use Rattle.lobby_model.specs.Outcome.{tell, user}
 use Rattle.lobby_post.specs.Posted.{Told}
@@ -10,9 +9,9 @@ use Rattle.lobby_maps.proofs.maps.Maps.tell_self.Goals as goal
 
 pub returns : goal.returns
 returns c =
-    subst (λ (s : State). Told s c.args.post.now c.address_near.new.post (tell (user c.args.me.now) (reply_of c.args.line ∷ [])
+    subst (λ (s : State). Told s c.args.post.now c.address_near.new.post (tell (user c.args.me.now) (c.args.line ∷ [])
     ∷ [])) (plainly c.self.view_is)
-    (told_all _ c.args.post.now c.write.new.self c.address_near.new.post (reply_of c.args.line) (user c.args.me.now)
+    (told_all _ c.args.post.now c.write.new.self c.address_near.new.post c.args.line (user c.args.me.now)
     (record {
       clients = _;
       reached = reaches_user _ _ _ c.args.me.now c.self.invariant.1.agree;

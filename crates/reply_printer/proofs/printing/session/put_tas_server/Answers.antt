@@ -1,6 +1,0 @@
-use Rattle.std.proofs.Common.{append_assoc}
-use Rattle.std.proofs.lemmas.Result.{IfOk-equal}
-use Rattle.reply_printer.proofs.printing.session.put_tas_server.Goals as goal
-
-pub returns-clause-ok : goal.returns-clause-ok
-returns-clause-ok c = IfOk-equal _ _ _ _ c.put_end.ensures.ok (rw (c.in_ok-put_number-2.ensures.ok, append_assoc, c.in_ok-put_number.ensures.ok, append_assoc, c.in_ok-put_word-2.ensures.ok, append_assoc, c.in_ok-put_word.ensures.ok, append_assoc, c.in_ok-put_command.ensures.ok, append_assoc) (simp append_assoc (rw (c.from.ensures, c.from-2.ensures))))

@@ -1,0 +1,43 @@
+//! A row of arguments, one behind another: no argument, or one in front of a row. So what is proved
+//! of one argument is proved of each row.
+
+ghost use Rattle.std.specs.Prelude.{◌≡◌, List, [], ◌∷◌, ◌++◌, IfOk};
+ghost use Rattle.reply_printer.specs.Fronts.{Keeps};
+ghost use Rattle.reply_kinds.specs.Kinds.{Kind, Values, all_printed};
+
+use crate::arguments::Printed;
+use std::alloc::AllocError;
+
+/// Arguments that can be printed.
+pub(crate) trait PrintedRow {
+    ghost kinds: { List Kind };
+
+    ghost values: { Self → Values kinds };
+
+    fn put(&self, out: &mut Vec<u8>) -> Result<(), AllocError>
+        ensures ok { IfOk result (λ _. out.new.items ≡ out.old.items ++ all_printed kinds (values self.now)) }
+        ensures kept { Keeps out.old.items out.new.items };
+}
+
+impl PrintedRow for () {
+    ghost kinds = { [] };
+
+    ghost values = { λ _. tt };
+
+    #[inline(always)]
+    fn put(&self, _out: &mut Vec<u8>) -> Result<(), AllocError> {
+        Ok(())
+    }
+}
+
+impl<A: Printed, R: PrintedRow> PrintedRow for (A, R) {
+    ghost kinds = { A.kind ∷ R.kinds };
+
+    ghost values = { λ x. (A.value x.0, R.values x.1) };
+
+    #[inline(always)]
+    fn put(&self, out: &mut Vec<u8>) -> Result<(), AllocError> {
+        self.0.put(out)?;
+        self.1.put(out)
+    }
+}
