@@ -8,12 +8,12 @@ from pathlib import Path
 
 ROOT = Path(__file__).resolve().parent.parent
 HEADER = ROOT / "include/lobby.h"
-CRATES = ["lobby_c", "lobby_lines", "lobby_tables"]
+CRATES = ["lobby_c", "lobby_lines"]
 SOURCES = [path for crate in CRATES for path in sorted((ROOT / "crates" / crate / "src").glob("*.rt"))]
 # The tables by which replies and requests are numbered, from 1 on: each word in its order.
 NUMBERED = [
     ("LOBBY_REPLY_", "crates/reply_kinds/src/command_word.rt", r'=> b"([A-Z]+)"'),
-    ("LOBBY_ASK_", "crates/lobby_lines/src/request_table.rt", r'word: b"([A-Z]+)"'),
+    ("LOBBY_ASK_", "crates/command_grammar/src/command.rt", r' b"([A-Z]+)" \{'),
 ]
 # What a type of the crates is called in C.
 NUMBERS = {"usize": "size_t", **{f"{sign}{bits}": f"{'u' * (sign == 'u')}int{bits}_t" for sign in "ui" for bits in (8, 16, 32, 64)}}

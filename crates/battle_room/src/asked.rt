@@ -9,13 +9,15 @@ ghost use Rattle.room_lists.specs.Room as room;
 ghost use Rattle.room_lists.specs.Tags as tags;
 ghost use Rattle.room_lists.specs.Units as units;
 ghost use Rattle.battle_room.specs.Refusals.{status_refusal, founder_refusal, removal_refusal, new_bot_refusal};
-ghost use Rattle.battle_room.specs.Refusals.{bot_refusal, tags_refusal, request_refusal, units_refusal};
+ghost use Rattle.battle_room.specs.Refusals.{bot_refusal, request_refusal, tag_refusal, tags_refusal, unit_refusal};
+ghost use Rattle.battle_room.specs.Refusals.{units_refusal};
 
 use crate::error::RoomError;
-use crate::room::{Bot, Room};
-use line_words::{NameBuf, PairList, SentenceBuf, WordBuf, WordList};
+use crate::room::{Bot, Room, may_change_bot};
+use line_words::{NameBuf, Pair, PairList, SentenceBuf, WordBuf, WordList};
 use room_lists::Rect;
 use status_bits::BattleStatus;
+use std::alloc::AllocError;
 
 impl<M: Copy> Room<M> {
     /// Refuses one who is no member.
@@ -80,7 +82,7 @@ impl<M: Copy> Room<M> {
         match self.bot(name) {
             None => Err(RoomError::NoBot),
             Some(bot) => {
-                if by.cmp(bot.owner()).is_eq() || self.is_founder(by) {
+                if may_change_bot(by, self.is_founder(by), bot) {
                     Ok(())
                 } else {
                     Err(RoomError::NotAllowed)
@@ -89,33 +91,31 @@ impl<M: Copy> Room<M> {
         }
     }
 
-    /// Refuses tags of one who is not the founder, and those that would be too many.
-    fn check_tags(&self, by: &NameBuf, pairs: &PairList) -> Result<(), RoomError>
-        ensures { result_err result ≡ tags_refusal by.now pairs.now self.now }
+    /// The last of these tags of each key, refused where they are too many. That is told also where memory
+    /// is refused.
+    fn tags_to_set(&self, pairs: &[Pair]) -> Result<PairList, RoomError>
+        ensures refused { IfSome (tag_refusal pairs.now self.now) (λ e. result ≡ Err e) }
+        ensures allowed { IfNone (tag_refusal pairs.now self.now) (IfErr result (λ e. e ≡ RoomError.Memory)) }
+        ensures alike { IfOk result (λ last. room.set_tags last self.now ≡ room.set_tags pairs.now self.now) }
     {
-        if !self.has_member(by) {
-            Err(RoomError::NotMember)
-        } else if !self.is_founder(by) {
-            Err(RoomError::NotAllowed)
-        } else if self.has_room_for(pairs.as_slice()) {
-            Ok(())
-        } else {
-            Err(RoomError::TooManyTags)
+        match self.last_pairs(pairs) {
+            Ok(Some(last)) => Ok(last),
+            Err(AllocError) if self.has_room_for(pairs) => Err(RoomError::Memory),
+            Ok(None) | Err(AllocError) => Err(RoomError::TooManyTags),
         }
     }
 
-    /// Refuses units of one who is not the founder, and those that would be too many.
-    fn check_units(&self, by: &NameBuf, words: &WordList) -> Result<(), RoomError>
-        ensures { result_err result ≡ units_refusal by.now words.now self.now }
+    /// Those of these units that are not disabled, each once, refused where they are too many. That is told
+    /// also where memory is refused.
+    fn units_to_disable(&self, words: &[WordBuf]) -> Result<WordList, RoomError>
+        ensures refused { IfSome (unit_refusal words.now self.now) (λ e. result ≡ Err e) }
+        ensures allowed { IfNone (unit_refusal words.now self.now) (IfErr result (λ e. e ≡ RoomError.Memory)) }
+        ensures new { IfOk result (λ new. new ≡ units.words_new self.now.units words.now) }
     {
-        if !self.has_member(by) {
-            Err(RoomError::NotMember)
-        } else if !self.is_founder(by) {
-            Err(RoomError::NotAllowed)
-        } else if self.has_room_for_units(words.as_slice()) {
-            Ok(())
-        } else {
-            Err(RoomError::TooManyUnits)
+        match self.units_new(words) {
+            Ok(Some(new)) => Ok(new),
+            Err(AllocError) if self.has_room_for_units(words) => Err(RoomError::Memory),
+            Ok(None) | Err(AllocError) => Err(RoomError::TooManyUnits),
         }
     }
 
@@ -237,14 +237,16 @@ impl<M: Copy> Room<M> {
     ///
     /// `NotMember` where who asks is none, `NotAllowed` where it is not the founder, `TooManyTags`
     /// where there would be more than 512, and then `Memory`.
+    #[tactic(auto, using(crate::proofs::Founding::other_refused, crate::proofs::Founding::founder_is_heard))]
     pub fn set_tags(&mut self, by: &NameBuf, pairs: PairList) -> Result<(), RoomError>
         ensures refused { IfSome (tags_refusal by.now pairs self.old) (λ e. result ≡ Err e) }
         ensures allowed { IfNone (tags_refusal by.now pairs self.old) (IfErr result (λ e. e ≡ RoomError.Memory)) }
         ensures ok { OnOk result (self.new ≡ room.set_tags pairs self.old) }
         ensures err { OnErr result (self.new ≡ self.old) }
     {
-        self.check_tags(by, &pairs)?;
-        self.put_tags(pairs)?;
+        self.check_founder(by)?;
+        let last = self.tags_to_set(pairs.as_slice())?;
+        self.put_tags(last)?;
         Ok(())
     }
 
@@ -271,6 +273,7 @@ impl<M: Copy> Room<M> {
     ///
     /// `NotMember` where who asks is none, `NotAllowed` where it is not the founder, `TooManyUnits`
     /// where there would be more than 1,024, and then `Memory`.
+    #[tactic(auto, using(crate::proofs::Founding::other_refused, crate::proofs::Founding::founder_is_heard))]
     pub fn disable_units(&mut self, by: &NameBuf, words: WordList) -> Result<WordList, RoomError>
         ensures refused { IfSome (units_refusal by.now words self.old) (λ e. result ≡ Err e) }
         ensures allowed { IfNone (units_refusal by.now words self.old) (IfErr result (λ e. e ≡ RoomError.Memory)) }
@@ -278,14 +281,10 @@ impl<M: Copy> Room<M> {
         ensures ok { OnOk result (self.new ≡ room.disable_units words self.old) }
         ensures err { OnErr result (self.new ≡ self.old) }
     {
-        self.check_units(by, &words)?;
-        match self.units_new(words.as_slice())? {
-            Some(new) => {
-                self.put_units(words)?;
-                Ok(new)
-            }
-            None => unreachable!(), // there is room
-        }
+        self.check_founder(by)?;
+        let new = self.units_to_disable(words.as_slice())?;
+        self.put_units(words)?;
+        Ok(new)
     }
 
     /// Not run by the server, which uses `units_there` and `drop_units`: the founder enables units again.

@@ -95,14 +95,15 @@ impl<M: Copy> Model for Members<M> {
     ghost use Rattle.std.specs.Prelude.{List, ℕ};
     ghost use Rattle.indexmap.specs.IndexMap.{values};
     ghost use Rattle.room_lists.specs.Room as room;
-    ghost use Rattle.room_lists.specs.Index.{IsIndex};
+    ghost use Rattle.room_lists.specs.Index.{IsIndex, AreApart};
 
     ghost Value = { List room.Member };
 
     ghost view = { λ m. values m.by_name };
 
+    // Each member stands behind its own name, and no name stands twice.
     ghost invariant = { λ m. IsIndex (λ (name : List ℕ). name) (λ (member : room.Member).
-        member.name) m.by_name.entries };
+        member.name) m.by_name.entries × AreApart m.by_name.entries };
 }
 
 impl<M: Copy> Members<M> {
@@ -170,8 +171,6 @@ impl<M: Copy> Members<M> {
     pub(crate) fn remove(&mut self, name: &NameBuf)
         ensures { self.new ≡ filter (λ m. not (same_name name.now m.name)) self.old }
     {
-        // Its contract says that no name stands twice, which the proof wants of the names as they were.
-        let _ = self.by_name.len();
         let _ = self.by_name.shift_remove(name);
     }
 

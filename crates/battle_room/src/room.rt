@@ -1,6 +1,7 @@
 //! A room: what the members of a battle share.
 
-ghost use Rattle.std.specs.Prelude.{◌≡◌, ◌<◌, not, [], OnOk, OnErr, IfOk, IfErr, IfSome, is_some, option_copied, false};
+ghost use Rattle.std.specs.Prelude.{◌≡◌, ◌<◌, ◌||◌, not, [], OnOk, OnErr, IfOk, IfErr, IfSome, is_some, option_copied};
+ghost use Rattle.std.specs.Prelude.{false};
 ghost use Rattle.std.specs.List.{IsDistinct};
 ghost use Rattle.line_words.specs.Table.{same_name, at_number};
 ghost use Rattle.room_lists.specs.Room as room;
@@ -21,6 +22,13 @@ use std::marker::Model;
 
 /// A bot of a room.
 pub type Bot = room_lists::Bot<BattleStatus>;
+
+/// Whether one may change a bot, or remove it: its owner may, and the founder.
+pub fn may_change_bot(name: &NameBuf, is_founder: bool, bot: &Bot) -> bool
+    ensures { result ≡ (same_name name.now bot.now.owner || is_founder) }
+{
+    name.cmp(bot.owner()).is_eq() || is_founder
+}
 
 /// What the members of a battle share: who they are in order of joining, the founder first, bots,
 /// start rectangles, script tags and disabled units; and who asks to join, in order of asking.

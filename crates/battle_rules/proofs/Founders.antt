@@ -16,7 +16,7 @@ use Rattle.lobby_maps.specs.declared.change.Change.{Change}
 use Rattle.lobby_maps.specs.declared.change.Change.TheVariants.{InBattles}
 use Rattle.lobby_battles.specs.Battles.{AskOutside, asks_at, let_in}
 use Rattle.battle_rules.specs.BattleTalk.{stops_asking}
-use Rattle.lobby_guards.specs.Answers.{Obeyed}
+use Rattle.battle_rules.specs.Answers.{Obeyed}
 
 module _ (s : State) (me : List ℕ) (number : ℕ) (battle : Battle) (own : battle_of s me ≡ Some (number, battle))
     (founded : is_founder me battle ≡ true) where

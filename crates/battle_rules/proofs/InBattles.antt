@@ -33,8 +33,8 @@ use Rattle.lobby_battles.specs.declared.battles.BattleChange.TheVariants.{Open, 
 use Rattle.lobby_maps.specs.declared.change.Change.{Change}
 use Rattle.lobby_maps.specs.declared.change.Change.TheVariants.{Nothing, InBattles}
 use Rattle.lobby_maps.specs.Fit.{IsOwn}
-use Rattle.lobby_guards.specs.Answers.{Obeyed}
-use Rattle.lobby_guards.proofs.Obeying.{found_passes}
+use Rattle.battle_rules.specs.Answers.{Obeyed}
+use Rattle.battle_rules.proofs.Obeying.{found_passes}
 use Rattle.lobby_battles.specs.Battles.{CanEnter, IsNew, left_at, room_changed}
 use Rattle.battle_rules.specs.BattleTalk.{bots_gone, shown, shown_to, status_change, stops_asking}
 

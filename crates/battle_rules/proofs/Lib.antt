@@ -1,3 +1,5 @@
+pub mod Obeying
 pub mod InBattles
 pub mod Founders
 pub mod Joins
+pub mod Forced

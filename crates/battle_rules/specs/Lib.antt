@@ -1,2 +1,4 @@
+pub mod Answers
 pub mod Opening
 pub mod BattleTalk
+pub mod RoomTalk

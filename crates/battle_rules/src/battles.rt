@@ -4,7 +4,7 @@
 ghost use Rattle.std.specs.Prelude.{◌≡◌, [], ◌∷◌, ◌++◌, decimal, OnOk, IfOk, true, Some, is_some};
 ghost use Rattle.reply_kinds.specs.declared.Reply.TheVariants as reply;
 ghost use Rattle.line_words.specs.Table.{at_number};
-ghost use Rattle.room_lists.specs.Room.{asker_names, new_room};
+ghost use Rattle.room_lists.specs.Room.{asker_names, new_room, status_of};
 ghost use Rattle.lobby_model.specs.State.{name_of, updated};
 ghost use Rattle.lobby_model.specs.Outcome.{everyone, tell, user, users};
 ghost use Rattle.lobby_model.specs.Battles.{address, ip_text, leave_battle, leaves_battle, member_has, open_battle};
@@ -12,20 +12,17 @@ ghost use Rattle.lobby_model.specs.Battles.{opened_line, say_in_battle, set_own_
 ghost use Rattle.lobby_model.specs.Texts.{battle_was_closed};
 ghost use Rattle.lobby_model.specs.Commands.{answer};
 ghost use Rattle.lobby_post.specs.Posted.{Told};
-ghost use Rattle.lobby_guards.specs.Answers.{Answers};
+ghost use Rattle.battle_rules.specs.Answers.{Answers};
 ghost use Rattle.lobby_maps.specs.declared.change.Change.TheVariants.{InBattles};
 ghost use Rattle.lobby_battles.specs.declared.battles.BattleChange.TheVariants.{InRoom};
 ghost use Rattle.lobby_battles.specs.Battles.{IsNew};
 ghost use Rattle.battle_rules.specs.BattleTalk.{bots_gone, shown, shown_to, status_change, stops_asking};
-ghost use Rattle.battle_rules.specs.Opening.{game_hash_in, opens_one, password_in, started, HasTexts};
+ghost use Rattle.battle_rules.specs.Opening.{command_of, started, HasTexts};
 
+use crate::battle_guards::{asks_nowhere, founded_by, in_no_battle, next_number, own_battle};
+use crate::{Issuer, Refusal, Stop};
 use battle_room::Room;
-use command_grammar::Command;
 use line_words::{NameBuf, SentenceBuf, Text, WordBuf, write_number};
-use lobby_guards::battle_guards::{
-    asks_nowhere, founded_by, in_no_battle, next_number, own_battle,
-};
-use lobby_guards::{Issuer, Refusal, Stop};
 use lobby_maps::{Battle, BattleChange, Change, Maps, NO_PASSWORD, RoomChange};
 use lobby_post::{ClientKey, Post};
 use reply_kinds::{BattleNumber, Held, HeldText, Name, OpenedBattle, Reply, Sentence, Wide, Word};
@@ -39,6 +36,24 @@ pub enum Leaving {
     Seen,
     /// Others alone: it logs out.
     Unseen,
+}
+
+/// The battle that an `OPENBATTLE` asks for. Its fields are the command's, and what owns memory is lent.
+#[derive(Clone, Copy)]
+pub struct Opening<'a> {
+    pub battle_type: u8,
+    pub nat_type: u8,
+    pub password: &'a WordBuf,
+    pub port: u16,
+    pub max_players: u16,
+    pub game_hash: i64,
+    pub rank: i64,
+    pub map_hash: i64,
+    pub engine_name: &'a SentenceBuf,
+    pub engine_version: &'a SentenceBuf,
+    pub map: &'a SentenceBuf,
+    pub title: &'a SentenceBuf,
+    pub game_name: &'a SentenceBuf,
 }
 
 /// The texts that all are told of a battle.
@@ -73,17 +88,16 @@ struct Inside {
 }
 
 /// `OPENBATTLE`: the user is in no battle and asks to join none, and a number is left.
-pub fn open_battle(by: &Issuer, command: &Command, post: &mut Post) -> Result<Change, Stop>
+pub fn open_battle(by: &Issuer, opening: &Opening, post: &mut Post) -> Result<Change, Stop>
     requires me { name_of by.now.maps.now.plain by.now.client ≡ Some by.now.me.now }
     requires issuer { post.old.issuer ≡ by.now.client }
-    requires opens { opens_one command.now ≡ true }
     ensures { Answers by.now.maps.now.plain by.now.client post.old post.new
-        (answer by.now.maps.now.plain by.now.client (Some by.now.me.now) command.now) result }
+        (answer by.now.maps.now.plain by.now.client (Some by.now.me.now) (command_of opening.now)) result }
 {
     in_no_battle(by.maps, by.me, Refusal::OpensInBattle)?;
     asks_nowhere(by.maps, by.me, Refusal::OpensAsking)?;
     let number = next_number(by.maps)?;
-    let battle = new_battle(by, command)?;
+    let battle = new_battle(by, opening)?;
     match tell_opening(by.maps, by.me, number, &battle, post) {
         Ok(()) => Ok(Change::InBattles(BattleChange::Open {
             number,
@@ -114,17 +128,16 @@ fn tell_opening(
     Ok(())
 }
 
-/// The battle that a user opens by a command.
-fn new_battle(by: &Issuer, command: &Command) -> Result<Box<Battle>, AllocError>
+/// The battle that a user opens.
+fn new_battle(by: &Issuer, opening: &Opening) -> Result<Box<Battle>, AllocError>
     requires me { name_of by.now.maps.now.plain by.now.client ≡ Some by.now.me.now }
-    requires opens { opens_one command.now ≡ true }
     ensures asked { IfOk result (λ battle.
-        answer by.now.maps.now.plain by.now.client (Some by.now.me.now) command.now
+        answer by.now.maps.now.plain by.now.client (Some by.now.me.now) (command_of opening.now)
         ≡ open_battle by.now.maps.now.plain by.now.me.now battle.value) }
     ensures alone { IfOk result (λ battle. IsNew battle.value by.now.me.now) }
 {
-    let opened = opened_by(by, command)?;
-    match inside_of(by.maps, by.me, command) {
+    let opened = opened_by(by, opening)?;
+    match inside_of(by.maps, by.me, opening) {
         Ok(inside) => boxed_battle(by.maps.alloc(), opened, inside),
         Err(refused) => {
             drop(opened);
@@ -158,38 +171,25 @@ fn boxed_battle(
     }
 }
 
-/// What all are told of the battle that a user opens by a command.
-fn opened_by(by: &Issuer, command: &Command) -> Result<OpenedBattle, AllocError>
+/// What all are told of the battle that a user opens.
+fn opened_by(by: &Issuer, opening: &Opening) -> Result<OpenedBattle, AllocError>
     requires there { is_some (at_number by.now.maps.now.plain.clients by.now.client) ≡ true }
-    requires opens { opens_one command.now ≡ true }
-    ensures { IfOk result (λ opened. answer by.now.maps.now.plain by.now.client (Some by.now.me.now) command.now
+    ensures { IfOk result (λ opened.
+        answer by.now.maps.now.plain by.now.client (Some by.now.me.now) (command_of opening.now)
         ≡ open_battle by.now.maps.now.plain by.now.me.now
-        (started opened (password_in command.now) (game_hash_in command.now) (new_room by.now.me.now))) }
+        (started opened opening.now.password.now opening.now.game_hash (new_room by.now.me.now))) }
 {
-    let Command::OpenBattle {
-        battle_type,
-        nat_type,
-        password,
-        port,
-        max_players,
-        rank,
-        map_hash,
-        ..
-    } = command
-    else {
-        unreachable!()
-    };
-    let texts = texts_of(by.maps, by.client, command)?;
+    let texts = texts_of(by.maps, by.client, opening)?;
     Ok(OpenedBattle {
-        battle_type: *battle_type,
-        nat_type: *nat_type,
+        battle_type: opening.battle_type,
+        nat_type: opening.nat_type,
         founder: by.me.copy(),
         ip: texts.ip,
-        port: *port,
-        max_players: *max_players,
-        passworded: password.as_slice() != NO_PASSWORD,
-        rank: *rank,
-        map_hash: *map_hash,
+        port: opening.port,
+        max_players: opening.max_players,
+        passworded: opening.password.as_slice() != NO_PASSWORD,
+        rank: opening.rank,
+        map_hash: opening.map_hash,
         engine_name: texts.engine.name,
         engine_version: texts.engine.version,
         map: texts.labels.map,
@@ -198,51 +198,30 @@ fn opened_by(by: &Issuer, command: &Command) -> Result<OpenedBattle, AllocError>
     })
 }
 
-/// What the battle that a user opens by a command keeps from those outside.
-fn inside_of(maps: &Maps, me: &NameBuf, command: &Command) -> Result<Inside, AllocError>
-    requires { opens_one command.now ≡ true }
-    ensures password { IfOk result (λ inside. inside.password ≡ password_in command.now) }
-    ensures game_hash { IfOk result (λ inside. inside.game_hash ≡ game_hash_in command.now) }
+/// What the battle that a user opens keeps from those outside.
+fn inside_of(maps: &Maps, me: &NameBuf, opening: &Opening) -> Result<Inside, AllocError>
+    ensures password { IfOk result (λ inside. inside.password ≡ opening.now.password.now) }
+    ensures game_hash { IfOk result (λ inside. inside.game_hash ≡ opening.now.game_hash) }
     ensures room { IfOk result (λ inside. inside.room ≡ new_room me.now) }
 {
-    let Command::OpenBattle {
-        password,
-        game_hash,
-        ..
-    } = command
-    else {
-        unreachable!()
-    };
-    let password = WordBuf::copy_of(maps.alloc(), password.as_slice())?;
+    let password = WordBuf::copy_of(maps.alloc(), opening.password.as_slice())?;
     let room = Room::with_mark(maps.alloc(), me.copy(), maps.user_key(me), maps.seed())?;
     Ok(Inside {
         password,
-        game_hash: *game_hash,
+        game_hash: opening.game_hash,
         room,
     })
 }
 
-/// The texts that all are told of a battle which this client opens by a command.
-fn texts_of(maps: &Maps, client: u64, command: &Command) -> Result<Texts, AllocError>
-    requires there { is_some (at_number maps.now.plain.clients client) ≡ true }
-    requires opens { opens_one command.now ≡ true }
+/// The texts that all are told of a battle which this client opens.
+fn texts_of(maps: &Maps, client: u64, opening: &Opening) -> Result<Texts, AllocError>
+    requires { is_some (at_number maps.now.plain.clients client) ≡ true }
     ensures ip { IfOk result (λ texts. texts.ip ≡ address (at_number maps.now.plain.clients client)) }
-    ensures given { IfOk result (λ texts. HasTexts command.now texts) }
+    ensures given { IfOk result (λ texts. HasTexts opening.now texts) }
 {
-    let Command::OpenBattle {
-        engine_name,
-        engine_version,
-        map,
-        title,
-        game_name,
-        ..
-    } = command
-    else {
-        unreachable!()
-    };
     let ip = address_of(maps, client)?;
-    let engine = copy_engine(maps.alloc(), engine_name, engine_version)?;
-    match copy_labels(maps.alloc(), map, title, game_name) {
+    let engine = copy_engine(maps.alloc(), opening.engine_name, opening.engine_version)?;
+    match copy_labels(maps.alloc(), opening.map, opening.title, opening.game_name) {
         Ok(labels) => Ok(Texts { ip, engine, labels }),
         Err(refused) => {
             drop(ip);
@@ -428,11 +407,18 @@ pub fn my_battle_status(
         (set_own_status by.now.maps.now.plain by.now.me.now asked colour) result }
 {
     let (number, battle) = own_battle(by.maps, by.me)?;
-    let status = match battle.room.member(by.me) {
-        Some(member) => merge_battle(member.status(), asked),
-        None => unreachable!(),
-    };
+    let status = merge_battle(shown_by(by.me, &battle.room), asked);
     Ok(give_status(by.maps, number, battle, by.me, status, colour, post)?)
+}
+
+/// The status that the member of a name shows, 0 where there is none.
+fn shown_by(name: &NameBuf, room: &Room<ClientKey>) -> BattleStatus
+    ensures { result ≡ status_of name.now room.now }
+{
+    match room.member(name) {
+        Some(member) => member.status(),
+        None => BattleStatus::zero(),
+    }
 }
 
 /// A member of a battle has this status and colour from now on.

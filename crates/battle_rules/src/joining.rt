@@ -9,18 +9,18 @@ ghost use Rattle.lobby_model.specs.Outcome.{is_named, tell, user};
 ghost use Rattle.lobby_model.specs.Battles.{accept, address, asks_to_join, deny, join_battle, joining};
 ghost use Rattle.lobby_model.specs.Battles.{reason_or_default, room_lines};
 ghost use Rattle.lobby_post.specs.Posted.{Told};
-ghost use Rattle.lobby_guards.specs.Answers.{Answers};
+ghost use Rattle.battle_rules.specs.Answers.{Answers};
 ghost use Rattle.lobby_maps.specs.Recipients.{is_issuer};
 ghost use Rattle.lobby_maps.specs.declared.change.Change.TheVariants.{InBattles};
 ghost use Rattle.lobby_battles.specs.declared.battles.BattleChange.TheVariants.{Ask};
 
-use crate::battles::{address_of, stop_asking};
-use line_words::{NameBuf, Text, TextBuf, WordBuf};
-use lobby_guards::battle_guards::{
+use crate::battle_guards::{
     asker_named, asks_nowhere, battle_numbered, founded_by, in_no_battle, not_locked, own_battle,
     right_password,
 };
-use lobby_guards::{Issuer, Refusal, Stop};
+use crate::battles::{address_of, stop_asking};
+use crate::{Issuer, Refusal, Stop};
+use line_words::{NameBuf, Text, TextBuf, WordBuf};
 use lobby_maps::{Battle, BattleChange, Change, Maps, Recipient, write_line, write_room};
 use lobby_post::Post;
 use reply_kinds::{BattleNumber, Held, HeldText, Name, Reply, Wide, Word};

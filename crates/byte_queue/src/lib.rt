@@ -4,6 +4,9 @@
 //! nothing waits. Bytes are moved to the front only where at least as many were consumed before them. So each byte that
 //! moves is paid for by one that was consumed, which pays once only: all the moves together cost no more than all the
 //! bytes that were ever appended.
+//!
+//! `BytesMut` of the crate `bytes` is not used: it writes zeros into new room, and promises no room in a buffer that it
+//! is given, as an outbox is by its pool.
 #![tactic(auto)]
 
 ghost use Rattle.std.specs.Prelude.{◌≡◌, ◌+◌, ◌^◌, ◌<◌, ◌≤◌, ◌↔◌, [], ◌++◌, length, take, drop, vec_capacity, IsTrue};

@@ -108,8 +108,6 @@ impl<M: Copy> ChannelBook<M> {
         ensures ok { OnOk result (self.new ≡ joined channel user self.old) }
         ensures err { OnErr result (self.new ≡ self.old) }
     {
-        // Its contract says that the names of channels rise, which the proof wants of the channels as they were.
-        let _ = self.lists.len();
         let (place, member) = (channel.copy(), user.copy());
         self.places.add(&place, &member)?;
         if let Err(refused) = self.lists.add(channel, user, mark) {
@@ -142,8 +140,6 @@ impl<M: Copy> ChannelBook<M> {
     pub fn remove_member(&mut self, channel: &NameBuf, user: &NameBuf)
         ensures { self.new ≡ left channel.now user.now self.old }
     {
-        // Its contract says that the names of channels rise, which the proof wants of the channels as they were.
-        let _ = self.lists.len();
         self.lists.remove(channel, user);
         self.places.remove(channel, user);
     }

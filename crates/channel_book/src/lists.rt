@@ -46,11 +46,13 @@ impl<M: Copy> Lists<M> {
         }
     }
 
-    /// A user who is not in a channel joins it under a mark. Where memory is refused, nothing changes.
+    /// A user who is not in a channel joins it under a mark. Where memory is refused, nothing changes. The names of
+    /// channels rose.
     pub fn add(&mut self, channel: NameBuf, user: NameBuf, mark: M) -> Result<(), AllocError>
         requires { is_among user (names_in self.old channel) ≡ false }
         ensures ok { OnOk result (self.new ≡ joined channel user self.old) }
         ensures err { OnErr result (self.new ≡ self.old) }
+        ensures ordered { IsStrictlySortedBy name_cmp (keys_of self.old) }
     {
         if let Some(members) = self.channels.get_mut(&channel) {
             members.add(user, mark)?;
@@ -61,9 +63,10 @@ impl<M: Copy> Lists<M> {
         Ok(())
     }
 
-    /// A user is in a channel no more. Where it is not in it, nothing changes.
+    /// A user is in a channel no more. Where it is not in it, nothing changes. The names of channels rose.
     pub fn remove(&mut self, channel: &NameBuf, user: &NameBuf)
-        ensures { self.new ≡ left channel.now user.now self.old }
+        ensures left { self.new ≡ left channel.now user.now self.old }
+        ensures ordered { IsStrictlySortedBy name_cmp (keys_of self.old) }
     {
         if let Some(members) = self.channels.get_mut(channel) {
             if !members.remove(user) {

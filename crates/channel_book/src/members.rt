@@ -20,12 +20,17 @@ pub struct Members<M: Copy = ()> {
 }
 
 impl<M: Copy> Model for Members<M> {
-    ghost use Rattle.std.specs.Prelude.{List, ℕ};
+    ghost use Rattle.std.specs.Prelude.{List, ℕ, nat_eq};
+    ghost use Rattle.std.specs.Cmp.Lexicographic.{pointwise};
+    ghost use Rattle.std.specs.List.{IsDistinct};
     ghost use Rattle.indexmap.specs.IndexMap.{keys};
 
     ghost Value = { List (List ℕ) };
 
     ghost view = { λ m. keys m.marks };
+
+    // No name stands twice.
+    ghost invariant = { λ m. IsDistinct (pointwise nat_eq) (keys m.marks) };
 }
 
 impl<M: Copy> Members<M> {
@@ -75,8 +80,6 @@ impl<M: Copy> Members<M> {
         ensures names { self.new ≡ all_but name.now self.old }
         ensures rest { result ≡ has_names (all_but name.now self.old) }
     {
-        // Its contract says that no name stands twice, which the proof wants of the names as they were.
-        let _ = self.marks.len();
         let _ = self.marks.shift_remove(name);
         !self.marks.is_empty()
     }

@@ -6,14 +6,10 @@ ghost use Rattle.line_framer.specs.Framed.{next_line};
 ghost use Rattle.client_session.specs.OneSession.{AcceptsNext};
 ghost use Rattle.client_session.specs.Sessions.{Heard, IsNext, KeepsKinds, NeedsMemory, has_next};
 
-use command_grammar::{Request, read_request};
+use command_grammar::{LINE_LIMIT, Request, read_request};
 use line_framer::{FeedError, Framer};
 use std::alloc::{AllocError, Global};
 use std::marker::Model;
-
-/// The most bytes of a client's line before its LF, a CR that is dropped counted. Without a limit one
-/// client could fill the memory by a line that never ends.
-const LINE_LIMIT: usize = 8_192;
 
 /// What a client asks next.
 #[derive(Drop)]

@@ -4,7 +4,7 @@ use Rattle.line_framer.specs.Frames.{frames, is_spoilt, rest_of, without_cr}
 use Rattle.line_framer.specs.Buffered.{HasNoEnd}
 use Rattle.line_framer.proofs.Stands.{frames-append, spoilt-append, rest-append, spoilt_for_good}
 use Rattle.reply_kinds.specs.declared.Reply.{Reply}
-use Rattle.reply_reader.specs.Lines.{read_line}
+use Rattle.reply_grammar.specs.Lines.{read_line}
 use Rattle.lobby_view.specs.View.{new_view, shown_all}
 use Rattle.lobby_view.specs.Bytes.{frame_limit, one_read, all_read}
 use Rattle.lobby_view.proofs.Basics.{shown_all-append}

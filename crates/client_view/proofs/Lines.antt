@@ -11,7 +11,7 @@ use Rattle.line_framer.proofs.Limit.{spoilt_in}
 use Rattle.line_framer.proofs.Stands.{frames-append, spoilt-append}
 use Rattle.reply_kinds.specs.declared.Reply.{Reply}
 use Rattle.reply_kinds.specs.Replies.{Line}
-use Rattle.reply_reader.specs.Lines.{read_line}
+use Rattle.reply_grammar.specs.Lines.{read_line}
 use Rattle.lobby_view.specs.View.{View, shown_all}
 use Rattle.lobby_view.specs.Bytes.{frame_limit, all_read, one_read}
 use Rattle.lobby_view.proofs.Basics.{shown_all-append}

@@ -3,8 +3,8 @@ use Rattle.std.proofs.Common.{◌≡◌, ◌∙◌, ℕ, List, [], refl, sym, ap
 use Rattle.std.specs.Prelude.{Option, Some, None}
 use Rattle.line_framer.specs.Frames.{without_cr}
 use Rattle.reply_kinds.specs.declared.Reply.{Reply}
-use Rattle.reply_reader.specs.Heads.{with_id}
-use Rattle.reply_reader.specs.Lines.{read_line}
+use Rattle.reply_grammar.specs.Heads.{with_id}
+use Rattle.reply_grammar.specs.Lines.{read_line}
 use Rattle.lobby_view.specs.Bytes.{one_read}
 use Rattle.client_view.specs.Told.{told}
 

@@ -1,7 +1,6 @@
 pub mod Battles
 pub mod Following
 pub mod Kept
-pub mod Kinds
 pub mod Names
 pub mod Refused
 pub mod RoomKept

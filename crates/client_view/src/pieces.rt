@@ -3,7 +3,7 @@
 ghost use Rattle.std.specs.Prelude.{◌≡◌, ◌+◌, ◌++◌, ◌≤◌, true, false, OnOk, OnErr, IfOk, length, drop};
 ghost use Rattle.line_framer.specs.Buffered.{IsFirstEnd, IsLastEnd};
 ghost use Rattle.line_framer.specs.Frames as frames;
-ghost use Rattle.reply_reader.specs.Lines.{read_line};
+ghost use Rattle.reply_grammar.specs.Lines.{read_line};
 ghost use Rattle.lobby_view.specs.View.{shown_all};
 ghost use Rattle.lobby_view.specs.Bytes.{all_read, one_read};
 ghost use Rattle.noted_map.specs.Undoable.{Changes};

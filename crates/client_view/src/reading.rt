@@ -3,7 +3,7 @@
 ghost use Rattle.std.specs.Prelude.{◌≡◌, OnOk, OnErr, IfOk, length};
 ghost use Rattle.line_framer.specs.Frames as frames;
 ghost use Rattle.reply_kinds.specs.declared.command_word.CommandWord.TheVariants as command;
-ghost use Rattle.reply_reader.specs.Lines.{read_arguments, read_line};
+ghost use Rattle.reply_grammar.specs.Lines.{read_arguments, read_line};
 ghost use Rattle.lobby_view.specs.View.{shown_all};
 ghost use Rattle.lobby_view.specs.Bytes.{one_read};
 ghost use Rattle.noted_map.specs.Undoable.{Changes};
@@ -12,8 +12,8 @@ ghost use Rattle.client_view.specs.Told.{told};
 
 use crate::undoable_known::UndoableKnown;
 use line_framer::without_cr;
+use reply_grammar::{Head, read_client_status, read_head, read_said};
 use reply_kinds::{CommandWord, Held, Name};
-use reply_reader::{Head, read_client_status, read_head, read_said};
 use std::alloc::AllocError;
 
 impl UndoableKnown {
@@ -90,7 +90,9 @@ impl UndoableKnown {
     {
         match head.reply(self.known.alloc) {
             Ok(Some(reply)) => {
-                self.fold(&reply)?;
+                let folded = self.fold(&reply);
+                reply.discard();
+                folded?;
                 Ok(1)
             }
             Ok(None) => Ok(0),

@@ -94,33 +94,7 @@ impl UndoableKnown {
                 self.accepted(user);
                 Ok(())
             }
-            Reply::AddUser { .. } | Reply::RemoveUser { .. } | Reply::ClientStatus { .. } => self
-                .known
-                .fold_users(reply),
-            Reply::Join { .. }
-            | Reply::Clients { .. }
-            | Reply::Joined { .. }
-            | Reply::Left { .. } => self.known.fold_channels(reply),
-            Reply::OpenBattle { .. }
-            | Reply::BattleClosed { .. }
-            | Reply::JoinBattle { .. }
-            | Reply::JoinedBattle { .. }
-            | Reply::LeftBattle { .. }
-            | Reply::UpdateBattleInfo { .. } => self.known.fold_battles(reply),
-            Reply::BattleOpened { .. } => self.known.battle_opened(reply),
-            Reply::ClientBattleStatus { .. }
-            | Reply::AddBot { .. }
-            | Reply::UpdateBot { .. }
-            | Reply::RemoveBot { .. }
-            | Reply::AddStartRect { .. }
-            | Reply::RemoveStartRect { .. }
-            | Reply::SetScriptTags { .. }
-            | Reply::RemoveScriptTags { .. }
-            | Reply::DisableUnits { .. }
-            | Reply::EnableUnits { .. }
-            | Reply::EnableAllUnits => self.known.fold_room(reply),
-            // What is said, asked or refused. By the contract it is only what changes nothing.
-            _ => Ok(()),
+            _ => self.known.fold(reply),
         }
     }
 

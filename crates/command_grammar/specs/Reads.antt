@@ -10,6 +10,10 @@ use Rattle.command_grammar.specs.declared.command.Request.{Request}
 use Rattle.command_grammar.specs.Arguments.{IsFault}
 use Rattle.command_grammar.specs.Forms.{command_named, Form}
 
+-- a client's line has at most so many bytes before its LF, a CR that is dropped counted
+abbrev pub line_limit : ℕ
+line_limit = 8192
+
 -- the largest message id
 abbrev pub id_limit : ℕ
 id_limit = 2147483647

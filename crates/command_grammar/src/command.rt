@@ -1,4 +1,4 @@
-//! What a line asks for, with its arguments by name and in their order on the line.
+//! What a line asks for, with its arguments by name and in their order on the line; and the table of commands.
 
 use line_words::{NameBuf, PairList, SentenceBuf, TextBuf, WordBuf, WordList};
 
@@ -20,7 +20,7 @@ pub enum ReadFault {
     BadPair,
 }
 
-/// What a line asks for: one of the 36 commands, nothing, or a line that could not be read.
+/// What a line asks for: one of the commands, nothing, or a line that could not be read.
 #[derive(Drop)]
 pub enum Command {
     /// The line has no text.
@@ -207,6 +207,84 @@ pub enum Command {
     Ring {
         user: NameBuf,
     },
+}
+
+/// The table of commands: a row for each, its command word and its fields with their kinds in the order in which
+/// they stand on a line, those of the frequent ones first. The search for a command word, reading and printing are
+/// written out from it. `specs/Table.antt` says the same.
+///
+/// It gives the rows to another macro, behind what that one is given. Behind `=>` stands what reads a row that no other
+/// command has.
+#[macro_export]
+macro_rules! with_commands {
+    ($write:ident($($given:ident),*)) => {
+        $write! {
+            ($($given),*)
+            users {
+                Ping b"PING" {}
+                Exit b"EXIT" {}
+                Login b"LOGIN" {
+                    user_name: Word, password: Word, cpu: Wide, local_ip: Word, lobby: Sentence, authorises: LoginFlags
+                } => login
+                MyStatus b"MYSTATUS" { status: Natural(4294967295) } => my_status
+                Channels b"CHANNELS" {}
+                Join b"JOIN" { channel: Name, key: OptionalWord } => join
+                Leave b"LEAVE" { channel: Name }
+                Say b"SAY" { channel: Name, text: Text }
+                SayEx b"SAYEX" { channel: Name, text: Text }
+                SayPrivate b"SAYPRIVATE" { user: Name, text: Text }
+            }
+            battles {
+                OpenBattle b"OPENBATTLE" {
+                    battle_type: Natural(1), nat_type: Natural(2), password: Word, port: Natural(65535),
+                    max_players: Natural(65535), game_hash: Wide, rank: Wide, map_hash: Wide, engine_name: Sentence,
+                    engine_version: Sentence, map: Sentence, title: Sentence, game_name: Sentence
+                } => open_battle
+                JoinBattle b"JOINBATTLE" {
+                    battle: Natural(2147483647), password: OptionalWord, script_password: OptionalWord
+                } => join_battle
+                JoinBattleAccept b"JOINBATTLEACCEPT" { user: Name }
+                JoinBattleDeny b"JOINBATTLEDENY" { user: Name, reason: OptionalText } => join_battle_deny
+                LeaveBattle b"LEAVEBATTLE" {}
+                UpdateBattleInfo b"UPDATEBATTLEINFO" {
+                    spectator_count: Natural(65535), locked: Flag, map_hash: Wide, map: Sentence
+                } => update_battle_info
+                MyBattleStatus b"MYBATTLESTATUS" {
+                    battle_status: Natural(4294967295), team_color: Wide
+                } => my_battle_status
+                SayBattle b"SAYBATTLE" { text: Text }
+                SayBattleEx b"SAYBATTLEEX" { text: Text }
+            }
+            rooms {
+                AddBot b"ADDBOT" {
+                    bot: Word, battle_status: Natural(4294967295), team_color: Wide, ai: Sentence
+                } => add_bot
+                UpdateBot b"UPDATEBOT" {
+                    bot: Word, battle_status: Natural(4294967295), team_color: Wide
+                } => update_bot
+                RemoveBot b"REMOVEBOT" { bot: Word } => remove_bot
+                AddStartRect b"ADDSTARTRECT" {
+                    ally_no: Natural(15), left: Natural(200), top: Natural(200), right: Natural(200),
+                    bottom: Natural(200)
+                } => add_start_rect
+                RemoveStartRect b"REMOVESTARTRECT" { ally_no: Natural(15) } => remove_start_rect
+                SetScriptTags b"SETSCRIPTTAGS" { pairs: Pairs } => set_script_tags
+                RemoveScriptTags b"REMOVESCRIPTTAGS" { keys: Words }
+                DisableUnits b"DISABLEUNITS" { units: Words }
+                EnableUnits b"ENABLEUNITS" { units: Words }
+                EnableAllUnits b"ENABLEALLUNITS" {}
+            }
+            hosts {
+                Handicap b"HANDICAP" { user: Name, value: Natural(100) }
+                ForceTeamNo b"FORCETEAMNO" { user: Name, number: Natural(15) }
+                ForceAllyNo b"FORCEALLYNO" { user: Name, number: Natural(15) }
+                ForceTeamColor b"FORCETEAMCOLOR" { user: Name, team_color: Wide } => force_team_color
+                ForceSpectatorMode b"FORCESPECTATORMODE" { user: Name }
+                KickFromBattle b"KICKFROMBATTLE" { user: Name }
+                Ring b"RING" { user: Name }
+            }
+        }
+    };
 }
 
 impl Command {

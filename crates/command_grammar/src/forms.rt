@@ -75,7 +75,7 @@ fn copy_of_login(alloc: Global, login: &LentLogin<'_>) -> Result<Command, AllocE
 }
 
 /// Reads the arguments of MYSTATUS.
-pub fn my_status(rest: &[u8]) -> Result<Command, ReadError>
+pub fn my_status(_alloc: Global, rest: &[u8]) -> Result<Command, ReadError>
     requires { IsTrue (is_text rest.now) }
     ensures { Gives result (row_at status_row command.MyStatus rest.now) }
 {
@@ -315,7 +315,7 @@ pub fn update_battle_info(alloc: Global, rest: &[u8]) -> Result<Command, ReadErr
 }
 
 /// Reads the arguments of MYBATTLESTATUS.
-pub fn my_battle_status(rest: &[u8]) -> Result<Command, ReadError>
+pub fn my_battle_status(_alloc: Global, rest: &[u8]) -> Result<Command, ReadError>
     requires { IsTrue (is_text rest.now) }
     ensures { Gives result (row_at battle_status_row command.MyBattleStatus rest.now) }
 {
@@ -385,7 +385,7 @@ pub fn remove_bot(alloc: Global, rest: &[u8]) -> Result<Command, ReadError>
 }
 
 /// Reads the arguments of ADDSTARTRECT.
-pub fn add_start_rect(rest: &[u8]) -> Result<Command, ReadError>
+pub fn add_start_rect(_alloc: Global, rest: &[u8]) -> Result<Command, ReadError>
     requires { IsTrue (is_text rest.now) }
     ensures { Gives result (row_at add_rectangle_row command.AddStartRect rest.now) }
 {
@@ -412,7 +412,7 @@ fn lower_right(ally_no: u8, left: u8, top: u8, rest: &[u8]) -> Result<Command, R
 }
 
 /// Reads the arguments of REMOVESTARTRECT.
-pub fn remove_start_rect(rest: &[u8]) -> Result<Command, ReadError>
+pub fn remove_start_rect(_alloc: Global, rest: &[u8]) -> Result<Command, ReadError>
     requires { IsTrue (is_text rest.now) }
     ensures { Gives result (row_at remove_rectangle_row command.RemoveStartRect rest.now) }
 {

@@ -23,4 +23,4 @@ mod table;
 pub use command::{Command, ReadFault, Request};
 pub use fault::ReadError;
 pub use laws::{fits_into_its_line, keeps_kinds, reads_as_one_request};
-pub use reading::read_request;
+pub use reading::{LINE_LIMIT, read_request};

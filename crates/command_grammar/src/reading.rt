@@ -17,6 +17,10 @@ use std::alloc::{AllocError, Global};
 /// larger one again.
 const ID_LIMIT: i64 = 2147483647;
 
+/// The most bytes of a client's line before its LF, a CR that is dropped counted. Without a limit one
+/// client could fill the memory by a line that never ends.
+pub const LINE_LIMIT: usize = 8_192;
+
 /// What the line asks for: the one request that it reads as. `line` is a client's line without its
 /// end, whatever its bytes and its length. A line that is no command is a request too: its command
 /// says which fault comes first.

@@ -1,7 +1,7 @@
-//! The table of commands: a line for each has its word, and what reads the arguments behind it.
+//! Reading by the table of commands.
 //!
 //! A word is looked for in one part of the table after another, as `specs/Table.antt` has them. Each part
-//! is a function, since one over all lines is proved slower.
+//! is a function, since one over all rows is proved slower.
 
 ghost use Rattle.std.specs.Prelude.{◌≡◌, IsTrue};
 ghost use Rattle.line_words.specs.Bytes.{is_text};
@@ -11,9 +11,62 @@ ghost use Rattle.command_grammar.specs.Table.{entries, battle_entries, room_entr
 
 use crate::command::{Command, ReadFault};
 use crate::fault::ReadError;
-use crate::forms;
 use crate::rows::{name_and_number, name_and_text, one_name, one_text, some_words};
+use crate::{forms, with_commands};
 use std::alloc::Global;
+
+/// Reads by the rows of one part, and what stands in none of them by the next part.
+macro_rules! read_part {
+    ((users, $($given:ident),*) users $rows:tt $($others:tt)*) => { read_rows!(($($given),*) $rows) };
+    ((battles, $($given:ident),*) users $users:tt battles $rows:tt $($others:tt)*) => {
+        read_rows!(($($given),*) $rows)
+    };
+    ((rooms, $($given:ident),*) users $users:tt battles $battles:tt rooms $rows:tt $($others:tt)*) => {
+        read_rows!(($($given),*) $rows)
+    };
+    ((hosts, $($given:ident),*) users $users:tt battles $battles:tt rooms $rooms:tt hosts $rows:tt) => {
+        read_rows!(($($given),*) $rows)
+    };
+}
+
+macro_rules! read_rows {
+    (($alloc:ident, $word:ident, $rest:ident $(, $next:ident)?)
+        { $($name:ident $text:literal $row:tt $(=> $form:ident)?)* }
+    ) => {
+        match $word {
+            $(_ if is($word, $text) => read_row!($alloc, $rest, $name $row $(=> $form)?),)*
+            _ => read_next!($alloc, $word, $rest $(, $next)?),
+        }
+    };
+}
+
+macro_rules! read_next {
+    ($alloc:ident, $word:ident, $rest:ident, $next:ident) => { $next($alloc, $word, $rest) };
+    ($alloc:ident, $word:ident, $rest:ident) => { Err(ReadError::Fault(ReadFault::UnknownCommand)) };
+}
+
+/// Reads one row: by its form, or by what reads all rows of these kinds.
+macro_rules! read_row {
+    ($alloc:ident, $rest:ident, $name:ident $row:tt => $form:ident) => { forms::$form($alloc, $rest) };
+    ($alloc:ident, $rest:ident, $name:ident {}) => { Ok(Command::$name) };
+    ($alloc:ident, $rest:ident, $name:ident { $field:ident: Name }) => {
+        Ok(Command::$name { $field: one_name($alloc, $rest)? })
+    };
+    ($alloc:ident, $rest:ident, $name:ident { $field:ident: Text }) => {
+        Ok(Command::$name { $field: one_text($alloc, $rest)? })
+    };
+    ($alloc:ident, $rest:ident, $name:ident { $field:ident: Words }) => {
+        Ok(Command::$name { $field: some_words($alloc, $rest)? })
+    };
+    ($alloc:ident, $rest:ident, $name:ident { $first:ident: Name, $second:ident: Text }) => {{
+        let ($first, $second) = name_and_text($alloc, $rest)?;
+        Ok(Command::$name { $first, $second })
+    }};
+    ($alloc:ident, $rest:ident, $name:ident { $first:ident: Name, $second:ident: Natural($high:literal) }) => {{
+        let ($first, $second) = name_and_number($alloc, $rest, $high)?;
+        Ok(Command::$name { $first, $second })
+    }};
+}
 
 /// The command of a word, byte for byte, and of the arguments behind it. Users and channels, the
 /// frequent ones first, since they are tried in this order.
@@ -22,30 +75,7 @@ pub(crate) fn read_arguments(alloc: Global, word: &[u8], rest: &[u8]) -> Result<
     requires { IsTrue (is_text rest.now) }
     ensures { Gives result (known_at (entry_named entries word.now) rest.now) }
 {
-    match word {
-        _ if is(word, b"PING") => Ok(Command::Ping),
-        _ if is(word, b"EXIT") => Ok(Command::Exit),
-        _ if is(word, b"LOGIN") => forms::login(alloc, rest),
-        _ if is(word, b"MYSTATUS") => forms::my_status(rest),
-        _ if is(word, b"CHANNELS") => Ok(Command::Channels),
-        _ if is(word, b"JOIN") => forms::join(alloc, rest),
-        _ if is(word, b"LEAVE") => Ok(Command::Leave {
-            channel: one_name(alloc, rest)?,
-        }),
-        _ if is(word, b"SAY") => {
-            let (channel, text) = name_and_text(alloc, rest)?;
-            Ok(Command::Say { channel, text })
-        }
-        _ if is(word, b"SAYEX") => {
-            let (channel, text) = name_and_text(alloc, rest)?;
-            Ok(Command::SayEx { channel, text })
-        }
-        _ if is(word, b"SAYPRIVATE") => {
-            let (user, text) = name_and_text(alloc, rest)?;
-            Ok(Command::SayPrivate { user, text })
-        }
-        _ => of_battle(alloc, word, rest),
-    }
+    with_commands!(read_part(users, alloc, word, rest, of_battle))
 }
 
 /// Battles.
@@ -54,24 +84,7 @@ fn of_battle(alloc: Global, word: &[u8], rest: &[u8]) -> Result<Command, ReadErr
     requires { IsTrue (is_text rest.now) }
     ensures { Gives result (known_at (entry_named battle_entries word.now) rest.now) }
 {
-    match word {
-        _ if is(word, b"OPENBATTLE") => forms::open_battle(alloc, rest),
-        _ if is(word, b"JOINBATTLE") => forms::join_battle(alloc, rest),
-        _ if is(word, b"JOINBATTLEACCEPT") => Ok(Command::JoinBattleAccept {
-            user: one_name(alloc, rest)?,
-        }),
-        _ if is(word, b"JOINBATTLEDENY") => forms::join_battle_deny(alloc, rest),
-        _ if is(word, b"LEAVEBATTLE") => Ok(Command::LeaveBattle),
-        _ if is(word, b"UPDATEBATTLEINFO") => forms::update_battle_info(alloc, rest),
-        _ if is(word, b"MYBATTLESTATUS") => forms::my_battle_status(rest),
-        _ if is(word, b"SAYBATTLE") => Ok(Command::SayBattle {
-            text: one_text(alloc, rest)?,
-        }),
-        _ if is(word, b"SAYBATTLEEX") => Ok(Command::SayBattleEx {
-            text: one_text(alloc, rest)?,
-        }),
-        _ => of_room(alloc, word, rest),
-    }
+    with_commands!(read_part(battles, alloc, word, rest, of_room))
 }
 
 /// Bots, start rectangles, script tags and units.
@@ -80,25 +93,7 @@ fn of_room(alloc: Global, word: &[u8], rest: &[u8]) -> Result<Command, ReadError
     requires { IsTrue (is_text rest.now) }
     ensures { Gives result (known_at (entry_named room_entries word.now) rest.now) }
 {
-    match word {
-        _ if is(word, b"ADDBOT") => forms::add_bot(alloc, rest),
-        _ if is(word, b"UPDATEBOT") => forms::update_bot(alloc, rest),
-        _ if is(word, b"REMOVEBOT") => forms::remove_bot(alloc, rest),
-        _ if is(word, b"ADDSTARTRECT") => forms::add_start_rect(rest),
-        _ if is(word, b"REMOVESTARTRECT") => forms::remove_start_rect(rest),
-        _ if is(word, b"SETSCRIPTTAGS") => forms::set_script_tags(alloc, rest),
-        _ if is(word, b"REMOVESCRIPTTAGS") => Ok(Command::RemoveScriptTags {
-            keys: some_words(alloc, rest)?,
-        }),
-        _ if is(word, b"DISABLEUNITS") => Ok(Command::DisableUnits {
-            units: some_words(alloc, rest)?,
-        }),
-        _ if is(word, b"ENABLEUNITS") => Ok(Command::EnableUnits {
-            units: some_words(alloc, rest)?,
-        }),
-        _ if is(word, b"ENABLEALLUNITS") => Ok(Command::EnableAllUnits),
-        _ => of_host(alloc, word, rest),
-    }
+    with_commands!(read_part(rooms, alloc, word, rest, of_host))
 }
 
 /// What a founder does to players.
@@ -107,31 +102,7 @@ fn of_host(alloc: Global, word: &[u8], rest: &[u8]) -> Result<Command, ReadError
     requires { IsTrue (is_text rest.now) }
     ensures { Gives result (known_at (entry_named host_entries word.now) rest.now) }
 {
-    match word {
-        _ if is(word, b"HANDICAP") => {
-            let (user, value) = name_and_number(alloc, rest, 100)?;
-            Ok(Command::Handicap { user, value })
-        }
-        _ if is(word, b"FORCETEAMNO") => {
-            let (user, number) = name_and_number(alloc, rest, 15)?;
-            Ok(Command::ForceTeamNo { user, number })
-        }
-        _ if is(word, b"FORCEALLYNO") => {
-            let (user, number) = name_and_number(alloc, rest, 15)?;
-            Ok(Command::ForceAllyNo { user, number })
-        }
-        _ if is(word, b"FORCETEAMCOLOR") => forms::force_team_color(alloc, rest),
-        _ if is(word, b"FORCESPECTATORMODE") => Ok(Command::ForceSpectatorMode {
-            user: one_name(alloc, rest)?,
-        }),
-        _ if is(word, b"KICKFROMBATTLE") => Ok(Command::KickFromBattle {
-            user: one_name(alloc, rest)?,
-        }),
-        _ if is(word, b"RING") => Ok(Command::Ring {
-            user: one_name(alloc, rest)?,
-        }),
-        _ => Err(ReadError::Fault(ReadFault::UnknownCommand)),
-    }
+    with_commands!(read_part(hosts, alloc, word, rest))
 }
 
 fn is(word: &[u8], name: &[u8]) -> bool

@@ -1,7 +1,7 @@
 -- What a call that prints a request answers.
 use Rattle.std.specs.Prelude.{◌≡◌, ◌++◌, ◌⊎◌, ℕ, nat_le, List, length, drop, Result, MatchBool}
-use Rattle.lobby_tables.specs.Answers.{ok, no_memory, no_room, no_command, bad_fields, out_of_range, nothing_listed}
-use Rattle.lobby_tables.specs.Answers.{word_skipped, request_too_long}
+use Rattle.lobby_lines.specs.Answers.{ok, no_memory, no_room, no_command, bad_fields, out_of_range, nothing_listed}
+use Rattle.lobby_lines.specs.Answers.{word_skipped, request_too_long}
 use Rattle.command_grammar.specs.declared.command.Request.{Request}
 use Rattle.lobby_lines.specs.declared.error.RequestError.{RequestError}
 use Rattle.lobby_lines.specs.declared.error.RequestError.TheVariants as error

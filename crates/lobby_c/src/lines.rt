@@ -2,17 +2,17 @@
 
 ghost use Rattle.std.specs.Prelude.{◌≡◌, ◌∷◌, [], IsTrue, nat_eq};
 ghost use Rattle.std.specs.List.{list_any};
-ghost use Rattle.lobby_tables.specs.Answers.{lent, no_memory, no_reply, ok, Shows};
+ghost use Rattle.lobby_lines.specs.Answers.{lent, no_memory, no_reply, ok, Shows};
 ghost use Rattle.reply_kinds.specs.Replies.{Line, ReadsAs};
 ghost use Rattle.lobby_lines.specs.Fields.{field_row, field_shown};
 ghost use Rattle.lobby_lines.specs.Replies.{fields_of, HeadOf};
 ghost use Rattle.lobby_lines.specs.Requests.{request_of};
 ghost use Rattle.lobby_c.specs.Lines.{Gave, Told, status_of};
 
-use lobby_lines::{FieldRow, HeadRow, ReplyRead, RequestError, print_request, read_reply};
-use lobby_tables::{
-    BAD_FIELDS, NO_COMMAND, NO_MEMORY, NO_REPLY, NO_ROOM, NOTHING_LISTED, OK, OUT_OF_RANGE,
-    REQUEST_TOO_LONG, Size, WORD_SKIPPED, answer,
+use lobby_lines::{
+    BAD_FIELDS, FieldRow, HeadRow, NO_COMMAND, NO_MEMORY, NO_REPLY, NO_ROOM, NOTHING_LISTED, OK,
+    OUT_OF_RANGE, REQUEST_TOO_LONG, ReplyRead, RequestError, Size, WORD_SKIPPED, answer,
+    print_request, read_reply,
 };
 use std::alloc::Global;
 

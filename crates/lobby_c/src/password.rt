@@ -2,10 +2,10 @@
 
 ghost use Rattle.std.specs.Prelude.{◌≡◌, nat_eq, length, if◌then◌else◌};
 ghost use Rattle.account_book.specs.Password.{word_of};
-ghost use Rattle.lobby_tables.specs.Answers.{ok, no_room};
+ghost use Rattle.lobby_lines.specs.Answers.{ok, no_room};
 
 use account_book::password_word;
-use lobby_tables::{NO_ROOM, OK};
+use lobby_lines::{NO_ROOM, OK};
 
 /// The word that stands for a password in LOGIN, as `password_word`: `OK`. `NO_ROOM` where `word` is not 24 bytes long,
 /// and then nothing changes.

@@ -3,13 +3,13 @@
 ghost use Rattle.std.specs.Prelude.{◌≡◌, None, IfSome};
 ghost use Rattle.std.specs.Option.{option_map};
 ghost use Rattle.line_words.specs.Table.{at_number};
-ghost use Rattle.lobby_tables.specs.Answers.{lent, ok, not_there, ShowsIf};
-ghost use Rattle.lobby_tables.specs.Layout.{place, itself};
-ghost use Rattle.lobby_tables.specs.Rows.{member_row, member_shown, bot_row, bot_shown, tag_row, tag_shown, rect_row};
+ghost use Rattle.lobby_lines.specs.Answers.{lent, ok, not_there, ShowsIf};
+ghost use Rattle.lobby_lines.specs.Layout.{place, itself};
+ghost use Rattle.lobby_lines.specs.Rows.{member_row, member_shown, bot_row, bot_shown, tag_row, tag_shown, rect_row};
 ghost use Rattle.lobby_c.specs.Slot.{content, IsFull};
 
 use crate::slot::Slot;
-use lobby_tables::{BotRow, MemberRow, NOT_THERE, OK, Place, RectRow, Size, Table, TagRow, answer};
+use lobby_lines::{BotRow, MemberRow, NOT_THERE, OK, Place, RectRow, Size, Table, TagRow, answer};
 use std::alloc::Global;
 
 /// The number of the battle that the client is in: `OK`. `NOT_THERE`, and then `battle` stays as it was.

@@ -5,14 +5,14 @@ ghost use Rattle.std.specs.Map.{keys_of};
 ghost use Rattle.std.specs.Option.{option_map};
 ghost use Rattle.line_words.specs.Bytes.{is_name};
 ghost use Rattle.line_words.specs.Table.{at_name, at_number};
-ghost use Rattle.lobby_tables.specs.Answers.{lent, Shows, ShowsIf};
-ghost use Rattle.lobby_tables.specs.Layout.{place, itself};
-ghost use Rattle.lobby_tables.specs.Rows.{user_row, user_shown, battle_row, battle_shown};
+ghost use Rattle.lobby_lines.specs.Answers.{lent, Shows, ShowsIf};
+ghost use Rattle.lobby_lines.specs.Layout.{place, itself};
+ghost use Rattle.lobby_lines.specs.Rows.{user_row, user_shown, battle_row, battle_shown};
 ghost use Rattle.lobby_c.specs.Slot.{content, IsFull};
 
 use crate::slot::Slot;
 use line_words::NameBuf;
-use lobby_tables::{
+use lobby_lines::{
     BattleRow, NOT_THERE, Place, Size, Table, UserRow, answer, battle_table, channel_table,
     text_table, user_table,
 };

@@ -3,12 +3,12 @@
 ghost use Rattle.std.specs.Prelude.{◌≡◌, ℕ, true, false, nat_eq, [], ◌∷◌, Some, None, IsTrue};
 ghost use Rattle.std.specs.List.{list_any};
 ghost use Rattle.client_view.specs.Following.{Followed, TookIn, HasNew};
-ghost use Rattle.lobby_tables.specs.Answers.{ok, no_memory, line_too_long};
+ghost use Rattle.lobby_lines.specs.Answers.{ok, no_memory, line_too_long};
 ghost use Rattle.lobby_c.specs.Slot.{content, IsFull};
 
 use crate::slot::Slot;
 use client_view::{View, ViewError};
-use lobby_tables::{LINE_TOO_LONG, NO_MEMORY, OK};
+use lobby_lines::{LINE_TOO_LONG, NO_MEMORY, OK};
 use std::alloc::Global;
 
 /// Fills an empty view with that of a client that was sent nothing: `OK`. `NO_MEMORY`, and then it stays empty.

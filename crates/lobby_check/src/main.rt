@@ -17,7 +17,7 @@ Exit status: 0 a server can be started by the files, 2 it cannot, or wrong argum
 fn main(rt: HostRuntime) -> ExitCode {
     match program_help::answers(&rt, "lobby_check", HELP) {
         Ok(true) => ExitCode::SUCCESS,
-        Ok(false) => ExitCode::from(lobby_files::check(&rt)),
+        Ok(false) => ExitCode::from(lobby_setup::check(&rt)),
         Err(_) => {
             let _ = rt.eprintln("no memory");
             ExitCode::from(2)

@@ -1,2 +1,4 @@
+pub mod Gathered
+pub mod Progress
 pub mod Table
 pub mod Timeouts

@@ -2,9 +2,9 @@
 
 ghost use Rattle.std.specs.Prelude.{◌≡◌, true};
 
+use crate::wire_link::WireLink;
 use lobby_turns::{Conn, Got, Link, Sent};
 use mio::event::Event;
-use wire_link::WireLink;
 
 /// A client and its link.
 #[derive(Drop)]

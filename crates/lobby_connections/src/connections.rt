@@ -1,14 +1,16 @@
 //! The connections of a worker, and who gets the next turn.
 
-ghost use Rattle.std.specs.Prelude.{◌≡◌, ◌⊎◌, ◌↔◌, ◌+◌, ◌-◌, ◌/◌, ◌^◌, ◌<◌, ◌≤◌, ◌||◌, [], ◌++◌, true, false, length};
-ghost use Rattle.std.specs.Prelude.{max, min, None, IfSome, IsTrue, OnOk, OnSome};
+ghost use Rattle.std.specs.Prelude.{◌≡◌, ◌≢◌, ◌⊎◌, ◌↔◌, ◌+◌, ◌-◌, ◌/◌, ◌^◌, ◌<◌, ◌≤◌, ◌||◌, [], ◌++◌, true, false};
+ghost use Rattle.std.specs.Prelude.{length, max, min, None, IfSome, IsTrue, OnOk, OnSome};
 ghost use Rattle.std.specs.Option.{option_to_list};
 ghost use Rattle.lobby_post.specs.Mask.{has_home};
-ghost use Rattle.lobby_connections.specs.Table.{Leaves, Stays, due_count, next_key, with_left};
-ghost use Rattle.lobby_connections.specs.Timeouts.{shorter};
+ghost use Rattle.lobby_connections.specs.Table.{IsIdle, Leaves, Stays, due_count, next_key, with_left};
+ghost use Rattle.lobby_connections.specs.Timeouts.{StaysAwake, shorter};
 
 use crate::connection::Connection;
+use crate::lingering::Lingering;
 use crate::poll_timeout::PollTimeout;
+use crate::wire_link::WireLink;
 use lobby_lock::{Held, MOST_EVENTS};
 use lobby_machine::Wakes;
 use lobby_turns::{Buffers, Conn, TurnState};
@@ -20,7 +22,6 @@ use std::alloc::{AllocError, Global};
 use std::collections::HashMap;
 use std::marker::Model;
 use std::mem;
-use wire_link::{Lingering, WireLink};
 
 /// The most names that are taken in a hold, so that no other worker waits long for the lobby.
 pub const NAMES_IN_HOLD: usize = 64;
@@ -106,6 +107,7 @@ impl Model for Connections {
     ghost use Rattle.std.specs.HashMap.{spare};
     ghost use Rattle.slab.specs.Slab.{slab_len};
     ghost use Rattle.lobby_connections.specs.Table.{Table};
+    ghost use Rattle.lobby_connections.specs.Timeouts.{StaysAwake};
 
     ghost Value = { Table };
 
@@ -127,6 +129,8 @@ impl Model for Connections {
           c.slab.capacity;
       room = min (c.slab.capacity - slab_len c.slab) (spare c.keys);
     } };
+
+    ghost invariant = { λ c. StaysAwake c.left.items c.is_each_left c.timeout };
 }
 
 impl Connections {
@@ -167,11 +171,18 @@ impl Connections {
         }
     }
 
-    /// How long the worker may wait before the next round.
+    /// How long the worker may wait before the next round: not at all while somebody is due, or is named, or may be;
+    /// and never without end while somebody is left over.
     pub fn poll_timeout(&self) -> PollTimeout
-        ensures { result ≡ self.now.timeout }
+        ensures idle { IsIdle self.now → result ≡ self.now.timeout }
+        ensures busy { IsIdle self.now ⊎ (result ≡ PollTimeout.Zero) }
+        ensures awake { StaysAwake self.now.left self.now.is_each_left result }
     {
-        self.timeout
+        if self.has_due() || self.is_marked || !self.named.is_empty() {
+            PollTimeout::Zero
+        } else {
+            self.timeout
+        }
     }
 
     /// Has the worker wait no longer than this before the next round.
@@ -272,7 +283,7 @@ impl Connections {
     }
 
     /// Whether some are due who had no turn yet.
-    pub fn has_due(&self) -> bool
+    fn has_due(&self) -> bool
         ensures { IsTrue result ↔ (self.now.served < due_count self.now) }
     {
         self.served < self.due()
@@ -432,6 +443,7 @@ impl Connections {
 
     /// A connection is left for the next round, before which the worker waits no longer than this.
     fn leave(&mut self, key: usize, timeout: PollTimeout)
+        requires { timeout ≢ PollTimeout.Endless }
         ensures { Leaves self.old self.new key timeout }
     {
         self.hurry(timeout);

@@ -3,8 +3,8 @@ use Rattle.std.proofs.lemmas.Grind.{common_steps}
 use Rattle.std.proofs.Common.{◌≡◌, arith, ◌+◌, ◌++◌, ℕ, List, [], ◌∷◌, length, take, refl, sym, subst, ap, ◌∙◌}
 use Rattle.std.proofs.lemmas.List.{append-nil}
 use Rattle.std.specs.Prelude.{flat_map, slice_get, Some}
-use Rattle.lobby_tables.specs.Layout.{rows_from}
-use Rattle.lobby_tables.proofs.Laying.{next_taken}
+use Rattle.lobby_lines.specs.Layout.{rows_from}
+use Rattle.lobby_lines.proofs.Laying.{next_taken}
 use Rattle.lobby_lines.specs.declared.fields.FieldRow.{FieldRow}
 use Rattle.lobby_lines.specs.Fields.{Field, Laid, Adds, field_row, field_shown}
 

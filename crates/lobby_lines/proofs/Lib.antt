@@ -1,7 +1,8 @@
 mod Adding
+pub mod Laying
 mod Numbers
 mod ReplyGoing
 mod RequestGoing
-mod Rows
+mod RequestRows
 mod Telling
 mod Values

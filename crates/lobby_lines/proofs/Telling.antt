@@ -2,16 +2,16 @@
 use Rattle.std.proofs.Common.{◌≡◌, ◌++◌, ℕ, List, [], ◌∷◌, length, refl, sym, ap, subst, ◌∙◌, append_assoc, cond}
 use Rattle.std.specs.Prelude.{Option, Some, None, Bool, true, false, ◌==◌}
 use Rattle.std.proofs.lemmas.List.{append-nil}
-use Rattle.lobby_tables.specs.Layout.{IsTable}
+use Rattle.lobby_lines.specs.Layout.{IsTable}
 use Rattle.reply_kinds.specs.declared.command_word.CommandWord.{CommandWord}
 use Rattle.reply_kinds.specs.declared.command_word.CommandWord.TheVariants as command
 use Rattle.reply_kinds.specs.Kinds.{Kind, Value, Values}
 use Rattle.reply_kinds.specs.Replies.{kinds_of, command_of, Line, ReadsAs}
-use Rattle.reply_fields.specs.Fields.{◌>>=◌, if_end}
-use Rattle.reply_reader.specs.Reading.{field, fields, shaped}
-use Rattle.reply_reader.specs.Lines.{read_arguments, read_line, reply_of_values}
-use Rattle.reply_reader.specs.Heads.{with_id}
-use Rattle.reply_reader.proofs.Behind.{reads_reply, reads_none}
+use Rattle.reply_grammar.specs.Fields.{◌>>=◌, if_end}
+use Rattle.reply_grammar.specs.Reading.{field, fields, shaped}
+use Rattle.reply_grammar.specs.Lines.{read_arguments, read_line, reply_of_values}
+use Rattle.reply_grammar.specs.Heads.{with_id}
+use Rattle.reply_grammar.proofs.Behind.{reads_reply, reads_none}
 use Rattle.lobby_lines.specs.declared.fields.FieldRow.{FieldRow}
 use Rattle.lobby_lines.specs.declared.fields.HeadRow.{HeadRow}
 use Rattle.lobby_lines.specs.Fields.{Field, Laid, laid, Adds, field_row, field_shown}

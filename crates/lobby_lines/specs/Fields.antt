@@ -1,7 +1,7 @@
 -- The fields of a line, and how they lie in a table.
 use Rattle.std.specs.Prelude.{◌≡◌, ◌++◌, ℕ, ℤ, pos, List, [], length, flat_map}
-use Rattle.lobby_tables.specs.declared.table.Place.{Place}
-use Rattle.lobby_tables.specs.Layout.{place, rows_from}
+use Rattle.lobby_lines.specs.declared.table.Place.{Place}
+use Rattle.lobby_lines.specs.Layout.{place, rows_from}
 use Rattle.lobby_lines.specs.declared.fields.FieldRow.{FieldRow}
 
 pub data Field : Type 0 where

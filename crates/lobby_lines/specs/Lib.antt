@@ -1,6 +1,9 @@
+pub mod Answers
 pub mod Fields
+pub mod Layout
 pub mod Reading
 pub mod Replies
 pub mod RequestTable
 pub mod Requests
+pub mod Rows
 pub mod Writing

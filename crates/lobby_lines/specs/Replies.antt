@@ -1,5 +1,5 @@
 -- The fields of a reply, and the head of its line.
-use Rattle.std.specs.Prelude.{◌≡◌, ◌++◌, ℕ, zero, suc, pos, Bool, true, false, List, [], ◌∷◌, flat_map, Option, Some}
+use Rattle.std.specs.Prelude.{◌≡◌, ◌++◌, ℕ, zero, suc, pos, List, [], ◌∷◌, flat_map, Option, Some}
 use Rattle.std.specs.Prelude.{None, slice_get}
 use Rattle.line_words.specs.declared.lists.Pair.{Pair}
 use Rattle.reply_kinds.specs.declared.Reply.{Reply}
@@ -7,11 +7,12 @@ use Rattle.reply_kinds.specs.declared.command_word.CommandWord.{CommandWord}
 use Rattle.reply_kinds.specs.Kinds as kind
 use Rattle.reply_kinds.specs.Kinds.{Kind, Value, Values}
 use Rattle.reply_kinds.specs.Replies.{battle_number, status_word, port_number, command_of, kinds_of, values_of, Line}
-use Rattle.reply_reader.specs.Lines.{commands}
+use Rattle.reply_grammar.specs.Lines.{commands}
 use Rattle.lobby_lines.specs.declared.fields.HeadRow.{HeadRow}
 use Rattle.lobby_lines.specs.declared.reply_table.ReplyKind.{ReplyKind}
 use Rattle.lobby_lines.specs.declared.reply_table.ReplyKind.TheVariants as ours
 use Rattle.lobby_lines.specs.Fields.{Field, Absent, Text, Number}
+use Rattle.lobby_lines.specs.Rows.{bit}
 
 -- what a kind is called in the protocol's table
 abbrev pub kind_of : ReplyKind → Kind
@@ -33,10 +34,6 @@ kind_of ours.Pairs = kind.Pairs
 
 abbrev pub one_text : List ℕ → List Field
 one_text bytes = Text bytes ∷ []
-
-abbrev pub bit : Bool → ℕ
-bit false = 0
-bit true = 1
 
 -- key and value
 abbrev pub two_texts : Pair → List Field

@@ -1,10 +1,10 @@
 //! Fields of a line as rows.
 
 ghost use Rattle.std.specs.Prelude.{◌≡◌, ◌++◌, IfOk, [], ◌∷◌, length};
-ghost use Rattle.lobby_tables.specs.Layout.{place};
+ghost use Rattle.lobby_lines.specs.Layout.{place};
 ghost use Rattle.lobby_lines.specs.Fields.{Laid, laid, Absent, Text, Number, Adds, row};
 
-use lobby_tables::{Place, Table, put_text};
+use crate::table::{Place, Table, put_text};
 use std::alloc::{AllocError, Global};
 use std::marker::Model;
 

@@ -8,11 +8,9 @@ use crate::error::RequestError;
 use crate::fields::{FieldRow, HeadRow};
 use crate::request_arguments::put_arguments;
 use crate::request_table::row_of;
+use command_grammar::LINE_LIMIT;
 use reply_printer::pieces::{put_end, put_id};
 use std::alloc::Global;
-
-/// The most bytes that a line of a client has before its LF.
-const LINE_LIMIT: usize = 8192;
 
 /// The line, with its LF, of the request of this kind, message id and fields, as `print_request` of `request_printer`
 /// prints it. The fields stand in the order of docs/PROTOCOL.md, section 3, and their texts are places in `text`. Fails

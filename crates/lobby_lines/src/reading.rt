@@ -1,7 +1,7 @@
 //! A line of the server, read as the fields of its reply.
 
 ghost use Rattle.std.specs.Prelude.{◌≡◌, ℕ, List, IfNone, IfOk, IfSome};
-ghost use Rattle.lobby_tables.specs.Layout.{IsTable};
+ghost use Rattle.lobby_lines.specs.Layout.{IsTable};
 ghost use Rattle.reply_kinds.specs.Replies.{Line, ReadsAs};
 ghost use Rattle.lobby_lines.specs.Fields.{field_row, field_shown};
 ghost use Rattle.lobby_lines.specs.Replies.{fields_of, HeadOf, IdIs};
@@ -9,9 +9,8 @@ ghost use Rattle.lobby_lines.specs.Replies.{fields_of, HeadOf, IdIs};
 use crate::fields::{FieldRow, Fields, HeadRow};
 use crate::reply_arguments::put_arguments;
 use crate::reply_table::{kinds_of, number_of};
-use lobby_tables::Table;
-use reply_fields::ReadError;
-use reply_reader::read_head;
+use crate::table::Table;
+use reply_grammar::{ReadError, read_head};
 use std::alloc::{AllocError, Global};
 
 /// The reply that a line prints as.
@@ -22,7 +21,7 @@ pub struct ReplyRead {
     pub fields: Table<FieldRow>,
 }
 
-/// The head and the fields of the reply that a line, without its LF, reads as, as `read_reply` of `reply_reader`: it
+/// The head and the fields of the reply that a line, without its LF, reads as, as `read_reply` of `reply_grammar`: it
 /// keeps its kinds and prints as the line. None where there is no such reply. Fails only where memory is refused.
 pub fn read_reply(alloc: Global, line: &[u8]) -> Result<Option<ReplyRead>, AllocError>
     ensures some { IfOk result (λ found. IfSome found (λ read.

@@ -45,7 +45,8 @@ pub(crate) fn number_of(command: CommandWord) -> u32
     command as u32 + 1
 }
 
-/// The kinds of the arguments behind a command word, in their order.
+/// The kinds of the arguments behind a command word, in their order: a line for each row.
+#[rattlefmt::skip]
 pub(crate) fn kinds_of(command: CommandWord) -> &'static [ReplyKind]
     ensures { map kind_of result.now ≡ kinds_of command }
 {
@@ -53,37 +54,17 @@ pub(crate) fn kinds_of(command: CommandWord) -> &'static [ReplyKind]
         CommandWord::TasServer => &[Word, Word, Port, Small(1)],
         CommandWord::AddUser => &[Name, Word, Wide, Status],
         CommandWord::ClientStatus | CommandWord::Channel => &[Name, Status],
-        CommandWord::Denied
-        | CommandWord::Motd
-        | CommandWord::ServerMsg
-        | CommandWord::OpenBattleFailed
+        CommandWord::Denied | CommandWord::Motd | CommandWord::ServerMsg | CommandWord::OpenBattleFailed
         | CommandWord::JoinBattleFailed => &[Text],
-        CommandWord::Accepted | CommandWord::RemoveUser | CommandWord::Join | CommandWord::Ring =>
-            &[Name],
+        CommandWord::Accepted | CommandWord::RemoveUser | CommandWord::Join | CommandWord::Ring => &[Name],
         CommandWord::Clients => &[Name, Names],
         CommandWord::Joined | CommandWord::Left => &[Name, Name],
         CommandWord::Said | CommandWord::SaidEx => &[Name, Name, Text],
-        CommandWord::JoinFailed
-        | CommandWord::SayPrivate
-        | CommandWord::SaidPrivate
-        | CommandWord::SaidBattle
+        CommandWord::JoinFailed | CommandWord::SayPrivate | CommandWord::SaidPrivate | CommandWord::SaidBattle
         | CommandWord::SaidBattleEx => &[Name, Text],
         CommandWord::BattleOpened => &[
-            Battle,
-            Small(1),
-            Small(2),
-            Name,
-            Word,
-            Port,
-            Port,
-            Flag,
-            Wide,
-            Wide,
-            Sentence,
-            NextSentence,
-            NextSentence,
-            NextSentence,
-            NextSentence,
+            Battle, Small(1), Small(2), Name, Word, Port, Port, Flag, Wide, Wide,
+            Sentence, NextSentence, NextSentence, NextSentence, NextSentence,
         ],
         CommandWord::OpenBattle | CommandWord::BattleClosed => &[Battle],
         CommandWord::JoinBattle => &[Battle, Wide],
@@ -98,14 +79,8 @@ pub(crate) fn kinds_of(command: CommandWord) -> &'static [ReplyKind]
         CommandWord::AddStartRect => &[Small(15), Small(200), Small(200), Small(200), Small(200)],
         CommandWord::RemoveStartRect => &[Small(15)],
         CommandWord::SetScriptTags => &[Pairs],
-        CommandWord::RemoveScriptTags | CommandWord::DisableUnits | CommandWord::EnableUnits => &[
-            Words,
-        ],
-        CommandWord::LoginInfoEnd
-        | CommandWord::Pong
-        | CommandWord::EndOfChannels
-        | CommandWord::RequestBattleStatus
-        | CommandWord::ForceQuitBattle
-        | CommandWord::EnableAllUnits => &[],
+        CommandWord::RemoveScriptTags | CommandWord::DisableUnits | CommandWord::EnableUnits => &[Words],
+        CommandWord::LoginInfoEnd | CommandWord::Pong | CommandWord::EndOfChannels | CommandWord::RequestBattleStatus
+        | CommandWord::ForceQuitBattle | CommandWord::EnableAllUnits => &[],
     }
 }

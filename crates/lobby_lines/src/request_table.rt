@@ -1,4 +1,4 @@
-//! The table of requests: of each its command word and the kinds of its arguments.
+//! The table of requests, by that of commands: of each its command word and the kinds of its arguments.
 
 ghost use Rattle.std.specs.Prelude.{◌≡◌, IfNone, IfSome, None};
 ghost use Rattle.command_grammar.specs.Table.{entries};
@@ -9,6 +9,7 @@ use crate::request_table::RequestKind::{
     Flag, LoginFlags, Name, Natural, OptionalText, OptionalWord, Pairs, Sentence, Text, Wide, Word,
     Words,
 };
+use command_grammar::with_commands;
 
 /// The kind of an argument of a request, as docs/PROTOCOL.md has them.
 #[derive(Clone, Copy)]
@@ -38,173 +39,19 @@ pub(crate) struct RequestRow {
     pub(crate) kinds: &'static [RequestKind],
 }
 
+/// The rows of all commands.
+macro_rules! rows_of_commands {
+    (()
+        $($part:ident {
+            $($name:ident $word:literal { $($field:ident: $kind:ident $(($high:literal))?),* } $(=> $form:ident)?)*
+        })*
+    ) => {
+        [$($(RequestRow { word: $word, kinds: &[$($kind $(($high))?),*] }),*),*]
+    };
+}
+
 /// The requests in the order of their numbers, from 1 on.
-static REQUESTS: [RequestRow; 36] = [
-    RequestRow {
-        word: b"PING",
-        kinds: &[],
-    },
-    RequestRow {
-        word: b"EXIT",
-        kinds: &[],
-    },
-    RequestRow {
-        word: b"LOGIN",
-        kinds: &[Word, Word, Wide, Word, Sentence, LoginFlags],
-    },
-    RequestRow {
-        word: b"MYSTATUS",
-        kinds: &[Natural(4294967295)],
-    },
-    RequestRow {
-        word: b"CHANNELS",
-        kinds: &[],
-    },
-    RequestRow {
-        word: b"JOIN",
-        kinds: &[Name, OptionalWord],
-    },
-    RequestRow {
-        word: b"LEAVE",
-        kinds: &[Name],
-    },
-    RequestRow {
-        word: b"SAY",
-        kinds: &[Name, Text],
-    },
-    RequestRow {
-        word: b"SAYEX",
-        kinds: &[Name, Text],
-    },
-    RequestRow {
-        word: b"SAYPRIVATE",
-        kinds: &[Name, Text],
-    },
-    RequestRow {
-        word: b"OPENBATTLE",
-        kinds: &[
-            Natural(1),
-            Natural(2),
-            Word,
-            Natural(65535),
-            Natural(65535),
-            Wide,
-            Wide,
-            Wide,
-            Sentence,
-            Sentence,
-            Sentence,
-            Sentence,
-            Sentence,
-        ],
-    },
-    RequestRow {
-        word: b"JOINBATTLE",
-        kinds: &[Natural(2147483647), OptionalWord, OptionalWord],
-    },
-    RequestRow {
-        word: b"JOINBATTLEACCEPT",
-        kinds: &[Name],
-    },
-    RequestRow {
-        word: b"JOINBATTLEDENY",
-        kinds: &[Name, OptionalText],
-    },
-    RequestRow {
-        word: b"LEAVEBATTLE",
-        kinds: &[],
-    },
-    RequestRow {
-        word: b"UPDATEBATTLEINFO",
-        kinds: &[Natural(65535), Flag, Wide, Sentence],
-    },
-    RequestRow {
-        word: b"MYBATTLESTATUS",
-        kinds: &[Natural(4294967295), Wide],
-    },
-    RequestRow {
-        word: b"SAYBATTLE",
-        kinds: &[Text],
-    },
-    RequestRow {
-        word: b"SAYBATTLEEX",
-        kinds: &[Text],
-    },
-    RequestRow {
-        word: b"ADDBOT",
-        kinds: &[Word, Natural(4294967295), Wide, Sentence],
-    },
-    RequestRow {
-        word: b"UPDATEBOT",
-        kinds: &[Word, Natural(4294967295), Wide],
-    },
-    RequestRow {
-        word: b"REMOVEBOT",
-        kinds: &[Word],
-    },
-    RequestRow {
-        word: b"ADDSTARTRECT",
-        kinds: &[
-            Natural(15),
-            Natural(200),
-            Natural(200),
-            Natural(200),
-            Natural(200),
-        ],
-    },
-    RequestRow {
-        word: b"REMOVESTARTRECT",
-        kinds: &[Natural(15)],
-    },
-    RequestRow {
-        word: b"SETSCRIPTTAGS",
-        kinds: &[Pairs],
-    },
-    RequestRow {
-        word: b"REMOVESCRIPTTAGS",
-        kinds: &[Words],
-    },
-    RequestRow {
-        word: b"DISABLEUNITS",
-        kinds: &[Words],
-    },
-    RequestRow {
-        word: b"ENABLEUNITS",
-        kinds: &[Words],
-    },
-    RequestRow {
-        word: b"ENABLEALLUNITS",
-        kinds: &[],
-    },
-    RequestRow {
-        word: b"HANDICAP",
-        kinds: &[Name, Natural(100)],
-    },
-    RequestRow {
-        word: b"FORCETEAMNO",
-        kinds: &[Name, Natural(15)],
-    },
-    RequestRow {
-        word: b"FORCEALLYNO",
-        kinds: &[Name, Natural(15)],
-    },
-    RequestRow {
-        word: b"FORCETEAMCOLOR",
-        kinds: &[Name, Wide],
-    },
-    RequestRow {
-        word: b"FORCESPECTATORMODE",
-        kinds: &[Name],
-    },
-    RequestRow {
-        word: b"KICKFROMBATTLE",
-        kinds: &[Name],
-    },
-    RequestRow {
-        word: b"RING",
-        kinds: &[Name],
-    },
-];
+static REQUESTS: [RequestRow; 36] = with_commands!(rows_of_commands());
 
 /// The request of this number.
 pub(crate) fn row_of(kind: u32) -> Option<&'static RequestRow>

@@ -15,7 +15,7 @@ use Rattle.lobby_maps.specs.declared.change.Change.{Change}
 use Rattle.lobby_post.specs.Posted.{Posted, begun}
 use Rattle.lobby_post.specs.Mail.{IsWakes}
 use Rattle.lobby_maps.specs.Changes.{Matches, changed}
-use Rattle.lobby_guards.specs.Answers.{Obeyed}
+use Rattle.battle_rules.specs.Answers.{Obeyed}
 
 module _ (s : State) (c : ℕ) (request : Request) where
   module _ (live : hears s c ≡ true) (post : Posted) (change : Change)

@@ -18,7 +18,7 @@ use Rattle.lobby_post.specs.Mail.{parted}
 use Rattle.lobby_post.specs.Posted.{Posted, Told, but_issuer}
 use Rattle.lobby_post.proofs.Telling.{told_nothing, told_then}
 use Rattle.lobby_maps.specs.declared.change.Change.TheVariants.{LogOut}
-use Rattle.lobby_guards.specs.Answers.{Obeyed}
+use Rattle.battle_rules.specs.Answers.{Obeyed}
 use Rattle.lobby_battles.specs.Battles.{IsOnly, left_at, left_battle, room_changed, unasked, left_own, unasked_own}
 use Rattle.lobby_maps.specs.Changes.{first_of, parts}
 use Rattle.battle_rules.specs.BattleTalk.{left_battle_letters}

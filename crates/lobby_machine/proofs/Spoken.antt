@@ -16,11 +16,11 @@ use Rattle.lobby_post.specs.Posted.{Posted, Told}
 use Rattle.lobby_post.proofs.Telling.{told_then}
 use Rattle.lobby_battles.specs.declared.seats.Seat.{Seat}
 use Rattle.lobby_maps.specs.declared.change.Change.TheVariants.{Nothing, Status, LogIn}
-use Rattle.lobby_guards.specs.declared.refusal.Refusal.{Refusal}
-use Rattle.lobby_guards.specs.declared.refusal.Stop.{Stop}
-use Rattle.lobby_guards.specs.declared.refusal.Stop.TheVariants as stop
+use Rattle.battle_rules.specs.declared.refusal.Refusal.{Refusal}
+use Rattle.battle_rules.specs.declared.refusal.Stop.{Stop}
+use Rattle.battle_rules.specs.declared.refusal.Stop.TheVariants as stop
 use Rattle.lobby_battles.specs.Seats.{user_in}
-use Rattle.lobby_guards.specs.Answers.{Obeyed, Answers, Refuses, refusal_reply}
+use Rattle.battle_rules.specs.Answers.{Obeyed, Answers, Refuses, refusal_reply}
 use Rattle.line_words.proofs.Options.{none_from_is_some}
 
 pub status_set : (s : State) (c : ℕ) (me name : List ℕ) (asked status word : ℕ) (old new : Posted) → name ≡ me

@@ -9,8 +9,8 @@ use Rattle.lobby_model.specs.Channels.{name_lines, join, joins, list_channels}
 use Rattle.lobby_post.specs.Posted.{Posted, Told, addressed, blank, with_own}
 use Rattle.lobby_post.proofs.Telling.{told_then, told_as_one, told_own_lines, with_own_more}
 use Rattle.lobby_maps.specs.declared.change.Change.TheVariants.{Nothing, Join}
-use Rattle.lobby_guards.specs.Answers.{Obeyed}
-use Rattle.lobby_guards.proofs.Obeying.{passes}
+use Rattle.battle_rules.specs.Answers.{Obeyed}
+use Rattle.battle_rules.proofs.Obeying.{passes}
 use Rattle.lobby_machine.specs.Talk.{channel_lines}
 
 pub joins_so : (s : State) (c : ℕ) (old a b new : Posted) (me channel : List ℕ) (names : List (List ℕ)) (name_copy channel_copy : List ℕ)

@@ -254,6 +254,7 @@ fn list_len(command: &Command) -> usize
         Command::DisableUnits { units } | Command::EnableUnits { units } => units.as_slice().len(),
         Command::SetScriptTags { pairs } => pairs.as_slice().len(),
         Command::RemoveScriptTags { keys } => keys.as_slice().len(),
+        // the definition goes by the kinds of arguments, so what lists words or pairs is not among these
         _ => 0,
     }
 }

@@ -7,20 +7,21 @@ ghost use Rattle.lobby_model.specs.State.{State, hears, name_of};
 ghost use Rattle.lobby_model.specs.Outcome.{tell, issuer};
 ghost use Rattle.lobby_model.specs.Commands.{answer};
 ghost use Rattle.lobby_post.specs.Posted.{begun, Told};
-ghost use Rattle.lobby_guards.specs.Answers.{Answers, Obeyed, refusal_reply};
+ghost use Rattle.battle_rules.specs.Answers.{Answers, Obeyed, refusal_reply};
 
 mod channels;
+mod guards;
 mod session;
 
 use battle_room::Rect;
-use battle_rules::{battles, joining};
+use battle_rules::battles::Opening;
+use battle_rules::rooms::{self, Force};
+use battle_rules::{Issuer, Refusal, Stop, battles, joining};
 use command_grammar::Command;
 use line_words::NameBuf;
-use lobby_guards::{Issuer, Refusal, Stop};
 use lobby_maps::{Change, Maps};
 use lobby_post::Post;
 use reply_kinds::{Held, HeldText, Name, Reply, Text};
-use room_rules::rooms::{self, Force};
 pub use session::close;
 use std::alloc::AllocError;
 
@@ -135,7 +136,38 @@ fn answer_user(by: &Issuer, command: &Command, post: &mut Post) -> Result<Change
         }
         Command::SayPrivate { user, text } => channels::say_private(by, user, text, post),
         Command::Channels => channels::list_channels(by, post),
-        Command::OpenBattle { .. } => battles::open_battle(by, command, post),
+        Command::OpenBattle {
+            battle_type,
+            nat_type,
+            password,
+            port,
+            max_players,
+            game_hash,
+            rank,
+            map_hash,
+            engine_name,
+            engine_version,
+            map,
+            title,
+            game_name,
+        } => {
+            let opening = Opening {
+                battle_type: *battle_type,
+                nat_type: *nat_type,
+                password,
+                port: *port,
+                max_players: *max_players,
+                game_hash: *game_hash,
+                rank: *rank,
+                map_hash: *map_hash,
+                engine_name,
+                engine_version,
+                map,
+                title,
+                game_name,
+            };
+            battles::open_battle(by, &opening, post)
+        }
         Command::JoinBattle {
             battle,
             password,

@@ -8,7 +8,6 @@ use Rattle.std.proofs.lemmas.List.Elements.{filter-append}
 use Rattle.std.specs.Cmp.{eq_by_cmp_equiv}
 use Rattle.reply_kinds.specs.declared.Reply.{Reply}
 use Rattle.reply_kinds.specs.declared.opened_battle.OpenedBattle.{OpenedBattle}
-use Rattle.reply_kinds.specs.Opened.{battle_opened}
 use Rattle.reply_kinds.specs.declared.Reply.TheVariants as reply
 use Rattle.line_words.specs.Table.{ByNumber, all_but, same_name}
 use Rattle.line_words.proofs.Tables.{name_cmp_total}
@@ -109,7 +108,7 @@ rect_told put put_more start now next places i d within before more =
 
 -- a battle
 pub battle_told : (start a b c : Posted) (n : ℕ) (battle : Battle) (opened : OpenedBattle) (spectators : ℕ) (locked : Bool)
-    → a ≡ with_own start (battle_opened n opened ∷ []) → b ≡ with_own a (reply.UpdateBattleInfo n spectators locked opened.map_hash opened.map ∷ [])
+    → a ≡ with_own start (reply.BattleOpened n opened ∷ []) → b ≡ with_own a (reply.UpdateBattleInfo n spectators locked opened.map_hash opened.map ∷ [])
     → c ≡ with_own b (guest_lines n battle) → info_of opened spectators locked ≡ battle.info → c ≡ with_own start (battle_lines n battle)
 battle_told start a b c n battle opened spectators locked first second third same =
     let info : Info = info_of opened spectators locked in

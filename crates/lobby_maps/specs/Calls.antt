@@ -6,7 +6,7 @@ use Rattle.line_words.specs.Table.{same_number}
 use Rattle.lobby_model.specs.declared.event.Event.{Event}
 use Rattle.lobby_model.specs.declared.event.Event.TheVariants as event
 use Rattle.lobby_model.specs.State.{State}
-use Rattle.lobby_model.specs.Sessions.{has_place}
+use Rattle.lobby_model.specs.Sessions.{client_limit, has_place}
 use Rattle.lobby_model.specs.Next.{next}
 use Rattle.lobby_maps.specs.Dirty.{DirtyAfter}
 use Rattle.lobby_maps.specs.Shown.{Shown, dirty_at, unread_of}
@@ -34,7 +34,7 @@ ListsOpened old new home client = (worker : ℕ) → worker ≤ 63
 
 -- there are as many clients as there may be
 abbrev pub IsFull : Shown → Type 0
-IsFull lobby = 10000 ≤ length lobby.plain.clients
+IsFull lobby = client_limit ≤ length lobby.plain.clients
 
 -- the last number was given
 abbrev pub HasNoNumber : Shown → Type 0

@@ -21,6 +21,8 @@ pub fn greeting_of(alloc: Global, settings: &Settings) -> Result<Vec<u8>, AllocE
         server_mode: UpTo(settings.server_mode()),
     };
     let mut line = Vec::new(alloc);
-    print(&reply, None, &mut line)?;
+    let printed = print(&reply, None, &mut line);
+    reply.discard();
+    printed?;
     Ok(line)
 }

@@ -77,14 +77,13 @@ impl Maps {
         self.seats.users.contains_key(name)
     }
 
-    /// The status of the user of this name, where somebody of it is logged in.
-    pub fn status_of(&self, name: &NameBuf) -> Option<UserStatus>
-        ensures status { IfSome result (λ status. status ≡ status_in (at_name self.now.plain.users name.now)) }
-        ensures there { (client : ℕ) → name_of self.now.plain client ≡ Some name.now → is_some result ≡ true }
+    /// The status of the user of this name; 0 where nobody of it is logged in.
+    pub fn status_of(&self, name: &NameBuf) -> UserStatus
+        ensures { result ≡ status_in (at_name self.now.plain.users name.now) }
     {
         match self.seats.users.get(name) {
-            Some(seat) => Some(seat.status),
-            None => None,
+            Some(seat) => seat.status,
+            None => UserStatus::of_account(0, false, false),
         }
     }
 

@@ -23,14 +23,10 @@ use battle_room::HashSeed;
 use channel_book::ChannelBook;
 use line_words::NameBuf;
 use lobby_battles::{Battle, Battles, Seats};
-use lobby_model::Settings;
+use lobby_model::{CLIENT_LIMIT, Settings};
 use lobby_post::{ClientKey, Clients, Drained, Post, Wakes};
 use std::alloc::{AllocError, Global};
 use std::marker::Model;
-
-/// The most clients that are not yet disconnected. Without a limit connects alone could fill the
-/// memory, since each client has an outbox.
-pub const CLIENT_LIMIT: usize = 10_000;
 
 /// Whether an open gets a number.
 #[derive(Clone, Copy, PartialEq, Eq, Debug)]

@@ -23,3 +23,22 @@ info_of opened spectators locked = record {
   spectators = spectators;
   locked = locked;
 }
+
+-- what is told of it as it opens
+abbrev pub told_of : Info → OpenedBattle
+told_of info = record {
+  battle_type = info.battle_type;
+  nat_type = info.nat_type;
+  founder = info.founder;
+  ip = info.ip;
+  port = info.port;
+  max_players = info.max_players;
+  passworded = info.passworded;
+  rank = info.rank;
+  map_hash = info.map_hash;
+  engine_name = info.engine_name;
+  engine_version = info.engine_version;
+  map = info.map;
+  title = info.title;
+  game_name = info.game_name;
+}

@@ -7,6 +7,7 @@ use Rattle.toml_fields.specs.declared.fault.FieldFault.{FieldFault}
 use Rattle.toml_fields.specs.declared.fault.FieldFault.TheVariants.{NotAllowed}
 use Rattle.proxy_line.specs.Words.{IsSocketAddress}
 use Rattle.lobby_model.specs.Configuration.{Configuration, configuration, is_version}
+use Rattle.lobby_model.specs.Configuration.{least_outbox_limit, greatest_outbox_limit}
 use Rattle.lobby_setup.specs.At.{at, field}
 use Rattle.lobby_setup.specs.Keys.{name_of}
 use Rattle.lobby_setup.specs.Levels.{level}
@@ -56,7 +57,7 @@ abbrev pub choices : Result (List ℕ × ℕ) FieldFault → Addresses → Membe
 choices endpoint proxies table =
     at Address endpoint >>= (λ endpoint.
     field Workers (number 1 64) 4 table >>= (λ workers.
-    field OutboxLimit (number 65536 67108864) 4194304 table >>= (λ outbox_limit.
+    field OutboxLimit (number least_outbox_limit greatest_outbox_limit) 4194304 table >>= (λ outbox_limit.
     field ProtocolVersion version (codes "0.38") table >>= (λ protocol_version.
     field SpringVersion version (codes "*") table >>= (λ spring_version.
     field UdpPort (number 0 65535) 8201 table >>= (λ udp_port.

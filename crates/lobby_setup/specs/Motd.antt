@@ -4,7 +4,7 @@ use Rattle.std.specs.Option.{option_map_or}
 use Rattle.toml.specs.Data.{Data, Items, no_items, item, as_str}
 use Rattle.toml_fields.specs.declared.fault.FieldFault.{FieldFault}
 use Rattle.toml_fields.specs.declared.fault.FieldFault.TheVariants.{OtherKind, NotAllowed}
-use Rattle.lobby_model.specs.Configuration.{is_motd_line}
+use Rattle.lobby_model.specs.Configuration.{is_motd_line, motd_limit}
 use Rattle.lobby_setup.specs.declared.error.Refusal.{Refusal}
 use Rattle.lobby_setup.specs.declared.error.Refusal.TheVariants.{MotdLine}
 
@@ -12,7 +12,7 @@ use Rattle.lobby_setup.specs.declared.error.Refusal.TheVariants.{MotdLine}
 -- 100 before it
 abbrev pub line_fault : ℕ → Data → Option FieldFault
 line_fault place value =
-    option_map_or (λ line. if nat_le place 100 && is_motd_line line then None else Some NotAllowed)
+    option_map_or (λ line. if nat_le place motd_limit && is_motd_line line then None else Some NotAllowed)
     (as_str value) (Some OtherKind)
 
 -- The first of some values, of which the first has this place, that cannot be a line

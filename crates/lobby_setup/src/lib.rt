@@ -1,17 +1,26 @@
-//! The file of settings of the server: what its keys are, and what the server is set up to by them.
+//! The files that a server is started by: settings, what their keys are and what the server is set up to by them;
+//! accounts; and what people are told of both.
 //!
-//! It is TOML. Only `address` has to be there; keys that are not known are passed over. What each key may be
-//! and what holds where it is left out stands at [`Key`], and in docs/OPERATING.md, "Settings".
+//! A file of settings is TOML. Only `address` has to be there; keys that are not known are passed over. What each key
+//! may be and what holds where it is left out stands at [`Key`], and in docs/OPERATING.md, "Settings".
 #![tactic(auto)]
 
+mod burst;
 mod error;
 mod fields;
+mod file_error;
+mod files;
 mod key;
 mod level;
 mod motd;
 mod proxies;
+mod report;
 mod setup;
 
 pub use error::{Refusal, SetupError, SetupFault};
+pub use file_error::{AccountsFault, FileError};
+pub use files::{accounts_at, settings_at};
 pub use key::Key;
+pub use lobby_model::CLIENT_LIMIT;
+pub use report::check;
 pub use setup::{Setup, read_setup};

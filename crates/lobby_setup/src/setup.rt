@@ -11,7 +11,7 @@ use crate::error::{SetupError, SetupFault};
 use crate::fields::{Fields, fields_of, listening_address};
 use crate::motd::copy_motd;
 use crate::proxies::proxies_at;
-use lobby_model::{Settings, SettingsError};
+use lobby_model::Settings;
 use proxy_line::Proxies;
 use server_log::LogLevel;
 use std::alloc::{AllocError, Global};
@@ -81,7 +81,7 @@ fn setup_of(alloc: Global, fields: &Fields<'_>) -> Result<Setup, AllocError>
     ensures { IfOk result (λ setup. held setup ≡ gathered fields.now) }
 {
     let motd = copy_motd(alloc, fields.motd)?;
-    let settings = match Settings::new(
+    let settings = Settings::within_bounds(
         alloc,
         fields.protocol_version.as_bytes(),
         fields.spring_version.as_bytes(),
@@ -89,12 +89,7 @@ fn setup_of(alloc: Global, fields: &Fields<'_>) -> Result<Setup, AllocError>
         fields.server_mode,
         &motd,
         fields.outbox_limit as usize,
-    ) {
-        Ok(settings) => settings,
-        Err(SettingsError::Memory) => return Err(AllocError),
-        // Each key was held to these bounds.
-        Err(SettingsError::OutOfBounds) => unreachable!(),
-    };
+    )?;
     Ok(Setup {
         settings,
         address: SocketAddrV4::new(Ipv4Addr::from(fields.ip), fields.port),

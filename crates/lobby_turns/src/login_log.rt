@@ -6,13 +6,11 @@ use command_grammar::Command;
 use line_words::{NameBuf, split_at_byte};
 use lobby_lock::Held;
 use lobby_machine::Wakes;
+use lobby_model::settings::LEAST_OUTBOX_LIMIT;
 use server_log::{Cause, Denial, Happening, ShortText};
 
 /// The most bytes of an answer that denies a login, with an id and its LF, and some to spare.
 const DENIED: usize = 64;
-
-/// The bytes that may wait for each client: no setting allows fewer.
-const LEAST_LIMIT: usize = 65_536;
 
 /// What of a line operators may be told.
 #[derive(Drop)]
@@ -133,7 +131,7 @@ fn answer_in(held: &Held, client: u64, waiting: usize, wakes: Wakes) -> Answer {
     let mut front = [0u8; DENIED];
     let count = held.copy_unread(client, waiting, &mut front);
     let is_cut = count == 0 && wakes != Wakes::none();
-    if is_cut && waiting <= LEAST_LIMIT - DENIED {
+    if is_cut && waiting <= LEAST_OUTBOX_LIMIT - DENIED {
         return Answer::LetIn;
     }
     answer_of(front.get(..count).unwrap_or(&[]))

@@ -80,8 +80,22 @@ info spectators locked map_hash map = record {
 
 abbrev opened : ℕ → Reply
 opened id =
-    reply.BattleOpened id 1 2 bert (codes "10.0.0.2") 8452 8 true (negsuc 0) (pos 5) (codes "Spring") (codes "104.0") (codes "Comet")
-    (codes "Bert's") (codes "BA 9.46")
+    reply.BattleOpened id (record {
+      battle_type = 1;
+      nat_type = 2;
+      founder = bert;
+      ip = codes "10.0.0.2";
+      port = 8452;
+      max_players = 8;
+      passworded = true;
+      rank = negsuc 0;
+      map_hash = pos 5;
+      engine_name = codes "Spring";
+      engine_version = codes "104.0";
+      map = codes "Comet";
+      title = codes "Bert's";
+      game_name = codes "BA 9.46";
+    })
 
 abbrev listed : Info → List (List ℕ) → Listed
 listed info members = record { info = info; members = members }

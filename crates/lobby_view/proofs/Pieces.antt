@@ -2,7 +2,7 @@
 use Rattle.std.proofs.Common.{◌≡◌, ℕ, List, [], ◌∷◌, ◌++◌, refl, sym, ap, ◌∙◌, true, false, append_assoc}
 use Rattle.line_framer.specs.Frames.{frames, is_spoilt, rest_of}
 use Rattle.line_framer.proofs.Stands.{frames-append, spoilt_for_good}
-use Rattle.reply_reader.specs.Lines.{read_line}
+use Rattle.reply_grammar.specs.Lines.{read_line}
 use Rattle.lobby_view.specs.View.{new_view, shown_all}
 use Rattle.lobby_view.specs.Bytes.{frame_limit, one_read, all_read, view}
 use Rattle.lobby_view.proofs.Basics.{shown_all-append}

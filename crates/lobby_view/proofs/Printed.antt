@@ -11,7 +11,7 @@ use Rattle.line_framer.specs.Laws.{IsPlainLine, ComesOut}
 use Rattle.line_framer.proofs.Limit.{plain_come_out}
 use Rattle.reply_kinds.specs.Replies.{Line, line_text, print, print_all}
 use Rattle.reply_kinds.proofs.Plain.{line_plain}
-use Rattle.reply_reader.proofs.Whole.{line_again}
+use Rattle.reply_grammar.proofs.Whole.{line_again}
 use Rattle.lobby_model.specs.declared.event.Event.{Event}
 use Rattle.lobby_model.specs.State.{State, Client, is_live}
 use Rattle.lobby_model.specs.Events.{effect, sent}

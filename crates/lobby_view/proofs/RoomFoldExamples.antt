@@ -11,8 +11,22 @@ use Rattle.lobby_view.specs.View.{OwnRoom, new_view, shown_all}
 
 abbrev opened : ℕ → List ℕ → Reply
 opened id founder =
-    reply.BattleOpened id 0 0 founder (codes "10.0.0.1") 8452 8 false (pos 0) (pos 0) (codes "Spring") (codes "104.0") (codes "Comet") (codes "T")
-    (codes "BA")
+    reply.BattleOpened id (record {
+      battle_type = 0;
+      nat_type = 0;
+      founder = founder;
+      ip = codes "10.0.0.1";
+      port = 8452;
+      max_players = 8;
+      passworded = false;
+      rank = pos 0;
+      map_hash = pos 0;
+      engine_name = codes "Spring";
+      engine_version = codes "104.0";
+      map = codes "Comet";
+      title = codes "T";
+      game_name = codes "BA";
+    })
 
 -- Anna joins Bert's battle, in which Cleo is; another battle is there
 abbrev joins : List Reply

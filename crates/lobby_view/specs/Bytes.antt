@@ -3,7 +3,7 @@ use Rattle.std.specs.Prelude.{ℕ, List, [], ◌∷◌, flat_map, Option, Some, 
 use Rattle.line_framer.specs.Frames.{frames}
 use Rattle.reply_kinds.specs.declared.Reply.{Reply}
 use Rattle.reply_kinds.specs.Replies.{Line}
-use Rattle.reply_reader.specs.Lines.{read_line}
+use Rattle.reply_grammar.specs.Lines.{read_line}
 use Rattle.lobby_view.specs.View.{View, new_view, shown_all}
 
 -- a printed line and its LF have at most 20,480 bytes

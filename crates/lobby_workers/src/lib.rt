@@ -1,11 +1,14 @@
 //! The server over sockets: what it makes before its workers start, these in threads of their own, each with its
-//! connections, a log for its operators, and why a server ends.
+//! connections, a log for its operators on its way to a thread that writes it, and why a server ends.
 //!
 //! What a worker does is in `worker_loop`.
 #![tactic(auto)]
 
 mod error;
+mod log_lines;
+mod log_queue;
 mod logged;
+mod reporter;
 mod server;
 mod workers;
 

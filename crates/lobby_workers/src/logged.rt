@@ -4,10 +4,12 @@ ghost use Rattle.std.specs.Prelude.{◌≤◌};
 ghost use Rattle.lobby_workers.specs.Statuses.{IsEnd};
 
 use crate::error::ServerError;
+use crate::log_lines::Lines;
+use crate::log_queue::LogQueue;
+use crate::reporter::Reporter;
 use crate::server::{Service, run_service};
 use lobby_model::WORKERS;
 use lobby_turns::Gate;
-use log_queue::{Lines, LogQueue, Reporter};
 use mio::net::TcpListener;
 use server_log::{LogLevel, Started};
 use std::alloc::{AllocError, Global};

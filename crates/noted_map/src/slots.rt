@@ -88,7 +88,6 @@ impl<K: Key, X: Drop> Slots<K, X> {
         ensures ordered { IsStrictlySortedBy K.cmp (keys_of (live self.now)) }
         ensures fits { length (live self.now) < 2 ^ 63 }
     {
-        let _ = self.places.len();
         Live::of(self.places.iter())
     }
 

@@ -4,7 +4,7 @@ ghost use Rattle.std.specs.Prelude.{◌≡◌, ◌↔◌, ℕ, List, Option, Som
 ghost use Rattle.line_words.specs.Bytes.{is_text};
 ghost use Rattle.reply_kinds.specs.declared.Reply.{Reply};
 ghost use Rattle.reply_kinds.specs.Replies.{Fits, IsId, Line, ReadsAs, line_text};
-ghost use Rattle.reply_reader.specs.Lines.{read_line};
+ghost use Rattle.reply_grammar.specs.Lines.{read_line};
 
 /// A line has no CR, and no LF before its end.
 pub fn no_break_inside()

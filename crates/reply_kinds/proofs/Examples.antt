@@ -3,6 +3,7 @@ use Rattle.std.proofs.Common.{◌≡◌, [], ◌∷◌, Some, None, refl, true, 
 use Rattle.std.specs.Prelude.{pos, negsuc, codes}
 use Rattle.std.specs.Fmt.{digits}
 use Rattle.reply_kinds.specs.declared.Reply.TheVariants as reply
+use Rattle.reply_kinds.specs.declared.opened_battle.OpenedBattle.{OpenedBattle}
 use Rattle.reply_kinds.specs.Replies.{print_all, printed_line}
 
 greeting : printed_line None (reply.TasServer (codes "0.38") (codes "*") 8201 0) ≡ codes "TASSERVER 0.38 * 8201 0\n"
@@ -29,7 +30,25 @@ names : printed_line None (reply.Clients (codes "big") (codes "u01" ∷ codes "u
 unfolding digits
 names = refl
 
-a_battle : printed_line None (reply.BattleOpened 1 0 0 (codes "Anna") (codes "10.0.0.1") 8452 8 false (pos 0) (pos 123) (codes "Spring") (codes "104.0") (codes "Comet Catcher") (codes "Anna's game") (codes "BA 9.46")) ≡ codes "BATTLEOPENED 1 0 0 Anna 10.0.0.1 8452 8 0 0 123 Spring\t104.0\tComet Catcher\tAnna's game\tBA 9.46\n"
+abbrev annas_game : OpenedBattle
+annas_game = record {
+  battle_type = 0;
+  nat_type = 0;
+  founder = codes "Anna";
+  ip = codes "10.0.0.1";
+  port = 8452;
+  max_players = 8;
+  passworded = false;
+  rank = pos 0;
+  map_hash = pos 123;
+  engine_name = codes "Spring";
+  engine_version = codes "104.0";
+  map = codes "Comet Catcher";
+  title = codes "Anna's game";
+  game_name = codes "BA 9.46";
+}
+
+a_battle : printed_line None (reply.BattleOpened 1 annas_game) ≡ codes "BATTLEOPENED 1 0 0 Anna 10.0.0.1 8452 8 0 0 123 Spring\t104.0\tComet Catcher\tAnna's game\tBA 9.46\n"
 unfolding digits
 a_battle = refl
 

@@ -13,6 +13,9 @@ use Rattle.reply_kinds.specs.declared.held.HeldWords.{HeldWords}
 use Rattle.reply_kinds.specs.declared.held.HeldWords.TheVariants as words
 use Rattle.reply_kinds.specs.declared.held.HeldPairs.{HeldPairs}
 use Rattle.reply_kinds.specs.declared.held.HeldPairs.TheVariants as pairs
+use Rattle.reply_kinds.specs.declared.held.HeldOpened.{HeldOpened}
+use Rattle.reply_kinds.specs.declared.held.HeldOpened.TheVariants as opened
+use Rattle.reply_kinds.specs.declared.opened_battle.OpenedBattle.{OpenedBattle}
 
 abbrev pub kept : {T : Type 0} → Held T → T
 kept (held.Lent x) = x.now
@@ -44,3 +47,7 @@ words_of (words.Owned ws) = ws
 abbrev pub pairs_of : HeldPairs → List Pair
 pairs_of (pairs.Lent ps) = ps.now
 pairs_of (pairs.Owned ps) = ps
+
+abbrev pub opened_of : HeldOpened → OpenedBattle
+opened_of (opened.Lent b) = b.now
+opened_of (opened.Owned b) = b.value

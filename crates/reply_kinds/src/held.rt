@@ -1,5 +1,6 @@
 //! What is lent, or owned.
 
+use crate::opened_battle::OpenedBattle;
 use line_words::{NameBuf, NameList, Pair, PairList, Text, TextBuf, Word, WordBuf, WordList};
 
 /// A value: lent, or owned.
@@ -44,4 +45,11 @@ pub enum HeldWords<'a> {
 pub enum HeldPairs<'a> {
     Lent(&'a [Pair]),
     Owned(PairList),
+}
+
+/// What all are told of a battle: lent, or owned.
+#[derive(Drop)]
+pub enum HeldOpened<'a> {
+    Lent(&'a OpenedBattle),
+    Owned(Box<OpenedBattle>),
 }

@@ -5,7 +5,8 @@ ghost use Rattle.std.specs.Prelude.{◌≡◌, IsTrue, option_copied};
 ghost use Rattle.line_words.specs.Bytes.{is_word};
 ghost use Rattle.reply_kinds.specs.Keeping.{with_last};
 
-use crate::held::{Held, HeldNames, HeldPairs, HeldText, HeldWord, HeldWords};
+use crate::held::{Held, HeldNames, HeldOpened, HeldPairs, HeldText, HeldWord, HeldWords};
+use crate::opened_battle::OpenedBattle;
 use line_words::{NameBuf, Pair, SentenceBuf, WordBuf};
 use std::marker::Model;
 
@@ -245,6 +246,32 @@ impl<'a> Pairs<'a> {
         match &self.0 {
             HeldPairs::Lent(pairs) => pairs,
             HeldPairs::Owned(pairs) => pairs.as_slice(),
+        }
+    }
+}
+
+/// What BATTLEOPENED tells of a battle besides its number. It is the largest by far, so it lies elsewhere.
+#[derive(Drop)]
+pub struct Opened<'a>(pub HeldOpened<'a>);
+
+impl<'a> Model for Opened<'a> {
+    ghost use Rattle.reply_kinds.specs.declared.opened_battle.OpenedBattle.{OpenedBattle};
+
+    ghost Value = { OpenedBattle };
+
+    ghost use Rattle.reply_kinds.specs.Keeping.{opened_of};
+
+    ghost view = { λ x. opened_of x.0 };
+}
+
+impl<'a> Opened<'a> {
+    /// What is told.
+    pub fn get(&self) -> &OpenedBattle
+        ensures { result.now ≡ self.now }
+    {
+        match &self.0 {
+            HeldOpened::Lent(opened) => opened,
+            HeldOpened::Owned(opened) => opened,
         }
     }
 }

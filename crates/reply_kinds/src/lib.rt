@@ -2,7 +2,7 @@
 //!
 //! A line is an optional message id (`#7 `), the command word, the arguments, and LF. Each word
 //! stands behind one space; the first sentence or the text stands behind one space too, and
-//! further sentences behind tabs. The crate `reply_printer` prints the lines, and `reply_reader`
+//! further sentences behind tabs. The crate `reply_printer` prints the lines, and `reply_grammar`
 //! reads them back.
 #![tactic(auto)]
 
@@ -14,8 +14,8 @@ mod opened_battle;
 mod owned;
 
 pub use command_word::CommandWord;
-pub use held::{Held, HeldNames, HeldPairs, HeldText, HeldWord, HeldWords};
-pub use kept::{Country, Name, Names, NextSentence, Pairs, Sentence, Text, Word, Words};
+pub use held::{Held, HeldNames, HeldOpened, HeldPairs, HeldText, HeldWord, HeldWords};
+pub use kept::{Country, Name, Names, NextSentence, Opened, Pairs, Sentence, Text, Word, Words};
 pub use numbers::{BattleNumber, UpTo, Wide};
 pub use opened_battle::OpenedBattle;
 
@@ -26,6 +26,7 @@ pub use opened_battle::OpenedBattle;
 /// 15 (`allyNo`), a side of a start rectangle 0 to 200, `server_mode` and `battle_type` (`type`)
 /// 0 to 1, `nat_type` 0 to 2, and colours, hashes, ranks and `cpu` -2147483648 to 4294967295. The type
 /// does not hold these, and printing does not ask for them.
+#[derive(Drop)]
 pub enum Reply<'a> {
     /// `TASSERVER`. The greeting: the versions spoken, the UDP port for address translation and the server's mode.
     TasServer {
@@ -134,20 +135,7 @@ pub enum Reply<'a> {
     /// `BATTLEOPENED`. A battle and what all are told of it.
     BattleOpened {
         battle: BattleNumber,
-        battle_type: UpTo<1>,
-        nat_type: UpTo<2>,
-        founder: Name<'a>,
-        ip: Word<'a>,
-        port: u16,
-        max_players: u16,
-        passworded: bool,
-        rank: Wide,
-        map_hash: Wide,
-        engine_name: Sentence<'a>,
-        engine_version: NextSentence<'a>,
-        map: NextSentence<'a>,
-        title: NextSentence<'a>,
-        game_name: NextSentence<'a>,
+        opened: Opened<'a>,
     },
     /// `BATTLECLOSED`. A battle was closed.
     BattleClosed {
@@ -263,142 +251,7 @@ pub enum Reply<'a> {
     EnableAllUnits,
 }
 
-impl Drop for Reply<'_> {
-    /// Who lets a reply go calls this, and need not know what the replies are.
-    #[inline(always)]
-    fn drop(self) {
-        match self {
-            Reply::TasServer {
-                protocol_version: _,
-                spring_version: _,
-                udp_port: _,
-                server_mode: _,
-            }
-            | Reply::Accepted { user: _ }
-            | Reply::Denied { text: _ }
-            | Reply::Motd { text: _ }
-            | Reply::ServerMsg { text: _ }
-            | Reply::AddUser {
-                user: _,
-                country: _,
-                cpu: _,
-                account: _,
-            }
-            | Reply::RemoveUser { user: _ }
-            | Reply::ClientStatus { user: _, status: _ }
-            | Reply::LoginInfoEnd
-            | Reply::Pong
-            | Reply::Join { channel: _ }
-            | Reply::Clients {
-                channel: _,
-                names: _,
-            }
-            | Reply::Joined {
-                channel: _,
-                user: _,
-            }
-            | Reply::Left {
-                channel: _,
-                user: _,
-            }
-            | Reply::JoinFailed {
-                channel: _,
-                reason: _,
-            }
-            | Reply::Said {
-                channel: _,
-                user: _,
-                text: _,
-            }
-            | Reply::SaidEx {
-                channel: _,
-                user: _,
-                text: _,
-            }
-            | Reply::SayPrivate { user: _, text: _ }
-            | Reply::SaidPrivate { user: _, text: _ }
-            | Reply::Channel {
-                channel: _,
-                user_count: _,
-            }
-            | Reply::EndOfChannels
-            | Reply::OpenBattle { battle: _ }
-            | Reply::OpenBattleFailed { text: _ }
-            | Reply::BattleOpened {
-                battle: _,
-                battle_type: _,
-                nat_type: _,
-                founder: _,
-                ip: _,
-                port: _,
-                max_players: _,
-                passworded: _,
-                rank: _,
-                map_hash: _,
-                engine_name: _,
-                engine_version: _,
-                map: _,
-                title: _,
-                game_name: _,
-            }
-            | Reply::BattleClosed { battle: _ }
-            | Reply::JoinBattle {
-                battle: _,
-                game_hash: _,
-            }
-            | Reply::JoinBattleFailed { text: _ }
-            | Reply::JoinedBattle {
-                battle: _,
-                user: _,
-                script_password: _,
-            }
-            | Reply::LeftBattle { battle: _, user: _ }
-            | Reply::UpdateBattleInfo {
-                battle: _,
-                spectator_count: _,
-                locked: _,
-                map_hash: _,
-                map: _,
-            }
-            | Reply::RequestBattleStatus
-            | Reply::ClientBattleStatus {
-                user: _,
-                battle_status: _,
-                team_color: _,
-            }
-            | Reply::SaidBattle { user: _, text: _ }
-            | Reply::SaidBattleEx { user: _, text: _ }
-            | Reply::AddBot {
-                battle: _,
-                bot: _,
-                owner: _,
-                battle_status: _,
-                team_color: _,
-                ai: _,
-            }
-            | Reply::UpdateBot {
-                battle: _,
-                bot: _,
-                battle_status: _,
-                team_color: _,
-            }
-            | Reply::RemoveBot { battle: _, bot: _ }
-            | Reply::AddStartRect {
-                ally_no: _,
-                left: _,
-                top: _,
-                right: _,
-                bottom: _,
-            }
-            | Reply::RemoveStartRect { ally_no: _ }
-            | Reply::SetScriptTags { pairs: _ }
-            | Reply::RemoveScriptTags { keys: _ }
-            | Reply::ForceQuitBattle
-            | Reply::Ring { user: _ }
-            | Reply::JoinBattleRequest { user: _, ip: _ }
-            | Reply::DisableUnits { units: _ }
-            | Reply::EnableUnits { units: _ }
-            | Reply::EnableAllUnits => {}
-        }
-    }
+impl Reply<'_> {
+    /// Lets the reply go. Who does it by this call need not know what the replies are.
+    pub fn discard(self) {}
 }

@@ -1,13 +1,12 @@
 //! What all are told of a battle.
 
 ghost use Rattle.std.specs.Prelude.{◌≡◌};
-ghost use Rattle.reply_kinds.specs.Opened.{battle_opened};
+ghost use Rattle.reply_kinds.specs.declared.Reply.TheVariants as reply;
 
-use crate::{BattleNumber, Held, Name, NextSentence, Reply, Sentence, UpTo, Wide, Word};
+use crate::{BattleNumber, HeldOpened, Opened, Reply};
 use line_words::{NameBuf, SentenceBuf, WordBuf};
 
-/// What BATTLEOPENED tells of a battle besides its number. The fields are those of
-/// `Reply::BattleOpened`, in the same ranges.
+/// What BATTLEOPENED tells of a battle besides its number, in the order of its arguments.
 #[derive(Drop)]
 pub struct OpenedBattle {
     /// 0 for a game, 1 for a replay (`type`).
@@ -43,24 +42,11 @@ pub struct OpenedBattle {
 impl OpenedBattle {
     /// The reply that tells this of the battle of that number.
     pub fn told(&self, battle: u32) -> Reply<'_>
-        ensures { result ≡ battle_opened battle self.now }
+        ensures { result ≡ reply.BattleOpened battle self.now }
     {
         Reply::BattleOpened {
             battle: BattleNumber(battle),
-            battle_type: UpTo(self.battle_type),
-            nat_type: UpTo(self.nat_type),
-            founder: Name(Held::Lent(&self.founder)),
-            ip: Word(Held::Lent(&self.ip)),
-            port: self.port,
-            max_players: self.max_players,
-            passworded: self.passworded,
-            rank: Wide(self.rank),
-            map_hash: Wide(self.map_hash),
-            engine_name: Sentence(Held::Lent(&self.engine_name)),
-            engine_version: NextSentence(Held::Lent(&self.engine_version)),
-            map: NextSentence(Held::Lent(&self.map)),
-            title: NextSentence(Held::Lent(&self.title)),
-            game_name: NextSentence(Held::Lent(&self.game_name)),
+            opened: Opened(HeldOpened::Lent(self)),
         }
     }
 }

@@ -2,7 +2,8 @@
 
 ghost use Rattle.std.specs.Prelude.{◌≡◌, IfOk};
 
-use crate::kept::{Country, Name, Names, NextSentence, Pairs, Sentence, Word, Words};
+use crate::kept::{Country, Name, Names, NextSentence, Opened, Pairs, Sentence, Word, Words};
+use crate::opened_battle::OpenedBattle;
 use line_words::{KeyBuf, NameBuf, NameList, Pair, PairList, SentenceBuf, WordBuf, WordList};
 use std::alloc::{AllocError, Global};
 
@@ -80,6 +81,31 @@ impl<'a> Pairs<'a> {
         ensures { IfOk result (λ pairs. pairs ≡ self.now) }
     {
         Ok(PairList::new(copied_pairs(alloc, self.as_slice())?))
+    }
+}
+
+impl<'a> Opened<'a> {
+    /// A copy of what is told. Fails only where memory is refused.
+    pub fn to_opened(&self, alloc: Global) -> Result<OpenedBattle, AllocError>
+        ensures { IfOk result (λ opened. opened ≡ self.now) }
+    {
+        let opened = self.get();
+        Ok(OpenedBattle {
+            battle_type: opened.battle_type,
+            nat_type: opened.nat_type,
+            founder: opened.founder.copy(),
+            ip: WordBuf::copy_of(alloc, opened.ip.as_slice())?,
+            port: opened.port,
+            max_players: opened.max_players,
+            passworded: opened.passworded,
+            rank: opened.rank,
+            map_hash: opened.map_hash,
+            engine_name: SentenceBuf::copy_of(alloc, opened.engine_name.as_slice())?,
+            engine_version: SentenceBuf::copy_of(alloc, opened.engine_version.as_slice())?,
+            map: SentenceBuf::copy_of(alloc, opened.map.as_slice())?,
+            title: SentenceBuf::copy_of(alloc, opened.title.as_slice())?,
+            game_name: SentenceBuf::copy_of(alloc, opened.game_name.as_slice())?,
+        })
     }
 }
 

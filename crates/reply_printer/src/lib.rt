@@ -5,6 +5,7 @@
 #![tactic(auto)]
 
 mod arguments;
+mod opened;
 pub mod pieces;
 mod printing;
 mod reply_table;

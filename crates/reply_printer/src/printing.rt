@@ -8,7 +8,7 @@ ghost use Rattle.reply_kinds.specs.Replies.{id_text, line_with, printed_line};
 
 use crate::pieces::{put_command, put_end, put_id, whole};
 use crate::rows::PrintedRow;
-use crate::table::{print_by_row, print_row};
+use crate::table::print_by_row;
 use crate::{row, with_replies};
 use reply_kinds::{CommandWord, Reply};
 use std::alloc::AllocError;

@@ -4,8 +4,8 @@
 //! It stands beside the printer, since the check sees what a lent field of a reply is only where the table is
 //! of the crate that prints it.
 
-/// Gives the table to another macro, behind what that one is given. A row of many fields stands in parts, a `;`
-/// between them: they are printed part by part.
+/// Gives the table to another macro, behind what that one is given. A field behind a `;` has all arguments that
+/// are left.
 #[macro_export]
 macro_rules! with_replies {
     ($write:ident($($given:ident),*)) => {
@@ -34,12 +34,7 @@ macro_rules! with_replies {
             EndOfChannels {}
             OpenBattle { battle }
             OpenBattleFailed { text }
-            BattleOpened {
-                battle, battle_type, nat_type, founder;
-                ip, port, max_players, passworded;
-                rank, map_hash, engine_name, engine_version;
-                map, title, game_name
-            }
+            BattleOpened { battle; opened }
             BattleClosed { battle }
             JoinBattle { battle, game_hash }
             JoinBattleFailed { text }
@@ -71,5 +66,6 @@ macro_rules! with_replies {
 #[macro_export]
 macro_rules! row {
     () => { () };
-    ($first:ident $(, $others:ident)*) => { ($first, row!($($others),*)) };
+    (; $rest:ident) => { $rest };
+    ($first:ident $(, $others:ident)* $(; $rest:ident)?) => { ($first, row!($($others),* $(; $rest)?)) };
 }

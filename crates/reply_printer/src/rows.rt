@@ -4,8 +4,11 @@
 ghost use Rattle.std.specs.Prelude.{◌≡◌, List, [], ◌∷◌, ◌++◌, IfOk};
 ghost use Rattle.reply_printer.specs.Fronts.{Keeps};
 ghost use Rattle.reply_kinds.specs.Kinds.{Kind, Values, all_printed};
+ghost use Rattle.reply_kinds.specs.Opened.{opened_kinds, opened_values};
 
 use crate::arguments::Printed;
+use crate::opened::put_opened;
+use reply_kinds::Opened;
 use std::alloc::AllocError;
 
 /// Arguments that can be printed.
@@ -39,5 +42,15 @@ impl<A: Printed, R: PrintedRow> PrintedRow for (A, R) {
     fn put(&self, out: &mut Vec<u8>) -> Result<(), AllocError> {
         self.0.put(out)?;
         self.1.put(out)
+    }
+}
+
+impl<'a, 'b> PrintedRow for &'a Opened<'b> {
+    ghost kinds = { opened_kinds };
+
+    ghost values = { λ x. opened_values x.now };
+
+    fn put(&self, out: &mut Vec<u8>) -> Result<(), AllocError> {
+        put_opened(out, self.get())
     }
 }

@@ -6,5 +6,6 @@ pub mod Plain
 pub mod Lines
 pub mod Lengths
 pub mod Gaps
-pub mod Opened
 pub mod Told
+pub mod Found
+pub mod RowOf

@@ -6,7 +6,7 @@ use Rattle.std.proofs.lemmas.Bool.{and_parts}
 use Rattle.command_grammar.specs.declared.command.Command.{Command}
 use Rattle.command_grammar.specs.declared.command.Command.TheVariants as command
 use Rattle.command_grammar.specs.Forms.{applied, is_same, entry_named, command_named}
-use Rattle.command_grammar.specs.Table.{Values, Entry, entries, battle_entries, room_entries, host_entries}
+use Rattle.command_grammar.specs.Table.{Values, Entry, arguments_of, entries, battle_entries, room_entries, host_entries}
 use Rattle.request_printer.specs.Writing.{HasWord}
 
 -- the word of each command; of a line that was not read there is none
@@ -59,43 +59,7 @@ has_word : (c : Command) → IfSome (word_named c) (HasWord c)
 unfolding entries battle_entries room_entries host_entries
 has_word command.Blank = inl (refl, refl)
 has_word (command.Unread fault) = tt
-has_word (command.Handicap a b) = made refl refl (a, (b, tt))
-has_word (command.ForceTeamNo a b) = made refl refl (a, (b, tt))
-has_word (command.ForceAllyNo a b) = made refl refl (a, (b, tt))
-has_word (command.ForceTeamColor a b) = made refl refl (a, (b, tt))
-has_word (command.ForceSpectatorMode a) = made refl refl (a, tt)
-has_word (command.KickFromBattle a) = made refl refl (a, tt)
-has_word (command.Ring a) = made refl refl (a, tt)
-has_word (command.AddBot a b c d) = made refl refl (a, (b, (c, (d, tt))))
-has_word (command.UpdateBot a b c) = made refl refl (a, (b, (c, tt)))
-has_word (command.RemoveBot a) = made refl refl (a, tt)
-has_word (command.AddStartRect a b c d e) = made refl refl (a, (b, (c, (d, (e, tt)))))
-has_word (command.RemoveStartRect a) = made refl refl (a, tt)
-has_word (command.SetScriptTags a) = made refl refl (a, tt)
-has_word (command.RemoveScriptTags a) = made refl refl (a, tt)
-has_word (command.DisableUnits a) = made refl refl (a, tt)
-has_word (command.EnableUnits a) = made refl refl (a, tt)
-has_word command.EnableAllUnits = made refl refl tt
-has_word (command.OpenBattle a b c d e f g h i j k l m) =
-    made refl refl (a, (b, (c, (d, (e, (f, (g, (h, (i, (j, (k, (l, (m, tt)))))))))))))
-has_word (command.JoinBattle a b c) = made refl refl (a, (b, (c, tt)))
-has_word (command.JoinBattleAccept a) = made refl refl (a, tt)
-has_word (command.JoinBattleDeny a b) = made refl refl (a, (b, tt))
-has_word command.LeaveBattle = made refl refl tt
-has_word (command.UpdateBattleInfo a b c d) = made refl refl (a, (b, (c, (d, tt))))
-has_word (command.MyBattleStatus a b) = made refl refl (a, (b, tt))
-has_word (command.SayBattle a) = made refl refl (a, tt)
-has_word (command.SayBattleEx a) = made refl refl (a, tt)
-has_word command.Ping = made refl refl tt
-has_word command.Exit = made refl refl tt
-has_word (command.Login a b c d e f) = made refl refl (a, (b, (c, (d, (e, (f, tt))))))
-has_word (command.MyStatus a) = made refl refl (a, tt)
-has_word command.Channels = made refl refl tt
-has_word (command.Join a b) = made refl refl (a, (b, tt))
-has_word (command.Leave a) = made refl refl (a, tt)
-has_word (command.Say a b) = made refl refl (a, (b, tt))
-has_word (command.SayEx a b) = made refl refl (a, (b, tt))
-has_word (command.SayPrivate a b) = made refl refl (a, (b, tt))
+has_word c = made refl refl (arguments_of c).values
 
 pub named : (c : Command) (word : List ℕ) → word_named c ≡ Some word → HasWord c word
 named c word is = subst (λ o. IfSome o (HasWord c)) is (has_word c)

@@ -10,14 +10,11 @@ use Rattle.command_grammar.specs.Kinds.{keeps_kinds}
 use Rattle.command_grammar.specs.Table.{Kind, OptionalWord, Natural, Wide, OptionalText, LoginFlags, Pairs, Words}
 use Rattle.command_grammar.specs.Table.{Value, Values, arguments_of}
 use Rattle.command_grammar.specs.Reads.{id_limit, Reads}
+pub use Rattle.command_grammar.specs.Reads.{line_limit}
 use Rattle.request_printer.specs.declared.error.PrintError.{PrintError}
 use Rattle.request_printer.specs.declared.error.PrintError.TheVariants.{Unread, OutOfRange, NothingListed, Skipped}
 use Rattle.request_printer.specs.declared.error.PrintError.TheVariants.{TooLong, Memory}
 use Rattle.request_printer.specs.Writing.{Writes}
-
--- the most bytes of a line before its LF
-abbrev pub line_limit : ℕ
-line_limit = 8192
 
 -- those before are, and each of these numbers is in the range of its argument
 abbrev pub in_range : Bool → (ks : List Kind) → Values ks → Bool

@@ -1,5 +1,5 @@
 -- The line of a request, by the table of commands and the kinds of their arguments.
-use Rattle.std.specs.Prelude.{◌≡◌, ℕ, if◌then◌else◌, ◌⊎◌, List, [], ◌∷◌, ◌++◌, codes, decimal, Some}
+use Rattle.std.specs.Prelude.{◌≡◌, ℕ, if◌then◌else◌, ◌⊎◌, List, [], ◌∷◌, ◌++◌, codes, decimal, Option, Some}
 use Rattle.std.specs.Fmt.{signed_decimal}
 use Rattle.command_grammar.specs.declared.command.Command.{Command}
 use Rattle.command_grammar.specs.declared.command.Command.TheVariants as command
@@ -47,6 +47,10 @@ pub record HasEntry (c : Command) (word : List ℕ) : Type 0 where
 -- the word of the command; what is blank has none
 abbrev pub HasWord : Command → List ℕ → Type 0
 HasWord c word = ((c ≡ command.Blank) × (word ≡ [])) ⊎ HasEntry c word
+
+-- the request of a command
+abbrev pub asked : Option ℕ → Command → Request
+asked id c = record { id = id; command = c }
 
 -- its arguments
 abbrev pub argument_text : Command → List ℕ

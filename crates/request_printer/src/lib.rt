@@ -5,12 +5,13 @@
 //! grammar of requests both ways, for clients and bots; the server only reads.
 #![tactic(auto)]
 
+mod argument_rows;
 mod arguments;
 mod error;
 mod faults;
 mod laws;
 mod printing;
-mod words;
+mod table;
 
 pub use command_grammar::{Command, ReadFault, Request, read_request};
 pub use error::PrintError;

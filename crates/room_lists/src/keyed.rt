@@ -105,13 +105,15 @@ pub(crate) struct KeyedList<T: Keyed> {
 
 impl<T: Keyed> Model for KeyedList<T> {
     ghost use Rattle.std.specs.Prelude.{List, ℕ};
+    ghost use Rattle.room_lists.specs.Index.{AreApart};
     ghost use Rattle.room_lists.specs.Keyed.{items_of, AreKept};
 
     ghost Value = { List T };
 
     ghost view = { λ l. items_of T.whole l.by_key.entries };
 
-    ghost invariant = { λ l. AreKept T.key_of T.whole l.by_key.entries };
+    // Each item stands behind its own key, and no key stands twice.
+    ghost invariant = { λ l. AreKept T.key_of T.whole l.by_key.entries × AreApart l.by_key.entries };
 }
 
 /// So few keys are looked for one by one, since an index costs a walk of all items.
@@ -198,8 +200,6 @@ impl<T: Keyed> KeyedList<T> {
     pub(crate) fn copy(&self, alloc: Global) -> Result<KeyedList<T>, AllocError>
         ensures { IfOk result (λ copy. copy ≡ self.now) }
     {
-        // Its contract says that no key stands twice, which the proof wants of the items.
-        let _ = self.by_key.len();
         let items = copies_of(alloc, self.as_slice())?;
         let mut copy = KeyedList::new(alloc, *self.by_key.hasher());
         copy.put(alloc, items)?;
@@ -373,8 +373,6 @@ impl<T: Keyed> KeyedList<T> {
         ensures { self.new ≡ keyed.without_keys T.key_of self.old keys.now }
     {
         for key in keys {
-            // Its contract says that no key stands twice, which the proof wants of the keys as they were.
-            let _ = self.by_key.len();
             let _ = self.by_key.shift_remove(key);
         }
     }

@@ -1,12 +1,19 @@
-//! A worker of the server over sockets: it waits for news of its connections and gives them turns (`worker_turns`),
-//! until it is told to stop.
+//! A worker of the server over sockets: it waits for news of its connections, gives them turns (`lobby_turns`), and
+//! ends them in order once it is told to stop. Where connections wait for their workers, and how these are woken,
+//! stands here too.
 //!
-//! Of what a poll tells nothing is proved but that it is safe.
+//! Of sockets, of what a poll tells and of who is woken nothing is proved but that it is safe.
 #![tactic(auto)]
 
 mod error;
+mod inboxes;
+mod stopping;
+mod turns;
+mod wakers;
 mod worker;
 
 pub use error::ListenError;
+pub use inboxes::{Arrival, Inboxes};
+pub use turns::Shared;
+pub use wakers::Wakers;
 pub use worker::{WorkerListener, run_worker};
-pub use worker_turns::{Arrival, Inboxes, Shared, Wakers};

@@ -3,7 +3,11 @@
 ghost use Rattle.std.specs.Prelude.{◌≡◌, ◌≤◌};
 
 use crate::error::ListenError;
-use lobby_connections::{Connections, PollTimeout};
+use crate::inboxes::{Arrival, Inboxes};
+use crate::stopping::{Step, step_all};
+use crate::turns::{self, Shared};
+use crate::wakers::Wakers;
+use lobby_connections::{Connections, Newcomers, PollTimeout};
 use lobby_lock::{Desk, Pass};
 use lobby_turns::Gate;
 use mio::net::TcpListener;
@@ -17,9 +21,6 @@ use std::net::{Net, SocketAddr};
 use std::sync::Wait;
 use std::sync::atomic::AtomicBool;
 use std::time::Duration;
-use wire_link::Newcomers;
-use worker_turns::stopping::{Step, step_all};
-use worker_turns::{Arrival, Inboxes, Shared, Wakers, turns};
 
 /// The token of a worker's waker. Connections have the keys of their table, far below.
 const WAKER: Token = Token(usize::MAX);

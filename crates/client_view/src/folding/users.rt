@@ -4,34 +4,14 @@ ghost use Rattle.std.specs.Prelude.{◌≡◌, OnOk, OnErr};
 ghost use Rattle.reply_kinds.specs.declared.Reply.TheVariants as reply;
 ghost use Rattle.lobby_view.specs.View.{shown};
 ghost use Rattle.noted_map.specs.Undoable.{Changes};
-ghost use Rattle.client_view.specs.Kinds.{Users, kind_of};
 
 use crate::known::Known;
 use crate::lists::User;
-use reply_kinds::{Country, Name, Reply, Wide};
+use reply_kinds::{Country, Name, Wide};
 use std::alloc::AllocError;
 
 impl Known {
-    /// Who comes and goes.
-    pub(crate) fn fold_users(&mut self, reply: &Reply) -> Result<(), AllocError>
-        requires { kind_of reply.now ≡ Users }
-        ensures ok { OnOk result (Changes (λ v. shown v reply.now) self.old self.new) }
-        ensures err { OnErr result (self.new ≡ self.old) }
-    {
-        match reply {
-            Reply::AddUser {
-                user,
-                country,
-                cpu,
-                account,
-            } => self.add_user(user, country, cpu, *account),
-            Reply::RemoveUser { user } => self.remove_user(user),
-            Reply::ClientStatus { user, status } => self.client_status(user, *status),
-            _ => unreachable!(),
-        }
-    }
-
-    fn add_user(
+    pub(crate) fn add_user(
         &mut self,
         name: &Name,
         country: &Country,
@@ -51,7 +31,7 @@ impl Known {
         self.users.put(name.to_name(), user)
     }
 
-    fn remove_user(&mut self, name: &Name) -> Result<(), AllocError>
+    pub(crate) fn remove_user(&mut self, name: &Name) -> Result<(), AllocError>
         ensures ok { OnOk result (Changes (λ v. shown v (reply.RemoveUser name.now)) self.old self.new) }
         ensures err { OnErr result (self.new ≡ self.old) }
     {

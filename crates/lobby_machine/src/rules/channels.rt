@@ -4,12 +4,12 @@ ghost use Rattle.std.specs.Prelude.{◌≡◌, [], ◌∷◌, ◌++◌, OnOk};
 ghost use Rattle.lobby_model.specs.Outcome.{tell, user};
 ghost use Rattle.lobby_model.specs.Channels.{join, leave, name_lines, say_in_channel, say_private, list_channels};
 ghost use Rattle.lobby_post.specs.Posted.{Told, with_own};
-ghost use Rattle.lobby_guards.specs.Answers.{Answers};
+ghost use Rattle.battle_rules.specs.Answers.{Answers};
 ghost use Rattle.lobby_machine.specs.Talk.{channel_lines, left_letters};
 
+use super::guards::{members_with, names_without, user_named};
+use battle_rules::{Issuer, Stop};
 use line_words::{NameBuf, TextBuf};
-use lobby_guards::guards::{members_with, names_without, user_named};
-use lobby_guards::{Issuer, Stop};
 use lobby_maps::{Change, Maps};
 use lobby_post::Post;
 use reply_kinds::{Held, HeldNames, HeldText, Name, Names, Reply, Text};

@@ -10,18 +10,18 @@ ghost use Rattle.lobby_model.specs.State.{Battle, battle_of, hears, name_of};
 ghost use Rattle.lobby_model.specs.Outcome.{done, only_told, tell, issuer};
 ghost use Rattle.lobby_model.specs.Sessions.{departs, log_in, set_user_status, user_of};
 ghost use Rattle.lobby_post.specs.Posted.{Told, begun};
-ghost use Rattle.lobby_guards.specs.Answers.{Answers, Obeyed};
+ghost use Rattle.battle_rules.specs.Answers.{Answers, Obeyed};
 ghost use Rattle.lobby_battles.specs.Battles.{IsOnly};
 ghost use Rattle.lobby_maps.specs.Changes.{first_of, parts};
 ghost use Rattle.battle_rules.specs.BattleTalk.{left_battle_letters};
 ghost use Rattle.lobby_battles.specs.Seats.{user_in};
 
 use super::channels::tell_left;
+use super::guards::{account_for, free_name};
 use account_book::Account;
 use battle_rules::battles::{Leaving, tell_leaving};
+use battle_rules::{Issuer, Stop};
 use line_words::{NameBuf, WordBuf};
-use lobby_guards::guards::{account_for, free_name};
-use lobby_guards::{Issuer, Stop};
 use lobby_maps::{Change, Maps, Seat};
 use lobby_post::{ClientKey, Post};
 use reply_kinds::{Held, Name, Reply};
@@ -64,14 +64,10 @@ pub fn log_in(
 
 /// `MYSTATUS`: rank, moderator and bot stay those of the account.
 pub fn my_status(by: &Issuer, asked: u32, post: &mut Post) -> Result<Change, Stop>
-    requires { name_of by.now.maps.now.plain by.now.client ≡ Some by.now.me.now }
     ensures { Answers by.now.maps.now.plain by.now.client post.old post.new
         (set_user_status by.now.maps.now.plain by.now.me.now asked) result }
 {
-    let status = match by.maps.status_of(by.me) {
-        Some(status) => merge_user(status, asked),
-        None => unreachable!(),
-    };
+    let status = merge_user(by.maps.status_of(by.me), asked);
     let line = Reply::ClientStatus {
         user: Name(Held::Lent(by.me)),
         status: status.word(),

@@ -53,7 +53,7 @@ const WORDS: usize = 2_700;
 
 const LOG_IN_FIRST: &[u8] = b"SERVERMSG Log in first\n";
 
-static LISTERS_SEND: [Act; 6] = [
+static LISTERS_SEND: [Act; 4] = [
     Act {
         times: 1,
         steps: &[
@@ -72,19 +72,9 @@ static LISTERS_SEND: [Act; 6] = [
             Sends(0, b"DISABLEUNITS"),
             SendsOften(0, b" a", WORDS),
             Sends(0, b"\n"),
-        ],
-    },
-    Act {
-        times: 3,
-        steps: &[
             Sends(1, b"DISABLEUNITS"),
             SendsOften(1, b" a", WORDS),
             Sends(1, b"\n"),
-        ],
-    },
-    Act {
-        times: 3,
-        steps: &[
             Sends(2, b"DISABLEUNITS"),
             SendsOften(2, b" a", WORDS),
             Sends(2, b"\n"),

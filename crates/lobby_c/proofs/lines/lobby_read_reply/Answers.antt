@@ -1,8 +1,8 @@
 use Rattle.std.proofs.Common.{[], ◌∷◌, subst}
 use Rattle.std.specs.Prelude.{flat_map, nat_eq, IsTrue}
 use Rattle.std.specs.List.{list_any}
-use Rattle.lobby_tables.specs.Answers.{Answers, lent, ok, no_memory, no_room}
-use Rattle.lobby_tables.specs.Layout.{rows_from}
+use Rattle.lobby_lines.specs.Answers.{Answers, lent, ok, no_memory, no_room}
+use Rattle.lobby_lines.specs.Layout.{rows_from}
 use Rattle.reply_kinds.specs.Replies.{Line}
 use Rattle.lobby_lines.specs.Fields.{field_row, field_shown}
 use Rattle.lobby_lines.specs.Replies.{fields_of, HeadOf}

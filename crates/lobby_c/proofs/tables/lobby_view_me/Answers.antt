@@ -1,6 +1,6 @@
 use Rattle.std.proofs.lemmas.Grind.{common_steps}
 use Rattle.std.proofs.Common.{arith, ◌∷◌, []}
-use Rattle.lobby_tables.specs.Layout.{place, itself}
+use Rattle.lobby_lines.specs.Layout.{place, itself}
 use Rattle.lobby_c.specs.Slot.{content}
 use Rattle.lobby_c.proofs.Showing.{shown_as}
 use Rattle.lobby_c.proofs.tables.lobby_view_me.Goals as goal

@@ -1,7 +1,7 @@
 use Rattle.std.proofs.Common.{◌∙◌, ap, subst, map, []}
 use Rattle.lobby_lines.specs.Replies.{kind_of, numbered}
 use Rattle.lobby_lines.specs.Reading.{seen_from, TookAll}
-use Rattle.reply_reader.proofs.Whole.{not_read}
+use Rattle.reply_grammar.proofs.Whole.{not_read}
 use Rattle.lobby_lines.proofs.Telling.{told, untold, read}
 use Rattle.lobby_lines.proofs.reading.read_reply.Goals as goal
 

@@ -1,4 +1,4 @@
-use Rattle.lobby_lines.proofs.Rows.{found}
+use Rattle.lobby_lines.proofs.RequestRows.{found}
 use Rattle.lobby_lines.proofs.request_table.row_of.Goals as goal
 
 pub returns-in-Some-clause-some : goal.returns-in-Some-clause-some

@@ -3,14 +3,26 @@ use Rattle.std.proofs.lemmas.Bool.{and_parts, leb-true}
 use Rattle.std.specs.Prelude.{◌&&◌}
 use Rattle.line_words.specs.Bytes.{is_name}
 use Rattle.command_grammar.specs.declared.command.Command.{Command}
+use Rattle.command_grammar.specs.declared.command.Command.TheVariants as command
 use Rattle.command_grammar.specs.Kinds.{is_up_to, keeps_kinds}
 use Rattle.lobby_model.specs.Outcome.{Outcome}
 use Rattle.lobby_model.specs.State.{updated}
 use Rattle.lobby_model.specs.Battles.{deny, update_battle}
 use Rattle.lobby_model.specs.Rooms.{force_colour, update_bot}
 use Rattle.lobby_model.specs.Commands.{answer}
-use Rattle.lobby_guards.specs.Answers.{Answers}
+use Rattle.battle_rules.specs.Answers.{Answers}
 use Rattle.lobby_machine.proofs.rules.answer_user.Goals as goal
+
+pub returns-in-OpenBattle : goal.returns-in-OpenBattle
+returns-in-OpenBattle c =
+    let r = c.in-OpenBattle in
+    let game : to_z w64 (of_z w64 r.game_hash) ≡ r.game_hash = search rules in
+    let rank : to_z w64 (of_z w64 r.rank) ≡ r.rank = search rules in
+    let map : to_z w64 (of_z w64 r.map_hash) ≡ r.map_hash = search rules in
+    subst (λ (outcome : Outcome). Answers c.args.by.now.maps.now.plain c.args.by.now.client c.args.post.now c.open_battle.new.post outcome c.open_battle.result)
+    ((λ i. answer c.args.by.now.maps.now.plain c.args.by.now.client (Some c.args.by.now.me.now) (command.OpenBattle r.battle_type r.nat_type r.password r.port
+    r.max_players (game i) (rank i) (map i) r.engine_name r.engine_version r.map r.title r.game_name))
+    ∙ sym (ap (answer c.args.by.now.maps.now.plain c.args.by.now.client (Some c.args.by.now.me.now)) r.is)) c.open_battle.ensures
 
 pub returns-in-UpdateBot : goal.returns-in-UpdateBot
 returns-in-UpdateBot c =

@@ -4,8 +4,8 @@ use Rattle.lobby_model.specs.State.{name_of}
 use Rattle.lobby_model.specs.Outcome.{Outcome}
 use Rattle.lobby_model.specs.Commands.{answer}
 use Rattle.lobby_post.specs.Posted.{begun}
-use Rattle.lobby_guards.specs.Answers.{Answers, Denied, refusal_reply}
-use Rattle.lobby_guards.specs.declared.refusal.Stop.{Stop}
+use Rattle.battle_rules.specs.Answers.{Answers, Denied, refusal_reply}
+use Rattle.battle_rules.specs.declared.refusal.Stop.{Stop}
 use Rattle.lobby_machine.proofs.Spoken.{refused}
 use Rattle.lobby_machine.proofs.rules.decide.Goals as goal
 

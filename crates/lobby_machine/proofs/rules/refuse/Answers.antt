@@ -2,7 +2,7 @@ use Rattle.std.proofs.Common.{◌∙◌, subst, ap, [], ◌∷◌}
 use Rattle.reply_kinds.specs.declared.Reply.{Reply}
 use Rattle.lobby_model.specs.Outcome.{tell, issuer}
 use Rattle.lobby_post.specs.Posted.{Told}
-use Rattle.lobby_guards.specs.Answers.{reply_saying}
+use Rattle.battle_rules.specs.Answers.{reply_saying}
 use Rattle.lobby_machine.proofs.rules.refuse.Goals as goal
 
 pub returns : goal.returns

@@ -37,4 +37,4 @@ returns-in-Finished g c =
     sends_finished _ _ _ _ _ _ _ c.in-Finished.is c.loop-writes-test.true (omega (arith, c.loop-writes-test.true)) c.loop-writes.invariant c.send_next-next.ensures c.write_out-in-Finished.ensures
 
 pub loop-writes-preserved : goal.loop-writes-preserved
-loop-writes-preserved g c = sending_wrote _ _ _ _ _ c.in-Wrote.is c.loop-writes.invariant c.send_next-next.ensures
+loop-writes-preserved g c = sending_wrote _ _ _ _ _ c.in-Again.is c.loop-writes.invariant c.send_next-next.ensures

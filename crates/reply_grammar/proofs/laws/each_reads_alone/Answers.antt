@@ -1,6 +1,6 @@
 use Rattle.std.proofs.Common.{refl, sym, subst}
 use Rattle.reply_kinds.specs.Replies.{Line, ReadsAs, line_text}
-use Rattle.reply_reader.proofs.Whole.{alike}
+use Rattle.reply_grammar.proofs.Whole.{alike}
 use Rattle.reply_grammar.proofs.laws.each_reads_alone.Goals as goal
 
 pub returns : goal.returns

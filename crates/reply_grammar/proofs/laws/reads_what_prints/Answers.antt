@@ -1,4 +1,4 @@
-use Rattle.reply_reader.proofs.Whole.{reading_is_inverse}
+use Rattle.reply_grammar.proofs.Whole.{reading_is_inverse}
 use Rattle.reply_grammar.proofs.laws.reads_what_prints.Goals as goal
 
 pub returns : goal.returns

@@ -1,7 +1,3 @@
-use Rattle.std.proofs.Common.{codes, [], ◌∷◌}
-use Rattle.reply_kinds.specs.Kinds.{printed, Name, Word, Number, Wide, Flag, Sentence, NextSentence}
-use Rattle.reply_kinds.specs.Replies.{id_text}
-use Rattle.reply_printer.proofs.Opened.{regroup}
 use Rattle.reply_printer.proofs.printing.put_reply.Goals as goal
 
 pub returns-in-TasServer-clause-ok : goal.returns-in-TasServer-clause-ok
@@ -139,9 +135,5 @@ returns-in-EnableUnits-clause-ok c = rw (c.in-EnableUnits.is) c.put_line-in-Enab
 pub returns-in-EnableAllUnits-clause-ok : goal.returns-in-EnableAllUnits-clause-ok
 returns-in-EnableAllUnits-clause-ok c = rw (c.in-EnableAllUnits.is) c.put_line-in-EnableAllUnits.ensures.ok
 
--- a row of many fields, printed part by part
-pub returns-in_ok-put_end-in-BattleOpened-clause-ok : goal.returns-in_ok-put_end-in-BattleOpened-clause-ok
-returns-in_ok-put_end-in-BattleOpened-clause-ok c =
-    let b = c.in-BattleOpened in
-    rw (b.is, c.in_ok-put_end-in-BattleOpened.ensures.ok, c.in_ok-put-in-BattleOpened-4.ensures.ok, c.in_ok-put-in-BattleOpened-3.ensures.ok, c.in_ok-put-in-BattleOpened-2.ensures.ok, c.in_ok-put-in-BattleOpened.ensures.ok, c.in_ok-put_command-in-BattleOpened.ensures.ok)
-    (regroup c.args.out.now.items (id_text c.args.id) (codes "BATTLEOPENED") (printed (Number 1 2147483647) b.battle) (printed (Number 0 1) b.battle_type) (printed (Number 0 2) b.nat_type) (printed Name b.founder) (printed Word b.ip) (printed (Number 0 65535) b.port) (printed (Number 0 65535) b.max_players) (printed Flag b.passworded) (printed Wide b.rank) (printed Wide b.map_hash) (printed Sentence b.engine_name) (printed NextSentence b.engine_version) (printed NextSentence b.map) (printed NextSentence b.title) (printed NextSentence b.game_name) (10 ∷ []))
+pub returns-in-BattleOpened-clause-ok : goal.returns-in-BattleOpened-clause-ok
+returns-in-BattleOpened-clause-ok c = rw (c.in-BattleOpened.is) c.put_line-in-BattleOpened.ensures.ok

@@ -10,4 +10,4 @@ use Rattle.battle_room.proofs.askers.Askers.as_slice.Goals as goal
 pub returns-clause-distinct : goal.returns-clause-distinct
 returns-clause-distinct c =
     subst (λ (ms : List room.Asker). IsDistinct same_name (map (λ a. a.name) ms)) (sym (c.as_slice-2.ensures ∙ c.values.ensures.rest ∙ ap values_of c.as_slice.ensures.entries))
-    (distinct_values (λ (name : List ℕ). name) (λ (a : room.Asker). a.name) c.self.inside.by_name.entries c.self.invariant c.as_slice.ensures.unique)
+    (distinct_values (λ (name : List ℕ). name) (λ (a : room.Asker). a.name) c.self.inside.by_name.entries c.self.invariant.0 c.as_slice.ensures.unique)

@@ -8,5 +8,5 @@ use Rattle.battle_room.proofs.members.Members.has.Goals as goal
 pub returns : goal.returns
 returns g c =
     c.contains_key.ensures
-    ∙ has_value (λ (name : List ℕ). name) (λ (m : room.Member). m.name) c.args.name.now c.self.inside.by_name.entries c.self.invariant
+    ∙ has_value (λ (name : List ℕ). name) (λ (m : room.Member). m.name) c.args.name.now c.self.inside.by_name.entries c.self.invariant.0
     ∙ ap (λ (ms : List room.Member). is_among c.args.name.now (map (λ m. m.name) ms)) c.self.view_is

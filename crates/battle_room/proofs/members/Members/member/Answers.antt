@@ -8,5 +8,5 @@ use Rattle.battle_room.proofs.members.Members.member.Goals as goal
 pub returns : goal.returns
 returns g c =
     c.get.ensures.value
-    ∙ value_found (λ (name : List ℕ). name) (λ (m : room.Member). m.name) c.args.name.now c.self.inside.by_name.entries c.self.invariant
+    ∙ value_found (λ (name : List ℕ). name) (λ (m : room.Member). m.name) c.args.name.now c.self.inside.by_name.entries c.self.invariant.0
     ∙ ap (λ (ms : List room.Member). find (λ m. same_name c.args.name.now m.name) ms) c.self.view_is

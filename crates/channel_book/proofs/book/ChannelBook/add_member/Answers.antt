@@ -13,12 +13,12 @@ invariant_of-self-in-Err g c =
     c.remove.ensures
     ∙ (λ i. without_place (c.copy-place.ensures i) (c.copy-member.ensures i) (placed i))
     ∙ undone c.args.channel c.args.user (places_in c.self.inside.lists)
-    (not_placed c.self.inside.lists c.args.user c.len.ensures.ordered c.args.channel none)
+    (not_placed c.self.inside.lists c.args.user c.add-2.ensures.ordered c.args.channel none)
     ∙ ap places_in (sym c.in-Err.ensures.err)
 
 pub invariant_of-self-in_default : goal.invariant_of-self-in_default
 invariant_of-self-in_default g c =
     c.in_ok-add.ensures.ok
     ∙ (λ i. with_place (c.copy-place.ensures i) (c.copy-member.ensures i) (c.self.invariant i))
-    ∙ sym (places-joined c.self.inside.lists c.args.user c.len.ensures.ordered c.args.channel)
+    ∙ sym (places-joined c.self.inside.lists c.args.user c.add-2.ensures.ordered c.args.channel)
     ∙ ap places_in (sym c.in_default.ensures.ok)

@@ -7,5 +7,5 @@ pub invariant_of-self : goal.invariant_of-self
 invariant_of-self g c =
     c.remove-2.ensures
     ∙ ap (without_place c.args.channel.now c.args.user.now) c.self.invariant
-    ∙ sym (places-left c.self.inside.lists c.args.user.now c.len.ensures.ordered c.args.channel.now)
-    ∙ ap places_in (sym c.remove.ensures)
+    ∙ sym (places-left c.self.inside.lists c.args.user.now c.remove.ensures.ordered c.args.channel.now)
+    ∙ ap places_in (sym c.remove.ensures.left)

@@ -23,8 +23,8 @@ invariant_of-self-else-not-remove g c = subst AreLively (sym (
     c.get_mut.ensures.ordered c.in-Some.ensures.value c.remove.ensures.names (sym c.remove.ensures.rest ∙ c.if-not-remove.false)))
     (AreLively-left c.self.inside.channels.entries c.args.channel.now c.args.user.now c.self.invariant)
 
-pub returns-then-not-remove : goal.returns-then-not-remove
-returns-then-not-remove g c =
+pub returns-then-not-remove-clause-left : goal.returns-then-not-remove-clause-left
+returns-then-not-remove-clause-left g c =
     let same : c.match-remove.self ≡ c.remove-then-not-remove.new.self.entries = search rules in
     same ∙ c.remove-then-not-remove.ensures.entries
     ∙ ap (remove_entry (is_at (name_cmp c.args.channel.now))) (c.get_mut.follows.holds c.remove.new.self).0
@@ -32,15 +32,15 @@ returns-then-not-remove g c =
     c.get_mut.ensures.ordered c.in-Some.ensures.value c.remove.ensures.names (sym c.remove.ensures.rest ∙ c.if-not-remove.true)
     ∙ ap (left c.args.channel.now c.args.user.now) c.self.view_is
 
-pub returns-else-not-remove : goal.returns-else-not-remove
-returns-else-not-remove g c =
+pub returns-else-not-remove-clause-left : goal.returns-else-not-remove-clause-left
+returns-else-not-remove-clause-left g c =
     (c.get_mut.follows.holds c.remove.new.self).0
     ∙ left_stays c.self.inside.channels.entries c.args.channel.now c.args.user.now c.self.invariant c.in-Some.members.now c.remove.new.self
     c.get_mut.ensures.ordered c.in-Some.ensures.value c.remove.ensures.names (sym c.remove.ensures.rest ∙ c.if-not-remove.false)
     ∙ ap (left c.args.channel.now c.args.user.now) c.self.view_is
 
-pub returns-in_default : goal.returns-in_default
-returns-in_default g c =
+pub returns-in_default-clause-left : goal.returns-in_default-clause-left
+returns-in_default-clause-left g c =
     (λ i. (c.get_mut.follows.holds-at-none i).entries)
     ∙ left_none c.self.inside.channels.entries c.args.channel.now c.args.user.now c.self.invariant (none_of c.get_mut.result c.in_default.not-Some ∙ c.get_mut.ensures.value)
     ∙ ap (left c.args.channel.now c.args.user.now) c.self.view_is

@@ -1,39 +1,11 @@
 use Rattle.std.proofs.Common.{◌≡◌, refl}
 use Rattle.reply_kinds.specs.declared.Reply.TheVariants as reply
-use Rattle.lobby_view.specs.View.{View, shown}
-use Rattle.noted_map.specs.Undoable.{Changes}
-use Rattle.client_view.proofs.Changing.{unchanged}
+use Rattle.client_view.specs.Told.{IsNoLogin}
 use Rattle.client_view.proofs.undoable_known.UndoableKnown.fold.Goals as goal
 
--- the arms above take each reply that changes something; of each of the others it is shown here that it changes nothing
-pub returns-in_default-clause-ok : goal.returns-in_default-clause-ok
-returns-in_default-clause-ok c =
-    elim c.args.reply.now as (λ r. c.args.reply.now ≡ r → Changes (λ (v : View). shown v r) c.args.self.now c.args.self.now) [
+pub fold-requires : goal.fold-requires
+fold-requires c =
+    elim c.args.reply.now as (λ r. c.args.reply.now ≡ r → IsNoLogin r) [
       | reply.Accepted user ↦ λ e. absurd (c.in_default.not-Accepted user e)
-      | reply.AddUser user country cpu account ↦ λ e. absurd (c.in_default.not-AddUser user country cpu account e)
-      | reply.RemoveUser user ↦ λ e. absurd (c.in_default.not-RemoveUser user e)
-      | reply.ClientStatus user status ↦ λ e. absurd (c.in_default.not-ClientStatus user status e)
-      | reply.Join channel ↦ λ e. absurd (c.in_default.not-Join channel e)
-      | reply.Clients channel names ↦ λ e. absurd (c.in_default.not-Clients channel names e)
-      | reply.Joined channel user ↦ λ e. absurd (c.in_default.not-Joined channel user e)
-      | reply.Left channel user ↦ λ e. absurd (c.in_default.not-Left channel user e)
-      | reply.OpenBattle battle ↦ λ e. absurd (c.in_default.not-OpenBattle battle e)
-      | reply.BattleClosed battle ↦ λ e. absurd (c.in_default.not-BattleClosed battle e)
-      | reply.JoinBattle battle game_hash ↦ λ e. absurd (c.in_default.not-JoinBattle battle game_hash e)
-      | reply.JoinedBattle battle user script_password ↦ λ e. absurd (c.in_default.not-JoinedBattle battle user script_password e)
-      | reply.LeftBattle battle user ↦ λ e. absurd (c.in_default.not-LeftBattle battle user e)
-      | reply.UpdateBattleInfo battle spectator_count locked map_hash map ↦ λ e. absurd (c.in_default.not-UpdateBattleInfo battle spectator_count locked map_hash map e)
-      | reply.BattleOpened battle battle_type nat_type founder ip port max_players passworded rank map_hash engine_name engine_version map title game_name ↦ λ e. absurd (c.in_default.not-BattleOpened battle battle_type nat_type founder ip port max_players passworded rank map_hash engine_name engine_version map title game_name e)
-      | reply.ClientBattleStatus user status colour ↦ λ e. absurd (c.in_default.not-ClientBattleStatus user status colour e)
-      | reply.AddBot battle bot owner status colour ai ↦ λ e. absurd (c.in_default.not-AddBot battle bot owner status colour ai e)
-      | reply.UpdateBot battle bot status colour ↦ λ e. absurd (c.in_default.not-UpdateBot battle bot status colour e)
-      | reply.RemoveBot battle bot ↦ λ e. absurd (c.in_default.not-RemoveBot battle bot e)
-      | reply.AddStartRect ally left top right bottom ↦ λ e. absurd (c.in_default.not-AddStartRect ally left top right bottom e)
-      | reply.RemoveStartRect ally ↦ λ e. absurd (c.in_default.not-RemoveStartRect ally e)
-      | reply.SetScriptTags pairs ↦ λ e. absurd (c.in_default.not-SetScriptTags pairs e)
-      | reply.RemoveScriptTags keys ↦ λ e. absurd (c.in_default.not-RemoveScriptTags keys e)
-      | reply.DisableUnits units ↦ λ e. absurd (c.in_default.not-DisableUnits units e)
-      | reply.EnableUnits units ↦ λ e. absurd (c.in_default.not-EnableUnits units e)
-      | reply.EnableAllUnits ↦ λ e. absurd (c.in_default.not-EnableAllUnits e)
-      | r ↦ λ e. unchanged c.args.self.now
+      | r ↦ λ e. tt
     ] refl

@@ -1,7 +1,7 @@
 use Rattle.std.proofs.Common.{◌≡◌, sym, subst, length}
 use Rattle.std.specs.Prelude.{OnOk, IfOk}
 use Rattle.reply_kinds.specs.declared.command_word.CommandWord.{CommandWord}
-use Rattle.reply_reader.specs.Lines.{read_arguments}
+use Rattle.reply_grammar.specs.Lines.{read_arguments}
 use Rattle.lobby_view.specs.View.{View, shown_all}
 use Rattle.noted_map.specs.Undoable.{Changes}
 use Rattle.client_view.specs.Told.{told}

@@ -1,7 +1,7 @@
 use Rattle.std.proofs.Common.{ap, refl}
 use Rattle.std.specs.Prelude.{not}
 use Rattle.lobby_post.proofs.Telling.{told_then}
-use Rattle.lobby_guards.proofs.Obeying.{passes}
+use Rattle.battle_rules.proofs.Obeying.{passes}
 use Rattle.lobby_machine.proofs.rules.channels.say_private.Goals as goal
 
 pub returns : goal.returns

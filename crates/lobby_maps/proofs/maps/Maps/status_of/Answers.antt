@@ -1,17 +1,18 @@
 use Rattle.std.proofs.Common.{◌∙◌, ap, sym}
-use Rattle.lobby_model.specs.State.{State, name_of}
+use Rattle.std.specs.Prelude.{None, Some}
+use Rattle.lobby_model.specs.State.{State}
 use Rattle.lobby_model.specs.Sessions.{status_in}
-use Rattle.lobby_battles.proofs.Agreed.{has_seat}
 use Rattle.lobby_battles.proofs.Users.{user_at}
 use Rattle.lobby_maps.proofs.Plain.{plainly}
 use Rattle.lobby_maps.proofs.maps.Maps.status_of.Goals as goal
 
-pub returns-in-Some-clause-status : goal.returns-in-Some-clause-status
-returns-in-Some-clause-status c =
-    sym (ap status_in (user_at c.self.inside.seats.users.entries c.args.self.now.plain.users c.args.name.now _
+pub returns-in-Some : goal.returns-in-Some
+returns-in-Some c =
+    sym (ap status_in (user_at c.self.inside.seats.users.entries c.args.self.now.plain.users c.args.name.now (Some c.in-Some.seat.now)
     (ap (λ (s : State). s.users) (plainly c.self.view_is)) c.in-Some.ensures.value))
 
-pub returns-in-None-clause-there : goal.returns-in-None-clause-there
-returns-in-None-clause-there c = λ client named.
-    absurd (has_seat _ c.self.inside.seats.users.entries client c.args.name.now c.self.invariant.1.agree
-    (ap (λ (s : State). name_of s client) (plainly c.self.view_is) ∙ named) c.in-None.ensures.value)
+pub returns-in-None : goal.returns-in-None
+returns-in-None c =
+    c.of_account.ensures.word
+    ∙ sym (ap status_in (user_at c.self.inside.seats.users.entries c.args.self.now.plain.users c.args.name.now None
+    (ap (λ (s : State). s.users) (plainly c.self.view_is)) c.in-None.ensures.value))

@@ -11,5 +11,5 @@ returns g c =
     let entries = c.self.inside.by_key.entries in
     c.in_ok-put.ensures.ok ∙ ap (λ ts. with_items key_of ts c.in_ok-items.items.items) c.new-copy.ensures
     ∙ ap (with_items key_of []) (c.in_ok-items.ensures ∙ c.as_slice.ensures ∙ sym c.self.view_is)
-    ∙ copied key_of (items_of whole entries) (distinct_kept key_of whole entries c.self.invariant c.len.ensures.unique)
+    ∙ copied key_of (items_of whole entries) (distinct_kept key_of whole entries c.self.invariant.0 c.self.invariant.1)
     ∙ c.self.view_is

@@ -12,7 +12,7 @@ loop-key-preserved g c =
     (spare c.loop-key.self-inside.by_key) (spare c.insert.new.self)
     c.loop-key.invariant.keys c.loop-key.invariant.left c.loop-key.invariant.said c.loop-key.invariant.fits
     c.in-Some.ensures.steps.0 c.in_ok-insert.ensures.entries c.insert.ensures.spare in
-    record { keys = put.0; left = put.1; said = put.2; fits = put.3 }
+    record { keys = put.0; apart = c.insert.ensures.unique; left = put.1; said = put.2; fits = put.3 }
 
 pub loop-key-preserved-in_ok-insert : goal.loop-key-preserved-in_ok-insert
 loop-key-preserved-in_ok-insert g c =
@@ -22,4 +22,4 @@ loop-key-preserved-in_ok-insert g c =
     (spare c.loop-key.self-inside.by_key) (spare c.insert.new.self)
     c.loop-key.invariant.keys c.loop-key.invariant.left c.loop-key.invariant.said c.loop-key.invariant.fits
     c.in-Some.ensures.steps.0 c.in_ok-insert.ensures.entries c.insert.ensures.spare in
-    record { keys = put.0; left = put.1; said = put.2; fits = put.3 }
+    record { keys = put.0; apart = c.insert.ensures.unique; left = put.1; said = put.2; fits = put.3 }

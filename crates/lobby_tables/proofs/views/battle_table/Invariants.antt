@@ -1,8 +1,0 @@
-use Rattle.std.proofs.Common.{map}
-use Rattle.std.specs.Map.Iter.{deref_pair}
-use Rattle.lobby_tables.specs.Layout.{IsTable}
-use Rattle.lobby_tables.specs.Rows.{battle_row, battle_shown}
-use Rattle.lobby_tables.proofs.views.battle_table.Given as goal
-
-abbrev pub invariant-loop-number : goal.invariant-loop-number
-invariant-loop-number l = IsTable battle_row battle_shown (map deref_pair l.yielded) l.rows.items l.text.items

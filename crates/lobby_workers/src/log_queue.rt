@@ -1,0 +1,191 @@
+//! What workers tell operators, on its way to a thread that writes it.
+//!
+//! A worker puts and never waits. The thread writes whole lines, many in a write where many wait.
+
+use crate::log_lines::Lines;
+use crossbeam_queue::ArrayQueue;
+use server_log::{Happening, LogLevel, Started};
+use std::alloc::{AllocError, Global};
+use std::io::{ErrorKind, Write};
+use std::sync::Wait;
+use std::sync::atomic::{AtomicBool, AtomicU64, Ordering};
+use std::time::Duration;
+
+/// The most happenings that wait to be written. A burst of logins fits, as long as lines are written faster than users
+/// log in; what comes while no line can be written is lost.
+const WAITING: usize = 1_024;
+
+/// So many wake a thread that gathers.
+const MANY: usize = WAITING / 2;
+
+/// The milliseconds for which the thread that has written lets lines gather, so that a burst wakes it a few times, and
+/// one write has many.
+const GATHERING: u64 = 20;
+
+/// What `sleep` shows while the thread that writes is awake.
+const AWAKE: u64 = 0;
+
+/// What it shows where that thread may be asleep.
+const ASLEEP: u64 = 1;
+
+/// What it shows where that thread may sleep while lines gather.
+const GATHERS: u64 = 2;
+
+/// What waits to be written. A worker puts and never waits: what finds no place is counted as lost, and its number is
+/// written as soon as a line can be.
+pub struct LogQueue {
+    level: LogLevel,
+    started: Started,
+    waiting: ArrayQueue<Happening>,
+    lost: AtomicU64,
+    sleep: AtomicU64,
+    is_over: AtomicBool,
+}
+
+impl Drop for LogQueue {
+    /// Who lets one go calls this, and need not know what it is made of.
+    fn drop(self) {
+        let LogQueue {
+            level: _,
+            started,
+            waiting,
+            lost,
+            sleep,
+            is_over,
+        } = self;
+        drop(started);
+        drop(waiting);
+        drop(lost);
+        drop(sleep);
+        drop(is_over);
+    }
+}
+
+/// What a try to write came to.
+#[derive(Clone, Copy, PartialEq, Eq, Debug)]
+enum Tried {
+    /// All that waited was written.
+    Written,
+    /// Nothing waited.
+    Nothing,
+    /// Standard error takes nothing now, and was waited for.
+    Full,
+    /// Standard error failed.
+    Failed,
+}
+
+impl LogQueue {
+    /// Nothing yet. Fails only where memory is refused.
+    pub fn new(alloc: Global, level: LogLevel, started: Started) -> Result<LogQueue, AllocError> {
+        let waiting = ArrayQueue::new(alloc, WAITING)?;
+        Ok(LogQueue {
+            level,
+            started,
+            waiting,
+            lost: AtomicU64::new(0),
+            sleep: AtomicU64::new(AWAKE),
+            is_over: AtomicBool::new(false),
+        })
+    }
+
+    /// Puts a happening, where its level is told.
+    pub(crate) fn put<R: Wait>(&self, rt: &R, happening: Happening) {
+        if !self.level.tells(&happening) {
+            return;
+        }
+        if self.waiting.push(rt, happening).is_err() {
+            self.lost.fetch_add(1, Ordering::SeqCst);
+        }
+        let sleep = self.sleep.load(Ordering::SeqCst);
+        if sleep == ASLEEP || (sleep == GATHERS && self.waiting.len(rt) >= MANY) {
+            self.wake();
+        }
+    }
+
+    /// Puts which server has started.
+    pub(crate) fn put_started<R: Wait>(&self, rt: &R) {
+        self.put(rt, Happening::Started(self.started.copy()));
+    }
+
+    /// Nothing more will be put.
+    pub fn end(&self) {
+        self.is_over.store(true, Ordering::SeqCst);
+        self.wake();
+    }
+
+    /// Wakes the thread that writes, where it may be asleep.
+    fn wake(&self) {
+        if self.sleep.swap(AWAKE, Ordering::SeqCst) != AWAKE {
+            self.sleep.wake_one();
+        }
+    }
+
+    /// Writes what is put on standard error, in pieces of whole lines, until nothing more will be. It sleeps where
+    /// nothing is there. What standard error does not take it keeps for a later try, and gives up at the end.
+    ///
+    /// Who is about to sleep shows it, and looks once more; who puts looks whether it is shown behind what it put. So
+    /// nobody sleeps beside what was put.
+    pub fn write_until_end<R: Wait, E: Write + Drop>(&self, rt: &R, errors: E, lines: Lines) {
+        let mut errors = errors;
+        let mut lines = lines;
+        for _ in rt.forever() {
+            let is_over = self.is_over.load(Ordering::SeqCst);
+            self.sleep.store(ASLEEP, Ordering::SeqCst);
+            match self.write_waiting(rt, &mut errors, &mut lines) {
+                Tried::Written if is_over => {}
+                Tried::Written => self.gather(rt),
+                Tried::Nothing | Tried::Full | Tried::Failed if is_over => break,
+                Tried::Full => {}
+                Tried::Nothing | Tried::Failed => self.sleep.park(rt, ASLEEP as u32),
+            }
+        }
+        drop(lines);
+        drop(errors);
+    }
+
+    /// Lets lines gather for a while, until they are many or nothing more will be put.
+    fn gather<R: Wait>(&self, rt: &R) {
+        self.sleep.store(GATHERS, Ordering::SeqCst);
+        if !self.is_over.load(Ordering::SeqCst) && self.waiting.len(rt) < MANY {
+            let most = Duration::from_millis(GATHERING);
+            self.sleep.park_timeout(rt, GATHERS as u32, most);
+        }
+    }
+
+    /// Writes what waits, and how many were lost.
+    fn write_waiting<R: Wait, E: Write>(&self, rt: &R, errors: &mut E, lines: &mut Lines) -> Tried {
+        let mut tried = Tried::Nothing;
+        for _ in 0..WAITING {
+            self.fill(rt, lines);
+            if lines.is_empty() {
+                break;
+            }
+            tried = match lines.write(errors) {
+                Ok(()) => Tried::Written,
+                Err(error) if error.kind() == ErrorKind::WouldBlock => return Tried::Full,
+                Err(_) => return Tried::Failed,
+            };
+        }
+        tried
+    }
+
+    /// Adds what waits to the lines of a write, as far as they have room, and behind all of it how many were lost. One
+    /// whose line is refused memory is lost.
+    fn fill<R: Wait>(&self, rt: &R, lines: &mut Lines) {
+        for _ in 0..WAITING {
+            if !lines.has_room() {
+                return;
+            }
+            let Some(happening) = self.waiting.pop(rt) else {
+                break;
+            };
+            if !lines.add(&happening) {
+                self.lost.fetch_add(1, Ordering::SeqCst);
+            }
+        }
+        let lost = self.lost.load(Ordering::SeqCst);
+        if lost > 0 && lines.has_room() && lines.add(&Happening::Lost(lost)) {
+            self.lost.fetch_sub(lost, Ordering::SeqCst);
+        }
+    }
+}

@@ -1,0 +1,43 @@
+//! The gate through which workers tell operators.
+
+use crate::log_queue::LogQueue;
+use lobby_turns::Gate;
+use server_log::Happening;
+use std::sync::Wait;
+
+/// A gate that also puts what operators are told.
+#[derive(Drop)]
+pub struct Reporter<'a, 'g, R: Wait, G> {
+    /// To put with.
+    pub rt: &'a R,
+    /// What is told what workers do.
+    pub gate: &'g G,
+    /// Where it puts.
+    pub log: &'a LogQueue,
+}
+
+impl<R: Wait, G: Gate> Gate for Reporter<'_, '_, R, G> {
+    fn before_take(&self, worker: u8) {
+        self.gate.before_take(worker);
+    }
+
+    fn after_write(&self, worker: u8, bytes: &[u8]) {
+        self.gate.after_write(worker, bytes);
+    }
+
+    fn after_turn(&self, worker: u8, told: u64) {
+        self.gate.after_turn(worker, told);
+    }
+
+    fn woken(&self, worker: u8) {
+        self.gate.woken(worker);
+    }
+
+    fn listening(&self) {
+        self.log.put_started(self.rt);
+    }
+
+    fn tell(&self, happening: Happening) {
+        self.log.put(self.rt, happening);
+    }
+}

@@ -1,0 +1,6 @@
+use Rattle.std.proofs.Common.{append_assoc}
+use Rattle.std.proofs.lemmas.Result.{IfOk-equal}
+use Rattle.reply_printer.proofs.opened.put_host.Goals as goal
+
+pub returns-clause-ok : goal.returns-clause-ok
+returns-clause-ok c = IfOk-equal _ _ _ _ c.put_number-3.ensures.ok (rw (c.in_ok-put_word.ensures.ok, append_assoc, c.in_ok-put_name.ensures.ok, append_assoc, c.in_ok-put_number-2.ensures.ok, append_assoc, c.in_ok-put_number.ensures.ok, append_assoc) (rw (c.from.ensures, c.from-2.ensures, c.from-3.ensures)))

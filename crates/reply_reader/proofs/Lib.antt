@@ -1,5 +1,0 @@
-pub mod Inverse
-pub mod Whole
-pub mod Dispatch
-pub mod Named
-pub mod Behind

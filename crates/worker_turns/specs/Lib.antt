@@ -1,1 +1,0 @@
-pub use Rattle.lobby_turns.specs.Wire
