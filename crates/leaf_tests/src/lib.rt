@@ -18,6 +18,8 @@ mod marks;
 #[cfg(test)]
 mod outboxes;
 #[cfg(test)]
+mod records;
+#[cfg(test)]
 mod replies;
 #[cfg(test)]
 mod requests;

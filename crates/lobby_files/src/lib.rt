@@ -7,5 +7,5 @@ mod files;
 mod report;
 
 pub use error::{AccountsFault, FileError};
-pub use files::{accounts_at, settings_at};
+pub use files::{accounts_at, accounts_of, read_file, settings_at};
 pub use report::{CLIENT_LIMIT, check};

@@ -5,7 +5,7 @@ use Rattle.std.proofs.lemmas.Bool.{eqb-true}
 use Rattle.std.proofs.lemmas.Fmt.{decimal_injective}
 use Rattle.account_book.specs.Account.{Account}
 use Rattle.proxy_line.specs.Words.{IsNumber, LeadsWith, PartedAt, IsAddress, dotted}
-use Rattle.lobby_script.specs.Escapes.{Written, plain, line_feed, tab, carriage_return, backslash, hexadecimal, BeginsWritten, StandsForBytes}
+use Rattle.record_lines.specs.Escapes.{Written, plain, line_feed, tab, carriage_return, backslash, hexadecimal, BeginsWritten, StandsForBytes}
 use Rattle.lobby_script.specs.Accounts.{HasFields, IsRankAndCountry}
 use Rattle.proxy_line.proofs.Parts.{parted_once, never_parted, lacks_digits}
 use Rattle.lobby_script.proofs.EscapeLemmas.{front_of_nothing}

@@ -1,11 +1,12 @@
 //! The server over sockets: what it makes before its workers start, these in threads of their own, each with its
-//! connections, a log for its operators, and why a server ends.
+//! connections, a log for its operators, a record of what happens, and why a server ends.
 //!
 //! What a worker does is in `worker_loop`.
 #![tactic(auto)]
 
 mod error;
 mod logged;
+mod recorded;
 mod server;
 mod workers;
 
@@ -13,6 +14,7 @@ pub use error::ServerError;
 pub use lobby_machine::HashSeed;
 pub use lobby_turns::{Conn, Gate, Got, Link, Sent, Turn, TurnState, serve};
 pub use logged::{Log, run_server_logged};
+pub use recorded::run_server_recorded;
 pub use server::{Service, run_server, run_service};
 pub use worker_loop::{Arrival, Inboxes, ListenError, Wakers, WorkerListener, run_worker};
 pub use workers::{Handles, NewWorker, new_workers, open_desk};

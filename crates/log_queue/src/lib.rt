@@ -6,7 +6,9 @@
 mod lines;
 mod queue;
 mod reporter;
+mod sleep;
 
 pub use lines::Lines;
 pub use queue::LogQueue;
 pub use reporter::Reporter;
+pub use sleep::WriterSleep;

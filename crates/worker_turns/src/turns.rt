@@ -2,6 +2,7 @@
 
 ghost use Rattle.std.specs.Prelude.{◌≡◌, ◌<◌, [], ◌∷◌, ◌++◌, OnOk, OnErr};
 ghost use Rattle.lobby_model.specs.declared.event.Event.TheVariants as event;
+ghost use Rattle.lobby_lock.specs.Passes.{pass_after};
 ghost use Rattle.lobby_turns.specs.Holds.{IsTaken, Stands};
 
 use crate::inboxes::{Arrival, Inboxes};
@@ -342,6 +343,18 @@ fn take<R: Wait, G: Gate>(rt: &R, shared: &Shared<'_, G>, pass: Pass) -> Held
     gated.take(rt, pass)
 }
 
+/// Gives the lobby back, and tells the gate what the hold made.
+fn give<R: Wait, G: Gate>(rt: &R, shared: &Shared<'_, G>, held: Held) -> Pass
+    requires { held.pass.desk ≡ shared.now.desk.now }
+    ensures { result ≡ pass_after held }
+{
+    let gated = GatedDesk {
+        desk: shared.desk,
+        gate: shared.gate,
+    };
+    gated.give(rt, held)
+}
+
 /// Takes names of changed clients in one hold. Whether these are all.
 fn take_some_names<R: Wait, G: Gate>(
     rt: &R,
@@ -356,7 +369,7 @@ fn take_some_names<R: Wait, G: Gate>(
     let home = pass.number();
     let mut held = take(rt, shared, pass);
     let are_all = connections.take_names(&mut held, home);
-    (held.give(rt, shared.desk), are_all)
+    (give(rt, shared, held), are_all)
 }
 
 /// Opens a client, with its worker's number as home.
@@ -375,7 +388,7 @@ fn open<R: Wait, G: Gate>(
     let home = pass.number();
     let mut held = take(rt, shared, pass);
     let opened = held.open(ip, home);
-    (held.give(rt, shared.desk), opened)
+    (give(rt, shared, held), opened)
 }
 
 /// One turn of a connection. The client of a link that has no room for a turn is shut. Where a link is gone and memory

@@ -1,0 +1,175 @@
+//! Records of a server, by hand: joined, refused, and asked.
+
+use crate::verdict::same;
+use account_book::AccountBook;
+use lobby_model::Settings;
+use lobby_model::settings::DEFAULT_OUTBOX_LIMIT;
+use record_play::{QuestionFault, RecordFault, Replay, answer};
+use std::alloc::Global;
+
+/// The files of a record, questions, and what comes of them: the first place that it does not have, and the output.
+struct Asked {
+    files: &'static [&'static [u8]],
+    questions: &'static [u8],
+    told: Result<u64, QuestionFault>,
+    output: &'static [u8],
+}
+
+const fn refused(files: &'static [&'static [u8]], fault: RecordFault) -> Asked {
+    Asked {
+        files,
+        questions: b"",
+        told: Err(QuestionFault::Record(fault)),
+        output: b"",
+    }
+}
+
+const FIRST: &[u8] = b"0 open 1 10.0.0.1\n2 send 1 PING\\n\n2 take 1\n3 read 1 29\nend stop\n";
+
+const SECOND: &[u8] = b"1 open 2 10.0.0.2\n4 shut 2\nend stop\n";
+
+const GREETED: &[u8] = b"1> TASSERVER 0.38 * 8201 0\n";
+
+/// What is shown, and up to where.
+static ANSWERED: [Asked; 6] = [
+    Asked {
+        files: &[FIRST, SECOND],
+        questions: b"show 1\nshow 2\nshow 1\nshow 3\n",
+        told: Ok(5),
+        output: b"1> TASSERVER 0.38 * 8201 0\n1> PONG\n2> TASSERVER 0.38 * 8201 0\n",
+    },
+    Asked {
+        files: &[SECOND, FIRST],
+        questions: b"until 2\nshow 1\n\nuntil 3\nshow 1",
+        told: Ok(5),
+        output: b"1> TASSERVER 0.38 * 8201 0\n1> PONG\n",
+    },
+    // Its last line was not written to its end.
+    Asked {
+        files: &[b"0 open 1 10.0.0.1\n2 send 1 PI", SECOND],
+        questions: b"show 1\n",
+        told: Ok(2),
+        output: GREETED,
+    },
+    // What the other worker made behind the end is left out.
+    Asked {
+        files: &[b"0 open 1 10.0.0.1\nend full\n", SECOND],
+        questions: b"show 1\n",
+        told: Ok(2),
+        output: GREETED,
+    },
+    Asked {
+        files: &[FIRST, SECOND],
+        questions: b"until 1\nview 1\n",
+        told: Ok(5),
+        output: b"me \n",
+    },
+    Asked {
+        files: &[b"end disk\n", b""],
+        questions: b"until 9\n",
+        told: Ok(0),
+        output: b"",
+    },
+];
+
+/// Which line of which file is refused.
+static REFUSED: [Asked; 13] = [
+    refused(
+        &[b"0 open 1 10.0.0.1\nend stop\n", SECOND],
+        RecordFault::Hole(2),
+    ),
+    refused(
+        &[FIRST, b"1 open 2 10.0.0.2\n2 shut 2\n"],
+        RecordFault::TwoOfOnePlace {
+            file: 1,
+            line: 2,
+            other: 0,
+        },
+    ),
+    refused(
+        &[FIRST, b"2 shut 2\n1 open 2 10.0.0.2\n"],
+        RecordFault::BadLine { file: 1, line: 2 },
+    ),
+    refused(
+        &[b"x open 1 10.0.0.1\n"],
+        RecordFault::BadLine { file: 0, line: 1 },
+    ),
+    refused(
+        &[b"00 open 1 10.0.0.1\n"],
+        RecordFault::BadLine { file: 0, line: 1 },
+    ),
+    refused(
+        &[b"end full\n0 open 1 10.0.0.1\n"],
+        RecordFault::BadLine { file: 0, line: 1 },
+    ),
+    refused(
+        &[b"0 open 1 10.0.0.1\n1 hop 1\n"],
+        RecordFault::BadLine { file: 0, line: 2 },
+    ),
+    refused(
+        &[b"0 open 1 10.0.0.1\n1 show 1\n"],
+        RecordFault::BadLine { file: 0, line: 2 },
+    ),
+    refused(&[b"0 motd x\n"], RecordFault::BadLine { file: 0, line: 1 }),
+    refused(
+        &[b"0 open 2 10.0.0.1\n"],
+        RecordFault::OtherCourse { file: 0, line: 1 },
+    ),
+    refused(
+        &[b"0 open 1 10.0.0.1\n1 send 1 PING\n1 take 1\n"],
+        RecordFault::OtherCourse { file: 0, line: 3 },
+    ),
+    refused(
+        &[b"0 open 1 10.0.0.1\n1 read 1 25\n"],
+        RecordFault::OtherCourse { file: 0, line: 2 },
+    ),
+    Asked {
+        files: &[FIRST, SECOND],
+        questions: b"show 1\nshow\n",
+        told: Err(QuestionFault::NoQuestion(2)),
+        output: b"1> TASSERVER 0.38 * 8201 0\n1> PONG\n",
+    },
+];
+
+/// What is told of a record, by default settings and no account.
+fn ask(alloc: Global, asked: &Asked, output: &mut Vec<u8>) -> Result<u64, QuestionFault> {
+    let Ok(settings) = Settings::new(alloc, b"0.38", b"*", 8201, 0, &[], DEFAULT_OUTBOX_LIMIT)
+    else {
+        return Err(QuestionFault::Memory);
+    };
+    let mut replay = match Replay::new(alloc, settings, AccountBook::new(alloc), asked.files) {
+        Ok(replay) => replay,
+        Err(fault) => return Err(QuestionFault::Record(fault)),
+    };
+    let missing = replay.missing();
+    let answered = answer(&mut replay, asked.questions, output);
+    drop(replay);
+    answered?;
+    Ok(missing)
+}
+
+#[test]
+fn records_are_joined_by_place(rt: HostRuntime) {
+    for (k, asked) in ANSWERED.iter().enumerate() {
+        let mut output = Vec::new(rt.alloc());
+        let told = ask(rt.alloc(), asked, &mut output);
+        same(
+            &rt,
+            (k, told, output.as_slice()),
+            (k, asked.told, asked.output),
+        );
+    }
+}
+
+#[test]
+fn lines_that_are_none_of_a_record_are_named(rt: HostRuntime) {
+    for (k, asked) in REFUSED.iter().enumerate() {
+        let mut output = Vec::new(rt.alloc());
+        let told = ask(rt.alloc(), asked, &mut output);
+        same(
+            &rt,
+            (k, told, output.as_slice()),
+            (k, asked.told, asked.output),
+        );
+    }
+}

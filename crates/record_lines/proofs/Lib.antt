@@ -1,0 +1,4 @@
+pub mod Escapes
+pub mod Lines
+pub mod Unread
+pub mod Masked

@@ -1,0 +1,60 @@
+-- Logins by the words that a record has.
+use Rattle.std.proofs.Common.{◌≡◌, ℕ, List, [], ◌∷◌, Bool, true, false, cond, refl, sym, ap, ◌∙◌, subst}
+use Rattle.std.specs.Prelude.{Option, Some, None, Result, Ok, Err, is_ok, ◌&&◌, nat_le, map, find}
+use Rattle.std.specs.Option.{option_map_or}
+use Rattle.std.specs.Str.{bytes_eq}
+use Rattle.std.proofs.lemmas.Bool.{and_parts, and_from}
+use Rattle.line_words.specs.Bytes.{is_name}
+use Rattle.account_book.specs.Account.{Account, is_sound, is_password_word, is_country}
+use Rattle.account_book.specs.Book.{account_of, login}
+use Rattle.account_book.specs.declared.error.LoginFault.{LoginFault}
+use Rattle.account_book.specs.declared.error.LoginFault.TheVariants.{NoAccount, BadPassword}
+use Rattle.record_lines.specs.Masks.{hidden, all_hidden, hidden_answer, passes, fails, word_for}
+
+-- the account of a name, hidden
+abbrev hidden_one : Option Account → Option Account
+hidden_one None = None
+hidden_one (Some account) = Some (hidden account)
+
+found_hidden : (name : List ℕ) (accounts : List Account)
+    → account_of name (all_hidden accounts) ≡ hidden_one (account_of name accounts)
+found_hidden name [] = refl
+found_hidden name (a ∷ accounts) = by (bytes_eq name a.name) (found_hidden name accounts)
+  where
+    by : (t : Bool) → account_of name (all_hidden accounts) ≡ hidden_one (account_of name accounts)
+        → cond t (Some (hidden a)) (account_of name (all_hidden accounts))
+        ≡ hidden_one (cond t (Some a) (account_of name accounts))
+    by true rest = refl
+    by false rest = rest
+
+-- what the account of a name answers to a word
+abbrev answer : Option Account → List ℕ → Result Account LoginFault
+answer o word = option_map_or (λ account. cond (bytes_eq account.password word) (Ok account) (Err BadPassword)) o
+    (Err NoAccount)
+
+abbrev word_by : Result Account LoginFault → List ℕ
+word_by told = cond (is_ok told) passes fails
+
+answered : (o : Option Account) (word : List ℕ)
+    → answer (hidden_one o) (word_by (answer o word)) ≡ hidden_answer (answer o word)
+answered None word = refl
+answered (Some a) word = by (bytes_eq a.password word)
+  where
+    by : (t : Bool)
+        → answer (Some (hidden a)) (word_by (cond t (Ok a) (Err BadPassword)))
+        ≡ hidden_answer (cond t (Ok a) (Err BadPassword))
+    by true = refl
+    by false = refl
+
+pub same_answer : (accounts : List Account) (name word : List ℕ)
+    → login (all_hidden accounts) name (word_for accounts name word) ≡ hidden_answer (login accounts name word)
+same_answer accounts name word =
+    ap (λ (o : Option Account). answer o (word_for accounts name word)) (found_hidden name accounts)
+    ∙ answered (account_of name accounts) word
+
+pub hidden_sound : (a : Account) → is_sound a ≡ true → is_sound (hidden a) ≡ true
+hidden_sound a h =
+    let country = and_parts (is_name a.name && is_password_word a.password && nat_le a.rank 7) (is_country a.country) h in
+    let rank = and_parts (is_name a.name && is_password_word a.password) (nat_le a.rank 7) country.0 in
+    let word = and_parts (is_name a.name) (is_password_word a.password) rank.0 in
+    rw (word.0, rank.1, country.1) refl
