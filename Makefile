@@ -4,7 +4,7 @@ SETTINGS ?= examples/lobby.toml
 ACCOUNTS ?= examples/accounts.toml
 
 .DEFAULT_GOAL := help
-.PHONY: help play serve setup hash view build library install uninstall deb test unit fmt check bench memory soak connections counts hostile
+.PHONY: help play serve setup hash view build library install uninstall deb test unit fmt check bench memory soak connections record counts hostile
 
 help: ## lists the targets
 	@awk -F ':.*## ' '/^[a-z]+:.*## / { printf "  make %-12s %s\n", $$1, $$2 }' Makefile
@@ -70,6 +70,9 @@ counts: ## compares the events that the server tells at its end with those of it
 
 connections: ## real connections: slow readers, resets, 10,000 at once
 	@for workers in 1 4; do checks/connections.py $$workers && checks/played.py $$workers && checks/mixed.py $$workers && checks/crowd.py $$workers || exit 1; done
+
+record: ## plays what servers recorded that were stopped or killed, and compares what each client was sent
+	@checks/record.py 60 100 4 5
 
 hostile: ## 2,000 connections send what no client should, for five minutes with 1 and with 4 workers
 	@for workers in 1 4; do checks/hostile.py $$workers || exit 1; done

@@ -4,14 +4,14 @@
 # Runs the server that `make build` leaves, or the one at LOBBY_MAIN, with so many workers (1), and the bare loop with one write a
 # client and round and with one write a line: all in turn, a new process each time, so many runs (5), a measured time of so many
 # seconds (3) where a mode has one. Prints medians of the runs, and of the ratios of each turn. MODES, some of
-# "fanout lengths ping quiet crowd logins log memory calls more", leaves the others out; "more" compares four workers with one. Two
+# "fanout lengths ping quiet crowd logins log record memory calls more", leaves the others out; "more" compares four workers with one. Two
 # others, "waits marks", run another build too, the one at LOBBY_BEFORE, and compare both in turn.
 set -euo pipefail
 cd "$(dirname "$0")/.."
 workers=${1:-1}
 runs=${2:-5}
 seconds=${3:-3}
-modes=${MODES:-fanout lengths ping quiet crowd logins log memory calls more}
+modes=${MODES:-fanout lengths ping quiet crowd logins log record memory calls more}
 main=${LOBBY_MAIN:-$PWD/bin/lobby_main}
 before=${LOBBY_BEFORE:-$main}
 for program in "$main" "$before"; do [ -x "$program" ] || { echo "there is no $program: make build makes bin/lobby_main"; exit 1; }; done
@@ -46,9 +46,10 @@ launch() {
     case $1 in
         silent) echo 'log = "none"' >> "$room/settings.toml" ;;
         telling) echo 'log = "all"' >> "$room/settings.toml" ;;
+        recording) mkdir -p "$room/records" && echo "record = \"$room/records\"" >> "$room/settings.toml" ;;
     esac
     case $1 in
-        ours | silent | telling | one | four) exec "$main" serve "$room/settings.toml" "$room/accounts.toml" ;;
+        ours | silent | telling | recording | one | four) exec "$main" serve "$room/settings.toml" "$room/accounts.toml" ;;
         before) exec "$before" serve "$room/settings.toml" "$room/accounts.toml" ;;
         bare) exec "$room/bare_fanout" "$2" ;;
         bare_lines) exec "$room/bare_fanout" "$2" lines ;;
@@ -312,6 +313,22 @@ logins() {
         done
         echo '|'
     done
+}
+
+# What it costs to record 10,000 events a second, and as many as there are: each PING and each line is an event, and what a client is
+# sent at once is another.
+record() {
+    local file names="recording ours"
+    echo "With a record and without, in turn, with $workers worker(s): medians, and medians of the ratios of each turn"
+    echo '| | With | Without | With / without |'
+    echo '|---|---|---|---|'
+    mark "$names" pace 200 5000 "$seconds"
+    row "$names" "$file" 'PING, 5,000 a second in all by 200 clients: seconds a million' %.2f "$ping_cost"
+    mark "$names" ping 50 1 "$seconds"
+    row "$names" "$file" 'PING, 50 clients, 1 in flight each: seconds a million' %.2f "$ping_cost"
+    mark "$names" fanout 200 4 "$seconds"
+    row "$names" "$file" 'Channel of 200, 4 in flight: seconds a million delivered lines' %.3f "$fanout_cost"
+    rm -rf "$room/records"
 }
 
 # threads NAME : the milliseconds of processors of all threads of the server, and of its second one, which writes the log where there is one.

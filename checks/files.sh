@@ -53,6 +53,8 @@ of_settings 'line 2 of `motd` is not allowed: expected a list of at most 100 tex
     'address = "0.0.0.0:1"\nmotd = ["Welcome!", "Be\\nkind."]\n'
 of_settings 'address 2 of `proxies` is not allowed: expected a list of at most 64 IPv4 addresses, as ["127.0.0.1"]' \
     'address = "0.0.0.0:1"\nproxies = ["127.0.0.1", "127.0.0.01"]\n'
+of_settings '`record` is of another kind: expected the name of a folder, or an empty text' 'address = "0.0.0.0:1"\nrecord = true\n'
+of_settings '`private` is of another kind: expected true or false' 'address = "0.0.0.0:1"\nprivate = "no"\n'
 of_settings '`log` is not allowed: expected "none", "important" or "all"' 'address = "0.0.0.0:1"\nlog = "some"\n'
 of_accounts 'the file is not TOML: expected UTF-8 and TOML, as in examples/accounts.toml' '[[account\n'
 of_accounts "a key of the file is not allowed: $whole" 'format = 3\n'

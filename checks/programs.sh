@@ -60,6 +60,30 @@ expect 1 "$greeting" 'line 3: bad step\n' 'open 1 10.0.0.1\nshow 1\nshow 2\nshow
 expect 2 '' 'device fault\n' . "$play"
 expect 2 '' 'script too long\n' "$(printf '\\n%.0s' {1..1048577})" "$play"
 
+# Records that are played, and that are refused by file and line.
+mkdir "$room/1"
+printf 'address = "0.0.0.0:0"\n' > "$room/1/settings.toml"
+: > "$room/1/accounts.toml"
+# record STATUS OUTPUT ERROR QUESTIONS FILE.. : the files of the workers as printf writes them.
+record() {
+    local status=$1 output=$2 error=$3 questions=$4 worker=0
+    shift 4
+    rm -f "$room"/1/[0-9]
+    for file in "$@"; do printf "$file" > "$room/1/$worker"; worker=$((worker + 1)); done
+    expect "$status" "$output" "$error" "$questions" "$play" --record "$room/1"
+}
+first='0 open 1 10.0.0.1\n2 send 1 PING\\n\n2 take 1\n3 read 1 29\n'
+end='the record ends before place'
+record 0 "${greeting}1> PONG\n" "$end 4\n" 'show 1\n' "${first}end stop\n" '1 open 2 10.0.0.2\nend stop\n'
+record 0 "$greeting" "$end 2\n" 'show 1\n' '0 open 1 10.0.0.1\n2 send 1 PING\\n\n' '1 open 2 10.0.0.2\n3 shut 2\n'
+record 0 'me \n' "$end 4\n" 'until 1\nview 1\n' "$first" '1 open 2 10.0.0.2\n'
+record 1 '' 'no file has place 1\n' '' "${first}end stop\n"
+record 1 '' 'line 2 of file 1 has the place of a line of file 0\n' '' "$first" '1 open 2 10.0.0.2\n2 shut 2\n'
+record 1 '' 'line 2 of file 0 is no step of a record\n' '' '0 open 1 10.0.0.1\n1 hop 1\n'
+record 1 '' 'line 2 of file 0 does not happen so\n' '' '0 open 1 10.0.0.1\n1 read 1 25\n'
+record 1 '' 'line 1 is no question\n' 'show\n' "$first"
+expect 2 '' 'settings.toml: the file cannot be read: entity not found\n' '' "$play" --record "$room/none"
+
 # limited INPUT LIMIT : lobby_play on this input, where its memory may come to so many kB.
 limited() { (ulimit -c 0 -d "$2" && exec "$play") < "$1" > "$room/out" 2> "$room/err"; }
 

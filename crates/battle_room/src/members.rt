@@ -15,12 +15,12 @@ use std::marker::Model;
 
 /// A member of a room, with the status and the colour that it shows.
 ///
-/// It keeps the mark with which it joined, a value of the caller's own. The room does not read it, and
+/// It keeps the key with which it joined, a value of the caller's own. The room does not read it, and
 /// no contract speaks of it.
 #[derive(Drop)]
 pub struct Member<M: Copy = ()> {
     name: NameBuf,
-    mark: M,
+    key: M,
     status: BattleStatus,
     colour: i64,
 }
@@ -35,12 +35,12 @@ impl<M: Copy> Model for Member<M> {
 
 impl<M: Copy> Member<M> {
     /// One who has just joined.
-    fn new(name: NameBuf, mark: M) -> Member<M>
+    fn new(name: NameBuf, key: M) -> Member<M>
         ensures { result ≡ room.new_member name }
     {
         Member {
             name,
-            mark,
+            key,
             status: BattleStatus::zero(),
             colour: 0,
         }
@@ -53,9 +53,9 @@ impl<M: Copy> Member<M> {
         &self.name
     }
 
-    /// The mark that was given with the member. No contract speaks of it.
-    pub fn mark(&self) -> M {
-        self.mark
+    /// The key that was given with the member. No contract speaks of it.
+    pub fn key(&self) -> M {
+        self.key
     }
 
     /// The status that the member shows.
@@ -108,13 +108,13 @@ impl<M: Copy> Model for Members<M> {
 
 impl<M: Copy> Members<M> {
     /// The founder alone.
-    pub(crate) fn one(alloc: Global, founder: NameBuf, mark: M) -> Result<Members<M>, AllocError>
+    pub(crate) fn one(alloc: Global, founder: NameBuf, key: M) -> Result<Members<M>, AllocError>
         ensures { IfOk result (λ members. members ≡ room.new_member founder ∷ []) }
     {
         let mut members = Members {
             by_name: IndexMap::new(alloc),
         };
-        members.add(founder, mark)?;
+        members.add(founder, key)?;
         Ok(members)
     }
 
@@ -158,12 +158,12 @@ impl<M: Copy> Members<M> {
     }
 
     /// One more, who is not among them. Where memory is refused, nothing changes.
-    pub(crate) fn add(&mut self, name: NameBuf, mark: M) -> Result<(), AllocError>
+    pub(crate) fn add(&mut self, name: NameBuf, key: M) -> Result<(), AllocError>
         requires { is_among name (map (λ m. m.name) self.old) ≡ false }
         ensures ok { OnOk result (self.new ≡ self.old ++ room.new_member name ∷ []) }
         ensures err { OnErr result (self.new ≡ self.old) }
     {
-        self.by_name.insert(name.copy(), Member::new(name, mark))?;
+        self.by_name.insert(name.copy(), Member::new(name, key))?;
         Ok(())
     }
 

@@ -33,8 +33,8 @@ pub fn may_change_bot(name: &NameBuf, is_founder: bool, bot: &Bot) -> bool
 /// What the members of a battle share: who they are in order of joining, the founder first, bots,
 /// start rectangles, script tags and disabled units; and who asks to join, in order of asking.
 ///
-/// Beside each member the room keeps a mark, a value of the caller's own. The room does not read it, and
-/// its contracts say nothing of it. A room whose callers have no use for marks keeps none: `M` is `()`.
+/// Beside each member the room keeps a key, a value of the caller's own. The room does not read it, and
+/// its contracts say nothing of it. A room whose callers have no use for keys keeps none: `M` is `()`.
 #[derive(Drop)]
 pub struct Room<M: Copy = ()> {
     alloc: Global,
@@ -69,17 +69,17 @@ impl<M: Copy> Model for Room<M> {
 }
 
 impl Room {
-    /// Not run by the server, which uses `with_mark`: a room with its founder alone, and all its lists
+    /// Not run by the server, which uses `with_key`: a room with its founder alone, and all its lists
     /// empty. `Memory` where memory is refused.
     pub fn new(alloc: Global, founder: NameBuf) -> Result<Room, RoomError>
         ensures ok { IfOk result (λ r. r ≡ room.new_room founder) }
         ensures memory { IfErr result (λ e. e ≡ RoomError.Memory) }
     {
         let seed = HashSeed::known();
-        Ok(Room::with_mark(alloc, founder, (), seed)?)
+        Ok(Room::with_key(alloc, founder, (), seed)?)
     }
 
-    /// Not run by the server, which uses `add_marked`: one who is no member joins, behind the others.
+    /// Not run by the server, which uses `add_keyed`: one who is no member joins, behind the others.
     /// `Memory` where memory is refused; then nothing changes.
     pub fn add_member(&mut self, name: NameBuf) -> Result<(), RoomError>
         requires { room.has_member name self.old ≡ false }
@@ -87,11 +87,11 @@ impl Room {
         ensures ok { OnOk result (self.new ≡ room.with_member name self.old) }
         ensures err { OnErr result (self.new ≡ self.old) }
     {
-        self.add_marked(name, ())?;
+        self.add_keyed(name, ())?;
         Ok(())
     }
 
-    /// Not run by the server, which uses `let_in_marked`: one who is no member, and may ask to join, asks
+    /// Not run by the server, which uses `let_in_keyed`: one who is no member, and may ask to join, asks
     /// no more and joins, behind the others. `Memory` where memory is refused; then nothing changes.
     pub fn let_in(&mut self, name: &NameBuf) -> Result<(), RoomError>
         requires { room.has_member name.now self.old ≡ false }
@@ -99,23 +99,23 @@ impl Room {
         ensures ok { OnOk result (self.new ≡ room.with_member name.now (room.without_asker name.now self.old)) }
         ensures err { OnErr result (self.new ≡ self.old) }
     {
-        self.let_in_marked(name, ())?;
+        self.let_in_keyed(name, ())?;
         Ok(())
     }
 }
 
 impl<M: Copy> Room<M> {
-    /// A room with its founder alone, who has this mark, and all its lists empty. The keys of its tags and its units
+    /// A room with its founder alone, who has this key, and all its lists empty. The keys of its tags and its units
     /// are hashed by this seed. Fails only where memory is refused.
-    pub fn with_mark(
+    pub fn with_key(
         alloc: Global,
         founder: NameBuf,
-        mark: M,
+        key: M,
         seed: HashSeed,
     ) -> Result<Room<M>, AllocError>
         ensures { IfOk result (λ r. r ≡ room.new_room founder) }
     {
-        let members = Members::one(alloc, founder, mark)?;
+        let members = Members::one(alloc, founder, key)?;
         let rest = Rest {
             bots: Bots::new(alloc),
             rects: Rects::new(),
@@ -305,14 +305,14 @@ impl<M: Copy> Room<M> {
         self.rest.units.words_there(self.alloc, words)
     }
 
-    /// One who is no member joins under a mark, behind the others. Where memory is refused, nothing
+    /// One who is no member joins under a key, behind the others. Where memory is refused, nothing
     /// changes.
-    pub fn add_marked(&mut self, name: NameBuf, mark: M) -> Result<(), AllocError>
+    pub fn add_keyed(&mut self, name: NameBuf, key: M) -> Result<(), AllocError>
         requires { room.has_member name self.old ≡ false }
         ensures ok { OnOk result (self.new ≡ room.with_member name self.old) }
         ensures err { OnErr result (self.new ≡ self.old) }
     {
-        self.members.add(name, mark)
+        self.members.add(name, key)
     }
 
     /// A member goes, with all its bots. Where there is none of the name, only bots with that owner go.
@@ -438,14 +438,14 @@ impl<M: Copy> Room<M> {
         self.rest.askers.remove(name)
     }
 
-    /// One who is no member, and may ask to join, asks no more and joins under a mark, behind the others.
+    /// One who is no member, and may ask to join, asks no more and joins under a key, behind the others.
     /// Where memory is refused, nothing changes.
-    pub fn let_in_marked(&mut self, name: &NameBuf, mark: M) -> Result<(), AllocError>
+    pub fn let_in_keyed(&mut self, name: &NameBuf, key: M) -> Result<(), AllocError>
         requires { room.has_member name.now self.old ≡ false }
         ensures ok { OnOk result (self.new ≡ room.with_member name.now (room.without_asker name.now self.old)) }
         ensures err { OnErr result (self.new ≡ self.old) }
     {
-        self.members.add(name.copy(), mark)?;
+        self.members.add(name.copy(), key)?;
         self.drop_asker(name);
         Ok(())
     }

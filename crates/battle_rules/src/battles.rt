@@ -205,7 +205,7 @@ fn inside_of(maps: &Maps, me: &NameBuf, opening: &Opening) -> Result<Inside, All
     ensures room { IfOk result (λ inside. inside.room ≡ new_room me.now) }
 {
     let password = WordBuf::copy_of(maps.alloc(), opening.password.as_slice())?;
-    let room = Room::with_mark(maps.alloc(), me.copy(), maps.user_key(me), maps.seed())?;
+    let room = Room::with_key(maps.alloc(), me.copy(), maps.user_key(me), maps.seed())?;
     Ok(Inside {
         password,
         game_hash: opening.game_hash,

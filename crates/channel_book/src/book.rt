@@ -28,8 +28,8 @@ const WALKED: usize = 4;
 /// The channels of a lobby by their names, and in each the names of its members in order of
 /// joining. A channel is there while somebody is in it.
 ///
-/// Beside each name the book keeps a mark, a value of the caller's own. The book does not read it, and
-/// its contracts say nothing of it. A book whose callers have no use for marks keeps none: `M` is `()`.
+/// Beside each name the book keeps a key, a value of the caller's own. The book does not read it, and
+/// its contracts say nothing of it. A book whose callers have no use for keys keeps none: `M` is `()`.
 ///
 /// It keeps an index of the channels of each user, so that what it costs to leave all grows with the user's own
 /// channels alone.
@@ -61,12 +61,12 @@ impl<M: Copy> Model for ChannelBook<M> {
 }
 
 impl ChannelBook {
-    /// Not run by the server, which uses `with_marks`: a book without channels and without marks. It takes no memory
+    /// Not run by the server, which uses `with_keys`: a book without channels and without keys. It takes no memory
     /// yet.
     pub fn new(alloc: Global) -> ChannelBook
         ensures { result ≡ [] }
     {
-        ChannelBook::with_marks(alloc)
+        ChannelBook::with_keys(alloc)
     }
 
     /// Not run by the server, which uses `add_member`: a user joins a channel, behind those who are in it. The first
@@ -91,8 +91,8 @@ impl ChannelBook {
 }
 
 impl<M: Copy> ChannelBook<M> {
-    /// A book without channels, for members with marks. It takes no memory yet.
-    pub fn with_marks(alloc: Global) -> ChannelBook<M>
+    /// A book without channels, for members with keys. It takes no memory yet.
+    pub fn with_keys(alloc: Global) -> ChannelBook<M>
         ensures { result ≡ [] }
     {
         ChannelBook {
@@ -101,16 +101,16 @@ impl<M: Copy> ChannelBook<M> {
         }
     }
 
-    /// A user who is not in a channel joins it under a mark, behind those who are in it; the first makes
+    /// A user who is not in a channel joins it under a key, behind those who are in it; the first makes
     /// the channel. Fails only where memory is refused; then nothing changes.
-    pub fn add_member(&mut self, channel: NameBuf, user: NameBuf, mark: M) -> Result<(), AllocError>
+    pub fn add_member(&mut self, channel: NameBuf, user: NameBuf, key: M) -> Result<(), AllocError>
         requires { is_among user (names_in self.old channel) ≡ false }
         ensures ok { OnOk result (self.new ≡ joined channel user self.old) }
         ensures err { OnErr result (self.new ≡ self.old) }
     {
         let (place, member) = (channel.copy(), user.copy());
         self.places.add(&place, &member)?;
-        if let Err(refused) = self.lists.add(channel, user, mark) {
+        if let Err(refused) = self.lists.add(channel, user, key) {
             self.places.remove(&place, &member);
             return Err(refused);
         }
@@ -159,14 +159,14 @@ impl<M: Copy> ChannelBook<M> {
         }
     }
 
-    /// The members of a channel in order of joining, and their marks; nobody, where there is none of that
-    /// name. No contract speaks of the marks.
+    /// The members of a channel in order of joining, and their keys; nobody, where there is none of that
+    /// name. No contract speaks of the keys.
     pub fn roster(&self, channel: &NameBuf) -> (&[NameBuf], &[M])
         ensures names { result.0.now ≡ names_in self.now channel.now }
         ensures distinct { IsDistinct same_name result.0.now }
     {
         match self.lists.get(channel) {
-            Some(members) => (members.as_slice(), members.marks()),
+            Some(members) => (members.as_slice(), members.keys()),
             None => (&[], &[]),
         }
     }
@@ -179,9 +179,9 @@ impl<M: Copy> ChannelBook<M> {
         self.roster(channel).0
     }
 
-    /// The marks of the members of a channel, in the order of joining; none, where there is none of that name.
+    /// The keys of the members of a channel, in the order of joining; none, where there is none of that name.
     /// No contract speaks of them.
-    pub fn marks_in(&self, channel: &NameBuf) -> &[M] {
+    pub fn keys_in(&self, channel: &NameBuf) -> &[M] {
         self.roster(channel).1
     }
 

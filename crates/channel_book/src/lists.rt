@@ -46,19 +46,19 @@ impl<M: Copy> Lists<M> {
         }
     }
 
-    /// A user who is not in a channel joins it under a mark. Where memory is refused, nothing changes. The names of
+    /// A user who is not in a channel joins it under a key. Where memory is refused, nothing changes. The names of
     /// channels rose.
-    pub fn add(&mut self, channel: NameBuf, user: NameBuf, mark: M) -> Result<(), AllocError>
+    pub fn add(&mut self, channel: NameBuf, user: NameBuf, key: M) -> Result<(), AllocError>
         requires { is_among user (names_in self.old channel) ≡ false }
         ensures ok { OnOk result (self.new ≡ joined channel user self.old) }
         ensures err { OnErr result (self.new ≡ self.old) }
         ensures ordered { IsStrictlySortedBy name_cmp (keys_of self.old) }
     {
         if let Some(members) = self.channels.get_mut(&channel) {
-            members.add(user, mark)?;
+            members.add(user, key)?;
             return Ok(());
         }
-        let members = Members::one(self.alloc, user, mark)?;
+        let members = Members::one(self.alloc, user, key)?;
         self.channels.insert(channel, members)?;
         Ok(())
     }

@@ -11,12 +11,12 @@ use std::alloc::{AllocError, Global};
 use std::marker::Model;
 
 /// The names of those who are in a channel, in order of joining, none of them twice; beside each the
-/// mark that its caller gave with it, of which no contract speaks.
+/// key that its caller gave with it, of which no contract speaks.
 ///
 /// Whether a name is among them takes the same time however many there are.
 #[derive(Drop)]
 pub struct Members<M: Copy = ()> {
-    marks: IndexMap<NameBuf, M>,
+    by_name: IndexMap<NameBuf, M>,
 }
 
 impl<M: Copy> Model for Members<M> {
@@ -27,10 +27,10 @@ impl<M: Copy> Model for Members<M> {
 
     ghost Value = { List (List ℕ) };
 
-    ghost view = { λ m. keys m.marks };
+    ghost view = { λ m. keys m.by_name };
 
     // No name stands twice.
-    ghost invariant = { λ m. IsDistinct (pointwise nat_eq) (keys m.marks) };
+    ghost invariant = { λ m. IsDistinct (pointwise nat_eq) (keys m.by_name) };
 }
 
 impl<M: Copy> Members<M> {
@@ -39,39 +39,39 @@ impl<M: Copy> Members<M> {
         ensures names { result.now ≡ self.now }
         ensures distinct { IsDistinct same_name result.now }
     {
-        self.marks.keys().as_slice()
+        self.by_name.keys().as_slice()
     }
 
-    /// The marks of the members, in the order of joining. No contract speaks of them.
-    pub fn marks(&self) -> &[M] {
-        self.marks.values().as_slice()
+    /// The keys of the members, in the order of joining. No contract speaks of them.
+    pub fn keys(&self) -> &[M] {
+        self.by_name.values().as_slice()
     }
 
     /// Whether a user is one of them.
     pub fn has_member(&self, user: &NameBuf) -> bool
         ensures { result ≡ is_among user.now self.now }
     {
-        self.marks.contains_key(user)
+        self.by_name.contains_key(user)
     }
 
     /// One alone.
-    pub(crate) fn one(alloc: Global, name: NameBuf, mark: M) -> Result<Members<M>, AllocError>
+    pub(crate) fn one(alloc: Global, name: NameBuf, key: M) -> Result<Members<M>, AllocError>
         ensures { IfOk result (λ members. members ≡ name ∷ []) }
     {
         let mut members = Members {
-            marks: IndexMap::new(alloc),
+            by_name: IndexMap::new(alloc),
         };
-        members.add(name, mark)?;
+        members.add(name, key)?;
         Ok(members)
     }
 
     /// One more, who is not among them. Where memory is refused, nothing changes.
-    pub(crate) fn add(&mut self, name: NameBuf, mark: M) -> Result<(), AllocError>
+    pub(crate) fn add(&mut self, name: NameBuf, key: M) -> Result<(), AllocError>
         requires { is_among name self.old ≡ false }
         ensures ok { OnOk result (self.new ≡ self.old ++ name ∷ []) }
         ensures err { OnErr result (self.new ≡ self.old) }
     {
-        self.marks.insert(name, mark)?;
+        self.by_name.insert(name, key)?;
         Ok(())
     }
 
@@ -80,7 +80,7 @@ impl<M: Copy> Members<M> {
         ensures names { self.new ≡ all_but name.now self.old }
         ensures rest { result ≡ has_names (all_but name.now self.old) }
     {
-        let _ = self.marks.shift_remove(name);
-        !self.marks.is_empty()
+        let _ = self.by_name.shift_remove(name);
+        !self.by_name.is_empty()
     }
 }

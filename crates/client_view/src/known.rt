@@ -1,6 +1,7 @@
 //! What a client knows under one login, and how it was before the changes that are noted.
 
-ghost use Rattle.std.specs.Prelude.{◌≡◌, true, false};
+ghost use Rattle.std.specs.Prelude.{◌≡◌, true, false, [], IsTrue, IfSome, None};
+ghost use Rattle.line_words.specs.Bytes.{is_name};
 ghost use Rattle.line_words.specs.Table.{same_name};
 ghost use Rattle.lobby_view.specs.View.{new_view};
 ghost use Rattle.client_view.specs.Kept.{own_name};
@@ -88,13 +89,14 @@ impl Known {
         }
     }
 
-    /// The own name, no bytes before a login.
-    pub(crate) fn me(&self) -> &[u8]
-        ensures { result.now ≡ self.now.now.me }
+    /// The own name, none before a login.
+    pub(crate) fn me(&self) -> Option<&[u8]>
+        ensures some { IfSome result (λ name. (name.now ≡ self.now.now.me) × IsTrue (is_name name.now)) }
+        ensures none { result ≡ None → self.now.now.me ≡ [] }
     {
         match &self.me {
-            Some(name) => name.as_slice(),
-            None => &[],
+            Some(name) => Some(name.as_slice()),
+            None => None,
         }
     }
 
@@ -102,7 +104,11 @@ impl Known {
     pub(crate) fn is_me(&self, name: &NameBuf) -> bool
         ensures { result ≡ same_name self.now.now.me name.now }
     {
-        self.me().cmp(name.as_slice()).is_eq()
+        let me: &[u8] = match &self.me {
+            Some(me) => me.as_slice(),
+            None => &[],
+        };
+        me.cmp(name.as_slice()).is_eq()
     }
 
     /// Whether changes are noted.

@@ -1,6 +1,8 @@
 //! What a client knows from its own bytes.
 
-ghost use Rattle.std.specs.Prelude.{◌≡◌, ◌+◌, true, false, [], ◌∷◌, ◌++◌, length, IfOk, Err, nat_lt, option_copied};
+ghost use Rattle.std.specs.Prelude.{◌≡◌, ◌+◌, true, false, [], ◌∷◌, ◌++◌, length, IfOk, IfSome, IsTrue, Err, None};
+ghost use Rattle.std.specs.Prelude.{nat_lt, option_copied};
+ghost use Rattle.line_words.specs.Bytes.{is_name};
 ghost use Rattle.line_framer.specs.Buffered.{HasNoEnd};
 ghost use Rattle.client_view.specs.Following.{Following, Followed, TookIn, HasNew};
 
@@ -130,9 +132,10 @@ impl View {
         self.rest.len() + more.len() > LINE_LIMIT
     }
 
-    /// The name under which the client is logged in; no bytes before that.
-    pub fn me(&self) -> &[u8]
-        ensures { result.now ≡ self.now.known.me }
+    /// The name under which the client is logged in, none before that.
+    pub fn me(&self) -> Option<&[u8]>
+        ensures some { IfSome result (λ name. (name.now ≡ self.now.known.me) × IsTrue (is_name name.now)) }
+        ensures none { result ≡ None → self.now.known.me ≡ [] }
     {
         self.known.known.me()
     }

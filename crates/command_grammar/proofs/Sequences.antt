@@ -42,7 +42,7 @@ pub Sentence-settles : {K : List ℕ → List ℕ → Command → Type 0} (k : L
     → Settles (Sentence K rest) (sentence_at rest >>= k)
 unfolding sentence_at text_at
 Sentence-settles {K} k each [] = fault_made
-Sentence-settles {K} k each (mark ∷ text) = each (before 9 text) (from 9 text)
+Sentence-settles {K} k each (separator ∷ text) = each (before 9 text) (from 9 text)
 
 -- Pairs
 

@@ -198,8 +198,8 @@ taken kind.Wide K rest c h m = unless_unread (number_taken (negsuc 2147483647) (
 taken kind.Flag K rest c h m = unless_unread (natural_taken 1 (λ n. K (n == 1)) rest c h m) λ t.
     inr (record { value = t.value == 1; behind = t.behind; next = t.next; fit = refl; text = t.text; room = let r = t.room in omega arith })
 taken kind.Sentence K [] c h m = inl (_, m)
-taken kind.Sentence K (mark ∷ text) c h m =
-    let is_text_behind = text_back (mark ∷ []) text h in
+taken kind.Sentence K (separator ∷ text) c h m =
+    let is_text_behind = text_back (separator ∷ []) text h in
     inr (record {
       value = before 9 text;
       behind = from 9 text;

@@ -68,7 +68,7 @@ OptionalText K (space ∷ text) c = K (Some text) c
 -- missing
 abbrev pub Sentence : (List ℕ → List ℕ → Command → Type 0) → List ℕ → Command → Type 0
 Sentence K [] c = IsFault fault.MissingArgument c
-Sentence K (mark ∷ text) c = K (before 9 text) (from 9 text) c
+Sentence K (separator ∷ text) c = K (before 9 text) (from 9 text) c
 
 -- `b` is one of the flags, which spaces part
 abbrev pub has_flag : List ℕ → Bool

@@ -216,9 +216,9 @@ fn reads_a_file_and_checks_logins(rt: HostRuntime) {
 }
 
 /// Adds an account of this number; those of access and of a bot have a rank of 7 and no country.
-fn add(book: &mut AccountBook, alloc: Global, id: u32, marked: bool) -> Result<(), AccountsError> {
-    let (rank, country): (u8, &[u8]) = if marked { (7, b"??") } else { (0, b"DE") };
-    match Account::new(alloc, b"[AI]_1", WORD, id, rank, marked, marked, country) {
+fn add(book: &mut AccountBook, alloc: Global, id: u32, special: bool) -> Result<(), AccountsError> {
+    let (rank, country): (u8, &[u8]) = if special { (7, b"??") } else { (0, b"DE") };
+    match Account::new(alloc, b"[AI]_1", WORD, id, rank, special, special, country) {
         Ok(account) => book.add(account),
         Err(refusal) => Err(refusal),
     }

@@ -12,11 +12,13 @@ mod channels;
 #[cfg(test)]
 mod frames;
 #[cfg(test)]
+mod keys;
+#[cfg(test)]
 mod lists;
 #[cfg(test)]
-mod marks;
-#[cfg(test)]
 mod outboxes;
+#[cfg(test)]
+mod records;
 #[cfg(test)]
 mod replies;
 #[cfg(test)]

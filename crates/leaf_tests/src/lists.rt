@@ -44,10 +44,10 @@ impl Is<&[u8]> for Member {
     }
 }
 
-/// Its mark.
+/// Its key.
 impl Is<u8> for Member<u8> {
     fn is(&self, wanted: &u8) -> bool {
-        self.mark() == *wanted
+        self.key() == *wanted
     }
 }
 

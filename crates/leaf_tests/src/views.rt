@@ -173,7 +173,7 @@ fn has_units(view: &View, wanted: &[&[u8]]) -> bool {
 /// Whether a view shows what a step says.
 fn shows(view: &View, step: &Step) -> bool {
     match step {
-        Step::Me(name) => view.me() == *name,
+        Step::Me(name) => view.me() == Some(*name),
         Step::Counts(users, channels, battles) => has_counts(view, *users, *channels, *battles),
         Step::User(name, country, cpu, account, status) => has_user(
             view, name, country, *cpu, *account, *status,

@@ -12,45 +12,45 @@ use Rattle.lobby_model.specs.State.{Client, is_live_client, name_at, name_of_cli
 use Rattle.lobby_model.specs.Outcome.{is_named}
 use Rattle.line_words.proofs.Tables.{lookup_is_find, same_name_is, same_name_itself, name_cmp_same, name_cmp_total, at-change, at-put, at-without, at-map_values, map_values-put, map_values-without}
 use Rattle.lobby_model.proofs.Delivered.{same_number_is}
-use Rattle.lobby_battles.specs.declared.seats.Seat.{Seat}
+use Rattle.lobby_battles.specs.declared.online_users.OnlineUser.{OnlineUser}
 use Rattle.lobby_post.specs.Mail.{parted}
-use Rattle.lobby_battles.specs.Seats.{Agree, IsListed, IsSet, client_in, user_in, users_of, seat_with, where_some, without_one}
+use Rattle.lobby_battles.specs.OnlineUsers.{Agree, IsListed, IsSet, client_in, plain_user, users_of, online_user_with, where_some, without_one}
 use Rattle.lobby_model.specs.declared.event.Phase.TheVariants.{In, Ended}
 use Rattle.lobby_model.proofs.Splits.{same_either_way}
 use Rattle.lobby_post.specs.Posted.{has_number}
 use Rattle.channel_book.proofs.Placed.{same_name_sym}
 
 -- names are where they were
-pub agree_kept : (m n : ByNumber Client) (seats : ByName Seat) → ((c : ℕ) → name_at n c ≡ name_at m c) → Agree m seats → Agree n seats
-agree_kept m n seats names agree = λ name c. agree name c ∙ ap (is_named (same_name name)) (sym (names c))
+pub agree_kept : (m n : ByNumber Client) (online : ByName OnlineUser) → ((c : ℕ) → name_at n c ≡ name_at m c) → Agree m online → Agree n online
+agree_kept m n online names agree = λ name c. agree name c ∙ ap (is_named (same_name name)) (sym (names c))
 
 pub listed_kept : (m n : ByNumber Client) (numbers : List ℕ) → ((c : ℕ) → name_at n c ≡ name_at m c) → IsListed numbers m → IsListed numbers n
 listed_kept m n numbers names listed = λ c. listed c ∙ ap is_some (sym (names c))
 
-module _ (m : ByNumber Client) (seats : ByName Seat) (k : List ℕ) (f : Seat → Seat) (same : (x : Seat) → (f x).client.number ≡ x.client.number) where
-  kept_client : (q : List ℕ) (x : Seat) → (if same_name k q then f x else x).client.number ≡ x.client.number
+module _ (m : ByNumber Client) (online : ByName OnlineUser) (k : List ℕ) (f : OnlineUser → OnlineUser) (same : (x : OnlineUser) → (f x).client.number ≡ x.client.number) where
+  kept_client : (q : List ℕ) (x : OnlineUser) → (if same_name k q then f x else x).client.number ≡ x.client.number
   kept_client q x = elim (same_name k q) as (λ b. (if b then f x else x).client.number ≡ x.client.number) [ true ↦ same x | false ↦ refl ]
 
-  pub agree_changed : Agree m seats → Agree m (change_name seats k f)
+  pub agree_changed : Agree m online → Agree m (change_name online k f)
   agree_changed agree = λ q d.
-      ap (λ o. has_number (client_in o) d) (at-change name_cmp name_cmp_same f seats k q)
-      ∙ elim (at_name seats q) as (λ o. has_number (client_in (option_map (λ x. if same_name k q then f x else x) o)) d
+      ap (λ o. has_number (client_in o) d) (at-change name_cmp name_cmp_same f online k q)
+      ∙ elim (at_name online q) as (λ o. has_number (client_in (option_map (λ x. if same_name k q then f x else x) o)) d
       ≡ has_number (client_in o) d) [ None ↦ refl | Some x ↦ ap (λ c. same_number d c || false) (kept_client q x) ]
       ∙ agree q d
 
-pub users_changed : (seats : ByName Seat) (k : List ℕ) (status : ℕ)
-    → users_of (change_name seats k (seat_with status)) ≡ change_name (users_of seats) k (user_with status)
+pub users_changed : (online : ByName OnlineUser) (k : List ℕ) (status : ℕ)
+    → users_of (change_name online k (online_user_with status)) ≡ change_name (users_of online) k (user_with status)
 users_changed [] k status = refl
-users_changed (e ∷ seats) k status =
-    ap (λ u. (e.0, u) ∷ users_of (change_name seats k (seat_with status)))
-    (elim (same_name k e.0) as (λ b. user_in (if b then seat_with status e.1 else e.1)
-    ≡ (if b then user_with status (user_in e.1) else user_in e.1)) [ true ↦ refl | false ↦ refl ])
-    ∙ ap (λ us. (e.0, if same_name k e.0 then user_with status (user_in e.1) else user_in e.1) ∷ us) (users_changed seats k status)
+users_changed (e ∷ online) k status =
+    ap (λ u. (e.0, u) ∷ users_of (change_name online k (online_user_with status)))
+    (elim (same_name k e.0) as (λ b. plain_user (if b then online_user_with status e.1 else e.1)
+    ≡ (if b then user_with status (plain_user e.1) else plain_user e.1)) [ true ↦ refl | false ↦ refl ])
+    ∙ ap (λ us. (e.0, if same_name k e.0 then user_with status (plain_user e.1) else plain_user e.1) ∷ us) (users_changed online k status)
 
-only_one : (o : Option Seat) (c d : ℕ) → has_number (client_in o) c ≡ true → same_number c d ≡ false → has_number (client_in o) d ≡ false
+only_one : (o : Option OnlineUser) (c d : ℕ) → has_number (client_in o) c ≡ true → same_number c d ≡ false → has_number (client_in o) d ≡ false
 only_one None c d there apart = refl
-only_one (Some seat) c d there apart =
-    let at : c ≡ seat.client.number = same_number_is c seat.client.number (elim (same_number c seat.client.number) as (λ b. b
+only_one (Some online_user) c d there apart =
+    let at : c ≡ online_user.client.number = same_number_is c online_user.client.number (elim (same_number c online_user.client.number) as (λ b. b
     ≡ (b || false)) [ true ↦ refl | false ↦ refl ] ∙ there) in
     ap (λ k. same_number d k || false) (sym at) ∙ ap (λ b. b || false) (same_either_way d c ∙ apart)
 
@@ -87,37 +87,37 @@ module _ (m : ByNumber Client) (c : ℕ) where
         ≡ is_some (if b then None else name_at m d)) [ true ↦ refl | false ↦ listed d ]
         ∙ ap is_some (sym (parted_at stays d))
 
-    pub agree_parted : (seats : ByName Seat) → Agree m seats → Agree (parted m c stays) (where_some without_one (name_at m c) seats)
-    agree_parted seats agree = λ q d.
-        elim (name_at m c) as (λ o. name_at m c ≡ o → has_number (client_in (at_name (where_some without_one o seats) q)) d
+    pub agree_parted : (online : ByName OnlineUser) → Agree m online → Agree (parted m c stays) (where_some without_one (name_at m c) online)
+    agree_parted online agree = λ q d.
+        elim (name_at m c) as (λ o. name_at m c ≡ o → has_number (client_in (at_name (where_some without_one o online) q)) d
         ≡ is_named (same_name q) (if same_number c d then None else name_at m d)) [
           | None ↦ λ e. agree q d ∙ not_here q d (ap (is_named (same_name q)) e)
           | Some me ↦ λ e.
               let mine : is_named (same_name q) (name_at m c) ≡ same_name me q = ap (is_named (same_name q)) e ∙ same_name_sym q me in
-              ap (λ o. has_number (client_in o) d) (at-without name_cmp name_cmp_total seats me q)
+              ap (λ o. has_number (client_in o) d) (at-without name_cmp name_cmp_total online me q)
               ∙ elim (same_name me q) as (λ b. same_name me q ≡ b
-              → has_number (client_in (cond (not b) (at_name seats q) None)) d
+              → has_number (client_in (cond (not b) (at_name online q) None)) d
               ≡ is_named (same_name q) (if same_number c d then None else name_at m d)) [
                 | true ↦ λ t. elim (same_number c d) as (λ b. same_number c d ≡ b
                     → false ≡ is_named (same_name q) (if b then None else name_at m d)) [
                       | true ↦ λ u. refl
-                      | false ↦ λ u. sym (only_one (at_name seats q) c d (agree q c ∙ mine ∙ t) u) ∙ agree q d
+                      | false ↦ λ u. sym (only_one (at_name online q) c d (agree q c ∙ mine ∙ t) u) ∙ agree q d
                     ] refl
                 | false ↦ λ t. agree q d ∙ not_here q d (mine ∙ t)
               ] refl
         ] refl
         ∙ ap (is_named (same_name q)) (sym (parted_at stays d))
 
-pub users_left : (seats : ByName Seat) (me : Option (List ℕ))
-    → users_of (where_some without_one me seats) ≡ where_some without_one me (users_of seats)
-users_left seats None = refl
-users_left seats (Some me) = map_values-without name_cmp (λ name seat. user_in seat) seats me
+pub users_left : (online : ByName OnlineUser) (me : Option (List ℕ))
+    → users_of (where_some without_one me online) ≡ where_some without_one me (users_of online)
+users_left online None = refl
+users_left online (Some me) = map_values-without name_cmp (λ name online_user. plain_user online_user) online me
 
--- one who is logged in has a seat
-pub has_seat : (m : ByNumber Client) (seats : ByName Seat) (c : ℕ) (me : List ℕ) → Agree m seats → name_at m c ≡ Some me
-    → None ≡ lookup (is_at (name_cmp me)) seats → ⊥
-has_seat m seats c me agree mine none =
-    let no : false ≡ true = ap (λ o. has_number (client_in o) c) (none ∙ lookup_is_find name_cmp me seats) ∙ agree me c
+-- one who is logged in is online
+pub is_online : (m : ByNumber Client) (online : ByName OnlineUser) (c : ℕ) (me : List ℕ) → Agree m online → name_at m c ≡ Some me
+    → None ≡ lookup (is_at (name_cmp me)) online → ⊥
+is_online m online c me agree mine none =
+    let no : false ≡ true = ap (λ o. has_number (client_in o) c) (none ∙ lookup_is_find name_cmp me online) ∙ agree me c
     ∙ ap (is_named (same_name me)) mine ∙ same_name_itself me in
     absurd (cc)
 
@@ -146,16 +146,16 @@ module _ (m : ByNumber Client) (c : ℕ) (name : List ℕ) where
       ≡ is_some (if b then Some name else name_at m d)) [ true ↦ refl | false ↦ listed d ]
       ∙ ap is_some (sym (logged_in_at live d))
 
-  pub agree_log_in : (seats : ByName Seat) (seat : Seat) → is_live_client (at_number m c) ≡ true → name_at m c ≡ None → at_name seats name ≡ None
-      → seat.client.number ≡ c → Agree m seats → Agree (set_phase m c (In name)) (put_name seats name seat)
-  agree_log_in seats seat live nobody free own agree = λ q d.
-      ap (λ o. has_number (client_in o) d) (at-put name_cmp name_cmp_total seats name seat q)
+  pub agree_log_in : (online : ByName OnlineUser) (online_user : OnlineUser) → is_live_client (at_number m c) ≡ true → name_at m c ≡ None → at_name online name ≡ None
+      → online_user.client.number ≡ c → Agree m online → Agree (set_phase m c (In name)) (put_name online name online_user)
+  agree_log_in online online_user live nobody free own agree = λ q d.
+      ap (λ o. has_number (client_in o) d) (at-put name_cmp name_cmp_total online name online_user q)
       ∙ elim (same_name q name) as (λ b. same_name q name ≡ b
-      → has_number (client_in (cond b (Some seat) (at_name seats q))) d
+      → has_number (client_in (cond b (Some online_user) (at_name online q))) d
       ≡ is_named (same_name q) (if same_number c d then Some name else name_at m d)) [
         | true ↦ λ t.
             let elsewhere : is_named (same_name q) (name_at m d) ≡ false = sym (agree q d)
-            ∙ ap (λ o. has_number (client_in o) d) (ap (at_name seats) (same_name_is q name t) ∙ free) in
+            ∙ ap (λ o. has_number (client_in o) d) (ap (at_name online) (same_name_is q name t) ∙ free) in
             ap (λ k. same_number d k || false) own ∙ ap (λ b. b || false) (same_either_way d c)
             ∙ elim (same_number c d) as (λ b. (b || false) ≡ is_named (same_name q) (if b then Some name else name_at m d))
             [ true ↦ sym t | false ↦ sym elsewhere ]
@@ -177,12 +177,12 @@ listed_undone m was now c nobody set listed = λ d.
       | false ↦ λ t. listed d
     ] refl
 
--- the users of the seats
-pub users_added : (seats : ByName Seat) (name : List ℕ) (seat : Seat)
-    → users_of (put_name seats name seat) ≡ put_name (users_of seats) name (user_in seat)
-users_added seats name seat = map_values-put name_cmp user_in seats name seat
+-- the plain users of those who are online
+pub users_added : (online : ByName OnlineUser) (name : List ℕ) (online_user : OnlineUser)
+    → users_of (put_name online name online_user) ≡ put_name (users_of online) name (plain_user online_user)
+users_added online name online_user = map_values-put name_cmp plain_user online name online_user
 
-pub no_seat : (seats : ByName Seat) (name : List ℕ) → at_name (users_of seats) name ≡ None → at_name seats name ≡ None
-no_seat seats name none =
-    elim (at_name seats name) as (λ o. option_map user_in o ≡ None → o ≡ None) [ None ↦ λ e. refl | Some x ↦ λ e. absurd (cc) ]
-    (sym (at-map_values name_cmp user_in seats name) ∙ none)
+pub not_online : (online : ByName OnlineUser) (name : List ℕ) → at_name (users_of online) name ≡ None → at_name online name ≡ None
+not_online online name none =
+    elim (at_name online name) as (λ o. option_map plain_user o ≡ None → o ≡ None) [ None ↦ λ e. refl | Some x ↦ λ e. absurd (cc) ]
+    (sym (at-map_values name_cmp plain_user online name) ∙ none)

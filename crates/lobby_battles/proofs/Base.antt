@@ -1,4 +1,4 @@
--- Battles and seats: who is in which battle, and what a change of one leaves.
+-- Battles and who is online: who is in which battle, and what a change of one leaves.
 use Rattle.std.proofs.Common.{◌≡◌, ℕ, List, [], ◌∷◌, refl, sym, ap, ◌∙◌, Bool, true, false, T, cond}
 use Rattle.std.specs.Prelude.{Option, Some, None, find, if◌then◌else◌}
 use Rattle.std.proofs.lemmas.Option.{same_Some}
@@ -11,7 +11,7 @@ use Rattle.line_words.specs.Table.{ByName, ByNumber, at_number, at_name, change_
 use Rattle.lobby_model.proofs.RoomsKept.{names_with_status}
 use Rattle.lobby_model.proofs.Finding.{found_at, none_at}
 use Rattle.line_words.proofs.Once.{contradiction}
-use Rattle.lobby_battles.proofs.Seated.{Shrinks}
+use Rattle.lobby_battles.proofs.Knowing.{Shrinks}
 use Rattle.std.specs.declared.cmp.Ordering.{Ordering}
 use Rattle.std.specs.Ordering.{eq_by_cmp}
 use Rattle.std.specs.BTreeMap.{is_at}
@@ -20,9 +20,9 @@ use Rattle.room_lists.specs.Room.{Room, has_asker}
 use Rattle.lobby_battles.specs.declared.battles.RoomChange.{RoomChange}
 use Rattle.lobby_battles.specs.declared.battles.RoomChange.TheVariants as room
 use Rattle.lobby_model.specs.State.{Battle}
-use Rattle.lobby_battles.specs.declared.seats.Seat.{Seat}
-use Rattle.lobby_battles.specs.Battles.{AreSeated, ChangesAlike, IsOnly, asks_at, battle_at, concerns, room_after}
-use Rattle.lobby_battles.specs.Seats.{seat_in, user_in, users_of}
+use Rattle.lobby_battles.specs.declared.online_users.OnlineUser.{OnlineUser}
+use Rattle.lobby_battles.specs.Battles.{KnowTheirBattles, ChangesAlike, IsOnly, asks_at, battle_at, concerns, room_after}
+use Rattle.lobby_battles.specs.OnlineUsers.{online_user_in, plain_user, users_of}
 
 -- what one test of the values finds
 module _ {X : Type 0} (p : X → Bool) (m : ByNumber X) (sorted : T (is_sorted nat_cmp m)) where
@@ -48,32 +48,32 @@ module _ {X : Type 0} (p : X → Bool) (m : ByNumber X) (sorted : T (is_sorted n
       ] refl
 
 -- the battle whose room passes a test, of one whom it concerns
-module _ (battles : ByNumber Battle) (seats : ByName Seat) (sorted : T (is_sorted nat_cmp battles)) (seated : AreSeated battles seats)
+module _ (battles : ByNumber Battle) (online : ByName OnlineUser) (sorted : T (is_sorted nat_cmp battles)) (knowing : KnowTheirBattles battles online)
     (name : List ℕ) (test : Room → Bool) (of_it : (rm : Room) → test rm ≡ true → concerns name rm ≡ true) where
   pub own_found : (number : ℕ) (battle : Battle) → at_number battles number ≡ Some battle → test battle.room ≡ true
       → find (λ e. test e.1.room) battles ≡ Some (number, battle)
   own_found number battle there in_it =
       finds_sole (λ b. test b.room) battles sorted number battle there in_it
-      (λ q y at_q in_y. same_Some q number (sym (seated.at name q y at_q (of_it y.room in_y)) ∙ seated.at name number battle there (of_it battle.room in_it)))
+      (λ q y at_q in_y. same_Some q number (sym (knowing.at name q y at_q (of_it y.room in_y)) ∙ knowing.at name number battle there (of_it battle.room in_it)))
 
-  pub own_none : ((number : ℕ) (battle : Battle) → battle_at (at_name seats name) ≡ Some number → at_number battles number ≡ Some battle
+  pub own_none : ((number : ℕ) (battle : Battle) → battle_at (at_name online name) ≡ Some number → at_number battles number ≡ Some battle
       → test battle.room ≡ false) → find (λ e. test e.1.room) battles ≡ None
   own_none none =
       finds_none (λ b. test b.room) battles sorted
       (λ q y at_q. elim (test y.room) as (λ b. test y.room ≡ b → b ≡ false) [
-        | true ↦ λ in_y. sym in_y ∙ none q y (seated.at name q y at_q (of_it y.room in_y)) at_q
+        | true ↦ λ in_y. sym in_y ∙ none q y (knowing.at name q y at_q (of_it y.room in_y)) at_q
         | false ↦ λ out. refl
       ] refl)
 
-  pub own_nowhere : ((number : ℕ) (battle : Battle) → battle_at (at_name seats name) ≡ Some number → at_number battles number ≡ Some battle
+  pub own_nowhere : ((number : ℕ) (battle : Battle) → battle_at (at_name online name) ≡ Some number → at_number battles number ≡ Some battle
       → test battle.room ≡ false) → (at : Option ℕ) → IsOnly test battles at
   own_nowhere none at = λ q y at_q in_y.
-      contradiction (test y.room) in_y (none q y (seated.at name q y at_q (of_it y.room in_y)) at_q)
+      contradiction (test y.room) in_y (none q y (knowing.at name q y at_q (of_it y.room in_y)) at_q)
 
   -- it is in no other
   pub own_only : (number : ℕ) (battle : Battle) → at_number battles number ≡ Some battle → test battle.room ≡ true → IsOnly test battles (Some number)
   own_only number battle there in_it = λ q y at_q in_y.
-      sym (seated.at name number battle there (of_it battle.room in_it)) ∙ seated.at name q y at_q (of_it y.room in_y)
+      sym (knowing.at name number battle there (of_it battle.room in_it)) ∙ knowing.at name q y at_q (of_it y.room in_y)
 
 -- the battle at which one asks
 pub asking_there : (o : Option Battle) (name : List ℕ) → asks_at o name ≡ true → (b : Battle) × (o ≡ Some b) × (has_asker name b.room ≡ true)
@@ -92,12 +92,12 @@ set_same R k x (e ∷ m) found =
     ] found
 
 -- one who enters a battle stays the same user
-pub users_entered : (seats : ByName Seat) (k : List ℕ) (number : ℕ) → users_of (change_name seats k (seat_in number)) ≡ users_of seats
+pub users_entered : (online : ByName OnlineUser) (k : List ℕ) (number : ℕ) → users_of (change_name online k (online_user_in number)) ≡ users_of online
 users_entered [] k number = refl
-users_entered (e ∷ seats) k number =
-    ap (λ u. (e.0, u) ∷ users_of (change_name seats k (seat_in number)))
-    (elim (same_name k e.0) as (λ b. user_in (if b then seat_in number e.1 else e.1) ≡ user_in e.1) [ true ↦ refl | false ↦ refl ])
-    ∙ ap (λ us. (e.0, user_in e.1) ∷ us) (users_entered seats k number)
+users_entered (e ∷ online) k number =
+    ap (λ u. (e.0, u) ∷ users_of (change_name online k (online_user_in number)))
+    (elim (same_name k e.0) as (λ b. plain_user (if b then online_user_in number e.1 else e.1) ≡ plain_user e.1) [ true ↦ refl | false ↦ refl ])
+    ∙ ap (λ us. (e.0, plain_user e.1) ∷ us) (users_entered online k number)
 
 -- what changes in a room lets nobody in, and lets nobody ask
 pub shrinks_after : (change : RoomChange) (rm : Room) → Shrinks rm (room_after change rm)

@@ -1,4 +1,4 @@
 pub mod Agreed
 pub mod Users
-pub mod Seated
+pub mod Knowing
 pub mod Base

@@ -13,7 +13,7 @@ use Rattle.lobby_battles.specs.declared.battles.BattleChange.TheVariants.{Open, 
 use Rattle.lobby_battles.specs.declared.battles.BattleChange.TheVariants.{Update, InRoom}
 use Rattle.lobby_battles.specs.declared.battles.RoomChange.{RoomChange}
 use Rattle.lobby_battles.specs.declared.battles.RoomChange.TheVariants as room
-use Rattle.lobby_battles.specs.declared.seats.Seat.{Seat}
+use Rattle.lobby_battles.specs.declared.online_users.OnlineUser.{OnlineUser}
 
 -- what the members of a battle share, after a change
 abbrev pub room_after : RoomChange → Room → Room
@@ -152,10 +152,10 @@ CanChange clients battles c (Leave number name) = Unit {0}
 CanChange clients battles c (Update number spectators locked map_hash map) = Unit {0}
 CanChange clients battles c (InRoom number change) = FitsRoom change
 
--- the battle whose number a seat has
-abbrev pub battle_at : Option Seat → Option ℕ
+-- the battle whose number an online user has
+abbrev pub battle_at : Option OnlineUser → Option ℕ
 battle_at None = None
-battle_at (Some seat) = seat.battle
+battle_at (Some online_user) = online_user.battle
 
 -- one is a member, or asks to be
 abbrev pub concerns : List ℕ → Room → Bool
@@ -165,9 +165,9 @@ concerns name room = has_member name room || has_asker name room
 abbrev pub AskOutside : Room → Type 0
 AskOutside room = (name : List ℕ) → has_asker name room ≡ true → has_member name room ≡ false
 
--- The seats of a battle's members, and of those who ask to join it, have the battle's number, and none of them is both
-pub record AreSeated (battles : ByNumber Battle) (seats : ByName Seat) : Type 0 where
+-- A battle's members, and those who ask to join it, have its number, and none of them is both
+pub record KnowTheirBattles (battles : ByNumber Battle) (online : ByName OnlineUser) : Type 0 where
   pub at : (name : List ℕ) (number : ℕ) (battle : Battle) → at_number battles number ≡ Some battle
       → concerns name battle.room ≡ true
-      → battle_at (at_name seats name) ≡ Some number
+      → battle_at (at_name online name) ≡ Some number
   pub outside : (number : ℕ) (battle : Battle) → at_number battles number ≡ Some battle → AskOutside battle.room

@@ -1,3 +1,3 @@
 pub mod Info
 pub mod Battles
-pub mod Seats
+pub mod OnlineUsers

@@ -27,7 +27,7 @@ pub struct Battle {
     pub password: WordBuf,
     /// The hash of the game, -2147483648 to 4294967295.
     pub game_hash: i64,
-    /// Its members' marks are the keys of their clients.
+    /// Its members' keys are those of their clients.
     pub room: Room<ClientKey>,
 }
 

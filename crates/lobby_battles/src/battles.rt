@@ -5,12 +5,13 @@ ghost use Rattle.line_words.specs.Table.{ByNumber, at_number, change_number, put
 ghost use Rattle.lobby_model.specs.State.{Battle, Client, updated};
 ghost use Rattle.room_lists.specs.Room.{has_asker, has_member, with_asker, with_member};
 ghost use Rattle.lobby_battles.specs.Info.{info_changed};
-ghost use Rattle.lobby_battles.specs.Seats.{Agree, users_of};
+ghost use Rattle.lobby_battles.specs.OnlineUsers.{Agree, users_of};
 ghost use Rattle.lobby_battles.specs.Battles.{asks_at, battles_after, last_after, left_battle, let_in, unasked};
-ghost use Rattle.lobby_battles.specs.Battles.{room_after, room_changed, AreSeated, CanChange, FitsRoom, IsNowhere};
+ghost use Rattle.lobby_battles.specs.Battles.{room_after, room_changed, KnowTheirBattles, CanChange, FitsRoom};
+ghost use Rattle.lobby_battles.specs.Battles.{IsNowhere};
 
 use crate::battle::Battle;
-use crate::seats::Seats;
+use crate::online_users::OnlineUsers;
 use battle_room::{Bot, Rect};
 use line_words::{NameBuf, PairList, SentenceBuf, WordBuf, WordList};
 use lobby_post::ClientKey;
@@ -172,22 +173,22 @@ impl Battles {
     /// Changes the battles, and where users sit. Where memory is refused, nothing changes.
     pub fn apply(
         &mut self,
-        seats: &mut Seats,
+        online: &mut OnlineUsers,
         client: u64,
         change: BattleChange,
     ) -> Result<(), AllocError>
-        requires can { (clients : ByNumber Client) × Agree clients seats.old.users.entries
+        requires can { (clients : ByNumber Client) × Agree clients online.old.users.entries
             × CanChange clients self.old.by_number.entries client change }
-        requires seated { AreSeated self.old.by_number.entries seats.old.users.entries }
+        requires knowing { KnowTheirBattles self.old.by_number.entries online.old.users.entries }
         ensures battles { OnOk result (self.new.by_number.entries ≡ battles_after change self.old.by_number.entries) }
         ensures last { OnOk result (self.new.last ≡ last_after change self.old.last) }
-        ensures users { users_of seats.new.users.entries ≡ users_of seats.old.users.entries }
-        ensures numbers { seats.new.clients.keys ≡ seats.old.clients.keys }
-        ensures agree { (clients : ByNumber Client) → Agree clients seats.old.users.entries
-            → Agree clients seats.new.users.entries }
-        ensures seated { OnOk result (AreSeated self.new.by_number.entries seats.new.users.entries) }
+        ensures users { users_of online.new.users.entries ≡ users_of online.old.users.entries }
+        ensures numbers { online.new.clients.keys ≡ online.old.clients.keys }
+        ensures agree { (clients : ByNumber Client) → Agree clients online.old.users.entries
+            → Agree clients online.new.users.entries }
+        ensures knowing { OnOk result (KnowTheirBattles self.new.by_number.entries online.new.users.entries) }
         ensures err { OnErr result ((self.new.by_number.entries ≡ self.old.by_number.entries)
-            × (self.new.last ≡ self.old.last) × (seats.new.users.entries ≡ seats.old.users.entries)) }
+            × (self.new.last ≡ self.old.last) × (online.new.users.entries ≡ online.old.users.entries)) }
     {
         match change {
             BattleChange::Open {
@@ -196,11 +197,11 @@ impl Battles {
                 battle,
             } => {
                 self.add(number, battle)?;
-                seats.enter_battle(&name, number);
+                online.enter_battle(&name, number);
             }
             BattleChange::Join { number, name } => {
-                self.add_member(number, &name, seats.key_of(&name))?;
-                seats.enter_battle(&name, number);
+                self.add_member(number, &name, online.key_of(&name))?;
+                online.enter_battle(&name, number);
             }
             BattleChange::Ask {
                 number,
@@ -208,10 +209,10 @@ impl Battles {
                 script_password,
             } => {
                 self.add_asker(number, &name, script_password)?;
-                seats.enter_battle(&name, number);
+                online.enter_battle(&name, number);
             }
             BattleChange::LetIn { number, name } => {
-                self.let_in(number, &name, seats.key_of(&name))?;
+                self.let_in(number, &name, online.key_of(&name))?;
             }
             BattleChange::StopAsking { number, name } => self.stop_asking(number, &name),
             BattleChange::Leave { number, name } => self.leave(number, &name),
@@ -246,7 +247,7 @@ impl Battles {
         Ok(())
     }
 
-    /// One who is no member of the battle of this number enters it, with the key of its client as a mark.
+    /// One who is no member of the battle of this number enters it, with the key of its client.
     /// Where memory is refused, nothing changes.
     fn add_member(&mut self, number: u32, name: &NameBuf, key: ClientKey) -> Result<(), AllocError>
         requires { IsNowhere (has_member name.now) self.old.by_number.entries }
@@ -283,7 +284,7 @@ impl Battles {
     }
 
     /// One who asks to join the battle of this number, and is no member, enters it, with the key of its
-    /// client as a mark. Where memory is refused, nothing changes.
+    /// client. Where memory is refused, nothing changes.
     fn let_in(&mut self, number: u32, name: &NameBuf, key: ClientKey) -> Result<(), AllocError>
         requires { (battle : Battle) → at_number self.old.by_number.entries number ≡ Some battle
             → has_member name.now battle.room ≡ false }
@@ -357,14 +358,14 @@ impl Battles {
 }
 
 impl Battle {
-    /// One who is no member enters, behind the others, with the key of its client as a mark. Where memory
+    /// One who is no member enters, behind the others, with the key of its client. Where memory
     /// is refused, nothing changes.
     fn add_member(&mut self, name: NameBuf, key: ClientKey) -> Result<(), AllocError>
         requires { has_member name self.old.room ≡ false }
         ensures ok { OnOk result (self.new ≡ room_changed (with_member name) self.old) }
         ensures err { OnErr result (self.new ≡ self.old) }
     {
-        self.room.add_marked(name, key)
+        self.room.add_keyed(name, key)
     }
 
     /// One who neither is a member nor asks to be asks to join, with the script password that it gave.
@@ -382,14 +383,14 @@ impl Battle {
         self.room.put_asker(name, script_password)
     }
 
-    /// One who asks, and is no member, enters, behind the others, with the key of its client as a mark.
+    /// One who asks, and is no member, enters, behind the others, with the key of its client.
     /// Where memory is refused, nothing changes.
     fn let_in(&mut self, name: &NameBuf, key: ClientKey) -> Result<(), AllocError>
         requires { has_member name.now self.old.room ≡ false }
         ensures ok { OnOk result (self.new ≡ room_changed (let_in name.now) self.old) }
         ensures err { OnErr result (self.new ≡ self.old) }
     {
-        self.room.let_in_marked(name, key)
+        self.room.let_in_keyed(name, key)
     }
 
     /// What its members share changes. Where memory is refused, nothing does.

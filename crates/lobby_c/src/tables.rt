@@ -11,6 +11,7 @@ ghost use Rattle.lobby_lines.specs.Rows.{user_row, user_shown, battle_row, battl
 ghost use Rattle.lobby_c.specs.Slot.{content, IsFull};
 
 use crate::slot::Slot;
+use client_view::View;
 use line_words::NameBuf;
 use lobby_lines::{
     BattleRow, NOT_THERE, Place, Size, Table, UserRow, answer, battle_table, channel_table,
@@ -33,7 +34,7 @@ pub extern "C" fn lobby_view_me(
     ensures same { view.new.held ≡ view.old.held }
 {
     let opened = view.take().open(alloc);
-    let status = answer(text_table(alloc, opened.me()), rows, text, size);
+    let status = answer(text_table(alloc, own_name(&opened)), rows, text, size);
     *view = Slot::close(opened);
     status
 }
@@ -152,4 +153,14 @@ pub extern "C" fn lobby_view_channel_members(
     };
     *view = Slot::close(opened);
     status
+}
+
+/// The own name, no bytes before a login.
+fn own_name(view: &View) -> &[u8]
+    ensures { result.now ≡ view.now.known.me }
+{
+    match view.me() {
+        Some(name) => name,
+        None => &[],
+    }
 }

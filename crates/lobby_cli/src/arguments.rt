@@ -48,6 +48,7 @@ fn print_word<R: Input + Print + Eprint>(rt: &R) -> u8
 fn run_server<R>(rt: &R, settings: &str, accounts: &str) -> u8
 where
     R: Files + Input + Print + Eprint + AllocGlobal + Threads + Wait + Net + RandomSource + Sync,
+    R::File: Send,
     ensures { result ≤ 4 }
 {
     match serve(rt, settings, accounts) {
@@ -72,6 +73,7 @@ where
         + Net
         + RandomSource
         + Sync,
+    R::File: Send,
     ensures { result ≤ 4 }
 {
     let mut words = match env::args(rt) {

@@ -16,6 +16,9 @@ pub enum ProgramError {
     /// The accounts cannot be used.
     #[error("cannot use accounts")]
     Accounts,
+    /// The files of a record cannot be made.
+    #[error("cannot make a record")]
+    Record,
     /// The system gave no random bytes.
     #[error("no random bytes")]
     Random,
@@ -25,13 +28,13 @@ pub enum ProgramError {
 }
 
 impl ProgramError {
-    /// The exit status: 2 for settings and accounts, 3 for random bytes, and the server's own.
+    /// The exit status: 2 for settings, accounts and a record, 3 for random bytes, and the server's own.
     pub fn status(self) -> u8
         ensures value { result ≡ status_of self }
         ensures within { (2 ≤ result) × (result ≤ 4) }
     {
         match self {
-            ProgramError::Settings | ProgramError::Accounts => 2,
+            ProgramError::Settings | ProgramError::Accounts | ProgramError::Record => 2,
             ProgramError::Random => 3,
             ProgramError::Server(error) => error.status(),
         }

@@ -6,6 +6,7 @@ mod arguments;
 mod error;
 mod hash;
 mod output;
+mod record;
 mod serve;
 
 pub use arguments::run;

@@ -4,9 +4,12 @@ ghost use Rattle.std.specs.Prelude.{◌≤◌, IfOk};
 
 use crate::error::ProgramError;
 use crate::output::{ErrorWriter, Output, PatientOutput};
+use crate::record::{NewRecord, new_record};
 use account_book::AccountBook;
-use lobby_setup::{CLIENT_LIMIT, FileError, Setup, accounts_at, settings_at};
-use lobby_workers::{Gate, HashSeed, Log, ServerError, Service, run_server_logged};
+use lobby_setup::{CLIENT_LIMIT, FileError, Setup, accounts_of, read_file, settings_at};
+use lobby_workers::{
+    Gate, HashSeed, Log, Masks, Record, ServerError, Service, run_server_recorded,
+};
 use mio::net::TcpListener;
 use program_help::VERSION;
 use server_log::{ShortText, Started};
@@ -40,13 +43,33 @@ fn setup_at<R: Files + AllocGlobal>(rt: &R, path: &str) -> Result<Setup, Program
     }
 }
 
-/// The accounts of a server.
-fn book_at<R: Files + AllocGlobal>(rt: &R, path: &str) -> Result<AccountBook, ProgramError> {
-    match accounts_at(rt, path) {
-        Ok(accounts) => Ok(accounts),
-        Err(FileError::Memory) => Err(ServerError::Memory.into()),
-        Err(_) => Err(ProgramError::Accounts),
+/// Why a server cannot use its file of accounts.
+fn refused(error: FileError) -> ProgramError {
+    match error {
+        FileError::Memory => ServerError::Memory.into(),
+        _ => ProgramError::Accounts,
     }
+}
+
+/// The accounts of a server.
+fn book_of(alloc: Global, file: &[u8]) -> Result<AccountBook, ProgramError> {
+    accounts_of(alloc, file).map_err(refused)
+}
+
+/// The files of the record of a server, if it has one, in which private talk is written or not.
+fn record_of<R: Files + AllocGlobal>(
+    rt: &R,
+    record: &NewRecord<'_>,
+    private: bool,
+) -> Result<Option<Record<R::File>>, ProgramError> {
+    if record.folder.is_empty() {
+        return Ok(None);
+    }
+    let masks = Masks {
+        accounts: book_of(rt.alloc(), record.accounts)?,
+        private,
+    };
+    Ok(Some(new_record(rt, record, masks)?))
 }
 
 /// By what the words that clients choose are hashed: none of them knows it.
@@ -76,10 +99,11 @@ fn text_of(
 }
 
 /// Runs a server by its files, until its input ends or the program is killed. The first fault in the order of
-/// settings, accounts and listener is the answer, and then what `run_server_logged` gives.
+/// settings, accounts, listener and record is the answer, and then what `run_server_recorded` gives.
 pub fn serve<R>(rt: &R, settings: &str, accounts: &str) -> Result<(), ProgramError>
 where
     R: Files + Input + Print + Eprint + AllocGlobal + Threads + Wait + Net + RandomSource + Sync,
+    R::File: Send,
 {
     let Setup {
         settings,
@@ -88,11 +112,21 @@ where
         stop_at_input_end,
         proxies,
         log,
+        folder,
+        private,
     } = setup_at(rt, settings)?;
-    let accounts = book_at(rt, accounts)?;
+    let file = read_file(rt, accounts).map_err(refused)?;
+    let accounts = book_of(rt.alloc(), &file)?;
     let Ok(listener) = TcpListener::bind(rt, SocketAddr::V4(address)) else {
         return Err(ServerError::Listener.into());
     };
+    let record = NewRecord {
+        folder: folder.as_str(),
+        workers,
+        settings: &settings,
+        accounts: &file,
+    };
+    let record = record_of(rt, &record, private)?;
     let address = text_of(rt.alloc(), &listener, address)?;
     let started = Started {
         version: VERSION,
@@ -114,7 +148,7 @@ where
         accounts,
         seed: new_seed(rt)?,
     };
-    let status = run_server_logged(
+    let status = run_server_recorded(
         rt,
         rt.alloc(),
         service,
@@ -127,6 +161,7 @@ where
             level: log,
             started,
         },
+        record,
     );
     match ServerError::of_run(status) {
         None => Ok(()),

@@ -1,5 +1,5 @@
 -- What contracts see of a worker's connections.
-use Rattle.std.specs.Prelude.{◌≡◌, ◌⊎◌, ℕ, Bool, true, false, if◌then◌else◌, List, [], ◌∷◌, ◌++◌, length}
+use Rattle.std.specs.Prelude.{◌≡◌, ◌⊎◌, ◌≤◌, ℕ, Bool, true, false, if◌then◌else◌, List, [], ◌∷◌, ◌++◌, length}
 use Rattle.std.specs.Prelude.{slice_index_or}
 use Rattle.lobby_connections.specs.Timeouts.{shorter}
 use Rattle.lobby_connections.specs.declared.poll_timeout.PollTimeout.{PollTimeout}
@@ -18,7 +18,7 @@ pub record Table : Type 0 where
   pub turn_most : ℕ
   pub round_most : ℕ
   pub named : List ℕ
-  pub is_marked : Bool
+  pub is_pending : Bool
   pub timeout : PollTimeout
   pub count : ℕ
   pub key_bound : ℕ
@@ -27,6 +27,10 @@ pub record Table : Type 0 where
 -- how many get a turn, those among them who had it
 abbrev pub due_count : Table → ℕ
 due_count table = if table.is_each_due then table.key_bound else length table.due
+
+-- each who was due had its turn, and nobody is named or may be
+abbrev pub IsIdle : Table → Type 0
+IsIdle table = (due_count table ≤ table.served) × (table.named ≡ []) × (table.is_pending ≡ false)
 
 -- the key of the next one of them
 abbrev pub next_key : Table → ℕ

@@ -1,11 +1,11 @@
 //! The connections of a worker, and who gets the next turn.
 
-ghost use Rattle.std.specs.Prelude.{◌≡◌, ◌⊎◌, ◌↔◌, ◌+◌, ◌-◌, ◌/◌, ◌^◌, ◌<◌, ◌≤◌, ◌||◌, [], ◌++◌, true, false};
+ghost use Rattle.std.specs.Prelude.{◌≡◌, ◌≢◌, ◌⊎◌, ◌↔◌, ◌+◌, ◌-◌, ◌/◌, ◌^◌, ◌<◌, ◌≤◌, ◌||◌, [], ◌++◌, true, false};
 ghost use Rattle.std.specs.Prelude.{length, max, min, None, IfSome, IsTrue, OnOk, OnSome};
 ghost use Rattle.std.specs.Option.{option_to_list};
 ghost use Rattle.lobby_post.specs.Mask.{has_home};
-ghost use Rattle.lobby_connections.specs.Table.{Leaves, Stays, due_count, next_key, with_left};
-ghost use Rattle.lobby_connections.specs.Timeouts.{shorter};
+ghost use Rattle.lobby_connections.specs.Table.{IsIdle, Leaves, Stays, due_count, next_key, with_left};
+ghost use Rattle.lobby_connections.specs.Timeouts.{StaysAwake, shorter};
 
 use crate::connection::Connection;
 use crate::lingering::Lingering;
@@ -43,7 +43,7 @@ pub struct Connections {
     // the clients that were named as changed, for the turns to come; there is room for all
     named: Vec<u64>,
     // whether the lobby may name more, of which no other worker tells
-    is_marked: bool,
+    is_pending: bool,
     // who stopped at a limit or for want of memory in the round before, and so gets a turn though nothing new comes
     due: Vec<usize>,
     // how many of them had it
@@ -77,7 +77,7 @@ impl Drop for Connections {
             keys,
             round: _,
             named,
-            is_marked: _,
+            is_pending: _,
             due,
             served: _,
             is_each_due: _,
@@ -107,6 +107,7 @@ impl Model for Connections {
     ghost use Rattle.std.specs.HashMap.{spare};
     ghost use Rattle.slab.specs.Slab.{slab_len};
     ghost use Rattle.lobby_connections.specs.Table.{Table};
+    ghost use Rattle.lobby_connections.specs.Timeouts.{StaysAwake};
 
     ghost Value = { Table };
 
@@ -121,13 +122,15 @@ impl Model for Connections {
       turn_most = c.turn_most;
       round_most = c.round_most;
       named = c.named.items;
-      is_marked = c.is_marked;
+      is_pending = c.is_pending;
       timeout = c.timeout;
       count = slab_len c.slab;
       key_bound =
           c.slab.capacity;
       room = min (c.slab.capacity - slab_len c.slab) (spare c.keys);
     } };
+
+    ghost invariant = { λ c. StaysAwake c.left.items c.is_each_left c.timeout };
 }
 
 impl Connections {
@@ -141,7 +144,7 @@ impl Connections {
         ensures limits { (result.turn_most ≡ TURN / workers) × (result.round_most ≡ ROUND / workers) }
         ensures some { (1 ≤ result.turn_most) × (result.turn_most ≤ result.round_most) }
         ensures left { (result.left ≡ []) × (result.is_each_left ≡ false) }
-        ensures named { (result.named ≡ []) × (result.is_marked ≡ false) }
+        ensures named { (result.named ≡ []) × (result.is_pending ≡ false) }
         ensures none { result.count ≡ 0 }
         ensures timeout { result.timeout ≡ PollTimeout.Endless }
     {
@@ -151,7 +154,7 @@ impl Connections {
             keys: HashMap::new(alloc),
             round: 1,
             named: Vec::new(alloc),
-            is_marked: false,
+            is_pending: false,
             due: Vec::new(alloc),
             served: 0,
             is_each_due: false,
@@ -168,11 +171,18 @@ impl Connections {
         }
     }
 
-    /// How long the worker may wait before the next round.
+    /// How long the worker may wait before the next round: not at all while somebody is due, or is named, or may be;
+    /// and never without end while somebody is left over.
     pub fn poll_timeout(&self) -> PollTimeout
-        ensures { result ≡ self.now.timeout }
+        ensures idle { IsIdle self.now → result ≡ self.now.timeout }
+        ensures busy { IsIdle self.now ⊎ (result ≡ PollTimeout.Zero) }
+        ensures awake { StaysAwake self.now.left self.now.is_each_left result }
     {
-        self.timeout
+        if self.has_due() || self.is_pending || !self.named.is_empty() {
+            PollTimeout::Zero
+        } else {
+            self.timeout
+        }
     }
 
     /// Has the worker wait no longer than this before the next round.
@@ -273,7 +283,7 @@ impl Connections {
     }
 
     /// Whether some are due who had no turn yet.
-    pub fn has_due(&self) -> bool
+    fn has_due(&self) -> bool
         ensures { IsTrue result ↔ (self.now.served < due_count self.now) }
     {
         self.served < self.due()
@@ -396,13 +406,28 @@ impl Connections {
     /// The connection under a key, whose turn of this round begins, with buffers that are lent to it. None where there
     /// is none, or it had its turn.
     pub fn begin_turn(&mut self, key: usize) -> Option<&mut Connection> {
-        let connection = self.slab.get_mut(key)?;
-        if connection.round == self.round {
-            return None;
+        if self.begins(key) {
+            self.slab.get_mut(key)
+        } else {
+            None
         }
-        connection.round = self.round;
+    }
+
+    /// The turn of this round of the connection under a key begins, and buffers are lent to it. False where there is
+    /// none, or it had its turn.
+    fn begins(&mut self, key: usize) -> bool
+        ensures { self.new ≡ self.old }
+    {
+        let round = self.round;
+        let Some(connection) = self.slab.get_mut(key) else {
+            return false;
+        };
+        if connection.round == round {
+            return false;
+        }
+        connection.round = round;
         connection.conn.lend(&mut self.buffers);
-        Some(connection)
+        true
     }
 
     /// A turn is over: takes back the buffers that were lent to the connection under a key.
@@ -433,6 +458,7 @@ impl Connections {
 
     /// A connection is left for the next round, before which the worker waits no longer than this.
     fn leave(&mut self, key: usize, timeout: PollTimeout)
+        requires { timeout ≢ PollTimeout.Endless }
         ensures { Leaves self.old self.new key timeout }
     {
         self.hurry(timeout);
@@ -480,27 +506,27 @@ impl Connections {
         self.lingering.discard_input()
     }
 
-    /// Marks the worker where a turn touched its clients, which are those of this home: the lobby may name more of
+    /// Notes whether a turn touched the worker's clients, which are those of this home: the lobby may name more of
     /// them.
-    pub fn mark(&mut self, home: u8, wakes: Wakes)
+    pub fn note_wakes(&mut self, home: u8, wakes: Wakes)
         requires { home ≤ 63 }
-        ensures { self.new ≡ record self.old { is_marked = self.old.is_marked || has_home wakes home } }
+        ensures { self.new ≡ record self.old { is_pending = self.old.is_pending || has_home wakes home } }
     {
-        self.is_marked |= wakes.has(home);
+        self.is_pending |= wakes.has(home);
     }
 
     /// Whether the lobby may name more clients, of which no other worker tells.
-    pub fn is_marked(&self) -> bool
-        ensures { result ≡ self.now.is_marked }
+    pub fn is_pending(&self) -> bool
+        ensures { result ≡ self.now.is_pending }
     {
-        self.is_marked
+        self.is_pending
     }
 
     /// Says whether the lobby may name more clients.
-    pub fn set_marked(&mut self, is_marked: bool)
-        ensures { self.new ≡ record self.old { is_marked = is_marked } }
+    pub fn set_pending(&mut self, is_pending: bool)
+        ensures { self.new ≡ record self.old { is_pending = is_pending } }
     {
-        self.is_marked = is_marked;
+        self.is_pending = is_pending;
     }
 
     /// Takes names of changed clients in a hold that goes on, while there is room, and keeps those of clients

@@ -43,7 +43,7 @@ use Rattle.lobby_hall.proofs.Recorded.{of-within}
 use Rattle.lobby_hall.proofs.Kept.{open_gives}
 use Rattle.lobby_hall.proofs.Drained.{drained_at, drained_other, drained_same}
 use Rattle.lobby_hall.proofs.Opened.{of-append_some, of-append_past}
-use Rattle.lobby_post.proofs.Marks.{with_batch-home}
+use Rattle.lobby_post.proofs.Listings.{with_batch-home}
 use Rattle.std.proofs.lemmas.Bool.{or_parts}
 
 -- Lists of numbers.

@@ -7,7 +7,7 @@ use Rattle.line_words.specs.declared.lists.Pair.{Pair}
 use Rattle.command_grammar.specs.Table as kind
 use Rattle.command_grammar.specs.Table.{Kind}
 use Rattle.reply_kinds.specs.Kinds.{words_text, pairs_text}
-use Rattle.request_printer.specs.Writing.{mark_behind}
+use Rattle.request_printer.specs.Writing.{separator_behind}
 use Rattle.lobby_lines.specs.declared.fields.FieldRow.{FieldRow}
 use Rattle.lobby_lines.specs.declared.error.RequestError.{RequestError}
 use Rattle.lobby_lines.specs.declared.error.RequestError.TheVariants as error
@@ -76,10 +76,10 @@ words_next text f fs = by (text_of is_word text f) (all_words text fs)
 
 -- Pairs
 
-pairs_next : (mark : ℕ) (text : List ℕ) (f : FieldRow) (fs : List FieldRow)
-    → pairs_put mark text (f ∷ fs) ≡ (pair_part mark text (f ∷ fs) >>= λ p. pairs_put 9 text p.behind >>= λ t. Ok (p.text ++ t))
-pairs_next mark text f [] = refl
-pairs_next mark text f (g ∷ fs) = by (text_of is_key text f) (text_of is_sentence text g) (all_pairs text fs)
+pairs_next : (separator : ℕ) (text : List ℕ) (f : FieldRow) (fs : List FieldRow)
+    → pairs_put separator text (f ∷ fs) ≡ (pair_part separator text (f ∷ fs) >>= λ p. pairs_put 9 text p.behind >>= λ t. Ok (p.text ++ t))
+pairs_next separator text f [] = refl
+pairs_next separator text f (g ∷ fs) = by (text_of is_key text f) (text_of is_sentence text g) (all_pairs text fs)
   where
     pairs : ℕ → Result (List Pair) RequestError → Result (List ℕ) RequestError
     pairs m os = os >>= λ ps. Ok (pairs_text m ps)
@@ -88,28 +88,28 @@ pairs_next mark text f (g ∷ fs) = by (text_of is_key text f) (text_of is_sente
     pair key value = record { key = key; value = value }
 
     one : List ℕ → List ℕ → Part
-    one key value = record { text = mark ∷ (key ++ 61 ∷ value); absent = false; behind = fs }
+    one key value = record { text = separator ∷ (key ++ 61 ∷ value); absent = false; behind = fs }
 
     rest : Part → Result (List ℕ) RequestError
     rest p = pairs_put 9 text p.behind >>= λ t. Ok (p.text ++ t)
 
     last : (key value : List ℕ) (os : Result (List Pair) RequestError)
-        → pairs mark (os >>= λ ps. Ok (pair key value ∷ ps)) ≡ (pairs 9 os >>= λ t. Ok ((mark ∷ (key ++ 61 ∷ value)) ++ t))
+        → pairs separator (os >>= λ ps. Ok (pair key value ∷ ps)) ≡ (pairs 9 os >>= λ t. Ok ((separator ∷ (key ++ 61 ∷ value)) ++ t))
     last key value (Err e) = refl
     last key value (Ok ps) = refl
 
     by : (o p : Result (List ℕ) RequestError) (os : Result (List Pair) RequestError)
-        → pairs mark (o >>= λ key. p >>= λ value. all_pairs text fs >>= λ ps. Ok (pair key value ∷ ps))
+        → pairs separator (o >>= λ key. p >>= λ value. all_pairs text fs >>= λ ps. Ok (pair key value ∷ ps))
         ≡ ((o >>= λ key. p >>= λ value. Ok (one key value)) >>= rest)
     by (Err e) p os = refl
     by (Ok key) (Err e) os = refl
     by (Ok key) (Ok value) os = last key value (all_pairs text fs)
 
-pub pairs_goes : (all : Result (List ℕ) RequestError) (mark : ℕ) (text : List ℕ) (fs behind : List FieldRow) (old now new : List ℕ)
-    → Going all (pairs_put mark text fs) old now → Put (pair_part mark text fs) behind false now new → Going all (pairs_put 9 text behind) old new
-pairs_goes all mark text [] behind old now new g put = absurd put
-pairs_goes all mark text (f ∷ fs) behind old now new g put =
-    by (pair_part mark text (f ∷ fs)) (subst (λ r. Going all r old now) (pairs_next mark text f fs) g) put
+pub pairs_goes : (all : Result (List ℕ) RequestError) (separator : ℕ) (text : List ℕ) (fs behind : List FieldRow) (old now new : List ℕ)
+    → Going all (pairs_put separator text fs) old now → Put (pair_part separator text fs) behind false now new → Going all (pairs_put 9 text behind) old new
+pairs_goes all separator text [] behind old now new g put = absurd put
+pairs_goes all separator text (f ∷ fs) behind old now new g put =
+    by (pair_part separator text (f ∷ fs)) (subst (λ r. Going all r old now) (pairs_next separator text f fs) g) put
   where
     by : (o : Result Part RequestError) → Going all (o >>= λ p. pairs_put 9 text p.behind >>= λ t. Ok (p.text ++ t)) old now
         → Put o behind false now new → Going all (pairs_put 9 text behind) old new
@@ -117,21 +117,21 @@ pairs_goes all mark text (f ∷ fs) behind old now new g put =
     by (Ok p) g put =
         subst (λ b. Going all (pairs_put 9 text b) old new) (sym put.0) (goes all _ (pairs_put 9 text p.behind) p.text old now new g refl put.2)
 
-pub pairs_stop : (e : RequestError) (all : Result (List ℕ) RequestError) (mark : ℕ) (text : List ℕ) (fs : List FieldRow) (old now : List ℕ)
-    → Going all (pairs_put mark text fs) old now → 0 < length fs → Blames e (pair_part mark text fs) → Blames e all
-pairs_stop e all mark text [] old now g some blamed = absurd (omega arith)
-pairs_stop e all mark text (f ∷ fs) old now g some blamed =
-    stops_at e all (pair_part mark text (f ∷ fs)) (λ p. pairs_put 9 text p.behind >>= λ t. Ok (p.text ++ t)) old now
-    (subst (λ r. Going all r old now) (pairs_next mark text f fs) g) blamed
+pub pairs_stop : (e : RequestError) (all : Result (List ℕ) RequestError) (separator : ℕ) (text : List ℕ) (fs : List FieldRow) (old now : List ℕ)
+    → Going all (pairs_put separator text fs) old now → 0 < length fs → Blames e (pair_part separator text fs) → Blames e all
+pairs_stop e all separator text [] old now g some blamed = absurd (omega arith)
+pairs_stop e all separator text (f ∷ fs) old now g some blamed =
+    stops_at e all (pair_part separator text (f ∷ fs)) (λ p. pairs_put 9 text p.behind >>= λ t. Ok (p.text ++ t)) old now
+    (subst (λ r. Going all r old now) (pairs_next separator text f fs) g) blamed
 
-pub pair_shorter : (mark : ℕ) (text : List ℕ) (fs behind : List FieldRow) (now new : List ℕ) → Put (pair_part mark text fs) behind false now new
+pub pair_shorter : (separator : ℕ) (text : List ℕ) (fs behind : List FieldRow) (now new : List ℕ) → Put (pair_part separator text fs) behind false now new
     → length behind < length fs
-pair_shorter mark text [] behind now new put = absurd put
-pair_shorter mark text (f ∷ []) behind now new put = absurd put
-pair_shorter mark text (f ∷ g ∷ fs) behind now new put = by (text_of is_key text f) (text_of is_sentence text g) put
+pair_shorter separator text [] behind now new put = absurd put
+pair_shorter separator text (f ∷ []) behind now new put = absurd put
+pair_shorter separator text (f ∷ g ∷ fs) behind now new put = by (text_of is_key text f) (text_of is_sentence text g) put
   where
     one : List ℕ → List ℕ → Part
-    one key value = record { text = mark ∷ (key ++ 61 ∷ value); absent = false; behind = fs }
+    one key value = record { text = separator ∷ (key ++ 61 ∷ value); absent = false; behind = fs }
 
     by : (o p : Result (List ℕ) RequestError) → Put (o >>= λ key. p >>= λ value. Ok (one key value)) behind false now new
         → length behind < length (f ∷ g ∷ fs)
@@ -194,35 +194,35 @@ skipped_so true false e v is = (let same : error.Skipped ≡ e = cc in ap Err sa
 skipped_so false true e v is = absurd (let no : ⊥ = cc in no)
 skipped_so false false e v is = absurd (let no : ⊥ = cc in no)
 
-module _ (all : Result (List ℕ) RequestError) (m absent n : Bool) (mark : ℕ) (text : List ℕ) (k : Kind) (ks : List Kind) (fs behind : List FieldRow)
+module _ (all : Result (List ℕ) RequestError) (m absent n : Bool) (separator : ℕ) (text : List ℕ) (k : Kind) (ks : List Kind) (fs behind : List FieldRow)
     (old now new : List ℕ) where
-  pub parts_next : Going all (parts m mark text (k ∷ ks) fs) old now → Put (part mark text k fs) behind absent now new
-      → unless_skipped m absent (Ok (m || absent)) ≡ Ok n → Going all (parts n (mark_behind k mark) text ks behind) old new
-  parts_next g put is = by (part mark text k fs) g put
+  pub parts_next : Going all (parts m separator text (k ∷ ks) fs) old now → Put (part separator text k fs) behind absent now new
+      → unless_skipped m absent (Ok (m || absent)) ≡ Ok n → Going all (parts n (separator_behind k separator) text ks behind) old new
+  parts_next g put is = by (part separator text k fs) g put
     where
       by : (o : Result Part RequestError)
-          → Going all (o >>= λ p. unless_skipped m p.absent (parts (m || p.absent) (mark_behind k mark) text ks p.behind >>= λ t. Ok (p.text ++ t))) old now
-          → Put o behind absent now new → Going all (parts n (mark_behind k mark) text ks behind) old new
+          → Going all (o >>= λ p. unless_skipped m p.absent (parts (m || p.absent) (separator_behind k separator) text ks p.behind >>= λ t. Ok (p.text ++ t))) old now
+          → Put o behind absent now new → Going all (parts n (separator_behind k separator) text ks behind) old new
       by (Err e) g put = absurd put
       by (Ok p) g put =
           let is_p = subst (λ a. unless_skipped m a (Ok (m || a)) ≡ Ok n) put.1 is in
-          let u = unskipped m p.absent n (parts (m || p.absent) (mark_behind k mark) text ks p.behind >>= λ t. Ok (p.text ++ t)) is_p in
-          subst (λ b. Going all (parts n (mark_behind k mark) text ks b) old new) (sym put.0)
-          (subst (λ b. Going all (parts b (mark_behind k mark) text ks p.behind) old new) (sym u.1)
-          (goes all _ (parts (m || p.absent) (mark_behind k mark) text ks p.behind) p.text old now new g u.0 put.2))
+          let u = unskipped m p.absent n (parts (m || p.absent) (separator_behind k separator) text ks p.behind >>= λ t. Ok (p.text ++ t)) is_p in
+          subst (λ b. Going all (parts n (separator_behind k separator) text ks b) old new) (sym put.0)
+          (subst (λ b. Going all (parts b (separator_behind k separator) text ks p.behind) old new) (sym u.1)
+          (goes all _ (parts (m || p.absent) (separator_behind k separator) text ks p.behind) p.text old now new g u.0 put.2))
 
-  pub parts_skipped : (e : RequestError) → Going all (parts m mark text (k ∷ ks) fs) old now → Put (part mark text k fs) behind absent now new
+  pub parts_skipped : (e : RequestError) → Going all (parts m separator text (k ∷ ks) fs) old now → Put (part separator text k fs) behind absent now new
       → unless_skipped m absent (Ok (m || absent)) ≡ Err e → Blames e all
-  parts_skipped e g put is = by (part mark text k fs) g put
+  parts_skipped e g put is = by (part separator text k fs) g put
     where
       by : (o : Result Part RequestError)
-          → Going all (o >>= λ p. unless_skipped m p.absent (parts (m || p.absent) (mark_behind k mark) text ks p.behind >>= λ t. Ok (p.text ++ t))) old now
+          → Going all (o >>= λ p. unless_skipped m p.absent (parts (m || p.absent) (separator_behind k separator) text ks p.behind >>= λ t. Ok (p.text ++ t))) old now
           → Put o behind absent now new → Blames e all
       by (Err f) g put = absurd put
       by (Ok p) g put =
           let is_p = subst (λ a. unless_skipped m a (Ok (m || a)) ≡ Err e) put.1 is in
           stops e all _ old now g
-          (skipped_so m p.absent e (parts (m || p.absent) (mark_behind k mark) text ks p.behind >>= λ t. Ok (p.text ++ t)) is_p)
+          (skipped_so m p.absent e (parts (m || p.absent) (separator_behind k separator) text ks p.behind >>= λ t. Ok (p.text ++ t)) is_p)
 
 -- the next kind that a loop takes
 pub next_kind : (kinds : List RequestKind) (i : ℕ) (d : RequestKind) → i < length kinds

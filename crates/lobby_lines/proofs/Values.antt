@@ -12,7 +12,7 @@ use Rattle.command_grammar.proofs.ArgumentBounds.{entry_again}
 use Rattle.command_grammar.specs.Reads.{id_limit}
 use Rattle.reply_kinds.specs.Replies.{id_text}
 use Rattle.request_printer.specs.Faults.{is_absent, all_absent, has_gap, in_range, all_listed, is_id, fault_in, fault_of, line_limit}
-use Rattle.request_printer.specs.Writing.{written, mark_behind, all_written, HasWord, line_under}
+use Rattle.request_printer.specs.Writing.{written, separator_behind, all_written, HasWord, line_under}
 use Rattle.request_printer.specs.declared.error.PrintError.TheVariants as print
 use Rattle.request_printer.proofs.Told.{printed, line_refused}
 use Rattle.lobby_lines.specs.declared.fields.FieldRow.{FieldRow}
@@ -26,32 +26,32 @@ use Rattle.lobby_lines.specs.Writing.{Blames, IsLine, IsRefused, Part, PutAll, p
 
 -- The text of arguments is that of their values
 
-parts_values : (m : Bool) (mark : ℕ) (text : List ℕ) (ks : List Kind) (fs : List FieldRow)
-    → parts m mark text ks fs ≡ (arguments text m ks fs >>= λ xs. Ok (all_written mark ks xs))
-parts_values m mark text [] [] = refl
-parts_values m mark text [] (f ∷ fs) = refl
-parts_values m mark text (k ∷ ks) fs =
-    by (argument text k fs) (λ x. parts_values (m || is_absent k x.0) (mark_behind k mark) text ks x.1)
+parts_values : (m : Bool) (separator : ℕ) (text : List ℕ) (ks : List Kind) (fs : List FieldRow)
+    → parts m separator text ks fs ≡ (arguments text m ks fs >>= λ xs. Ok (all_written separator ks xs))
+parts_values m separator text [] [] = refl
+parts_values m separator text [] (f ∷ fs) = refl
+parts_values m separator text (k ∷ ks) fs =
+    by (argument text k fs) (λ x. parts_values (m || is_absent k x.0) (separator_behind k separator) text ks x.1)
   where
     both : Value k → Values ks → Values (k ∷ ks)
     both x xs = (x, xs)
 
     seen : Value k × List FieldRow → Part
-    seen x = record { text = written mark k x.0; absent = is_absent k x.0; behind = x.1 }
+    seen x = record { text = written separator k x.0; absent = is_absent k x.0; behind = x.1 }
 
     last : (b : Bool) (x : Value k) (os : Result (Values ks) RequestError) (r : Result (List ℕ) RequestError)
-        → r ≡ (os >>= λ xs. Ok (all_written (mark_behind k mark) ks xs))
-        → cond b (Err error.Skipped) (r >>= λ t. Ok (written mark k x ++ t))
-        ≡ (cond b (Err error.Skipped) (os >>= λ xs. Ok (both x xs)) >>= λ xs. Ok (all_written mark (k ∷ ks) xs))
+        → r ≡ (os >>= λ xs. Ok (all_written (separator_behind k separator) ks xs))
+        → cond b (Err error.Skipped) (r >>= λ t. Ok (written separator k x ++ t))
+        ≡ (cond b (Err error.Skipped) (os >>= λ xs. Ok (both x xs)) >>= λ xs. Ok (all_written separator (k ∷ ks) xs))
     last true x os r is = refl
-    last false x (Ok xs) r is = ap (λ q. q >>= λ t. Ok (written mark k x ++ t)) is
-    last false x (Err e) r is = ap (λ q. q >>= λ t. Ok (written mark k x ++ t)) is
+    last false x (Ok xs) r is = ap (λ q. q >>= λ t. Ok (written separator k x ++ t)) is
+    last false x (Err e) r is = ap (λ q. q >>= λ t. Ok (written separator k x ++ t)) is
 
     by : (o : Result (Value k × List FieldRow) RequestError)
-        → ((x : Value k × List FieldRow) → parts (m || is_absent k x.0) (mark_behind k mark) text ks x.1
-        ≡ (arguments text (m || is_absent k x.0) ks x.1 >>= λ xs. Ok (all_written (mark_behind k mark) ks xs)))
-        → ((o >>= λ x. Ok (seen x)) >>= λ p. unless_skipped m p.absent (parts (m || p.absent) (mark_behind k mark) text ks p.behind >>= λ t. Ok (p.text ++ t)))
-        ≡ ((o >>= λ x. unless_skipped m (is_absent k x.0) (arguments text (m || is_absent k x.0) ks x.1 >>= λ xs. Ok (both x.0 xs))) >>= λ xs. Ok (all_written mark (k ∷ ks) xs))
+        → ((x : Value k × List FieldRow) → parts (m || is_absent k x.0) (separator_behind k separator) text ks x.1
+        ≡ (arguments text (m || is_absent k x.0) ks x.1 >>= λ xs. Ok (all_written (separator_behind k separator) ks xs)))
+        → ((o >>= λ x. Ok (seen x)) >>= λ p. unless_skipped m p.absent (parts (m || p.absent) (separator_behind k separator) text ks p.behind >>= λ t. Ok (p.text ++ t)))
+        ≡ ((o >>= λ x. unless_skipped m (is_absent k x.0) (arguments text (m || is_absent k x.0) ks x.1 >>= λ xs. Ok (both x.0 xs))) >>= λ xs. Ok (all_written separator (k ∷ ks) xs))
     by (Err e) more = refl
     by (Ok x) more = last (m && not (is_absent k x.0)) x.0 (arguments text (m || is_absent k x.0) ks x.1) _ (more x)
 

@@ -5,7 +5,7 @@ use Rattle.command_grammar.specs.Table.{Kind}
 use Rattle.command_grammar.specs.declared.command.Request.{Request}
 use Rattle.reply_kinds.specs.Kinds.{words_text, pairs_text}
 use Rattle.request_printer.specs.Faults.{is_absent, Printed, Refuses}
-use Rattle.request_printer.specs.Writing.{written, mark_behind}
+use Rattle.request_printer.specs.Writing.{written, separator_behind}
 use Rattle.request_printer.specs.declared.error.PrintError.TheVariants as print
 use Rattle.lobby_lines.specs.declared.fields.FieldRow.{FieldRow}
 use Rattle.lobby_lines.specs.declared.error.RequestError.{RequestError}
@@ -19,30 +19,30 @@ pub record Part : Type 0 where
   pub behind : List FieldRow
 
 abbrev pub part : ℕ → List ℕ → Kind → List FieldRow → Result Part RequestError
-part mark text k fs = argument text k fs >>= λ x.
-    Ok (record { text = written mark k x.0; absent = is_absent k x.0; behind = x.1 })
+part separator text k fs = argument text k fs >>= λ x.
+    Ok (record { text = written separator k x.0; absent = is_absent k x.0; behind = x.1 })
 
 -- the same of arguments of these kinds, to the last field
 abbrev pub parts : Bool → ℕ → List ℕ → List Kind → List FieldRow → Result (List ℕ) RequestError
-parts missing mark text [] [] = Ok []
-parts missing mark text [] (f ∷ fs) = Err error.BadFields
-parts missing mark text (k ∷ ks) fs =
-    part mark text k fs >>= λ p. unless_skipped missing p.absent (parts (missing
-    || p.absent) (mark_behind k mark) text ks p.behind >>= λ t. Ok (p.text ++ t))
+parts missing separator text [] [] = Ok []
+parts missing separator text [] (f ∷ fs) = Err error.BadFields
+parts missing separator text (k ∷ ks) fs =
+    part separator text k fs >>= λ p. unless_skipped missing p.absent (parts (missing
+    || p.absent) (separator_behind k separator) text ks p.behind >>= λ t. Ok (p.text ++ t))
 
 -- the words of these fields, each behind a space
 abbrev pub words_put : List ℕ → List FieldRow → Result (List ℕ) RequestError
 words_put text fs = all_words text fs >>= λ ws. Ok (words_text ws)
 
--- their pairs, the first behind this mark and the others behind tabs
+-- their pairs, the first behind this separator and the others behind tabs
 abbrev pub pairs_put : ℕ → List ℕ → List FieldRow → Result (List ℕ) RequestError
-pairs_put mark text fs = all_pairs text fs >>= λ ps. Ok (pairs_text mark ps)
+pairs_put separator text fs = all_pairs text fs >>= λ ps. Ok (pairs_text separator ps)
 
--- the pair of the first two fields, behind this mark
+-- the pair of the first two fields, behind this separator
 abbrev pub pair_part : ℕ → List ℕ → List FieldRow → Result Part RequestError
-pair_part mark text fs =
+pair_part separator text fs =
     first fs >>= λ f. first f.1 >>= λ g. text_of is_key text f.0 >>= λ key. text_of is_sentence text g.0 >>= λ value.
-    Ok (record { text = mark ∷ (key ++ 61 ∷ value); absent = false; behind = g.1 })
+    Ok (record { text = separator ∷ (key ++ 61 ∷ value); absent = false; behind = g.1 })
 
 -- an error says what keeps the fields from being read, or that memory ran out
 abbrev pub Blames : {A : Type 0} → RequestError → Result A RequestError → Type 0

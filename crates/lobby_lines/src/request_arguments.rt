@@ -5,7 +5,7 @@
 
 ghost use Rattle.std.specs.Prelude.{◌≡◌, ◌||◌, [], IfErr, IfOk, Ok, false, map};
 ghost use Rattle.command_grammar.specs.Table as kind;
-ghost use Rattle.request_printer.specs.Writing.{mark_behind};
+ghost use Rattle.request_printer.specs.Writing.{separator_behind};
 ghost use Rattle.lobby_lines.specs.Requests.{kind_of, unless_skipped};
 ghost use Rattle.lobby_lines.specs.Writing.{Blames, Put, PutAll, pair_part, pairs_put, part, parts, words_put};
 
@@ -29,12 +29,12 @@ pub(crate) fn put_arguments(
     ensures blamed { IfErr result (λ e. Blames e (parts false 32 text.now (map kind_of kinds.now) fields.now)) }
 {
     let mut rest = fields;
-    let mut mark = b' ';
+    let mut separator = b' ';
     let mut is_missing = false;
     for kind in kinds {
-        let (behind, is_absent) = put_argument(*kind, mark, rest, text, line)?;
+        let (behind, is_absent) = put_argument(*kind, separator, rest, text, line)?;
         is_missing = none_skipped(is_missing, is_absent)?;
-        mark = mark_behind(*kind, mark);
+        separator = separator_behind(*kind, separator);
         rest = behind;
     }
     if !rest.is_empty() {
@@ -54,26 +54,26 @@ fn none_skipped(is_missing: bool, is_absent: bool) -> Result<bool, RequestError>
 }
 
 /// What stands before a sentence behind an argument of this kind.
-fn mark_behind(kind: RequestKind, mark: u8) -> u8
-    ensures { result ≡ mark_behind (kind_of kind) mark }
+fn separator_behind(kind: RequestKind, separator: u8) -> u8
+    ensures { result ≡ separator_behind (kind_of kind) separator }
 {
     if let RequestKind::Sentence = kind {
         b'\t'
     } else {
-        mark
+        separator
     }
 }
 
 fn put_argument<'a>(
     kind: RequestKind,
-    mark: u8,
+    separator: u8,
     fields: &'a [FieldRow],
     text: &[u8],
     line: &mut Vec<u8>,
 ) -> Result<(&'a [FieldRow], bool), RequestError>
-    ensures put { IfOk result (λ x. Put (part mark text.now (kind_of kind) fields.entry.now) x.0.now x.1 line.old.items
-        line.new.items) }
-    ensures blamed { IfErr result (λ e. Blames e (part mark text.now (kind_of kind) fields.entry.now)) }
+    ensures put { IfOk result
+        (λ x. Put (part separator text.now (kind_of kind) fields.entry.now) x.0.now x.1 line.old.items line.new.items) }
+    ensures blamed { IfErr result (λ e. Blames e (part separator text.now (kind_of kind) fields.entry.now)) }
 {
     match kind {
         RequestKind::Word => put_word(fields, text, line),
@@ -82,7 +82,7 @@ fn put_argument<'a>(
         RequestKind::Natural(high) => put_natural(high, fields, line),
         RequestKind::Wide => put_wide(fields, line),
         RequestKind::Flag => put_flag(fields, line),
-        RequestKind::Sentence => put_sentence(mark, fields, text, line),
+        RequestKind::Sentence => put_sentence(separator, fields, text, line),
         RequestKind::Text => put_text(fields, text, line),
         RequestKind::OptionalText => put_optional_text(fields, text, line),
         RequestKind::LoginFlags => put_login_flags(fields, line),
@@ -177,17 +177,17 @@ fn put_flag<'a>(
 }
 
 fn put_sentence<'a>(
-    mark: u8,
+    separator: u8,
     fields: &'a [FieldRow],
     text: &[u8],
     line: &mut Vec<u8>,
 ) -> Result<(&'a [FieldRow], bool), RequestError>
-    ensures put { IfOk result (λ x. Put (part mark text.now kind.Sentence fields.entry.now) x.0.now x.1 line.old.items
-        line.new.items) }
-    ensures blamed { IfErr result (λ e. Blames e (part mark text.now kind.Sentence fields.entry.now)) }
+    ensures put { IfOk result
+        (λ x. Put (part separator text.now kind.Sentence fields.entry.now) x.0.now x.1 line.old.items line.new.items) }
+    ensures blamed { IfErr result (λ e. Blames e (part separator text.now kind.Sentence fields.entry.now)) }
 {
     let (field, behind) = first(fields)?;
-    pieces::put_behind(line, mark, sentence_of(field, text)?)?;
+    pieces::put_behind(line, separator, sentence_of(field, text)?)?;
     Ok((behind, false))
 }
 
@@ -287,28 +287,28 @@ fn add_pairs(fields: &[FieldRow], text: &[u8], line: &mut Vec<u8>) -> Result<(),
     ensures blamed { IfErr result (λ e. Blames e (pairs_put 32 text.now fields.now)) }
 {
     let mut rest = fields;
-    let mut mark = b' ';
+    let mut separator = b' ';
     while !rest.is_empty() {
-        rest = put_pair(mark, rest, text, line)?;
-        mark = b'\t';
+        rest = put_pair(separator, rest, text, line)?;
+        separator = b'\t';
     }
     Ok(())
 }
 
 /// The pair of the first two fields.
 fn put_pair<'a>(
-    mark: u8,
+    separator: u8,
     fields: &'a [FieldRow],
     text: &[u8],
     line: &mut Vec<u8>,
 ) -> Result<&'a [FieldRow], RequestError>
-    ensures put { IfOk result (λ behind. Put (pair_part mark text.now fields.entry.now) behind.now false line.old.items
-        line.new.items) }
-    ensures blamed { IfErr result (λ e. Blames e (pair_part mark text.now fields.entry.now)) }
+    ensures put { IfOk result
+        (λ behind. Put (pair_part separator text.now fields.entry.now) behind.now false line.old.items line.new.items) }
+    ensures blamed { IfErr result (λ e. Blames e (pair_part separator text.now fields.entry.now)) }
 {
     let (key, others) = first(fields)?;
     let (value, behind) = first(others)?;
-    pieces::put_behind(line, mark, key_of(key, text)?)?;
+    pieces::put_behind(line, separator, key_of(key, text)?)?;
     pieces::put_behind(line, b'=', sentence_of(value, text)?)?;
     Ok(behind)
 }

@@ -9,6 +9,7 @@ use Rattle.std.proofs.lemmas.List.{get_or-set_same, get_or-set_other, length-set
 use Rattle.std.proofs.lemmas.Option.{slice_get-get_or}
 use Rattle.atomic_table.specs.Seated.{TableId}
 use Rattle.lobby_machine.specs.Shown.{Shown}
+use Rattle.lobby_lock.specs.declared.laid.Laid.{Laid}
 use Rattle.lobby_lock.specs.declared.view.View.{View}
 use Rattle.lobby_lock.specs.declared.view.Worker.{Worker}
 use Rattle.lobby_lock.specs.History.{Entry, made_by}
@@ -53,12 +54,12 @@ closes_with old x history handed made places zero_is counts few made_is p own ba
   nobody = λ k above. made_by_above old.handed k (omega (arith, above, counts)) history numbers;
 }
 
-pub closed : (v : View) (x : Shown) (w : View) (desk : TableId) (handed made : ℕ) (places : List (Option ℕ)) → Closed v x w → v.worker.number ≡ 0 → handed ≡ v.handed → Counts v handed made places
-    → ((k : ℕ) → 1 ≤ k → k ≤ handed → slice_get places k ≡ Some None → ⊥) → IsClosed (shown_view desk w) handed made places
+pub closed : (v : View) (x : Laid) (w : View) (desk : TableId) (handed made : ℕ) (places : List (Option ℕ)) → Closed v x w → v.worker.number ≡ 0 → handed ≡ v.handed → Counts v handed made places
+    → ((k : ℕ) → 1 ≤ k → k ≤ handed → slice_get places k ≡ Some None → ⊥) → IsClosed (shown_view desk w false) handed made places
 closed v x w desk handed made places c zero_is counts k all =
     let own = ap (λ n. made_by n w.worker.seen) (sym zero_is) ∙ c.took.own in
-    let is = closes_with (shown_view desk v) x w.worker.seen handed made places zero_is counts k.few k.made_is (k.places_are zero_is) own c.taken_back (c.numbers zero_is) all in
-    subst (λ (u : View). IsClosed (shown_view desk u) handed made places) (sym c.took.same) is
+    let is = closes_with (shown_view desk v false) x.lobby w.worker.seen handed made places zero_is counts k.few k.made_is (k.places_are zero_is) own c.taken_back (c.numbers zero_is) all in
+    subst (λ (u : View). IsClosed (shown_view desk u false) handed made places) (sym c.took.same) is
 
 -- the place of the one whose pass came back gets its count
 places_with : (places : List (Option ℕ)) (back : List Worker) (w : Worker) → PlacesAre places back → w.number < 64 → PlacesAre (set places w.number (Some (count_of w.mine))) (w ∷ back)

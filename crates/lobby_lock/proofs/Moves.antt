@@ -7,10 +7,11 @@ use Rattle.crossbeam_queue.specs.Fifo.{Pushes, Pops, Forks, Merges, Learns}
 use Rattle.crossbeam_queue.proofs.Lists.{at_set, set_else, at_longer}
 use Rattle.lobby_model.specs.declared.event.Event.{Event}
 use Rattle.lobby_model.specs.State.{State}
-use Rattle.lobby_machine.specs.Shown.{Shown}
+use Rattle.lobby_lock.specs.declared.laid.Laid.{Laid}
 use Rattle.lobby_lock.specs.declared.view.View.{View}
 use Rattle.lobby_lock.specs.declared.view.Worker.{Worker}
 use Rattle.lobby_lock.specs.History.{Entry, after_history, made_by, under}
+use Rattle.lobby_lock.specs.Counts.{position_of}
 use Rattle.lobby_lock.specs.Rule.{IsTold, Fits, Meets, IsAlive, SomeoneHolds, NobodyHolds, IsFull, PlaceIs, OneHistory, AreApart, first_view, spent_view, new_worker, opened, gave, giver, newcomer, with_taken_back, seen_by, Took, Closed, LastEnded}
 use Rattle.lobby_lock.proofs.Histories.{told-other, told-own, all_map, all_both, all_of, all-append, once-nil, once-cons, begins_self, made_by_above, made_by_none, numbers-under, agree}
 
@@ -100,14 +101,14 @@ begins =
     }
 
 -- where one holds, the place is empty
-empty_place : (start : State) (history : List Entry) (items : List Shown) (views : List View) (k : ℕ) (v : View) → IsAlive views k v → v.holds ≡ true → PlaceIs start history items views → items ≡ []
+empty_place : (start : State) (history : List Entry) (items : List Laid) (views : List View) (k : ℕ) (v : View) → IsAlive views k v → v.holds ≡ true → PlaceIs start history items views → items ≡ []
 empty_place start history items views k v a holds place =
     ⊎_elim (λ (t : (items ≡ []) × SomeoneHolds views). t.0) (λ (t : IsFull start history items × NobodyHolds views). off v.holds holds (t.1 k v a)) place
 
 -- ---- the lobby is first put in
 
-pub opens : (n k : ℕ) (v : View) (x : Shown) → v.alive ≡ true → v.holds ≡ true → v.worker ≡ new_worker 0 [] → v.handed ≡ 0 → Pushes OneHistory n k v x (λ w. w ≡ opened v x)
-opens n k v x live holds fresh none items views room h at =
+pub opens : (n k : ℕ) (v : View) (x : Laid) → x.position ≡ 0 → v.alive ≡ true → v.holds ≡ true → v.worker ≡ new_worker 0 [] → v.handed ≡ 0 → Pushes OneHistory n k v x (λ w. w ≡ opened v x)
+opens n k v x first live holds fresh none items views room h at =
     let w : View = opened v x in
     let a : IsAlive views k v = (at, live) in
     let f = h.fits k v a in
@@ -117,10 +118,10 @@ opens n k v x live holds fresh none items views room h at =
     let alone : (j : ℕ) (u : View) → j ≢ k → IsAlive views j u → ⊥ = λ j u ne b. ne ((h.meets j k u v b a).apart (let l = (h.fits j u b).numbered in let c = f.counts zero_is in omega arith)) in (
       w,
       record {
-        start = x.plain;
+        start = x.lobby.plain;
         history = h.history;
         handed = h.handed;
-        fits = each_set (λ (j : ℕ) (u : View). Fits x.plain h.history h.handed u) views k w
+        fits = each_set (λ (j : ℕ) (u : View). Fits x.lobby.plain h.history h.handed u) views k w
             (λ _. record { starts = refl; told = f.told; numbered = f.numbered; counts = f.counts; saw_all = λ e. absurd (true≢false (sym e)); taken_back = f.taken_back; once = f.once })
             (λ j u ne b. absurd (alone j u ne b));
         meets = two_set views k w (λ _. record { apart = λ _. refl; gone = m.gone; kept = λ ne. absurd (ne refl); one = λ _ _. refl })
@@ -128,7 +129,7 @@ opens n k v x live holds fresh none items views room h at =
             (λ i j u y ne ne' b c. absurd (alone i u ne b));
         numbers = h.numbers;
         place = inr (
-          (x, ap (λ (l : List Shown). l ++ x ∷ []) (empty_place h.start h.history items views k v a holds h.place), ap (after_history x.plain) (sym empty)),
+          (x, ap (λ (l : List Laid). l ++ x ∷ []) (empty_place h.start h.history items views k v a holds h.place), (ap (after_history x.lobby.plain) (sym empty), first ∙ ap position_of (sym empty))),
           each_set (λ (j : ℕ) (u : View). u.holds ≡ false) views k w (λ _. refl) (λ j u ne b. absurd (alone j u ne b)),
         );
       },
@@ -139,13 +140,14 @@ opens n k v x live holds fresh none items views room h at =
 
 pub takes : (k : ℕ) (v : View) → v.alive ≡ true → Pops OneHistory k v (Took v)
 takes k v live x items views h at =
-    let w : View = record v { on_desk = x; worker = seen_by v.worker h.history; holds = true } in
+    let w : View = record v { on_desk = x.lobby; worker = seen_by v.worker h.history; holds = true } in
     let a : IsAlive views k v = (at, live) in
     let f = h.fits k v a in
     let full : IsFull h.start h.history (x ∷ items) × NobodyHolds views = ⊎_elim (λ (t : (x ∷ items ≡ []) × SomeoneHolds views). absurd (cc (t.0))) (λ t. t) h.place in
     let nothing : items ≡ [] = cc (full.0.1) in
     let found : x ≡ full.0.0 = cc (full.0.1) in
-    let stands : x.plain ≡ after_history h.start h.history = ap (λ (y : Shown). y.plain) found ∙ full.0.2 in (
+    let stands : x.lobby.plain ≡ after_history h.start h.history = ap (λ (y : Laid). y.lobby.plain) found ∙ full.0.2.0 in
+    let position : x.position ≡ position_of h.history = ap (λ (y : Laid). y.position) found ∙ full.0.2.1 in (
       w,
       record {
         start = h.start;
@@ -163,7 +165,7 @@ takes k v live x items views h at =
         numbers = h.numbers;
         place = inl (nothing, (k, w, (set_there views k v w at, live), refl));
       },
-      record { same = refl; later = f.told.begins; own = f.told.whole; known = f.told.known; stands = stands ∙ ap (λ (s : State). after_history s h.history) (sym f.starts) },
+      record { same = refl; later = f.told.begins; own = f.told.whole; known = f.told.known; laid = (stands ∙ ap (λ (s : State). after_history s h.history) (sym f.starts), position) },
     )
 
 -- it is taken for good
@@ -183,15 +185,16 @@ closes k v live x items views h at =
 
 -- ---- the lobby is given back
 
-pub gives : (n k : ℕ) (v : View) (x : Shown) (es : List Event) → v.alive ≡ true → v.holds ≡ true → x.plain ≡ after_history v.start.plain (v.worker.seen ++ under v.worker.number es) → Pushes OneHistory n k v x (λ w. w ≡ gave v x es)
-gives n k v x es live holds stands items views room h at =
+pub gives : (n k : ℕ) (v : View) (x : Laid) (es : List Event) → v.alive ≡ true → v.holds ≡ true → x.lobby.plain ≡ after_history v.start.plain (v.worker.seen ++ under v.worker.number es) → x.position ≡ position_of (v.worker.seen ++ under v.worker.number es) → Pushes OneHistory n k v x (λ w. w ≡ gave v x es)
+gives n k v x es live holds stands placed items views room h at =
     let w : View = gave v x es in
     let a : IsAlive views k v = (at, live) in
     let f = h.fits k v a in
     let number : ℕ = v.worker.number in
     let all : v.worker.seen ≡ h.history = f.saw_all holds in
     let history : List Entry = h.history ++ under number es in
-    let now : x.plain ≡ after_history h.start history = stands ∙ ap (λ (l : List Entry). after_history v.start.plain (l ++ under number es)) all ∙ ap (λ (s : State). after_history s history) f.starts in
+    let position : x.position ≡ position_of history = placed ∙ ap (λ (l : List Entry). position_of (l ++ under number es)) all in
+    let now : x.lobby.plain ≡ after_history h.start history = stands ∙ ap (λ (l : List Entry). after_history v.start.plain (l ++ under number es)) all ∙ ap (λ (s : State). after_history s history) f.starts in
     let KnownIn : List Entry → Worker → Type 0 = λ l worker. IsTold l worker × (worker.number ≤ h.handed) in
     let grown : (worker : Worker) → KnownIn h.history worker → worker.number ≢ number → KnownIn history worker = λ worker t ne. (told-other h.history worker number es (λ s. ne (sym s)) t.0, t.1) in
     let grows : (u : View) → AllByRecursion (KnownIn h.history) u.taken_back → AllByRecursion (λ worker. worker.number ≢ number) u.taken_back → AllByRecursion (KnownIn history) u.taken_back = λ u. all_both (KnownIn h.history) (λ worker. worker.number ≢ number) (KnownIn history) grown u.taken_back in
@@ -220,7 +223,7 @@ gives n k v x es live holds stands items views room h at =
             (λ i j u y ne ne' b c. h.meets i j u y b c);
         numbers = all-append (λ (e : Entry). e.0 ≤ h.handed) h.history (under number es) h.numbers (numbers-under h.handed number f.numbered es);
         place = inr (
-          (x, ap (λ (l : List Shown). l ++ x ∷ []) (empty_place h.start h.history items views k v a holds h.place), now),
+          (x, ap (λ (l : List Laid). l ++ x ∷ []) (empty_place h.start h.history items views k v a holds h.place), (now, position)),
           each_set (λ (j : ℕ) (u : View). u.holds ≡ false) views k w (λ _. refl) idle,
         );
       },

@@ -1,8 +1,9 @@
 -- What a desk that was closed tells of its workers.
-use Rattle.std.specs.Prelude.{◌≡◌, ℕ, ◌<◌, ◌≤◌, List, [], ◌∷◌, length, Option, Some, None, slice_get}
+use Rattle.std.specs.Prelude.{◌≡◌, ℕ, ◌<◌, ◌≤◌, false, List, [], ◌∷◌, length, Option, Some, None, slice_get}
 use Rattle.std.specs.Option.{option_map}
 use Rattle.crossbeam_queue.specs.Passes.{Pass}
 use Rattle.lobby_machine.specs.Shown.{Shown}
+use Rattle.lobby_lock.specs.declared.laid.Laid.{Laid}
 use Rattle.lobby_lock.specs.declared.view.View.{View}
 use Rattle.lobby_lock.specs.declared.closing.Count.{Count}
 use Rattle.lobby_lock.specs.declared.closing.Count.TheVariants.{Made, Full, Never}
@@ -44,5 +45,5 @@ pub record ShownClosing : Type 0 where
   pub lobby : Shown
   pub pass : ShownPass
 
-abbrev pub shown_closing : Pass Shown View → Shown → ShownClosing
-shown_closing inner lobby = record { lobby = lobby; pass = shown_pass inner }
+abbrev pub shown_closing : Pass Laid View → Shown → ShownClosing
+shown_closing inner lobby = record { lobby = lobby; pass = shown_pass inner false }

@@ -4,6 +4,7 @@ use Rattle.std.specs.Option.{option_map}
 use Rattle.lobby_model.specs.declared.event.Event.{Event}
 use Rattle.lobby_lock.specs.declared.view.View.{View}
 use Rattle.lobby_lock.specs.declared.view.Worker.{Worker}
+use Rattle.lobby_lock.specs.History.{Entry}
 
 -- a count stays at the last value
 abbrev pub last_count : ℕ
@@ -11,6 +12,10 @@ last_count = 18446744073709551615
 
 abbrev pub count_of : List Event → ℕ
 count_of events = min (length events) last_count
+
+-- how many events a history has
+abbrev pub position_of : List Entry → ℕ
+position_of history = min (length history) last_count
 
 -- the worker of this number
 abbrev pub worker_of : ℕ → List Worker → Option Worker

@@ -1,6 +1,6 @@
 pub mod History
-pub mod Rule
 pub mod Counts
+pub mod Rule
 pub mod Events
 pub mod Passes
 pub mod Closing

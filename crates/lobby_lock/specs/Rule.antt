@@ -8,9 +8,11 @@ use Rattle.lobby_model.specs.declared.event.Event.{Event}
 use Rattle.lobby_model.specs.Configuration.{configuration}
 use Rattle.lobby_model.specs.State.{State, empty_lobby}
 use Rattle.lobby_machine.specs.Shown.{Shown}
+use Rattle.lobby_lock.specs.declared.laid.Laid.{Laid}
 use Rattle.lobby_lock.specs.declared.view.View.{View}
 use Rattle.lobby_lock.specs.declared.view.Worker.{Worker}
 use Rattle.lobby_lock.specs.History.{Entry, after_history, made_by, under, Begins}
+use Rattle.lobby_lock.specs.Counts.{position_of}
 
 -- It has seen a beginning of the history; the events of the history under its number are its own, and so are those of
 -- what it has seen
@@ -52,16 +54,20 @@ SomeoneHolds views = (k : ℕ) × (v : View) × IsAlive views k v × (v.holds �
 abbrev pub NobodyHolds : List View → Type 0
 NobodyHolds views = (k : ℕ) (v : View) → IsAlive views k v → v.holds ≡ false
 
--- the place has one lobby, which stands for the plain lobby after the history
-abbrev pub IsFull : State → List Entry → List Shown → Type 0
-IsFull start history items = (x : Shown) × (items ≡ x ∷ []) × (x.plain ≡ after_history start history)
+-- the lobby stands for the plain lobby after the history, and with it lies how many events that has
+abbrev pub IsLaid : State → List Entry → Laid → Type 0
+IsLaid start history x = (x.lobby.plain ≡ after_history start history) × (x.position ≡ position_of history)
+
+-- the place has one lobby, laid there after the history
+abbrev pub IsFull : State → List Entry → List Laid → Type 0
+IsFull start history items = (x : Laid) × (items ≡ x ∷ []) × IsLaid start history x
 
 -- the place is full exactly when nobody holds
-abbrev pub PlaceIs : State → List Entry → List Shown → List View → Type 0
+abbrev pub PlaceIs : State → List Entry → List Laid → List View → Type 0
 PlaceIs start history items views = ((items ≡ []) × SomeoneHolds views)
     ⊎ (IsFull start history items × NobodyHolds views)
 
-pub record OneHistory (items : List Shown) (views : List View) : Type 0 where
+pub record OneHistory (items : List Laid) (views : List View) : Type 0 where
   pub start : State
   pub history : List Entry
   pub handed : ℕ
@@ -103,8 +109,8 @@ spent_view = record {
 }
 
 -- the lobby is first put in
-abbrev pub opened : View → Shown → View
-opened v x = record v { start = x; on_desk = x; holds = false }
+abbrev pub opened : View → Laid → View
+opened v x = record v { start = x.lobby; on_desk = x.lobby; holds = false }
 
 -- the worker made these events, after all that it had seen
 abbrev pub with_events : Worker → List Event → Worker
@@ -115,8 +121,8 @@ with_events worker events = record worker {
 }
 
 -- a hold of these events ends, and leaves this lobby
-abbrev pub gave : View → Shown → List Event → View
-gave v x events = record v { on_desk = x; worker = with_events v.worker events; holds = false }
+abbrev pub gave : View → Laid → List Event → View
+gave v x events = record v { on_desk = x.lobby; worker = with_events v.worker events; holds = false }
 
 abbrev pub giver : View → View
 giver v = record v { handed = v.handed + 1 }
@@ -143,17 +149,17 @@ abbrev pub seen_by : Worker → List Entry → Worker
 seen_by worker seen = record worker { seen = seen }
 
 -- a take: the whole history was seen, the worker's events in it are its own, as they were in what it had seen, and the
--- lobby found is the one after it
-pub record Took (v : View) (x : Shown) (w : View) : Type 0 where
-  pub same : w ≡ record v { on_desk = x; worker = seen_by v.worker w.worker.seen; holds = true }
+-- lobby found was laid there after it
+pub record Took (v : View) (x : Laid) (w : View) : Type 0 where
+  pub same : w ≡ record v { on_desk = x.lobby; worker = seen_by v.worker w.worker.seen; holds = true }
   pub later : Begins v.worker.seen w.worker.seen
   pub own : made_by v.worker.number w.worker.seen ≡ v.worker.mine
   pub known : made_by v.worker.number v.worker.seen ≡ v.worker.mine
-  pub stands : x.plain ≡ after_history v.start.plain w.worker.seen
+  pub laid : IsLaid v.start.plain w.worker.seen x
 
 -- The lobby is taken for good: besides, the history has of each worker whose pass was taken back just the events that
 -- it made, and none under a number that was not handed out
-pub record Closed (v : View) (x : Shown) (w : View) : Type 0 where
+pub record Closed (v : View) (x : Laid) (w : View) : Type 0 where
   pub took : Took v x w
   pub taken_back : AllByRecursion (λ worker. made_by worker.number w.worker.seen ≡ worker.mine) v.taken_back
   pub numbers : v.worker.number ≡ 0 → AllByRecursion (λ e. e.0 ≤ v.handed) w.worker.seen

@@ -56,6 +56,7 @@ impl Drop for Closing {
 }
 
 impl Model for Closing {
+    ghost use Rattle.std.specs.Prelude.{false};
     ghost use Rattle.lobby_lock.specs.Passes.{shown_pass};
     ghost use Rattle.lobby_lock.specs.Closing.{ShownClosing, shown_closing, IsClosed};
 
@@ -63,7 +64,7 @@ impl Model for Closing {
 
     ghost view = { λ c. shown_closing c.inner c.lobby };
 
-    ghost invariant = { λ c. IsClosed (shown_pass c.inner) c.handed c.counts.made c.counts.places.items };
+    ghost invariant = { λ c. IsClosed (shown_pass c.inner false) c.handed c.counts.made c.counts.places.items };
 }
 
 impl Closing {

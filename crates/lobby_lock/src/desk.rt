@@ -1,6 +1,6 @@
 //! The desk on which the lobby lies.
 
-ghost use Rattle.std.specs.Prelude.{◌≡◌, ℕ, ◌+◌, ◌<◌, ◌≤◌, ◌↔◌, [], ◌∷◌, IfOk, IfErr};
+ghost use Rattle.std.specs.Prelude.{◌≡◌, ℕ, ◌+◌, ◌<◌, ◌≤◌, ◌↔◌, [], ◌∷◌, false, IfOk, IfErr};
 ghost use Rattle.std.specs.List.{AllByRecursion};
 ghost use Rattle.lobby_lock.specs.History.{after_history, made_by, Begins};
 ghost use Rattle.lobby_lock.specs.Rule.{Agree, seen_by};
@@ -13,6 +13,8 @@ use crate::closing::{CloseError, Closing, first_out};
 use crate::event_count::EventCount;
 use crate::events::Events;
 use crate::held::Held;
+use crate::kept::Kept;
+use crate::laid::Laid;
 use crate::pass::{Counts, Pass};
 use crate::place::{begin, fetch};
 use crate::rule::{HandingOut, LastBack, Place, Taking, TakingBack, TakingForGood};
@@ -29,10 +31,10 @@ pub const MOST_HANDED_OUT: u8 = WORKERS - 1;
 /// How many events a hold has at most: who waits for the lobby gets it behind so many.
 pub const MOST_EVENTS: usize = 32;
 
-/// How many bytes go from worker to worker when the lobby is handed over: its address alone.
-pub const HANDED_OVER: usize = size_of::<Lobby>();
+/// How many bytes go from worker to worker when the lobby is handed over: its address, and the number of events so far.
+pub const HANDED_OVER: usize = size_of::<Laid>();
 
-const _: () = prove!(HANDED_OVER == size_of::<usize>());
+const _: () = prove!(HANDED_OVER == size_of::<usize>() + size_of::<u64>());
 
 /// How many places for counts worker 0's pass has: one for each number, its own among them.
 const PLACES: usize = WORKERS as usize;
@@ -88,13 +90,15 @@ impl Desk {
         let Ok((place, mut inner)) = Place::ruled(alloc, 1) else {
             return Err(DeskError::Memory);
         };
-        begin(rt, &place, &mut inner, lobby);
+        let laid = Laid { lobby, position: 0 };
+        begin(rt, &place, &mut inner, laid);
         let event_count = EventCount::new();
         let pass = Pass {
             inner,
             number: 0,
             handed: 0,
             counts: Counts { made: 0, places },
+            kept: Kept::nothing(),
         };
         Ok((Desk { place, event_count }, pass))
     }
@@ -118,6 +122,7 @@ impl Desk {
             number,
             handed,
             counts,
+            kept,
         } = pass;
         let other = self.place.another::<HandingOut>(&mut inner);
         let giver = Pass {
@@ -125,6 +130,7 @@ impl Desk {
             number,
             handed: handed + 1,
             counts,
+            kept,
         };
         let newcomer = Pass {
             inner: other,
@@ -134,6 +140,7 @@ impl Desk {
                 made: 0,
                 places: Vec::new(alloc),
             },
+            kept: Kept::nothing(),
         };
         Ok((giver, newcomer))
     }
@@ -153,13 +160,16 @@ impl Desk {
             number,
             handed,
             counts: Counts { made, mut places },
+            kept,
         } = pass;
         let Pass {
             inner: other,
             number: place,
             handed: _,
             counts: theirs,
+            kept: room,
         } = ended;
+        drop(room);
         self.place.absorb::<TakingBack>(&mut inner, other);
         self.place.learn_as::<LastBack>(&mut inner);
         places[place as usize] = Some(theirs.made);
@@ -168,6 +178,7 @@ impl Desk {
             number,
             handed,
             counts: Counts { made, places },
+            kept,
         }
     }
 
@@ -189,14 +200,16 @@ impl Desk {
             number,
             handed,
             counts,
+            kept,
         } = pass;
-        let lobby = fetch::<Taking, R>(rt, &self.place, &self.event_count, &mut inner);
+        let laid = fetch::<Taking, R>(rt, &self.place, &self.event_count, &mut inner);
+        let Laid { lobby, position } = laid;
         Held {
             inner,
             number,
             handed,
             lobby,
-            events: Events::new(),
+            events: Events::new(position, kept),
             counts,
         }
     }
@@ -212,6 +225,7 @@ impl Desk {
             closing.pass ≡ record pass {
               on_desk = closing.lobby;
               worker = seen_by pass.worker closing.pass.worker.seen;
+              keeps = false;
             }) }
         ensures later { IfOk result (λ closing. Begins pass.worker.seen closing.pass.worker.seen) }
         ensures stands { IfOk result (λ closing.
@@ -232,8 +246,11 @@ impl Desk {
             number: _,
             handed,
             counts,
+            kept,
         } = pass;
-        let lobby = fetch::<TakingForGood, R>(rt, &self.place, &self.event_count, &mut inner);
+        drop(kept);
+        let laid = fetch::<TakingForGood, R>(rt, &self.place, &self.event_count, &mut inner);
+        let Laid { lobby, position: _ } = laid;
         drop(self);
         Ok(Closing {
             inner,

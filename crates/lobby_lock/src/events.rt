@@ -1,111 +1,88 @@
-//! The events of a hold, which only proofs read.
+//! The events of a hold. Their list is for proofs alone, but for those that are kept.
 
-ghost use Rattle.std.specs.Prelude.{◌≡◌, ◌<◌, ◌++◌, [], ◌∷◌, length};
-ghost use Rattle.command_grammar.specs.declared.command.Request.{Request};
-ghost use Rattle.lobby_model.specs.declared.event.Event.TheVariants as event;
-ghost use Rattle.lobby_lock.specs.Events.{event_of};
+ghost use Rattle.std.specs.Prelude.{◌≡◌, ◌+◌, ◌<◌, [], length, min};
+ghost use Rattle.lobby_lock.specs.Counts.{last_count};
+ghost use Rattle.lobby_lock.specs.Events.{with_event};
 
 use crate::desk::MOST_EVENTS;
-use command_grammar::{Command, Request};
+use crate::kept::Kept;
+use crate::made::MadeEvent;
 use http_server::Log;
+use lobby_model::Event;
 use std::marker::Model;
 
-/// What an event is, but for the request of a line.
-#[derive(Clone, Copy)]
-enum Kind {
-    Open { ip: [u8; 4], home: u8 },
-    Say { client: u64 },
-    Shut { client: u64 },
-    Drain { client: u64, count: usize },
-}
-
-/// The events that a hold has made, in their order. Contracts see their list; what is kept is how many they are.
+/// The events that a hold has made, in their order. Contracts see their list, how many the history has before them, and
+/// what is kept of them.
 #[derive(Drop)]
 pub(crate) struct Events {
+    position: u64,
     count: usize,
-    log: Log<Kind, Request>,
+    log: Log<Event, ()>,
+    kept: Kept,
 }
 
 impl Model for Events {
-    ghost use Rattle.std.specs.Prelude.{◌≡◌, List, map, length};
-    ghost use Rattle.lobby_model.specs.declared.event.Event.{Event};
-    ghost use Rattle.lobby_lock.specs.Events.{event_of};
+    ghost use Rattle.std.specs.Prelude.{◌≡◌, ◌≤◌, map, length};
+    ghost use Rattle.lobby_lock.specs.Events.{Noted};
 
-    ghost Value = { List Event };
+    ghost Value = { Noted };
 
-    ghost view = { λ e. map event_of e.log.items };
+    ghost view = { λ e. record { position = e.position; events = map (λ noted. noted.0) e.log.items; kept = e.kept } };
 
-    ghost invariant = { λ e. e.count ≡ length e.log.items };
+    ghost invariant = { λ e. (e.count ≡ length e.log.items)
+        × (length e.kept.events ≤ length e.log.items) };
 }
 
 impl Events {
-    /// No event.
-    pub(crate) fn new() -> Events
-        ensures { result ≡ [] }
+    /// No event, behind so many in the history.
+    pub(crate) fn new(position: u64, kept: Kept) -> Events
+        requires { kept.events ≡ [] }
+        ensures { result ≡ record { position = position; events = []; kept = kept } }
     {
         Events {
+            position,
             count: 0,
             log: Log::new(),
+            kept,
         }
     }
 
     /// How many they are.
     pub(crate) fn count(&self) -> usize
-        ensures { result ≡ length self.now }
+        ensures { result ≡ length self.now.events }
     {
         self.count
     }
 
-    /// A client's line was read as this request.
-    pub(crate) fn add_say(&mut self, client: u64, request: &Request)
-        requires { length self.old < MOST_EVENTS }
-        ensures { self.new ≡ self.old ++ event.Say client request.now ∷ [] }
+    /// How many the history has before them.
+    pub(crate) fn position(&self) -> u64
+        ensures { result ≡ self.now.position }
     {
-        self.add(Kind::Say { client }, request);
+        self.position
     }
 
-    /// A client was opened.
-    pub(crate) fn add_open(&mut self, ip: [u8; 4], home: u8)
-        requires { length self.old < MOST_EVENTS }
-        ensures { self.new ≡ self.old ++ event.Open ip home ∷ [] }
+    /// How many the history has with them.
+    pub(crate) fn position_behind(&self) -> u64
+        ensures { result ≡ min (self.now.position + length self.now.events) last_count }
     {
-        self.add_other(Kind::Open { ip, home });
+        self.position.saturating_add(self.count as u64)
     }
 
-    /// A client was shut.
-    pub(crate) fn add_shut(&mut self, client: u64)
-        requires { length self.old < MOST_EVENTS }
-        ensures { self.new ≡ self.old ++ event.Shut client ∷ [] }
+    /// One event more, with what it gave.
+    pub(crate) fn add(&mut self, event: Event, gain: u64)
+        requires { length self.old.events < MOST_EVENTS }
+        ensures { self.new ≡ with_event self.old event gain }
     {
-        self.add_other(Kind::Shut { client });
-    }
-
-    /// A client was drained into a slice of so many bytes.
-    pub(crate) fn add_drain(&mut self, client: u64, count: usize)
-        requires { length self.old < MOST_EVENTS }
-        ensures { self.new ≡ self.old ++ event.Drain client count ∷ [] }
-    {
-        self.add_other(Kind::Drain { client, count });
-    }
-
-    /// An event without a request.
-    fn add_other(&mut self, kind: Kind)
-        requires { length self.old < MOST_EVENTS }
-        ensures { (request : Request) × (self.new ≡ self.old ++ event_of (kind, request) ∷ []) }
-    {
-        let none = Request {
-            id: None,
-            command: Command::Blank,
-        };
-        self.add(kind, &none);
-        none.discard();
-    }
-
-    fn add(&mut self, kind: Kind, request: &Request)
-        requires { length self.old < MOST_EVENTS }
-        ensures { self.new ≡ self.old ++ event_of (kind, request.now) ∷ [] }
-    {
+        let place = self.position_behind();
+        self.log = self.log.and(&event, &());
         self.count += 1;
-        self.log = self.log.and(&kind, request);
+        self.kept.add(MadeEvent { place, event, gain });
+    }
+
+    /// What is kept of them.
+    pub(crate) fn into_kept(self) -> Kept
+        ensures { result ≡ self.kept }
+    {
+        self.kept
     }
 }

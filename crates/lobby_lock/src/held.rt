@@ -10,15 +10,20 @@ ghost use Rattle.lobby_post.specs.Mail.{IsWakes};
 ghost use Rattle.lobby_machine.specs.Shown.{Applies, HasNoNumber, IsFull, IsNextNumber, KeepsOthers, ListsOpened};
 ghost use Rattle.lobby_machine.specs.Shown.{ListsTouched, Opens, TakesFirst, count_into, filled, dirty_at, unread_of};
 ghost use Rattle.lobby_machine.specs.Shown.{is_finished};
-ghost use Rattle.lobby_lock.specs.Passes.{AddsEvent, lobby_after, pass_after};
+ghost use Rattle.lobby_lock.specs.Counts.{position_of};
+ghost use Rattle.lobby_lock.specs.Passes.{AddsEvent, lobby_after, made_in, pass_after};
 
 use crate::desk::{Desk, MOST_EVENTS};
 use crate::events::Events;
+use crate::kept::Kept;
+use crate::laid::Laid;
+use crate::made::Made;
 use crate::pass::{Counts, Pass};
 use crate::place::put_back;
 use crate::rule::PlacePass;
 use command_grammar::Request;
 use lobby_machine::{Drained, Lobby, OpenError, Wakes};
+use lobby_model::Event;
 use std::alloc::AllocError;
 use std::marker::{Brand, Model};
 use std::sync::Wait;
@@ -55,6 +60,13 @@ impl Held {
         self.events.count()
     }
 
+    /// How many events the history has before those of this hold. That number stays at the last value of its type.
+    pub fn position(&self) -> u64
+        ensures { result ≡ position_of self.now.pass.worker.seen }
+    {
+        self.events.position()
+    }
+
     /// A client connects, as `Lobby::open` says: one event, unless it is refused.
     pub fn open(&mut self, ip: [u8; 4], home: u8) -> Result<u64, OpenError>
         requires few { length self.old.events < MOST_EVENTS }
@@ -70,7 +82,7 @@ impl Held {
     {
         match self.lobby.open(ip, home) {
             Ok(number) => {
-                self.events.add_open(ip, home);
+                self.events.add(Event::Open { ip, home }, number);
                 Ok(number)
             }
             Err(error) => Err(error),
@@ -91,8 +103,7 @@ impl Held {
     {
         match self.lobby.say(client, &request) {
             Ok(wakes) => {
-                self.events.add_say(client, &request);
-                request.discard();
+                self.events.add(Event::Say { client, request }, 0);
                 Ok(wakes)
             }
             Err(error) => {
@@ -114,7 +125,7 @@ impl Held {
     {
         match self.lobby.shut(client) {
             Ok(wakes) => {
-                self.events.add_shut(client);
+                self.events.add(Event::Shut { client }, 0);
                 Ok(wakes)
             }
             Err(error) => Err(error),
@@ -134,7 +145,8 @@ impl Held {
     {
         let count = into.len();
         let drained = self.lobby.drain(client, into);
-        self.events.add_drain(client, count);
+        let came = drained.count as u64;
+        self.events.add(Event::Drain { client, count }, came);
         drained
     }
 
@@ -181,12 +193,21 @@ impl Held {
         self.lobby.copy_unread(client, from, into)
     }
 
-    /// Gives the lobby back as the hold has it, with its lists of changed clients, and ends the hold: its
-    /// events join the history under its worker's number, behind all that the worker has seen. Another
-    /// worker may then take the lobby.
+    /// Gives the lobby back, as `lay_down` does, and lets go what was kept of the events.
     pub fn give<R: Wait>(self, rt: &R, desk: &Desk) -> Pass
         requires { self.pass.desk ≡ desk.now }
         ensures { result ≡ pass_after self }
+    {
+        self.lay_down(rt, desk).pass()
+    }
+
+    /// Gives the lobby back as the hold has it, with its lists of changed clients, and ends the hold: its
+    /// events join the history under its worker's number, behind all that the worker has seen. Another
+    /// worker may then take the lobby. What the hold kept of its events is here to be taken.
+    pub fn lay_down<R: Wait>(self, rt: &R, desk: &Desk) -> Made
+        requires { self.pass.desk ≡ desk.now }
+        ensures pass { result.pass ≡ pass_after self }
+        ensures events { result.events ≡ made_in self }
     {
         let Held {
             mut inner,
@@ -197,13 +218,22 @@ impl Held {
             counts: Counts { made, places },
         } = self;
         let made = made.saturating_add(events.count() as u64);
-        put_back::<Brand, R>(rt, &desk.place, &mut inner, lobby, &events);
+        let laid = Laid {
+            lobby,
+            position: events.position_behind(),
+        };
+        put_back::<Brand, R>(rt, &desk.place, &mut inner, laid, &events);
         desk.event_count.notify();
-        Pass {
+        let pass = Pass {
             inner,
             number,
             handed,
             counts: Counts { made, places },
+            kept: Kept::nothing(),
+        };
+        Made {
+            pass,
+            kept: events.into_kept(),
         }
     }
 }

@@ -10,8 +10,11 @@
 //! - the place is made, and the lobby is put in (`Desk::open`);
 //! - a pass is handed out (`Desk::hand_out`), or taken back (`Desk::take_back`);
 //! - a worker looks for the lobby, and finds it or not (`Desk::take`);
-//! - a hold ends, after events or after none (`Held::give`);
+//! - a hold ends, after events or after none (`Held::lay_down`);
 //! - worker 0 takes the lobby for good (`Desk::close`), once the passes of all others came back.
+//!
+//! A worker may keep the events of its holds for a record (`Pass::keep_events`). A hold that is over then hands them
+//! out, each with its place in the history (`Made`).
 #![tactic(auto)]
 
 mod closing;
@@ -19,6 +22,9 @@ mod desk;
 mod event_count;
 mod events;
 mod held;
+mod kept;
+mod laid;
+mod made;
 mod pass;
 mod place;
 mod rule;
@@ -27,4 +33,5 @@ mod view;
 pub use closing::{CloseError, Closing, Count};
 pub use desk::{Desk, DeskError, HANDED_OVER, MOST_EVENTS, MOST_HANDED_OUT};
 pub use held::Held;
+pub use made::{Made, MadeEvent};
 pub use pass::Pass;

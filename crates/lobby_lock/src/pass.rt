@@ -1,9 +1,11 @@
 //! A worker's pass.
 
-ghost use Rattle.std.specs.Prelude.{◌≡◌, ◌<◌};
+ghost use Rattle.std.specs.Prelude.{◌≡◌, ◌<◌, true, OnOk, OnErr};
 
+use crate::kept::Kept;
 use crate::rule::PlacePass;
 use lobby_model::WORKERS;
+use std::alloc::{AllocError, Global};
 use std::marker::Model;
 
 /// How many events were made. A count stays at the last value of its type.
@@ -17,7 +19,7 @@ pub(crate) struct Counts {
 
 /// A worker's pass to a desk. Contracts see the desk, the plain lobby with which it was opened, and
 /// what the pass knows: its worker's number, the beginning of the history that the worker has seen,
-/// and the events that it made.
+/// and the events that it made; and whether its holds keep their events.
 #[derive(Drop)]
 pub struct Pass {
     pub(crate) inner: PlacePass,
@@ -25,6 +27,8 @@ pub struct Pass {
     // how many numbers were handed out; worker 0's pass alone counts them
     pub(crate) handed: u8,
     pub(crate) counts: Counts,
+    // empty, with room for the events of a hold if these are kept
+    pub(crate) kept: Kept,
 }
 
 impl Model for Pass {
@@ -32,9 +36,9 @@ impl Model for Pass {
 
     ghost Value = { ShownPass };
 
-    ghost view = { λ p. shown_pass p.inner };
+    ghost view = { λ p. shown_pass p.inner p.kept.keeps };
 
-    ghost invariant = { λ p. IsReady p.inner p.number p.handed p.counts.made p.counts.places.items };
+    ghost invariant = { λ p. IsReady p.inner p.number p.handed p.counts.made p.counts.places.items p.kept };
 }
 
 impl Pass {
@@ -44,5 +48,16 @@ impl Pass {
         ensures below { result < WORKERS }
     {
         self.number
+    }
+
+    /// From now on each hold keeps its events, and hands them out when it is over. Fails only where memory is refused,
+    /// and then nothing changes.
+    pub fn keep_events(&mut self, alloc: Global) -> Result<(), AllocError>
+        ensures ok { OnOk result (self.new.keeps ≡ true) }
+        ensures rest { self.new ≡ record self.old { keeps = self.new.keeps } }
+        ensures err { OnErr result (self.new ≡ self.old) }
+    {
+        self.kept = Kept::with_room(alloc)?;
+        Ok(())
     }
 }

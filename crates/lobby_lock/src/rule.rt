@@ -1,15 +1,15 @@
 //! The rule of the desk, and what each of its steps tells. These types are for the proofs alone.
 
+use crate::laid::Laid;
 use crate::view::View;
 use crossbeam_queue::protocol::{Join, Lesson, Outcome, Protocol, Split};
 use crossbeam_queue::{Pass, RuledArrayQueue};
-use lobby_machine::Lobby;
 use std::marker::{Brand, PhantomData};
 
 /// There is one history.
 pub struct OneHistory;
 
-impl Protocol<Lobby, View> for OneHistory {
+impl Protocol<Laid, View> for OneHistory {
     ghost use Rattle.lobby_lock.specs.Rule.{OneHistory as one_history, first_view};
 
     ghost holds = { one_history };
@@ -34,14 +34,14 @@ impl Happened for Brand {
 /// The lobby is first put into its place.
 pub struct Opening;
 
-impl Outcome<Lobby, View> for Opening {
+impl Outcome<Laid, View> for Opening {
     ghost use Rattle.std.specs.Prelude.{◌≡◌};
     ghost use Rattle.lobby_lock.specs.Rule.{opened};
 
     ghost then = { λ v x w. w ≡ opened v x };
 }
 
-impl Lesson<Lobby, View> for Opening {
+impl Lesson<Laid, View> for Opening {
     ghost use Rattle.std.specs.Prelude.{◌≡◌, []};
 
     ghost fact = { λ v items. items ≡ [] };
@@ -52,14 +52,14 @@ pub struct Giving<E> {
     marker: PhantomData<E>,
 }
 
-impl<E: Happened> Outcome<Lobby, View> for Giving<E> {
+impl<E: Happened> Outcome<Laid, View> for Giving<E> {
     ghost use Rattle.std.specs.Prelude.{◌≡◌};
     ghost use Rattle.lobby_lock.specs.Rule.{gave};
 
     ghost then = { λ v x w. w ≡ gave v x E.events };
 }
 
-impl<E> Lesson<Lobby, View> for Giving<E> {
+impl<E> Lesson<Laid, View> for Giving<E> {
     ghost use Rattle.std.specs.Prelude.{◌≡◌, []};
 
     ghost fact = { λ v items. items ≡ [] };
@@ -68,7 +68,7 @@ impl<E> Lesson<Lobby, View> for Giving<E> {
 /// The lobby is taken.
 pub struct Taking;
 
-impl Outcome<Lobby, View> for Taking {
+impl Outcome<Laid, View> for Taking {
     ghost use Rattle.lobby_lock.specs.Rule.{Took};
 
     ghost then = { Took };
@@ -77,7 +77,7 @@ impl Outcome<Lobby, View> for Taking {
 /// The lobby is taken for good.
 pub struct TakingForGood;
 
-impl Outcome<Lobby, View> for TakingForGood {
+impl Outcome<Laid, View> for TakingForGood {
     ghost use Rattle.lobby_lock.specs.Rule.{Closed};
 
     ghost then = { Closed };
@@ -108,14 +108,14 @@ impl Join<View> for TakingBack {
 /// What is known of the worker whose pass came back last.
 pub struct LastBack;
 
-impl Lesson<Lobby, View> for LastBack {
+impl Lesson<Laid, View> for LastBack {
     ghost use Rattle.lobby_lock.specs.Rule.{LastEnded};
 
     ghost fact = { λ v items. LastEnded v v.taken_back };
 }
 
 /// Where the lobby lies.
-pub type Place = RuledArrayQueue<Lobby, View, OneHistory>;
+pub type Place = RuledArrayQueue<Laid, View, OneHistory>;
 
 /// A pass of that place.
-pub type PlacePass = Pass<Lobby, View>;
+pub type PlacePass = Pass<Laid, View>;

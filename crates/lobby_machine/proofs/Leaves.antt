@@ -22,7 +22,7 @@ use Rattle.battle_rules.specs.Answers.{Obeyed}
 use Rattle.lobby_battles.specs.Battles.{IsOnly, left_at, left_battle, room_changed, unasked, left_own, unasked_own}
 use Rattle.lobby_maps.specs.Changes.{first_of, parts}
 use Rattle.battle_rules.specs.BattleTalk.{left_battle_letters}
-use Rattle.lobby_battles.specs.Seats.{without_one}
+use Rattle.lobby_battles.specs.OnlineUsers.{without_one}
 use Rattle.lobby_machine.specs.Talk.{left_letters}
 use Rattle.battle_rules.proofs.InBattles.{leaves_effect}
 

@@ -14,12 +14,12 @@ use Rattle.lobby_model.specs.Outcome.{done, refuse_if, Outcome, Refused, tell, i
 use Rattle.lobby_model.specs.Sessions.{status_in, set_user_status, burst, arrival, logs_in, log_in, user_of}
 use Rattle.lobby_post.specs.Posted.{Posted, Told}
 use Rattle.lobby_post.proofs.Telling.{told_then}
-use Rattle.lobby_battles.specs.declared.seats.Seat.{Seat}
+use Rattle.lobby_battles.specs.declared.online_users.OnlineUser.{OnlineUser}
 use Rattle.lobby_maps.specs.declared.change.Change.TheVariants.{Nothing, Status, LogIn}
 use Rattle.battle_rules.specs.declared.refusal.Refusal.{Refusal}
 use Rattle.battle_rules.specs.declared.refusal.Stop.{Stop}
 use Rattle.battle_rules.specs.declared.refusal.Stop.TheVariants as stop
-use Rattle.lobby_battles.specs.Seats.{user_in}
+use Rattle.lobby_battles.specs.OnlineUsers.{plain_user}
 use Rattle.battle_rules.specs.Answers.{Obeyed, Answers, Refuses, refusal_reply}
 use Rattle.line_words.proofs.Options.{none_from_is_some}
 
@@ -65,16 +65,16 @@ module _ (s : State) (c : ℕ) (cpu : ℤ) (authorises : Bool) (r : Result Accou
   name_taken there = ap (log_in s c cpu authorises) let_in ∙ ap (λ b. refuse_if b (reply.Denied user_is_in)
       (done (logs_in c account.name (user_of account cpu authorises) s))) there
 
-  pub logged_in_so : (old a new : Posted) (name : List ℕ) (seat : Seat) → hears s c ≡ true → name_of s c ≡ None
-      → is_some (at_name s.users account.name) ≡ false → name ≡ account.name → seat.client.number ≡ c → seat.battle ≡ None → user_in seat ≡ user_of account cpu authorises
-      → Told s old a (tell issuer (burst s.settings.motd name (put_name s.users name (user_in seat)) s.battles) ∷ [])
-      → Told s a new (tell others (arrival name (user_in seat)) ∷ [])
-      → Obeyed s c old new (LogIn name seat) (log_in s c cpu authorises r)
-  logged_in_so old a new name seat live nobody free named here outside same first second =
-      let comes : log_in s c cpu authorises r ≡ done (logs_in c name (user_in seat) s) =
+  pub logged_in_so : (old a new : Posted) (name : List ℕ) (online_user : OnlineUser) → hears s c ≡ true → name_of s c ≡ None
+      → is_some (at_name s.users account.name) ≡ false → name ≡ account.name → online_user.client.number ≡ c → online_user.battle ≡ None → plain_user online_user ≡ user_of account cpu authorises
+      → Told s old a (tell issuer (burst s.settings.motd name (put_name s.users name (plain_user online_user)) s.battles) ∷ [])
+      → Told s a new (tell others (arrival name (plain_user online_user)) ∷ [])
+      → Obeyed s c old new (LogIn name online_user) (log_in s c cpu authorises r)
+  logged_in_so old a new name online_user live nobody free named here outside same first second =
+      let comes : log_in s c cpu authorises r ≡ done (logs_in c name (plain_user online_user) s) =
       ap (log_in s c cpu authorises) let_in ∙ ap (λ b. refuse_if b (reply.Denied user_is_in) (done (logs_in c account.name (user_of account cpu authorises) s))) free
       ∙ (λ i. done (logs_in c (sym named i) (sym same i) s)) in
-      subst (λ o. Obeyed s c old new (LogIn name seat) o) (sym comes) (record {
+      subst (λ o. Obeyed s c old new (LogIn name online_user) o) (sym comes) (record {
         told = told_then s old a new _ _ first second;
         effect = refl;
         can_be = record { hears = live; nobody = nobody; free = ap (at_name s.users) named ∙ none_from_is_some _ free; here = here; outside = outside };

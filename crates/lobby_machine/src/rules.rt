@@ -102,6 +102,7 @@ fn answer_stranger(
 }
 
 /// What a command of a user comes to, by its rule: an arm for each command.
+#[rattlefmt::skip]
 fn answer_user(by: &Issuer, command: &Command, post: &mut Post) -> Result<Change, Stop>
     requires me { name_of by.now.maps.now.plain by.now.client ≡ Some by.now.me.now }
     requires kinds { IsTrue (keeps_kinds command.now) }
@@ -119,142 +120,61 @@ fn answer_user(by: &Issuer, command: &Command, post: &mut Post) -> Result<Change
         Command::Join { channel, .. } => channels::join(by, channel, post),
         Command::Leave { channel } => channels::leave(by, channel, post),
         Command::Say { channel, text } => {
-            let line = Reply::Said {
-                channel: Name(Held::Lent(channel)),
-                user: Name(Held::Lent(by.me)),
-                text: Text(HeldText::Lent(text)),
-            };
+            let line = Reply::Said { channel: Name(Held::Lent(channel)), user: Name(Held::Lent(by.me)),
+                text: Text(HeldText::Lent(text)) };
             channels::say_in_channel(by, channel, line, post)
         }
         Command::SayEx { channel, text } => {
-            let line = Reply::SaidEx {
-                channel: Name(Held::Lent(channel)),
-                user: Name(Held::Lent(by.me)),
-                text: Text(HeldText::Lent(text)),
-            };
+            let line = Reply::SaidEx { channel: Name(Held::Lent(channel)), user: Name(Held::Lent(by.me)),
+                text: Text(HeldText::Lent(text)) };
             channels::say_in_channel(by, channel, line, post)
         }
         Command::SayPrivate { user, text } => channels::say_private(by, user, text, post),
         Command::Channels => channels::list_channels(by, post),
-        Command::OpenBattle {
-            battle_type,
-            nat_type,
-            password,
-            port,
-            max_players,
-            game_hash,
-            rank,
-            map_hash,
-            engine_name,
-            engine_version,
-            map,
-            title,
-            game_name,
-        } => {
-            let opening = Opening {
-                battle_type: *battle_type,
-                nat_type: *nat_type,
-                password,
-                port: *port,
-                max_players: *max_players,
-                game_hash: *game_hash,
-                rank: *rank,
-                map_hash: *map_hash,
-                engine_name,
-                engine_version,
-                map,
-                title,
-                game_name,
-            };
+        Command::OpenBattle { battle_type, nat_type, password, port, max_players, game_hash, rank, map_hash,
+            engine_name, engine_version, map, title, game_name } => {
+            let opening = Opening { battle_type: *battle_type, nat_type: *nat_type, password, port: *port,
+                max_players: *max_players, game_hash: *game_hash, rank: *rank, map_hash: *map_hash, engine_name,
+                engine_version, map, title, game_name };
             battles::open_battle(by, &opening, post)
         }
-        Command::JoinBattle {
-            battle,
-            password,
-            script_password,
-        } => joining::join_battle(
-            by,
-            *battle,
-            password.as_ref(),
-            script_password.as_ref(),
-            post,
-        ),
+        Command::JoinBattle { battle, password, script_password } =>
+            joining::join_battle(by, *battle, password.as_ref(), script_password.as_ref(), post),
         Command::LeaveBattle => battles::leave_battle(by, post),
-        Command::UpdateBattleInfo {
-            spectator_count,
-            locked,
-            map_hash,
-            map,
-        } => battles::update_battle(by, *spectator_count, *locked, *map_hash, map, post),
-        Command::MyBattleStatus {
-            battle_status,
-            team_color,
-        } => battles::my_battle_status(by, *battle_status, *team_color, post),
+        Command::UpdateBattleInfo { spectator_count, locked, map_hash, map } =>
+            battles::update_battle(by, *spectator_count, *locked, *map_hash, map, post),
+        Command::MyBattleStatus { battle_status, team_color } =>
+            battles::my_battle_status(by, *battle_status, *team_color, post),
         Command::SayBattle { text } => {
-            let line = Reply::SaidBattle {
-                user: Name(Held::Lent(by.me)),
-                text: Text(HeldText::Lent(text)),
-            };
+            let line = Reply::SaidBattle { user: Name(Held::Lent(by.me)), text: Text(HeldText::Lent(text)) };
             battles::say_in_battle(by, line, post)
         }
         Command::SayBattleEx { text } => {
-            let line = Reply::SaidBattleEx {
-                user: Name(Held::Lent(by.me)),
-                text: Text(HeldText::Lent(text)),
-            };
+            let line = Reply::SaidBattleEx { user: Name(Held::Lent(by.me)), text: Text(HeldText::Lent(text)) };
             battles::say_in_battle(by, line, post)
         }
-        Command::AddBot {
-            bot,
-            battle_status,
-            team_color,
-            ai,
-        } => rooms::add_bot(by, bot, *battle_status, *team_color, ai, post),
-        Command::UpdateBot {
-            bot,
-            battle_status,
-            team_color,
-        } => rooms::update_bot(by, bot, *battle_status, *team_color, post),
+        Command::AddBot { bot, battle_status, team_color, ai } =>
+            rooms::add_bot(by, bot, *battle_status, *team_color, ai, post),
+        Command::UpdateBot { bot, battle_status, team_color } =>
+            rooms::update_bot(by, bot, *battle_status, *team_color, post),
         Command::RemoveBot { bot } => rooms::remove_bot(by, bot, post),
-        Command::AddStartRect {
-            ally_no,
-            left,
-            top,
-            right,
-            bottom,
-        } => {
-            let rect = Rect {
-                left: *left,
-                top: *top,
-                right: *right,
-                bottom: *bottom,
-            };
+        Command::AddStartRect { ally_no, left, top, right, bottom } => {
+            let rect = Rect { left: *left, top: *top, right: *right, bottom: *bottom };
             rooms::add_rect(by, *ally_no, rect, post)
         }
         Command::RemoveStartRect { ally_no } => rooms::remove_rect(by, *ally_no, post),
         Command::SetScriptTags { pairs } => rooms::set_script_tags(by, pairs, post),
         Command::RemoveScriptTags { keys } => rooms::remove_script_tags(by, keys, post),
-        Command::Handicap { user, value } => {
-            rooms::force_on_member(by, user, Force::Handicap(*value), post)
-        }
-        Command::ForceTeamNo { user, number } => {
-            rooms::force_on_member(by, user, Force::Team(*number), post)
-        }
-        Command::ForceAllyNo { user, number } => {
-            rooms::force_on_member(by, user, Force::Ally(*number), post)
-        }
-        Command::ForceTeamColor { user, team_color } => {
-            rooms::force_on_member(by, user, Force::Colour(*team_color), post)
-        }
-        Command::ForceSpectatorMode { user } => {
-            rooms::force_on_member(by, user, Force::Spectator, post)
-        }
+        Command::Handicap { user, value } => rooms::force_on_member(by, user, Force::Handicap(*value), post),
+        Command::ForceTeamNo { user, number } => rooms::force_on_member(by, user, Force::Team(*number), post),
+        Command::ForceAllyNo { user, number } => rooms::force_on_member(by, user, Force::Ally(*number), post),
+        Command::ForceTeamColor { user, team_color } =>
+            rooms::force_on_member(by, user, Force::Colour(*team_color), post),
+        Command::ForceSpectatorMode { user } => rooms::force_on_member(by, user, Force::Spectator, post),
         Command::KickFromBattle { user } => rooms::kick(by, user, post),
         Command::Ring { user } => rooms::ring(by, user, post),
         Command::JoinBattleAccept { user } => joining::accept(by, user, post),
-        Command::JoinBattleDeny { user, reason } => {
-            joining::deny(by, user, reason.as_ref(), post)
-        }
+        Command::JoinBattleDeny { user, reason } => joining::deny(by, user, reason.as_ref(), post),
         Command::DisableUnits { units } => rooms::disable_units(by, units, post),
         Command::EnableUnits { units } => rooms::enable_units(by, units, post),
         Command::EnableAllUnits => rooms::enable_all_units(by, post),

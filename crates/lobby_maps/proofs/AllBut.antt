@@ -11,8 +11,8 @@ use Rattle.lobby_model.specs.Outcome.{is_named, everyone_but}
 use Rattle.lobby_model.proofs.Delivered.{same_number_is}
 use Rattle.lobby_maps.proofs.Walks.{apart_rising}
 use Rattle.lobby_post.specs.Posted.{has_number, AreApart, Reaches}
-use Rattle.lobby_battles.specs.declared.seats.Seat.{Seat}
-use Rattle.lobby_battles.specs.Seats.{Agree, IsListed, client_in}
+use Rattle.lobby_battles.specs.declared.online_users.OnlineUser.{OnlineUser}
+use Rattle.lobby_battles.specs.OnlineUsers.{Agree, IsListed, client_in}
 use Rattle.lobby_maps.specs.Fit.{is_some_number, numbers_but}
 
 -- numbers that are neither of two that there may be
@@ -51,15 +51,15 @@ apart_filter p (c ∷ cs) apart =
     ]
 
 -- their clients
-pub reaches_all_but : (s : State) (issuer : ℕ) (seats : ByName Seat) (numbers : List ℕ) (first second : List ℕ)
-    → IsStrictlySortedBy nat_cmp numbers → IsListed numbers s.clients → Agree s.clients seats
-    → Reaches s issuer (numbers_but (client_in (at_name seats first) ++ client_in (at_name seats second)) numbers) (everyone_but (first ∷ second ∷ []))
-reaches_all_but s issuer seats numbers first second rising listed agree = record {
-  once = apart_filter (λ c. not (has_number (client_in (at_name seats first) ++ client_in (at_name seats second)) c)) numbers
+pub reaches_all_but : (s : State) (issuer : ℕ) (online : ByName OnlineUser) (numbers : List ℕ) (first second : List ℕ)
+    → IsStrictlySortedBy nat_cmp numbers → IsListed numbers s.clients → Agree s.clients online
+    → Reaches s issuer (numbers_but (client_in (at_name online first) ++ client_in (at_name online second)) numbers) (everyone_but (first ∷ second ∷ []))
+reaches_all_but s issuer online numbers first second rising listed agree = record {
+  once = apart_filter (λ c. not (has_number (client_in (at_name online first) ++ client_in (at_name online second)) c)) numbers
       (apart_rising numbers rising);
   exact = λ d.
-      has_filter (λ c. not (has_number (client_in (at_name seats first) ++ client_in (at_name seats second)) c)) d numbers
-      ∙ (λ i. listed d i && not (list_any-append (same_number d) (client_in (at_name seats first)) (client_in (at_name seats second)) i))
+      has_filter (λ c. not (has_number (client_in (at_name online first) ++ client_in (at_name online second)) c)) d numbers
+      ∙ (λ i. listed d i && not (list_any-append (same_number d) (client_in (at_name online first)) (client_in (at_name online second)) i))
       ∙ (λ i. is_some (name_at s.clients d) && not (agree first d i || agree second d i))
       ∙ elim (name_at s.clients d) as (λ o. (is_some o && not (is_named (same_name first) o || is_named (same_name second) o))
       ≡ is_named (λ n. not (is_among n (first ∷ second ∷ []))) o) [

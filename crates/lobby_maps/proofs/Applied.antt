@@ -23,8 +23,8 @@ module _ (s t : State) (e : Event) (post : Posted) (changed : effect s e ≡ t) 
       ∙ sym (ap (delivered s e) changed)
 
   pub woken_so : (mask : ℕ) → ((home : ℕ) → has_home mask home ≡ wakes_home s.settings.outbox_limit post.sent t.clients home) → IsWakes s e mask
-  woken_so mask marks = λ home.
-      marks home
+  woken_so mask listings = λ home.
+      listings home
       ∙ (λ i. list_any (λ x. same_number x.1.home home && is_touched s.settings.outbox_limit (matches x.0 i) x.1) t.clients)
       ∙ ap (λ (u : State). list_any (λ x. same_number x.1.home home && is_touched s.settings.outbox_limit (batch s e x.0) x.1) u.clients)
       (sym changed)

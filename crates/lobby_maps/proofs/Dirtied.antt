@@ -22,7 +22,7 @@ use Rattle.lobby_post.specs.Dirty.{IsNewly, news, news_of}
 use Rattle.lobby_post.proofs.Parcels.{touched_alike}
 use Rattle.lobby_maps.specs.Changes.{Matches}
 use Rattle.lobby_maps.specs.Dirty.{DirtyAfter, changes, is_changed, those_there}
-use Rattle.lobby_maps.proofs.Lists.{filter_alike, has_kept, waits_marked}
+use Rattle.lobby_maps.proofs.Lists.{filter_alike, has_kept, waits_placed}
 
 -- a client is there after an event where it is before its lines are put
 there_next : (s : State) (e : Event) (c : ℕ) → is_some (at_number (next s e).clients c) ≡ is_some (at_number (effect s e).clients c)
@@ -76,7 +76,7 @@ module _ (s t : State) (e : Event) (post : Posted) (changed : effect s e ≡ t) 
       ]
   and_again false h l u same = refl
 
-  -- who is there stands in the list where its mark says so
+  -- who is there stands in the list where its listing says so
   listed_is : (c : ℕ) (held : Mailbox) → lookup (is_at (nat_cmp c)) clients.slots ≡ Some held → same_number held.client.home home ≡ true
       → has_number old c ≡ held.listed
   listed_is c held found here =
@@ -84,7 +84,7 @@ module _ (s t : State) (e : Event) (post : Posted) (changed : effect s e ≡ t) 
       ap is_some (find-values (λ d (h : Mailbox). h.client) c clients.slots ∙ ap (option_map (λ (h : Mailbox). h.client)) (sym (lookup_is_find nat_cmp c clients.slots) ∙ found)) in
       sym (has_kept (λ d. is_some (at_number (plain clients.slots) d)) c old there)
       ∙ ap (λ list. has_number list c) (sym left)
-      ∙ waits_marked clients last home c held known found here
+      ∙ waits_placed clients last home c held known found here
 
   news_is : (c : ℕ) → news post.sent clients.slots home c ≡ (if changes s e home c && not (has_number old c) then 1 else 0)
   news_is c =

@@ -3,7 +3,7 @@ use Rattle.std.proofs.Common.{◌≡◌, ℕ, ◌≤◌, List, [], sym, subst, �
 use Rattle.line_words.specs.Table.{ByName, ByNumber}
 use Rattle.lobby_model.specs.State.{Client, User, Battle}
 use Rattle.channel_book.specs.Channels.{Channels}
-use Rattle.lobby_battles.specs.declared.seats.Seat.{Seat}
+use Rattle.lobby_battles.specs.declared.online_users.OnlineUser.{OnlineUser}
 use Rattle.lobby_maps.specs.declared.change.Change.{Change}
 use Rattle.lobby_maps.specs.declared.change.Change.TheVariants.{Nothing, Status, LogIn, LogOut, Join, Leave, InBattles}
 use Rattle.lobby_battles.specs.declared.battles.BattleChange.TheVariants as battle
@@ -11,40 +11,40 @@ use Rattle.lobby_battles.specs.declared.battles.BattleChange.TheVariants.{Open, 
 use Rattle.lobby_maps.specs.Changes.{CanBe, last_after}
 use Rattle.lobby_post.specs.Crowd.{Crowd, Known}
 use Rattle.lobby_post.specs.Mail.{AreDue, plain, deliver}
-use Rattle.lobby_battles.specs.Seats.{Agree, IsListed}
+use Rattle.lobby_battles.specs.OnlineUsers.{Agree, IsListed}
 use Rattle.lobby_maps.specs.Fit.{Numbered, Fit}
-use Rattle.lobby_battles.specs.Battles.{AreSeated}
+use Rattle.lobby_battles.specs.Battles.{KnowTheirBattles}
 use Rattle.lobby_battles.proofs.Agreed.{agree_kept, listed_kept}
 use Rattle.lobby_maps.proofs.Numbered.{name_delivered, numbered_delivered}
 
 -- clients that are as they were
-pub fit_same : (limit : ℕ) (es fs : Crowd) (seats : ByName Seat) (numbers : List ℕ) (last : ℕ) (battles : ByNumber Battle) (last_battle : ℕ) → plain fs.slots ≡ plain es.slots
-    → fs.limit ≡ es.limit → AreDue [] fs.slots → Known fs last → Fit limit es seats numbers last battles last_battle
-    → Fit limit fs seats numbers last battles last_battle
-fit_same limit es fs seats numbers last battles last_battle same limits rest known fit = record {
+pub fit_same : (limit : ℕ) (es fs : Crowd) (online : ByName OnlineUser) (numbers : List ℕ) (last : ℕ) (battles : ByNumber Battle) (last_battle : ℕ) → plain fs.slots ≡ plain es.slots
+    → fs.limit ≡ es.limit → AreDue [] fs.slots → Known fs last → Fit limit es online numbers last battles last_battle
+    → Fit limit fs online numbers last battles last_battle
+fit_same limit es fs online numbers last battles last_battle same limits rest known fit = record {
   limited = limits ∙ fit.limited;
   rest = rest;
-  agree = subst (λ (m : ByNumber Client). Agree m seats) (sym same) fit.agree;
+  agree = subst (λ (m : ByNumber Client). Agree m online) (sym same) fit.agree;
   listed = subst (λ (m : ByNumber Client). IsListed numbers m) (sym same) fit.listed;
   numbered = subst (λ (m : ByNumber Client). Numbered last m) (sym same) fit.numbered;
   known = known;
-  seated = fit.seated;
+  knowing = fit.knowing;
   counted = fit.counted;
 }
 
 -- clients to whom something was delivered
-pub fit_delivered : (limit : ℕ) (pieces : ByNumber (List ℕ)) (es fs : Crowd) (seats : ByName Seat) (numbers : List ℕ) (last : ℕ) (battles : ByNumber Battle) (last_battle : ℕ) → fs.limit ≡ limit
+pub fit_delivered : (limit : ℕ) (pieces : ByNumber (List ℕ)) (es fs : Crowd) (online : ByName OnlineUser) (numbers : List ℕ) (last : ℕ) (battles : ByNumber Battle) (last_battle : ℕ) → fs.limit ≡ limit
     → plain fs.slots ≡ deliver es.limit pieces (plain es.slots) → AreDue [] fs.slots → Known fs last
-    → Agree (plain es.slots) seats → IsListed numbers (plain es.slots) → Numbered last (plain es.slots) → AreSeated battles seats → last_battle ≤ 2147483647
-    → Fit limit fs seats numbers last battles last_battle
-fit_delivered limit pieces es fs seats numbers last battles last_battle limited is rest known agree listed numbered seated counted = record {
+    → Agree (plain es.slots) online → IsListed numbers (plain es.slots) → Numbered last (plain es.slots) → KnowTheirBattles battles online → last_battle ≤ 2147483647
+    → Fit limit fs online numbers last battles last_battle
+fit_delivered limit pieces es fs online numbers last battles last_battle limited is rest known agree listed numbered knowing counted = record {
   limited = limited;
   rest = rest;
-  agree = agree_kept (plain es.slots) (plain fs.slots) seats (name_delivered es.limit pieces (plain es.slots) (plain fs.slots) is) agree;
+  agree = agree_kept (plain es.slots) (plain fs.slots) online (name_delivered es.limit pieces (plain es.slots) (plain fs.slots) is) agree;
   listed = listed_kept (plain es.slots) (plain fs.slots) numbers (name_delivered es.limit pieces (plain es.slots) (plain fs.slots) is) listed;
   numbered = numbered_delivered es.limit pieces last (plain es.slots) (plain fs.slots) is numbered;
   known = known;
-  seated = seated;
+  knowing = knowing;
   counted = counted;
 }
 
@@ -53,7 +53,7 @@ pub counted_after : (clients : ByNumber Client) (users : ByName User) (channels 
     → CanBe clients users channels battles c change → last ≤ 2147483647 → last_after last change ≤ 2147483647
 counted_after clients users channels battles c last Nothing can counted = counted
 counted_after clients users channels battles c last (Status name status) can counted = counted
-counted_after clients users channels battles c last (LogIn name seat) can counted = counted
+counted_after clients users channels battles c last (LogIn name online_user) can counted = counted
 counted_after clients users channels battles c last (Join channel name) can counted = counted
 counted_after clients users channels battles c last (Leave channel name) can counted = counted
 counted_after clients users channels battles c last (InBattles (Open number name battle)) can counted = can.2

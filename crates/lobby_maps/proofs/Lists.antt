@@ -15,7 +15,7 @@ use Rattle.lobby_model.proofs.Delivered.{same_number_is}
 use Rattle.lobby_post.specs.Mail.{Mailbox, Line, parted, plain}
 use Rattle.lobby_post.specs.Crowd.{Crowd, Known, all_but_client, for_homes, line_at, waits}
 use Rattle.lobby_post.specs.Posted.{has_number}
-use Rattle.lobby_post.specs.Dirty.{Mark, AreKnown, is_of, mark_of, marks_of, stands, times}
+use Rattle.lobby_post.specs.Dirty.{Listing, AreKnown, is_of, listing_of, listings_of, stands, times}
 use Rattle.lobby_post.proofs.Crowds.{plain-is_some}
 use Rattle.lobby_post.proofs.Homes.{at_home}
 use Rattle.lobby_maps.specs.Dirty.{lists_of, those_there}
@@ -32,19 +32,19 @@ listed_as P es fs home within holds =
     subst (λ old. P old (slice_index_or (lists_of fs) home [])) (sym (list_at es home within))
     (subst (λ new. P (waits es home) new) (sym (list_at fs home within)) holds)
 
--- clients whose marks and lines are as they were
-module _ (es fs : Crowd) (marks : marks_of fs.slots ≡ marks_of es.slots) (lines : fs.lines ≡ es.lines) where
+-- clients whose listings and lines are as they were
+module _ (es fs : Crowd) (listings : listings_of fs.slots ≡ listings_of es.slots) (lines : fs.lines ≡ es.lines) where
   pub waits_same : (home : ℕ) → waits fs home ≡ waits es home
-  waits_same home = λ i. filter (stands (marks i) home) (line_at (lines i) home).waiting
+  waits_same home = λ i. filter (stands (listings i) home) (line_at (lines i) home).waiting
 
   pub lists_same : lists_of fs ≡ lists_of es
   unfolding lists_of
-  lists_same = λ i. for_homes 64 (λ home. filter (stands (marks i) home) (line_at (lines i) home).waiting)
+  lists_same = λ i. for_homes 64 (λ home. filter (stands (listings i) home) (line_at (lines i) home).waiting)
 
   pub known_same : (last : ℕ) → Known es last → Known fs last
   known_same last known =
-      subst (λ (m : ByNumber Mark). AreKnown m (line_at fs.lines) last) (sym marks)
-      (subst (λ (ls : List Line). AreKnown (marks_of es.slots) (line_at ls) last) (sym lines) known)
+      subst (λ (m : ByNumber Listing). AreKnown m (line_at fs.lines) last) (sym listings)
+      (subst (λ (ls : List Line). AreKnown (listings_of es.slots) (line_at ls) last) (sym lines) known)
 
 -- filters
 filter_passed : (p q : ℕ → Bool) → ((c : ℕ) → p c ≡ true → q c ≡ true) → (xs : List ℕ) → filter q (filter p xs) ≡ filter p xs
@@ -91,28 +91,28 @@ has_times b c (d ∷ xs) is =
 
 -- those who wait are there
 module _ (clients : Crowd) where
-  mark_at : (c : ℕ) → lookup (is_at (nat_cmp c)) (marks_of clients.slots) ≡ option_map mark_of (lookup (is_at (nat_cmp c)) clients.slots)
-  mark_at c = lookup-map_values mark_of (is_at (nat_cmp c)) clients.slots
+  listing_at : (c : ℕ) → lookup (is_at (nat_cmp c)) (listings_of clients.slots) ≡ option_map listing_of (lookup (is_at (nat_cmp c)) clients.slots)
+  listing_at c = lookup-map_values listing_of (is_at (nat_cmp c)) clients.slots
 
-  stands_there : (home c : ℕ) → stands (marks_of clients.slots) home c ≡ true → is_some (at_number (plain clients.slots) c) ≡ true
+  stands_there : (home c : ℕ) → stands (listings_of clients.slots) home c ≡ true → is_some (at_number (plain clients.slots) c) ≡ true
   stands_there home c passes =
       sym (plain-is_some c clients.slots)
-      ∙ elim (lookup (is_at (nat_cmp c)) clients.slots) as (λ o. is_of home (option_map mark_of o) ≡ true → is_some o ≡ true) [
+      ∙ elim (lookup (is_at (nat_cmp c)) clients.slots) as (λ o. is_of home (option_map listing_of o) ≡ true → is_some o ≡ true) [
         | None ↦ λ e. e
         | Some held ↦ λ e. refl
-      ] (ap (is_of home) (sym (mark_at c)) ∙ passes)
+      ] (ap (is_of home) (sym (listing_at c)) ∙ passes)
 
   pub waits_there : (home : ℕ) → those_there (plain clients.slots) (waits clients home) ≡ waits clients home
   waits_there home = filter_passed _ _ (stands_there home) (line_at clients.lines home).waiting
 
-  -- whether a client that is there waits is what its mark says
-  pub waits_marked : (last home c : ℕ) (held : Mailbox) → Known clients last → lookup (is_at (nat_cmp c)) clients.slots ≡ Some held
+  -- whether a client that is there waits is what its listing says
+  pub waits_placed : (last home c : ℕ) (held : Mailbox) → Known clients last → lookup (is_at (nat_cmp c)) clients.slots ≡ Some held
       → same_number held.client.home home ≡ true → has_number (waits clients home) c ≡ held.listed
-  waits_marked last home c held known found here =
-      let mark : lookup (is_at (nat_cmp c)) (marks_of clients.slots) ≡ Some (mark_of held) = mark_at c ∙ ap (option_map mark_of) found in
-      has_kept (stands (marks_of clients.slots) home) c (line_at clients.lines home).waiting (ap (is_of home) mark ∙ here)
+  waits_placed last home c held known found here =
+      let listing : lookup (is_at (nat_cmp c)) (listings_of clients.slots) ≡ Some (listing_of held) = listing_at c ∙ ap (option_map listing_of) found in
+      has_kept (stands (listings_of clients.slots) home) c (line_at clients.lines home).waiting (ap (is_of home) listing ∙ here)
       ∙ ap (λ k. has_number (line_at clients.lines k).waiting c) (sym (same_number_is held.client.home home here))
-      ∙ has_times held.listed c (line_at clients.lines held.client.home).waiting (known.marked c (mark_of held) mark)
+      ∙ has_times held.listed c (line_at clients.lines held.client.home).waiting (known.placed c (listing_of held) listing)
 
   -- of those who waited, those wait that are still there
   pub left_same : (home : ℕ) (old : List ℕ) → waits clients home ≡ old → waits clients home ≡ those_there (plain clients.slots) old
@@ -136,7 +136,7 @@ module _ (clients : Crowd) where
       ∙ filter_alike _ _ gone old
 
   pub none_wait : (home : ℕ) → clients.slots ≡ [] → waits clients home ≡ []
-  none_wait home nobody = ap (λ (m : ByNumber Mailbox). filter (stands (marks_of m) home) (line_at clients.lines home).waiting) nobody
+  none_wait home nobody = ap (λ (m : ByNumber Mailbox). filter (stands (listings_of m) home) (line_at clients.lines home).waiting) nobody
       ∙ nothing (line_at clients.lines home).waiting
     where
       nothing : (xs : List ℕ) → filter (λ c. false) xs ≡ []

@@ -14,18 +14,18 @@ use Rattle.line_words.proofs.Tables.{name_cmp_same}
 use Rattle.lobby_post.specs.Posted.{Posted, with_own}
 use Rattle.lobby_post.proofs.Telling.{with_own_more}
 use Rattle.lobby_maps.specs.declared.burst_parts.Part.{Part}
-use Rattle.lobby_battles.specs.declared.seats.Seat.{Seat}
-use Rattle.lobby_battles.specs.Seats.{user_in, users_of}
+use Rattle.lobby_battles.specs.declared.online_users.OnlineUser.{OnlineUser}
+use Rattle.lobby_battles.specs.OnlineUsers.{plain_user, users_of}
 use Rattle.lobby_maps.specs.BurstParts.{part_of, parts_of}
 
 -- a user as a map's iterator lends it, and some
-abbrev user_lent : Bor (List ℕ) × Bor Seat → List ℕ × User
-user_lent e = (e.0.now, user_in e.1.now)
+abbrev user_lent : Bor (List ℕ) × Bor OnlineUser → List ℕ × User
+user_lent e = (e.0.now, plain_user e.1.now)
 
-abbrev pub users_lent : List (Bor (List ℕ) × Bor Seat) → ByName User
+abbrev pub users_lent : List (Bor (List ℕ) × Bor OnlineUser) → ByName User
 users_lent lent = map user_lent lent
 
-map_of_map : (lent : List (Bor (List ℕ) × Bor Seat)) → users_lent lent ≡ users_of (map deref_pair lent)
+map_of_map : (lent : List (Bor (List ℕ) × Bor OnlineUser)) → users_lent lent ≡ users_of (map deref_pair lent)
 map_of_map [] = refl
 map_of_map (e ∷ es) = ap (λ us. user_lent e ∷ us) (map_of_map es)
 
@@ -70,11 +70,11 @@ module _ (part : Part) (name : List ℕ) (user : User) where
   Tells start now users is_told = (rest : ByName User)
       → with_own start (parts_of part (put_name (users ++ rest) name user)) ≡ with_own now (parts_of part (left is_told rest))
 
-  pub tells_next : (start now : Posted) (lent : List (Bor (List ℕ) × Bor Seat)) (is_told : Bool) (e : Bor (List ℕ) × Bor Seat) (order : Ordering)
+  pub tells_next : (start now : Posted) (lent : List (Bor (List ℕ) × Bor OnlineUser)) (is_told : Bool) (e : Bor (List ℕ) × Bor OnlineUser) (order : Ordering)
       (one more : Posted) (is_told_now : Bool)
       → Tells start now (users_lent lent) is_told → order ≡ order_at is_told e.0.now
       → one ≡ with_own now (first_told (is_le order)) → is_told_now ≡ (if is_le order then true else is_told)
-      → more ≡ with_own one (other_told (is_ne order) (e.0.now, user_in e.1.now)) → Tells start more (users_lent (lent ++ e ∷ [])) is_told_now
+      → more ≡ with_own one (other_told (is_ne order) (e.0.now, plain_user e.1.now)) → Tells start more (users_lent (lent ++ e ∷ [])) is_told_now
   tells_next start now lent is_told e order one more is_told_now tells is first after second = λ rest.
       let all : more ≡ with_own now (told_at order (user_lent e)) = second ∙ ap (λ p. with_own p (other_told (is_ne order) (user_lent e))) first
       ∙ with_own_more now (first_told (is_le order)) (other_told (is_ne order) (user_lent e)) in
@@ -85,11 +85,11 @@ module _ (part : Part) (name : List ℕ) (user : User) where
       ∙ sym (with_own_more now (told_at order (user_lent e)) _)
       ∙ (λ i. with_own (sym all i) (parts_of part (left (sym after i) rest)))
 
-  pub tells_all : (start now more : Posted) (lent : List (Bor (List ℕ) × Bor Seat)) (seats : ByName Seat) (is_told : Bool)
+  pub tells_all : (start now more : Posted) (lent : List (Bor (List ℕ) × Bor OnlineUser)) (online : ByName OnlineUser) (is_told : Bool)
       → Tells start now (users_lent lent) is_told
-      → map deref_pair lent ≡ seats → more ≡ with_own now (if is_told then [] else part_of part name user)
-      → more ≡ with_own start (parts_of part (put_name (users_of seats) name user))
-  tells_all start now more lent seats is_told tells all last =
+      → map deref_pair lent ≡ online → more ≡ with_own now (if is_told then [] else part_of part name user)
+      → more ≡ with_own start (parts_of part (put_name (users_of online) name user))
+  tells_all start now more lent online is_told tells all last =
       last
       ∙ ap (with_own now) (elim is_told as (λ b. (if b then [] else part_of part name user)
       ≡ parts_of part (left b [])) [ true ↦ refl | false ↦ sym (append-nil _) ])

@@ -83,7 +83,7 @@ pub numbered_changed : (last : ℕ) (m : ByNumber Client) (c : ℕ) (f : Client 
 numbered_changed last m c f = numbered_kept last m _ (λ q there. sym (there_changed m c f q) ∙ there)
 
 pub numbered_after : (last : ℕ) (m : ByNumber Client) (c : ℕ) (change : Change) → Numbered last m → Numbered last (clients_after m c change)
-numbered_after last m c (LogIn name seat) numbered = numbered_changed last m c (in_phase (In name)) numbered
+numbered_after last m c (LogIn name online_user) numbered = numbered_changed last m c (in_phase (In name)) numbered
 numbered_after last m c (LogOut name asks battle true) numbered = numbered_changed last m c (in_phase Ended) numbered
 numbered_after last m c (LogOut name asks battle false) numbered = numbered_kept last m _ (there_without m c) numbered
 numbered_after last m c Nothing numbered = numbered

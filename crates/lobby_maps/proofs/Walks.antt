@@ -16,8 +16,8 @@ use Rattle.lobby_model.specs.Outcome.{is_named, everyone, user, users}
 use Rattle.lobby_model.proofs.Delivered.{same_itself, same_number_is}
 use Rattle.lobby_model.proofs.Named.{named_so}
 use Rattle.lobby_post.specs.Posted.{Posted, copy_to, addressed, has_number, AreApart, Reaches}
-use Rattle.lobby_battles.specs.declared.seats.Seat.{Seat}
-use Rattle.lobby_battles.specs.Seats.{client_in, Agree, IsListed}
+use Rattle.lobby_battles.specs.declared.online_users.OnlineUser.{OnlineUser}
+use Rattle.lobby_battles.specs.OnlineUsers.{client_in, Agree, IsListed}
 use Rattle.lobby_maps.specs.Fit.{clients_of, IsOwn}
 
 pub addressed_none : (post : Posted) → post ≡ addressed post []
@@ -45,51 +45,51 @@ pub reaches_everyone : (s : State) (issuer : ℕ) (cs : List ℕ) → IsStrictly
 reaches_everyone s issuer cs rising listed = record { once = apart_rising cs rising; exact = listed }
 
 -- users by their names
-module _ (seats : ByName Seat) where
+module _ (online : ByName OnlineUser) where
   pub clients-next : (names : List (List ℕ)) (name : List ℕ)
-      → clients_of seats (names ++ name ∷ []) ≡ clients_of seats names ++ client_in (at_name seats name)
-  clients-next names name = flat_map-append _ names (name ∷ []) ∙ ap (λ cs. clients_of seats names ++ cs) (append-nil _)
+      → clients_of online (names ++ name ∷ []) ≡ clients_of online names ++ client_in (at_name online name)
+  clients-next names name = flat_map-append _ names (name ∷ []) ∙ ap (λ cs. clients_of online names ++ cs) (append-nil _)
 
   module _ (names : List (List ℕ)) (default : List ℕ) (i : ℕ) (within : i < length names) (post mid : Posted)
-      (before : mid ≡ addressed post (clients_of seats (take i names))) where
+      (before : mid ≡ addressed post (clients_of online (take i names))) where
     abbrev name : List ℕ
     name = slice_index_or names i default
 
-    taken : clients_of seats (take (i + 1) names) ≡ clients_of seats (take i names) ++ client_in (at_name seats name)
+    taken : clients_of online (take (i + 1) names) ≡ clients_of online (take i names) ++ client_in (at_name online name)
     taken =
         let t : take (i + 1) names ≡ take i names ++ (name ∷ []) = rw add-one (take-suc names i default within) in
-        ap (clients_of seats) t ∙ clients-next (take i names) name
+        ap (clients_of online) t ∙ clients-next (take i names) name
 
-    pub name_addressed : (new : Posted) → new ≡ addressed mid (client_in (at_name seats name))
-        → new ≡ addressed post (clients_of seats (take (i + 1) names))
+    pub name_addressed : (new : Posted) → new ≡ addressed mid (client_in (at_name online name))
+        → new ≡ addressed post (clients_of online (take (i + 1) names))
     name_addressed new is =
-        is ∙ ap (λ p. addressed p (client_in (at_name seats name))) before ∙ addressed_more post (clients_of seats (take i names)) (client_in (at_name seats name))
+        is ∙ ap (λ p. addressed p (client_in (at_name online name))) before ∙ addressed_more post (clients_of online (take i names)) (client_in (at_name online name))
         ∙ ap (addressed post) (sym taken)
 
 out_of : (me : List ℕ) (names : List (List ℕ)) → AllByRecursion (λ n. same_name me n ≡ false) names → is_among me names ≡ false
 out_of me [] h = refl
 out_of me (n ∷ names) h = (λ i. h.0 i || is_among me names) ∙ out_of me names h.1
 
-module _ (clients : ByNumber Client) (seats : ByName Seat) (agree : Agree clients seats) where
-  seated : (name : List ℕ) (seat : Seat) → at_name seats name ≡ Some seat → name_at clients seat.client.number ≡ Some name
-  seated name seat e = named_so name _ (sym (agree name seat.client.number)
-      ∙ ap (λ o. has_number (client_in o) seat.client.number) e ∙ ap (λ b. b || false) (same_itself seat.client.number))
+module _ (clients : ByNumber Client) (online : ByName OnlineUser) (agree : Agree clients online) where
+  knowing : (name : List ℕ) (online_user : OnlineUser) → at_name online name ≡ Some online_user → name_at clients online_user.client.number ≡ Some name
+  knowing name online_user e = named_so name _ (sym (agree name online_user.client.number)
+      ∙ ap (λ o. has_number (client_in o) online_user.client.number) e ∙ ap (λ b. b || false) (same_itself online_user.client.number))
 
-  -- the client that is logged in under a name is the one of its seat
-  pub sole_client : (name : List ℕ) (c : ℕ) → name_at clients c ≡ Some name → client_in (at_name seats name) ≡ c ∷ []
+  -- the client that is logged in under a name is the one of its online user
+  pub sole_client : (name : List ℕ) (c : ℕ) → name_at clients c ≡ Some name → client_in (at_name online name) ≡ c ∷ []
   sole_client name c named =
-      elim (at_name seats name) as (λ o. has_number (client_in o) c ≡ true → client_in o ≡ c ∷ []) [
+      elim (at_name online name) as (λ o. has_number (client_in o) c ≡ true → client_in o ≡ c ∷ []) [
         | None ↦ λ none. absurd (cc)
-        | Some seat ↦ λ has. ap (λ d. d ∷ []) (sym (same_number_is c seat.client.number (elim (same_number c seat.client.number) as (λ b. (b || false) ≡ true → b ≡ true) [
+        | Some online_user ↦ λ has. ap (λ d. d ∷ []) (sym (same_number_is c online_user.client.number (elim (same_number c online_user.client.number) as (λ b. (b || false) ≡ true → b ≡ true) [
           | true ↦ λ t. refl
           | false ↦ λ t. t
         ] has)))
       ] (agree name c ∙ ap (is_named (same_name name)) named ∙ same_name_equiv.refl name)
 
-  named_exact : (names : List (List ℕ)) (d : ℕ) → has_number (clients_of seats names) d ≡ is_named (λ n. is_among n names) (name_at clients d)
+  named_exact : (names : List (List ℕ)) (d : ℕ) → has_number (clients_of online names) d ≡ is_named (λ n. is_among n names) (name_at clients d)
   named_exact [] d = elim (name_at clients d) as (λ o. false ≡ is_named (λ n. is_among n []) o) [ None ↦ refl | Some n ↦ refl ]
   named_exact (name ∷ names) d =
-      list_any-append (same_number d) (client_in (at_name seats name)) (clients_of seats names)
+      list_any-append (same_number d) (client_in (at_name online name)) (clients_of online names)
       ∙ (λ i. agree name d i || named_exact names d i)
       ∙ elim (name_at clients d) as (λ o. (is_named (same_name name) o || is_named (λ n. is_among n names) o)
       ≡ is_named (λ n. is_among n (name ∷ names)) o) [
@@ -97,31 +97,31 @@ module _ (clients : ByNumber Client) (seats : ByName Seat) (agree : Agree client
         | Some n ↦ ap (λ b. b || is_among n names) (same_name_equiv.symm name n)
       ]
 
-  named_apart : (names : List (List ℕ)) → IsDistinct same_name names → AreApart (clients_of seats names)
+  named_apart : (names : List (List ℕ)) → IsDistinct same_name names → AreApart (clients_of online names)
   unfolding IsDistinct
   named_apart [] h = tt
   named_apart (name ∷ names) h =
-      elim (at_name seats name) as (λ o. at_name seats name ≡ o → AreApart (client_in o ++ clients_of seats names)) [
+      elim (at_name online name) as (λ o. at_name online name ≡ o → AreApart (client_in o ++ clients_of online names)) [
         | None ↦ λ e. named_apart names h.1
-        | Some seat ↦ λ e. (
-          named_exact names seat.client.number ∙ ap (is_named (λ n. is_among n names)) (seated name seat e)
+        | Some online_user ↦ λ e. (
+          named_exact names online_user.client.number ∙ ap (is_named (λ n. is_among n names)) (knowing name online_user e)
               ∙ out_of name names h.0,
           named_apart names h.1,
         )
       ] refl
 
-pub reaches_users : (s : State) (issuer : ℕ) (seats : ByName Seat) (names : List (List ℕ)) → Agree s.clients seats
-    → IsDistinct same_name names → Reaches s issuer (clients_of seats names) (users names)
-reaches_users s issuer seats names agree distinct = record {
-  once = named_apart s.clients seats agree names distinct;
-  exact = named_exact s.clients seats agree names;
+pub reaches_users : (s : State) (issuer : ℕ) (online : ByName OnlineUser) (names : List (List ℕ)) → Agree s.clients online
+    → IsDistinct same_name names → Reaches s issuer (clients_of online names) (users names)
+reaches_users s issuer online names agree distinct = record {
+  once = named_apart s.clients online agree names distinct;
+  exact = named_exact s.clients online agree names;
 }
 
 -- one user
-pub reaches_user : (s : State) (issuer : ℕ) (seats : ByName Seat) (name : List ℕ) → Agree s.clients seats
-    → Reaches s issuer (client_in (at_name seats name)) (user name)
-reaches_user s issuer seats name agree = record {
-  once = elim (at_name seats name) as (λ o. AreApart (client_in o)) [ None ↦ tt | Some seat ↦ (refl, tt) ];
+pub reaches_user : (s : State) (issuer : ℕ) (online : ByName OnlineUser) (name : List ℕ) → Agree s.clients online
+    → Reaches s issuer (client_in (at_name online name)) (user name)
+reaches_user s issuer online name agree = record {
+  once = elim (at_name online name) as (λ o. AreApart (client_in o)) [ None ↦ tt | Some online_user ↦ (refl, tt) ];
   exact = λ d. agree name d ∙ elim (name_at s.clients d) as (λ o. is_named (same_name name) o
       ≡ is_named (λ n. same_name n name) o) [
         | None ↦ refl
@@ -130,8 +130,8 @@ reaches_user s issuer seats name agree = record {
 }
 
 -- the user whose event it is
-pub reaches_own : (s : State) (seats : ByName Seat) (old new : Posted) (name : List ℕ) → Agree s.clients seats → name_of s old.issuer ≡ Some name
-    → new ≡ addressed old (client_in (at_name seats name)) → IsOwn s old new name
-reaches_own s seats old new name agree mine is =
-    let here : client_in (at_name seats name) ≡ old.issuer ∷ [] = sole_client s.clients seats agree name old.issuer mine in
-    (subst (λ cs. Reaches s old.issuer cs (user name)) here (reaches_user s old.issuer seats name agree), is ∙ ap (addressed old) here)
+pub reaches_own : (s : State) (online : ByName OnlineUser) (old new : Posted) (name : List ℕ) → Agree s.clients online → name_of s old.issuer ≡ Some name
+    → new ≡ addressed old (client_in (at_name online name)) → IsOwn s old new name
+reaches_own s online old new name agree mine is =
+    let here : client_in (at_name online name) ≡ old.issuer ∷ [] = sole_client s.clients online agree name old.issuer mine in
+    (subst (λ cs. Reaches s old.issuer cs (user name)) here (reaches_user s old.issuer online name agree), is ∙ ap (addressed old) here)

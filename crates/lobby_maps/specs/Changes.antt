@@ -13,8 +13,8 @@ use Rattle.lobby_post.specs.Mail.{bytes_for, parted}
 use Rattle.lobby_post.specs.Posted.{Posted}
 use Rattle.lobby_maps.specs.declared.change.Change.{Change}
 use Rattle.lobby_maps.specs.declared.change.Change.TheVariants.{Nothing, Status, LogIn, LogOut, Join, Leave, InBattles}
-use Rattle.lobby_battles.specs.declared.seats.Seat.{Seat}
-use Rattle.lobby_battles.specs.Seats.{user_in, where_some, without_one}
+use Rattle.lobby_battles.specs.declared.online_users.OnlineUser.{OnlineUser}
+use Rattle.lobby_battles.specs.OnlineUsers.{plain_user, where_some, without_one}
 use Rattle.lobby_battles.specs.Battles.{battles_after as changed_battles, last_after as last_battle_after, left_own}
 use Rattle.lobby_battles.specs.Battles.{unasked_own, CanChange, LeavesAll}
 
@@ -23,7 +23,7 @@ clients_after clients c Nothing = clients
 clients_after clients c (Status name status) = clients
 clients_after clients c (Join channel name) = clients
 clients_after clients c (Leave channel name) = clients
-clients_after clients c (LogIn name seat) = set_phase clients c (In name)
+clients_after clients c (LogIn name online_user) = set_phase clients c (In name)
 clients_after clients c (InBattles change) = clients
 clients_after clients c (LogOut name asks battle stays) = parted clients c stays
 
@@ -32,14 +32,14 @@ users_after users Nothing = users
 users_after users (Join channel name) = users
 users_after users (Leave channel name) = users
 users_after users (Status name status) = change_name users name (user_with status)
-users_after users (LogIn name seat) = put_name users name (user_in seat)
+users_after users (LogIn name online_user) = put_name users name (plain_user online_user)
 users_after users (InBattles change) = users
 users_after users (LogOut name asks battle stays) = where_some without_one name users
 
 abbrev pub channels_after : Channels → Change → Channels
 channels_after channels Nothing = channels
 channels_after channels (Status name status) = channels
-channels_after channels (LogIn name seat) = channels
+channels_after channels (LogIn name online_user) = channels
 channels_after channels (Join channel name) = joined channel name channels
 channels_after channels (Leave channel name) = left channel name channels
 channels_after channels (InBattles change) = channels
@@ -48,7 +48,7 @@ channels_after channels (LogOut name asks battle stays) = where_some all_left na
 abbrev pub battles_after : ByNumber Battle → Change → ByNumber Battle
 battles_after battles Nothing = battles
 battles_after battles (Status name status) = battles
-battles_after battles (LogIn name seat) = battles
+battles_after battles (LogIn name online_user) = battles
 battles_after battles (Join channel name) = battles
 battles_after battles (Leave channel name) = battles
 battles_after battles (InBattles change) = changed_battles change battles
@@ -57,7 +57,7 @@ battles_after battles (LogOut name asks battle stays) = left_own name battle (un
 abbrev pub last_after : ℕ → Change → ℕ
 last_after last Nothing = last
 last_after last (Status name status) = last
-last_after last (LogIn name seat) = last
+last_after last (LogIn name online_user) = last
 last_after last (Join channel name) = last
 last_after last (Leave channel name) = last
 last_after last (InBattles change) = last_battle_after change last
@@ -74,13 +74,13 @@ changed s c change = record s {
 }
 
 -- One who logs in hears, is not logged in, and takes a name that nobody has
-pub record IsFresh (clients : ByNumber Client) (users : ByName User) (c : ℕ) (name : List ℕ) (seat : Seat) : Type 0
-  where
-    pub hears : is_live_client (at_number clients c) ≡ true
-    pub nobody : name_at clients c ≡ None
-    pub free : at_name users name ≡ None
-    pub here : seat.client.number ≡ c
-    pub outside : seat.battle ≡ None
+pub record IsFresh (clients : ByNumber Client) (users : ByName User) (c : ℕ) (name : List ℕ)
+    (online_user : OnlineUser) : Type 0 where
+  pub hears : is_live_client (at_number clients c) ≡ true
+  pub nobody : name_at clients c ≡ None
+  pub free : at_name users name ≡ None
+  pub here : online_user.client.number ≡ c
+  pub outside : online_user.battle ≡ None
 
 abbrev pub first_of : {A B : Type 0} → Option (A × B) → Option A
 first_of None = None
@@ -90,7 +90,7 @@ first_of (Some e) = Some e.0
 abbrev pub CanBe : ByNumber Client → ByName User → Channels → ByNumber Battle → ℕ → Change → Type 0
 CanBe clients users channels battles c Nothing = Unit {0}
 CanBe clients users channels battles c (Status name status) = Unit {0}
-CanBe clients users channels battles c (LogIn name seat) = IsFresh clients users c name seat
+CanBe clients users channels battles c (LogIn name online_user) = IsFresh clients users c name online_user
 CanBe clients users channels battles c (Join channel name) = is_among name (names_in channels channel) ≡ false
 CanBe clients users channels battles c (Leave channel name) = Unit {0}
 CanBe clients users channels battles c (InBattles change) = CanChange clients battles c change

@@ -1,19 +1,19 @@
--- How the seats of users, the clients and the battles fit together, and at which clients users are.
+-- How online users, the clients and the battles fit together, and at which clients users are.
 use Rattle.std.specs.Prelude.{◌≡◌, ℕ, ◌≤◌, Bool, true, false, not, filter, List, [], ◌∷◌, flat_map, Option, Some}
 use Rattle.std.specs.Prelude.{None, is_some}
 use Rattle.line_words.specs.Table.{ByName, ByNumber, at_number, at_name, same_number}
 use Rattle.lobby_model.specs.State.{State, Client, Battle}
 use Rattle.lobby_model.specs.Outcome.{user}
-use Rattle.lobby_battles.specs.declared.seats.Seat.{Seat}
-use Rattle.lobby_battles.specs.Battles.{AreSeated}
-use Rattle.lobby_battles.specs.Seats.{Agree, IsListed, client_in}
+use Rattle.lobby_battles.specs.declared.online_users.OnlineUser.{OnlineUser}
+use Rattle.lobby_battles.specs.Battles.{KnowTheirBattles}
+use Rattle.lobby_battles.specs.OnlineUsers.{Agree, IsListed, client_in}
 use Rattle.lobby_post.specs.Posted.{Posted, Reaches, addressed, has_number}
 use Rattle.lobby_post.specs.Crowd.{Crowd, Known}
 use Rattle.lobby_post.specs.Mail.{AreDue, plain}
 
 -- the clients at which the users of these names are
-abbrev pub clients_of : ByName Seat → List (List ℕ) → List ℕ
-clients_of seats names = flat_map (λ name. client_in (at_name seats name)) names
+abbrev pub clients_of : ByName OnlineUser → List (List ℕ) → List ℕ
+clients_of online names = flat_map (λ name. client_in (at_name online name)) names
 
 abbrev pub is_some_number : Option ℕ → ℕ → Bool
 is_some_number None c = false
@@ -29,15 +29,15 @@ Numbered last clients = (c : ℕ) → is_some (at_number clients c) ≡ true →
 
 -- How the maps fit together: outboxes have one limit and wait for nothing, users and clients agree, numbers are given
 -- once, it is known who waits, and users sit in their battles, or where they ask
-pub record Fit (limit : ℕ) (clients : Crowd) (seats : ByName Seat) (numbers : List ℕ) (last : ℕ)
+pub record Fit (limit : ℕ) (clients : Crowd) (online : ByName OnlineUser) (numbers : List ℕ) (last : ℕ)
     (battles : ByNumber Battle) (last_battle : ℕ) : Type 0 where
   pub limited : clients.limit ≡ limit
   pub rest : AreDue [] clients.slots
-  pub agree : Agree (plain clients.slots) seats
+  pub agree : Agree (plain clients.slots) online
   pub listed : IsListed numbers (plain clients.slots)
   pub numbered : Numbered last (plain clients.slots)
   pub known : Known clients last
-  pub seated : AreSeated battles seats
+  pub knowing : KnowTheirBattles battles online
   pub counted : last_battle ≤ 2147483647
 
 -- the issuer alone, who is the user of a name, got the lines that were being told

@@ -14,13 +14,13 @@ ghost use Rattle.lobby_model.specs.State.{name_of};
 ghost use Rattle.lobby_model.specs.Outcome.{tell, everyone, everyone_but, others, user, users};
 ghost use Rattle.lobby_post.specs.Mail.{plain};
 ghost use Rattle.lobby_post.specs.Posted.{Sends, Told, addressed, but_issuer, has_number};
-ghost use Rattle.lobby_battles.specs.Seats.{Agree, client_in};
+ghost use Rattle.lobby_battles.specs.OnlineUsers.{Agree, client_in};
 ghost use Rattle.lobby_maps.specs.Fit.{IsOwn, clients_of, is_some_number, numbers_but};
 
 use crate::maps::Maps;
 use battle_room::{Asker, Member, Room};
 use line_words::NameBuf;
-use lobby_battles::Seats;
+use lobby_battles::OnlineUsers;
 use lobby_post::{ClientKey, Clients, Post};
 use reply_kinds::Reply;
 use std::alloc::AllocError;
@@ -31,7 +31,7 @@ impl Maps {
         ensures { OnOk result (Told self.now.plain post.old post.new (tell everyone (line.entry ∷ []) ∷ [])) }
     {
         post.write(line)?;
-        address_all(&self.seats, &self.clients, post)?;
+        address_all(&self.online, &self.clients, post)?;
         Ok(())
     }
 
@@ -40,7 +40,7 @@ impl Maps {
         ensures { OnOk result (Told self.now.plain post.old post.new (tell others (line.entry ∷ []) ∷ [])) }
     {
         post.write_for_others(line)?;
-        address_all(&self.seats, &self.clients, post)?;
+        address_all(&self.online, &self.clients, post)?;
         Ok(())
     }
 
@@ -56,7 +56,7 @@ impl Maps {
             ∷ [])) (line.entry ∷ []) ∷ [])) }
     {
         post.write(line)?;
-        address_all_but(&self.seats, &self.clients, first, second, post)?;
+        address_all_but(&self.online, &self.clients, first, second, post)?;
         Ok(())
     }
 
@@ -65,7 +65,7 @@ impl Maps {
         ensures { OnOk result (Told self.now.plain post.old post.new (tell (user name.now) (line.entry ∷ []) ∷ [])) }
     {
         post.write(line)?;
-        address_user(&self.seats, name, post)?;
+        address_user(&self.online, name, post)?;
         Ok(())
     }
 
@@ -82,7 +82,7 @@ impl Maps {
     {
         post.write(line)?;
         let key = self.clients.likely_key_of(client);
-        address_near(&self.seats, &self.clients, me, key, post)?;
+        address_near(&self.online, &self.clients, me, key, post)?;
         Ok(())
     }
 
@@ -93,7 +93,7 @@ impl Maps {
         ensures own { OnOk result (name_of self.now.plain post.old.issuer ≡ Some name.now
             → IsOwn self.now.plain post.old post.new name.now) }
     {
-        address_user(&self.seats, name, post)?;
+        address_user(&self.online, name, post)?;
         Ok(())
     }
 
@@ -109,7 +109,7 @@ impl Maps {
         ensures { OnOk result (Told self.now.plain post.old post.new (tell (users names.now) (line.entry ∷ []) ∷ [])) }
     {
         post.write(line)?;
-        address_names(&self.seats, &self.clients, names, keys, post)?;
+        address_names(&self.online, &self.clients, names, keys, post)?;
         Ok(())
     }
 
@@ -126,7 +126,7 @@ impl Maps {
             (tell (but_issuer (users names.now)) (line.entry ∷ []) ∷ [])) }
     {
         post.write_for_others(line)?;
-        address_names(&self.seats, &self.clients, names, keys, post)?;
+        address_names(&self.online, &self.clients, names, keys, post)?;
         Ok(())
     }
 
@@ -141,7 +141,7 @@ impl Maps {
             (tell (users (member_names room.now)) (line.entry ∷ []) ∷ [])) }
     {
         post.write(line)?;
-        address_members(&self.seats, &self.clients, room.members(), post)?;
+        address_members(&self.online, &self.clients, room.members(), post)?;
         Ok(())
     }
 
@@ -156,7 +156,7 @@ impl Maps {
             (tell (but_issuer (users (member_names room.now))) (line.entry ∷ []) ∷ [])) }
     {
         post.write_for_others(line)?;
-        address_members(&self.seats, &self.clients, room.members(), post)?;
+        address_members(&self.online, &self.clients, room.members(), post)?;
         Ok(())
     }
 
@@ -171,7 +171,7 @@ impl Maps {
             (tell (users (asker_names room.now)) (line.entry ∷ []) ∷ [])) }
     {
         post.write(line)?;
-        address_askers(&self.seats, room.askers(), post)?;
+        address_askers(&self.online, room.askers(), post)?;
         Ok(())
     }
 
@@ -186,18 +186,22 @@ impl Maps {
             (tell (but_issuer (users (asker_names room.now))) (line.entry ∷ []) ∷ [])) }
     {
         post.write_for_others(line)?;
-        address_askers(&self.seats, room.askers(), post)?;
+        address_askers(&self.online, room.askers(), post)?;
         Ok(())
     }
 }
 
 /// All who are logged in get the line that is told.
-pub fn address_all(seats: &Seats, clients: &Clients, post: &mut Post) -> Result<(), AllocError>
-    ensures rising { IsStrictlySortedBy nat_cmp seats.now.clients.keys }
-    ensures sent { OnOk result (post.new ≡ addressed post.old seats.now.clients.keys) }
+pub fn address_all(
+    online: &OnlineUsers,
+    clients: &Clients,
+    post: &mut Post,
+) -> Result<(), AllocError>
+    ensures rising { IsStrictlySortedBy nat_cmp online.now.clients.keys }
+    ensures sent { OnOk result (post.new ≡ addressed post.old online.now.clients.keys) }
 {
     // Its contract says that the numbers rise, which callers want however this ends.
-    let numbers = seats.clients.iter();
+    let numbers = online.clients.iter();
     for client in numbers {
         post.address_key(clients.likely_key_of(*client))?;
     }
@@ -206,20 +210,20 @@ pub fn address_all(seats: &Seats, clients: &Clients, post: &mut Post) -> Result<
 
 /// All who are logged in get the line that is told, but the users of two names.
 fn address_all_but(
-    seats: &Seats,
+    online: &OnlineUsers,
     clients: &Clients,
     first: &NameBuf,
     second: &NameBuf,
     post: &mut Post,
 ) -> Result<(), AllocError>
-    ensures rising { IsStrictlySortedBy nat_cmp seats.now.clients.keys }
+    ensures rising { IsStrictlySortedBy nat_cmp online.now.clients.keys }
     ensures sent { OnOk result (post.new
-        ≡ addressed post.old (numbers_but (client_in (at_name seats.now.users.entries first.now)
-        ++ client_in (at_name seats.now.users.entries second.now)) seats.now.clients.keys)) }
+        ≡ addressed post.old (numbers_but (client_in (at_name online.now.users.entries first.now)
+        ++ client_in (at_name online.now.users.entries second.now)) online.now.clients.keys)) }
 {
-    let first = client_of(seats, first);
-    let second = client_of(seats, second);
-    let numbers = seats.clients.iter();
+    let first = client_of(online, first);
+    let second = client_of(online, second);
+    let numbers = online.clients.iter();
     for client in numbers {
         if !is_number(first, *client) && !is_number(second, *client) {
             post.address_key(clients.likely_key_of(*client))?;
@@ -229,11 +233,11 @@ fn address_all_but(
 }
 
 /// The user of this name, where there is one, gets the line that is told.
-fn address_user(seats: &Seats, name: &NameBuf, post: &mut Post) -> Result<(), AllocError>
-    ensures { OnOk result (post.new ≡ addressed post.old (client_in (at_name seats.now.users.entries name.now))) }
+fn address_user(online: &OnlineUsers, name: &NameBuf, post: &mut Post) -> Result<(), AllocError>
+    ensures { OnOk result (post.new ≡ addressed post.old (client_in (at_name online.now.users.entries name.now))) }
 {
-    if let Some(seat) = seats.users.get(name) {
-        post.address_key(seat.client)?;
+    if let Some(online_user) = online.users.get(name) {
+        post.address_key(online_user.client)?;
     }
     Ok(())
 }
@@ -241,76 +245,76 @@ fn address_user(seats: &Seats, name: &NameBuf, post: &mut Post) -> Result<(), Al
 /// The user of this name, where there is one, gets the line that is told. The key is likely that of
 /// its client: another one costs searches, and no more.
 fn address_near(
-    seats: &Seats,
+    online: &OnlineUsers,
     clients: &Clients,
     name: &NameBuf,
     key: ClientKey,
     post: &mut Post,
 ) -> Result<(), AllocError>
-    requires { Agree (plain clients.now.slots) seats.now.users.entries }
-    ensures { OnOk result (post.new ≡ addressed post.old (client_in (at_name seats.now.users.entries name.now))) }
+    requires { Agree (plain clients.now.slots) online.now.users.entries }
+    ensures { OnOk result (post.new ≡ addressed post.old (client_in (at_name online.now.users.entries name.now))) }
 {
     if clients.is_named_at(key, name) {
         post.address_key(key)?;
     } else {
-        address_user(seats, name, post)?;
+        address_user(online, name, post)?;
     }
     Ok(())
 }
 
 /// The users of these names get the line that is told. The keys are likely those of their clients.
 fn address_names(
-    seats: &Seats,
+    online: &OnlineUsers,
     clients: &Clients,
     names: &[NameBuf],
     keys: &[ClientKey],
     post: &mut Post,
 ) -> Result<(), AllocError>
-    requires { Agree (plain clients.now.slots) seats.now.users.entries }
-    ensures { OnOk result (post.new ≡ addressed post.old (clients_of seats.now.users.entries names.now)) }
+    requires { Agree (plain clients.now.slots) online.now.users.entries }
+    ensures { OnOk result (post.new ≡ addressed post.old (clients_of online.now.users.entries names.now)) }
 {
     for i in 0..names.len() {
         let key = keys.get(i).copied().unwrap_or(ClientKey::nobody());
-        address_near(seats, clients, &names[i], key, post)?;
+        address_near(online, clients, &names[i], key, post)?;
     }
     Ok(())
 }
 
-/// The members of a battle get the line that is told. Their marks are likely the keys of their
+/// The members of a battle get the line that is told. Their keys are likely those of their
 /// clients.
 fn address_members(
-    seats: &Seats,
+    online: &OnlineUsers,
     clients: &Clients,
     members: &[Member<ClientKey>],
     post: &mut Post,
 ) -> Result<(), AllocError>
-    requires { Agree (plain clients.now.slots) seats.now.users.entries }
-    ensures { OnOk result (post.new ≡ addressed post.old (clients_of seats.now.users.entries (map (λ m.
+    requires { Agree (plain clients.now.slots) online.now.users.entries }
+    ensures { OnOk result (post.new ≡ addressed post.old (clients_of online.now.users.entries (map (λ m.
         m.name) members.now))) }
 {
     for member in members {
-        address_near(seats, clients, member.name(), member.mark(), post)?;
+        address_near(online, clients, member.name(), member.key(), post)?;
     }
     Ok(())
 }
 
 /// Those who ask to join a battle get the line that is told.
-fn address_askers(seats: &Seats, askers: &[Asker], post: &mut Post) -> Result<(), AllocError>
-    ensures { OnOk result (post.new ≡ addressed post.old (clients_of seats.now.users.entries (map (λ a.
+fn address_askers(online: &OnlineUsers, askers: &[Asker], post: &mut Post) -> Result<(), AllocError>
+    ensures { OnOk result (post.new ≡ addressed post.old (clients_of online.now.users.entries (map (λ a.
         a.name) askers.now))) }
 {
     for asker in askers {
-        address_user(seats, asker.name(), post)?;
+        address_user(online, asker.name(), post)?;
     }
     Ok(())
 }
 
 /// The number of the client at which a user is, where somebody of this name is logged in.
-fn client_of(seats: &Seats, name: &NameBuf) -> Option<u64>
-    ensures { (c : ℕ) → is_some_number result c ≡ has_number (client_in (at_name seats.now.users.entries name.now)) c }
+fn client_of(online: &OnlineUsers, name: &NameBuf) -> Option<u64>
+    ensures { (c : ℕ) → is_some_number result c ≡ has_number (client_in (at_name online.now.users.entries name.now)) c }
 {
-    match seats.users.get(name) {
-        Some(seat) => Some(seat.client.number),
+    match online.users.get(name) {
+        Some(online_user) => Some(online_user.client.number),
         None => None,
     }
 }

@@ -5,11 +5,11 @@ ghost use Rattle.line_words.specs.Table.{put_name};
 ghost use Rattle.reply_kinds.specs.declared.Reply.TheVariants as reply;
 ghost use Rattle.lobby_model.specs.Battles.{battle_lines};
 ghost use Rattle.lobby_post.specs.Posted.{with_own};
-ghost use Rattle.lobby_battles.specs.Seats.{user_in, users_of};
+ghost use Rattle.lobby_battles.specs.OnlineUsers.{plain_user, users_of};
 ghost use Rattle.lobby_maps.specs.BurstParts.{guest_lines, part_of, parts_of};
 
 use line_words::{NameBuf, TextBuf};
-use lobby_battles::{Battle, Battles, Seat};
+use lobby_battles::{Battle, Battles, OnlineUser};
 use lobby_post::Post;
 use reply_kinds::Held::Lent;
 use reply_kinds::{BattleNumber, Country, HeldText, HeldWord, Name, Reply, Sentence, Text, Wide};
@@ -84,14 +84,14 @@ pub enum Part {
 /// Writes one part of what is told of each user, and of one more, in the order of names. That one
 /// takes the place of a user of its name.
 pub fn write_parts(
-    users: &BTreeMap<NameBuf, Seat>,
+    users: &BTreeMap<NameBuf, OnlineUser>,
     name: &NameBuf,
-    seat: &Seat,
+    online_user: &OnlineUser,
     part: Part,
     post: &mut Post,
 ) -> Result<(), AllocError>
     ensures { OnOk result (post.new ≡ with_own post.old
-        (parts_of part (put_name (users_of users.now.entries) name.now (user_in seat.now)))) }
+        (parts_of part (put_name (users_of users.now.entries) name.now (plain_user online_user.now)))) }
 {
     let mut is_told = false;
     for (user, other) in users {
@@ -101,7 +101,7 @@ pub fn write_parts(
             name.cmp(user)
         };
         if order.is_le() {
-            write_part(name, seat, part, post)?;
+            write_part(name, online_user, part, post)?;
             is_told = true;
         }
         if order.is_ne() {
@@ -109,7 +109,7 @@ pub fn write_parts(
         }
     }
     if !is_told {
-        write_part(name, seat, part, post)?;
+        write_part(name, online_user, part, post)?;
     }
     Ok(())
 }
@@ -117,22 +117,27 @@ pub fn write_parts(
 /// Writes one part of what is told of a user. It stands in the loop over all users, so that a line is
 /// printed from where its parts lie and is not handed over first.
 #[inline(always)]
-fn write_part(name: &NameBuf, seat: &Seat, part: Part, post: &mut Post) -> Result<(), AllocError>
-    ensures { OnOk result (post.new ≡ with_own post.old (part_of part name.now (user_in seat.now))) }
+fn write_part(
+    name: &NameBuf,
+    online_user: &OnlineUser,
+    part: Part,
+    post: &mut Post,
+) -> Result<(), AllocError>
+    ensures { OnOk result (post.new ≡ with_own post.old (part_of part name.now (plain_user online_user.now))) }
 {
     match part {
         Part::Presence => {
             post.write_own(Reply::AddUser {
                 user: Name(Lent(name)),
-                country: Country(HeldWord::Lent(seat.country.as_word())),
-                cpu: Wide(seat.cpu),
-                account: seat.account,
+                country: Country(HeldWord::Lent(online_user.country.as_word())),
+                cpu: Wide(online_user.cpu),
+                account: online_user.account,
             })
         }
-        Part::Status if seat.status.word() != 0 => {
+        Part::Status if online_user.status.word() != 0 => {
             post.write_own(Reply::ClientStatus {
                 user: Name(Lent(name)),
-                status: seat.status.word(),
+                status: online_user.status.word(),
             })
         }
         Part::Status => Ok(()),

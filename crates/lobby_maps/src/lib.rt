@@ -19,6 +19,6 @@ mod room_lines;
 pub use burst_parts::{Part, write_battles, write_motd, write_parts};
 pub use change::Change;
 pub use greeting::greeting_of;
-pub use lobby_battles::{Battle, BattleChange, LAST_NUMBER, NO_PASSWORD, RoomChange, Seat};
+pub use lobby_battles::{Battle, BattleChange, LAST_NUMBER, NO_PASSWORD, OnlineUser, RoomChange};
 pub use maps::{Admission, Maps};
 pub use room_lines::{Recipient, write_line, write_room};

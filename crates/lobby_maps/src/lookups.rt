@@ -65,24 +65,24 @@ impl Maps {
         self.clients.key_of(client)
     }
 
-    /// The key of a user's client, for a mark.
+    /// The key of a user's client, for a listing.
     pub fn user_key(&self, name: &NameBuf) -> ClientKey {
-        self.seats.key_of(name)
+        self.online.key_of(name)
     }
 
     /// Whether somebody of this name is logged in.
     pub fn has_user(&self, name: &NameBuf) -> bool
         ensures { result ≡ is_some (at_name self.now.plain.users name.now) }
     {
-        self.seats.users.contains_key(name)
+        self.online.users.contains_key(name)
     }
 
     /// The status of the user of this name; 0 where nobody of it is logged in.
     pub fn status_of(&self, name: &NameBuf) -> UserStatus
         ensures { result ≡ status_in (at_name self.now.plain.users name.now) }
     {
-        match self.seats.users.get(name) {
-            Some(seat) => seat.status,
+        match self.online.users.get(name) {
+            Some(online_user) => online_user.status,
             None => UserStatus::of_account(0, false, false),
         }
     }
@@ -91,7 +91,7 @@ impl Maps {
     pub fn is_authorising(&self, name: &NameBuf) -> bool
         ensures { result ≡ is_authorising (at_name self.now.plain.users name.now) }
     {
-        self.seats.is_authorising(name)
+        self.online.is_authorising(name)
     }
 
     /// The battle of this number.

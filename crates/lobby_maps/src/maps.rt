@@ -22,7 +22,7 @@ use account_book::AccountBook;
 use battle_room::HashSeed;
 use channel_book::ChannelBook;
 use line_words::NameBuf;
-use lobby_battles::{Battle, Battles, Seats};
+use lobby_battles::{Battle, Battles, OnlineUsers};
 use lobby_model::{CLIENT_LIMIT, Settings};
 use lobby_post::{ClientKey, Clients, Drained, Post, Wakes};
 use std::alloc::{AllocError, Global};
@@ -49,7 +49,7 @@ pub struct Maps {
     // what each client is greeted with, printed once
     greeting_line: Vec<u8>,
     pub(crate) clients: Clients,
-    pub(crate) seats: Seats,
+    pub(crate) online: OnlineUsers,
     pub(crate) channels: ChannelBook<ClientKey>,
     pub(crate) battles: Battles,
     last_client: u64,
@@ -65,7 +65,7 @@ impl Drop for Maps {
             accounts,
             greeting_line,
             clients,
-            seats,
+            online,
             channels,
             battles,
             last_client: _,
@@ -74,7 +74,7 @@ impl Drop for Maps {
         drop(accounts);
         drop(greeting_line);
         drop(clients);
-        drop(seats);
+        drop(online);
         drop(channels);
         drop(battles);
     }
@@ -86,20 +86,20 @@ impl Model for Maps {
     ghost use Rattle.lobby_model.specs.Sessions.{greeting};
     ghost use Rattle.lobby_post.specs.Mail.{plain};
     ghost use Rattle.lobby_maps.specs.Dirty.{lists_of};
-    ghost use Rattle.lobby_battles.specs.Seats.{users_of};
+    ghost use Rattle.lobby_battles.specs.OnlineUsers.{users_of};
     ghost use Rattle.lobby_maps.specs.Fit.{Fit};
     ghost use Rattle.lobby_maps.specs.Shown.{lobby_of, Shown};
 
     ghost Value = { Shown };
 
     ghost view = { λ m. record {
-      plain = lobby_of m.settings m.accounts (plain m.clients.slots) (users_of m.seats.users.entries) m.channels
+      plain = lobby_of m.settings m.accounts (plain m.clients.slots) (users_of m.online.users.entries) m.channels
           m.battles.by_number.entries m.last_client m.battles.last;
       dirty = lists_of m.clients;
     } };
 
     ghost invariant = { λ m. (m.greeting_line.items ≡ printed_line None (greeting m.settings))
-        × Fit m.settings.outbox_limit m.clients m.seats.users.entries m.seats.clients.keys m.last_client
+        × Fit m.settings.outbox_limit m.clients m.online.users.entries m.online.clients.keys m.last_client
         m.battles.by_number.entries m.battles.last };
 }
 
@@ -123,8 +123,8 @@ impl Maps {
             settings,
             accounts,
             greeting_line,
-            seats: Seats::new(alloc),
-            channels: ChannelBook::with_marks(alloc),
+            online: OnlineUsers::new(alloc),
+            channels: ChannelBook::with_keys(alloc),
             battles: Battles::new(alloc),
             last_client: 0,
         })
@@ -199,7 +199,7 @@ impl Maps {
         }
         let done = apply(
             &mut self.clients,
-            &mut self.seats,
+            &mut self.online,
             &mut self.channels,
             &mut self.battles,
             client,
@@ -225,7 +225,7 @@ impl Maps {
     {
         // Its contract says that the numbers rise, which the proof wants however this ends.
         let _ = self.battles.by_number.len();
-        let number = self.seats.battle_of(name)?;
+        let number = self.online.battle_of(name)?;
         let battle = self.battles.with_member(number, name)?;
         Some((number, battle))
     }
@@ -239,7 +239,7 @@ impl Maps {
     {
         // Its contract says that the numbers rise, which the proof wants however this ends.
         let _ = self.battles.by_number.len();
-        let number = self.seats.battle_of(name)?;
+        let number = self.online.battle_of(name)?;
         if self.battles.asks_at(number, name) {
             Some(number)
         } else {

@@ -2,14 +2,17 @@
 //! was sent. The script comes on standard input, and what it shows goes to standard output.
 #![tactic(auto)]
 
+mod record;
+
 use lobby_script::{PlayFault, play};
 use std::io;
 use std::io::BufWriter;
 use std::process::ExitCode;
-use std::rt::Env;
+use std::rt::{Env, Files};
 
 const HELP: &str = "\
 usage: lobby_play < SCRIPT
+       lobby_play --record FOLDER < QUESTIONS
 
 Plays a script of connects, bytes and disconnects against a lobby, and shows what each client
 is sent. The script comes on standard input, a step a line:
@@ -23,10 +26,17 @@ is sent. The script comes on standard input, a step a line:
   shut N                                it disconnects
   show N                                shows the lines put for it since it was last shown
 
+With --record it plays what a server recorded in FOLDER, whose clients have the numbers that it
+gave them. The questions come on standard input, one a line:
+
+  until PLACE                           plays the events before this place, and no more
+  show N                                shows the lines put for client N since it was last shown
+  view N                                shows what client N knows by all that was put for it
+
 --help     prints this
 --version  prints the version
 
-Exit status: 0 played, 1 a bad step, 2 the input failed or is too long, 4 no memory";
+Exit status: 0 played, 1 a bad step, record or question, 2 an input failed or is too long, 4 no memory";
 
 fn play_streams<R: Input + Print + AllocGlobal>(rt: &R) -> Result<(), PlayFault> {
     let mut writer = BufWriter::new(rt.alloc(), io::writer(rt)).map_err(|_| PlayFault::Memory)?;
@@ -34,7 +44,10 @@ fn play_streams<R: Input + Print + AllocGlobal>(rt: &R) -> Result<(), PlayFault>
 }
 
 /// The status: 0, or that of the fault, which is told on standard error.
-fn run<R: Env + Input + Print + Eprint + AllocGlobal>(rt: &R) -> u8 {
+fn run<R: Env + Files + Input + Print + Eprint + AllocGlobal>(rt: &R) -> u8 {
+    if let Some(folder) = record::folder_asked(rt) {
+        return record::play_folder(rt, folder.as_str());
+    }
     let played = match program_help::answers(rt, "lobby_play", HELP) {
         Ok(true) => Ok(()),
         Ok(false) => play_streams(rt),

@@ -1,4 +1,4 @@
--- A client is changed, where it is there, and its mark and what is due to it stay: so does what is known of all clients.
+-- A client is changed, where it is there, and its listing and what is due to it stay: so does what is known of all clients.
 use Rattle.std.proofs.Common.{◌≡◌, ℕ, List, refl, sym, ap, ◌∙◌, true, map}
 use Rattle.std.specs.Prelude.{Some, None}
 use Rattle.std.specs.List.Sorted.{IsStrictlySortedBy}
@@ -9,9 +9,9 @@ use Rattle.line_words.specs.Table.{ByNumber, change_number}
 use Rattle.lobby_model.specs.State.{Client, is_live}
 use Rattle.lobby_post.specs.declared.clients.Clients.TheInside.{Inside}
 use Rattle.lobby_post.specs.Mail.{Mailbox, AreDue, AreReady, HaveLimit, IsReady, plain}
-use Rattle.lobby_post.specs.Dirty.{marks_of}
+use Rattle.lobby_post.specs.Dirty.{listings_of}
 use Rattle.lobby_post.proofs.Crowds.{written_through, due_kept, plain_changed, plain_unchanged}
-use Rattle.lobby_post.proofs.Listed.{marks_kept}
+use Rattle.lobby_post.proofs.Listed.{listings_kept}
 use Rattle.lobby_post.proofs.Rounds.{ready_next, limits_next}
 
 pub record IsChanged (c : ℕ) (f : Client → Client) (old new : Inside) : Type 0 where
@@ -20,7 +20,7 @@ pub record IsChanged (c : ℕ) (f : Client → Client) (old new : Inside) : Type
   pub ready : AreReady old.slots → AreReady new.slots
   pub limit : new.limit ≡ old.limit
   pub limits : HaveLimit old.limit old.slots → HaveLimit new.limit new.slots
-  pub marks : marks_of new.slots ≡ marks_of old.slots
+  pub listings : listings_of new.slots ≡ listings_of old.slots
   pub dirty : new.dirty ≡ old.dirty
 
 module _ (c : ℕ) (f : Client → Client) (old : Inside) where
@@ -36,7 +36,7 @@ module _ (c : ℕ) (f : Client → Client) (old : Inside) where
         ready = λ all. ready_next c x w old.slots _ after found (ready (all c x (sym found))) all;
         limit = refl;
         limits = λ all. limits_next old.limit c x w old.slots _ after found limit all;
-        marks = marks_kept c x w old.slots _ refl found (ap (λ (k : Client). k.home) client ∙ stays x.client) listed;
+        listings = listings_kept c x w old.slots _ refl found (ap (λ (k : Client). k.home) client ∙ stays x.client) listed;
         dirty = refl;
       }
 
@@ -48,6 +48,6 @@ module _ (c : ℕ) (f : Client → Client) (old : Inside) where
     ready = λ all. all;
     limit = refl;
     limits = λ all. all;
-    marks = refl;
+    listings = refl;
     dirty = refl;
   }

@@ -5,7 +5,7 @@ use Rattle.std.proofs.Math.Nat.{eq-or-lt_of_le}
 use Rattle.std.proofs.Math.Seq.{get_or-append_seam}
 use Rattle.line_words.specs.Table.{ByNumber}
 use Rattle.lobby_post.specs.Mail.{Line}
-use Rattle.lobby_post.specs.Dirty.{Roomy, Mark, AreKnown, line_of, none_waits, times}
+use Rattle.lobby_post.specs.Dirty.{Roomy, Listing, AreKnown, line_of, none_waits, times}
 use Rattle.lobby_post.specs.Crowd.{for_homes, line_at, lines_of}
 
 pub length-homes : {X : Type 0} (f : ℕ → X) (n : ℕ) → length (for_homes n f) ≡ n
@@ -36,31 +36,31 @@ unfolding lines_of
 same_lines lists others same = λ i. for_homes 64 (λ h. same h i)
 
 -- what is known of the lines of the 64 holds of others that are the same there
-module _ (marks : ByNumber Mark) (lines others : ℕ → Line) (same : (h : ℕ) → h < 64 → others h ≡ lines h) (last : ℕ) where
-  pub known_same : AreKnown marks lines last → AreKnown marks others last
+module _ (listings : ByNumber Listing) (lines others : ℕ → Line) (same : (h : ℕ) → h < 64 → others h ≡ lines h) (last : ℕ) where
+  pub known_same : AreKnown listings lines last → AreKnown listings others last
   known_same k = record {
     homes = k.homes;
-    marked = λ c mark found. ap (λ (l : Line). times c l.waiting) (same mark.home (k.homes c mark found)) ∙ k.marked c mark found;
+    placed = λ c listing found. ap (λ (l : Line). times c l.waiting) (same listing.home (k.homes c listing found)) ∙ k.placed c listing found;
     counted = λ h within. ap (λ (l : Line). l.idle) (same h within) ∙ k.counted h within;
     settled = λ h within. ap (λ (l : Line). l.fresh) (same h within) ∙ k.settled h within;
     numbered = k.numbered;
     past = λ h c within stands. k.past h c within (subst (λ (l : Line). 0 < times c l.waiting) (same h within) stands);
   }
 
-pub known_of_lists : (marks : ByNumber Mark) (lists : List Roomy) (last : ℕ) → AreKnown marks (line_at (lines_of lists)) last → AreKnown marks (line_of lists) last
-known_of_lists marks lists last =
-    known_same marks (line_at (lines_of lists)) (line_of lists) (λ h within. sym (line-at lists h within)) last
+pub known_of_lists : (listings : ByNumber Listing) (lists : List Roomy) (last : ℕ) → AreKnown listings (line_at (lines_of lists)) last → AreKnown listings (line_of lists) last
+known_of_lists listings lists last =
+    known_same listings (line_at (lines_of lists)) (line_of lists) (λ h within. sym (line-at lists h within)) last
 
-pub known_of_lines : (marks : ByNumber Mark) (lists : List Roomy) (last : ℕ) → AreKnown marks (line_of lists) last → AreKnown marks (line_at (lines_of lists)) last
-known_of_lines marks lists last = known_same marks (line_of lists) (line_at (lines_of lists)) (line-at lists) last
+pub known_of_lines : (listings : ByNumber Listing) (lists : List Roomy) (last : ℕ) → AreKnown listings (line_of lists) last → AreKnown listings (line_at (lines_of lists)) last
+known_of_lines listings lists last = known_same listings (line_of lists) (line_at (lines_of lists)) (line-at lists) last
 
 -- where there is no client
 pub known_of_nobody : AreKnown [] (line_at (lines_of [])) 0
 known_of_nobody = known_of_lines [] [] 0 (record {
-  homes = λ c mark found. absurd (cc);
-  marked = λ c mark found. absurd (cc);
+  homes = λ c listing found. absurd (cc);
+  placed = λ c listing found. absurd (cc);
   counted = λ h within. refl;
   settled = λ h within. refl;
-  numbered = λ c mark found. absurd (cc);
+  numbered = λ c listing found. absurd (cc);
   past = λ h c within stood. absurd (omega (arith, stood));
 })

@@ -11,18 +11,18 @@ use Rattle.std.specs.List.Sorted.{IsStrictlySortedBy}
 use Rattle.std.specs.Option.{option_map, unwrap_or}
 use Rattle.line_words.specs.Table.{ByNumber}
 use Rattle.lobby_post.specs.Mail.{Mailbox}
-use Rattle.lobby_post.specs.Dirty.{idle_of, is_idle, mark_of, marks_of}
+use Rattle.lobby_post.specs.Dirty.{idle_of, is_idle, listing_of, listings_of}
 
 module _ (home : ℕ) where
   -- 1 for a client of the worker that stands in no list, else 0
   abbrev pub idle_one : Mailbox → ℕ
-  idle_one held = if is_idle home (mark_of held) then 1 else 0
+  idle_one held = if is_idle home (listing_of held) then 1 else 0
 
-  pub idle-sum : (es : ByNumber Mailbox) → idle_of home (marks_of es) ≡ sum_by idle_one (values_of es)
+  pub idle-sum : (es : ByNumber Mailbox) → idle_of home (listings_of es) ≡ sum_by idle_one (values_of es)
   idle-sum [] = refl
   idle-sum (e ∷ es) =
       let rest = idle-sum es in
-      elim (is_idle home (mark_of e.1)) as (λ b. length (cond b ((e.0, mark_of e.1) ∷ filter (λ m. is_idle home m.1) (marks_of es)) (filter (λ m. is_idle home m.1) (marks_of es)))
+      elim (is_idle home (listing_of e.1)) as (λ b. length (cond b ((e.0, listing_of e.1) ∷ filter (λ m. is_idle home m.1) (listings_of es)) (filter (λ m. is_idle home m.1) (listings_of es)))
       ≡ (if b then 1 else 0) + sum_by idle_one (values_of es)) [
         | true ↦ omega (arith, rest)
         | false ↦ omega (arith, rest)
@@ -30,7 +30,7 @@ module _ (home : ℕ) where
 
   module _ (c : ℕ) (es fs : ByNumber Mailbox) where
     pub idle_written : (x w : Mailbox) → fs ≡ set_value (is_at (nat_cmp c)) es w → lookup (is_at (nat_cmp c)) es ≡ Some x
-        → idle_of home (marks_of fs) + idle_one x ≡ idle_of home (marks_of es) + idle_one w
+        → idle_of home (listings_of fs) + idle_one x ≡ idle_of home (listings_of es) + idle_one w
     idle_written x w is found =
         let old = idle-sum es in
         let new = idle-sum fs in
@@ -40,7 +40,7 @@ module _ (home : ℕ) where
 
 module _ (home c : ℕ) (es fs : ByNumber Mailbox) where
   pub idle_inserted : (w : Mailbox) → fs ≡ insert_entry nat_cmp es c w → IsStrictlySortedBy nat_cmp (map (λ e. e.0) es) → lookup (is_at (nat_cmp c)) es ≡ None
-      → idle_of home (marks_of fs) ≡ idle_of home (marks_of es) + idle_one home w
+      → idle_of home (listings_of fs) ≡ idle_of home (listings_of es) + idle_one home w
   idle_inserted w is ordered none =
       let old = idle-sum home es in
       let new = idle-sum home fs in
@@ -50,7 +50,7 @@ module _ (home c : ℕ) (es fs : ByNumber Mailbox) where
       omega (arith, old, new, sums, nothing, same)
 
   pub idle_removed : (x : Mailbox) → fs ≡ remove_entry (is_at (nat_cmp c)) es → lookup (is_at (nat_cmp c)) es ≡ Some x
-      → idle_of home (marks_of fs) + idle_one home x ≡ idle_of home (marks_of es)
+      → idle_of home (listings_of fs) + idle_one home x ≡ idle_of home (listings_of es)
   idle_removed x is found =
       let old = idle-sum home es in
       let new = idle-sum home fs in
@@ -60,7 +60,7 @@ module _ (home c : ℕ) (es fs : ByNumber Mailbox) where
       omega (arith, old, new, sums, one, same)
 
   pub idle_unremoved : fs ≡ remove_entry (is_at (nat_cmp c)) es → lookup (is_at (nat_cmp c)) es ≡ None
-      → idle_of home (marks_of fs) ≡ idle_of home (marks_of es)
+      → idle_of home (listings_of fs) ≡ idle_of home (listings_of es)
   idle_unremoved is none =
       let old = idle-sum home es in
       let new = idle-sum home fs in

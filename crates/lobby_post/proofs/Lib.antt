@@ -5,7 +5,7 @@ pub mod Listed
 pub mod Idle
 pub mod Counts
 pub mod Crowds
-pub mod Marks
+pub mod Listings
 pub mod Cells
 pub mod Parcels
 pub mod Dues

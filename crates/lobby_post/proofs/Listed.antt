@@ -1,4 +1,4 @@
--- Numbers left out of lists, and the marks of clients.
+-- Numbers left out of lists, and the listings of clients.
 use Rattle.std.proofs.Common.{◌≡◌, ℕ, ◌+◌, ◌≤◌, List, [], ◌∷◌, refl, sym, ap, subst, ◌∙◌, Bool, true, false, T, cond, filter, arith, nat_eq, eq-eqb}
 use Rattle.std.proofs.Math.Facts.{eqb_yes}
 use Rattle.std.specs.Prelude.{Some, if◌then◌else◌}
@@ -11,7 +11,7 @@ use Rattle.lobby_model.specs.State.{Client}
 use Rattle.lobby_model.proofs.Delivered.{same_number_is, same_itself}
 use Rattle.lobby_model.proofs.Splits.{lookup-values, set_value-values}
 use Rattle.lobby_post.specs.Mail.{Mailbox}
-use Rattle.lobby_post.specs.Dirty.{IsTrimmed, times, mark_of, marks_of}
+use Rattle.lobby_post.specs.Dirty.{IsTrimmed, times, listing_of, listings_of}
 use Rattle.lobby_post.proofs.Filtered.{filter-twice}
 
 pub same_is_eq : (a b : ℕ) → nat_eq a b ≡ same_number a b
@@ -24,17 +24,17 @@ same_is_eq a b =
       ] refl
     ] refl
 
--- a slot written with its mark as it was
-pub marks_kept : (c : ℕ) (x w : Mailbox) (es fs : ByNumber Mailbox) → fs ≡ set_value (is_at (nat_cmp c)) es w → Some x ≡ lookup (is_at (nat_cmp c)) es
-    → w.client.home ≡ x.client.home → w.listed ≡ x.listed → marks_of fs ≡ marks_of es
-marks_kept c x w es fs is found home listed =
-    ap marks_of is ∙ set_value-values mark_of (is_at (nat_cmp c)) w es
-    ∙ ap (set_value (is_at (nat_cmp c)) (marks_of es)) (λ i. record { home = home i; listed = listed i })
-    ∙ set_value_same (is_at (nat_cmp c)) (marks_of es) (mark_of x) (lookup-values mark_of (is_at (nat_cmp c)) x es (sym found))
+-- a slot written with its listing as it was
+pub listings_kept : (c : ℕ) (x w : Mailbox) (es fs : ByNumber Mailbox) → fs ≡ set_value (is_at (nat_cmp c)) es w → Some x ≡ lookup (is_at (nat_cmp c)) es
+    → w.client.home ≡ x.client.home → w.listed ≡ x.listed → listings_of fs ≡ listings_of es
+listings_kept c x w es fs is found home listed =
+    ap listings_of is ∙ set_value-values listing_of (is_at (nat_cmp c)) w es
+    ∙ ap (set_value (is_at (nat_cmp c)) (listings_of es)) (λ i. record { home = home i; listed = listed i })
+    ∙ set_value_same (is_at (nat_cmp c)) (listings_of es) (listing_of x) (lookup-values listing_of (is_at (nat_cmp c)) x es (sym found))
 
-pub marks_same : (c : ℕ) (x w : Mailbox) (es fs : ByNumber Mailbox) → fs ≡ set_value (is_at (nat_cmp c)) es w → Some x ≡ lookup (is_at (nat_cmp c)) es
-    → w.client ≡ x.client → w.listed ≡ x.listed → marks_of fs ≡ marks_of es
-marks_same c x w es fs is found same listed = marks_kept c x w es fs is found (ap (λ (client : Client). client.home) same) listed
+pub listings_same : (c : ℕ) (x w : Mailbox) (es fs : ByNumber Mailbox) → fs ≡ set_value (is_at (nat_cmp c)) es w → Some x ≡ lookup (is_at (nat_cmp c)) es
+    → w.client ≡ x.client → w.listed ≡ x.listed → listings_of fs ≡ listings_of es
+listings_same c x w es fs is found same listed = listings_kept c x w es fs is found (ap (λ (client : Client). client.home) same) listed
 
 none_more : (c d n : ℕ) → same_number c d ≡ false → n ≡ (if same_number c d then 1 else 0) + n
 none_more c d n other =

@@ -14,9 +14,9 @@ use Rattle.lobby_model.proofs.Delivered.{same_number_is}
 use Rattle.lobby_model.proofs.Splits.{same_either_way}
 use Rattle.lobby_model.specs.Touched.{is_touched}
 use Rattle.lobby_post.specs.Mail.{Mailbox, Line}
-use Rattle.lobby_post.specs.Dirty.{AllMarks, Mark, news, news_of, pushed, times}
+use Rattle.lobby_post.specs.Dirty.{AllListings, Listing, news, news_of, pushed, times}
 use Rattle.lobby_post.proofs.Counts.{times-append}
-use Rattle.lobby_post.proofs.Marks.{IsPut}
+use Rattle.lobby_post.proofs.Listings.{IsPut}
 use Rattle.lobby_post.proofs.Parcels.{other_piece}
 
 -- how often a number stands in a list that is ordered otherwise
@@ -30,15 +30,15 @@ times_sum c (d ∷ xs) =
 pub times_ordered : (c : ℕ) (xs ys : List ℕ) → IsPermutation xs ys → times c ys ≡ times c xs
 times_ordered c xs ys same = times_sum c ys ∙ sum_by-IsPermutation _ xs ys same ∙ sym (times_sum c xs)
 
--- what holds of each mark, where one was put in place of another
-pub marks_next : (P Q : ℕ → Mark → Type 0) (c : ℕ) (old new : Mark) (m n : ByNumber Mark) → lookup (is_at (nat_cmp c)) m ≡ Some old → IsPut c new m n
-    → ((q : ℕ) (mark : Mark) → same_number q c ≡ false → P q mark → Q q mark) → (P c old → Q c new) → AllMarks P m → AllMarks Q n
-marks_next P Q c old new m n found put others own all = λ q mark f.
-    elim (same_number c q) as (λ b. same_number c q ≡ b → cond b (Some new) (lookup (is_at (nat_cmp q)) m) ≡ Some mark → Q q mark) [
+-- what holds of each listing, where one was put in place of another
+pub listings_next : (P Q : ℕ → Listing → Type 0) (c : ℕ) (old new : Listing) (m n : ByNumber Listing) → lookup (is_at (nat_cmp c)) m ≡ Some old → IsPut c new m n
+    → ((q : ℕ) (listing : Listing) → same_number q c ≡ false → P q listing → Q q listing) → (P c old → Q c new) → AllListings P m → AllListings Q n
+listings_next P Q c old new m n found put others own all = λ q listing f.
+    elim (same_number c q) as (λ b. same_number c q ≡ b → cond b (Some new) (lookup (is_at (nat_cmp q)) m) ≡ Some listing → Q q listing) [
       | true ↦ λ t g.
-          let is : new ≡ mark = cc in
-          subst (λ k. Q k mark) (same_number_is c q t) (subst (λ (k : Mark). Q c k) is (own (all c old found)))
-      | false ↦ λ t g. others q mark (same_either_way q c ∙ t) (all q mark g)
+          let is : new ≡ listing = cc in
+          subst (λ k. Q k listing) (same_number_is c q t) (subst (λ (k : Listing). Q c k) is (own (all c old found)))
+      | false ↦ λ t g. others q listing (same_either_way q c ∙ t) (all q listing g)
     ] refl (sym (put q) ∙ f)
 
 -- One piece put is counted once: now, or with the rest

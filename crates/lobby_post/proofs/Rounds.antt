@@ -271,11 +271,11 @@ module _ (text : List ℕ) (pieces : List Delivery) (i : ℕ) (within : i < leng
     wakes_all : (limit home : ℕ) (ps : ByNumber (List ℕ)) (m : ByNumber Client) → wakes_home x.limit ps m home ≡ wakes_home limit ps m home
     wakes_all limit home ps m = λ j. list_any (λ e. same_number e.1.home home && touched_alike x.limit limit (bytes_for ps e.0) e.1 j) m
 
-    pub wakes_next : (limit wakes mark both home : ℕ) → has_home both home ≡ (has_home wakes home || has_home mark home) → has_home mark home
+    pub wakes_next : (limit wakes listing both home : ℕ) → has_home both home ≡ (has_home wakes home || has_home listing home) → has_home listing home
         ≡ wakes_one x.limit home bytes x.client
         → (has_home both home || wakes_home limit rest (plain fs) home) ≡ (has_home wakes home || wakes_home limit (pieces_of text (drop i pieces)) (plain es) home)
-    wakes_next limit wakes mark both home joined marked =
-        (λ j. (joined ∙ ap (λ b. has_home wakes home || b) marked) j || (sym (wakes_all limit home rest (plain fs)) ∙ ap (λ m. wakes_home x.limit rest m home) plain_is) j)
+    wakes_next limit wakes listing both home joined placed =
+        (λ j. (joined ∙ ap (λ b. has_home wakes home || b) placed) j || (sym (wakes_all limit home rest (plain fs)) ∙ ap (λ m. wakes_home x.limit rest m home) plain_is) j)
         ∙ or_first (has_home wakes home) _ _ _ (wakes_step piece.key.number bytes rest x.limit x.due.bytes x.client w.client made
         (plain es) ordered_plain found_plain due_now home)
         ∙ ap (λ b. has_home wakes home || b) (ap (λ ps. wakes_home x.limit ps (plain es) home) (sym pieces_is) ∙ wakes_all limit home _ (plain es))

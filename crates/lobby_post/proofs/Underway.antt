@@ -11,32 +11,32 @@ use Rattle.lobby_model.proofs.Splits.{same_either_way, lookup-values}
 use Rattle.lobby_model.specs.Touched.{is_touched}
 use Rattle.lobby_model.proofs.Quiet.{touched_is}
 use Rattle.lobby_post.specs.Mail.{Mailbox, Line, PutsFirst, bytes_for}
-use Rattle.lobby_post.specs.Dirty.{AllMarks, AreKnown, IsNewly, IsSettled, idle_of, mark_of, marks_of, news, news_of, pushed, stands, times}
+use Rattle.lobby_post.specs.Dirty.{AllListings, AreKnown, IsNewly, IsSettled, idle_of, listing_of, listings_of, news, news_of, pushed, stands, times}
 use Rattle.lobby_post.proofs.Counts.{times-append}
 use Rattle.lobby_post.proofs.Crowds.{IsWritten, written_through}
 use Rattle.lobby_post.proofs.Idle.{idle_one, idle_written}
-use Rattle.lobby_post.proofs.Marks.{IsPut, marks_put, stands_same}
+use Rattle.lobby_post.proofs.Listings.{IsPut, listings_put, stands_same}
 use Rattle.lobby_post.proofs.Parcels.{own_piece, touched_alike, wake_first}
-use Rattle.lobby_post.proofs.Newly.{IsNext, less_idle, marks_next, more_listed, never_both, news_other, news_past, next_line, no_news, once, times_ordered}
+use Rattle.lobby_post.proofs.Newly.{IsNext, less_idle, listings_next, more_listed, never_both, news_other, news_past, next_line, no_news, once, times_ordered}
 use Rattle.lobby_model.proofs.Versions.{and_first}
 
 -- what holds between two pieces: all that are told, and those that are left
 pub record IsUnderway (whole rest : ByNumber (List ℕ)) (first slots : ByNumber Mailbox) (before lines : ℕ → Line) (last : ℕ) : Type 0 where
-  pub homes : AllMarks (λ c mark. mark.home < 64) (marks_of slots)
-  pub marked : AllMarks (λ c mark. times c (lines mark.home).waiting + times c (lines mark.home).fresh ≡ (if mark.listed then 1 else 0)) (marks_of slots)
-  pub counted : (home : ℕ) → home < 64 → (lines home).idle ≡ idle_of home (marks_of slots)
+  pub homes : AllListings (λ c listing. listing.home < 64) (listings_of slots)
+  pub placed : AllListings (λ c listing. times c (lines listing.home).waiting + times c (lines listing.home).fresh ≡ (if listing.listed then 1 else 0)) (listings_of slots)
+  pub counted : (home : ℕ) → home < 64 → (lines home).idle ≡ idle_of home (listings_of slots)
   pub waiting : (home : ℕ) → home < 64 → (lines home).waiting ≡ (before home).waiting
   pub exact : (home c : ℕ) → home < 64 → times c (lines home).fresh + news rest slots home c ≡ news whole first home c
-  pub numbered : AllMarks (λ c mark. c ≤ last) (marks_of slots)
+  pub numbered : AllListings (λ c listing. c ≤ last) (listings_of slots)
 
 -- before the first piece
-pub underway_first : (whole : ByNumber (List ℕ)) (first : ByNumber Mailbox) (before : ℕ → Line) (last : ℕ) → AreKnown (marks_of first) before last
+pub underway_first : (whole : ByNumber (List ℕ)) (first : ByNumber Mailbox) (before : ℕ → Line) (last : ℕ) → AreKnown (listings_of first) before last
     → IsUnderway whole whole first first before before last
 underway_first whole first before last known = record {
   homes = known.homes;
-  marked = λ c mark found.
-      let none = ap (times c) (known.settled mark.home (known.homes c mark found)) in
-      let one = known.marked c mark found in
+  placed = λ c listing found.
+      let none = ap (times c) (known.settled listing.home (known.homes c listing found)) in
+      let one = known.placed c listing found in
       omega (arith, none, one);
   counted = known.counted;
   waiting = λ home small. refl;
@@ -56,18 +56,18 @@ module _ (c : ℕ) (bytes : List ℕ) (x w : Mailbox) (es : ByNumber Mailbox) (f
   same_home : w.client.home ≡ x.client.home
   same_home = made.home
 
-  mark_found : lookup (is_at (nat_cmp c)) (marks_of es) ≡ Some (mark_of x)
-  mark_found = lookup-values mark_of (is_at (nat_cmp c)) x es (sym found)
+  listing_found : lookup (is_at (nat_cmp c)) (listings_of es) ≡ Some (listing_of x)
+  listing_found = lookup-values listing_of (is_at (nat_cmp c)) x es (sym found)
 
   written : IsWritten c w es es_next
   written = written_through c x w es found
 
-  put_mark : IsPut c (mark_of w) (marks_of es) (marks_of es_next)
-  put_mark = marks_put c w es es_next written
+  put_listing : IsPut c (listing_of w) (listings_of es) (listings_of es_next)
+  put_listing = listings_put c w es es_next written
 
   -- each client stays at its worker
-  pub stands_next : (home q : ℕ) → stands (marks_of es_next) home q ≡ stands (marks_of es) home q
-  stands_next home q = stands_same c (marks_of es) (marks_of es_next) home (mark_of x) (mark_of w) mark_found same_home put_mark q
+  pub stands_next : (home q : ℕ) → stands (listings_of es_next) home q ≡ stands (listings_of es) home q
+  stands_next home q = stands_same c (listings_of es) (listings_of es_next) home (listing_of x) (listing_of w) listing_found same_home put_listing q
 
   module _ (rest : ByNumber (List ℕ)) where
     -- the news of the piece's own client
@@ -100,7 +100,7 @@ module _ (c : ℕ) (bytes : List ℕ) (x w : Mailbox) (es : ByNumber Mailbox) (f
     module _ (whole : ByNumber (List ℕ)) (first : ByNumber Mailbox) (before lines lines_next : ℕ → Line) (last : ℕ)
         (put : (h : ℕ) → lines_next h ≡ (if now_fresh h then pushed c (lines h) else lines h))
         (now : IsUnderway whole ((c, bytes) ∷ rest) first es before lines last) where
-      idle_next : (home : ℕ) → idle_of home (marks_of es_next) + (if now_fresh home then 1 else 0) ≡ idle_of home (marks_of es)
+      idle_next : (home : ℕ) → idle_of home (listings_of es_next) + (if now_fresh home then 1 else 0) ≡ idle_of home (listings_of es)
       idle_next home =
           let both = idle_written home c es es_next x w refl (sym found) in
           let own : idle_one home w ≡ (if same_number x.client.home home && not (x.listed || is_touched x.limit bytes x.client) then 1 else 0) =
@@ -109,7 +109,7 @@ module _ (c : ℕ) (bytes : List ℕ) (x w : Mailbox) (es : ByNumber Mailbox) (f
           omega (arith, both, own, less)
 
       small_home : x.client.home < 64
-      small_home = now.homes c (mark_of x) mark_found
+      small_home = now.homes c (listing_of x) listing_found
 
       has_idle : (home : ℕ) → now_fresh home ≡ true → 1 ≤ (lines home).idle
       has_idle home t =
@@ -125,16 +125,16 @@ module _ (c : ℕ) (bytes : List ℕ) (x w : Mailbox) (es : ByNumber Mailbox) (f
 
       pub underway_next : IsUnderway whole rest first es_next before lines_next last
       underway_next = record {
-        homes = marks_next (λ q mark. mark.home < 64) (λ q mark. mark.home < 64) c (mark_of x) (mark_of w) (marks_of es) (marks_of es_next) mark_found put_mark
-            (λ q mark apart h. h) (λ h. subst (λ n. n < 64) (sym same_home) h) now.homes;
-        marked = marks_next (λ q mark. times q (lines mark.home).waiting + times q (lines mark.home).fresh ≡ (if mark.listed then 1 else 0))
-            (λ q mark. times q (lines_next mark.home).waiting + times q (lines_next mark.home).fresh ≡ (if mark.listed then 1 else 0))
-            c (mark_of x) (mark_of w) (marks_of es) (marks_of es_next) mark_found put_mark
-            (λ q mark apart h.
-            let n = next mark.home in
+        homes = listings_next (λ q listing. listing.home < 64) (λ q listing. listing.home < 64) c (listing_of x) (listing_of w) (listings_of es) (listings_of es_next) listing_found put_listing
+            (λ q listing apart h. h) (λ h. subst (λ n. n < 64) (sym same_home) h) now.homes;
+        placed = listings_next (λ q listing. times q (lines listing.home).waiting + times q (lines listing.home).fresh ≡ (if listing.listed then 1 else 0))
+            (λ q listing. times q (lines_next listing.home).waiting + times q (lines_next listing.home).fresh ≡ (if listing.listed then 1 else 0))
+            c (listing_of x) (listing_of w) (listings_of es) (listings_of es_next) listing_found put_listing
+            (λ q listing apart h.
+            let n = next listing.home in
             let a = ap (times q) n.waiting in
             let b = n.fresh q in
-            let none = never_both (now_fresh mark.home) (same_number q c) apart in
+            let none = never_both (now_fresh listing.home) (same_number q c) apart in
             omega (arith, h, a, b, none))
             (λ h.
             let n = next x.client.home in
@@ -146,7 +146,7 @@ module _ (c : ℕ) (bytes : List ℕ) (x w : Mailbox) (es : ByNumber Mailbox) (f
             let all : times c (lines_next x.client.home).waiting + times c (lines_next x.client.home).fresh
             ≡ (if x.listed || is_touched x.limit bytes x.client then 1 else 0) = omega (arith, h, a, b, own, more) in
             ap (λ k. times c (lines_next k).waiting + times c (lines_next k).fresh) same_home ∙ all ∙ ap (λ l. if l then 1 else 0) (sym listed))
-            now.marked;
+            now.placed;
         counted = λ home small.
             let n = (next home).idle in
             let i = idle_next home in
@@ -158,8 +158,8 @@ module _ (c : ℕ) (bytes : List ℕ) (x w : Mailbox) (es : ByNumber Mailbox) (f
             let k = news_next home q in
             let e = now.exact home q small in
             omega (arith, n, k, e);
-        numbered = marks_next (λ q mark. q ≤ last) (λ q mark. q ≤ last) c (mark_of x) (mark_of w) (marks_of es) (marks_of es_next) mark_found put_mark
-            (λ q mark apart h. h) (λ h. h) now.numbered;
+        numbered = listings_next (λ q listing. q ≤ last) (λ q listing. q ≤ last) c (listing_of x) (listing_of w) (listings_of es) (listings_of es_next) listing_found put_listing
+            (λ q listing apart h. h) (λ h. h) now.numbered;
       }
 
 -- a piece for nobody
@@ -167,7 +167,7 @@ pub underway_past : (c : ℕ) (bytes : List ℕ) (rest whole : ByNumber (List �
     → lookup (is_at (nat_cmp c)) es ≡ None → IsUnderway whole ((c, bytes) ∷ rest) first es before lines last → IsUnderway whole rest first es before lines last
 underway_past c bytes rest whole first es before lines last none now = record {
   homes = now.homes;
-  marked = now.marked;
+  placed = now.placed;
   counted = now.counted;
   waiting = now.waiting;
   exact = λ home q small. ap (λ n. times q (lines home).fresh + n) (news_past c bytes rest es none home q) ∙ now.exact home q small;
@@ -182,14 +182,14 @@ nothing_new es home q = elim (lookup (is_at (nat_cmp q)) es) as (λ o. news_of [
       ∙ no_news (same_number held.client.home home) held.listed (is_live held.client)
 ]
 
-news_numbered : (pieces : ByNumber (List ℕ)) (es : ByNumber Mailbox) (last home q : ℕ) → AllMarks (λ c mark. c ≤ last) (marks_of es) → 0 < news pieces es home q → q ≤ last
+news_numbered : (pieces : ByNumber (List ℕ)) (es : ByNumber Mailbox) (last home q : ℕ) → AllListings (λ c listing. c ≤ last) (listings_of es) → 0 < news pieces es home q → q ≤ last
 news_numbered pieces es last home q all more =
     elim (lookup (is_at (nat_cmp q)) es) as (λ o. lookup (is_at (nat_cmp q)) es ≡ o → 0 < news_of pieces home q o → q ≤ last) [
       | None ↦ λ e m. absurd (omega (arith, m))
-      | Some held ↦ λ e m. all q (mark_of held) (lookup-values mark_of (is_at (nat_cmp q)) held es e)
+      | Some held ↦ λ e m. all q (listing_of held) (lookup-values listing_of (is_at (nat_cmp q)) held es e)
     ] refl more
 
-module _ (whole : ByNumber (List ℕ)) (first es : ByNumber Mailbox) (before lines settled : ℕ → Line) (last : ℕ) (known : AreKnown (marks_of first) before last)
+module _ (whole : ByNumber (List ℕ)) (first es : ByNumber Mailbox) (before lines settled : ℕ → Line) (last : ℕ) (known : AreKnown (listings_of first) before last)
     (now : IsUnderway whole [] first es before lines last) (ends : (h : ℕ) → IsSettled (lines h) (settled h)) where
   exact_end : (home q : ℕ) → home < 64 → times q (ends home).behind ≡ news whole first home q
   exact_end home q small =
@@ -209,13 +209,13 @@ module _ (whole : ByNumber (List ℕ)) (first es : ByNumber Mailbox) (before lin
     exact = λ q. exact_end home q small;
   }
 
-  pub known_end : AreKnown (marks_of es) settled last
+  pub known_end : AreKnown (listings_of es) settled last
   known_end = record {
     homes = now.homes;
-    marked = λ q mark found.
-        let a = all_waiting mark.home q in
-        let b = times_ordered q (lines mark.home).fresh (ends mark.home).behind (ends mark.home).same in
-        let c = now.marked q mark found in
+    placed = λ q listing found.
+        let a = all_waiting listing.home q in
+        let b = times_ordered q (lines listing.home).fresh (ends listing.home).behind (ends listing.home).same in
+        let c = now.placed q listing found in
         omega (arith, a, b, c);
     counted = λ home small. (ends home).idle ∙ now.counted home small;
     settled = λ home small. (ends home).fresh;

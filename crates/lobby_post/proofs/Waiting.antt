@@ -11,18 +11,18 @@ use Rattle.line_words.specs.Table.{ByNumber, same_number}
 use Rattle.lobby_model.proofs.Delivered.{same_number_is, same_itself}
 use Rattle.lobby_model.proofs.Splits.{same_either_way}
 use Rattle.lobby_post.specs.Mail.{Line}
-use Rattle.lobby_post.specs.Dirty.{AreKnown, IsLeft, IsServed, Mark, added, idle_of, is_idle, is_of, stands, times}
+use Rattle.lobby_post.specs.Dirty.{AreKnown, IsLeft, IsServed, Listing, added, idle_of, is_idle, is_of, stands, times}
 use Rattle.lobby_post.specs.Crowd.{all_but_client}
 use Rattle.lobby_post.proofs.Counts.{filter_absent, filter_but, times-first, times-last, times-other, times-past}
-use Rattle.lobby_post.proofs.Marks.{IsPut, stands_put, stands_same, IsTaken, stands_taken}
+use Rattle.lobby_post.proofs.Listings.{IsPut, stands_put, stands_same, IsTaken, stands_taken}
 
 -- a number above the last is no client's, and stands in no line
-module _ (c : ℕ) (marks : ByNumber Mark) (lines : ℕ → Line) (last : ℕ) (above : last < c) (known : AreKnown marks lines last) where
-  pub absent : lookup (is_at (nat_cmp c)) marks ≡ None
+module _ (c : ℕ) (listings : ByNumber Listing) (lines : ℕ → Line) (last : ℕ) (above : last < c) (known : AreKnown listings lines last) where
+  pub absent : lookup (is_at (nat_cmp c)) listings ≡ None
   absent =
-      elim (lookup (is_at (nat_cmp c)) marks) as (λ o. lookup (is_at (nat_cmp c)) marks ≡ o → o ≡ None) [
+      elim (lookup (is_at (nat_cmp c)) listings) as (λ o. lookup (is_at (nat_cmp c)) listings ≡ o → o ≡ None) [
         | None ↦ λ t. refl
-        | Some mark ↦ λ t. let n = known.numbered c mark t in absurd (omega (arith, n, above))
+        | Some listing ↦ λ t. let n = known.numbered c listing t in absurd (omega (arith, n, above))
       ] refl
 
   pub never : (h : ℕ) → h < 64 → times c (lines h).waiting ≡ 0
@@ -34,7 +34,7 @@ module _ (c : ℕ) (marks : ByNumber Mark) (lines : ℕ → Line) (last : ℕ) (
       ]
 
 -- a client comes, and waits behind the others
-module _ (c home : ℕ) (old new : ByNumber Mark) (lines others : ℕ → Line) (last : ℕ) (above : last < c) (known : AreKnown old lines last)
+module _ (c home : ℕ) (old new : ByNumber Listing) (lines others : ℕ → Line) (last : ℕ) (above : last < c) (known : AreKnown old lines last)
     (put : IsPut c (record { home = home; listed = true }) old new)
     (behind : (h : ℕ) → others h ≡ (if same_number home h then added c (lines h) else lines h)) where
   times_came : home < 64 → times c (others home).waiting ≡ 1
@@ -64,28 +64,28 @@ module _ (c home : ℕ) (old new : ByNumber Mark) (lines others : ℕ → Line) 
 
   pub known_come : home < 64 → ((h : ℕ) → idle_of h new ≡ idle_of h old) → AreKnown new others c
   known_come within idle = record {
-    homes = λ q mark found.
-        elim (same_number c q) as (λ b. cond b (Some (record { home = home; listed = true })) (lookup (is_at (nat_cmp q)) old) ≡ Some mark → mark.home < 64) [
+    homes = λ q listing found.
+        elim (same_number c q) as (λ b. cond b (Some (record { home = home; listed = true })) (lookup (is_at (nat_cmp q)) old) ≡ Some listing → listing.home < 64) [
           | true ↦ λ t.
-              let is : ◌≡◌ {A = Mark} (record { home = home; listed = true }) mark = cc in
-              subst (λ (m : Mark). m.home < 64) is within
-          | false ↦ λ t. known.homes q mark t
+              let is : ◌≡◌ {A = Listing} (record { home = home; listed = true }) listing = cc in
+              subst (λ (m : Listing). m.home < 64) is within
+          | false ↦ λ t. known.homes q listing t
         ] (sym (put q) ∙ found);
-    marked = λ q mark found.
-        elim (same_number c q) as (λ b. same_number c q ≡ b → cond b (Some (record { home = home; listed = true })) (lookup (is_at (nat_cmp q)) old) ≡ Some mark
-        → times q (others mark.home).waiting ≡ (if mark.listed then 1 else 0)) [
+    placed = λ q listing found.
+        elim (same_number c q) as (λ b. same_number c q ≡ b → cond b (Some (record { home = home; listed = true })) (lookup (is_at (nat_cmp q)) old) ≡ Some listing
+        → times q (others listing.home).waiting ≡ (if listing.listed then 1 else 0)) [
           | true ↦ λ t f.
-              let is : ◌≡◌ {A = Mark} (record { home = home; listed = true }) mark = cc in
-              subst (λ (m : Mark). times q (others m.home).waiting ≡ (if m.listed then 1 else 0)) is
+              let is : ◌≡◌ {A = Listing} (record { home = home; listed = true }) listing = cc in
+              subst (λ (m : Listing). times q (others m.home).waiting ≡ (if m.listed then 1 else 0)) is
               (subst (λ k. times k (others home).waiting ≡ 1) (same_number_is c q t) (times_came within))
-          | false ↦ λ t f. times_others q mark.home t ∙ known.marked q mark f
+          | false ↦ λ t f. times_others q listing.home t ∙ known.placed q listing f
         ] refl (sym (put q) ∙ found);
     counted = λ h inside. same_idle h ∙ known.counted h inside ∙ sym (idle h);
     settled = λ h inside. same_fresh h ∙ known.settled h inside;
-    numbered = λ q mark found.
-        elim (same_number c q) as (λ b. same_number c q ≡ b → cond b (Some (record { home = home; listed = true })) (lookup (is_at (nat_cmp q)) old) ≡ Some mark → q ≤ c) [
+    numbered = λ q listing found.
+        elim (same_number c q) as (λ b. same_number c q ≡ b → cond b (Some (record { home = home; listed = true })) (lookup (is_at (nat_cmp q)) old) ≡ Some listing → q ≤ c) [
           | true ↦ λ t f. let same = same_number_is c q t in omega (arith, same)
-          | false ↦ λ t f. let n = known.numbered q mark f in omega (arith, n, above)
+          | false ↦ λ t f. let n = known.numbered q listing f in omega (arith, n, above)
         ] refl (sym (put q) ∙ found);
     past = λ h q inside stood.
         elim (same_number c q) as (λ b. same_number c q ≡ b → q ≤ c) [
@@ -117,14 +117,14 @@ module _ (c home : ℕ) (old new : ByNumber Mark) (lines others : ℕ → Line) 
       ] refl
 
 -- a client goes
-module _ (c : ℕ) (old new : ByNumber Mark) (taken : IsTaken c old new) where
+module _ (c : ℕ) (old new : ByNumber Listing) (taken : IsTaken c old new) where
   pub waits_without : (h : ℕ) (xs : List ℕ) → filter (stands new h) xs ≡ all_but_client c (filter (stands old h) xs)
   waits_without h xs = ap (λ p. filter p xs) (λ i q. stands_taken c old new h taken q i) ∙ filter_but (stands old h) c xs
 
-  -- a mark that is left was there before
-  left : (q : ℕ) (mark : Mark) → lookup (is_at (nat_cmp q)) new ≡ Some mark → lookup (is_at (nat_cmp q)) old ≡ Some mark
-  left q mark found =
-      elim (same_number c q) as (λ b. cond b None (lookup (is_at (nat_cmp q)) old) ≡ Some mark → lookup (is_at (nat_cmp q)) old ≡ Some mark) [
+  -- a listing that is left was there before
+  left : (q : ℕ) (listing : Listing) → lookup (is_at (nat_cmp q)) new ≡ Some listing → lookup (is_at (nat_cmp q)) old ≡ Some listing
+  left q listing found =
+      elim (same_number c q) as (λ b. cond b None (lookup (is_at (nat_cmp q)) old) ≡ Some listing → lookup (is_at (nat_cmp q)) old ≡ Some listing) [
         | true ↦ λ t. absurd (cc)
         | false ↦ λ t. t
       ] (sym (taken q) ∙ found)
@@ -132,15 +132,15 @@ module _ (c : ℕ) (old new : ByNumber Mark) (taken : IsTaken c old new) where
   -- one that was not there
   pub known_unmoved : (lines : ℕ → Line) (last : ℕ) → ((h : ℕ) → idle_of h new ≡ idle_of h old) → AreKnown old lines last → AreKnown new lines last
   known_unmoved lines last idle known = record {
-    homes = λ q mark found. known.homes q mark (left q mark found);
-    marked = λ q mark found. known.marked q mark (left q mark found);
+    homes = λ q listing found. known.homes q listing (left q listing found);
+    placed = λ q listing found. known.placed q listing (left q listing found);
     counted = λ h inside. known.counted h inside ∙ sym (idle h);
     settled = known.settled;
-    numbered = λ q mark found. known.numbered q mark (left q mark found);
+    numbered = λ q listing found. known.numbered q listing (left q listing found);
     past = known.past;
   }
 
-  module _ (gone : Mark) (lines others : ℕ → Line) (own : IsLeft gone.listed (stands new gone.home) (lines gone.home) (others gone.home))
+  module _ (gone : Listing) (lines others : ℕ → Line) (own : IsLeft gone.listed (stands new gone.home) (lines gone.home) (others gone.home))
       (rest : (h : ℕ) → same_number gone.home h ≡ false → others h ≡ lines h) where
     -- what holds of the own line and of lines that are the same holds of each
     each : (P : ℕ → Line → Line → Type 0) → P gone.home (lines gone.home) (others gone.home) → ((h : ℕ) → P h (lines h) (lines h)) → (h : ℕ) → P h (lines h) (others h)
@@ -171,11 +171,11 @@ module _ (c : ℕ) (old new : ByNumber Mark) (taken : IsTaken c old new) where
 
       pub known_gone : AreKnown new others last
       known_gone = record {
-        homes = λ q mark found. known.homes q mark (left q mark found);
-        marked = λ q mark found.
-            let there : stands new mark.home q ≡ true = ap (is_of mark.home) found ∙ same_itself mark.home in
-            each (λ k l m. stands new k q ≡ true → times q m.waiting ≡ times q l.waiting) (λ t. own.waiting.counted q t) (λ k t. refl) mark.home there
-            ∙ known.marked q mark (left q mark found);
+        homes = λ q listing found. known.homes q listing (left q listing found);
+        placed = λ q listing found.
+            let there : stands new listing.home q ≡ true = ap (is_of listing.home) found ∙ same_itself listing.home in
+            each (λ k l m. stands new k q ≡ true → times q m.waiting ≡ times q l.waiting) (λ t. own.waiting.counted q t) (λ k t. refl) listing.home there
+            ∙ known.placed q listing (left q listing found);
         counted = λ h inside.
             elim (same_number gone.home h) as (λ b. same_number gone.home h ≡ b → (others h).idle ≡ idle_of h new) [
               | true ↦ λ t. subst (λ k. k < 64 → (others k).idle ≡ idle_of k new) (same_number_is gone.home h t) idle_own inside
@@ -187,14 +187,14 @@ module _ (c : ℕ) (old new : ByNumber Mark) (taken : IsTaken c old new) where
                   omega (arith, none, i, k, e)
             ] refl;
         settled = λ h inside. each (λ k l m. m.fresh ≡ l.fresh) own.fresh (λ k. refl) h ∙ known.settled h inside;
-        numbered = λ q mark found. known.numbered q mark (left q mark found);
+        numbered = λ q listing found. known.numbered q listing (left q listing found);
         past = λ h q inside stood.
             let fewer = each (λ k l m. times q m.waiting ≤ times q l.waiting) (own.waiting.fewer q) (λ k. omega arith) h in
             known.past h q inside (omega (arith, fewer, stood));
       }
 
 -- the first of a worker's line is taken out
-module _ (home : ℕ) (old : ByNumber Mark) (lines others : ℕ → Line) (rest : (h : ℕ) → same_number home h ≡ false → others h ≡ lines h) where
+module _ (home : ℕ) (old : ByNumber Listing) (lines others : ℕ → Line) (rest : (h : ℕ) → same_number home h ≡ false → others h ≡ lines h) where
   unserved : (P : ℕ → Line → Line → Type 0) → P home (lines home) (others home) → ((h : ℕ) → P h (lines h) (lines h)) → (h : ℕ) → P h (lines h) (others h)
   unserved P here same h =
       elim (same_number home h) as (λ b. same_number home h ≡ b → P h (lines h) (others h)) [
@@ -213,10 +213,10 @@ module _ (home : ℕ) (old : ByNumber Mark) (lines others : ℕ → Line) (rest 
     pub known_nobody : (last : ℕ) → AreKnown old lines last → AreKnown old others last
     known_nobody last known = record {
       homes = known.homes;
-      marked = λ q mark found.
-          let there : stands old mark.home q ≡ true = ap (is_of mark.home) found ∙ same_itself mark.home in
-          unserved (λ k l m. stands old k q ≡ true → times q m.waiting ≡ times q l.waiting) (λ t. own.first.counted q t) (λ k t. refl) mark.home there
-          ∙ known.marked q mark found;
+      placed = λ q listing found.
+          let there : stands old listing.home q ≡ true = ap (is_of listing.home) found ∙ same_itself listing.home in
+          unserved (λ k l m. stands old k q ≡ true → times q m.waiting ≡ times q l.waiting) (λ t. own.first.counted q t) (λ k t. refl) listing.home there
+          ∙ known.placed q listing found;
       counted = λ h inside.
           unserved (λ k l m. m.idle ≡ l.idle) (let i = own.idle in omega (arith, i)) (λ k. refl) h ∙ known.counted h inside;
       settled = λ h inside. unserved (λ k l m. m.fresh ≡ l.fresh) own.fresh (λ k. refl) h ∙ known.settled h inside;
@@ -227,10 +227,10 @@ module _ (home : ℕ) (old : ByNumber Mark) (lines others : ℕ → Line) (rest 
     }
 
   -- it is c
-  module _ (c : ℕ) (mark : Mark) (new : ByNumber Mark) (own : IsServed (stands old home) (Some c) (lines home) (others home))
-      (found : lookup (is_at (nat_cmp c)) old ≡ Some mark) (put : IsPut c (record { home = mark.home; listed = false }) old new) where
+  module _ (c : ℕ) (listing : Listing) (new : ByNumber Listing) (own : IsServed (stands old home) (Some c) (lines home) (others home))
+      (found : lookup (is_at (nat_cmp c)) old ≡ Some listing) (put : IsPut c (record { home = listing.home; listed = false }) old new) where
     same_stands : (h : ℕ) → stands new h ≡ stands old h
-    same_stands h = λ i q. stands_same c old new h mark (record { home = mark.home; listed = false }) found refl put q i
+    same_stands h = λ i q. stands_same c old new h listing (record { home = listing.home; listed = false }) found refl put q i
 
     pub waits_first : filter (stands old home) (lines home).waiting ≡ c ∷ filter (stands new home) (others home).waiting
     waits_first =
@@ -241,33 +241,33 @@ module _ (home : ℕ) (old : ByNumber Mark) (lines others : ℕ → Line) (rest 
     pub waits_others : (h : ℕ) → same_number home h ≡ false → filter (stands new h) (others h).waiting ≡ filter (stands old h) (lines h).waiting
     waits_others h other = λ i. filter (same_stands h i) (rest h other i).waiting
 
-    here : mark.home ≡ home
-    here = same_number_is mark.home home (sym (ap (is_of home) found) ∙ own.passes)
+    here : listing.home ≡ home
+    here = same_number_is listing.home home (sym (ap (is_of home) found) ∙ own.passes)
 
-    taken_out : (last : ℕ) → AreKnown old lines last → home < 64 → (mark.listed ≡ true) × (times c (others home).waiting ≡ 0)
+    taken_out : (last : ℕ) → AreKnown old lines last → home < 64 → (listing.listed ≡ true) × (times c (others home).waiting ≡ 0)
     taken_out last known inside =
-        let marked = known.marked c mark found in
+        let placed = known.placed c listing found in
         let there = ap (λ h. times c (lines h).waiting) here in
         let counted = own.first.counted c own.passes in
         let one = times-first c (others home).waiting in
-        elim mark.listed as (λ b. times c (lines mark.home).waiting ≡ (if b then 1 else 0) → (b ≡ true) × (times c (others home).waiting ≡ 0)) [
+        elim listing.listed as (λ b. times c (lines listing.home).waiting ≡ (if b then 1 else 0) → (b ≡ true) × (times c (others home).waiting ≡ 0)) [
           | true ↦ λ m. (refl, omega (arith, m, there, counted, one))
           | false ↦ λ m. absurd (omega (arith, m, there, counted, one))
-        ] marked
+        ] placed
 
     module _ (last : ℕ) (inside : home < 64) (known : AreKnown old lines last)
-        (idle : (h : ℕ) → idle_of h new + (if is_idle h mark then 1 else 0) ≡ idle_of h old + (if is_idle h (record { home = mark.home; listed = false }) then 1 else 0)) where
-      busy : (h : ℕ) → ◌≡◌ {A = ℕ} (if is_idle h mark then 1 else 0) 0
+        (idle : (h : ℕ) → idle_of h new + (if is_idle h listing then 1 else 0) ≡ idle_of h old + (if is_idle h (record { home = listing.home; listed = false }) then 1 else 0)) where
+      busy : (h : ℕ) → ◌≡◌ {A = ℕ} (if is_idle h listing then 1 else 0) 0
       busy h =
-          ap (λ b. if same_number mark.home h && not b then 1 else 0) (taken_out last known inside).0
-          ∙ elim (same_number mark.home h) as (λ b. ◌≡◌ {A = ℕ} (if b && false then 1 else 0) 0) [ true ↦ refl | false ↦ refl ]
+          ap (λ b. if same_number listing.home h && not b then 1 else 0) (taken_out last known inside).0
+          ∙ elim (same_number listing.home h) as (λ b. ◌≡◌ {A = ℕ} (if b && false then 1 else 0) 0) [ true ↦ refl | false ↦ refl ]
 
       idle_served : home < 64 → (others home).idle ≡ idle_of home new
       idle_served within =
           let i = idle home in
           let k = known.counted home within in
           let b = busy home in
-          let one : ◌≡◌ {A = ℕ} (if is_idle home (record { home = mark.home; listed = false }) then 1 else 0) 1 =
+          let one : ◌≡◌ {A = ℕ} (if is_idle home (record { home = listing.home; listed = false }) then 1 else 0) 1 =
           ap (λ s. if s && true then 1 else 0) (ap (λ m. same_number m home) here ∙ same_itself home) in
           let o = own.idle in
           omega (arith, i, k, b, one, o)
@@ -277,7 +277,7 @@ module _ (home : ℕ) (old : ByNumber Mark) (lines others : ℕ → Line) (rest 
           let i = idle h in
           let k = known.counted h within in
           let b = busy h in
-          let none : ◌≡◌ {A = ℕ} (if is_idle h (record { home = mark.home; listed = false }) then 1 else 0) 0 =
+          let none : ◌≡◌ {A = ℕ} (if is_idle h (record { home = listing.home; listed = false }) then 1 else 0) 0 =
           ap (λ s. if s && true then 1 else 0) (ap (λ m. same_number m h) here ∙ other) in
           let e = ap (λ (l : Line). l.idle) (rest h other) in
           omega (arith, i, k, b, none, e)
@@ -285,25 +285,25 @@ module _ (home : ℕ) (old : ByNumber Mark) (lines others : ℕ → Line) (rest 
       pub known_first : AreKnown new others last
       known_first = record {
         homes = λ q m at.
-            elim (same_number c q) as (λ b. cond b (Some (record { home = mark.home; listed = false })) (lookup (is_at (nat_cmp q)) old) ≡ Some m → m.home < 64) [
+            elim (same_number c q) as (λ b. cond b (Some (record { home = listing.home; listed = false })) (lookup (is_at (nat_cmp q)) old) ≡ Some m → m.home < 64) [
               | true ↦ λ t.
-                  let is : ◌≡◌ {A = Mark} (record { home = mark.home; listed = false }) m = cc in
-                  subst (λ (k : Mark). k.home < 64) is (known.homes c mark found)
+                  let is : ◌≡◌ {A = Listing} (record { home = listing.home; listed = false }) m = cc in
+                  subst (λ (k : Listing). k.home < 64) is (known.homes c listing found)
               | false ↦ λ t. known.homes q m t
             ] (sym (put q) ∙ at);
-        marked = λ q m at.
-            elim (same_number c q) as (λ b. same_number c q ≡ b → cond b (Some (record { home = mark.home; listed = false })) (lookup (is_at (nat_cmp q)) old) ≡ Some m
+        placed = λ q m at.
+            elim (same_number c q) as (λ b. same_number c q ≡ b → cond b (Some (record { home = listing.home; listed = false })) (lookup (is_at (nat_cmp q)) old) ≡ Some m
             → times q (others m.home).waiting ≡ (if m.listed then 1 else 0)) [
               | true ↦ λ t f.
-                  let is : ◌≡◌ {A = Mark} (record { home = mark.home; listed = false }) m = cc in
-                  subst (λ (k : Mark). times q (others k.home).waiting ≡ (if k.listed then 1 else 0)) is
-                  (subst (λ k. times k (others mark.home).waiting ≡ 0) (same_number_is c q t)
+                  let is : ◌≡◌ {A = Listing} (record { home = listing.home; listed = false }) m = cc in
+                  subst (λ (k : Listing). times q (others k.home).waiting ≡ (if k.listed then 1 else 0)) is
+                  (subst (λ k. times k (others listing.home).waiting ≡ 0) (same_number_is c q t)
                   (ap (λ h. times c (others h).waiting) here ∙ (taken_out last known inside).1))
               | false ↦ λ t f.
                   let there : stands old m.home q ≡ true = ap (is_of m.home) f ∙ same_itself m.home in
                   unserved (λ k l n. stands old k q ≡ true → times q n.waiting ≡ times q l.waiting)
                   (λ passes. sym (times-past q c (others home).waiting (same_either_way q c ∙ t)) ∙ own.first.counted q passes) (λ k passes. refl) m.home there
-                  ∙ known.marked q m f
+                  ∙ known.placed q m f
             ] refl (sym (put q) ∙ at);
         counted = λ h within.
             elim (same_number home h) as (λ b. same_number home h ≡ b → (others h).idle ≡ idle_of h new) [
@@ -312,8 +312,8 @@ module _ (home : ℕ) (old : ByNumber Mark) (lines others : ℕ → Line) (rest 
             ] refl;
         settled = λ h within. unserved (λ k l m. m.fresh ≡ l.fresh) own.fresh (λ k. refl) h ∙ known.settled h within;
         numbered = λ q m at.
-            elim (same_number c q) as (λ b. same_number c q ≡ b → cond b (Some (record { home = mark.home; listed = false })) (lookup (is_at (nat_cmp q)) old) ≡ Some m → q ≤ last) [
-              | true ↦ λ t f. subst (λ k. k ≤ last) (same_number_is c q t) (known.numbered c mark found)
+            elim (same_number c q) as (λ b. same_number c q ≡ b → cond b (Some (record { home = listing.home; listed = false })) (lookup (is_at (nat_cmp q)) old) ≡ Some m → q ≤ last) [
+              | true ↦ λ t f. subst (λ k. k ≤ last) (same_number_is c q t) (known.numbered c listing found)
               | false ↦ λ t f. known.numbered q m f
             ] refl (sym (put q) ∙ at);
         past = λ h q within stood.

@@ -5,7 +5,7 @@ use Rattle.std.specs.BTreeMap.{is_at}
 use Rattle.std.specs.Map.{lookup}
 use Rattle.line_words.specs.Table.{ByNumber, same_number}
 use Rattle.lobby_post.specs.Mail.{Mailbox, Line}
-use Rattle.lobby_post.specs.Dirty.{Roomy, AreKnown, line_of, marks_of, none_waits, stands}
+use Rattle.lobby_post.specs.Dirty.{Roomy, AreKnown, line_of, listings_of, none_waits, stands}
 
 -- All clients by their numbers, the limit that each outbox has, and the lines of the 64 workers
 pub record Crowd : Type 0 where
@@ -27,11 +27,11 @@ line_at lines home = slice_index_or lines home none_waits
 
 -- what is known of all clients between two events
 abbrev pub Known : Crowd → ℕ → Type 0
-Known crowd last = AreKnown (marks_of crowd.slots) (line_at crowd.lines) last
+Known crowd last = AreKnown (listings_of crowd.slots) (line_at crowd.lines) last
 
 -- the clients of a worker that wait and are there
 abbrev pub waits : Crowd → ℕ → List ℕ
-waits crowd home = filter (stands (marks_of crowd.slots) home) (line_at crowd.lines home).waiting
+waits crowd home = filter (stands (listings_of crowd.slots) home) (line_at crowd.lines home).waiting
 
 -- those of a list but this one
 abbrev pub all_but_client : ℕ → List ℕ → List ℕ

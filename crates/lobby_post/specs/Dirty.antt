@@ -81,44 +81,45 @@ pub record IsServed (p : ℕ → Bool) (result : Option ℕ) (old new : Line) : 
   pub idle : new.idle ≡ length (option_to_list result) + old.idle
 
 -- what the lists say of a client: its worker, and whether it stands in that worker's list
-pub record Mark : Type 0 where
+pub record Listing : Type 0 where
   pub home : ℕ
   pub listed : Bool
 
-abbrev pub mark_of : Mailbox → Mark
-mark_of held = record { home = held.client.home; listed = held.listed }
+abbrev pub listing_of : Mailbox → Listing
+listing_of held = record { home = held.client.home; listed = held.listed }
 
-abbrev pub marks_of : ByNumber Mailbox → ByNumber Mark
-marks_of slots = map_values (λ c held. mark_of held) slots
+abbrev pub listings_of : ByNumber Mailbox → ByNumber Listing
+listings_of slots = map_values (λ c held. listing_of held) slots
 
 -- a client is there and this worker's
-abbrev pub is_of : ℕ → Option Mark → Bool
+abbrev pub is_of : ℕ → Option Listing → Bool
 is_of home None = false
-is_of home (Some mark) = same_number mark.home home
+is_of home (Some listing) = same_number listing.home home
 
-abbrev pub stands : ByNumber Mark → ℕ → ℕ → Bool
-stands marks home c = is_of home (lookup (is_at (nat_cmp c)) marks)
+abbrev pub stands : ByNumber Listing → ℕ → ℕ → Bool
+stands listings home c = is_of home (lookup (is_at (nat_cmp c)) listings)
 
 -- a client of this worker stands in no list
-abbrev pub is_idle : ℕ → Mark → Bool
-is_idle home mark = same_number mark.home home && not mark.listed
+abbrev pub is_idle : ℕ → Listing → Bool
+is_idle home listing = same_number listing.home home && not listing.listed
 
-abbrev pub idle_of : ℕ → ByNumber Mark → ℕ
-idle_of home marks = length (filter (λ e. is_idle home e.1) marks)
+abbrev pub idle_of : ℕ → ByNumber Listing → ℕ
+idle_of home listings = length (filter (λ e. is_idle home e.1) listings)
 
--- something holds of the mark of each client
-abbrev pub AllMarks : (ℕ → Mark → Type 0) → ByNumber Mark → Type 0
-AllMarks P marks = (c : ℕ) (mark : Mark) → lookup (is_at (nat_cmp c)) marks ≡ Some mark → P c mark
+-- something holds of the listing of each client
+abbrev pub AllListings : (ℕ → Listing → Type 0) → ByNumber Listing → Type 0
+AllListings P listings = (c : ℕ) (listing : Listing) → lookup (is_at (nat_cmp c)) listings ≡ Some listing → P c listing
 
--- Between two events: each client waits in its worker's line once where its mark says so, and else not; it is known how
--- many of a worker's clients do not; and no number beyond the last was given to a client or stands in a line, so that
--- none comes back
-pub record AreKnown (marks : ByNumber Mark) (lines : ℕ → Line) (last : ℕ) : Type 0 where
-  pub homes : AllMarks (λ c mark. mark.home < 64) marks
-  pub marked : AllMarks (λ c mark. times c (lines mark.home).waiting ≡ (if mark.listed then 1 else 0)) marks
-  pub counted : (home : ℕ) → home < 64 → (lines home).idle ≡ idle_of home marks
+-- Between two events: each client waits in its worker's line once where its listing says so, and else not; it is known
+-- how many of a worker's clients do not; and no number beyond the last was given to a client or stands in a line, so
+-- that none comes back
+pub record AreKnown (listings : ByNumber Listing) (lines : ℕ → Line) (last : ℕ) : Type 0 where
+  pub homes : AllListings (λ c listing. listing.home < 64) listings
+  pub placed : AllListings
+      (λ c listing. times c (lines listing.home).waiting ≡ (if listing.listed then 1 else 0)) listings
+  pub counted : (home : ℕ) → home < 64 → (lines home).idle ≡ idle_of home listings
   pub settled : (home : ℕ) → home < 64 → (lines home).fresh ≡ []
-  pub numbered : AllMarks (λ c mark. c ≤ last) marks
+  pub numbered : AllListings (λ c listing. c ≤ last) listings
   pub past : (home c : ℕ) → home < 64 → 0 < times c (lines home).waiting → c ≤ last
 
 -- 1 for a client of a worker that these pieces touch and that does not wait yet, else 0

@@ -11,7 +11,7 @@ ghost use Rattle.lobby_model.specs.declared.event.Phase.TheVariants.{Ended, In};
 ghost use Rattle.lobby_model.specs.State.{is_live_client, name_at, set_phase};
 ghost use Rattle.lobby_model.specs.Sessions.{greeted, drained};
 ghost use Rattle.lobby_model.specs.Next.{with_batch};
-ghost use Rattle.lobby_post.specs.Dirty.{marks_of, IsNewly};
+ghost use Rattle.lobby_post.specs.Dirty.{listings_of, IsNewly};
 ghost use Rattle.lobby_post.specs.Mask.{has_home};
 ghost use Rattle.lobby_post.specs.Crowd.{all_but_client, waits, Known, KeepsNothing};
 ghost use Rattle.lobby_post.specs.Mail.{AreDue, AreReady, WantsMemory, bytes_for, deliver, parted, plain, wakes_home};
@@ -201,7 +201,7 @@ impl Clients {
         ensures clients { plain self.new.slots ≡ set_phase (plain self.old.slots) client (In name) }
         ensures due { (pieces : ByNumber (List ℕ)) → AreDue pieces self.old.slots → AreDue pieces self.new.slots }
         ensures ready { AreReady self.old.slots → AreReady self.new.slots }
-        ensures marks { marks_of self.new.slots ≡ marks_of self.old.slots }
+        ensures listings { listings_of self.new.slots ≡ listings_of self.old.slots }
         ensures lines { self.new.lines ≡ self.old.lines }
     {
         if let Some(slot) = self.slots.get_mut(client) {
@@ -216,7 +216,7 @@ impl Clients {
         ensures clients { plain self.new.slots ≡ set_phase (plain self.old.slots) client Ended }
         ensures due { (pieces : ByNumber (List ℕ)) → AreDue pieces self.old.slots → AreDue pieces self.new.slots }
         ensures ready { AreReady self.old.slots → AreReady self.new.slots }
-        ensures marks { marks_of self.new.slots ≡ marks_of self.old.slots }
+        ensures listings { listings_of self.new.slots ≡ listings_of self.old.slots }
         ensures lines { self.new.lines ≡ self.old.lines }
     {
         if let Some(slot) = self.slots.get_mut(client) {
@@ -268,7 +268,7 @@ impl Clients {
         ensures ready { OnOk result (AreReady self.new.slots) }
         ensures err { OnErr result (AreDue [] self.new.slots) }
         ensures wanted { OnErr result (WantsMemory post.now.sent self.old.slots) }
-        ensures same_marks { marks_of self.new.slots ≡ marks_of self.old.slots }
+        ensures same_listings { listings_of self.new.slots ≡ listings_of self.old.slots }
         ensures same_lines { self.new.lines ≡ self.old.lines }
     {
         post.reserve(&mut self.slots, &mut self.pool)
@@ -280,7 +280,7 @@ impl Clients {
         ensures limit { self.new.limit ≡ self.old.limit }
         ensures clients { plain self.new.slots ≡ plain self.old.slots }
         ensures due { AreDue [] self.new.slots }
-        ensures same_marks { marks_of self.new.slots ≡ marks_of self.old.slots }
+        ensures same_listings { listings_of self.new.slots ≡ listings_of self.old.slots }
         ensures same_lines { self.new.lines ≡ self.old.lines }
     {
         post.cancel(&mut self.slots);
@@ -338,7 +338,7 @@ impl Clients {
         ensures clients { plain self.new.slots
             ≡ change_number (plain self.old.slots) client (drained (length into.old)) }
         ensures due { (pieces : ByNumber (List ℕ)) → AreDue pieces self.old.slots → AreDue pieces self.new.slots }
-        ensures marks { marks_of self.new.slots ≡ marks_of self.old.slots }
+        ensures listings { listings_of self.new.slots ≡ listings_of self.old.slots }
         ensures lines { self.new.lines ≡ self.old.lines }
     {
         match self.slots.get_mut(client) {

@@ -9,7 +9,7 @@ ghost use Rattle.lobby_model.specs.State.{is_live};
 ghost use Rattle.lobby_model.specs.Touched.{is_touched};
 ghost use Rattle.lobby_post.specs.Mail.{AreDue, AreReady, AwaitsPiece, HaveLimit, IsReady, PutsFirst, WantsMemory};
 ghost use Rattle.lobby_post.specs.Mail.{plain, deliver, wakes_home, wakes_one};
-ghost use Rattle.lobby_post.specs.Dirty.{line_of, marks_of, pushed, stands, AreKnown, IsNewly};
+ghost use Rattle.lobby_post.specs.Dirty.{line_of, listings_of, pushed, stands, AreKnown, IsNewly};
 ghost use Rattle.lobby_post.specs.Dues.{due_but, share_of, shares_of};
 ghost use Rattle.lobby_post.specs.Pieces.{LiesIn, pieces_of};
 ghost use Rattle.lobby_post.specs.Weights.{counted_on, weight};
@@ -51,7 +51,7 @@ pub fn reserve(
     ensures limits { (limit : ℕ) → HaveLimit limit clients.old → HaveLimit limit clients.new }
     ensures due { OnOk result (AreDue (pieces_of text.now pieces.now) clients.new) }
     ensures ready { OnOk result (AreReady clients.new) }
-    ensures same_marks { marks_of clients.new ≡ marks_of clients.old }
+    ensures same_listings { listings_of clients.new ≡ listings_of clients.old }
     ensures err { OnErr result (AreDue [] clients.new) }
     ensures wanted { OnErr result (WantsMemory (pieces_of text.now pieces.now) clients.old) }
 {
@@ -77,7 +77,7 @@ pub fn cancel(clients: &mut Slots, text: &[u8], pieces: &[Delivery])
     ensures clients { plain clients.new ≡ plain clients.old }
     ensures limits { (limit : ℕ) → HaveLimit limit clients.old → HaveLimit limit clients.new }
     ensures due { AreDue [] clients.new }
-    ensures same_marks { marks_of clients.new ≡ marks_of clients.old }
+    ensures same_listings { listings_of clients.new ≡ listings_of clients.old }
 {
     for piece in pieces {
         if let Some(slot) = clients.get_mut_at(piece.key) {
@@ -144,10 +144,10 @@ pub fn deliver(
     ensures told { told.new ≡ counted_on told.old (weight (pieces_of text.now pieces.now)) }
     ensures wakes { (limit home : ℕ) → has_home result home
         ≡ wakes_home limit (pieces_of text.now pieces.now) (plain clients.old) home }
-    ensures homes { (home c : ℕ) → stands (marks_of clients.new) home c ≡ stands (marks_of clients.old) home c }
-    ensures known { (n : ℕ) → AreKnown (marks_of clients.old) (line_of dirty.old) n
-        → AreKnown (marks_of clients.new) (line_of dirty.new) n }
-    ensures newly { (n home : ℕ) → AreKnown (marks_of clients.old) (line_of dirty.old) n → home < 64
+    ensures homes { (home c : ℕ) → stands (listings_of clients.new) home c ≡ stands (listings_of clients.old) home c }
+    ensures known { (n : ℕ) → AreKnown (listings_of clients.old) (line_of dirty.old) n
+        → AreKnown (listings_of clients.new) (line_of dirty.new) n }
+    ensures newly { (n home : ℕ) → AreKnown (listings_of clients.old) (line_of dirty.old) n → home < 64
         → IsNewly (pieces_of text.now pieces.now) clients.old home (line_of dirty.old home).waiting
         (line_of dirty.new home).waiting }
 {

@@ -41,7 +41,8 @@ impl Model for DirtyList {
 }
 
 impl DirtyList {
-    ghost use Rattle.lobby_post.specs.Dirty.{added, marks_of, none_waits, pushed, stands, IsLeft, IsServed, IsSettled};
+    ghost use Rattle.lobby_post.specs.Dirty.{added, listings_of, none_waits, pushed, stands, IsLeft, IsServed};
+    ghost use Rattle.lobby_post.specs.Dirty.{IsSettled};
     ghost use Rattle.lobby_post.specs.Dirty.{IsSwept};
 
     /// There is no client.
@@ -97,7 +98,7 @@ impl DirtyList {
 
     /// Takes the first out that is there and the worker's.
     pub fn next(&mut self, home: u8, slots: &Slots) -> Option<u64>
-        ensures { IsServed (stands (marks_of slots.now) home) result self.old.line self.new.line }
+        ensures { IsServed (stands (listings_of slots.now) home) result self.old.line self.new.line }
     {
         while let Some(client) = self.waiting.pop_front() {
             if slots.is_of(client, home) {
@@ -112,8 +113,8 @@ impl DirtyList {
     /// A client is gone that stood here, or did not. It leaves its number behind, until they are over
     /// half of the list: so each that is moved then is paid for by one that went.
     pub fn leave(&mut self, home: u8, listed: bool, slots: &Slots)
-        ensures left { IsLeft listed (stands (marks_of slots.now) home) self.old.line self.new.line }
-        ensures swept { listed ≡ true → IsSwept (stands (marks_of slots.now) home) self.old self.new }
+        ensures left { IsLeft listed (stands (listings_of slots.now) home) self.old.line self.new.line }
+        ensures swept { listed ≡ true → IsSwept (stands (listings_of slots.now) home) self.old self.new }
     {
         if !listed {
             self.idle = self.idle.saturating_sub(1);
@@ -125,11 +126,11 @@ impl DirtyList {
 
     /// Leaves out the numbers of those that are gone, where they are over half of the list.
     fn sweep(&mut self, home: u8, slots: &Slots)
-        ensures left { IsLeft true (stands (marks_of slots.now) home) self.old.line self.new.line }
+        ensures left { IsLeft true (stands (listings_of slots.now) home) self.old.line self.new.line }
         ensures few { 2 * self.new.gone ≤ length self.new.line.waiting }
         ensures swept { (self.new.gone ≡ self.old.gone)
             ⊎ ((self.new.gone ≡ 0) × (self.new.line.waiting
-            ≡ filter (stands (marks_of slots.now) home) self.old.line.waiting)) }
+            ≡ filter (stands (listings_of slots.now) home) self.old.line.waiting)) }
     {
         if self.gone <= self.waiting.len() / 2 {
             return;
@@ -158,7 +159,7 @@ impl Model for DirtyLists {
 impl DirtyLists {
     ghost use Rattle.std.specs.Prelude.{if◌then◌else◌};
     ghost use Rattle.line_words.specs.Table.{same_number};
-    ghost use Rattle.lobby_post.specs.Dirty.{added, line_of, list_of, marks_of, pushed, stands, IsLeft, IsServed};
+    ghost use Rattle.lobby_post.specs.Dirty.{added, line_of, list_of, listings_of, pushed, stands, IsLeft, IsServed};
     ghost use Rattle.lobby_post.specs.Dirty.{IsSettled, IsSwept};
 
     /// There is no client. It takes no memory yet.
@@ -214,7 +215,7 @@ impl DirtyLists {
 
     /// Takes the first client of a worker's list out that is there.
     pub fn next(&mut self, home: u8, slots: &Slots) -> Option<u64>
-        ensures own { IsServed (stands (marks_of slots.now) home) result (line_of self.old home)
+        ensures own { IsServed (stands (listings_of slots.now) home) result (line_of self.old home)
             (line_of self.new home) }
         ensures others { (h : ℕ) → same_number home h ≡ false → line_of self.new h ≡ line_of self.old h }
     {
@@ -223,8 +224,9 @@ impl DirtyLists {
 
     /// A client of a worker is gone, which stood in its list or did not.
     pub fn leave(&mut self, home: u8, listed: bool, slots: &Slots)
-        ensures own { IsLeft listed (stands (marks_of slots.now) home) (line_of self.old home) (line_of self.new home) }
-        ensures swept { listed ≡ true → IsSwept (stands (marks_of slots.now) home) (list_of self.old home)
+        ensures own { IsLeft listed (stands (listings_of slots.now) home) (line_of self.old home)
+            (line_of self.new home) }
+        ensures swept { listed ≡ true → IsSwept (stands (listings_of slots.now) home) (list_of self.old home)
             (list_of self.new home) }
         ensures others { (h : ℕ) → same_number home h ≡ false → line_of self.new h ≡ line_of self.old h }
     {

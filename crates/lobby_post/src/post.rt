@@ -4,7 +4,7 @@ ghost use Rattle.std.specs.Prelude.{◌≡◌, ℕ, ◌<◌, ◌≤◌, [], ◌�
 ghost use Rattle.reply_kinds.specs.Replies.{printed_line};
 ghost use Rattle.lobby_post.specs.Mask.{has_home};
 ghost use Rattle.lobby_post.specs.Mail.{AreDue, AreReady, HaveLimit, WantsMemory, plain, deliver, wakes_home};
-ghost use Rattle.lobby_post.specs.Dirty.{line_of, marks_of, stands, AreKnown, IsNewly};
+ghost use Rattle.lobby_post.specs.Dirty.{line_of, listings_of, stands, AreKnown, IsNewly};
 ghost use Rattle.lobby_post.specs.Posted.{begun, blank, telling, with_own, with_others, copy_to, addressed, Told};
 ghost use Rattle.lobby_post.specs.Weights.{counted_on, work};
 ghost use Rattle.lobby_model.specs.State.{State};
@@ -253,7 +253,7 @@ impl Post {
         ensures ready { OnOk result (AreReady slots.new) }
         ensures err { OnErr result (AreDue [] slots.new) }
         ensures wanted { OnErr result (WantsMemory self.now.sent slots.old) }
-        ensures same_marks { marks_of slots.new ≡ marks_of slots.old }
+        ensures same_listings { listings_of slots.new ≡ listings_of slots.old }
     {
         delivery::reserve(slots, pool, &self.text, &self.pieces)
     }
@@ -264,7 +264,7 @@ impl Post {
         ensures clients { plain slots.new ≡ plain slots.old }
         ensures limits { (limit : ℕ) → HaveLimit limit slots.old → HaveLimit limit slots.new }
         ensures due { AreDue [] slots.new }
-        ensures same_marks { marks_of slots.new ≡ marks_of slots.old }
+        ensures same_listings { listings_of slots.new ≡ listings_of slots.old }
     {
         delivery::cancel(slots, &self.text, &self.pieces);
     }
@@ -289,10 +289,10 @@ impl Post {
         ensures told { told.new ≡ counted_on told.old (work self.old) }
         ensures wakes { (limit home : ℕ)
             → has_home result home ≡ wakes_home limit self.old.sent (plain slots.old) home }
-        ensures homes { (home c : ℕ) → stands (marks_of slots.new) home c ≡ stands (marks_of slots.old) home c }
-        ensures known { (n : ℕ) → AreKnown (marks_of slots.old) (line_of dirty.old) n
-            → AreKnown (marks_of slots.new) (line_of dirty.new) n }
-        ensures newly { (n home : ℕ) → AreKnown (marks_of slots.old) (line_of dirty.old) n → home < 64
+        ensures homes { (home c : ℕ) → stands (listings_of slots.new) home c ≡ stands (listings_of slots.old) home c }
+        ensures known { (n : ℕ) → AreKnown (listings_of slots.old) (line_of dirty.old) n
+            → AreKnown (listings_of slots.new) (line_of dirty.new) n }
+        ensures newly { (n home : ℕ) → AreKnown (listings_of slots.old) (line_of dirty.old) n → home < 64
             → IsNewly self.old.sent slots.old home (line_of dirty.old home).waiting (line_of dirty.new home).waiting }
     {
         *told = with_printed(*told, self.text.len());

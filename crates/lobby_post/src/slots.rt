@@ -51,7 +51,7 @@ impl Model for Slots {
 }
 
 impl Slots {
-    ghost use Rattle.lobby_post.specs.Dirty.{marks_of, stands};
+    ghost use Rattle.lobby_post.specs.Dirty.{listings_of, stands};
     ghost use Rattle.lobby_post.specs.Lending.{lends_slot};
     ghost use Rattle.slab.specs.Slab.{get};
     ghost use Rattle.lobby_post.specs.Cells.{owner, AreTied};
@@ -130,7 +130,7 @@ impl Slots {
 
     /// Whether a client is there and served by this worker.
     pub fn is_of(&self, client: u64, home: u8) -> bool
-        ensures { result ≡ stands (marks_of self.now) home client }
+        ensures { result ≡ stands (listings_of self.now) home client }
     {
         match self.get(client) {
             Some(slot) => slot.home() == home,

@@ -11,11 +11,11 @@ use Rattle.lobby_script.specs.Accounts.{HasFields, IsRankAndCountry}
 use Rattle.proxy_line.proofs.Parts.{parted_once, never_parted, lacks_digits}
 
 -- the part before the first space, if there is one
-pub none_parted : (mark : ℕ) (text front behind : List ℕ) → has_byte mark text ≡ false → PartedAt mark text front behind → ⊥
-none_parted mark text front behind none parts = never_parted mark text front behind none parts.whole
+pub none_parted : (separator : ℕ) (text front behind : List ℕ) → has_byte separator text ≡ false → PartedAt separator text front behind → ⊥
+none_parted separator text front behind none parts = never_parted separator text front behind none parts.whole
 
-pub same_parts : (mark : ℕ) (text f₁ b₁ f₂ b₂ : List ℕ) → PartedAt mark text f₁ b₁ → PartedAt mark text f₂ b₂ → (f₁ ≡ f₂) × (b₁ ≡ b₂)
-same_parts mark text f₁ b₁ f₂ b₂ p q = parted_once mark f₁ f₂ p.first q.first (sym p.whole ∙ q.whole)
+pub same_parts : (separator : ℕ) (text f₁ b₁ f₂ b₂ : List ℕ) → PartedAt separator text f₁ b₁ → PartedAt separator text f₂ b₂ → (f₁ ≡ f₂) × (b₁ ≡ b₂)
+same_parts separator text f₁ b₁ f₂ b₂ p q = parted_once separator f₁ f₂ p.first q.first (sym p.whole ∙ q.whole)
 
 -- what is found, and what is not
 pub no_some : {X : Type 0} (P : X → Type 0) (o : Option X) → o ≡ None → IsSomeAnd o P → ⊥

@@ -2,7 +2,7 @@
 use Rattle.std.proofs.Common.{◌≡◌, ℕ, ◌+◌, ◌*◌, ◌<◌, List, [], ◌∷◌, ◌++◌, Option, Some, None, IsSomeAnd, refl, sym, ap, ◌∙◌, subst, arith, append_assoc}
 use Rattle.std.specs.Char.{digit_value}
 use Rattle.std.specs.Borrow.{Bor}
-use Rattle.lobby_script.specs.Escapes.{Written, plain, line_feed, tab, carriage_return, backslash, hexadecimal, BeginsWritten, StandsForBytes}
+use Rattle.record_lines.specs.Escapes.{Written, plain, line_feed, tab, carriage_return, backslash, hexadecimal, BeginsWritten, StandsForBytes}
 
 pub record HexadecimalParts (high low byte : ℕ) (rest behind : List ℕ) : Type 0 where
   pub high_small : digit_value high < 16

@@ -5,7 +5,7 @@ use Rattle.lobby_script.specs.declared.action.Action.TheVariants as action
 use Rattle.lobby_script.specs.declared.action.Setting.TheVariants as setting
 use Rattle.lobby_script.specs.declared.action.Order.TheVariants as order
 use Rattle.proxy_line.specs.Words.{IsNumber, IsAddress}
-use Rattle.lobby_script.specs.Escapes.{StandsForBytes}
+use Rattle.record_lines.specs.Escapes.{StandsForBytes}
 use Rattle.lobby_script.specs.Actions.{Arguments, Says, verb_of}
 use Rattle.proxy_line.proofs.Parts.{parted_once}
 use Rattle.lobby_script.proofs.ActionLemmas.{no_space, account_only, motd_only, limit_only, open_only, send_only, take_only, all_only, read_only, shut_only, show_only}

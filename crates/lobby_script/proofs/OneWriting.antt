@@ -5,7 +5,7 @@ use Rattle.std.proofs.lemmas.Bool.{eqb-true}
 use Rattle.std.proofs.lemmas.Fmt.{decimal_injective}
 use Rattle.account_book.specs.Account.{Account}
 use Rattle.proxy_line.specs.Words.{IsNumber, LeadsWith, PartedAt, IsAddress, dotted}
-use Rattle.lobby_script.specs.Escapes.{Written, plain, line_feed, tab, carriage_return, backslash, hexadecimal, BeginsWritten, StandsForBytes}
+use Rattle.record_lines.specs.Escapes.{Written, plain, line_feed, tab, carriage_return, backslash, hexadecimal, BeginsWritten, StandsForBytes}
 use Rattle.lobby_script.specs.Accounts.{HasFields, IsRankAndCountry}
 use Rattle.proxy_line.proofs.Parts.{parted_once, never_parted, lacks_digits}
 use Rattle.lobby_script.proofs.EscapeLemmas.{front_of_nothing}
@@ -17,13 +17,13 @@ pub same_number : (text : List ℕ) (m n : ℕ) → IsNumber text m → IsNumber
 same_number text m n p q = decimal_injective m n (omega (arith, p.1)) (omega (arith, q.1)) (sym p.0 ∙ q.0)
 
 -- two numbers before the same byte, which is no digit
-before_mark : (mark m n : ℕ) (rest other : List ℕ) → mark < 48 → m < 2 ^ 64 → n < 2 ^ 64 → decimal m ++ mark ∷ rest ≡ decimal n ++ mark ∷ other → (m ≡ n) × (rest ≡ other)
-before_mark mark m n rest other low small few e =
-    let both = parted_once mark (decimal m) (decimal n) (lacks_digits mark m low small) (lacks_digits mark n low few) e in
+before_separator : (separator m n : ℕ) (rest other : List ℕ) → separator < 48 → m < 2 ^ 64 → n < 2 ^ 64 → decimal m ++ separator ∷ rest ≡ decimal n ++ separator ∷ other → (m ≡ n) × (rest ≡ other)
+before_separator separator m n rest other low small few e =
+    let both = parted_once separator (decimal m) (decimal n) (lacks_digits separator m low small) (lacks_digits separator n low few) e in
     (decimal_injective m n small few both.0, both.1)
 
-pub same_lead : (mark : ℕ) (text : List ℕ) (m n : ℕ) (rest other : List ℕ) → mark < 48 → LeadsWith mark text m rest → LeadsWith mark text n other → (m ≡ n) × (rest ≡ other)
-same_lead mark text m n rest other low p q = before_mark mark m n rest other low (omega (arith, p.1)) (omega (arith, q.1)) (sym p.0 ∙ q.0)
+pub same_lead : (separator : ℕ) (text : List ℕ) (m n : ℕ) (rest other : List ℕ) → separator < 48 → LeadsWith separator text m rest → LeadsWith separator text n other → (m ≡ n) × (rest ≡ other)
+same_lead separator text m n rest other low p q = before_separator separator m n rest other low (omega (arith, p.1)) (omega (arith, q.1)) (sym p.0 ∙ q.0)
 
 -- ---- addresses
 
@@ -47,9 +47,9 @@ pub same_address : (text ip other : List ℕ) → IsAddress text ip → IsAddres
 same_address text ip other p q =
     let x = octets text ip p in
     let y = octets text other q in
-    let first = before_mark 46 x.a y.a (decimal x.b ++ 46 ∷ (decimal x.c ++ 46 ∷ decimal x.d)) (decimal y.b ++ 46 ∷ (decimal y.c ++ 46 ∷ decimal y.d)) (omega arith) (omega (arith, x.small_a)) (omega (arith, y.small_a)) (sym x.whole ∙ y.whole) in
-    let second = before_mark 46 x.b y.b (decimal x.c ++ 46 ∷ decimal x.d) (decimal y.c ++ 46 ∷ decimal y.d) (omega arith) (omega (arith, x.small_b)) (omega (arith, y.small_b)) first.1 in
-    let third = before_mark 46 x.c y.c (decimal x.d) (decimal y.d) (omega arith) (omega (arith, x.small_c)) (omega (arith, y.small_c)) second.1 in
+    let first = before_separator 46 x.a y.a (decimal x.b ++ 46 ∷ (decimal x.c ++ 46 ∷ decimal x.d)) (decimal y.b ++ 46 ∷ (decimal y.c ++ 46 ∷ decimal y.d)) (omega arith) (omega (arith, x.small_a)) (omega (arith, y.small_a)) (sym x.whole ∙ y.whole) in
+    let second = before_separator 46 x.b y.b (decimal x.c ++ 46 ∷ decimal x.d) (decimal y.c ++ 46 ∷ decimal y.d) (omega arith) (omega (arith, x.small_b)) (omega (arith, y.small_b)) first.1 in
+    let third = before_separator 46 x.c y.c (decimal x.d) (decimal y.d) (omega arith) (omega (arith, x.small_c)) (omega (arith, y.small_c)) second.1 in
     let fourth = decimal_injective x.d y.d (omega (arith, x.small_d)) (omega (arith, y.small_d)) third.1 in
     x.is ∙ (λ i. first.0 i ∷ second.0 i ∷ third.0 i ∷ fourth i ∷ []) ∙ sym y.is
 
@@ -101,7 +101,7 @@ same_end : (text : List ℕ) (rank other : ℕ) (country land : List ℕ) → Is
 same_end text rank other country land (small, inl (whole, none)) (few, inl (all, unknown)) = (decimal_injective rank other (omega (arith, small)) (omega (arith, few)) (sym whole ∙ all), none ∙ sym unknown)
 same_end text rank other country land (small, inl (whole, none)) (few, inr all) = absurd (never_parted 32 (decimal rank) (decimal other) land (digits_lack_space rank small) (sym whole ∙ all))
 same_end text rank other country land (small, inr whole) (few, inl (all, unknown)) = absurd (never_parted 32 (decimal other) (decimal rank) country (digits_lack_space other few) (sym all ∙ whole))
-same_end text rank other country land (small, inr whole) (few, inr all) = before_mark 32 rank other country land (omega arith) (omega (arith, small)) (omega (arith, few)) (sym whole ∙ all)
+same_end text rank other country land (small, inr whole) (few, inr all) = before_separator 32 rank other country land (omega arith) (omega (arith, small)) (omega (arith, few)) (sym whole ∙ all)
 
 pub same_account : (text : List ℕ) (a b : Account) → HasFields text a → HasFields text b → a ≡ b
 same_account text a b p q =

@@ -1,5 +1,4 @@
 pub mod Lines
-pub mod Escapes
 pub mod Accounts
 pub mod Fields
 pub mod Actions

@@ -2,7 +2,7 @@
 
 ghost use Rattle.std.specs.Prelude.{◌≡◌, ◌<◌, ℕ, List, ◌∷◌, IfOk, IfSome, IsSomeAnd};
 ghost use Rattle.std.specs.Char.{digit_value};
-ghost use Rattle.lobby_script.specs.Escapes.{BeginsWritten, StandsForBytes};
+ghost use Rattle.record_lines.specs.Escapes.{BeginsWritten, StandsForBytes};
 ghost use Rattle.proxy_line.specs.Words.{Finds};
 
 use lobby_model::schedule::Piece;

@@ -16,8 +16,9 @@ mod orders;
 mod player;
 mod script;
 mod setup;
-mod show;
+pub mod show;
 
-pub use fault::PlayFault;
+pub use action::{Action, Order, Setting, read_action};
+pub use fault::{LineFault, PlayFault};
 pub use input::{MOST_READS, SCRIPT_LIMIT};
 pub use script::play;

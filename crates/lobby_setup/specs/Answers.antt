@@ -1,5 +1,5 @@
 -- What the reading of a file of settings answers.
-use Rattle.std.specs.Prelude.{◌≡◌, ℕ, List, Result, Ok, Err, MatchOption, ⊤}
+use Rattle.std.specs.Prelude.{◌≡◌, ℕ, List, Result, Ok, Err, MatchOption, ⊤, string_bytes}
 use Rattle.std.specs.Net.Addr.{ipv4_octets}
 use Rattle.std.specs.Net.Socket.{v4_ip, v4_port}
 use Rattle.proxy_line.specs.Sets.{listed}
@@ -17,8 +17,7 @@ use Rattle.lobby_setup.specs.declared.setup.Setup.{Setup}
 abbrev pub held : Setup → Choices
 held setup =
     chosen setup.settings (ipv4_octets (v4_ip setup.address), v4_port setup.address) setup.workers
-    setup.stop_at_input_end
-    (listed setup.proxies) setup.log
+    setup.stop_at_input_end (listed setup.proxies) setup.log (string_bytes setup.folder) setup.private
 
 -- What a file says: what its table says, or that it is no TOML, which one of its lines shows
 abbrev pub Tells : List ℕ → Result Choices Refusal → Type 0

@@ -1,5 +1,5 @@
 -- What a table of settings says.
-use Rattle.std.specs.Prelude.{◌≡◌, ℕ, Bool, false, List, codes, Result, Ok, Err, if◌then◌else◌}
+use Rattle.std.specs.Prelude.{◌≡◌, ℕ, Bool, true, false, List, [], codes, Result, Ok, Err, if◌then◌else◌}
 use Rattle.std.specs.Option.{option_map_or}
 use Rattle.toml.specs.Data.{Data, Items, no_items, Members}
 use Rattle.toml_fields.specs.Fields.{◌>>=◌, flag, list, number, required, text}
@@ -16,13 +16,14 @@ use Rattle.lobby_setup.specs.Proxies.{Addresses, SayProxies}
 use Rattle.lobby_setup.specs.Written.{IsWritten}
 use Rattle.lobby_setup.specs.declared.key.Key.TheVariants.{Address, Workers, OutboxLimit, ProtocolVersion}
 use Rattle.lobby_setup.specs.declared.key.Key.TheVariants.{SpringVersion, UdpPort, ServerMode, Motd, StopAtInputEnd}
-use Rattle.lobby_setup.specs.declared.key.Key.TheVariants.{Log}
+use Rattle.lobby_setup.specs.declared.key.Key.TheVariants.{Log, Record, Private}
 use Rattle.lobby_setup.specs.declared.error.Refusal.{Refusal}
 use Rattle.server_log.specs.declared.level.LogLevel.{LogLevel}
 use Rattle.server_log.specs.declared.level.LogLevel.TheVariants.{Important}
 
 -- The settings of the lobby, the address and the port at which the server listens, how many workers it has, whether it
--- stops where its input ends, the addresses from which a front connects, and how much operators are told
+-- stops where its input ends, the addresses from which a front connects, how much operators are told, the folder of its
+-- record, which is empty for none, and whether that has what users say in private
 pub record Choices : Type 0 where
   pub settings : Configuration
   pub ip : List ℕ
@@ -31,9 +32,11 @@ pub record Choices : Type 0 where
   pub stop_at_input_end : Bool
   pub proxies : List (List ℕ)
   pub log : LogLevel
+  pub folder : List ℕ
+  pub private : Bool
 
-abbrev pub chosen : Configuration → List ℕ × ℕ → ℕ → Bool → List (List ℕ) → LogLevel → Choices
-chosen settings endpoint workers stop_at_input_end proxies log = record {
+abbrev pub chosen : Configuration → List ℕ × ℕ → ℕ → Bool → List (List ℕ) → LogLevel → List ℕ → Bool → Choices
+chosen settings endpoint workers stop_at_input_end proxies log folder private = record {
   settings = settings;
   ip = endpoint.0;
   port = endpoint.1;
@@ -41,6 +44,8 @@ chosen settings endpoint workers stop_at_input_end proxies log = record {
   stop_at_input_end = stop_at_input_end;
   proxies = proxies;
   log = log;
+  folder = folder;
+  private = private;
 }
 
 -- a text that is a version word
@@ -66,8 +71,10 @@ choices endpoint proxies table =
     field StopAtInputEnd flag false table >>= (λ stop_at_input_end.
     proxies >>= (λ proxies.
     field Log level Important table >>= (λ log.
+    field Record text [] table >>= (λ folder.
+    field Private flag true table >>= (λ private.
     Ok (chosen (configuration protocol_version spring_version udp_port server_mode (lines_of motd) outbox_limit)
-    endpoint workers stop_at_input_end proxies log))))))))))))
+    endpoint workers stop_at_input_end proxies log folder private))))))))))))))
 
 -- What a table says: what its keys say, with what the text at `address` says as an address and a port
 abbrev pub Says : Members → Result Choices Refusal → Type 0

@@ -12,7 +12,7 @@ abbrev pub gathered : Fields → Choices
 gathered f =
     chosen (configuration f.protocol_version.now f.spring_version.now f.udp_port f.server_mode
     (lines_of (items_view f.motd.now)) f.outbox_limit) (f.ip, f.port) f.workers f.stop_at_input_end (listed f.proxies)
-    f.log
+    f.log f.folder.now f.private
 
 abbrev pub gathered_of : Result Fields Refusal → Result Choices Refusal
 gathered_of (Ok fields) = Ok (gathered fields)

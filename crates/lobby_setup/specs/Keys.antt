@@ -3,7 +3,7 @@ use Rattle.std.specs.Prelude.{ℕ, List, codes}
 use Rattle.lobby_setup.specs.declared.key.Key.{Key}
 use Rattle.lobby_setup.specs.declared.key.Key.TheVariants.{Address, Workers, OutboxLimit, ProtocolVersion}
 use Rattle.lobby_setup.specs.declared.key.Key.TheVariants.{SpringVersion, UdpPort, ServerMode, Motd, StopAtInputEnd}
-use Rattle.lobby_setup.specs.declared.key.Key.TheVariants.{Proxies, Log}
+use Rattle.lobby_setup.specs.declared.key.Key.TheVariants.{Proxies, Log, Record, Private}
 
 abbrev pub name_of : Key → List ℕ
 name_of Address = codes "address"
@@ -17,3 +17,5 @@ name_of Motd = codes "motd"
 name_of StopAtInputEnd = codes "stop_at_input_end"
 name_of Proxies = codes "proxies"
 name_of Log = codes "log"
+name_of Record = codes "record"
+name_of Private = codes "private"

@@ -1,6 +1,6 @@
 //! What the keys of a file of settings say.
 
-ghost use Rattle.std.specs.Prelude.{◌≡◌, ◌≤◌, IfOk, IsTrue, None, true, false};
+ghost use Rattle.std.specs.Prelude.{◌≡◌, ◌≤◌, IfOk, IsTrue, None, true, []};
 ghost use Rattle.toml.specs.View.{table_view, items_view};
 ghost use Rattle.toml_fields.specs.Fields.{flag, lent, number, required, seen_list, text};
 ghost use Rattle.proxy_line.specs.Words.{IsSocketAddress};
@@ -41,6 +41,8 @@ pub struct Fields<'a> {
     pub stop_at_input_end: bool,
     pub proxies: Proxies,
     pub log: LogLevel,
+    pub folder: &'a str,
+    pub private: bool,
 }
 
 /// The address and the port at which to listen.
@@ -100,12 +102,22 @@ fn motd_field(table: &Table) -> Result<&[Value], Refusal>
     }
 }
 
-/// Whether the flag at a key is set. It is clear where it is missing.
-fn flag_field(table: &Table, key: Key) -> Result<bool, Refusal>
-    ensures { result ≡ field key flag false (table_view table.now) }
+/// Whether the flag at a key is set, or `default` where it is missing.
+fn flag_field(table: &Table, key: Key, default: bool) -> Result<bool, Refusal>
+    ensures { result ≡ field key flag default (table_view table.now) }
 {
-    match flag_or(table, key.name(), false) {
+    match flag_or(table, key.name(), default) {
         Ok(flag) => Ok(flag),
+        Err(fault) => Err(Refusal::Field { key, fault }),
+    }
+}
+
+/// The text at a key, or an empty one where it is missing.
+fn text_field(table: &Table, key: Key) -> Result<&str, Refusal>
+    ensures { lent result ≡ field key text [] (table_view table.now) }
+{
+    match text_or(table, key.name(), "") {
+        Ok(text) => Ok(text),
         Err(fault) => Err(Refusal::Field { key, fault }),
     }
 }
@@ -147,8 +159,10 @@ pub fn fields_of(
         udp_port: number_field(table, Key::UdpPort, 0, 65_535, 8201)? as u16,
         server_mode: number_field(table, Key::ServerMode, 0, 1, 0)? as u8,
         motd: motd_field(table)?,
-        stop_at_input_end: flag_field(table, Key::StopAtInputEnd)?,
+        stop_at_input_end: flag_field(table, Key::StopAtInputEnd, false)?,
         proxies: proxies?,
         log: log_field(table)?,
+        folder: text_field(table, Key::Record)?,
+        private: flag_field(table, Key::Private, true)?,
     })
 }

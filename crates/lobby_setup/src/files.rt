@@ -6,11 +6,12 @@ use crate::error::SetupFault;
 use crate::file_error::{FileError, refused};
 use crate::setup::Setup;
 use account_book::AccountBook;
+use std::alloc::Global;
 use std::rt::Files;
 use std::{fs, io};
 
-/// Reads a file whole.
-fn read_file<R: Files + AllocGlobal>(rt: &R, path: &str) -> Result<Vec<u8>, FileError> {
+/// Reads a file whole: `Unreadable` where it cannot be read, `Memory` where memory was refused.
+pub fn read_file<R: Files + AllocGlobal>(rt: &R, path: &str) -> Result<Vec<u8>, FileError> {
     match fs::read(rt, path) {
         Ok(bytes) => Ok(bytes),
         Err(error) if error.kind() == io::ErrorKind::OutOfMemory => Err(FileError::Memory),
@@ -37,7 +38,12 @@ pub fn settings_at<R: Files + AllocGlobal>(rt: &R, path: &str) -> Result<Setup, 
 /// refused.
 pub fn accounts_at<R: Files + AllocGlobal>(rt: &R, path: &str) -> Result<AccountBook, FileError> {
     let bytes = read_file(rt, path)?;
-    match AccountBook::read(rt.alloc(), &bytes) {
+    accounts_of(rt.alloc(), &bytes)
+}
+
+/// The accounts of a file of accounts that was read, as [`AccountBook::read`] says.
+pub fn accounts_of(alloc: Global, bytes: &[u8]) -> Result<AccountBook, FileError> {
+    match AccountBook::read(alloc, bytes) {
         Ok(accounts) => Ok(accounts),
         Err(refusal) => Err(refused(refusal)),
     }

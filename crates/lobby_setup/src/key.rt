@@ -31,6 +31,11 @@ pub enum Key {
     Proxies,
     /// `log`: how much operators are told on standard error, `none`, `important` or `all`; `important` if left out.
     Log,
+    /// `record`: the folder in which what happens is recorded, a text; empty, which is the same as left out, for no
+    /// record.
+    Record,
+    /// `private`: whether a record has what users say in private; false puts `*` for each byte of it; true if left out.
+    Private,
 }
 
 impl Key {
@@ -50,6 +55,8 @@ impl Key {
             Key::StopAtInputEnd => "stop_at_input_end",
             Key::Proxies => "proxies",
             Key::Log => "log",
+            Key::Record => "record",
+            Key::Private => "private",
         }
     }
 
@@ -63,9 +70,10 @@ impl Key {
             Key::UdpPort => "a whole number from 0 to 65535",
             Key::ServerMode => "0 or 1",
             Key::Motd => "a list of at most 100 texts of at most 1000 bytes without CR and LF",
-            Key::StopAtInputEnd => "true or false",
+            Key::StopAtInputEnd | Key::Private => "true or false",
             Key::Proxies => "a list of at most 64 IPv4 addresses, as [\"127.0.0.1\"]",
             Key::Log => "\"none\", \"important\" or \"all\"",
+            Key::Record => "the name of a folder, or an empty text",
         }
     }
 }

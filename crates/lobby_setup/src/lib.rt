@@ -19,7 +19,7 @@ mod setup;
 
 pub use error::{Refusal, SetupError, SetupFault};
 pub use file_error::{AccountsFault, FileError};
-pub use files::{accounts_at, settings_at};
+pub use files::{accounts_at, accounts_of, read_file, settings_at};
 pub use key::Key;
 pub use lobby_model::CLIENT_LIMIT;
 pub use report::check;

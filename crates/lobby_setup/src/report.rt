@@ -4,6 +4,7 @@ ghost use Rattle.std.specs.Prelude.{◌≡◌, ◌+◌, ◌*◌, ◌/◌, ◌≤
 
 use crate::burst::{battles_that_fit, longest_burst};
 use crate::files::{accounts_at, settings_at};
+use crate::setup::Setup;
 use lobby_model::settings::GREATEST_OUTBOX_LIMIT;
 use lobby_model::{CLIENT_LIMIT, Settings};
 use std::env;
@@ -24,6 +25,21 @@ fn waiting_megabytes(outbox_limit: usize) -> usize
     CLIENT_LIMIT * (CLIENT_BYTES + outbox_limit) / 1_000_000
 }
 
+/// Says where a server records what happens, if it does.
+fn tell_record<R: Print>(rt: &R, setup: &Setup) {
+    let talk = if setup.private {
+        "with private talk"
+    } else {
+        "without private talk"
+    };
+    if !setup.folder.is_empty() {
+        let _ = println!(rt;
+            "record: in a new folder of {} at each start, {talk}",
+            setup.folder
+        );
+    }
+}
+
 /// Says what a file of settings sets the server up to, or why it cannot be used. The settings where it can.
 fn check_settings<R: Files + Print + AllocGlobal>(rt: &R, path: &str) -> Option<Settings> {
     let setup = match settings_at(rt, path) {
@@ -40,6 +56,7 @@ fn check_settings<R: Files + Print + AllocGlobal>(rt: &R, path: &str) -> Option<
         "settings: address {}, workers {}",
         setup.address, setup.workers
     );
+    tell_record(rt, &setup);
     let _ = println!(rt;
         "memory: some {CLIENT_BYTES} bytes a client, and some {unread} more for one that does not read"
     );

@@ -33,6 +33,10 @@ pub struct Setup {
     pub proxies: Proxies,
     /// How much operators are told.
     pub log: LogLevel,
+    /// The folder in which what happens is recorded; empty for no record.
+    pub folder: String,
+    /// Whether a record has what users say in private.
+    pub private: bool,
 }
 
 impl Setup {
@@ -80,6 +84,7 @@ fn setup_of(alloc: Global, fields: &Fields<'_>) -> Result<Setup, AllocError>
     requires settings { IsTrue (is_configuration (gathered fields.now).settings) }
     ensures { IfOk result (λ setup. held setup ≡ gathered fields.now) }
 {
+    let folder = String::from_str(alloc, fields.folder)?;
     let motd = copy_motd(alloc, fields.motd)?;
     let settings = Settings::within_bounds(
         alloc,
@@ -97,5 +102,7 @@ fn setup_of(alloc: Global, fields: &Fields<'_>) -> Result<Setup, AllocError>
         stop_at_input_end: fields.stop_at_input_end,
         proxies: fields.proxies,
         log: fields.log,
+        folder,
+        private: fields.private,
     })
 }

@@ -2,10 +2,12 @@
 
 mod clients;
 mod crowds;
+mod disks;
 mod gates;
 mod hostile;
 mod leavers;
 mod plays;
+mod recording;
 mod running;
 mod server;
 mod workers;

@@ -195,15 +195,15 @@ since a b c rises h = record { fed = h.fed; nothing = h.nothing; last = since_la
 rises : (a b : Snapshot) (k p : ℕ) → OnlyReads a b k p → a.wire.reads ≤ b.wire.reads
 rises a b k p only = omega (arith, only.reads_are)
 
-pub receives_all : (a b c : Snapshot) (m k p left wakes : ℕ) (how : Step) → how ≡ step.All → k < 16 → IsReceiving a b m k p wakes → ReceivesNext b c how → Receives a c left receive.All wakes
+receives_all : (a b c : Snapshot) (m k p left wakes : ℕ) (how : Step) → how ≡ (step.Ends receive.All) → k < 16 → IsReceiving a b m k p wakes → ReceivesNext b c how → Receives a c left receive.All wakes
 receives_all a b c m k p left wakes how is few h found =
-    let s : ReceivesNext b c step.All = subst (λ (x : Step). ReceivesNext b c x) is found in
-    stops a b c m k p left wakes step.All receive.All few h s refl s.step_is.0 (λ talk. (λ _. no_fault_all b c s.step_is.1, since a b c (rises a b k p h.receiving.only) s.step_is.1))
+    let s : ReceivesNext b c (step.Ends receive.All) = subst (λ (x : Step). ReceivesNext b c x) is found in
+    stops a b c m k p left wakes (step.Ends receive.All) receive.All few h s refl s.step_is.0 (λ talk. (λ _. no_fault_all b c s.step_is.1, since a b c (rises a b k p h.receiving.only) s.step_is.1))
 
-pub receives_stop : (a b c : Snapshot) (m k p left wakes : ℕ) (how : Step) → how ≡ step.Stop → k < 16 → IsReceiving a b m k p wakes → ReceivesNext b c how → Receives a c left receive.Stop wakes
+receives_stop : (a b c : Snapshot) (m k p left wakes : ℕ) (how : Step) → how ≡ (step.Ends receive.Stop) → k < 16 → IsReceiving a b m k p wakes → ReceivesNext b c how → Receives a c left receive.Stop wakes
 receives_stop a b c m k p left wakes how is few h found =
-    let s : ReceivesNext b c step.Stop = subst (λ (x : Step). ReceivesNext b c x) is found in
-    stops a b c m k p left wakes step.Stop receive.Stop few h s refl s.step_is.0 (λ talk. s.step_is.1)
+    let s : ReceivesNext b c (step.Ends receive.Stop) = subst (λ (x : Step). ReceivesNext b c x) is found in
+    stops a b c m k p left wakes (step.Ends receive.Stop) receive.Stop few h s refl s.step_is.0 (λ talk. s.step_is.1)
 
 -- without a read in between there is the same to receive since an earlier place
 to_receive : (a b c : Snapshot) → (b.wire.last_got ≡ Some got.Later → b.wire.reads ≡ a.wire.reads) → c.wire.last_got ≡ b.wire.last_got → HasToReceive b c → HasToReceive a c
@@ -211,10 +211,10 @@ to_receive a b c late still (has_bytes some unspoilt) = has_bytes some unspoilt
 to_receive a b c late still (has_line h) = has_line h
 to_receive a b c late still (has_more h) = has_more (record { fed = h.fed; nothing = h.nothing; on = h.on; sound = h.sound; late = λ e. h.late e ∙ late (sym still ∙ e) })
 
-pub receives_memory : (a b c : Snapshot) (m k p left wakes : ℕ) (how : Step) → how ≡ step.Memory → k < 16 → IsReceiving a b m k p wakes → ReceivesNext b c how → Receives a c left receive.Memory wakes
+receives_memory : (a b c : Snapshot) (m k p left wakes : ℕ) (how : Step) → how ≡ (step.Ends receive.Memory) → k < 16 → IsReceiving a b m k p wakes → ReceivesNext b c how → Receives a c left receive.Memory wakes
 receives_memory a b c m k p left wakes how is few h found =
-    let s : ReceivesNext b c step.Memory = subst (λ (x : Step). ReceivesNext b c x) is found in
-    stops a b c m k p left wakes step.Memory receive.Memory few h s refl s.step_is.0
+    let s : ReceivesNext b c (step.Ends receive.Memory) = subst (λ (x : Step). ReceivesNext b c x) is found in
+    stops a b c m k p left wakes (step.Ends receive.Memory) receive.Memory few h s refl s.step_is.0
     (λ talk. (no_fault_then a b c s.reads 0 s.step_is.1 s.only h.sound, to_receive a b c h.late (s.only.still s.step_is.1) s.step_is.2))
 
 -- where memory was refused behind some lines
@@ -228,13 +228,21 @@ receives_refused a b c m k p left wakes before said all how is refused left_is w
     (no_fault_then a b c s.reads 0 s.step_is.0 s.only h.sound, has_line (stays_next before.lines before.told c.conn.session said fits.1 refused))
 
 -- where the turn told enough
-pub receives_enough : (a b c : Snapshot) (m k p left wakes : ℕ) (before : Left) (how : Step) → before.told ≡ left → how ≡ step.Enough → k < 16 → StaysWithin before c.conn.session how
+receives_enough : (a b c : Snapshot) (m k p left wakes : ℕ) (before : Left) (how : Step) → before.told ≡ left → how ≡ (step.Ends receive.Again) → k < 16 → StaysWithin before c.conn.session how
     → IsReceiving a b m k p wakes → ReceivesNext b c how → Receives a c left receive.Again wakes
 receives_enough a b c m k p left wakes before how same is few within h found =
-    let s : ReceivesNext b c step.Enough = subst (λ (x : Step). ReceivesNext b c x) is found in
+    let s : ReceivesNext b c (step.Ends receive.Again) = subst (λ (x : Step). ReceivesNext b c x) is found in
     let none : left ≡ 0 = sym same ∙ subst (λ (x : Step). StaysWithin before c.conn.session x) is within in
-    stops a b c m k p left wakes step.Enough receive.Again few h s refl s.step_is.0
+    stops a b c m k p left wakes (step.Ends receive.Again) receive.Again few h s refl s.step_is.0
     (λ talk. (no_fault_then a b c s.reads 0 s.step_is.1 s.only h.sound, record { limit = most_told (none, s.step_is.3); fed = s.step_is.2; unspoilt = line_is_sound c.conn.session (loud_is_line c.conn.session s.step_is.3) }))
+
+-- where a step ends it
+pub receives_ends : (a b c : Snapshot) (m k p left wakes : ℕ) (before : Left) (how : Step) (state : ReceiveState) → before.told ≡ left → how ≡ step.Ends state → k < 16 → StaysWithin before c.conn.session how
+    → IsReceiving a b m k p wakes → ReceivesNext b c how → Receives a c left state wakes
+receives_ends a b c m k p left wakes before how receive.All same is few within h found = receives_all a b c m k p left wakes how is few h found
+receives_ends a b c m k p left wakes before how receive.Again same is few within h found = receives_enough a b c m k p left wakes before how same is few within h found
+receives_ends a b c m k p left wakes before how receive.Stop same is few within h found = receives_stop a b c m k p left wakes how is few h found
+receives_ends a b c m k p left wakes before how receive.Memory same is few within h found = receives_memory a b c m k p left wakes how is few h found
 
 -- at a limit
 most_are : (a c : Snapshot) (m k p left wakes : ℕ) → (m ≡ 64) ⊎ ((k ≡ 16) ⊎ (p ≡ 65536)) → (h : Receiving a c m k p wakes) → IsMost a c left h.says.talk
@@ -288,11 +296,11 @@ unasked a c some = absurd (omega (arith, some))
 step_behind : (a b c : Snapshot) (talk : List Moment) (reads : ℕ) (how : Step) → b.wire ≡ a.wire → b.conn.unwritten ≡ a.conn.unwritten → b.conn.session.client ≡ a.conn.session.client → OnlyReads b c reads (bytes_of how)
     → StepIs b c talk reads how → StepIs a c talk reads how
 step_behind a b c talk reads (step.Said said) same unwritten client only is = (is.0, subst (λ (d : ℕ). AreSaid d talk said.lines said.wakes) client is.1)
-step_behind a b c talk reads step.Enough same unwritten client only is = is
+step_behind a b c talk reads (step.Ends receive.Again) same unwritten client only is = is
 step_behind a b c talk reads (step.Read bytes) same unwritten client only is = is
-step_behind a b c talk reads step.All same unwritten client only is = (is.0, since a b c (rises a b 0 0 (only_none a b same unwritten)) is.1)
-step_behind a b c talk reads step.Stop same unwritten client only is = is
-step_behind a b c talk reads step.Memory same unwritten client only is = (is.0, is.1, to_receive a b c (λ _. ap (λ w. w.reads) same) (only.still is.1) is.2)
+step_behind a b c talk reads (step.Ends receive.All) same unwritten client only is = (is.0, since a b c (rises a b 0 0 (only_none a b same unwritten)) is.1)
+step_behind a b c talk reads (step.Ends receive.Stop) same unwritten client only is = is
+step_behind a b c talk reads (step.Ends receive.Memory) same unwritten client only is = (is.0, is.1, to_receive a b c (λ _. ap (λ w. w.reads) same) (only.still is.1) is.2)
 
 -- a step behind feeding
 pub fed_first : (a b c : Snapshot) (how : Step) → Went a b [] → b.wire ≡ a.wire → b.conn.unwritten ≡ a.conn.unwritten → ReceivesNext b c how → ReceivesNext a c how
@@ -321,14 +329,14 @@ said_next a b said same s = record {
   step_is = (refl, s.said);
 }
 
-pub none_done : (a b : Snapshot) → b.wire ≡ a.wire → b.conn.unwritten ≡ a.conn.unwritten → Went a b [] → HasToReceive a b → ReceivesNext a b step.Memory
-none_done a b same unwritten went left = next_quiet a b 0 step.Memory (omega arith) (unasked a b) went (only_none a b same unwritten) (refl, refl, left)
+pub none_done : (a b : Snapshot) → b.wire ≡ a.wire → b.conn.unwritten ≡ a.conn.unwritten → Went a b [] → HasToReceive a b → ReceivesNext a b (step.Ends receive.Memory)
+none_done a b same unwritten went left = next_quiet a b 0 (step.Ends receive.Memory) (omega arith) (unasked a b) went (only_none a b same unwritten) (refl, refl, left)
 
-pub put_off : (a b : Snapshot) → b.wire ≡ a.wire → b.conn.unwritten ≡ a.conn.unwritten → Went a b [] → b.conn.unfed ≡ [] → HasLoudNext b.conn.session → ReceivesNext a b step.Enough
-put_off a b same unwritten went fed next = next_quiet a b 0 step.Enough (omega arith) (unasked a b) went (only_none a b same unwritten) (refl, refl, fed, next)
+pub put_off : (a b : Snapshot) → b.wire ≡ a.wire → b.conn.unwritten ≡ a.conn.unwritten → Went a b [] → b.conn.unfed ≡ [] → HasLoudNext b.conn.session → ReceivesNext a b (step.Ends receive.Again)
+put_off a b same unwritten went fed next = next_quiet a b 0 (step.Ends receive.Again) (omega arith) (unasked a b) went (only_none a b same unwritten) (refl, refl, fed, next)
 
-pub none_left : (a b : Snapshot) → b.wire ≡ a.wire → b.conn.unwritten ≡ a.conn.unwritten → Went a b [] → IsNextOf (Some b.conn.session) Spoilt → ReceivesNext a b step.Stop
-none_left a b same unwritten went next = next_quiet a b 0 step.Stop (omega arith) (unasked a b) went (only_none a b same unwritten) (refl, inl next)
+pub none_left : (a b : Snapshot) → b.wire ≡ a.wire → b.conn.unwritten ≡ a.conn.unwritten → Went a b [] → IsNextOf (Some b.conn.session) Spoilt → ReceivesNext a b (step.Ends receive.Stop)
+none_left a b same unwritten went next = next_quiet a b 0 (step.Ends receive.Stop) (omega arith) (unasked a b) went (only_none a b same unwritten) (refl, inl next)
 
 pub only_one : (a b : Snapshot) (n : ℕ) → ReadsBytes a.wire b.wire n → n ≤ 16384 → b.wire.reads ≡ a.wire.reads + 1 → b.wire.writes ≡ a.wire.writes → b.wire.failures ≤ a.wire.failures + 1 → b.conn.unwritten ≡ a.conn.unwritten → OnlyReads a b 1 n
 only_one a b n bytes few reads writes failures unwritten = record { reads_are = reads; bytes_are = bytes; at_once = omega (arith, few); writes = writes; failures = failures; still = λ e. absurd (omega (arith, e)); unwritten = unwritten }
@@ -347,8 +355,8 @@ pub link_read : (a b : Snapshot) (n : ℕ) → MayRead a b → Went a b [] → O
 link_read a b n may went only some = next_quiet a b 1 (step.Read n) (omega arith) (λ _. may) went only (refl, refl, some)
 
 pub link_later : (a b : Snapshot) → MayRead a b → Went a b [] → OnlyReads a b 1 0 → b.conn ≡ a.conn → a.conn.unfed ≡ []
-    → b.wire.last_got ≡ Some got.Later → ReceivesNext a b step.All
-link_later a b may went only same fed last = next_quiet a b 1 step.All (omega arith) (λ _. may) went only (
+    → b.wire.last_got ≡ Some got.Later → ReceivesNext a b (step.Ends receive.All)
+link_later a b may went only same fed last = next_quiet a b 1 (step.Ends receive.All) (omega arith) (λ _. may) went only (
   refl,
   record {
     fed = ap (λ x. x.unfed) same ∙ fed;
@@ -358,8 +366,8 @@ link_later a b may went only same fed last = next_quiet a b 1 step.All (omega ar
 )
 
 pub link_end : (a b : Snapshot) → MayRead a b → Went a b [] → OnlyReads a b 1 0 → b.conn ≡ a.conn → a.conn.unfed ≡ []
-    → b.wire.last_got ≡ Some got.End → ReceivesNext a b step.All
-link_end a b may went only same fed last = next_quiet a b 1 step.All (omega arith) (λ _. may) went only (
+    → b.wire.last_got ≡ Some got.End → ReceivesNext a b (step.Ends receive.All)
+link_end a b may went only same fed last = next_quiet a b 1 (step.Ends receive.All) (omega arith) (λ _. may) went only (
   refl,
   record {
     fed = ap (λ x. x.unfed) same ∙ fed;
@@ -368,12 +376,12 @@ link_end a b may went only same fed last = next_quiet a b 1 step.All (omega arit
   },
 )
 
-pub link_fault : (a b : Snapshot) → MayRead a b → Went a b [] → OnlyReads a b 1 0 → b.wire.last_got ≡ Some got.Fault → ReceivesNext a b step.Stop
-link_fault a b may went only last = next_quiet a b 1 step.Stop (omega arith) (λ _. may) went only (refl, inr last)
+pub link_fault : (a b : Snapshot) → MayRead a b → Went a b [] → OnlyReads a b 1 0 → b.wire.last_got ≡ Some got.Fault → ReceivesNext a b (step.Ends receive.Stop)
+link_fault a b may went only last = next_quiet a b 1 (step.Ends receive.Stop) (omega arith) (λ _. may) went only (refl, inr last)
 
 -- the link had ended, or failed, before
-pub ended_before : (a : Snapshot) → a.conn.unfed ≡ [] → IsNextOf (Some a.conn.session) Nothing → a.wire.last_got ≡ Some got.End → ReceivesNext a a step.All
-ended_before a fed nothing last = next_quiet a a 0 step.All (omega arith) (unasked a a) (went_none a) (only_none a a refl refl) (refl, record { fed = fed; nothing = nothing; last = inl last })
+pub ended_before : (a : Snapshot) → a.conn.unfed ≡ [] → IsNextOf (Some a.conn.session) Nothing → a.wire.last_got ≡ Some got.End → ReceivesNext a a (step.Ends receive.All)
+ended_before a fed nothing last = next_quiet a a 0 (step.Ends receive.All) (omega arith) (unasked a a) (went_none a) (only_none a a refl refl) (refl, record { fed = fed; nothing = nothing; last = inl last })
 
-pub failed_before : (a : Snapshot) → a.wire.last_got ≡ Some got.Fault → ReceivesNext a a step.Stop
-failed_before a last = next_quiet a a 0 step.Stop (omega arith) (unasked a a) (went_none a) (only_none a a refl refl) (refl, inr last)
+pub failed_before : (a : Snapshot) → a.wire.last_got ≡ Some got.Fault → ReceivesNext a a (step.Ends receive.Stop)
+failed_before a last = next_quiet a a 0 (step.Ends receive.Stop) (omega arith) (unasked a a) (went_none a) (only_none a a refl refl) (refl, inr last)

@@ -1,5 +1,5 @@
 -- How sending to a client goes on.
-use Rattle.std.proofs.Common.{◌≡◌, ◌≢◌, ℕ, zero, suc, ◌+◌, ◌*◌, ◌<◌, ◌≤◌, Bool, true, false, List, [], ◌∷◌, ◌++◌, length, refl, sym, ap, ◌∙◌, subst, arith, append-nil, length-append, true≢false}
+use Rattle.std.proofs.Common.{◌≡◌, ◌≢◌, ◌⊎◌, ℕ, zero, suc, ◌+◌, ◌*◌, ◌<◌, ◌≤◌, Bool, true, false, List, [], ◌∷◌, ◌++◌, length, refl, sym, ap, ◌∙◌, subst, inl, inr, arith, append-nil, length-append, true≢false}
 use Rattle.std.specs.Prelude.{Option, Some}
 use Rattle.std.proofs.Math.Bool.{or-false}
 use Rattle.lobby_model.specs.declared.event.Event.TheVariants as event
@@ -7,8 +7,6 @@ use Rattle.lobby_turns.specs.declared.link.Sent.{Sent}
 use Rattle.lobby_turns.specs.declared.link.Sent.TheVariants as sent
 use Rattle.lobby_turns.specs.declared.sending.SendState.{SendState}
 use Rattle.lobby_turns.specs.declared.sending.SendState.TheVariants as send
-use Rattle.lobby_turns.specs.declared.sending.Step.{Step}
-use Rattle.lobby_turns.specs.declared.sending.Step.TheVariants as step
 use Rattle.lobby_turns.specs.Wire.{MayGoOn}
 use Rattle.lobby_turns.specs.Moments.{Moment, moment, questions, tells_end, told_end}
 use Rattle.lobby_turns.specs.Snapshot.{Snapshot}
@@ -88,7 +86,7 @@ asks_on a t u none h = record {
   once = omega (arith, h.once, ap length (questions-append t u), length-append (questions t) (questions u), ap length none);
 }
 
-wrote : (a b c : Snapshot) (k : ℕ) → Sending a b k → SendsNext b c step.Wrote → Sending a c (k + 1)
+wrote : (a b c : Snapshot) (k : ℕ) → Sending a b k → SendsNext b c send.Again → Sending a c (k + 1)
 wrote a b c k h s = record {
   talk = h.talk ++ s.talk;
   went = went_then a b c h.talk s.talk h.went s.went;
@@ -99,12 +97,12 @@ wrote a b c k h s = record {
   only = subst (λ (n : ℕ). OnlyWrites a c (k + n)) s.step_is.1 (only_then a b c k s.writes h.only s.only);
 }
 
-pub sending_wrote : (a b c : Snapshot) (k : ℕ) (how : Step) → how ≡ step.Wrote → Sending a b k → SendsNext b c how → Sending a c (k + 1)
-sending_wrote a b c k how is h s = wrote a b c k h (subst (λ (x : Step). SendsNext b c x) is s)
+pub sending_wrote : (a b c : Snapshot) (k : ℕ) (how : SendState) → how ≡ send.Again → Sending a b k → SendsNext b c how → Sending a c (k + 1)
+sending_wrote a b c k how is h s = wrote a b c k h (subst (λ (x : SendState). SendsNext b c x) is s)
 
 -- ---- where sending ends
 
-sent_step : (a b c : Snapshot) (k : ℕ) (s : Step) (how : SendState) → k < 16 → (h : Sending a b k) → (n : SendsNext b c s) → SentIs a c (h.talk ++ n.talk) how → Sends a c how
+sent_step : (a b c : Snapshot) (k : ℕ) (s : SendState) (how : SendState) → k < 16 → (h : Sending a b k) → (n : SendsNext b c s) → SentIs a c (h.talk ++ n.talk) how → Sends a c how
 sent_step a b c k s how few h n is = record {
   talk = h.talk ++ n.talk;
   went = went_then a b c h.talk n.talk h.went n.went;
@@ -117,32 +115,45 @@ sent_step a b c k s how few h n is = record {
   sent_is = is;
 }
 
-pub sends_all : (a b c : Snapshot) (k : ℕ) (how : Step) → how ≡ step.All → k < 16 → Sending a b k → SendsNext b c how → Sends a c send.All
+sends_all : (a b c : Snapshot) (k : ℕ) (how : SendState) → how ≡ send.All → k < 16 → Sending a b k → SendsNext b c how → Sends a c send.All
 sends_all a b c k how is few h found =
-    let s : SendsNext b c step.All = subst (λ (x : Step). SendsNext b c x) is found in
-    sent_step a b c k step.All send.All few h s (
+    let s : SendsNext b c send.All = subst (λ (x : SendState). SendsNext b c x) is found in
+    sent_step a b c k send.All send.All few h s (
       sound_then a b c h.talk s.talk k s.writes h.only s.only h.sound s.step_is.0,
       record { written = s.step_is.1.written; dry = dry_behind c.conn.session.client h.talk s.talk s.step_is.1.dry },
     )
 
-pub sends_would_block : (a b c : Snapshot) (k : ℕ) (how : Step) → how ≡ step.WouldBlock → k < 16 → Sending a b k → SendsNext b c how → Sends a c send.WouldBlock
+sends_would_block : (a b c : Snapshot) (k : ℕ) (how : SendState) → how ≡ send.WouldBlock → k < 16 → Sending a b k → SendsNext b c how → Sends a c send.WouldBlock
 sends_would_block a b c k how is few h found =
-    let s : SendsNext b c step.WouldBlock = subst (λ (x : Step). SendsNext b c x) is found in
-    sent_step a b c k step.WouldBlock send.WouldBlock few h s (
+    let s : SendsNext b c send.WouldBlock = subst (λ (x : SendState). SendsNext b c x) is found in
+    sent_step a b c k send.WouldBlock send.WouldBlock few h s (
       sound_then a b c h.talk s.talk k s.writes h.only s.only h.sound s.step_is.0,
       record { last = s.step_is.1.last; made = omega (arith, h.only.writes_are, s.step_is.1.made) },
     )
 
-pub sends_fault : (a b c : Snapshot) (k : ℕ) (how : Step) → how ≡ step.Fault → k < 16 → Sending a b k → SendsNext b c how → Sends a c send.Fault
+sends_fault : (a b c : Snapshot) (k : ℕ) (how : SendState) → how ≡ send.Fault → k < 16 → Sending a b k → SendsNext b c how → Sends a c send.Fault
 sends_fault a b c k how is few h found =
-    let s : SendsNext b c step.Fault = subst (λ (x : Step). SendsNext b c x) is found in
-    sent_step a b c k step.Fault send.Fault few h s (calm-append h.talk s.talk h.sound.calm s.step_is.0, s.step_is.1)
+    let s : SendsNext b c send.Fault = subst (λ (x : SendState). SendsNext b c x) is found in
+    sent_step a b c k send.Fault send.Fault few h s (calm-append h.talk s.talk h.sound.calm s.step_is.0, s.step_is.1)
 
-pub sends_memory : (a b c : Snapshot) (k : ℕ) (how : Step) → how ≡ step.Memory → k < 16 → Sending a b k → SendsNext b c how → Sends a c send.Memory
+sends_memory : (a b c : Snapshot) (k : ℕ) (how : SendState) → how ≡ send.Memory → k < 16 → Sending a b k → SendsNext b c how → Sends a c send.Memory
 sends_memory a b c k how is few h found =
-    let s : SendsNext b c step.Memory = subst (λ (x : Step). SendsNext b c x) is found in
+    let s : SendsNext b c send.Memory = subst (λ (x : SendState). SendsNext b c x) is found in
     let still : IsSound b c s.talk = record { calm = ap told_end s.step_is.0; no_fault = no_fault_none b c s.writes s.step_is.1 s.only } in
-    sent_step a b c k step.Memory send.Memory few h s (sound_then a b c h.talk s.talk k s.writes h.only s.only h.sound still, s.step_is.2)
+    sent_step a b c k send.Memory send.Memory few h s (sound_then a b c h.talk s.talk k s.writes h.only s.only h.sound still, s.step_is.2)
+
+-- sending ends where a step neither leaves more nor tells that nothing will come
+pub sends_on : (a b c : Snapshot) (k : ℕ) (how : SendState)
+    → (how ≡ send.All) ⊎ ((how ≡ send.WouldBlock) ⊎ ((how ≡ send.Fault) ⊎ (how ≡ send.Memory)))
+    → k < 16 → Sending a b k → SendsNext b c how → Sends a c how
+sends_on a b c k how (inl is) few h found =
+    subst (λ (x : SendState). Sends a c x) (sym is) (sends_all a b c k how is few h found)
+sends_on a b c k how (inr (inl is)) few h found =
+    subst (λ (x : SendState). Sends a c x) (sym is) (sends_would_block a b c k how is few h found)
+sends_on a b c k how (inr (inr (inl is))) few h found =
+    subst (λ (x : SendState). Sends a c x) (sym is) (sends_fault a b c k how is few h found)
+sends_on a b c k how (inr (inr (inr is))) few h found =
+    subst (λ (x : SendState). Sends a c x) (sym is) (sends_memory a b c k how is few h found)
 
 -- what was written out since a place between is since an earlier one too
 out_since : (a b c : Snapshot) (k most all : ℕ) → k + most ≡ all → OnlyWrites a b k → IsWrittenOut b c most → IsWrittenOut a c all
@@ -151,7 +162,7 @@ out_since a b c k most all sum only (stopped made stop) = stopped (omega (arith,
 out_since a b c k most all sum only (spent e) = spent (omega (arith, e, only.writes_are, sum))
 
 -- what was drained was written out behind it
-finished : (a b c d : Snapshot) (k most : ℕ) → k < 16 → k + most ≡ 16 → Sending a b k → SendsNext b c step.Finished → Writes c d most → Sends a d send.Finished
+finished : (a b c d : Snapshot) (k most : ℕ) → k < 16 → k + most ≡ 16 → Sending a b k → SendsNext b c send.Finished → Writes c d most → Sends a d send.Finished
 finished a b c d k most room few h s w = record {
   talk = (h.talk ++ s.talk) ++ [];
   went = went_then a c d (h.talk ++ s.talk) [] (went_then a b c h.talk s.talk h.went s.went) w.went;
@@ -167,8 +178,8 @@ finished a b c d k most room few h s w = record {
   );
 }
 
-pub sends_finished : (a b c d : Snapshot) (k most : ℕ) (how : Step) → how ≡ step.Finished → k < 16 → k + most ≡ 16 → Sending a b k → SendsNext b c how → Writes c d most → Sends a d send.Finished
-sends_finished a b c d k most how is room few h s w = finished a b c d k most room few h (subst (λ (x : Step). SendsNext b c x) is s) w
+pub sends_finished : (a b c d : Snapshot) (k most : ℕ) (how : SendState) → how ≡ send.Finished → k < 16 → k + most ≡ 16 → Sending a b k → SendsNext b c how → Writes c d most → Sends a d send.Finished
+sends_finished a b c d k most how is room few h s w = finished a b c d k most room few h (subst (λ (x : SendState). SendsNext b c x) is s) w
 
 pub sends_again : (a b : Snapshot) → Sending a b 16 → Sends a b send.Again
 sends_again a b h = record {
@@ -201,7 +212,7 @@ may_send a b c k n most few may only more = record {
 
 -- ---- single steps
 
-pub next_memory : (a : Snapshot) → a.conn.unwritten ≡ [] → SendsNext a a step.Memory
+pub next_memory : (a : Snapshot) → a.conn.unwritten ≡ [] → SendsNext a a send.Memory
 next_memory a written = record { talk = []; went = went_none a; own = tt; no_question = refl; drains = omega arith; writes = 0; few = omega arith; only = only_same a; step_is = (refl, refl, written) }
 
 -- ---- behind drains
@@ -211,7 +222,7 @@ pub drains_on : (a b : Snapshot) (finished dry : Bool) → finished ≡ false �
 drains_on a b finished dry goes_on d = subst (λ (x : Bool). Drains a b x dry) goes_on d
 
 -- what was drained was then written, as much of it as the link took
-wrote_behind : (a b c : Snapshot) (dry : Bool) (how : Step) → (d : Drains a b false dry) → OnlyWrites a b 0 → Went b c [] → OnlyWrites b c 1 → StepIs a c d.talk 1 how → SendsNext a c how
+wrote_behind : (a b c : Snapshot) (dry : Bool) (how : SendState) → (d : Drains a b false dry) → OnlyWrites a b 0 → Went b c [] → OnlyWrites b c 1 → StepIs a c d.talk 1 how → SendsNext a c how
 wrote_behind a b c dry how d before went only is = record {
   talk = d.talk;
   went = subst (λ (t : List Moment). Went a c t) (append-nil d.talk) (went_then a b c d.talk [] d.went went);
@@ -228,19 +239,19 @@ wrote_behind a b c dry how d before went only is = record {
 took : (n : ℕ) (last : Option Sent) → last ≡ Some (sent.Took n) → last ≢ Some sent.Fault
 took n last is failed = absurd (cc (is, failed))
 
-pub next_wrote : (a b c : Snapshot) (dry : Bool) (n : ℕ) → Drains a b false dry → OnlyWrites a b 0 → Went b c [] → OnlyWrites b c 1 → c.wire.last_sent ≡ Some (sent.Took n) → SendsNext a c step.Wrote
+pub next_wrote : (a b c : Snapshot) (dry : Bool) (n : ℕ) → Drains a b false dry → OnlyWrites a b 0 → Went b c [] → OnlyWrites b c 1 → c.wire.last_sent ≡ Some (sent.Took n) → SendsNext a c send.Again
 next_wrote a b c dry n d before went only last =
-    wrote_behind a b c dry step.Wrote d before went only (record { calm = d.finished_is; no_fault = λ _. took n c.wire.last_sent last }, refl)
+    wrote_behind a b c dry send.Again d before went only (record { calm = d.finished_is; no_fault = λ _. took n c.wire.last_sent last }, refl)
 
-pub next_would_block : (a b c : Snapshot) (dry : Bool) → Drains a b false dry → OnlyWrites a b 0 → Went b c [] → OnlyWrites b c 1 → c.wire.last_sent ≡ Some sent.Later → SendsNext a c step.WouldBlock
+pub next_would_block : (a b c : Snapshot) (dry : Bool) → Drains a b false dry → OnlyWrites a b 0 → Went b c [] → OnlyWrites b c 1 → c.wire.last_sent ≡ Some sent.Later → SendsNext a c send.WouldBlock
 next_would_block a b c dry d before went only last =
-    wrote_behind a b c dry step.WouldBlock d before went only (
+    wrote_behind a b c dry send.WouldBlock d before went only (
       record { calm = d.finished_is; no_fault = λ _ failed. absurd (cc (last, failed)) },
       record { last = last; made = omega (arith, before.writes_are, only.writes_are) },
     )
 
-pub next_fault : (a b c : Snapshot) (dry : Bool) → Drains a b false dry → OnlyWrites a b 0 → Went b c [] → OnlyWrites b c 1 → c.wire.last_sent ≡ Some sent.Fault → SendsNext a c step.Fault
-next_fault a b c dry d before went only last = wrote_behind a b c dry step.Fault d before went only (d.finished_is, last)
+pub next_fault : (a b c : Snapshot) (dry : Bool) → Drains a b false dry → OnlyWrites a b 0 → Went b c [] → OnlyWrites b c 1 → c.wire.last_sent ≡ Some sent.Fault → SendsNext a c send.Fault
+next_fault a b c dry d before went only last = wrote_behind a b c dry send.Fault d before went only (d.finished_is, last)
 
 -- all is sent
 sent_all : (a b c : Snapshot) (dry : Bool) → (d : Drains a b false dry) → dry ≡ true → c.conn.session.client ≡ a.conn.session.client → c.conn.unwritten ≡ [] → IsAllSent c d.talk
@@ -248,14 +259,14 @@ sent_all a b c dry d is_dry client written =
     record { written = written; dry = subst (λ (n : ℕ). EndsDry n d.talk) (sym client) (d.dry_is is_dry) }
 
 pub next_sent : (a b c : Snapshot) (dry : Bool) (n : ℕ) → Drains a b false dry → OnlyWrites a b 0 → Went b c [] → OnlyWrites b c 1 → c.wire.last_sent ≡ Some (sent.Took n) → dry ≡ true → c.conn.unwritten ≡ []
-    → SendsNext a c step.All
+    → SendsNext a c send.All
 next_sent a b c dry n d before went only last is_dry written =
-    wrote_behind a b c dry step.All d before went only (
+    wrote_behind a b c dry send.All d before went only (
       record { calm = d.finished_is; no_fault = λ _. took n c.wire.last_sent last },
       sent_all a b c dry d is_dry (went.client ∙ d.went.client) written,
     )
 
-pub next_all : (a b : Snapshot) (finished dry : Bool) → finished ≡ false → dry ≡ true → OnlyWrites a b 0 → b.conn.unwritten ≡ [] → Drains a b finished dry → SendsNext a b step.All
+pub next_all : (a b : Snapshot) (finished dry : Bool) → finished ≡ false → dry ≡ true → OnlyWrites a b 0 → b.conn.unwritten ≡ [] → Drains a b finished dry → SendsNext a b send.All
 next_all a b finished dry goes_on is_dry only written found =
     let d : Drains a b false dry = drains_on a b finished dry goes_on found in
     record {
@@ -273,7 +284,7 @@ next_all a b finished dry goes_on is_dry only written found =
       );
     }
 
-pub next_finished : (a b : Snapshot) (finished dry : Bool) → finished ≡ true → OnlyWrites a b 0 → Drains a b finished dry → SendsNext a b step.Finished
+pub next_finished : (a b : Snapshot) (finished dry : Bool) → finished ≡ true → OnlyWrites a b 0 → Drains a b finished dry → SendsNext a b send.Finished
 next_finished a b finished dry is_so only d = record {
   talk = d.talk;
   went = d.went;

@@ -90,29 +90,27 @@ pub record MayRead (old new : Snapshot) : Type 0 where
 -- off. A read gave as many bytes as were left at most
 abbrev pub StaysWithin : Left → Serving → Step → Type 0
 StaysWithin left session (step.Said said) = IsWithin left.lines said × StopsAt left.lines left.told session said
-StaysWithin left session step.Enough = left.told ≡ 0
+StaysWithin left session (step.Ends receive.Again) = left.told ≡ 0
 StaysWithin left session (step.Read bytes) = bytes ≤ left.bytes
-StaysWithin left session step.All = Unit {0}
-StaysWithin left session step.Stop = Unit {0}
-StaysWithin left session step.Memory = Unit {0}
+StaysWithin left session (step.Ends receive.All) = Unit {0}
+StaysWithin left session (step.Ends receive.Stop) = Unit {0}
+StaysWithin left session (step.Ends receive.Memory) = Unit {0}
 
 -- how many bytes a step read
 abbrev pub bytes_of : Step → ℕ
 bytes_of (step.Said said) = 0
-bytes_of step.Enough = 0
 bytes_of (step.Read bytes) = bytes
-bytes_of step.All = 0
-bytes_of step.Stop = 0
-bytes_of step.Memory = 0
+bytes_of (step.Ends state) = 0
 
 -- what a step did, in so many reads
 abbrev pub StepIs : Snapshot → Snapshot → List Moment → ℕ → Step → Type 0
 StepIs old new talk reads (step.Said said) = (reads ≡ 0) × AreSaid old.conn.session.client talk said.lines said.wakes
-StepIs old new talk reads step.Enough = (talk ≡ []) × (reads ≡ 0) × (new.conn.unfed ≡ []) × HasLoudNext new.conn.session
+StepIs old new talk reads (step.Ends receive.Again) =
+    (talk ≡ []) × (reads ≡ 0) × (new.conn.unfed ≡ []) × HasLoudNext new.conn.session
 StepIs old new talk reads (step.Read bytes) = (talk ≡ []) × (reads ≡ 1) × (new.wire.last_got ≡ Some (got.Bytes bytes))
-StepIs old new talk reads step.All = (talk ≡ []) × IsAllReceived old new
-StepIs old new talk reads step.Stop = (talk ≡ []) × IsOver new
-StepIs old new talk reads step.Memory = (talk ≡ []) × (reads ≡ 0) × HasToReceive old new
+StepIs old new talk reads (step.Ends receive.All) = (talk ≡ []) × IsAllReceived old new
+StepIs old new talk reads (step.Ends receive.Stop) = (talk ≡ []) × IsOver new
+StepIs old new talk reads (step.Ends receive.Memory) = (talk ≡ []) × (reads ≡ 0) × HasToReceive old new
 
 pub record ReceivesNext (old new : Snapshot) (step : Step) : Type 0 where
   pub talk : List Moment

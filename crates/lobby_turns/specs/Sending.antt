@@ -4,8 +4,6 @@ use Rattle.lobby_turns.specs.declared.link.Sent.{Sent}
 use Rattle.lobby_turns.specs.declared.link.Sent.TheVariants as sent
 use Rattle.lobby_turns.specs.declared.sending.SendState.{SendState}
 use Rattle.lobby_turns.specs.declared.sending.SendState.TheVariants as send
-use Rattle.lobby_turns.specs.declared.sending.Step.{Step}
-use Rattle.lobby_turns.specs.declared.sending.Step.TheVariants as step
 use Rattle.lobby_turns.specs.Wire.{Wire}
 use Rattle.lobby_turns.specs.Moments.{Moment, questions, told_end}
 use Rattle.lobby_turns.specs.Snapshot.{Snapshot}
@@ -54,15 +52,15 @@ abbrev pub SendsMost : Snapshot → Snapshot → Type 0
 SendsMost old new = new.wire.writes ≡ old.wire.writes + 16
 
 -- what a step did, in so many writes
-abbrev pub StepIs : Snapshot → Snapshot → List Moment → ℕ → Step → Type 0
-StepIs old new talk writes step.Wrote = IsSound old new talk × (writes ≡ 1)
-StepIs old new talk writes step.All = IsSound old new talk × IsAllSent new talk
-StepIs old new talk writes step.WouldBlock = IsSound old new talk × MustWait old new
-StepIs old new talk writes step.Finished = (told_end talk ≡ true) × (writes ≡ 0)
-StepIs old new talk writes step.Fault = (told_end talk ≡ false) × (new.wire.last_sent ≡ Some sent.Fault)
-StepIs old new talk writes step.Memory = (talk ≡ []) × (writes ≡ 0) × (new.conn.unwritten ≡ [])
+abbrev pub StepIs : Snapshot → Snapshot → List Moment → ℕ → SendState → Type 0
+StepIs old new talk writes send.Again = IsSound old new talk × (writes ≡ 1)
+StepIs old new talk writes send.All = IsSound old new talk × IsAllSent new talk
+StepIs old new talk writes send.WouldBlock = IsSound old new talk × MustWait old new
+StepIs old new talk writes send.Finished = (told_end talk ≡ true) × (writes ≡ 0)
+StepIs old new talk writes send.Fault = (told_end talk ≡ false) × (new.wire.last_sent ≡ Some sent.Fault)
+StepIs old new talk writes send.Memory = (talk ≡ []) × (writes ≡ 0) × (new.conn.unwritten ≡ [])
 
-pub record SendsNext (old new : Snapshot) (step : Step) : Type 0 where
+pub record SendsNext (old new : Snapshot) (state : SendState) : Type 0 where
   pub talk : List Moment
   pub went : Went old new talk
   pub own : AreDrains old.conn.session.client talk
@@ -71,7 +69,7 @@ pub record SendsNext (old new : Snapshot) (step : Step) : Type 0 where
   pub writes : ℕ
   pub few : writes ≤ 1
   pub only : OnlyWrites old new writes
-  pub step_is : StepIs old new talk writes step
+  pub step_is : StepIs old new talk writes state
 
 -- the link did not take what was last written
 abbrev pub IsStop : Option Sent → Type 0

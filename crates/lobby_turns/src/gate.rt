@@ -1,5 +1,6 @@
 //! Where a worker may be looked at from outside.
 
+use lobby_lock::MadeEvent;
 use server_log::Happening;
 
 /// Is told what a worker is about to do and what it did, and what operators may be told. Tests hold
@@ -7,6 +8,17 @@ use server_log::Happening;
 pub trait Gate {
     /// The worker of this number is about to take the lobby.
     fn before_take(&self, worker: u8);
+
+    /// Whether it wants the events that workers make. A gate that records nothing does not.
+    fn wants_events(&self) -> bool {
+        false
+    }
+
+    /// The worker made this event in a hold that is over, and its pass keeps events. It never waits. A gate that
+    /// records nothing lets it go.
+    fn made(&self, _worker: u8, made: MadeEvent) {
+        drop(made);
+    }
 
     /// The worker wrote these bytes to a link.
     fn after_write(&self, worker: u8, bytes: &[u8]);

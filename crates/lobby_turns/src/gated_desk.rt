@@ -1,6 +1,7 @@
-//! Where a turn takes the lobby.
+//! Where a turn takes the lobby, and gives it back.
 
 ghost use Rattle.std.specs.Prelude.{◌≡◌, []};
+ghost use Rattle.lobby_lock.specs.Passes.{pass_after};
 ghost use Rattle.lobby_turns.specs.Holds.{IsTaken, Stands};
 
 use crate::gate::Gate;
@@ -12,7 +13,7 @@ use std::sync::Wait;
 pub struct GatedDesk<'a, G> {
     /// Where the lobby lies between holds.
     pub desk: &'a Desk,
-    /// What is told of each take.
+    /// What is told of each take, and of the events that were made.
     pub gate: &'a G,
 }
 
@@ -27,5 +28,18 @@ impl<G: Gate> GatedDesk<'_, G> {
     {
         self.gate.before_take(pass.number());
         self.desk.take(rt, pass)
+    }
+
+    /// Gives the lobby back, and then tells the gate the events of the hold, one after another, if they were kept.
+    pub fn give<R: Wait>(&self, rt: &R, held: Held) -> Pass
+        requires { held.pass.desk ≡ self.now.desk.now }
+        ensures { result ≡ pass_after held }
+    {
+        let mut made = held.lay_down(rt, self.desk);
+        let worker = made.worker();
+        while let Some(event) = made.next() {
+            self.gate.made(worker, event);
+        }
+        made.pass()
     }
 }

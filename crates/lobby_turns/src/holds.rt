@@ -219,7 +219,7 @@ pub fn say<R: Wait, G: Gate>(
 {
     let mut held = desk.take(rt, pass);
     let said = say_lines(conn, &mut held, desk.gate, request, most, allowance);
-    (held.give(rt, desk.desk), said)
+    (desk.give(rt, held), said)
 }
 
 /// Drains into a slice, in a hold that goes on.
@@ -298,7 +298,7 @@ fn drain_into<R: Wait, G: Gate>(
 {
     let mut held = desk.take(rt, pass);
     let piece = drain_all(&mut held, client, into);
-    (held.give(rt, desk.desk), piece)
+    (desk.give(rt, held), piece)
 }
 
 /// Drains what one write carries for the client, in a hold. All that was drained before was written.
@@ -323,7 +323,7 @@ pub fn drain<R: Wait, G: Gate>(
     let client = conn.client();
     let mut held = desk.take(rt, pass);
     let piece = drain_pieces(&mut held, client, &mut conn.unwritten);
-    (held.give(rt, desk.desk), Ok(piece))
+    (desk.give(rt, held), Ok(piece))
 }
 
 /// Asks whether nothing will ever come of the client, without draining a byte.
@@ -390,7 +390,7 @@ pub fn shut<R: Wait, G: Gate>(
     let before = held.told();
     let shut = held.shut(conn.client());
     let told = held.told().wrapping_sub(before);
-    let pass = held.give(rt, desk.desk);
+    let pass = desk.give(rt, held);
     match shut {
         Ok(wakes) => (pass, Ok(wakes), told),
         Err(error) => (pass, Err(error), told),

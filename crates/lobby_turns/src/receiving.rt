@@ -82,16 +82,10 @@ impl Received {
 pub(crate) enum Step {
     /// Lines were said to the lobby, until a hold was over or memory was refused.
     Said(Said),
-    /// The next line is no quiet one, and the turn told enough.
-    Enough,
     /// So many bytes were read.
     Read(usize),
-    /// There is nothing more now.
-    All,
-    /// There will be nothing more, for the stream is spoilt or the link failed.
-    Stop,
-    /// Memory was refused.
-    Memory,
+    /// The turn receives no more. It does so again where the next line is no quiet one, and the turn told enough.
+    Ends(ReceiveState),
 }
 
 /// Reads the link, where it may have more, so many bytes at most.
@@ -105,16 +99,16 @@ fn receive_link<L: Link>(conn: &mut Conn, link: &mut L, pass: Pass, most: usize)
     ensures within { (left : Left) → left.bytes ≡ most → StaysWithin left conn.new.session result.1 }
 {
     match link.last_got() {
-        Some(Got::End) => return (pass, Step::All),
-        Some(Got::Fault) => return (pass, Step::Stop),
+        Some(Got::End) => return (pass, Step::Ends(ReceiveState::All)),
+        Some(Got::Fault) => return (pass, Step::Ends(ReceiveState::Stop)),
         Some(Got::Bytes(_)) | Some(Got::Later) | None => {}
     }
     match conn.read(link, most) {
         Ok(Got::Bytes(count)) => (pass, Step::Read(count)),
-        Ok(Got::Later) => (pass, Step::All),
-        Ok(Got::End) => (pass, Step::All),
-        Ok(Got::Fault) => (pass, Step::Stop),
-        Err(_) => (pass, Step::Memory),
+        Ok(Got::Later) => (pass, Step::Ends(ReceiveState::All)),
+        Ok(Got::End) => (pass, Step::Ends(ReceiveState::All)),
+        Ok(Got::Fault) => (pass, Step::Ends(ReceiveState::Stop)),
+        Err(_) => (pass, Step::Ends(ReceiveState::Memory)),
     }
 }
 
@@ -137,20 +131,20 @@ fn receive_next<R: Wait, L: Link, G: Gate>(
 {
     match conn.feed() {
         Ok(()) => {}
-        Err(_) => return (pass, Step::Memory),
+        Err(_) => return (pass, Step::Ends(ReceiveState::Memory)),
     }
     match conn.next_request() {
         Ok(Next::Line(request)) => {
             if left.told == 0 && !holds::is_quiet(&request.command) {
                 request.discard();
-                return (pass, Step::Enough);
+                return (pass, Step::Ends(ReceiveState::Again));
             }
             let (pass, said) = holds::say(rt, conn, desk, pass, request, left.lines, left.told);
             (pass, Step::Said(said))
         }
         Ok(Next::Nothing) => receive_link(conn, link, pass, left.bytes),
-        Ok(Next::Spoilt) => (pass, Step::Stop),
-        Err(_) => (pass, Step::Memory),
+        Ok(Next::Spoilt) => (pass, Step::Ends(ReceiveState::Stop)),
+        Err(_) => (pass, Step::Ends(ReceiveState::Memory)),
     }
 }
 
@@ -209,14 +203,11 @@ pub(crate) fn receive<R: Wait, L: Link, G: Gate>(
                     return (pass, ReceiveState::Memory, all);
                 }
             }
-            Step::Enough => return (pass, ReceiveState::Again, all),
             Step::Read(count) => {
                 reads += 1;
                 bytes += count;
             }
-            Step::All => return (pass, ReceiveState::All, all),
-            Step::Stop => return (pass, ReceiveState::Stop, all),
-            Step::Memory => return (pass, ReceiveState::Memory, all),
+            Step::Ends(state) => return (pass, state, all),
         }
     }
     (pass, stop_at_limit(conn), all)

@@ -22,37 +22,20 @@ use std::sync::Wait;
 /// told.
 const WRITES: usize = 16;
 
-/// How far a turn sent to its client.
+/// How far a turn, or a step of it, sent to its client.
 #[derive(Clone, Copy)]
 pub enum SendState {
     /// All that the lobby has for it was written.
     All,
     /// The link takes nothing now.
     WouldBlock,
-    /// The limit was met.
+    /// A step wrote, or the turn met its limit: there may be more.
     Again,
     /// Nothing will ever come of the client.
     Finished,
     /// The link failed.
     Fault,
-    /// Memory was refused.
-    Memory,
-}
-
-/// One step of sending.
-#[derive(Clone, Copy)]
-pub(crate) enum Step {
-    /// Bytes were written.
-    Wrote,
-    /// All that the lobby has for it was written.
-    All,
-    /// The link takes nothing now.
-    WouldBlock,
-    /// Nothing will ever come of the client.
-    Finished,
-    /// The link failed.
-    Fault,
-    /// Memory was refused to the piece that was to be drained, and nothing was done.
+    /// Memory was refused to the chunk that was to be drained, and nothing was done.
     Memory,
 }
 
@@ -88,7 +71,7 @@ fn send_link<L: Link, G: Gate>(
     pass: Pass,
     gate: &G,
     dry: bool,
-) -> (Pass, Step)
+) -> (Pass, SendState)
     requires wire { MayGoOn (L.wire link.old) }
     requires rest { conn.old.unwritten ≢ [] }
     ensures { (before : Snapshot) → Drains before (snapshot conn.old (L.wire link.old) pass) false dry
@@ -98,12 +81,12 @@ fn send_link<L: Link, G: Gate>(
     match write_rest(conn, link, gate, pass.number()) {
         Sent::Took(_) => {
             if dry && conn.is_written() {
-                return (pass, Step::All);
+                return (pass, SendState::All);
             }
-            (pass, Step::Wrote)
+            (pass, SendState::Again)
         }
-        Sent::Later => (pass, Step::WouldBlock),
-        Sent::Fault => (pass, Step::Fault),
+        Sent::Later => (pass, SendState::WouldBlock),
+        Sent::Fault => (pass, SendState::Fault),
     }
 }
 
@@ -114,7 +97,7 @@ fn send_next<R: Wait, L: Link, G: Gate>(
     link: &mut L,
     desk: &GatedDesk<'_, G>,
     pass: Pass,
-) -> (Pass, Step)
+) -> (Pass, SendState)
     requires desk { pass.desk ≡ desk.now.desk.now }
     requires wire { MayGoOn (L.wire link.old) }
     ensures { SendsNext (snapshot conn.old (L.wire link.old) pass) (snapshot conn.new (L.wire link.new) result.0)
@@ -125,13 +108,13 @@ fn send_next<R: Wait, L: Link, G: Gate>(
     }
     let (pass, drained) = holds::drain(rt, conn, desk, pass);
     match drained {
-        Err(_) => (pass, Step::Memory),
+        Err(_) => (pass, SendState::Memory),
         Ok(piece) => {
             if piece.finished {
-                return (pass, Step::Finished);
+                return (pass, SendState::Finished);
             }
             if piece.dry && conn.is_written() {
-                return (pass, Step::All);
+                return (pass, SendState::All);
             }
             send_link(conn, link, pass, desk.gate, piece.dry)
         }
@@ -177,18 +160,17 @@ pub(crate) fn send<R: Wait, L: Link, G: Gate>(
         }
     }
     for writes in 0..WRITES {
-        let (next, step) = send_next(rt, conn, link, desk, pass);
+        let (next, state) = send_next(rt, conn, link, desk, pass);
         pass = next;
-        match step {
-            Step::Wrote => {}
-            Step::All => return (pass, SendState::All),
-            Step::WouldBlock => return (pass, SendState::WouldBlock),
-            Step::Finished => {
+        match state {
+            SendState::Again => {}
+            SendState::All | SendState::WouldBlock | SendState::Fault | SendState::Memory => {
+                return (pass, state);
+            }
+            SendState::Finished => {
                 write_out(conn, link, &pass, desk.gate, WRITES - writes);
                 return (pass, SendState::Finished);
             }
-            Step::Fault => return (pass, SendState::Fault),
-            Step::Memory => return (pass, SendState::Memory),
         }
     }
     (pass, SendState::Again)

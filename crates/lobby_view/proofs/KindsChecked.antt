@@ -47,9 +47,9 @@ pub optional_room : (o : Option (List ℕ)) → length (optional_text o) ≤ opt
 optional_room None = omega arith
 optional_room (Some w) = omega arith
 
-pub pairs_room : (mark : ℕ) (ps : List Pair) → length (pairs_text mark ps) ≤ sum_by pair_size ps
-pairs_room mark [] = omega arith
-pairs_room mark (p ∷ ps) =
+pub pairs_room : (separator : ℕ) (ps : List Pair) → length (pairs_text separator ps) ≤ sum_by pair_size ps
+pairs_room separator [] = omega arith
+pairs_room separator (p ∷ ps) =
     let rest = pairs_room 9 ps in
     omega (arith, sum_by-cons pair_size p ps, length-append (pair_text p) (pairs_text 9 ps), length-append p.key (61 ∷ p.value))
 

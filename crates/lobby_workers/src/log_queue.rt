@@ -3,13 +3,13 @@
 //! A worker puts and never waits. The thread writes whole lines, many in a write where many wait.
 
 use crate::log_lines::Lines;
+use crate::sleep::WriterSleep;
 use crossbeam_queue::ArrayQueue;
 use server_log::{Happening, LogLevel, Started};
 use std::alloc::{AllocError, Global};
 use std::io::{ErrorKind, Write};
 use std::sync::Wait;
-use std::sync::atomic::{AtomicBool, AtomicU64, Ordering};
-use std::time::Duration;
+use std::sync::atomic::{AtomicU64, Ordering};
 
 /// The most happenings that wait to be written. A burst of logins fits, as long as lines are written faster than users
 /// log in; what comes while no line can be written is lost.
@@ -18,19 +18,6 @@ const WAITING: usize = 1_024;
 /// So many wake a thread that gathers.
 const MANY: usize = WAITING / 2;
 
-/// The milliseconds for which the thread that has written lets lines gather, so that a burst wakes it a few times, and
-/// one write has many.
-const GATHERING: u64 = 20;
-
-/// What `sleep` shows while the thread that writes is awake.
-const AWAKE: u64 = 0;
-
-/// What it shows where that thread may be asleep.
-const ASLEEP: u64 = 1;
-
-/// What it shows where that thread may sleep while lines gather.
-const GATHERS: u64 = 2;
-
 /// What waits to be written. A worker puts and never waits: what finds no place is counted as lost, and its number is
 /// written as soon as a line can be.
 pub struct LogQueue {
@@ -38,8 +25,7 @@ pub struct LogQueue {
     started: Started,
     waiting: ArrayQueue<Happening>,
     lost: AtomicU64,
-    sleep: AtomicU64,
-    is_over: AtomicBool,
+    sleep: WriterSleep,
 }
 
 impl Drop for LogQueue {
@@ -51,13 +37,11 @@ impl Drop for LogQueue {
             waiting,
             lost,
             sleep,
-            is_over,
         } = self;
         drop(started);
         drop(waiting);
         drop(lost);
         drop(sleep);
-        drop(is_over);
     }
 }
 
@@ -83,8 +67,7 @@ impl LogQueue {
             started,
             waiting,
             lost: AtomicU64::new(0),
-            sleep: AtomicU64::new(AWAKE),
-            is_over: AtomicBool::new(false),
+            sleep: WriterSleep::new(),
         })
     }
 
@@ -96,9 +79,8 @@ impl LogQueue {
         if self.waiting.push(rt, happening).is_err() {
             self.lost.fetch_add(1, Ordering::SeqCst);
         }
-        let sleep = self.sleep.load(Ordering::SeqCst);
-        if sleep == ASLEEP || (sleep == GATHERS && self.waiting.len(rt) >= MANY) {
-            self.wake();
+        if self.sleep.is_asleep() || (self.sleep.gathers() && self.waiting.len(rt) >= MANY) {
+            self.sleep.wake();
         }
     }
 
@@ -109,34 +91,23 @@ impl LogQueue {
 
     /// Nothing more will be put.
     pub fn end(&self) {
-        self.is_over.store(true, Ordering::SeqCst);
-        self.wake();
-    }
-
-    /// Wakes the thread that writes, where it may be asleep.
-    fn wake(&self) {
-        if self.sleep.swap(AWAKE, Ordering::SeqCst) != AWAKE {
-            self.sleep.wake_one();
-        }
+        self.sleep.end();
     }
 
     /// Writes what is put on standard error, in pieces of whole lines, until nothing more will be. It sleeps where
     /// nothing is there. What standard error does not take it keeps for a later try, and gives up at the end.
-    ///
-    /// Who is about to sleep shows it, and looks once more; who puts looks whether it is shown behind what it put. So
-    /// nobody sleeps beside what was put.
     pub fn write_until_end<R: Wait, E: Write + Drop>(&self, rt: &R, errors: E, lines: Lines) {
         let mut errors = errors;
         let mut lines = lines;
         for _ in rt.forever() {
-            let is_over = self.is_over.load(Ordering::SeqCst);
-            self.sleep.store(ASLEEP, Ordering::SeqCst);
+            let is_over = self.sleep.is_over();
+            self.sleep.show();
             match self.write_waiting(rt, &mut errors, &mut lines) {
                 Tried::Written if is_over => {}
                 Tried::Written => self.gather(rt),
                 Tried::Nothing | Tried::Full | Tried::Failed if is_over => break,
                 Tried::Full => {}
-                Tried::Nothing | Tried::Failed => self.sleep.park(rt, ASLEEP as u32),
+                Tried::Nothing | Tried::Failed => self.sleep.sleep(rt),
             }
         }
         drop(lines);
@@ -145,10 +116,9 @@ impl LogQueue {
 
     /// Lets lines gather for a while, until they are many or nothing more will be put.
     fn gather<R: Wait>(&self, rt: &R) {
-        self.sleep.store(GATHERS, Ordering::SeqCst);
-        if !self.is_over.load(Ordering::SeqCst) && self.waiting.len(rt) < MANY {
-            let most = Duration::from_millis(GATHERING);
-            self.sleep.park_timeout(rt, GATHERS as u32, most);
+        self.sleep.show_gathering();
+        if self.waiting.len(rt) < MANY {
+            self.sleep.gather(rt);
         }
     }
 

@@ -1,6 +1,7 @@
 //! The gate through which workers tell operators.
 
 use crate::log_queue::LogQueue;
+use lobby_lock::MadeEvent;
 use lobby_turns::Gate;
 use server_log::Happening;
 use std::sync::Wait;
@@ -19,6 +20,14 @@ pub struct Reporter<'a, 'g, R: Wait, G> {
 impl<R: Wait, G: Gate> Gate for Reporter<'_, '_, R, G> {
     fn before_take(&self, worker: u8) {
         self.gate.before_take(worker);
+    }
+
+    fn wants_events(&self) -> bool {
+        self.gate.wants_events()
+    }
+
+    fn made(&self, worker: u8, made: MadeEvent) {
+        self.gate.made(worker, made);
     }
 
     fn after_write(&self, worker: u8, bytes: &[u8]) {

@@ -143,8 +143,10 @@ fn serve_until_end<R: Threads + Wait + Net + Sync, I: Read, O: Write, G: Gate + 
         accounts,
         seed,
     } = service;
-    let (desk, pass) = open_desk(rt, alloc, settings, accounts, seed)?;
+    let keep_events = gate.wants_events();
+    let (desk, pass) = open_desk(rt, alloc, settings, accounts, seed, keep_events)?;
     let mut handles = Handles::new(alloc, proxies);
+    handles.keep_events = keep_events;
     let ended = match new_workers(rt, alloc, &desk, pass, workers, listener, &mut handles) {
         Ok((first, others)) => {
             let shared = Shared {

@@ -28,6 +28,8 @@ pub struct Handles {
     pub stop: AtomicBool,
     /// From where fronts connect.
     pub proxies: Proxies,
+    /// Whether they tell the gate what they make.
+    pub keep_events: bool,
 }
 
 impl Handles {
@@ -38,6 +40,7 @@ impl Handles {
             wakers: Wakers::new(alloc),
             stop: AtomicBool::new(false),
             proxies,
+            keep_events: false,
         }
     }
 
@@ -57,19 +60,28 @@ pub struct NewWorker {
     pub pass: Pass,
 }
 
-/// A desk with a new lobby, which hashes the words that clients choose by this seed, and worker 0's pass.
+/// A desk with a new lobby, which hashes the words that clients choose by this seed, and worker 0's pass, which keeps
+/// the events of its holds only if it is told to.
 pub fn open_desk<R: Wait>(
     rt: &R,
     alloc: Global,
     settings: Settings,
     accounts: AccountBook,
     seed: HashSeed,
+    keep_events: bool,
 ) -> Result<(Desk, Pass), ServerError>
     ensures { IfOk result (λ r. (r.1.desk ≡ r.0) × (r.1.worker.number ≡ 0)) }
 {
     let lobby = Lobby::with_seed(alloc, settings, accounts, seed)?;
     match Desk::open(rt, alloc, lobby) {
-        Ok(opened) => Ok(opened),
+        Ok((desk, mut pass)) => {
+            if keep_events && pass.keep_events(alloc).is_err() {
+                drop(pass);
+                drop(desk);
+                return Err(ServerError::Memory);
+            }
+            Ok((desk, pass))
+        }
         Err(_) => Err(ServerError::Memory),
     }
 }
@@ -175,7 +187,7 @@ fn next_worker<R: Net>(
             return Err(error);
         }
     };
-    match hand_out(desk, alloc, pass) {
+    match hand_out(desk, alloc, pass, handles.keep_events) {
         Ok((mine, other)) => {
             let worker = NewWorker {
                 listener,
@@ -190,13 +202,25 @@ fn next_worker<R: Net>(
     }
 }
 
-fn hand_out(desk: &Desk, alloc: Global, pass: Pass) -> Result<(Pass, Pass), ServerError>
+fn hand_out(
+    desk: &Desk,
+    alloc: Global,
+    pass: Pass,
+    keep_events: bool,
+) -> Result<(Pass, Pass), ServerError>
     requires { (pass.desk ≡ desk.now) × (pass.worker.number ≡ 0) }
     ensures mine { IfOk result (λ r. (r.0.desk ≡ desk.now) × (r.0.worker.number ≡ 0)) }
     ensures other { IfOk result (λ r. r.1.desk ≡ desk.now) }
 {
     match desk.hand_out(alloc, pass) {
-        Ok(passes) => Ok(passes),
+        Ok((mine, mut other)) => {
+            if keep_events && other.keep_events(alloc).is_err() {
+                drop(other);
+                drop(mine);
+                return Err(ServerError::Memory);
+            }
+            Ok((mine, other))
+        }
         Err((pass, error)) => {
             drop(pass);
             match error {

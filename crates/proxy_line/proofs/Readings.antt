@@ -47,6 +47,6 @@ number_if_written r text value false h e same = finds_none (IsNumber text) (λ n
     let is_value : n ≡ value = cc in
     false≢true (same ∙ (bytes_eq-Decides (decimal value) text).1 (ap decimal (sym is_value) ∙ sym is.0)))
 
--- the parts at a mark, the number before it, and what stands behind
-pub leads_once : (mark : ℕ) (text digits behind : List ℕ) (n : ℕ) (rest : List ℕ) → mark < 48 → PartedAt mark text digits behind → LeadsWith mark text n rest → (digits ≡ decimal n) × (behind ≡ rest)
-leads_once mark text digits behind n rest low parts leads = parted_once mark digits (decimal n) parts.first (lacks_digits mark n low (omega (arith, leads.1))) (sym parts.whole ∙ leads.0)
+-- the parts at a separator, the number before it, and what stands behind
+pub leads_once : (separator : ℕ) (text digits behind : List ℕ) (n : ℕ) (rest : List ℕ) → separator < 48 → PartedAt separator text digits behind → LeadsWith separator text n rest → (digits ≡ decimal n) × (behind ≡ rest)
+leads_once separator text digits behind n rest low parts leads = parted_once separator digits (decimal n) parts.first (lacks_digits separator n low (omega (arith, leads.1))) (sym parts.whole ∙ leads.0)

@@ -6,10 +6,10 @@ use Rattle.proxy_line.proofs.Parts.{lacks_digits, parted_once}
 use Rattle.proxy_line.specs.Routes.{ArePorts, IsSomePort}
 
 -- the part before a byte that the front lacks, and the part behind it
-pub same_parts : (mark : ℕ) (text front behind word rest : List ℕ) → PartedAt mark text front behind → has_byte mark word ≡ false
-    → text ≡ word ++ mark ∷ rest → (front ≡ word) × (behind ≡ rest)
-same_parts mark text front behind word rest parts lacks is =
-    parted_once mark front word parts.first lacks (sym parts.whole ∙ is)
+pub same_parts : (separator : ℕ) (text front behind word rest : List ℕ) → PartedAt separator text front behind → has_byte separator word ≡ false
+    → text ≡ word ++ separator ∷ rest → (front ≡ word) × (behind ≡ rest)
+same_parts separator text front behind word rest parts lacks is =
+    parted_once separator front word parts.first lacks (sym parts.whole ∙ is)
 
 portless : (text : List ℕ) → IsSomePort text → has_byte 32 text ≡ false
 portless text is =

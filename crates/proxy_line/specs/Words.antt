@@ -8,9 +8,9 @@ pub record Finds {X : Type 0} (P : X → Type 0) (answer : Option X) : Type 0 wh
   pub complete : (x : X) → P x → answer ≡ Some x
 
 -- front is all before the first such byte, and behind is all after it
-pub record PartedAt (mark : ℕ) (bytes front behind : List ℕ) : Type 0 where
-  pub whole : bytes ≡ front ++ mark ∷ behind
-  pub first : has_byte mark front ≡ false
+pub record PartedAt (separator : ℕ) (bytes front behind : List ℕ) : Type 0 where
+  pub whole : bytes ≡ front ++ separator ∷ behind
+  pub first : has_byte separator front ≡ false
 
 -- 0 to 4294967295 in decimal, without leading zeros
 abbrev pub IsNumber : List ℕ → ℕ → Type 0
@@ -18,7 +18,7 @@ IsNumber text n = (text ≡ decimal n) × (n < 2 ^ 32)
 
 -- such a number, the byte that ends it, and what stands behind
 abbrev pub LeadsWith : ℕ → List ℕ → ℕ → List ℕ → Type 0
-LeadsWith mark text n rest = (text ≡ decimal n ++ mark ∷ rest) × (n < 2 ^ 32)
+LeadsWith separator text n rest = (text ≡ decimal n ++ separator ∷ rest) × (n < 2 ^ 32)
 
 abbrev pub LeadsWithOctet : List ℕ → ℕ → List ℕ → Type 0
 LeadsWithOctet text n rest = (text ≡ decimal n ++ 46 ∷ rest) × (n < 2 ^ 8)

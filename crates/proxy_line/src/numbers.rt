@@ -1,4 +1,4 @@
-//! Numbers, and the marks that end them.
+//! Numbers, and the separators that end them.
 
 ghost use Rattle.std.specs.Prelude.{◌≡◌, ◌<◌, ℕ, List, false, IfSome, IsSomeAnd, MatchOption};
 ghost use Rattle.line_words.specs.Bytes.{has_byte};
@@ -8,12 +8,12 @@ use itoa::Buffer;
 use memchr::memchr;
 use std::str;
 
-/// What stands before the first byte `mark`, and what stands behind it; `None` where there is none.
-pub fn part_at(bytes: &[u8], mark: u8) -> Option<(&[u8], &[u8])>
-    ensures { MatchOption result (has_byte mark bytes.now ≡ false) (λ parts.
-        PartedAt mark bytes.now parts.0.now parts.1.now) }
+/// What stands before the first byte `separator`, and what stands behind it; `None` where there is none.
+pub fn part_at(bytes: &[u8], separator: u8) -> Option<(&[u8], &[u8])>
+    ensures { MatchOption result (has_byte separator bytes.now ≡ false) (λ parts.
+        PartedAt separator bytes.now parts.0.now parts.1.now) }
 {
-    let at = memchr(mark, bytes)?;
+    let at = memchr(separator, bytes)?;
     Some((&bytes[..at], &bytes[at + 1..]))
 }
 
@@ -28,14 +28,14 @@ pub fn number(text: &[u8]) -> Option<u32>
     (buffer.format(value) == digits).then_some(value)
 }
 
-/// The number, as `number` reads one, before the first `mark` of the text, and what stands behind the mark. `None`
-/// where there is no mark or no such number. The mark is a byte before the digits in ASCII.
-pub fn number_before(text: &[u8], mark: u8) -> Option<(u32, &[u8])>
-    requires { mark < 48 }
-    ensures sound { IfSome result (λ parts. LeadsWith mark text.now parts.0 parts.1.now) }
-    ensures complete { (n : ℕ) (rest : List ℕ) → LeadsWith mark text.now n rest
+/// The number, as `number` reads one, before the first `separator` of the text, and what stands behind the separator.
+/// `None` where there is no separator or no such number. The separator is a byte before the digits in ASCII.
+pub fn number_before(text: &[u8], separator: u8) -> Option<(u32, &[u8])>
+    requires { separator < 48 }
+    ensures sound { IfSome result (λ parts. LeadsWith separator text.now parts.0 parts.1.now) }
+    ensures complete { (n : ℕ) (rest : List ℕ) → LeadsWith separator text.now n rest
         → IsSomeAnd result (λ parts. (parts.0 ≡ n) × (parts.1.now ≡ rest)) }
 {
-    let (digits, rest) = part_at(text, mark)?;
+    let (digits, rest) = part_at(text, separator)?;
     Some((number(digits)?, rest))
 }

@@ -15,7 +15,7 @@ use Rattle.reply_grammar.specs.Fields.{◌>>=◌, piece_at, many, if_is, pair_in
 use Rattle.reply_grammar.specs.Reading.{field, fields}
 use Rattle.reply_grammar.proofs.Pieces.{bind_some, guard_some, some_is, piece_again, tested_again, tested_takes}
 use Rattle.reply_grammar.proofs.NumberFields.{number_again, number_takes, wide_again, wide_takes}
-use Rattle.reply_grammar.proofs.Several.{words_text-marked, pairs_text-marked, many_again, many_takes, word_prints, name_prints, pair_prints}
+use Rattle.reply_grammar.proofs.Several.{words_text-separated, pairs_text-separated, many_again, many_takes, word_prints, name_prints, pair_prints}
 
 -- what may follow a kind follows
 abbrev pub Follows : Option ℕ → List ℕ → Type 0
@@ -43,14 +43,14 @@ name_takes : (bytes : List ℕ) (x : List ℕ × List ℕ) → name_at bytes ≡
 unfolding name_at
 name_takes bytes x e = tested_takes is_name 32 32 bytes x e
 
-sentence_again : (mark : ℕ) (w rest : List ℕ) → is_sentence w ≡ true → Ends 9 rest → sentence_at mark (mark ∷ (w ++ rest)) ≡ Some (w, rest)
+sentence_again : (separator : ℕ) (w rest : List ℕ) → is_sentence w ≡ true → Ends 9 rest → sentence_at separator (separator ∷ (w ++ rest)) ≡ Some (w, rest)
 unfolding sentence_at
-sentence_again mark w rest fit ends =
-    tested_again is_sentence (piece_at mark 9 (mark ∷ (w ++ rest))) w rest (piece_again is_sentence_byte mark 9 w rest refl fit ends) fit
+sentence_again separator w rest fit ends =
+    tested_again is_sentence (piece_at separator 9 (separator ∷ (w ++ rest))) w rest (piece_again is_sentence_byte separator 9 w rest refl fit ends) fit
 
-sentence_takes : (mark : ℕ) (bytes : List ℕ) (x : List ℕ × List ℕ) → sentence_at mark bytes ≡ Some x → (bytes ≡ mark ∷ (x.0 ++ x.1)) × (is_sentence x.0 ≡ true)
+sentence_takes : (separator : ℕ) (bytes : List ℕ) (x : List ℕ × List ℕ) → sentence_at separator bytes ≡ Some x → (bytes ≡ separator ∷ (x.0 ++ x.1)) × (is_sentence x.0 ≡ true)
 unfolding sentence_at
-sentence_takes mark bytes x e = tested_takes is_sentence mark 9 bytes x e
+sentence_takes separator bytes x e = tested_takes is_sentence separator 9 bytes x e
 
 text_again : (t : List ℕ) → is_text t ≡ true → text_at (32 ∷ t) ≡ Some (t, [])
 unfolding text_at
@@ -107,7 +107,7 @@ words_again : (ws : List (List ℕ)) → (list_all is_word ws && nat_le 1 (lengt
 unfolding words_at
 words_again ws fit =
     let p = and_parts (list_all is_word ws) (nat_le 1 (length ws)) fit in
-    rw (words_text-marked ws, many_again (if_is is_word) (λ w. w) is_word is_word_byte 32 refl word_prints 32 ws p.0, p.1) refl
+    rw (words_text-separated ws, many_again (if_is is_word) (λ w. w) is_word is_word_byte 32 refl word_prints 32 ws p.0, p.1) refl
 
 words_take : (bytes : List ℕ) (x : List (List ℕ) × List ℕ) → words_at bytes ≡ Some x → (bytes ≡ words_text x.0 ++ x.1) × ((list_all is_word x.0 && nat_le 1 (length x.0)) ≡ true)
 unfolding words_at
@@ -116,14 +116,14 @@ words_take bytes x e =
     let g = guard_some (nat_le 1 (length p.0)) (p.0, []) x p.2 in
     let t = many_takes (if_is is_word) (λ w. w) is_word is_word_byte 32 word_prints 32 bytes p.0 p.1 in
     subst (λ (q : List (List ℕ) × List ℕ). (bytes ≡ words_text q.0 ++ q.1) × ((list_all is_word q.0 && nat_le 1 (length q.0)) ≡ true)) g.1
-    (t.0 ∙ sym (words_text-marked p.0) ∙ sym (append-nil (words_text p.0)), and_from (list_all is_word p.0) (nat_le 1 (length p.0)) t.1 g.0)
+    (t.0 ∙ sym (words_text-separated p.0) ∙ sym (append-nil (words_text p.0)), and_from (list_all is_word p.0) (nat_le 1 (length p.0)) t.1 g.0)
 
 names_again : (ws : List (List ℕ)) → (list_all is_name ws && nat_le 1 (length ws) && nat_le (length ws) 32) ≡ true → names_at (words_text ws) ≡ Some (ws, [])
 unfolding names_at
 names_again ws fit =
     let q = and_parts (list_all is_name ws && nat_le 1 (length ws)) (nat_le (length ws) 32) fit in
     let p = and_parts (list_all is_name ws) (nat_le 1 (length ws)) q.0 in
-    rw (words_text-marked ws, many_again (if_is is_name) (λ w. w) is_name is_name_byte 32 refl name_prints 32 ws p.0, p.1, q.1) refl
+    rw (words_text-separated ws, many_again (if_is is_name) (λ w. w) is_name is_name_byte 32 refl name_prints 32 ws p.0, p.1, q.1) refl
 
 names_take : (bytes : List ℕ) (x : List (List ℕ) × List ℕ) → names_at bytes ≡ Some x → (bytes ≡ words_text x.0 ++ x.1) × ((list_all is_name x.0 && nat_le 1 (length x.0) && nat_le (length x.0) 32) ≡ true)
 unfolding names_at
@@ -133,13 +133,13 @@ names_take bytes x e =
     let c = and_parts (nat_le 1 (length p.0)) (nat_le (length p.0) 32) g.0 in
     let t = many_takes (if_is is_name) (λ w. w) is_name is_name_byte 32 name_prints 32 bytes p.0 p.1 in
     subst (λ (q : List (List ℕ) × List ℕ). (bytes ≡ words_text q.0 ++ q.1) × ((list_all is_name q.0 && nat_le 1 (length q.0) && nat_le (length q.0) 32) ≡ true)) g.1
-    (t.0 ∙ sym (words_text-marked p.0) ∙ sym (append-nil (words_text p.0)), and_from (list_all is_name p.0 && nat_le 1 (length p.0)) (nat_le (length p.0) 32) (and_from (list_all is_name p.0) (nat_le 1 (length p.0)) t.1 c.0) c.1)
+    (t.0 ∙ sym (words_text-separated p.0) ∙ sym (append-nil (words_text p.0)), and_from (list_all is_name p.0 && nat_le 1 (length p.0)) (nat_le (length p.0) 32) (and_from (list_all is_name p.0) (nat_le 1 (length p.0)) t.1 c.0) c.1)
 
 pairs_again : (ps : List Pair) → (list_all is_pair ps && nat_le 1 (length ps)) ≡ true → pairs_at (pairs_text 32 ps) ≡ Some (ps, [])
 unfolding pairs_at
 pairs_again ps fit =
     let p = and_parts (list_all is_pair ps) (nat_le 1 (length ps)) fit in
-    rw (pairs_text-marked 32 ps, many_again pair_in pair_text is_pair is_sentence_byte 9 refl pair_prints 32 ps p.0, p.1) refl
+    rw (pairs_text-separated 32 ps, many_again pair_in pair_text is_pair is_sentence_byte 9 refl pair_prints 32 ps p.0, p.1) refl
 
 pairs_take : (bytes : List ℕ) (x : List Pair × List ℕ) → pairs_at bytes ≡ Some x → (bytes ≡ pairs_text 32 x.0 ++ x.1) × ((list_all is_pair x.0 && nat_le 1 (length x.0)) ≡ true)
 unfolding pairs_at
@@ -148,7 +148,7 @@ pairs_take bytes x e =
     let g = guard_some (nat_le 1 (length p.0)) (p.0, []) x p.2 in
     let t = many_takes pair_in pair_text is_pair is_sentence_byte 9 pair_prints 32 bytes p.0 p.1 in
     subst (λ (q : List Pair × List ℕ). (bytes ≡ pairs_text 32 q.0 ++ q.1) × ((list_all is_pair q.0 && nat_le 1 (length q.0)) ≡ true)) g.1
-    (t.0 ∙ sym (pairs_text-marked 32 p.0) ∙ sym (append-nil (pairs_text 32 p.0)), and_from (list_all is_pair p.0) (nat_le 1 (length p.0)) t.1 g.0)
+    (t.0 ∙ sym (pairs_text-separated 32 p.0) ∙ sym (append-nil (pairs_text 32 p.0)), and_from (list_all is_pair p.0) (nat_le 1 (length p.0)) t.1 g.0)
 
 -- any kind
 

@@ -36,49 +36,49 @@ module _ {A : Type 0} (one : List ℕ → Option A) (stop : ℕ) where
       let e : one p.0 ≡ Some x = ap (λ (r : List ℕ × List ℕ). one r.0) same ∙ is in
       rw (e, tails_many p.1 ends, same) refl
 
-  pub many_step : (mark : ℕ) (rest : List ℕ) (p : List ℕ × List ℕ) (x : A) → piece_at mark stop rest ≡ Some p → one p.0 ≡ Some x → many one mark stop rest ≡ next_is x (many one stop stop p.1)
+  pub many_step : (separator : ℕ) (rest : List ℕ) (p : List ℕ × List ℕ) (x : A) → piece_at separator stop rest ≡ Some p → one p.0 ≡ Some x → many one separator stop rest ≡ next_is x (many one stop stop p.1)
   unfolding many piece_at
-  many_step mark [] p x e is = absurd cc
-  many_step mark (b ∷ bs) p x e is =
-      let g = guard_some (b == mark) (before stop bs, from stop bs) p e in
+  many_step separator [] p x e is = absurd cc
+  many_step separator (b ∷ bs) p x e is =
+      let g = guard_some (b == separator) (before stop bs, from stop bs) p e in
       rw (g.0, between-cons stop bs) (step_at (before stop bs, from stop bs) p x g.1 is (from_ends stop bs))
 
-  pub many_part_fails : (mark : ℕ) (rest : List ℕ) (p : List ℕ × List ℕ) → piece_at mark stop rest ≡ Some p → one p.0 ≡ None → many one mark stop rest ≡ None
+  pub many_part_fails : (separator : ℕ) (rest : List ℕ) (p : List ℕ × List ℕ) → piece_at separator stop rest ≡ Some p → one p.0 ≡ None → many one separator stop rest ≡ None
   unfolding many piece_at
-  many_part_fails mark [] p e is = absurd cc
-  many_part_fails mark (b ∷ bs) p e is =
-      let g = guard_some (b == mark) (before stop bs, from stop bs) p e in
+  many_part_fails separator [] p e is = absurd cc
+  many_part_fails separator (b ∷ bs) p e is =
+      let g = guard_some (b == separator) (before stop bs, from stop bs) p e in
       let first : one (before stop bs) ≡ None = ap (λ (r : List ℕ × List ℕ). one r.0) g.1 ∙ is in
       rw (g.0, between-cons stop bs, first) refl
 
-  pub many_fails : (mark : ℕ) (rest : List ℕ) → 0 < length rest → piece_at mark stop rest ≡ None → many one mark stop rest ≡ None
+  pub many_fails : (separator : ℕ) (rest : List ℕ) → 0 < length rest → piece_at separator stop rest ≡ None → many one separator stop rest ≡ None
   unfolding many piece_at
-  many_fails mark [] some e = absurd (omega arith)
-  many_fails mark (b ∷ bs) some e = fails_by (b == mark) (before stop bs, from stop bs) (all_of one (between stop bs)) e
+  many_fails separator [] some e = absurd (omega arith)
+  many_fails separator (b ∷ bs) some e = fails_by (b == separator) (before stop bs, from stop bs) (all_of one (between stop bs)) e
 
-pub shorter : (mark stop : ℕ) (rest : List ℕ) (p : List ℕ × List ℕ) → piece_at mark stop rest ≡ Some p → length p.1 < length rest
-shorter mark stop rest p e = omega (arith, ap length (piece_takes mark stop rest p e), length-append p.0 p.1)
+pub shorter : (separator stop : ℕ) (rest : List ℕ) (p : List ℕ × List ℕ) → piece_at separator stop rest ≡ Some p → length p.1 < length rest
+shorter separator stop rest p e = omega (arith, ap length (piece_takes separator stop rest p e), length-append p.0 p.1)
 
-nothing_left : {A : Type 0} (one : List ℕ → Option A) (mark stop : ℕ) (xs : List A) → in_front xs (many one mark stop []) ≡ Some xs
+nothing_left : {A : Type 0} (one : List ℕ → Option A) (separator stop : ℕ) (xs : List A) → in_front xs (many one separator stop []) ≡ Some xs
 unfolding many
-nothing_left {A} one mark stop xs = ap (λ (ys : List A). Some ys) (append-nil xs)
+nothing_left {A} one separator stop xs = ap (λ (ys : List A). Some ys) (append-nil xs)
 
-module _ {A : Type 0} (one : List ℕ → Option A) (mark stop : ℕ) (xs : List A) (rest : List ℕ) (total : Option (List A)) (so_far : in_front xs (many one mark stop rest) ≡ total) where
-  pub loop_fails : (e : ReadError) → (length rest == 0) ≡ false → Fails e (piece_at mark stop rest) → Fails e total
+module _ {A : Type 0} (one : List ℕ → Option A) (separator stop : ℕ) (xs : List A) (rest : List ℕ) (total : Option (List A)) (so_far : in_front xs (many one separator stop rest) ≡ total) where
+  pub loop_fails : (e : ReadError) → (length rest == 0) ≡ false → Fails e (piece_at separator stop rest) → Fails e total
   loop_fails errors.Memory some f = tt
   loop_fails errors.Unread some f =
       let other = eqb-false (length rest) 0 some in
-      let none : many one mark stop rest ≡ None = many_fails one stop mark rest (omega arith) f in
+      let none : many one separator stop rest ≡ None = many_fails one stop separator rest (omega arith) f in
       sym so_far ∙ ap (in_front xs) none
 
-  pub loop_part_fails : (e : ReadError) (p : List ℕ × List ℕ) → piece_at mark stop rest ≡ Some p → Fails e (one p.0) → Fails e total
+  pub loop_part_fails : (e : ReadError) (p : List ℕ × List ℕ) → piece_at separator stop rest ≡ Some p → Fails e (one p.0) → Fails e total
   loop_part_fails errors.Memory p e f = tt
-  loop_part_fails errors.Unread p e f = sym so_far ∙ ap (in_front xs) (many_part_fails one stop mark rest p e f)
+  loop_part_fails errors.Unread p e f = sym so_far ∙ ap (in_front xs) (many_part_fails one stop separator rest p e f)
 
-  pub loop_next : (p : List ℕ × List ℕ) (x : A) → piece_at mark stop rest ≡ Some p → one p.0 ≡ Some x → in_front (xs ++ x ∷ []) (many one stop stop p.1) ≡ total
-  loop_next p x e is = sym (regroup xs x (many one stop stop p.1)) ∙ ap (in_front xs) (sym (many_step one stop mark rest p x e is)) ∙ so_far
+  pub loop_next : (p : List ℕ × List ℕ) (x : A) → piece_at separator stop rest ≡ Some p → one p.0 ≡ Some x → in_front (xs ++ x ∷ []) (many one stop stop p.1) ≡ total
+  loop_next p x e is = sym (regroup xs x (many one stop stop p.1)) ∙ ap (in_front xs) (sym (many_step one stop separator rest p x e is)) ∙ so_far
 
   pub loop_ends : (length rest == 0) ≡ true → total ≡ Some xs
   loop_ends none =
       let empty : rest ≡ [] = nil_from_length rest (eqb-true (length rest) 0 none) in
-      sym so_far ∙ ap (λ (r : List ℕ). in_front xs (many one mark stop r)) empty ∙ nothing_left one mark stop xs
+      sym so_far ∙ ap (λ (r : List ℕ). in_front xs (many one separator stop r)) empty ∙ nothing_left one separator stop xs

@@ -15,17 +15,17 @@ use Rattle.reply_grammar.specs.Fields.{◌>>=◌, all_of, many, if_is, pair_of, 
 use Rattle.reply_grammar.proofs.Pieces.{bind_some, guard_some, some_is}
 
 -- a byte before each
-abbrev pub marked : {A : Type 0} → (A → List ℕ) → ℕ → ℕ → List A → List ℕ
-marked text mark next [] = []
-marked text mark next (x ∷ xs) = mark ∷ (text x ++ marked text next next xs)
+abbrev pub separated : {A : Type 0} → (A → List ℕ) → ℕ → ℕ → List A → List ℕ
+separated text separator next [] = []
+separated text separator next (x ∷ xs) = separator ∷ (text x ++ separated text next next xs)
 
-pub words_text-marked : (ws : List (List ℕ)) → words_text ws ≡ marked (λ w. w) 32 32 ws
-words_text-marked [] = refl
-words_text-marked (w ∷ ws) = ap (λ (r : List ℕ). 32 ∷ (w ++ r)) (words_text-marked ws)
+pub words_text-separated : (ws : List (List ℕ)) → words_text ws ≡ separated (λ w. w) 32 32 ws
+words_text-separated [] = refl
+words_text-separated (w ∷ ws) = ap (λ (r : List ℕ). 32 ∷ (w ++ r)) (words_text-separated ws)
 
-pub pairs_text-marked : (mark : ℕ) (ps : List Pair) → pairs_text mark ps ≡ marked pair_text mark 9 ps
-pairs_text-marked mark [] = refl
-pairs_text-marked mark (p ∷ ps) = ap (λ (r : List ℕ). mark ∷ (pair_text p ++ r)) (pairs_text-marked 9 ps)
+pub pairs_text-separated : (separator : ℕ) (ps : List Pair) → pairs_text separator ps ≡ separated pair_text separator 9 ps
+pairs_text-separated separator [] = refl
+pairs_text-separated separator (p ∷ ps) = ap (λ (r : List ℕ). separator ∷ (pair_text p ++ r)) (pairs_text-separated 9 ps)
 
 -- a way to read one, and to print it
 pub record Prints {A : Type 0} (one : List ℕ → Option A) (text : A → List ℕ) (fit : A → Bool) (test : ℕ → Bool) : Type 0 where
@@ -33,12 +33,12 @@ pub record Prints {A : Type 0} (one : List ℕ → Option A) (text : A → List 
   pub takes : (s : List ℕ) (x : A) → one s ≡ Some x → (s ≡ text x) × (fit x ≡ true)
   pub bytes : (x : A) → fit x ≡ true → list_all test (text x) ≡ true
 
-ends_marked : {A : Type 0} (text : A → List ℕ) (stop : ℕ) (xs : List A) → Ends stop (marked text stop stop xs)
-ends_marked text stop [] = tt
-ends_marked text stop (x ∷ xs) = refl
+ends_separated : {A : Type 0} (text : A → List ℕ) (stop : ℕ) (xs : List A) → Ends stop (separated text stop stop xs)
+ends_separated text stop [] = tt
+ends_separated text stop (x ∷ xs) = refl
 
 module _ {A : Type 0} (one : List ℕ → Option A) (text : A → List ℕ) (fit : A → Bool) (test : ℕ → Bool) (stop : ℕ) (no_stop : test stop ≡ false) (prints : Prints one text fit test) where
-  parts_again : (x : A) (xs : List A) → list_all fit (x ∷ xs) ≡ true → all_of one (between stop (text x ++ marked text stop stop xs)) ≡ Some (x ∷ xs)
+  parts_again : (x : A) (xs : List A) → list_all fit (x ∷ xs) ≡ true → all_of one (between stop (text x ++ separated text stop stop xs)) ≡ Some (x ∷ xs)
   parts_again x [] fits =
       let p = and_parts (fit x) true fits in
       let b = prints.bytes x p.0 in
@@ -46,16 +46,16 @@ module _ {A : Type 0} (one : List ℕ → Option A) (text : A → List ℕ) (fit
   parts_again x (y ∷ ys) fits =
       let p = and_parts (fit x) (list_all fit (y ∷ ys)) fits in
       let b = prints.bytes x p.0 in
-      let rest : List ℕ = marked text stop stop (y ∷ ys) in
+      let rest : List ℕ = separated text stop stop (y ∷ ys) in
       rw (between-cons stop (text x ++ rest), before-append test stop (text x) rest no_stop b refl, from-append test stop (text x) rest no_stop b refl, prints.again x p.0, parts_again y ys p.1) refl
 
-  pub many_again : (mark : ℕ) (xs : List A) → list_all fit xs ≡ true → many one mark stop (marked text mark stop xs) ≡ Some xs
+  pub many_again : (separator : ℕ) (xs : List A) → list_all fit xs ≡ true → many one separator stop (separated text separator stop xs) ≡ Some xs
   unfolding many
-  many_again mark [] fits = refl
-  many_again mark (x ∷ xs) fits = rw (eq-eqb mark mark refl) (parts_again x xs fits)
+  many_again separator [] fits = refl
+  many_again separator (x ∷ xs) fits = rw (eq-eqb separator separator refl) (parts_again x xs fits)
 
-both : (mark : ℕ) (s a r t : List ℕ) → s ≡ a → r ≡ t → mark ∷ (s ++ r) ≡ mark ∷ (a ++ t)
-both mark s a r t p q = cc
+both : (separator : ℕ) (s a r t : List ℕ) → s ≡ a → r ≡ t → separator ∷ (s ++ r) ≡ separator ∷ (a ++ t)
+both separator s a r t p q = cc
 
 given : {A : Type 0} (b : Bool) (x : Option A) (y : A) → cond b x None ≡ Some y → (b ≡ true) × (x ≡ Some y)
 given true x y e = (refl, e)
@@ -64,7 +64,7 @@ given false x y e = absurd cc
 -- the parts, joined again
 abbrev joined : ℕ → List (List ℕ) → List ℕ
 joined stop [] = []
-joined stop (s ∷ ss) = s ++ marked (λ w. w) stop stop ss
+joined stop (s ∷ ss) = s ++ separated (λ w. w) stop stop ss
 
 joined-with_front : (stop b : ℕ) (ss : List (List ℕ)) → joined stop (with_front b ss) ≡ b ∷ joined stop ss
 joined-with_front stop b [] = refl
@@ -102,28 +102,28 @@ joined-between stop [] = refl
 joined-between stop (b ∷ bs) = joined-between_at (b == stop) stop b bs refl (joined-between stop bs)
 
 module _ {A : Type 0} (one : List ℕ → Option A) (text : A → List ℕ) (fit : A → Bool) (test : ℕ → Bool) (stop : ℕ) (prints : Prints one text fit test) where
-  parts_take : (mark : ℕ) (ss : List (List ℕ)) (xs : List A) → all_of one ss ≡ Some xs → (marked (λ s. s) mark stop ss ≡ marked text mark stop xs) × (list_all fit xs ≡ true)
-  parts_take mark [] xs e = subst (λ (ys : List A). ([] ≡ marked text mark stop ys) × (list_all fit ys ≡ true)) (some_is [] xs e) (refl, refl)
-  parts_take mark (s ∷ ss) xs e =
+  parts_take : (separator : ℕ) (ss : List (List ℕ)) (xs : List A) → all_of one ss ≡ Some xs → (separated (λ s. s) separator stop ss ≡ separated text separator stop xs) × (list_all fit xs ≡ true)
+  parts_take separator [] xs e = subst (λ (ys : List A). ([] ≡ separated text separator stop ys) × (list_all fit ys ≡ true)) (some_is [] xs e) (refl, refl)
+  parts_take separator (s ∷ ss) xs e =
       let x = bind_some (one s) (λ x. all_of one ss >>= λ xs. Some (x ∷ xs)) xs e in
       let ys = bind_some (all_of one ss) (λ xs. Some (x.0 ∷ xs)) xs x.2 in
       let first = prints.takes s x.0 x.1 in
       let rest = parts_take stop ss ys.0 ys.1 in
-      subst (λ (zs : List A). (marked (λ s. s) mark stop (s ∷ ss) ≡ marked text mark stop zs) × (list_all fit zs ≡ true)) (some_is (x.0 ∷ ys.0) xs ys.2)
-      (both mark s (text x.0) (marked (λ s. s) stop stop ss) (marked text stop stop ys.0) first.0 rest.0, and_from (fit x.0) (list_all fit ys.0) first.1 rest.1)
+      subst (λ (zs : List A). (separated (λ s. s) separator stop (s ∷ ss) ≡ separated text separator stop zs) × (list_all fit zs ≡ true)) (some_is (x.0 ∷ ys.0) xs ys.2)
+      (both separator s (text x.0) (separated (λ s. s) stop stop ss) (separated text stop stop ys.0) first.0 rest.0, and_from (fit x.0) (list_all fit ys.0) first.1 rest.1)
 
-  first_mark : (mark : ℕ) (ss : List (List ℕ)) (xs : List A) → HasParts ss → all_of one ss ≡ Some xs → (mark ∷ joined stop ss ≡ marked text mark stop xs) × (list_all fit xs ≡ true)
-  first_mark mark [] xs h e = absurd h
-  first_mark mark (s ∷ ss) xs h e = parts_take mark (s ∷ ss) xs e
+  first_separator : (separator : ℕ) (ss : List (List ℕ)) (xs : List A) → HasParts ss → all_of one ss ≡ Some xs → (separator ∷ joined stop ss ≡ separated text separator stop xs) × (list_all fit xs ≡ true)
+  first_separator separator [] xs h e = absurd h
+  first_separator separator (s ∷ ss) xs h e = parts_take separator (s ∷ ss) xs e
 
-  pub many_takes : (mark : ℕ) (bytes : List ℕ) (xs : List A) → many one mark stop bytes ≡ Some xs → (bytes ≡ marked text mark stop xs) × (list_all fit xs ≡ true)
+  pub many_takes : (separator : ℕ) (bytes : List ℕ) (xs : List A) → many one separator stop bytes ≡ Some xs → (bytes ≡ separated text separator stop xs) × (list_all fit xs ≡ true)
   unfolding many
-  many_takes mark [] xs e = subst (λ (ys : List A). ([] ≡ marked text mark stop ys) × (list_all fit ys ≡ true)) (some_is [] xs e) (refl, refl)
-  many_takes mark (b ∷ bs) xs e =
-      let g = given (b == mark) (all_of one (between stop bs)) xs e in
-      let head : b ≡ mark = eqb-true b mark g.0 in
-      let found = first_mark mark (between stop bs) xs (has_parts stop bs) g.1 in
-      (rw head (ap (λ (r : List ℕ). mark ∷ r) (sym (joined-between stop bs)) ∙ found.0), found.1)
+  many_takes separator [] xs e = subst (λ (ys : List A). ([] ≡ separated text separator stop ys) × (list_all fit ys ≡ true)) (some_is [] xs e) (refl, refl)
+  many_takes separator (b ∷ bs) xs e =
+      let g = given (b == separator) (all_of one (between stop bs)) xs e in
+      let head : b ≡ separator = eqb-true b separator g.0 in
+      let found = first_separator separator (between stop bs) xs (has_parts stop bs) g.1 in
+      (rw head (ap (λ (r : List ℕ). separator ∷ r) (sym (joined-between stop bs)) ∙ found.0), found.1)
 
 -- the three lists
 

@@ -132,15 +132,15 @@ body_takes bytes r e =
 -- with the id
 
 -- no command word begins with `#`
-abbrev NoMark : List ℕ → Type 0
-NoMark [] = ⊥
-NoMark (b ∷ bs) = (b == 35) ≡ false
+abbrev NoHash : List ℕ → Type 0
+NoHash [] = ⊥
+NoHash (b ∷ bs) = (b == 35) ≡ false
 
-no_mark : (c : CommandWord) (text : List ℕ) → NoMark (word_of c ++ text)
-no_mark command.TasServer text = refl
-no_mark c text = refl
+no_hash : (c : CommandWord) (text : List ℕ) → NoHash (word_of c ++ text)
+no_hash command.TasServer text = refl
+no_hash c text = refl
 
-plain_again : (bytes : List ℕ) (r : Reply) → NoMark bytes → read_body bytes ≡ Some r → read_line bytes ≡ Some (None, r)
+plain_again : (bytes : List ℕ) (r : Reply) → NoHash bytes → read_body bytes ≡ Some r → read_line bytes ≡ Some (None, r)
 unfolding read_line
 plain_again [] r plain e = absurd plain
 plain_again (b ∷ bs) r plain e = rw (plain, e) refl
@@ -154,7 +154,7 @@ numbered_again id text r small e =
     rw (before-append is_word_byte 32 (decimal id) (32 ∷ text) refl digits refl, from-append is_word_byte 32 (decimal id) (32 ∷ text) refl digits refl, number_in_again 0 2147483647 id (omega arith) fit, e) refl
 
 pub line_again : (id : Option ℕ) (r : Reply) → IsId id → Fits r → read_line (line_text id r) ≡ Some (id, r)
-line_again None r small fit = plain_again (body r) r (no_mark (command_of r) (all_printed (kinds_of (command_of r)) (values_of r))) (body_again r fit)
+line_again None r small fit = plain_again (body r) r (no_hash (command_of r) (all_printed (kinds_of (command_of r)) (values_of r))) (body_again r fit)
 line_again (Some id) r small fit =
     ap (λ (t : List ℕ). read_line (35 ∷ t)) (append_assoc (decimal id) (32 ∷ []) (body r)) ∙ numbered_again id (body r) r small (body_again r fit)
 

@@ -27,8 +27,8 @@ Gives view (Err e) read = Fails e read
 
 -- what stands behind one byte up to another, and the rest
 unfoldable pub piece_at : ℕ → ℕ → List ℕ → Option (List ℕ × List ℕ)
-piece_at mark stop [] = None
-piece_at mark stop (b ∷ bs) = if b == mark then Some (before stop bs, from stop bs) else None
+piece_at separator stop [] = None
+piece_at separator stop (b ∷ bs) = if b == separator then Some (before stop bs, from stop bs) else None
 
 -- such a piece, if it passes the test
 abbrev pub with_test : (List ℕ → Bool) → Option (List ℕ × List ℕ) → Option (List ℕ × List ℕ)
@@ -91,7 +91,7 @@ optional_at [] = Some (None, [])
 optional_at (b ∷ bs) = word_at (b ∷ bs) >>= λ p. Some (Some p.0, p.1)
 
 unfoldable pub sentence_at : ℕ → List ℕ → Option (List ℕ × List ℕ)
-sentence_at mark bytes = with_test is_sentence (piece_at mark 9 bytes)
+sentence_at separator bytes = with_test is_sentence (piece_at separator 9 bytes)
 
 unfoldable pub text_at : List ℕ → Option (List ℕ × List ℕ)
 text_at [] = None
@@ -104,8 +104,8 @@ all_of one (s ∷ ss) = one s >>= λ x. all_of one ss >>= λ xs. Some (x ∷ xs)
 
 -- all parts up to the end, the first behind one byte
 unfoldable pub many : {A : Type 0} → (List ℕ → Option A) → ℕ → ℕ → List ℕ → Option (List A)
-many one mark stop [] = Some []
-many one mark stop (b ∷ bs) = if b == mark then all_of one (between stop bs) else None
+many one separator stop [] = Some []
+many one separator stop (b ∷ bs) = if b == separator then all_of one (between stop bs) else None
 
 -- the list itself, if it passes the test
 abbrev pub if_is : (List ℕ → Bool) → List ℕ → Option (List ℕ)

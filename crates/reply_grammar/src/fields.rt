@@ -10,14 +10,14 @@ use line_words::{
 };
 use std::alloc::Global;
 
-/// What stands behind the byte `mark` up to the next `stop`, or to the end, and the rest.
-/// `Unread` where `mark` does not stand in front.
+/// What stands behind the byte `separator` up to the next `stop`, or to the end, and the rest.
+/// `Unread` where `separator` does not stand in front.
 #[tactic(auto, unfolding(crate::specs::Fields::piece_at))]
-pub(crate) fn piece_at(bytes: &[u8], mark: u8, stop: u8) -> Result<(&[u8], &[u8]), ReadError>
-    ensures { Gives (λ x. (x.0.now, x.1.now)) result (piece_at mark stop bytes.now) }
+pub(crate) fn piece_at(bytes: &[u8], separator: u8, stop: u8) -> Result<(&[u8], &[u8]), ReadError>
+    ensures { Gives (λ x. (x.0.now, x.1.now)) result (piece_at separator stop bytes.now) }
 {
     match bytes {
-        [first, rest @ ..] if *first == mark => Ok(split_at_byte(rest, stop)),
+        [first, rest @ ..] if *first == separator => Ok(split_at_byte(rest, stop)),
         _ => Err(ReadError::Unread),
     }
 }
@@ -46,13 +46,17 @@ pub fn name_at(alloc: Global, bytes: &[u8]) -> Result<(NameBuf, &[u8]), ReadErro
     Ok((NameBuf::copy_of(alloc, name)?, rest))
 }
 
-/// A sentence behind the byte `mark`, up to a tab or the end: a space stands before the first sentence
+/// A sentence behind the byte `separator`, up to a tab or the end: a space stands before the first sentence
 /// of a line, and a tab before each other.
 #[tactic(auto, unfolding(crate::specs::Fields::sentence_at))]
-pub fn sentence_at(alloc: Global, bytes: &[u8], mark: u8) -> Result<(SentenceBuf, &[u8]), ReadError>
-    ensures { Gives (λ x. (x.0, x.1.now)) result (sentence_at mark bytes.now) }
+pub fn sentence_at(
+    alloc: Global,
+    bytes: &[u8],
+    separator: u8,
+) -> Result<(SentenceBuf, &[u8]), ReadError>
+    ensures { Gives (λ x. (x.0, x.1.now)) result (sentence_at separator bytes.now) }
 {
-    let (sentence, rest) = piece_at(bytes, mark, b'\t')?;
+    let (sentence, rest) = piece_at(bytes, separator, b'\t')?;
     if !is_sentence(sentence) {
         return Err(ReadError::Unread);
     }

@@ -54,12 +54,12 @@ fn parts_at<T: Part>(alloc: Global, bytes: &[u8], first: u8, stop: u8) -> Result
 {
     let mut parts = Vec::new(alloc);
     let mut rest = bytes;
-    let mut mark = first;
+    let mut separator = first;
     while !rest.is_empty() {
-        let (part, after) = piece_at(rest, mark, stop)?;
+        let (part, after) = piece_at(rest, separator, stop)?;
         parts.push(T::read(alloc, part)?)?;
         rest = after;
-        mark = stop;
+        separator = stop;
     }
     Ok(parts)
 }

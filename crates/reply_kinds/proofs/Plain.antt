@@ -48,11 +48,11 @@ several fit plain (w ∷ ws) h =
     let parts = and_parts (fit w) (list_all fit ws) h in
     all_append is_text_byte w (words_text ws) (plain w parts.0) (several fit plain ws parts.1)
 
-pub pairs_plain : (mark : ℕ) (ps : List Pair) → is_text_byte mark ≡ true → list_all is_pair ps ≡ true → is_text (pairs_text mark ps) ≡ true
-pairs_plain mark [] m h = refl
-pairs_plain mark (p ∷ ps) m h =
+pub pairs_plain : (separator : ℕ) (ps : List Pair) → is_text_byte separator ≡ true → list_all is_pair ps ≡ true → is_text (pairs_text separator ps) ≡ true
+pairs_plain separator [] m h = refl
+pairs_plain separator (p ∷ ps) m h =
     let parts = and_parts (is_pair p) (list_all is_pair ps) h in
-    and_from (is_text_byte mark) (is_text (pair_text p ++ pairs_text 9 ps)) m
+    and_from (is_text_byte separator) (is_text (pair_text p ++ pairs_text 9 ps)) m
     (all_append is_text_byte (pair_text p) (pairs_text 9 ps) (a_pair p parts.0) (pairs_plain 9 ps refl parts.1))
 
 pub flag_plain : (b : Bool) → is_text (cond b 49 48 ∷ []) ≡ true

@@ -15,21 +15,21 @@ use reply_kinds::CommandWord;
 use std::alloc::AllocError;
 
 #[inline(always)]
-pub fn put_behind(out: &mut Vec<u8>, mark: u8, bytes: &[u8]) -> Result<(), AllocError>
-    ensures ok { IfOk result (λ _. out.new.items ≡ out.old.items ++ (mark ∷ bytes.now)) }
+pub fn put_behind(out: &mut Vec<u8>, separator: u8, bytes: &[u8]) -> Result<(), AllocError>
+    ensures ok { IfOk result (λ _. out.new.items ≡ out.old.items ++ (separator ∷ bytes.now)) }
     ensures kept { Keeps out.old.items out.new.items }
 {
-    out.push(mark)?;
+    out.push(separator)?;
     out.extend_from_slice(bytes)
 }
 
-fn put_decimal(out: &mut Vec<u8>, mark: u8, n: i64) -> Result<(), AllocError>
-    ensures ok { IfOk result (λ _. out.new.items ≡ out.old.items ++ (mark ∷ signed_decimal n)) }
+fn put_decimal(out: &mut Vec<u8>, separator: u8, n: i64) -> Result<(), AllocError>
+    ensures ok { IfOk result (λ _. out.new.items ≡ out.old.items ++ (separator ∷ signed_decimal n)) }
     ensures kept { Keeps out.old.items out.new.items }
 {
     let mut digits = [0u8; 20];
     let length = write_number(n, &mut digits);
-    put_behind(out, mark, &digits[..length])
+    put_behind(out, separator, &digits[..length])
 }
 
 pub fn put_number(out: &mut Vec<u8>, n: u32) -> Result<(), AllocError>
@@ -86,11 +86,11 @@ pub(crate) fn put_last_name(out: &mut Vec<u8>, name: Option<&NameBuf>) -> Result
     }
 }
 
-fn put_pair(out: &mut Vec<u8>, mark: u8, pair: &Pair) -> Result<(), AllocError>
-    ensures ok { IfOk result (λ _. out.new.items ≡ out.old.items ++ (mark ∷ pair_text pair.now)) }
+fn put_pair(out: &mut Vec<u8>, separator: u8, pair: &Pair) -> Result<(), AllocError>
+    ensures ok { IfOk result (λ _. out.new.items ≡ out.old.items ++ (separator ∷ pair_text pair.now)) }
     ensures kept { Keeps out.old.items out.new.items }
 {
-    put_behind(out, mark, pair.key.as_slice())?;
+    put_behind(out, separator, pair.key.as_slice())?;
     put_behind(out, b'=', pair.value.as_slice())
 }
 
@@ -98,10 +98,10 @@ pub fn put_pairs(out: &mut Vec<u8>, pairs: &[Pair]) -> Result<(), AllocError>
     ensures ok { IfOk result (λ _. out.new.items ≡ out.old.items ++ pairs_text 32 pairs.now) }
     ensures kept { Keeps out.old.items out.new.items }
 {
-    let mut mark = b' ';
+    let mut separator = b' ';
     for pair in pairs {
-        put_pair(out, mark, pair)?;
-        mark = b'\t';
+        put_pair(out, separator, pair)?;
+        separator = b'\t';
     }
     Ok(())
 }

@@ -118,9 +118,9 @@ flag_back K false more c ends h = flag_digit K 0 more c refl (omega arith) ends 
 
 -- Sentences
 
-pub sentence_back : (K : List ℕ → List ℕ → Command → Type 0) (mark : ℕ) (s more : List ℕ) (c : Command)
-    → is_sentence s ≡ true → Ends 9 more → K s more c → Sentence K (mark ∷ (s ++ more)) c
-sentence_back K mark s more c fit ends h =
+pub sentence_back : (K : List ℕ → List ℕ → Command → Type 0) (separator : ℕ) (s more : List ℕ) (c : Command)
+    → is_sentence s ≡ true → Ends 9 more → K s more c → Sentence K (separator ∷ (s ++ more)) c
+sentence_back K separator s more c fit ends h =
     subst (λ (t : List ℕ). K t (from 9 (s ++ more)) c) (sym (before-append is_sentence_byte 9 s more refl fit ends))
     (subst (λ (t : List ℕ). K s t c) (sym (from-append is_sentence_byte 9 s more refl fit ends)) h)
 

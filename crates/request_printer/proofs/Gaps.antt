@@ -23,7 +23,7 @@ use Rattle.command_grammar.specs.Reads.{id_limit, Carries, Asks, Reads}
 use Rattle.command_grammar.proofs.Bounds.{request_keeps, request_id_keeps}
 use Rattle.reply_kinds.specs.Replies.{id_text}
 use Rattle.request_printer.specs.Faults.{in_range, all_listed, is_absent, all_absent, has_gap, is_id, fault_of}
-use Rattle.request_printer.specs.Writing.{written, mark_behind, all_written, HasWord, argument_text, Writes}
+use Rattle.request_printer.specs.Writing.{written, separator_behind, all_written, HasWord, argument_text, Writes}
 use Rattle.request_printer.proofs.Lengths.{is_other, kind_read, digits_length}
 use Rattle.request_printer.proofs.Lines.{each_fits}
 use Rattle.request_printer.proofs.Rows.{absent_text}
@@ -135,7 +135,7 @@ record RowRead (ks : List Kind) (maker : Maker ks) (rest : List ℕ) (c : Comman
   values : Values ks
   made : c ≡ applied ks maker values
   no_gap : has_gap ks values ≡ false
-  room : (mark : ℕ) → length (all_written mark ks values) ≤ length rest
+  room : (separator : ℕ) → length (all_written separator ks values) ≤ length rest
 
 next_row : (k : Kind) (ks : List Kind) (maker : Maker (k ∷ ks)) (rest : List ℕ) (c : Command) → is_other k ≡ true
     → ((xs : Values (k ∷ ks)) → has_gap (k ∷ ks) xs ≡ has_gap ks xs.1)
@@ -147,8 +147,8 @@ next_row k ks maker rest c other same each h m =
       values = (t.value, more.values);
       made = more.made;
       no_gap = same (t.value, more.values) ∙ more.no_gap;
-      room = λ mark. let r = t.room mark in let s = more.room (mark_behind k mark) in
-          omega (arith, length-append (written mark k t.value) (all_written (mark_behind k mark) ks more.values));
+      room = λ separator. let r = t.room separator in let s = more.room (separator_behind k separator) in
+          omega (arith, length-append (written separator k t.value) (all_written (separator_behind k separator) ks more.values));
     })
 
 none_after : (t : Bool) → (not t && false) ≡ false
@@ -157,13 +157,13 @@ none_after false = refl
 
 row_read : (ks : List Kind) (maker : Maker ks) (rest : List ℕ) (c : Command) → IsTrue (is_text rest)
     → Row ks maker rest c → IsUnread c ⊎ RowRead ks maker rest c
-row_read [] maker rest c h m = inr (record { values = tt; made = m; no_gap = refl; room = λ mark. omega arith })
+row_read [] maker rest c h m = inr (record { values = tt; made = m; no_gap = refl; room = λ separator. omega arith })
 row_read (kind.OptionalWord ∷ ks) maker rest c h (inl x) =
     unless_unread (nothing_row ks (maker None) c x.1) λ more. inr (record {
       values = (None, more.values);
       made = more.made;
       no_gap = rw more.absent (gapless ks more.values more.absent);
-      room = λ mark. let e = ap length (absent_text mark ks more.values more.absent) in omega arith;
+      room = λ separator. let e = ap length (absent_text separator ks more.values more.absent) in omega arith;
     })
 row_read (kind.OptionalWord ∷ ks) maker rest c h (inr x) =
     unless_unread (kind_read kind.Word (λ w. Row ks (maker (Some w))) rest c refl h (inr x)) λ t.
@@ -171,8 +171,8 @@ row_read (kind.OptionalWord ∷ ks) maker rest c h (inr x) =
       values = (Some t.value, more.values);
       made = more.made;
       no_gap = rw (none_after (all_absent ks more.values)) more.no_gap;
-      room = λ mark. let r = t.room mark in let s = more.room mark in
-          omega (arith, length-append (32 ∷ t.value) (all_written mark ks more.values));
+      room = λ separator. let r = t.room separator in let s = more.room separator in
+          omega (arith, length-append (32 ∷ t.value) (all_written separator ks more.values));
     })
 row_read (kind.Word ∷ ks) maker rest c h m =
     next_row kind.Word ks maker rest c refl (λ xs. refl) (λ n r. row_read ks n r c) h m

@@ -32,7 +32,7 @@ pub record KindRead (k : Kind) (K : Value k → List ℕ → Command → Type 0)
   pub behind : List ℕ
   pub next : K value behind c
   pub text : IsTrue (is_text behind)
-  pub room : (mark : ℕ) → length (written mark k value) + length behind ≤ length rest
+  pub room : (separator : ℕ) → length (written separator k value) + length behind ≤ length rest
 
 -- Numbers
 
@@ -130,9 +130,9 @@ words_length [] = refl
 words_length (w ∷ ws) =
     let rest = words_length ws in omega (arith, length-append w (words_text ws), sum_by-cons size w ws)
 
-pairs_length : (mark : ℕ) (ps : List Pair) → length (pairs_text mark ps) ≡ sum_by pair_size ps
-pairs_length mark [] = refl
-pairs_length mark (p ∷ ps) =
+pairs_length : (separator : ℕ) (ps : List Pair) → length (pairs_text separator ps) ≡ sum_by pair_size ps
+pairs_length separator [] = refl
+pairs_length separator (p ∷ ps) =
     let rest = pairs_length 9 ps in
     omega (
       arith,
@@ -144,10 +144,10 @@ pairs_length mark (p ∷ ps) =
 
 -- Flags
 
-flags_length : (b : Bool) (text : List ℕ) → b ≡ flagged (from 9 text) → (mark : ℕ)
-    → length (written mark kind.LoginFlags b) ≤ 1 + length text
-flags_length false text is mark = omega arith
-flags_length true text is mark =
+flags_length : (b : Bool) (text : List ℕ) → b ≡ flagged (from 9 text) → (separator : ℕ)
+    → length (written separator kind.LoginFlags b) ≤ 1 + length text
+flags_length false text is separator = omega arith
+flags_length true text is separator =
     let whole = ap length (before-from 9 text) in
     let some = behind (from 9 text) is in omega (arith, length-append (before 9 text) (from 9 text))
   where
@@ -174,7 +174,7 @@ kind_read kind.Word K rest c other h m =
       behind = t.behind;
       next = t.next;
       text = t.text;
-      room = λ mark. let r = t.room in omega arith;
+      room = λ separator. let r = t.room in omega arith;
     })
 kind_read kind.Name K rest c other h m =
     unless_unread (taken kind.Name K rest c h m) λ t. inr (record {
@@ -182,7 +182,7 @@ kind_read kind.Name K rest c other h m =
       behind = t.behind;
       next = t.next;
       text = t.text;
-      room = λ mark. let r = t.room in omega arith;
+      room = λ separator. let r = t.room in omega arith;
     })
 kind_read (kind.Natural high) K rest c other h m =
     unless_unread (natural_read high K rest c h m) λ t. inr (record {
@@ -190,7 +190,7 @@ kind_read (kind.Natural high) K rest c other h m =
       behind = t.behind;
       next = t.next;
       text = t.text;
-      room = λ mark. let r = t.room in omega arith;
+      room = λ separator. let r = t.room in omega arith;
     })
 kind_read kind.Wide K rest c other h m =
     unless_unread (number_read (negsuc 2147483647) (pos 4294967295) K rest c h m) λ t. inr (record {
@@ -198,14 +198,14 @@ kind_read kind.Wide K rest c other h m =
       behind = t.behind;
       next = t.next;
       text = t.text;
-      room = λ mark. let r = t.room in omega arith;
+      room = λ separator. let r = t.room in omega arith;
     })
 kind_read kind.Flag K rest c other h m = unless_unread (natural_read 1 (λ n. K (n == 1)) rest c h m) λ t. inr (record {
   value = t.number == 1;
   behind = t.behind;
   next = t.next;
   text = t.text;
-  room = λ mark. let r = t.room in let f = t.fits in
+  room = λ separator. let r = t.room in let f = t.fits in
       let some : 0 < length (decimal t.number) = decimal_nonempty t.number (omega arith) in omega arith;
 })
 kind_read kind.Sentence K rest c other h m =
@@ -214,7 +214,7 @@ kind_read kind.Sentence K rest c other h m =
       behind = t.behind;
       next = t.next;
       text = t.text;
-      room = λ mark. let r = t.room in omega arith;
+      room = λ separator. let r = t.room in omega arith;
     })
 kind_read kind.Text K rest c other h m =
     unless_unread (taken kind.Text K rest c h m) λ t. inr (record {
@@ -222,21 +222,21 @@ kind_read kind.Text K rest c other h m =
       behind = t.behind;
       next = t.next;
       text = t.text;
-      room = λ mark. let r = t.room in omega arith;
+      room = λ separator. let r = t.room in omega arith;
     })
 kind_read kind.OptionalText K [] c other h m =
-    inr (record { value = None; behind = []; next = m; text = refl; room = λ mark. omega arith })
+    inr (record { value = None; behind = []; next = m; text = refl; room = λ separator. omega arith })
 kind_read kind.OptionalText K (space ∷ text) c other h m =
-    inr (record { value = Some text; behind = []; next = m; text = refl; room = λ mark. omega arith })
+    inr (record { value = Some text; behind = []; next = m; text = refl; room = λ separator. omega arith })
 kind_read kind.LoginFlags K [] c other h m =
-    inr (record { value = false; behind = []; next = m; text = refl; room = λ mark. omega arith })
+    inr (record { value = false; behind = []; next = m; text = refl; room = λ separator. omega arith })
 kind_read kind.LoginFlags K (tab ∷ text) c other h m =
     inr (record {
       value = flagged (from 9 text);
       behind = [];
       next = m;
       text = refl;
-      room = λ mark. let l = flags_length (flagged (from 9 text)) text refl mark in omega arith;
+      room = λ separator. let l = flags_length (flagged (from 9 text)) text refl separator in omega arith;
     })
 kind_read kind.Pairs K rest c other h m =
     unless_unread (taken kind.Pairs K rest c h m) λ t. inr (record {
@@ -244,7 +244,7 @@ kind_read kind.Pairs K rest c other h m =
       behind = t.behind;
       next = t.next;
       text = t.text;
-      room = λ mark. let r = t.room in let l = pairs_length 32 t.value in omega arith;
+      room = λ separator. let r = t.room in let l = pairs_length 32 t.value in omega arith;
     })
 kind_read kind.Words K rest c other h m =
     unless_unread (taken kind.Words K rest c h m) λ t. inr (record {
@@ -252,5 +252,5 @@ kind_read kind.Words K rest c other h m =
       behind = t.behind;
       next = t.next;
       text = t.text;
-      room = λ mark. let r = t.room in let l = words_length t.value in omega arith;
+      room = λ separator. let r = t.room in let l = words_length t.value in omega arith;
     })

@@ -94,7 +94,7 @@ id_fits false o h = absurd (let n : ⊥ = cc in n)
 record Text (c : Command) (text : List ℕ) : Type 0 where
   asks : Asks text c
   apart : BeginsApart text
-  no_mark : (other : List ℕ) → text ≡ 35 ∷ other → ⊥
+  no_hash : (other : List ℕ) → text ≡ 35 ∷ other → ⊥
 
 -- a word begins with no byte that it lacks
 front_of : (b : ℕ) (w : List ℕ) → is_word w ≡ true → IsTrue (not (has_byte b w)) → (rest other : List ℕ)
@@ -149,7 +149,7 @@ entry_text c word h kinds fine =
             form = form;
           });
       apart = apart_of (word ++ rest) (front_of 32 word is_a_word no_space rest);
-      no_mark = front_of 35 word is_a_word no_id rest;
+      no_hash = front_of 35 word is_a_word no_id rest;
     })
 
 word_text : (c : Command) (word : List ℕ) → HasWord c word → IsTrue (keeps_kinds c) → argument_fault c ≡ None
@@ -159,7 +159,7 @@ word_text c word (inl b) kinds fine =
     (subst (λ d. Text d (argument_text d)) (sym b.0) (record {
       asks = refl;
       apart = tt;
-      no_mark = λ other e. let n : ⊥ = cc in n;
+      no_hash = λ other e. let n : ⊥ = cc in n;
     }))
 word_text c word (inr h) kinds fine = entry_text c word h kinds fine
 
@@ -194,7 +194,7 @@ with_id None c text t fit = record {
   trimmed = text;
   text = text;
   skips = record { gap = []; whole = refl; spaces = refl; apart = t.apart };
-  carries = (refl, λ other id h. t.no_mark _ h.whole);
+  carries = (refl, λ other id h. t.no_hash _ h.whole);
   asks = t.asks;
 }
 with_id (Some id) c text t fit =

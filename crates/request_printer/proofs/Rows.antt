@@ -14,7 +14,7 @@ use Rattle.command_grammar.specs.Table.{Kind, Value, Values, Maker}
 use Rattle.command_grammar.proofs.Taken.{EachFits}
 use Rattle.reply_kinds.specs.Kinds.{optional_text, words_text, pairs_text}
 use Rattle.request_printer.specs.Faults.{is_absent, all_absent, has_gap}
-use Rattle.request_printer.specs.Writing.{written, mark_behind, all_written}
+use Rattle.request_printer.specs.Writing.{written, separator_behind, all_written}
 use Rattle.request_printer.proofs.Back.{word_back, optional_back, name_back, natural_back, wide_back, flag_back}
 use Rattle.request_printer.proofs.Back.{sentence_back, pairs_back, words_back}
 
@@ -50,29 +50,29 @@ is_written_row (kind.Words ∷ ks) = is_end ks
 -- What follows
 
 -- what is absent is written as nothing
-pub absent_text : (mark : ℕ) (ks : List Kind) (xs : Values ks) → all_absent ks xs ≡ true → all_written mark ks xs ≡ []
-absent_text mark [] xs h = refl
-absent_text mark (k ∷ ks) xs h =
+pub absent_text : (separator : ℕ) (ks : List Kind) (xs : Values ks) → all_absent ks xs ≡ true → all_written separator ks xs ≡ []
+absent_text separator [] xs h = refl
+absent_text separator (k ∷ ks) xs h =
     let p = and_parts (is_absent k xs.0) (all_absent ks xs.1) h in
-    ap (λ (t : List ℕ). t ++ all_written (mark_behind k mark) ks xs.1) (one k xs.0 mark p.0)
-    ∙ absent_text (mark_behind k mark) ks xs.1 p.1
+    ap (λ (t : List ℕ). t ++ all_written (separator_behind k separator) ks xs.1) (one k xs.0 separator p.0)
+    ∙ absent_text (separator_behind k separator) ks xs.1 p.1
   where
-    one : (k : Kind) (x : Value k) (mark : ℕ) → is_absent k x ≡ true → written mark k x ≡ []
-    one kind.OptionalWord None mark h = refl
-    one kind.OptionalText None mark h = refl
-    one kind.LoginFlags false mark h = refl
-    one kind.OptionalWord (Some w) mark h = absurd (let n : ⊥ = cc in n)
-    one kind.OptionalText (Some w) mark h = absurd (let n : ⊥ = cc in n)
-    one kind.LoginFlags true mark h = absurd (let n : ⊥ = cc in n)
-    one kind.Word x mark h = absurd (let n : ⊥ = cc in n)
-    one kind.Name x mark h = absurd (let n : ⊥ = cc in n)
-    one (kind.Natural high) x mark h = absurd (let n : ⊥ = cc in n)
-    one kind.Wide x mark h = absurd (let n : ⊥ = cc in n)
-    one kind.Flag x mark h = absurd (let n : ⊥ = cc in n)
-    one kind.Sentence x mark h = absurd (let n : ⊥ = cc in n)
-    one kind.Text x mark h = absurd (let n : ⊥ = cc in n)
-    one kind.Pairs x mark h = absurd (let n : ⊥ = cc in n)
-    one kind.Words x mark h = absurd (let n : ⊥ = cc in n)
+    one : (k : Kind) (x : Value k) (separator : ℕ) → is_absent k x ≡ true → written separator k x ≡ []
+    one kind.OptionalWord None separator h = refl
+    one kind.OptionalText None separator h = refl
+    one kind.LoginFlags false separator h = refl
+    one kind.OptionalWord (Some w) separator h = absurd (let n : ⊥ = cc in n)
+    one kind.OptionalText (Some w) separator h = absurd (let n : ⊥ = cc in n)
+    one kind.LoginFlags true separator h = absurd (let n : ⊥ = cc in n)
+    one kind.Word x separator h = absurd (let n : ⊥ = cc in n)
+    one kind.Name x separator h = absurd (let n : ⊥ = cc in n)
+    one (kind.Natural high) x separator h = absurd (let n : ⊥ = cc in n)
+    one kind.Wide x separator h = absurd (let n : ⊥ = cc in n)
+    one kind.Flag x separator h = absurd (let n : ⊥ = cc in n)
+    one kind.Sentence x separator h = absurd (let n : ⊥ = cc in n)
+    one kind.Text x separator h = absurd (let n : ⊥ = cc in n)
+    one kind.Pairs x separator h = absurd (let n : ⊥ = cc in n)
+    one kind.Words x separator h = absurd (let n : ⊥ = cc in n)
 
 optional_ends : (o : Option (List ℕ)) (more : List ℕ) → EndsWord more → EndsWord (optional_text o ++ more)
 optional_ends None more h = h

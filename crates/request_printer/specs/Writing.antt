@@ -10,31 +10,31 @@ use Rattle.command_grammar.specs.Table.{OptionalText, LoginFlags, Pairs, Words, 
 use Rattle.reply_kinds.specs.Kinds.{words_text, pairs_text, optional_text}
 use Rattle.reply_kinds.specs.Replies.{id_text}
 
--- an argument with what stands before it: a sentence stands behind this mark, a login's flags behind two tabs, all else
--- behind spaces
+-- an argument with what stands before it: a sentence stands behind this separator, a login's flags behind two tabs, all
+-- else behind spaces
 abbrev pub written : ℕ → (k : Kind) → Value k → List ℕ
-written mark Word w = 32 ∷ w
-written mark OptionalWord o = optional_text o
-written mark Name w = 32 ∷ w
-written mark (Natural high) n = 32 ∷ decimal n
-written mark Wide z = 32 ∷ signed_decimal z
-written mark Flag b = 32 ∷ (if b then 49 else 48) ∷ []
-written mark Sentence s = mark ∷ s
-written mark Text t = 32 ∷ t
-written mark OptionalText o = optional_text o
-written mark LoginFlags b = if b then 9 ∷ 9 ∷ codes "b" else []
-written mark Pairs ps = pairs_text 32 ps
-written mark Words ws = words_text ws
+written separator Word w = 32 ∷ w
+written separator OptionalWord o = optional_text o
+written separator Name w = 32 ∷ w
+written separator (Natural high) n = 32 ∷ decimal n
+written separator Wide z = 32 ∷ signed_decimal z
+written separator Flag b = 32 ∷ (if b then 49 else 48) ∷ []
+written separator Sentence s = separator ∷ s
+written separator Text t = 32 ∷ t
+written separator OptionalText o = optional_text o
+written separator LoginFlags b = if b then 9 ∷ 9 ∷ codes "b" else []
+written separator Pairs ps = pairs_text 32 ps
+written separator Words ws = words_text ws
 
 -- behind a sentence a further one stands behind a tab
-abbrev pub mark_behind : Kind → ℕ → ℕ
-mark_behind Sentence mark = 9
-mark_behind k mark = mark
+abbrev pub separator_behind : Kind → ℕ → ℕ
+separator_behind Sentence separator = 9
+separator_behind k separator = separator
 
 -- the arguments one behind another
 abbrev pub all_written : ℕ → (ks : List Kind) → Values ks → List ℕ
-all_written mark [] xs = []
-all_written mark (k ∷ ks) xs = written mark k xs.0 ++ all_written (mark_behind k mark) ks xs.1
+all_written separator [] xs = []
+all_written separator (k ∷ ks) xs = written separator k xs.0 ++ all_written (separator_behind k separator) ks xs.1
 
 -- an entry of the table that makes the command, of some values
 pub record HasEntry (c : Command) (word : List ℕ) : Type 0 where

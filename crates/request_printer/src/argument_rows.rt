@@ -17,9 +17,9 @@ pub(crate) trait WrittenRow {
 
     ghost values: { Self → Values kinds };
 
-    /// Appends the arguments, the first sentence behind this mark.
-    fn put(&self, out: &mut Vec<u8>, mark: u8) -> Result<(), AllocError>
-        ensures ok { IfOk result (λ _. out.new.items ≡ out.old.items ++ all_written mark kinds (values self.now)) }
+    /// Appends the arguments, the first sentence behind this separator.
+    fn put(&self, out: &mut Vec<u8>, separator: u8) -> Result<(), AllocError>
+        ensures ok { IfOk result (λ _. out.new.items ≡ out.old.items ++ all_written separator kinds (values self.now)) }
         ensures kept { Keeps out.old.items out.new.items };
 
     /// Each number is in the range of its argument.
@@ -44,7 +44,7 @@ impl WrittenRow for () {
     ghost values = { λ _. tt };
 
     #[inline(always)]
-    fn put(&self, _out: &mut Vec<u8>, _mark: u8) -> Result<(), AllocError> {
+    fn put(&self, _out: &mut Vec<u8>, _separator: u8) -> Result<(), AllocError> {
         Ok(())
     }
 
@@ -75,9 +75,9 @@ impl<A: Written, R: WrittenRow> WrittenRow for (A, R) {
     ghost values = { λ x. (A.value x.0, R.values x.1) };
 
     #[inline(always)]
-    fn put(&self, out: &mut Vec<u8>, mark: u8) -> Result<(), AllocError> {
-        let mark = self.0.put(out, mark)?;
-        self.1.put(out, mark)
+    fn put(&self, out: &mut Vec<u8>, separator: u8) -> Result<(), AllocError> {
+        let separator = self.0.put(out, separator)?;
+        self.1.put(out, separator)
     }
 
     #[inline(always)]

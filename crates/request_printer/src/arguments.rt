@@ -6,7 +6,7 @@ ghost use Rattle.command_grammar.specs.Table as kinds;
 ghost use Rattle.command_grammar.specs.Table.{Kind, Value};
 ghost use Rattle.reply_printer.specs.Fronts.{Keeps};
 ghost use Rattle.request_printer.specs.Faults.{all_listed, has_gap, in_range, is_absent};
-ghost use Rattle.request_printer.specs.Writing.{mark_behind, written};
+ghost use Rattle.request_printer.specs.Writing.{separator_behind, written};
 
 use line_words::{NameBuf, PairList, SentenceBuf, TextBuf, WordBuf, WordList};
 use reply_printer::pieces::{
@@ -40,11 +40,11 @@ pub(crate) trait Written {
 
     ghost value: { Self → Value kind };
 
-    /// Appends the argument with what stands before it: a sentence stands behind this mark. Gives the mark of a
-    /// sentence behind it.
-    fn put(&self, out: &mut Vec<u8>, mark: u8) -> Result<u8, AllocError>
-        ensures ok { IfOk result (λ _. out.new.items ≡ out.old.items ++ written mark kind (value self.now)) }
-        ensures mark { IfOk result (λ behind. behind ≡ mark_behind kind mark) }
+    /// Appends the argument with what stands before it: a sentence stands behind this separator. Gives the separator of
+    /// a sentence behind it.
+    fn put(&self, out: &mut Vec<u8>, separator: u8) -> Result<u8, AllocError>
+        ensures ok { IfOk result (λ _. out.new.items ≡ out.old.items ++ written separator kind (value self.now)) }
+        ensures separator { IfOk result (λ behind. behind ≡ separator_behind kind separator) }
         ensures kept { Keeps out.old.items out.new.items };
 
     /// What is found of the argument, whatever stands beside it.
@@ -61,8 +61,8 @@ impl<'a, A: Written> Written for &'a A {
     ghost value = { λ x. A.value x.now };
 
     #[inline(always)]
-    fn put(&self, out: &mut Vec<u8>, mark: u8) -> Result<u8, AllocError> {
-        A::put(self, out, mark)
+    fn put(&self, out: &mut Vec<u8>, separator: u8) -> Result<u8, AllocError> {
+        A::put(self, out, separator)
     }
 
     #[inline(always)]
@@ -76,9 +76,9 @@ impl Written for WordBuf {
 
     ghost value = { λ x. x };
 
-    fn put(&self, out: &mut Vec<u8>, mark: u8) -> Result<u8, AllocError> {
+    fn put(&self, out: &mut Vec<u8>, separator: u8) -> Result<u8, AllocError> {
         put_word(out, self)?;
-        Ok(mark)
+        Ok(separator)
     }
 
     fn find(&self) -> Found {
@@ -91,9 +91,9 @@ impl Written for Option<WordBuf> {
 
     ghost value = { λ x. x };
 
-    fn put(&self, out: &mut Vec<u8>, mark: u8) -> Result<u8, AllocError> {
+    fn put(&self, out: &mut Vec<u8>, separator: u8) -> Result<u8, AllocError> {
         put_optional(out, self.as_ref())?;
-        Ok(mark)
+        Ok(separator)
     }
 
     fn find(&self) -> Found {
@@ -114,9 +114,9 @@ impl Written for NameBuf {
 
     ghost value = { λ x. x };
 
-    fn put(&self, out: &mut Vec<u8>, mark: u8) -> Result<u8, AllocError> {
+    fn put(&self, out: &mut Vec<u8>, separator: u8) -> Result<u8, AllocError> {
         put_name(out, self)?;
-        Ok(mark)
+        Ok(separator)
     }
 
     fn find(&self) -> Found {
@@ -133,9 +133,9 @@ impl<const HIGH: u32> Written for Natural<HIGH> {
 
     ghost value = { λ x. x.0 };
 
-    fn put(&self, out: &mut Vec<u8>, mark: u8) -> Result<u8, AllocError> {
+    fn put(&self, out: &mut Vec<u8>, separator: u8) -> Result<u8, AllocError> {
         put_number(out, self.0)?;
-        Ok(mark)
+        Ok(separator)
     }
 
     fn find(&self) -> Found {
@@ -153,9 +153,9 @@ impl Written for i64 {
 
     ghost value = { λ x. x };
 
-    fn put(&self, out: &mut Vec<u8>, mark: u8) -> Result<u8, AllocError> {
+    fn put(&self, out: &mut Vec<u8>, separator: u8) -> Result<u8, AllocError> {
         put_wide(out, self)?;
-        Ok(mark)
+        Ok(separator)
     }
 
     fn find(&self) -> Found {
@@ -173,9 +173,9 @@ impl Written for bool {
 
     ghost value = { λ x. x };
 
-    fn put(&self, out: &mut Vec<u8>, mark: u8) -> Result<u8, AllocError> {
+    fn put(&self, out: &mut Vec<u8>, separator: u8) -> Result<u8, AllocError> {
         put_flag(out, *self)?;
-        Ok(mark)
+        Ok(separator)
     }
 
     fn find(&self) -> Found {
@@ -188,8 +188,8 @@ impl Written for SentenceBuf {
 
     ghost value = { λ x. x };
 
-    fn put(&self, out: &mut Vec<u8>, mark: u8) -> Result<u8, AllocError> {
-        put_behind(out, mark, self.as_slice())?;
+    fn put(&self, out: &mut Vec<u8>, separator: u8) -> Result<u8, AllocError> {
+        put_behind(out, separator, self.as_slice())?;
         Ok(b'\t')
     }
 
@@ -203,9 +203,9 @@ impl Written for TextBuf {
 
     ghost value = { λ x. x };
 
-    fn put(&self, out: &mut Vec<u8>, mark: u8) -> Result<u8, AllocError> {
+    fn put(&self, out: &mut Vec<u8>, separator: u8) -> Result<u8, AllocError> {
         put_text(out, &self.as_text())?;
-        Ok(mark)
+        Ok(separator)
     }
 
     fn find(&self) -> Found {
@@ -218,11 +218,11 @@ impl Written for Option<TextBuf> {
 
     ghost value = { λ x. x };
 
-    fn put(&self, out: &mut Vec<u8>, mark: u8) -> Result<u8, AllocError> {
+    fn put(&self, out: &mut Vec<u8>, separator: u8) -> Result<u8, AllocError> {
         if let Some(text) = self {
             put_text(out, &text.as_text())?;
         }
-        Ok(mark)
+        Ok(separator)
     }
 
     fn find(&self) -> Found {
@@ -247,11 +247,11 @@ impl Written for LoginFlags {
 
     ghost value = { λ x. x.0 };
 
-    fn put(&self, out: &mut Vec<u8>, mark: u8) -> Result<u8, AllocError> {
+    fn put(&self, out: &mut Vec<u8>, separator: u8) -> Result<u8, AllocError> {
         if self.0 {
             put_behind(out, b'\t', b"\tb")?;
         }
-        Ok(mark)
+        Ok(separator)
     }
 
     fn find(&self) -> Found {
@@ -269,9 +269,9 @@ impl Written for PairList {
 
     ghost value = { λ x. x };
 
-    fn put(&self, out: &mut Vec<u8>, mark: u8) -> Result<u8, AllocError> {
+    fn put(&self, out: &mut Vec<u8>, separator: u8) -> Result<u8, AllocError> {
         put_pairs(out, self.as_slice())?;
-        Ok(mark)
+        Ok(separator)
     }
 
     fn find(&self) -> Found {
@@ -289,9 +289,9 @@ impl Written for WordList {
 
     ghost value = { λ x. x };
 
-    fn put(&self, out: &mut Vec<u8>, mark: u8) -> Result<u8, AllocError> {
+    fn put(&self, out: &mut Vec<u8>, separator: u8) -> Result<u8, AllocError> {
         put_words(out, self.as_slice())?;
-        Ok(mark)
+        Ok(separator)
     }
 
     fn find(&self) -> Found {

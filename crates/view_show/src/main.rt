@@ -3,15 +3,13 @@
 //! so many bytes are folded at once, and with `whole` all of them, which shows the same.
 #![tactic(auto)]
 
-mod show;
-
 use anyhow::{Error, anyhow};
 use client_view::{View, ViewError};
-use show::show;
 use std::alloc::Global;
 use std::io::{BufWriter, ErrorKind, Read, Write};
 use std::rt::Env;
 use std::{env, io};
+use view_text::show;
 
 const HELP: &str = "\
 usage: view_show [whole|BYTES] < RECEIVED

@@ -2,11 +2,12 @@
 
 ghost use Rattle.std.specs.Prelude.{◌≡◌, ◌<◌, [], ◌∷◌, ◌++◌, OnOk, OnErr};
 ghost use Rattle.lobby_model.specs.declared.event.Event.TheVariants as event;
+ghost use Rattle.lobby_lock.specs.Passes.{pass_after};
 ghost use Rattle.lobby_turns.specs.Holds.{IsTaken, Stands};
 
 use crate::inboxes::{Arrival, Inboxes};
 use crate::wakers::Wakers;
-use lobby_connections::{Connection, Connections, NAMES_IN_HOLD, Newcomers, PollTimeout};
+use lobby_connections::{Connection, Connections, NAMES_IN_HOLD, Newcomers};
 use lobby_lock::{Desk, Held, Pass};
 use lobby_machine::{OpenError, Wakes};
 use lobby_model::WORKERS;
@@ -187,11 +188,11 @@ pub fn turn_told<R: Wait, G: Gate>(
     turn(rt, shared, pass, connections, registry, token.0)
 }
 
-/// Tells the workers whose clients a turn touched: the others by their wakers, this one by its mark.
+/// Tells the workers whose clients a turn touched: the others by their wakers, this one by its note.
 fn pass_on<G: Gate>(shared: &Shared<'_, G>, connections: &mut Connections, home: u8, wakes: Wakes)
     requires { home < WORKERS }
 {
-    connections.mark(home, wakes);
+    connections.note_wakes(home, wakes);
     shared.wakers.wake_others(home, wakes);
 }
 
@@ -223,9 +224,6 @@ pub fn turn_left<R: Wait, G: Gate>(
         };
         pass = turn_within(rt, shared, pass, connections, registry, key, allowance);
         connections.count_told(LEFT_TURN);
-    }
-    if connections.has_due() {
-        connections.hurry(PollTimeout::Zero);
     }
     pass
 }
@@ -270,8 +268,7 @@ pub fn turn_named<R: Wait, G: Gate>(
     pass
 }
 
-/// Before the worker waits: where its own turns touched its clients, takes the names of those, and has
-/// it not wait if there are any.
+/// Before the worker waits: where its own turns touched its clients, takes the names of those.
 pub fn look_for_own<R: Wait, G: Gate>(
     rt: &R,
     shared: &Shared<'_, G>,
@@ -282,17 +279,13 @@ pub fn look_for_own<R: Wait, G: Gate>(
     ensures desk { result.desk ≡ pass.desk }
     ensures number { result.worker.number ≡ pass.worker.number }
 {
-    if !connections.is_marked() && connections.named() == 0 {
+    if !connections.is_pending() && connections.named() == 0 {
         return pass;
     }
-    let pass = take_names(rt, shared, pass, connections);
-    if connections.is_marked() || connections.named() > 0 {
-        connections.hurry(PollTimeout::Zero);
-    }
-    pass
+    take_names(rt, shared, pass, connections)
 }
 
-/// Takes the names of changed clients, as many as there is room for, and is marked where there may be
+/// Takes the names of changed clients, as many as there is room for, and is pending where there may be
 /// more. It is called between rounds or before the first turn of one: what changes behind a client's
 /// turn gets it a turn in the next round.
 pub fn take_names<R: Wait, G: Gate>(
@@ -306,10 +299,10 @@ pub fn take_names<R: Wait, G: Gate>(
     ensures number { result.worker.number ≡ pass.worker.number }
 {
     if connections.named() > 0 {
-        connections.set_marked(true);
+        connections.set_pending(true);
         return pass;
     }
-    connections.set_marked(false);
+    connections.set_pending(false);
     let count = connections.len();
     // Without a connection nobody is named.
     if count == 0 {
@@ -323,7 +316,7 @@ pub fn take_names<R: Wait, G: Gate>(
             return pass;
         }
     }
-    connections.set_marked(true);
+    connections.set_pending(true);
     pass
 }
 
@@ -341,6 +334,18 @@ fn take<R: Wait, G: Gate>(rt: &R, shared: &Shared<'_, G>, pass: Pass) -> Held
     gated.take(rt, pass)
 }
 
+/// Gives the lobby back, and tells the gate what the hold made.
+fn give<R: Wait, G: Gate>(rt: &R, shared: &Shared<'_, G>, held: Held) -> Pass
+    requires { held.pass.desk ≡ shared.now.desk.now }
+    ensures { result ≡ pass_after held }
+{
+    let gated = GatedDesk {
+        desk: shared.desk,
+        gate: shared.gate,
+    };
+    gated.give(rt, held)
+}
+
 /// Takes names of changed clients in one hold. Whether these are all.
 fn take_some_names<R: Wait, G: Gate>(
     rt: &R,
@@ -355,7 +360,7 @@ fn take_some_names<R: Wait, G: Gate>(
     let home = pass.number();
     let mut held = take(rt, shared, pass);
     let are_all = connections.take_names(&mut held, home);
-    (held.give(rt, shared.desk), are_all)
+    (give(rt, shared, held), are_all)
 }
 
 /// Opens a client, with its worker's number as home.
@@ -374,7 +379,7 @@ fn open<R: Wait, G: Gate>(
     let home = pass.number();
     let mut held = take(rt, shared, pass);
     let opened = held.open(ip, home);
-    (held.give(rt, shared.desk), opened)
+    (give(rt, shared, held), opened)
 }
 
 /// One turn of a connection. The client of a link that has no room for a turn is shut. Where a link is gone and memory

@@ -22,6 +22,8 @@ motd = ['Welcome!', '', 'Gr\xc3\xbc\xc3\x9fe']
 stop_at_input_end = true
 proxies = ['127.0.0.1', '10.0.0.2', '127.0.0.1']
 log = 'all'
+record = '/var/lib/r\xc3\xbcdder'
+private = false
 colour = 'a key that is not known'
 ";
 
@@ -57,6 +59,8 @@ struct Wanted {
     // whether each of these addresses is a front's
     proxies: &'static [([u8; 4], bool)],
     log: LogLevel,
+    folder: &'static [u8],
+    private: bool,
 }
 
 fn compare_settings(rt: &impl Abort, settings: &Settings, wanted: &Wanted) {
@@ -98,6 +102,11 @@ fn compare(rt: &impl Abort, setup: &Setup, wanted: &Wanted) {
         ),
         (true, wanted.workers, wanted.stop_at_input_end, wanted.log),
     );
+    same(
+        rt,
+        (setup.folder.as_bytes(), setup.private),
+        (wanted.folder, wanted.private),
+    );
     for (address, is_front) in wanted.proxies {
         same_for(rt, address, setup.proxies.has(*address), *is_front);
     }
@@ -127,6 +136,8 @@ static SMALLEST: Wanted = Wanted {
     motd: &[],
     proxies: &[([127, 0, 0, 1], false), ([0, 0, 0, 0], false)],
     log: LogLevel::Important,
+    folder: b"",
+    private: true,
 };
 
 #[test]
@@ -152,6 +163,8 @@ static LARGEST: Wanted = Wanted {
         ([0, 0, 0, 0], false),
     ],
     log: LogLevel::All,
+    folder: b"/var/lib/r\xc3\xbcdder",
+    private: false,
 };
 
 #[test]
@@ -191,7 +204,7 @@ fn each_value_has_its_bounds(rt: HostRuntime) {
     refuse_all(&rt, rt.alloc(), &NOT_ALLOWED, FieldFault::NotAllowed);
 }
 
-static OTHER_KIND: [Row; 11] = [
+static OTHER_KIND: [Row; 13] = [
     ("workers = '4'", Key::Workers),
     ("workers = 4.0", Key::Workers),
     ("outbox_limit = []", Key::OutboxLimit),
@@ -203,6 +216,8 @@ static OTHER_KIND: [Row; 11] = [
     ("stop_at_input_end = 1", Key::StopAtInputEnd),
     ("proxies = '127.0.0.1'", Key::Proxies),
     ("log = true", Key::Log),
+    ("record = true", Key::Record),
+    ("private = 'no'", Key::Private),
 ];
 
 #[test]

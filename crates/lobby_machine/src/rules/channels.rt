@@ -21,7 +21,7 @@ pub fn join(by: &Issuer, channel: &NameBuf, post: &mut Post) -> Result<Change, S
         (join by.now.maps.now.plain by.now.me.now channel.now) result }
 {
     let names = names_without(by.maps, by.me, channel)?;
-    let keys = by.maps.channels().marks_in(channel);
+    let keys = by.maps.channels().keys_in(channel);
     by.maps.tell_self(
         by.me,
         by.client,
@@ -52,7 +52,7 @@ pub fn leave(by: &Issuer, channel: &NameBuf, post: &mut Post) -> Result<Change, 
         (leave by.now.maps.now.plain by.now.me.now channel.now) result }
 {
     let members = members_with(by.maps, by.me, channel)?;
-    let (names, keys) = (members.as_slice(), members.marks());
+    let (names, keys) = (members.as_slice(), members.keys());
     by.maps.tell_users(
         names,
         keys,
@@ -79,7 +79,7 @@ pub fn say_in_channel(
         (say_in_channel by.now.maps.now.plain by.now.me.now channel.now line.entry) result }
 {
     let members = members_with(by.maps, by.me, channel)?;
-    let (names, keys) = (members.as_slice(), members.marks());
+    let (names, keys) = (members.as_slice(), members.keys());
     by.maps.tell_users(names, keys, line, post)?;
     Ok(Change::Nothing)
 }

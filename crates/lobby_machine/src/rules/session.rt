@@ -14,7 +14,7 @@ ghost use Rattle.battle_rules.specs.Answers.{Answers, Obeyed};
 ghost use Rattle.lobby_battles.specs.Battles.{IsOnly};
 ghost use Rattle.lobby_maps.specs.Changes.{first_of, parts};
 ghost use Rattle.battle_rules.specs.BattleTalk.{left_battle_letters};
-ghost use Rattle.lobby_battles.specs.Seats.{user_in};
+ghost use Rattle.lobby_battles.specs.OnlineUsers.{plain_user};
 
 use super::channels::tell_left;
 use super::guards::{account_for, free_name};
@@ -22,7 +22,7 @@ use account_book::Account;
 use battle_rules::battles::{Leaving, tell_leaving};
 use battle_rules::{Issuer, Stop};
 use line_words::{NameBuf, WordBuf};
-use lobby_maps::{Change, Maps, Seat};
+use lobby_maps::{Change, Maps, OnlineUser};
 use lobby_post::{ClientKey, Post};
 use reply_kinds::{Held, Name, Reply};
 use status_bits::{UserStatus, merge_user};
@@ -56,10 +56,10 @@ pub fn log_in(
     let account = account_for(maps, user_name, password)?;
     let name = free_name(maps, account)?;
     let key = maps.client_key(client);
-    let seat = seat_of(key, account, cpu, authorises);
-    maps.tell_burst(&name, &seat, post)?;
-    maps.tell_arrival(&name, &seat, post)?;
-    Ok(Change::LogIn { name, seat })
+    let online_user = online_user_of(key, account, cpu, authorises);
+    maps.tell_burst(&name, &online_user, post)?;
+    maps.tell_arrival(&name, &online_user, post)?;
+    Ok(Change::LogIn { name, online_user })
 }
 
 /// `MYSTATUS`: rank, moderator and bot stay those of the account.
@@ -144,13 +144,13 @@ pub fn close(maps: &Maps, client: u64, post: &mut Post) -> Result<Change, AllocE
     log_out(maps, client, me, false, post)
 }
 
-/// Where a user of an account sits, by the key of its client.
-fn seat_of(client: ClientKey, account: &Account, cpu: i64, authorises: bool) -> Seat
+/// A user of an account who is online, by the key of its client.
+fn online_user_of(client: ClientKey, account: &Account, cpu: i64, authorises: bool) -> OnlineUser
     ensures here { result.client.number ≡ client.number }
     ensures outside { result.battle ≡ None }
-    ensures user { user_in result ≡ user_of account.now cpu authorises }
+    ensures user { plain_user result ≡ user_of account.now cpu authorises }
 {
-    Seat {
+    OnlineUser {
         client,
         country: account.country(),
         cpu,

@@ -4,9 +4,11 @@
 ghost use Rattle.std.specs.Prelude.{◌≡◌, ◌≤◌, IfSome};
 
 use crate::sockets::clients::Client;
+use crate::sockets::disks::{Disk, Room};
 use crate::sockets::gates::{Hold, Watch, is_set_soon};
 use crate::sockets::running::{
-    ANNA, BERT, Input, PATIENCE, Service, Told, crowd_service, listen, run, users_service,
+    ANNA, BERT, Input, PATIENCE, Service, Told, crowd_service, listen, run, run_recorded,
+    users_service,
 };
 use crate::verdict::{fail, same};
 use mio::net::TcpListener;
@@ -76,6 +78,8 @@ pub enum Step {
     SecondWasWoken,
     /// There were so many greetings, and the last one is this worker's.
     Greeted(u64, u8),
+    /// The disk of the record takes what it is given from now on.
+    DiskGoesOn,
     /// The server's input ends.
     InputEnds,
     /// The server has ended.
@@ -120,6 +124,8 @@ const IN_GOOD_ORDER: Ending = Ending {
 #[derive(Drop)]
 struct Stage {
     gate: Watch,
+    /// Where its record lies, if it has one.
+    disk: Option<Disk>,
     patience: u32,
     input_ends: AtomicBool,
     has_ended: AtomicBool,
@@ -291,6 +297,7 @@ impl Cast<'_> {
             Step::WorkersMet => self.stage.gate.did_meet(),
             Step::SecondWasWoken => self.stage.gate.was_woken(),
             Step::Greeted(greetings, worker) => self.stage.gate.is_greeter(greetings, worker),
+            Step::DiskGoesOn => self.stage.lets_disk_go(),
             Step::InputEnds => self.stage.end_input(),
             Step::ServerEnds => self.stage.ends(&self.clock),
         }
@@ -336,9 +343,10 @@ fn times_over(alloc: Global, text: &[u8], times: usize) -> Result<Vec<u8>, Alloc
 }
 
 impl Stage {
-    fn new(clock: HostRuntime, hold: Hold, patience: u32) -> Stage {
+    fn new(clock: HostRuntime, hold: Hold, disk: Option<Disk>, patience: u32) -> Stage {
         Stage {
             gate: Watch::new(clock, hold),
+            disk,
             patience,
             input_ends: AtomicBool::new(false),
             has_ended: AtomicBool::new(false),
@@ -349,6 +357,22 @@ impl Stage {
     fn end_input(&self) -> bool {
         self.input_ends.store(true, Ordering::SeqCst);
         true
+    }
+
+    /// Lets who writes the record go on. Whether there is one.
+    fn lets_disk_go(&self) -> bool {
+        match &self.disk {
+            Some(disk) => disk.lets_go(),
+            None => false,
+        }
+    }
+
+    /// Whether the record ends by the line that is looked for.
+    fn disk_ends_so(&self) -> bool {
+        match &self.disk {
+            Some(disk) => disk.ends_so(),
+            None => false,
+        }
     }
 
     /// Whether the server ends, within so many looks.
@@ -372,7 +396,10 @@ impl Stage {
             looks: self.patience,
         };
         self.gate.before_start();
-        let told = run(rt, service, listener, input, &self.gate);
+        let told = match &self.disk {
+            Some(disk) => run_recorded(rt, service, listener, input, &self.gate, disk),
+            None => run(rt, service, listener, input, &self.gate),
+        };
         self.has_ended.store(true, Ordering::SeqCst);
         told
     }
@@ -421,6 +448,18 @@ pub fn play_users<
     )
 }
 
+/// Plays beside a server of one worker with a record on a disk of such room, which is to end by this line.
+pub fn play_recorded<
+    R: Threads + Wait + Net<Listener = net::TcpListener, Stream = net::TcpStream> + Abort + Sync,
+>(rt: &R, clock: HostRuntime, room: Room, acts: &[Act], last_line: &'static [u8]) {
+    let disk = Disk::new(clock, room, last_line);
+    let stage = Stage::new(clock, Hold::Open, Some(disk), PATIENCE);
+    let service = crowd_service(clock.alloc(), 1);
+    drop(play_at(rt, clock, service, &stage, acts, 0));
+    same(rt, stage.disk_ends_so(), true);
+    drop(stage);
+}
+
 /// Plays beside a server of this service, which ends so.
 fn play_service<
     R: Threads + Wait + Net<Listener = net::TcpListener, Stream = net::TcpStream> + Abort + Sync,
@@ -434,7 +473,7 @@ fn play_service<
 ) -> Vec<u8>
     requires { IfSome service (λ service. (1 ≤ service.workers) × (service.workers ≤ 64)) }
 {
-    let stage = Stage::new(clock, hold, ending.looks);
+    let stage = Stage::new(clock, hold, None, ending.looks);
     let output = play_at(rt, clock, service, &stage, acts, ending.status);
     drop(stage);
     output

@@ -2,12 +2,15 @@
 
 ghost use Rattle.std.specs.Prelude.{◌≡◌, ◌≤◌, IfSome};
 
+use crate::sockets::disks::Disk;
 use crate::sockets::gates::Watch;
 use account_book::AccountBook;
 use lobby_model::Settings;
 use lobby_model::settings::DEFAULT_OUTBOX_LIMIT;
-use lobby_workers::run_server;
+use lobby_workers::{HashSeed, Log, run_server, run_server_recorded};
 use mio::net::TcpListener;
+use proxy_line::Proxies;
+use server_log::{LogLevel, ShortText, Started};
 use std::alloc::Global;
 use std::io::{self, Read};
 use std::net::{IpAddr, Ipv4Addr, Net, SocketAddr};
@@ -157,4 +160,61 @@ pub fn run<R: Threads + Wait + Net + Sync>(
         gate,
     );
     Told { status, output }
+}
+
+/// As `run`, with a record on this disk.
+pub fn run_recorded<R: Threads + Wait + Net + Sync>(
+    rt: &R,
+    service: Service,
+    listener: TcpListener,
+    input: Input<'_>,
+    gate: &Watch,
+    disk: &Disk,
+) -> Told
+    requires { (1 ≤ service.workers) × (service.workers ≤ 64) }
+{
+    let alloc = input.clock.alloc();
+    let mut input = input;
+    let mut output = Vec::new(alloc);
+    let Service {
+        settings,
+        workers,
+        accounts,
+    } = service;
+    let service = lobby_workers::Service {
+        settings,
+        workers,
+        stop_at_input_end: true,
+        proxies: Proxies::new(),
+        accounts,
+        seed: HashSeed::known(),
+    };
+    let status = run_server_recorded(
+        rt,
+        alloc,
+        service,
+        listener,
+        &mut input,
+        &mut output,
+        Vec::new(alloc),
+        gate,
+        no_log(),
+        disk.record(),
+    );
+    Told { status, output }
+}
+
+/// Operators are told nothing.
+fn no_log() -> Log {
+    Log {
+        level: LogLevel::None,
+        started: Started {
+            version: "",
+            address: ShortText::of(b""),
+            workers: 1,
+            client_limit: 0,
+            outbox_limit: 0,
+            accounts: 0,
+        },
+    }
 }

@@ -42,6 +42,7 @@ fn log_in<R: Wait>(
 #[derive(Drop)]
 struct Seen {
     client: u64,
+    position: u64,
     wakes: Option<Wakes>,
     events: usize,
     count: usize,
@@ -82,6 +83,7 @@ fn log_in_and_read<R: Wait>(
         return (pass, None);
     };
     let mut held = desk.take(rt, pass);
+    let position = held.position();
     let client = held.open([10, 0, 0, 2], 1).unwrap_or(0);
     let wakes = held.say(client, login).ok();
     let mut bytes = [0u8; 256];
@@ -89,6 +91,7 @@ fn log_in_and_read<R: Wait>(
     let events = held.count();
     let seen = Seen {
         client,
+        position,
         wakes,
         events,
         count,
@@ -103,6 +106,7 @@ fn compare(rt: &impl Abort, seen: Option<Seen>) {
         return;
     };
     same(rt, seen.client, 2);
+    same(rt, seen.position, 2);
     same(rt, seen.wakes, Some(Wakes::one(0).union(Wakes::one(1))));
     same(rt, seen.events, 3);
     let read = seen.bytes.get(..seen.count).unwrap_or(&[]);

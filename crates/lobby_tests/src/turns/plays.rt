@@ -6,8 +6,8 @@ ghost use Rattle.std.specs.Prelude.{◌≡◌};
 use crate::turns::desks::open;
 use crate::turns::serving::take_turns;
 use crate::verdict::{fail, same};
-use lobby_lock::{Closing, Count, Desk, Pass};
-use lobby_turns::{Buffers, Conn, Gate, TurnState};
+use lobby_lock::{Closing, Count, Desk, MadeEvent, Pass};
+use lobby_turns::{Buffers, Conn, Gate, GatedDesk, TurnState};
 use std::alloc::{AllocError, Global};
 use std::process::Abort;
 use std::sync::Wait;
@@ -56,17 +56,27 @@ pub enum Step {
     Keeps(usize),
 }
 
-/// A gate that counts how often the lobby is taken in turns, and how many bytes it is told were written.
+/// A gate that counts how often the lobby is taken in turns, how many bytes it is told were written, and how many
+/// events it is told, each at the place behind the last one.
 #[derive(Drop)]
 struct Counting {
     takes: AtomicU64,
     written: AtomicU64,
+    in_place: AtomicU64,
 }
 
 impl Gate for Counting {
     fn before_take(&self, worker: u8) {
         let _ = worker;
         self.takes.fetch_add(1, Ordering::SeqCst);
+    }
+
+    fn made(&self, worker: u8, made: MadeEvent) {
+        let _ = worker;
+        if made.place == self.in_place.load(Ordering::SeqCst) {
+            self.in_place.fetch_add(1, Ordering::SeqCst);
+        }
+        drop(made);
     }
 
     fn after_write(&self, worker: u8, bytes: &[u8]) {
@@ -113,6 +123,7 @@ fn new_client<R: Wait>(
     alloc: Global,
     desk: &Desk,
     pass: Pass,
+    gate: &Counting,
     link: MemoryLink,
 ) -> (Pass, Option<Client>)
     requires { pass.desk ≡ desk.now }
@@ -121,7 +132,7 @@ fn new_client<R: Wait>(
 {
     let mut held = desk.take(rt, pass);
     let opened = held.open([10, 0, 0, 1], 0);
-    let pass = held.give(rt, desk);
+    let pass = GatedDesk { desk, gate }.give(rt, held);
     match opened {
         Ok(number) => {
             let client = Client {
@@ -145,6 +156,7 @@ impl Cast {
             gate: Counting {
                 takes: AtomicU64::new(0),
                 written: AtomicU64::new(0),
+                in_place: AtomicU64::new(0),
             },
             buffers: Buffers::new(alloc),
             clients: Vec::new(alloc),
@@ -158,7 +170,7 @@ impl Cast {
     {
         match new_link(self.alloc, caller) {
             Ok(link) => {
-                let (pass, client) = new_client(rt, self.alloc, desk, pass, link);
+                let (pass, client) = new_client(rt, self.alloc, desk, pass, &self.gate, link);
                 self.adds(rt, client);
                 pass
             }
@@ -294,7 +306,7 @@ impl Cast {
     }
 }
 
-/// Closes the desk, and compares what the lobby has and how many events there were.
+/// Closes the desk, and compares what the lobby has, and how many events there were and were told.
 fn close<R: Wait + Abort>(rt: &R, desk: Desk, pass: Pass, cast: &Cast, events: u64)
     requires desk { pass.desk ≡ desk }
     requires first { pass.worker.number ≡ 0 }
@@ -303,6 +315,7 @@ fn close<R: Wait + Abort>(rt: &R, desk: Desk, pass: Pass, cast: &Cast, events: u
         Ok(closing) => {
             cast.compare(rt, &closing);
             same(rt, closing.events(0), Count::Made(events));
+            same(rt, cast.gate.in_place.load(Ordering::SeqCst), events);
             drop(closing);
         }
         Err(refused) => {
@@ -325,6 +338,8 @@ fn play_at<R: Wait + Abort>(
     requires first { pass.worker.number ≡ 0 }
 {
     let mut cast = Cast::new(alloc);
+    let mut pass = pass;
+    same(rt, pass.keep_events(alloc).is_ok(), true);
     let pass = cast.takes_all(rt, &desk, pass, steps);
     close(rt, desk, pass, &cast, events);
     drop(cast);

@@ -10,6 +10,6 @@ returns-clause-shown c =
     let taken = c.take.ensures in
     let opened = c.open-opened.ensures in
     let at = c.deref.ensures in
-    let lent = c.me.ensures in
-    shown_as place itself (c.me.result.now ∷ []) ((content c.args.view.now.held).known.me ∷ []) _ _ _
+    let lent = c.own_name.ensures in
+    shown_as place itself (c.own_name.result.now ∷ []) ((content c.args.view.now.held).known.me ∷ []) _ _ _
     (grind (arith, common_steps)) (c.answer-status.ensures _ _ c.text_table.ensures)

@@ -7,11 +7,11 @@ use Rattle.lobby_lines.proofs.request_arguments.put_arguments.Goals as goal
 pub loop-kind-preserved : goal.loop-kind-preserved
 loop-kind-preserved c =
     let all = parts false 32 c.args.text.now (map kind_of c.args.kinds.now) c.args.fields.now in
-    let g = subst (λ ks. Going all (parts c.loop-kind.is_missing c.loop-kind.mark c.args.text.now ks c.loop-kind.rest.now) c.args.line.now.items c.loop-kind.line.items)
+    let g = subst (λ ks. Going all (parts c.loop-kind.is_missing c.loop-kind.separator c.args.text.now ks c.loop-kind.rest.now) c.args.line.now.items c.loop-kind.line.items)
     (next_kind c.args.kinds.now c.loop-kind.kind-index _ c.loop-kind-test.true) c.loop-kind.invariant in
     let ks = map kind_of (drop (c.loop-kind.kind-index + 1) c.args.kinds.now) in
     subst (λ m. Going all (parts c.in_ok-is_missing.is_missing m c.args.text.now ks c.in_ok-behind.behind.now) c.args.line.now.items c.put_argument.new.line.items)
-    (sym c.mark_behind-mark.ensures)
-    (parts_next all c.loop-kind.is_missing c.in_ok-behind.is_absent c.in_ok-is_missing.is_missing c.loop-kind.mark c.args.text.now _ ks
+    (sym c.separator_behind-separator.ensures)
+    (parts_next all c.loop-kind.is_missing c.in_ok-behind.is_absent c.in_ok-is_missing.is_missing c.loop-kind.separator c.args.text.now _ ks
     c.loop-kind.rest.now c.in_ok-behind.behind.now c.args.line.now.items c.loop-kind.line.items c.put_argument.new.line.items g c.in_ok-behind.ensures.put
     (sym c.none_skipped.ensures ∙ c.in_ok-is_missing.was))

@@ -6,5 +6,5 @@ use Rattle.lobby_lines.proofs.request_arguments.put_arguments.Given as goal
 
 abbrev pub invariant-loop-kind : goal.invariant-loop-kind
 invariant-loop-kind l =
-    Going (parts false 32 l.text (map kind_of l.kinds) l.fields) (parts l.is_missing l.mark l.text (map kind_of (drop l.kind-index l.kinds)) l.rest)
+    Going (parts false 32 l.text (map kind_of l.kinds) l.fields) (parts l.is_missing l.separator l.text (map kind_of (drop l.kind-index l.kinds)) l.rest)
     l.fn.line.items l.line.items

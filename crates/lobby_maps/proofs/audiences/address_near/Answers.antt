@@ -7,5 +7,5 @@ use Rattle.lobby_maps.proofs.audiences.address_near.Goals as goal
 pub returns-in_ok-address_key : goal.returns-in_ok-address_key
 returns-in_ok-address_key c =
     c.in_ok-address_key.ensures
-    ∙ ap (addressed c.args.post.now) (sym (sole_client (plain c.args.clients.now.slots) c.args.seats.now.users.entries c.requires
+    ∙ ap (addressed c.args.post.now) (sym (sole_client (plain c.args.clients.now.slots) c.args.online.now.users.entries c.requires
     c.args.name.now c.args.key.number (c.is_named_at.ensures c.if-is_named_at.true)))

@@ -2,7 +2,7 @@ use Rattle.std.proofs.Common.{◌∙◌, sym, refl, subst}
 use Rattle.line_words.proofs.Ties.{none_of}
 use Rattle.lobby_post.proofs.Crowds.{written_through}
 use Rattle.lobby_post.proofs.Rounds.{AreLeft, all_forgotten, all_left, forgets, forgets_past, inside_next, pieces_is, limits_next, plain_same, none_left}
-use Rattle.lobby_post.proofs.Listed.{marks_same}
+use Rattle.lobby_post.proofs.Listed.{listings_same}
 use Rattle.lobby_post.proofs.delivery.cancel.Goals as goal
 use Rattle.lobby_post.proofs.delivery.cancel.Goals.{in-Some, in_default}
 
@@ -19,7 +19,7 @@ loop-piece-preserved c =
             due = forgets _ _ _ w.in-Some.slot.now w.cancel.new.self c.loop-piece.clients _ written w.in-Some.ensures.value w.cancel.ensures.due first;
             limits = λ limit all. limits_next limit _ w.in-Some.slot.now w.cancel.new.self c.loop-piece.clients _ written w.in-Some.ensures.value w.cancel.ensures.limit (inv.limits limit all);
             clients = plain_same _ w.in-Some.slot.now w.cancel.new.self c.loop-piece.clients _ refl w.in-Some.ensures.value w.cancel.ensures.client ∙ inv.clients;
-            marks = marks_same _ w.in-Some.slot.now w.cancel.new.self c.loop-piece.clients _ refl w.in-Some.ensures.value w.cancel.ensures.client w.cancel.ensures.listed ∙ inv.marks;
+            listings = listings_same _ w.in-Some.slot.now w.cancel.new.self c.loop-piece.clients _ refl w.in-Some.ensures.value w.cancel.ensures.client w.cancel.ensures.listed ∙ inv.listings;
           })
       | in_default w ↦
           let none = sym (none_of c.get_mut_at.result w.in_default.not-Some ∙ c.get_mut_at.ensures.value) in
@@ -28,7 +28,7 @@ loop-piece-preserved c =
             due = forgets_past _ _ _ c.loop-piece.clients none first;
             limits = inv.limits;
             clients = inv.clients;
-            marks = inv.marks;
+            listings = inv.listings;
           })
     ]
 
@@ -42,5 +42,5 @@ loop-piece-init c = record {
   due = all_left _ _ c.requires.due;
   limits = λ limit all. all;
   clients = refl;
-  marks = refl;
+  listings = refl;
 }

@@ -6,7 +6,7 @@ use Rattle.lobby_post.proofs.Rounds.{inside_next, pieces_is, less_due, less_past
 use Rattle.lobby_post.specs.Dues.{shares_of}
 use Rattle.lobby_post.specs.Pieces.{pieces_of}
 use Rattle.lobby_post.specs.Weights.{counted_on, weight}
-use Rattle.lobby_post.specs.Dirty.{AreKnown, line_of, marks_of}
+use Rattle.lobby_post.specs.Dirty.{AreKnown, line_of, listings_of}
 use Rattle.lobby_post.proofs.Underway.{IsUnderway, known_end, newly_end, stands_next, underway_first, underway_next, underway_past}
 use Rattle.lobby_post.proofs.delivery.deliver.Goals as goal
 use Rattle.lobby_post.proofs.delivery.deliver.Goals.{in-Some, in-None}
@@ -35,7 +35,7 @@ loop-piece-preserved c =
     ∙ told_next c.args.text.now c.args.pieces.now c.loop-piece.piece-index c.loop-piece-test.true c.loop-piece.count ∙ inv.told in
     let shared = inv.shares
     ∙ ap shares_of (pieces_is c.args.text.now c.args.pieces.now c.loop-piece.piece-index c.loop-piece-test.true) in
-    let begun : (n : ℕ) → AreKnown (marks_of c.args.clients.now) (line_of c.args.dirty.now) n → IsUnderway _ _ _ _ _ _ n = λ n known.
+    let begun : (n : ℕ) → AreKnown (listings_of c.args.clients.now) (line_of c.args.dirty.now) n → IsUnderway _ _ _ _ _ _ n = λ n known.
     subst (λ ps. IsUnderway (pieces_of c.args.text.now c.args.pieces.now) ps c.args.clients.now c.loop-piece.clients (line_of c.args.dirty.now) (line_of c.loop-piece.dirty) n)
     (pieces_is c.args.text.now c.args.pieces.now c.loop-piece.piece-index c.loop-piece-test.true) (inv.underway n known) in
     elim c.match-get_mut_at.branch [

@@ -6,7 +6,7 @@ use Rattle.lobby_post.specs.Dues.{shares_of}
 use Rattle.lobby_post.specs.Pieces.{LiesIn, pieces_of}
 use Rattle.lobby_post.specs.Weights.{counted_on, weight}
 use Rattle.lobby_post.specs.Mail.{AreDue, AreReady, HaveLimit, plain, deliver, wakes_home}
-use Rattle.lobby_post.specs.Dirty.{AreKnown, line_of, marks_of, stands}
+use Rattle.lobby_post.specs.Dirty.{AreKnown, line_of, listings_of, stands}
 use Rattle.lobby_post.proofs.Underway.{IsUnderway}
 use Rattle.lobby_post.proofs.delivery.deliver.Given as goal
 
@@ -24,8 +24,8 @@ invariant-loop-piece l = record {
       ≡ deliver limit (pieces_of l.text l.pieces) (plain l.initial.clients);
   wakes : (limit home : ℕ) → (has_home l.wakes home || wakes_home limit (pieces_of l.text (drop l.piece-index l.pieces)) (plain l.clients) home)
       ≡ wakes_home limit (pieces_of l.text l.pieces) (plain l.initial.clients) home;
-  homes : (home c : ℕ) → stands (marks_of l.clients) home c ≡ stands (marks_of l.initial.clients) home c;
-  underway : (n : ℕ) → AreKnown (marks_of l.initial.clients) (line_of l.initial.dirty) n
+  homes : (home c : ℕ) → stands (listings_of l.clients) home c ≡ stands (listings_of l.initial.clients) home c;
+  underway : (n : ℕ) → AreKnown (listings_of l.initial.clients) (line_of l.initial.dirty) n
       → IsUnderway (pieces_of l.text l.pieces) (pieces_of l.text (drop l.piece-index l.pieces)) l.initial.clients l.clients
       (line_of l.initial.dirty) (line_of l.dirty) n;
 }

@@ -7,7 +7,7 @@ use Rattle.lobby_post.specs.Pieces.{pieces_of}
 use Rattle.line_words.proofs.Ties.{none_of}
 use Rattle.lobby_post.proofs.Crowds.{written_through, due_kept}
 use Rattle.lobby_post.proofs.Rounds.{inside_next, inside_here, bytes_long, came_first, came_next, pieces_done, due_more, wants_here, grown_past, ready_next, limits_next, plain_same}
-use Rattle.lobby_post.proofs.Listed.{marks_same}
+use Rattle.lobby_post.proofs.Listed.{listings_same}
 use Rattle.lobby_post.proofs.delivery.reserve.Goals as goal
 use Rattle.lobby_post.proofs.delivery.reserve.Goals.{in-Some+in-Ok, in_default}
 
@@ -16,10 +16,10 @@ returns-in-Err-clause-clients c =
     c.cancel.ensures.clients ∙ plain_same _ c.in-Some.slot.now c.reserve.new.self c.loop-i.clients _
     refl c.in-Some.ensures.value c.reserve.ensures.client ∙ c.loop-i.invariant.clients
 
-pub returns-in-Err-clause-same_marks : goal.returns-in-Err-clause-same_marks
-returns-in-Err-clause-same_marks c =
-    c.cancel.ensures.same_marks ∙ marks_same _ c.in-Some.slot.now c.reserve.new.self c.loop-i.clients _
-    refl c.in-Some.ensures.value c.reserve.ensures.client c.reserve.ensures.listed ∙ c.loop-i.invariant.marks
+pub returns-in-Err-clause-same_listings : goal.returns-in-Err-clause-same_listings
+returns-in-Err-clause-same_listings c =
+    c.cancel.ensures.same_listings ∙ listings_same _ c.in-Some.slot.now c.reserve.new.self c.loop-i.clients _
+    refl c.in-Some.ensures.value c.reserve.ensures.client c.reserve.ensures.listed ∙ c.loop-i.invariant.listings
 
 pub returns-in-Err-clause-limits : goal.returns-in-Err-clause-limits
 returns-in-Err-clause-limits c = λ limit all.
@@ -61,7 +61,7 @@ loop-i-preserved c =
             ready = ready_next _ w.in-Some.slot.now w.reserve.new.self c.loop-i.clients _ written w.in-Some.ensures.value w.in-Ok.ensures.ready inv.ready;
             limits = λ limit all. limits_next limit _ w.in-Some.slot.now w.reserve.new.self c.loop-i.clients _ written w.in-Some.ensures.value w.reserve.ensures.limit (inv.limits limit all);
             clients = plain_same _ w.in-Some.slot.now w.reserve.new.self c.loop-i.clients _ refl w.in-Some.ensures.value w.reserve.ensures.client ∙ inv.clients;
-            marks = marks_same _ w.in-Some.slot.now w.reserve.new.self c.loop-i.clients _ refl w.in-Some.ensures.value w.reserve.ensures.client w.reserve.ensures.listed ∙ inv.marks;
+            listings = listings_same _ w.in-Some.slot.now w.reserve.new.self c.loop-i.clients _ refl w.in-Some.ensures.value w.reserve.ensures.client w.reserve.ensures.listed ∙ inv.listings;
           })
       | in_default w ↦
           let none = sym (none_of c.get_mut_at.result w.in_default.not-Some ∙ c.get_mut_at.ensures.value) in
@@ -72,7 +72,7 @@ loop-i-preserved c =
             came = inv.came;
             limits = inv.limits;
             clients = inv.clients;
-            marks = inv.marks;
+            listings = inv.listings;
           })
     ]
 
@@ -85,5 +85,5 @@ loop-i-init c = record {
   came = came_first c.args.clients.now;
   limits = λ limit all. all;
   clients = refl;
-  marks = refl;
+  listings = refl;
 }

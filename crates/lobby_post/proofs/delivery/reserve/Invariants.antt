@@ -2,7 +2,7 @@ use Rattle.std.proofs.Common.{◌≡◌, ℕ, take, drop}
 use Rattle.std.specs.List.{AllByRecursion}
 use Rattle.lobby_post.specs.Pieces.{LiesIn, pieces_of}
 use Rattle.lobby_post.specs.Mail.{AllSlots, AreDue, AreReady, HaveLimit, plain}
-use Rattle.lobby_post.specs.Dirty.{marks_of}
+use Rattle.lobby_post.specs.Dirty.{listings_of}
 use Rattle.lobby_post.proofs.Rounds.{CameFrom}
 use Rattle.lobby_post.proofs.delivery.reserve.Given as goal
 
@@ -14,5 +14,5 @@ invariant-loop-i l = record {
   came : AllSlots (CameFrom l.initial.clients) l.clients;
   limits : (limit : ℕ) → HaveLimit limit l.initial.clients → HaveLimit limit l.clients;
   clients : plain l.clients ≡ plain l.initial.clients;
-  marks : marks_of l.clients ≡ marks_of l.initial.clients;
+  listings : listings_of l.clients ≡ listings_of l.initial.clients;
 }

@@ -1,5 +1,5 @@
 use Rattle.std.proofs.Common.{[], ◌∷◌}
-use Rattle.lobby_script.specs.Escapes.{line_feed, tab, carriage_return, backslash}
+use Rattle.record_lines.specs.Escapes.{line_feed, tab, carriage_return, backslash}
 use Rattle.lobby_script.proofs.escapes.escaped_byte.Goals as goal
 
 pub returns-in-110-clause-sound : goal.returns-in-110-clause-sound

@@ -1,5 +1,5 @@
 use Rattle.std.proofs.Common.{[], ◌∷◌}
-use Rattle.lobby_script.specs.Escapes.{plain}
+use Rattle.record_lines.specs.Escapes.{plain}
 use Rattle.lobby_script.proofs.escapes.first_byte.Goals as goal
 
 pub returns-else-first-eq92-clause-sound : goal.returns-else-first-eq92-clause-sound

@@ -1,6 +1,6 @@
 use Rattle.std.proofs.Common.{◌≡◌, ℕ, ◌+◌, ◌*◌, List, [], ◌∷◌, refl, sym, ap, subst, ◌∙◌}
 use Rattle.std.specs.Char.{digit_value}
-use Rattle.lobby_script.specs.Escapes.{Written, hexadecimal}
+use Rattle.record_lines.specs.Escapes.{Written, hexadecimal}
 use Rattle.lobby_script.proofs.EscapeLemmas.{hexadecimal_parts}
 use Rattle.lobby_script.proofs.escapes.hexadecimal_byte.Goals as goal
 

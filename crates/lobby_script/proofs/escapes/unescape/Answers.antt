@@ -1,6 +1,6 @@
 use Rattle.std.proofs.Common.{ℕ, length, Some, eq-eqb, List, [], ◌∷◌, ◌++◌, sym, ap, ◌∙◌, subst, append_assoc, append-nil}
 use Rattle.std.proofs.lemmas.Bool.{false≢true}
-use Rattle.lobby_script.specs.Escapes.{StandsForBytes}
+use Rattle.record_lines.specs.Escapes.{StandsForBytes}
 use Rattle.proxy_line.proofs.Parts.{nothing_left}
 use Rattle.proxy_line.proofs.Readings.{finds_none}
 use Rattle.lobby_script.proofs.EscapeLemmas.{one_more, begins_with_it, none_begins}

@@ -1,5 +1,5 @@
 use Rattle.std.proofs.Common.{◌≡◌, ℕ, List, ◌++◌, length}
-use Rattle.lobby_script.specs.Escapes.{StandsForBytes}
+use Rattle.record_lines.specs.Escapes.{StandsForBytes}
 use Rattle.lobby_script.proofs.escapes.unescape.Given as goal
 
 -- the bytes so far, and those that the rest stands for, are those of the text

@@ -1,23 +1,14 @@
 use Rattle.std.proofs.Common.{◌≤◌, ◌-◌, ◌⊎◌, refl, inl, inr, arith}
-use Rattle.lobby_turns.proofs.Receivings.{begins, goes_on_said, goes_on_read, receives_all, receives_enough, receives_stop, receives_memory, receives_refused, receives_limit}
+use Rattle.lobby_turns.proofs.Receivings.{begins, goes_on_said, goes_on_read, receives_ends, receives_refused, receives_limit}
 use Rattle.lobby_turns.proofs.receiving.receive.Goals.{then-loop-lines-test+then-reads-lt-READS+else-bytes-lt-BYTES, then-loop-lines-test+else-reads-lt-READS, else-loop-lines-test}
 use Rattle.lobby_turns.proofs.receiving.receive.Goals as goal
 
 pub loop-lines-init : goal.loop-lines-init
 loop-lines-init g c = begins _ _ c.none.ensures
 
-pub returns-in-All : goal.returns-in-All
-returns-in-All g c = receives_all _ _ _ _ _ _ _ _ _ c.in-All.is c.if-reads-lt-READS.true c.loop-lines.invariant c.receive_next-next.ensures.received
-
-pub returns-in-Stop : goal.returns-in-Stop
-returns-in-Stop g c = receives_stop _ _ _ _ _ _ _ _ _ c.in-Stop.is c.if-reads-lt-READS.true c.loop-lines.invariant c.receive_next-next.ensures.received
-
-pub returns-in-Memory : goal.returns-in-Memory
-returns-in-Memory g c = receives_memory _ _ _ _ _ _ _ _ _ c.in-Memory.is c.if-reads-lt-READS.true c.loop-lines.invariant c.receive_next-next.ensures.received
-
-pub returns-in-Enough : goal.returns-in-Enough
-returns-in-Enough g c =
-    receives_enough _ _ _ _ _ _ (c.args.allowance - c.loop-lines.all.told) _ _ _ (omega (arith, c.saturating_sub.ensures)) c.in-Enough.is c.if-reads-lt-READS.true c.receive_next-next.ensures.within c.loop-lines.invariant c.receive_next-next.ensures.received
+pub returns-in-Ends : goal.returns-in-Ends
+returns-in-Ends g c =
+    receives_ends _ _ _ _ _ _ (c.args.allowance - c.loop-lines.all.told) _ _ _ _ (omega (arith, c.saturating_sub.ensures)) c.in-Ends.is c.if-reads-lt-READS.true c.receive_next-next.ensures.within c.loop-lines.invariant c.receive_next-next.ensures.received
 
 pub returns-then-said : goal.returns-then-said
 returns-then-said g c =

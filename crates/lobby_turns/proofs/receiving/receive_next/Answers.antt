@@ -1,4 +1,5 @@
 use Rattle.std.proofs.Common.{refl, sym, subst, rules, Some}
+use Rattle.lobby_turns.specs.declared.receiving.ReceiveState.TheVariants as receive
 use Rattle.lobby_turns.specs.declared.receiving.Step.TheVariants as step
 use Rattle.client_session.specs.declared.session.Next.{Next}
 use Rattle.client_session.specs.OneSession.{IsNextOf}
@@ -11,7 +12,7 @@ use Rattle.lobby_turns.proofs.receiving.receive_next.Goals as goal
 pub returns-in-Err-clause-received : goal.returns-in-Err-clause-received
 returns-in-Err-clause-received g c =
     let before = snapshot c.args.conn.now (g.L.Link.wire c.args.link.now) c.args.pass in
-    subst (λ (x : Carried). ReceivesNext before (snapshot x (g.L.Link.wire c.args.link.now) c.args.pass) step.Memory) (sym c.in-Err.ensures.err.0) (none_done _ _ refl refl (went_none before) (has_bytes c.in-Err.ensures.err.1 c.in-Err.ensures.err.2))
+    subst (λ (x : Carried). ReceivesNext before (snapshot x (g.L.Link.wire c.args.link.now) c.args.pass) (step.Ends receive.Memory)) (sym c.in-Err.ensures.err.0) (none_done _ _ refl refl (went_none before) (has_bytes c.in-Err.ensures.err.1 c.in-Err.ensures.err.2))
 
 pub returns-then-not-is_quiet-clause-received : goal.returns-then-not-is_quiet-clause-received
 returns-then-not-is_quiet-clause-received g c =

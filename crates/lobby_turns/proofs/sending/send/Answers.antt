@@ -1,7 +1,7 @@
 use Rattle.std.proofs.Common.{refl, sym, ◌∙◌, subst, arith, true≢false}
 use Rattle.lobby_lock.specs.Passes.{ShownPass}
 use Rattle.lobby_turns.specs.Snapshot.{snapshot}
-use Rattle.lobby_turns.proofs.Sendings.{Sending, no_write, sending_none, sending_asked, sending_wrote, sends_all, sends_would_block, sends_fault, sends_memory, sends_finished, sends_asked}
+use Rattle.lobby_turns.proofs.Sendings.{Sending, no_write, sending_none, sending_asked, sending_wrote, sends_on, sends_finished, sends_asked}
 use Rattle.lobby_turns.proofs.sending.send.Goals.{then-not-is_written+else-finished, else-not-is_written}
 use Rattle.lobby_turns.proofs.sending.send.Goals as goal
 
@@ -21,20 +21,11 @@ loop-writes-init g c =
     ]
 
 pub returns-in-All : goal.returns-in-All
-returns-in-All g c = sends_all _ _ _ _ _ c.in-All.is c.loop-writes-test.true c.loop-writes.invariant c.send_next-next.ensures
-
-pub returns-in-WouldBlock : goal.returns-in-WouldBlock
-returns-in-WouldBlock g c = sends_would_block _ _ _ _ _ c.in-WouldBlock.is c.loop-writes-test.true c.loop-writes.invariant c.send_next-next.ensures
-
-pub returns-in-Fault : goal.returns-in-Fault
-returns-in-Fault g c = sends_fault _ _ _ _ _ c.in-Fault.is c.loop-writes-test.true c.loop-writes.invariant c.send_next-next.ensures
-
-pub returns-in-Memory : goal.returns-in-Memory
-returns-in-Memory g c = sends_memory _ _ _ _ _ c.in-Memory.is c.loop-writes-test.true c.loop-writes.invariant c.send_next-next.ensures
+returns-in-All g c = sends_on _ _ _ _ _ c.in-All.is c.loop-writes-test.true c.loop-writes.invariant c.send_next-next.ensures
 
 pub returns-in-Finished : goal.returns-in-Finished
 returns-in-Finished g c =
     sends_finished _ _ _ _ _ _ _ c.in-Finished.is c.loop-writes-test.true (omega (arith, c.loop-writes-test.true)) c.loop-writes.invariant c.send_next-next.ensures c.write_out-in-Finished.ensures
 
 pub loop-writes-preserved : goal.loop-writes-preserved
-loop-writes-preserved g c = sending_wrote _ _ _ _ _ c.in-Wrote.is c.loop-writes.invariant c.send_next-next.ensures
+loop-writes-preserved g c = sending_wrote _ _ _ _ _ c.in-Again.is c.loop-writes.invariant c.send_next-next.ensures

@@ -1,5 +1,5 @@
 use Rattle.std.proofs.Common.{refl, sym, subst}
-use Rattle.lobby_turns.specs.declared.sending.Step.TheVariants as step
+use Rattle.lobby_turns.specs.declared.sending.SendState.TheVariants as send
 use Rattle.lobby_turns.specs.Snapshot.{Carried, snapshot}
 use Rattle.lobby_turns.specs.Sending.{SendsNext}
 use Rattle.lobby_lock.specs.Passes.{ShownPass}
@@ -21,7 +21,7 @@ returns-in-Err g c =
     let wire = g.L.Link.wire c.args.link.now in
     let err = from_err _ _ _ c.in-Err.is c.drain-pass.ensures.err in
     let before = snapshot c.args.conn.now wire c.args.pass in
-    subst (λ (x : Carried × ShownPass). SendsNext before (snapshot x.0 wire x.1) step.Memory) (λ i. (sym err.0 i, sym err.1 i)) (next_memory before (c.is_written.ensures.0 c.if-not-is_written.false))
+    subst (λ (x : Carried × ShownPass). SendsNext before (snapshot x.0 wire x.1) send.Memory) (λ i. (sym err.0 i, sym err.1 i)) (next_memory before (c.is_written.ensures.0 c.if-not-is_written.false))
 
 pub returns-then-is_written : goal.returns-then-is_written
 returns-then-is_written g c =

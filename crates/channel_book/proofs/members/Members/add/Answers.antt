@@ -8,7 +8,7 @@ use Rattle.channel_book.proofs.members.Members.add.Goals as goal
 
 pub returns-clause-ok : goal.returns-clause-ok
 returns-clause-ok g c =
-    let none = not_there (λ name. name) c.args.name c.self.inside.marks.entries (ap (is_among c.args.name) (map-id _ ∙ c.self.view_is) ∙ c.requires) in
-    ap keys_of (c.in_ok-insert.ensures.entries ∙ insert_entry-new _ c.self.inside.marks c.args.name c.args.mark none)
-    ∙ map-append (λ e. e.0) c.self.inside.marks.entries ((c.args.name, c.args.mark) ∷ [])
+    let none = not_there (λ name. name) c.args.name c.self.inside.by_name.entries (ap (is_among c.args.name) (map-id _ ∙ c.self.view_is) ∙ c.requires) in
+    ap keys_of (c.in_ok-insert.ensures.entries ∙ insert_entry-new _ c.self.inside.by_name c.args.name c.args.key none)
+    ∙ map-append (λ e. e.0) c.self.inside.by_name.entries ((c.args.name, c.args.key) ∷ [])
     ∙ ap (λ names. names ++ c.args.name ∷ []) c.self.view_is

@@ -6,5 +6,5 @@ use Rattle.channel_book.proofs.members.Members.has_member.Goals as goal
 
 pub returns : goal.returns
 returns g c =
-    c.contains_key.ensures ∙ is_there (λ name. name) c.args.user.now c.self.inside.marks.entries
+    c.contains_key.ensures ∙ is_there (λ name. name) c.args.user.now c.self.inside.by_name.entries
     ∙ ap (is_among c.args.user.now) (map-id _ ∙ c.self.view_is)

@@ -16,7 +16,7 @@ pub returns-clause-names : goal.returns-clause-names
 returns-clause-names g c =
     ap keys_of c.shift_remove.ensures.entries
     ∙ sym (map-id _)
-    ∙ names_removed (λ name. name) c.args.name.now c.self.inside.marks.entries c.self.invariant
+    ∙ names_removed (λ name. name) c.args.name.now c.self.inside.by_name.entries c.self.invariant
     ∙ ap (all_but c.args.name.now) (map-id _ ∙ c.self.view_is)
 
 pub returns-clause-rest : goal.returns-clause-rest

@@ -34,4 +34,5 @@ invariant_of-result c =
       below = p.below;
       counts = search rules;
       counted = rw now (rw e.numbered counted);
+      empty = p.empty;
     }

@@ -19,5 +19,5 @@ returns-clause-sent c =
 pub returns-clause-own : goal.returns-clause-own
 returns-clause-own c = λ mine.
     subst (λ (s : State). IsOwn s c.args.post.now c.address_user.new.post c.args.name.now) (plainly c.self.view_is)
-    (reaches_own _ c.self.inside.seats.users.entries c.args.post.now c.address_user.new.post c.args.name.now c.self.invariant.1.agree
+    (reaches_own _ c.self.inside.online.users.entries c.args.post.now c.address_user.new.post c.args.name.now c.self.invariant.1.agree
     (ap (λ (s : State). name_of s c.args.post.now.issuer) (plainly c.self.view_is) ∙ mine) c.in_ok-address_user.ensures)

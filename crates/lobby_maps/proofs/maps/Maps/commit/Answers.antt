@@ -1,14 +1,14 @@
 use Rattle.std.proofs.Common.{◌≡◌, ◌≤◌, ◌∙◌, ap, sym, subst, arith}
 use Rattle.line_words.specs.Table.{ByName, ByNumber}
 use Rattle.lobby_model.specs.State.{State, Client, Battle}
-use Rattle.lobby_battles.specs.declared.seats.Seat.{Seat}
+use Rattle.lobby_battles.specs.declared.online_users.OnlineUser.{OnlineUser}
 use Rattle.lobby_post.specs.Mail.{plain, deliver, wakes_home}
 use Rattle.lobby_post.specs.Crowd.{Crowd, Known, waits}
 use Rattle.lobby_maps.specs.Dirty.{DirtyAfter, lists_of, those_there}
 use Rattle.lobby_maps.specs.Changes.{CanBe, changed, clients_after, users_after}
-use Rattle.lobby_battles.specs.Seats.{Agree, IsListed, users_of}
+use Rattle.lobby_battles.specs.OnlineUsers.{Agree, IsListed, users_of}
 use Rattle.lobby_maps.specs.Fit.{Numbered}
-use Rattle.lobby_battles.specs.Battles.{AreSeated}
+use Rattle.lobby_battles.specs.Battles.{KnowTheirBattles}
 use Rattle.lobby_maps.specs.Shown.{lobby_of}
 use Rattle.lobby_maps.proofs.Numbered.{numbered_after}
 use Rattle.lobby_maps.proofs.Applied.{sent_so, woken_so}
@@ -23,7 +23,7 @@ invariant_of-self c = (
   c.self.invariant.0,
   fit_same _ _ c.reserve.new.self _ _ _ _ _ c.reserve.ensures.clients c.reserve.ensures.limit
       c.in-Err.ensures.err
-      (known_same c.self.inside.clients c.reserve.new.self c.reserve.ensures.same_marks c.reserve.ensures.same_lines _ c.self.invariant.1.known)
+      (known_same c.self.inside.clients c.reserve.new.self c.reserve.ensures.same_listings c.reserve.ensures.same_lines _ c.self.invariant.1.known)
       c.self.invariant.1,
 )
 
@@ -32,19 +32,19 @@ invariant_of-self-in-Ok-done c =
     let was : ByNumber Client = plain c.self.inside.clients.slots in
     let room : plain c.reserve.new.self.slots ≡ was = c.reserve.ensures.clients in (
       c.self.invariant.0,
-      fit_delivered _ c.args.post.now.sent c.apply-done.new.clients c.deliver.new.self c.apply-done.new.seats.users.entries
-          c.apply-done.new.seats.clients.keys c.self.inside.last_client c.apply-done.new.battles.by_number.entries c.apply-done.new.battles.last
+      fit_delivered _ c.args.post.now.sent c.apply-done.new.clients c.deliver.new.self c.apply-done.new.online.users.entries
+          c.apply-done.new.online.clients.keys c.self.inside.last_client c.apply-done.new.battles.by_number.entries c.apply-done.new.battles.last
           (c.deliver.ensures.limit ∙ c.apply-done.ensures.limit ∙ c.reserve.ensures.limit
           ∙ c.self.invariant.1.limited) c.deliver.ensures.clients c.deliver.ensures.due
           (c.deliver.ensures.known _ (c.apply-done.ensures.known _
-          (known_same c.self.inside.clients c.reserve.new.self c.reserve.ensures.same_marks c.reserve.ensures.same_lines _ c.self.invariant.1.known)))
+          (known_same c.self.inside.clients c.reserve.new.self c.reserve.ensures.same_listings c.reserve.ensures.same_lines _ c.self.invariant.1.known)))
           c.in-Ok-done.ensures.agree
-          (c.apply-done.ensures.listed (subst (λ (n : ByNumber Client). IsListed c.self.inside.seats.clients.keys n)
+          (c.apply-done.ensures.listed (subst (λ (n : ByNumber Client). IsListed c.self.inside.online.clients.keys n)
           (sym room) c.self.invariant.1.listed))
           (subst (λ (n : ByNumber Client). Numbered c.self.inside.last_client n) (sym c.in-Ok-done.ensures.clients)
           (numbered_after c.self.inside.last_client (plain c.reserve.new.self.slots) c.args.client c.args.change
           (subst (λ (n : ByNumber Client). Numbered c.self.inside.last_client n) (sym room) c.self.invariant.1.numbered)))
-          c.in-Ok-done.ensures.seated
+          c.in-Ok-done.ensures.knowing
           (subst (λ n. n ≤ 2147483647) (sym c.in-Ok-done.ensures.last)
           (counted_after _ _ _ _ c.args.client c.self.inside.battles.last c.args.change (c.requires) c.self.invariant.1.counted)),
     )
@@ -59,16 +59,16 @@ invariant_of-self-in-Err-done c =
       record {
         limited = c.cancel.ensures.limit ∙ c.apply-done.ensures.limit ∙ c.reserve.ensures.limit ∙ c.self.invariant.1.limited;
         rest = c.cancel.ensures.due;
-        agree = subst (λ (n : ByNumber Client). Agree n c.apply-done.new.seats.users.entries) (sym same)
-            (subst (λ (us : ByName Seat). Agree was us) (sym c.in-Err-done.ensures.err.1) c.self.invariant.1.agree);
-        listed = subst (λ (n : ByNumber Client). IsListed c.apply-done.new.seats.clients.keys n) (sym c.cancel.ensures.clients)
-            (c.apply-done.ensures.listed (subst (λ (n : ByNumber Client). IsListed c.self.inside.seats.clients.keys n)
+        agree = subst (λ (n : ByNumber Client). Agree n c.apply-done.new.online.users.entries) (sym same)
+            (subst (λ (us : ByName OnlineUser). Agree was us) (sym c.in-Err-done.ensures.err.1) c.self.invariant.1.agree);
+        listed = subst (λ (n : ByNumber Client). IsListed c.apply-done.new.online.clients.keys n) (sym c.cancel.ensures.clients)
+            (c.apply-done.ensures.listed (subst (λ (n : ByNumber Client). IsListed c.self.inside.online.clients.keys n)
             (sym room) c.self.invariant.1.listed));
         numbered = subst (λ (n : ByNumber Client). Numbered c.self.inside.last_client n) (sym same) c.self.invariant.1.numbered;
-        known = known_same c.apply-done.new.clients c.cancel.new.self c.cancel.ensures.same_marks c.cancel.ensures.same_lines _ (c.apply-done.ensures.known _
-            (known_same c.self.inside.clients c.reserve.new.self c.reserve.ensures.same_marks c.reserve.ensures.same_lines _ c.self.invariant.1.known));
-        seated = subst (λ (us : ByName Seat). AreSeated c.apply-done.new.battles.by_number.entries us) (sym c.in-Err-done.ensures.err.1)
-            (subst (λ (m : ByNumber Battle). AreSeated m c.self.inside.seats.users.entries) (sym c.in-Err-done.ensures.err.3) c.self.invariant.1.seated);
+        known = known_same c.apply-done.new.clients c.cancel.new.self c.cancel.ensures.same_listings c.cancel.ensures.same_lines _ (c.apply-done.ensures.known _
+            (known_same c.self.inside.clients c.reserve.new.self c.reserve.ensures.same_listings c.reserve.ensures.same_lines _ c.self.invariant.1.known));
+        knowing = subst (λ (us : ByName OnlineUser). KnowTheirBattles c.apply-done.new.battles.by_number.entries us) (sym c.in-Err-done.ensures.err.1)
+            (subst (λ (m : ByNumber Battle). KnowTheirBattles m c.self.inside.online.users.entries) (sym c.in-Err-done.ensures.err.3) c.self.invariant.1.knowing);
         counted = subst (λ n. n ≤ 2147483647) (sym c.in-Err-done.ensures.err.4) c.self.invariant.1.counted;
       },
     )
@@ -76,11 +76,11 @@ invariant_of-self-in-Err-done c =
 pub returns-in-Ok-done-clause-ok : goal.returns-in-Ok-done-clause-ok
 returns-in-Ok-done-clause-ok c =
     let before : State = lobby_of c.self.inside.settings c.self.inside.accounts (plain c.self.inside.clients.slots)
-    (users_of c.self.inside.seats.users.entries) c.self.inside.channels c.self.inside.battles.by_number.entries c.self.inside.last_client c.self.inside.battles.last in
+    (users_of c.self.inside.online.users.entries) c.self.inside.channels c.self.inside.battles.by_number.entries c.self.inside.last_client c.self.inside.battles.last in
     let room : plain c.reserve.new.self.slots ≡ before.clients = c.reserve.ensures.clients in
     let limited : c.apply-done.new.clients.limit ≡ c.self.inside.settings.outbox_limit = c.apply-done.ensures.limit ∙ c.reserve.ensures.limit
     ∙ c.self.invariant.1.limited in
-    let users : users_of c.apply-done.new.seats.users.entries ≡ users_after before.users c.args.change = c.in-Ok-done.ensures.users in
+    let users : users_of c.apply-done.new.online.users.entries ≡ users_after before.users c.args.change = c.in-Ok-done.ensures.users in
     rw (← c.self.view_is) (λ e is matches.
     (λ i. record before { users = users i; channels = c.in-Ok-done.ensures.channels i; battles = c.in-Ok-done.ensures.battles i; last_battle = c.in-Ok-done.ensures.last i; clients = plain c.deliver.new.self.slots })
     ∙ sent_so before (changed before c.args.client c.args.change) e c.args.post.now is matches (plain c.deliver.new.self.slots)
@@ -91,7 +91,7 @@ returns-in-Ok-done-clause-ok c =
 pub returns-in-Ok-done-clause-wakes : goal.returns-in-Ok-done-clause-wakes
 returns-in-Ok-done-clause-wakes c =
     let before : State = lobby_of c.self.inside.settings c.self.inside.accounts (plain c.self.inside.clients.slots)
-    (users_of c.self.inside.seats.users.entries) c.self.inside.channels c.self.inside.battles.by_number.entries c.self.inside.last_client c.self.inside.battles.last in
+    (users_of c.self.inside.online.users.entries) c.self.inside.channels c.self.inside.battles.by_number.entries c.self.inside.last_client c.self.inside.battles.last in
     let limited : c.apply-done.new.clients.limit ≡ c.self.inside.settings.outbox_limit = c.apply-done.ensures.limit ∙ c.reserve.ensures.limit
     ∙ c.self.invariant.1.limited in
     rw (← c.self.view_is) (λ e is matches.
@@ -101,7 +101,7 @@ returns-in-Ok-done-clause-wakes c =
 
 pub apply-done-requires-clause-can : goal.apply-done-requires-clause-can
 apply-done-requires-clause-can c =
-    subst (λ (m : ByNumber Client). CanBe m (users_of c.self.inside.seats.users.entries) c.self.inside.channels c.self.inside.battles.by_number.entries
+    subst (λ (m : ByNumber Client). CanBe m (users_of c.self.inside.online.users.entries) c.self.inside.channels c.self.inside.battles.by_number.entries
     c.args.client c.args.change) (sym c.reserve.ensures.clients)
     (subst (λ (t : State). CanBe t.clients t.users t.channels t.battles c.args.client c.args.change) (sym (plainly c.self.view_is)) c.requires)
 
@@ -111,24 +111,24 @@ deliver-requires-clause-ready c = c.apply-done.ensures.ready c.in-Ok.ensures.rea
 pub returns-in-Ok-done-clause-dirty : goal.returns-in-Ok-done-clause-dirty
 returns-in-Ok-done-clause-dirty c =
     let before : State = lobby_of c.self.inside.settings c.self.inside.accounts (plain c.self.inside.clients.slots)
-    (users_of c.self.inside.seats.users.entries) c.self.inside.channels c.self.inside.battles.by_number.entries c.self.inside.last_client c.self.inside.battles.last in
+    (users_of c.self.inside.online.users.entries) c.self.inside.channels c.self.inside.battles.by_number.entries c.self.inside.last_client c.self.inside.battles.last in
     let known : Known c.apply-done.new.clients c.self.inside.last_client = c.apply-done.ensures.known _
-    (known_same c.self.inside.clients c.reserve.new.self c.reserve.ensures.same_marks c.reserve.ensures.same_lines _ c.self.invariant.1.known) in
+    (known_same c.self.inside.clients c.reserve.new.self c.reserve.ensures.same_listings c.reserve.ensures.same_lines _ c.self.invariant.1.known) in
     rw (← c.self.view_is) (λ e is matches home within.
     listed_as (DirtyAfter before e home) c.self.inside.clients c.deliver.new.self home within
     (dirty_so before (changed before c.args.client c.args.change) e c.args.post.now is matches c.apply-done.new.clients c.self.inside.last_client home
     (sym (c.in-Ok-done.ensures.clients ∙ ap (λ (m : ByNumber Client). clients_after m c.args.client c.args.change) c.reserve.ensures.clients)) known
     (waits c.self.inside.clients home) (waits c.deliver.new.self home)
     (c.in-Ok-done.ensures.waits home within ∙ ap (those_there (plain c.apply-done.new.clients.slots))
-    (waits_same c.self.inside.clients c.reserve.new.self c.reserve.ensures.same_marks c.reserve.ensures.same_lines home))
+    (waits_same c.self.inside.clients c.reserve.new.self c.reserve.ensures.same_listings c.reserve.ensures.same_lines home))
     (c.deliver.ensures.newly c.self.inside.last_client home known (omega (arith, within)))))
 
 pub returns-in-Err-clause-err : goal.returns-in-Err-clause-err
 returns-in-Err-clause-err c =
     let before : State = lobby_of c.self.inside.settings c.self.inside.accounts (plain c.self.inside.clients.slots)
-    (users_of c.self.inside.seats.users.entries) c.self.inside.channels c.self.inside.battles.by_number.entries c.self.inside.last_client c.self.inside.battles.last in
+    (users_of c.self.inside.online.users.entries) c.self.inside.channels c.self.inside.battles.by_number.entries c.self.inside.last_client c.self.inside.battles.last in
     rw (← c.self.view_is) (shown_same before _ _ _ c.reserve.ensures.clients
-    (lists_same c.self.inside.clients c.reserve.new.self c.reserve.ensures.same_marks c.reserve.ensures.same_lines))
+    (lists_same c.self.inside.clients c.reserve.new.self c.reserve.ensures.same_listings c.reserve.ensures.same_lines))
 
 pub returns-in-Err-done-clause-err : goal.returns-in-Err-done-clause-err
 returns-in-Err-done-clause-err c =
@@ -136,9 +136,9 @@ returns-in-Err-done-clause-err c =
     let clients : plain c.cancel.new.self.slots ≡ plain c.self.inside.clients.slots = c.cancel.ensures.clients
     ∙ ap (λ (m : Crowd). plain m.slots) same.0 ∙ c.reserve.ensures.clients in
     let lists : lists_of c.cancel.new.self ≡ lists_of c.self.inside.clients =
-    lists_same c.apply-done.new.clients c.cancel.new.self c.cancel.ensures.same_marks c.cancel.ensures.same_lines
+    lists_same c.apply-done.new.clients c.cancel.new.self c.cancel.ensures.same_listings c.cancel.ensures.same_lines
     ∙ ap lists_of same.0
-    ∙ lists_same c.self.inside.clients c.reserve.new.self c.reserve.ensures.same_marks c.reserve.ensures.same_lines in
+    ∙ lists_same c.self.inside.clients c.reserve.new.self c.reserve.ensures.same_listings c.reserve.ensures.same_lines in
     rw (← c.self.view_is) (λ i. record {
       plain = lobby_of c.self.inside.settings c.self.inside.accounts (clients i) (users_of (same.1 i)) (same.2 i) (same.3 i) c.self.inside.last_client (same.4 i);
       dirty = lists i;

@@ -7,5 +7,5 @@ use Rattle.lobby_maps.proofs.maps.Maps.has_user.Goals as goal
 pub returns : goal.returns
 returns c =
     c.contains_key.ensures
-    ∙ sym (is_user_at c.self.inside.seats.users.entries c.args.self.now.plain.users c.args.name.now c.args.name.now
+    ∙ sym (is_user_at c.self.inside.online.users.entries c.args.self.now.plain.users c.args.name.now c.args.name.now
     (ap (λ (s : State). s.users) (plainly c.self.view_is)) refl)

@@ -3,7 +3,7 @@ use Rattle.std.specs.Prelude.{IfNone}
 use Rattle.std.specs.Option.{option_to_list}
 use Rattle.line_words.specs.Table.{ByNumber}
 use Rattle.lobby_model.specs.State.{Client}
-use Rattle.lobby_battles.specs.Seats.{users_of}
+use Rattle.lobby_battles.specs.OnlineUsers.{users_of}
 use Rattle.lobby_maps.specs.Shown.{lobby_of}
 use Rattle.lobby_maps.proofs.Fitting.{fit_same}
 use Rattle.lobby_maps.proofs.Lists.{listed_as}
@@ -18,7 +18,7 @@ invariant_of-self c = (
 
 pub returns-clause-plain : goal.returns-clause-plain
 returns-clause-plain c = rw (← c.self.view_is) (ap (λ (m : ByNumber Client). lobby_of c.self.inside.settings c.self.inside.accounts m
-    (users_of c.self.inside.seats.users.entries) c.self.inside.channels c.self.inside.battles.by_number.entries c.self.inside.last_client c.self.inside.battles.last)
+    (users_of c.self.inside.online.users.entries) c.self.inside.channels c.self.inside.battles.by_number.entries c.self.inside.last_client c.self.inside.battles.last)
     c.next_dirty.ensures.clients)
 
 pub returns-clause-first : goal.returns-clause-first

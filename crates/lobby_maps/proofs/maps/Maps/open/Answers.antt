@@ -7,7 +7,7 @@ use Rattle.lobby_model.specs.Sessions.{greeted, greeting, has_place}
 use Rattle.lobby_model.specs.Next.{with_batch}
 use Rattle.lobby_model.proofs.Quiet.{next_open}
 use Rattle.lobby_post.specs.Mail.{plain}
-use Rattle.lobby_battles.specs.Seats.{Agree, IsListed, users_of}
+use Rattle.lobby_battles.specs.OnlineUsers.{Agree, IsListed, users_of}
 use Rattle.lobby_maps.specs.Fit.{Numbered}
 use Rattle.lobby_maps.specs.Shown.{lobby_of}
 use Rattle.lobby_battles.proofs.Agreed.{agree_kept, listed_kept}
@@ -27,14 +27,14 @@ invariant_of-self-2 c =
       record {
         limited = c.in_ok-insert.ensures.limit ∙ c.self.invariant.1.limited;
         rest = c.in_ok-insert.ensures.due [] refl c.self.invariant.1.rest;
-        agree = subst (λ (n : ByNumber Client). Agree n c.self.inside.seats.users.entries) (sym c.in_ok-insert.ensures.ok)
-            (agree_kept m _ c.self.inside.seats.users.entries names c.self.invariant.1.agree);
-        listed = subst (λ (n : ByNumber Client). IsListed c.self.inside.seats.clients.keys n) (sym c.in_ok-insert.ensures.ok)
-            (listed_kept m _ c.self.inside.seats.clients.keys names c.self.invariant.1.listed);
+        agree = subst (λ (n : ByNumber Client). Agree n c.self.inside.online.users.entries) (sym c.in_ok-insert.ensures.ok)
+            (agree_kept m _ c.self.inside.online.users.entries names c.self.invariant.1.agree);
+        listed = subst (λ (n : ByNumber Client). IsListed c.self.inside.online.clients.keys n) (sym c.in_ok-insert.ensures.ok)
+            (listed_kept m _ c.self.inside.online.clients.keys names c.self.invariant.1.listed);
         numbered = subst (λ (n : ByNumber Client). Numbered (c.self.inside.last_client + 1) n) (sym c.in_ok-insert.ensures.ok)
             (numbered_opened c.self.inside.last_client m w c.self.invariant.1.numbered);
         known = c.in_ok-insert.ensures.known c.self.inside.last_client (omega arith) c.self.invariant.1.known;
-        seated = c.self.invariant.1.seated;
+        knowing = c.self.invariant.1.knowing;
         counted = c.self.invariant.1.counted;
       },
     )
@@ -42,7 +42,7 @@ invariant_of-self-2 c =
 pub returns-clause-ok : goal.returns-clause-ok
 returns-clause-ok c =
     let s : State = lobby_of c.self.inside.settings c.self.inside.accounts (plain c.self.inside.clients.slots)
-    (users_of c.self.inside.seats.users.entries) c.self.inside.channels c.self.inside.battles.by_number.entries c.self.inside.last_client c.self.inside.battles.last in
+    (users_of c.self.inside.online.users.entries) c.self.inside.channels c.self.inside.battles.by_number.entries c.self.inside.last_client c.self.inside.battles.last in
     let place : has_place s ≡ true = subst (λ (t : State). has_place t ≡ true) (sym (plainly c.self.view_is)) c.requires.place in
     let made : with_batch c.self.inside.clients.limit c.deref.result.now (greeted c.args.ip c.args.home)
     ≡ with_batch s.settings.outbox_limit (print (None, greeting s.settings)) (greeted c.args.ip c.args.home) =

@@ -8,11 +8,11 @@ use Rattle.lobby_maps.proofs.maps.Maps.status_of.Goals as goal
 
 pub returns-in-Some : goal.returns-in-Some
 returns-in-Some c =
-    sym (ap status_in (user_at c.self.inside.seats.users.entries c.args.self.now.plain.users c.args.name.now (Some c.in-Some.seat.now)
+    sym (ap status_in (user_at c.self.inside.online.users.entries c.args.self.now.plain.users c.args.name.now (Some c.in-Some.online_user.now)
     (ap (λ (s : State). s.users) (plainly c.self.view_is)) c.in-Some.ensures.value))
 
 pub returns-in-None : goal.returns-in-None
 returns-in-None c =
     c.of_account.ensures.word
-    ∙ sym (ap status_in (user_at c.self.inside.seats.users.entries c.args.self.now.plain.users c.args.name.now None
+    ∙ sym (ap status_in (user_at c.self.inside.online.users.entries c.args.self.now.plain.users c.args.name.now None
     (ap (λ (s : State). s.users) (plainly c.self.view_is)) c.in-None.ensures.value))

@@ -6,7 +6,7 @@ use Rattle.lobby_model.specs.Sessions.{added, arrival}
 use Rattle.reply_kinds.specs.declared.Reply.TheVariants as reply
 use Rattle.reply_kinds.specs.Replies.{printed_line}
 use Rattle.lobby_post.specs.Posted.{Told, telling, with_others}
-use Rattle.lobby_battles.specs.Seats.{user_in}
+use Rattle.lobby_battles.specs.OnlineUsers.{plain_user}
 use Rattle.lobby_maps.proofs.Arrivals.{arrival_told, not_zero}
 use Rattle.lobby_maps.proofs.Walks.{reaches_everyone}
 use Rattle.lobby_maps.proofs.Plain.{plainly}
@@ -24,12 +24,12 @@ returns c =
       | else-status-ne0 w ↦ w.post-is ∙ ap (λ n. if n == 0 then c.write_for_others.new.self else with_others c.write_for_others.new.self
           (reply.ClientStatus c.args.name.now c.word-status.result ∷ [])) (sym w.if-status-ne0.false)
     ] in
-    let first : c.write_for_others.new.self ≡ telling c.args.post.now [] (printed_line None (added c.args.name.now (user_in c.args.seat.now)))
-    (length (printed_line None (added c.args.name.now (user_in c.args.seat.now)))) = search rules in
-    subst (λ (s : State). Told s c.args.post.now c.address_all.new.post (tell others (arrival c.args.name.now (user_in c.args.seat.now)) ∷ []))
+    let first : c.write_for_others.new.self ≡ telling c.args.post.now [] (printed_line None (added c.args.name.now (plain_user c.args.online_user.now)))
+    (length (printed_line None (added c.args.name.now (plain_user c.args.online_user.now)))) = search rules in
+    subst (λ (s : State). Told s c.args.post.now c.address_all.new.post (tell others (arrival c.args.name.now (plain_user c.args.online_user.now)) ∷ []))
     (plainly c.self.view_is)
     (arrival_told _ c.args.post.now c.write_for_others.new.self c.if-status-ne0.post c.address_all.new.post c.args.name.now
-    (user_in c.args.seat.now) c.word-status.result c.word-status.ensures.same
+    (plain_user c.args.online_user.now) c.word-status.result c.word-status.ensures.same
     first is (record {
       clients = _;
       reached = reaches_everyone _ _ _ c.in_ok-address_all.ensures.rising c.self.invariant.1.listed;

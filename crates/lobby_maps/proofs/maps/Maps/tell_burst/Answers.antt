@@ -5,7 +5,7 @@ use Rattle.lobby_model.specs.State.{State}
 use Rattle.lobby_model.specs.Outcome.{tell, issuer}
 use Rattle.lobby_model.specs.Sessions.{burst}
 use Rattle.lobby_post.specs.Posted.{Told, with_own}
-use Rattle.lobby_battles.specs.Seats.{user_in}
+use Rattle.lobby_battles.specs.OnlineUsers.{plain_user}
 use Rattle.lobby_maps.proofs.Bursts.{burst_told}
 use Rattle.lobby_maps.proofs.Plain.{plainly}
 use Rattle.lobby_maps.proofs.maps.Maps.tell_burst.Goals as goal
@@ -13,7 +13,7 @@ use Rattle.lobby_maps.proofs.maps.Maps.tell_burst.Goals as goal
 pub returns : goal.returns
 returns c =
     subst (λ (s : State). Told s c.args.post.now c.address_issuer.new.self
-    (tell issuer (burst s.settings.motd c.args.name.now (put_name s.users c.args.name.now (user_in c.args.seat.now)) s.battles) ∷ []))
+    (tell issuer (burst s.settings.motd c.args.name.now (put_name s.users c.args.name.now (plain_user c.args.online_user.now)) s.battles) ∷ []))
     (plainly c.self.view_is)
     (burst_told _ c.args.post.now c.begin_own.new.self c.write_own.new.self c.write_motd.new.post c.write_parts.new.post c.write_parts-2.new.post
     c.write_battles.new.post c.write_own-2.new.self c.address_issuer.new.self _ _ _ _

@@ -18,5 +18,5 @@ returns c =
       clients = _;
       reached = reaches_users _ _ _ (asker_names c.args.room.now) c.self.invariant.1.agree c.askers.ensures.distinct;
       is = c.in_ok-address_askers.ensures
-          ∙ ap (λ asked. addressed c.write_for_others.new.self (clients_of c.self.inside.seats.users.entries (map (λ a. a.name) asked))) c.askers.ensures.askers;
+          ∙ ap (λ asked. addressed c.write_for_others.new.self (clients_of c.self.inside.online.users.entries (map (λ a. a.name) asked))) c.askers.ensures.askers;
     }) c.in_ok-write_for_others.ensures)

@@ -18,5 +18,5 @@ returns c =
       clients = _;
       reached = reaches_users _ _ _ (member_names c.args.room.now) c.self.invariant.1.agree c.members.ensures.distinct;
       is = c.in_ok-address_members.ensures
-          ∙ ap (λ ms. addressed c.write_for_others.new.self (clients_of c.self.inside.seats.users.entries (map (λ m. m.name) ms))) c.members.ensures.members;
+          ∙ ap (λ ms. addressed c.write_for_others.new.self (clients_of c.self.inside.online.users.entries (map (λ m. m.name) ms))) c.members.ensures.members;
     }) c.in_ok-write_for_others.ensures)

@@ -10,7 +10,7 @@ use Rattle.lobby_model.specs.State.{Client, is_live}
 use Rattle.lobby_model.specs.Sessions.{drained}
 use Rattle.lobby_post.specs.Unread.{unread_in, is_over}
 use Rattle.lobby_post.proofs.Crowds.{written_through, due_kept, plain-at, plain-none, plain-at-written, plain_changed, plain_unchanged}
-use Rattle.lobby_post.proofs.Listed.{marks_kept}
+use Rattle.lobby_post.proofs.Listed.{listings_kept}
 use Rattle.lobby_post.proofs.Rounds.{limits_next}
 use Rattle.lobby_post.proofs.clients.Clients.drain.Goals as goal
 
@@ -66,17 +66,17 @@ invariant_of-self c = (
   c.self.invariant.1,
 )
 
-pub returns-in-Some-clause-marks : goal.returns-in-Some-clause-marks
-returns-in-Some-clause-marks c =
+pub returns-in-Some-clause-listings : goal.returns-in-Some-clause-listings
+returns-in-Some-clause-listings c =
     rw (← c.self.view_is)
-    (marks_kept c.args.client c.in-Some.slot.now c.drain-count.new.self c.self.inside.slots _ refl c.in-Some.ensures.value
+    (listings_kept c.args.client c.in-Some.slot.now c.drain-count.new.self c.self.inside.slots _ refl c.in-Some.ensures.value
     (ap (λ (client : Client). client.home) c.drain-count.ensures.client) c.drain-count.ensures.listed)
 
 pub returns-in-Some-clause-lines : goal.returns-in-Some-clause-lines
 returns-in-Some-clause-lines c = rw (← c.self.view_is) refl
 
-pub returns-in-None-clause-marks : goal.returns-in-None-clause-marks
-returns-in-None-clause-marks c = rw (← c.self.view_is) refl
+pub returns-in-None-clause-listings : goal.returns-in-None-clause-listings
+returns-in-None-clause-listings c = rw (← c.self.view_is) refl
 
 pub returns-in-None-clause-lines : goal.returns-in-None-clause-lines
 returns-in-None-clause-lines c = rw (← c.self.view_is) refl

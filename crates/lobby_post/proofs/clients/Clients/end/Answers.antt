@@ -35,8 +35,8 @@ returns-clause-due c = rw (← c.self.view_is) (changed c).due
 pub returns-clause-ready : goal.returns-clause-ready
 returns-clause-ready c = rw (← c.self.view_is) (changed c).ready
 
-pub returns-clause-marks : goal.returns-clause-marks
-returns-clause-marks c = rw (← c.self.view_is) (changed c).marks
+pub returns-clause-listings : goal.returns-clause-listings
+returns-clause-listings c = rw (← c.self.view_is) (changed c).listings
 
 pub returns-clause-lines : goal.returns-clause-lines
 returns-clause-lines c = rw (← c.self.view_is) (ap lines_of (changed c).dirty)

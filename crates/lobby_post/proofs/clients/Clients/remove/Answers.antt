@@ -5,18 +5,18 @@ use Rattle.std.specs.Ordering.{nat_cmp}
 use Rattle.std.specs.BTreeMap.{is_at}
 use Rattle.std.specs.Map.{lookup}
 use Rattle.lobby_post.specs.Mail.{Mailbox, IsDue, Line, IsReady, due_for}
-use Rattle.lobby_post.specs.Dirty.{Mark, idle_of, is_idle, line_of, mark_of, marks_of, stands}
+use Rattle.lobby_post.specs.Dirty.{Listing, idle_of, is_idle, line_of, listing_of, listings_of, stands}
 use Rattle.lobby_post.specs.Crowd.{all_but_client, line_at, lines_of}
 use Rattle.lobby_post.proofs.Crowds.{plain_removed, all_removed, removed_from}
 use Rattle.lobby_post.proofs.Homes.{known_of_lines, known_of_lists, line-at}
 use Rattle.lobby_post.proofs.Idle.{idle_removed, idle_unremoved}
-use Rattle.lobby_post.proofs.Marks.{marks_taken}
+use Rattle.lobby_post.proofs.Listings.{listings_taken}
 use Rattle.lobby_post.proofs.Waiting.{known_gone, known_unmoved, waits_gone, waits_without}
 use Rattle.lobby_post.proofs.clients.Clients.remove.Goals as goal
 
 -- the slot of which a listing tells
 listed_slot : (o : Option Mailbox) (home : ℕ) (listed : Bool) → ◌≡◌ {A = Option (ℕ × Bool)} (Some (home, listed)) (option_map (λ (held : Mailbox). (held.client.home, held.listed)) o)
-    → (x : Mailbox) × (o ≡ Some x) × (mark_of x ≡ record { home = home; listed = listed })
+    → (x : Mailbox) × (o ≡ Some x) × (listing_of x ≡ record { home = home; listed = listed })
 listed_slot None home listed is = absurd (cc)
 listed_slot (Some x) home listed is =
     let pair : ◌≡◌ {A = ℕ × Bool} (x.client.home, x.listed) (home, listed) = cc in
@@ -69,30 +69,30 @@ returns-in-Some-clause-known c =
     let es = c.self.inside.slots in
     let x = listed_slot (lookup (is_at (nat_cmp c.args.client)) es) c.in-Some.home c.in-Some.listed c.in-Some.ensures in
     rw (← c.self.view_is) (λ last all.
-    known_of_lines _ _ _ (known_gone c.args.client (marks_of es) (marks_of c.remove.new.self)
-    (marks_taken c.args.client es c.remove.new.self (removed_from c.args.client es c.remove.new.self c.remove.ensures.was_ordered c.remove.ensures.entries))
+    known_of_lines _ _ _ (known_gone c.args.client (listings_of es) (listings_of c.remove.new.self)
+    (listings_taken c.args.client es c.remove.new.self (removed_from c.args.client es c.remove.new.self c.remove.ensures.was_ordered c.remove.ensures.entries))
     (record { home = c.in-Some.home; listed = c.in-Some.listed }) (line_of c.self.inside.dirty) (line_of c.leave.new.self) c.leave.ensures.own c.leave.ensures.others
     last
-    (λ h. subst (λ (m : Mark). idle_of h (marks_of c.remove.new.self) + (if is_idle h m then 1 else 0) ≡ idle_of h (marks_of es)) x.2
+    (λ h. subst (λ (m : Listing). idle_of h (listings_of c.remove.new.self) + (if is_idle h m then 1 else 0) ≡ idle_of h (listings_of es)) x.2
     (idle_removed h c.args.client es c.remove.new.self x.0 c.remove.ensures.entries x.1))
-    (known_of_lists (marks_of es) c.self.inside.dirty last all)))
+    (known_of_lists (listings_of es) c.self.inside.dirty last all)))
 
 pub returns-in-Some-clause-waits : goal.returns-in-Some-clause-waits
 returns-in-Some-clause-waits c =
     let es = c.self.inside.slots in
     rw (← c.self.view_is) (λ h within.
-    ap (λ (l : Line). filter (stands (marks_of c.remove.new.self) h) l.waiting) (line-at c.leave.new.self h within)
-    ∙ waits_gone c.args.client (marks_of es) (marks_of c.remove.new.self)
-    (marks_taken c.args.client es c.remove.new.self (removed_from c.args.client es c.remove.new.self c.remove.ensures.was_ordered c.remove.ensures.entries))
+    ap (λ (l : Line). filter (stands (listings_of c.remove.new.self) h) l.waiting) (line-at c.leave.new.self h within)
+    ∙ waits_gone c.args.client (listings_of es) (listings_of c.remove.new.self)
+    (listings_taken c.args.client es c.remove.new.self (removed_from c.args.client es c.remove.new.self c.remove.ensures.was_ordered c.remove.ensures.entries))
     (record { home = c.in-Some.home; listed = c.in-Some.listed }) (line_of c.self.inside.dirty) (line_of c.leave.new.self) c.leave.ensures.own c.leave.ensures.others h
-    ∙ ap (λ (l : Line). all_but_client c.args.client (filter (stands (marks_of es) h) l.waiting)) (sym (line-at c.self.inside.dirty h within)))
+    ∙ ap (λ (l : Line). all_but_client c.args.client (filter (stands (listings_of es) h) l.waiting)) (sym (line-at c.self.inside.dirty h within)))
 
 pub returns-in_default-clause-known : goal.returns-in_default-clause-known
 returns-in_default-clause-known c =
     let es = c.self.inside.slots in
     rw (← c.self.view_is) (λ last all.
-    known_unmoved c.args.client (marks_of es) (marks_of c.remove.new.self)
-    (marks_taken c.args.client es c.remove.new.self (removed_from c.args.client es c.remove.new.self c.remove.ensures.was_ordered c.remove.ensures.entries))
+    known_unmoved c.args.client (listings_of es) (listings_of c.remove.new.self)
+    (listings_taken c.args.client es c.remove.new.self (removed_from c.args.client es c.remove.new.self c.remove.ensures.was_ordered c.remove.ensures.entries))
     (line_at (lines_of c.self.inside.dirty)) last
     (λ h. idle_unremoved h c.args.client es c.remove.new.self c.remove.ensures.entries
     (no_slot (lookup (is_at (nat_cmp c.args.client)) es) c.in_default.ensures)) all)
@@ -101,6 +101,6 @@ pub returns-in_default-clause-waits : goal.returns-in_default-clause-waits
 returns-in_default-clause-waits c =
     let es = c.self.inside.slots in
     rw (← c.self.view_is) (λ h within.
-    waits_without c.args.client (marks_of es) (marks_of c.remove.new.self)
-    (marks_taken c.args.client es c.remove.new.self (removed_from c.args.client es c.remove.new.self c.remove.ensures.was_ordered c.remove.ensures.entries))
+    waits_without c.args.client (listings_of es) (listings_of c.remove.new.self)
+    (listings_taken c.args.client es c.remove.new.self (removed_from c.args.client es c.remove.new.self c.remove.ensures.was_ordered c.remove.ensures.entries))
     h (line_at (lines_of c.self.inside.dirty) h).waiting)

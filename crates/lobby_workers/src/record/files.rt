@@ -1,0 +1,107 @@
+//! The files of a record, one for each worker.
+
+use crate::record::end::End;
+use std::alloc::{AllocError, Global};
+use std::fs::OpenFile;
+use std::io::{self, ErrorKind, Write};
+
+/// A file, and the lines that are on their way to it.
+#[derive(Drop)]
+struct RecordFile<W> {
+    file: W,
+    piece: Vec<u8>,
+}
+
+impl<W: Write + Drop> RecordFile<W> {
+    /// Writes what is on its way. What is not written stays.
+    fn write(&mut self) -> io::Result<()> {
+        for _ in 0..=self.piece.len() {
+            if self.piece.is_empty() {
+                return Ok(());
+            }
+            match self.file.write(&self.piece) {
+                Ok(0) => return Err(io::Error::from(ErrorKind::WriteZero)),
+                Ok(count) if count >= self.piece.len() => self.piece.clear(),
+                Ok(count) => {
+                    self.piece.drain(..count);
+                }
+                Err(error) if error.kind() == ErrorKind::Interrupted => {}
+                Err(error) => return Err(error),
+            }
+        }
+        Ok(())
+    }
+
+    /// Writes the last line. Where a file has failed, no more of what is on its way is tried than the rest of a line of
+    /// which the file may have the beginning.
+    fn finish(&mut self, end: End) {
+        if end == End::Disk {
+            let rest = match self.piece.iter().position(|byte| *byte == b'\n') {
+                Some(at) => at + 1,
+                None => 0,
+            };
+            self.piece.truncate(rest);
+        }
+        if self.write().is_ok() {
+            let _ = self.file.write_all(end.line());
+        }
+    }
+}
+
+/// The files of a record, a file for each worker by its number.
+#[derive(Drop)]
+pub struct RecordFiles<W> {
+    alloc: Global,
+    files: Vec<RecordFile<W>>,
+    // what only takes up room on the disk
+    spare: Option<W>,
+}
+
+impl<W: Write + OpenFile + Drop> RecordFiles<W> {
+    /// None yet.
+    pub fn new(alloc: Global) -> RecordFiles<W> {
+        RecordFiles {
+            alloc,
+            files: Vec::new(alloc),
+            spare: None,
+        }
+    }
+
+    /// Keeps a file whose bytes give the last lines of the others their room on a full disk: it is emptied before they
+    /// are written.
+    pub fn keep_spare(&mut self, file: W) {
+        drop(self.spare.replace(file));
+    }
+
+    /// The file of the next worker. Fails only where memory is refused.
+    pub fn add(&mut self, file: W) -> Result<(), AllocError> {
+        let piece = Vec::new(self.alloc);
+        match self.files.push(RecordFile { file, piece }) {
+            Ok(()) => Ok(()),
+            Err(failed) => {
+                drop(failed);
+                Err(AllocError)
+            }
+        }
+    }
+
+    /// Writes whole lines to the file of a worker. One without a file is passed over.
+    pub(crate) fn write(&mut self, worker: usize, lines: Vec<u8>) -> Result<(), End> {
+        let Some(file) = self.files.get_mut(worker) else {
+            drop(lines);
+            return Ok(());
+        };
+        file.piece = lines;
+        file.write().map_err(|_| End::Disk)
+    }
+
+    /// Writes the last line of each file.
+    pub(crate) fn finish(&mut self, end: End) {
+        if let Some(spare) = &self.spare {
+            let _ = spare.set_len(0);
+        }
+        for file in self.files.iter_mut() {
+            file.finish(end);
+        }
+    }
+}

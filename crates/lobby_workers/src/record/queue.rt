@@ -1,0 +1,185 @@
+//! The lines that wait to be written.
+
+use crate::record::end::End;
+use crate::record::files::RecordFiles;
+use crate::record::lines::Lines;
+use crate::sleep::WriterSleep;
+use crossbeam_queue::ArrayQueue;
+use record_lines::{Entry, Masks};
+use std::alloc::{AllocError, Global};
+use std::fs::OpenFile;
+use std::io::Write;
+use std::sync::{OnceLock, Wait};
+
+/// So many bytes of a worker wake a thread that gathers.
+const MANY: usize = 65_536;
+
+/// What waits to be written: for each worker the lines of what it made. A worker takes its lines, puts more behind them
+/// and lays them down again; the thread that writes takes them where they lie. So neither waits for the other.
+pub struct RecordQueue {
+    alloc: Global,
+    masks: Masks,
+    waiting: Vec<ArrayQueue<Lines>>,
+    /// Why the record ends, once it does.
+    end: OnceLock<End>,
+    sleep: WriterSleep,
+}
+
+impl Drop for RecordQueue {
+    /// Who lets one go calls this, and need not know what it is made of.
+    fn drop(self) {
+        let RecordQueue {
+            alloc: _,
+            masks,
+            waiting,
+            end,
+            sleep,
+        } = self;
+        drop(masks);
+        drop(waiting);
+        drop(end);
+        drop(sleep);
+    }
+}
+
+/// What a look at what waits came to.
+#[derive(Clone, Copy, PartialEq, Eq, Debug)]
+enum Looked {
+    /// Lines were written.
+    Written,
+    /// Nothing waited.
+    Nothing,
+    /// The record ends.
+    Ends(End),
+}
+
+impl RecordQueue {
+    /// Nothing yet, of so many workers. Fails only where memory is refused.
+    pub fn new(alloc: Global, masks: Masks, workers: usize) -> Result<RecordQueue, AllocError> {
+        match places(alloc, workers) {
+            Ok(waiting) => Ok(RecordQueue {
+                alloc,
+                masks,
+                waiting,
+                end: OnceLock::new(),
+                sleep: WriterSleep::new(),
+            }),
+            Err(AllocError) => {
+                drop(masks);
+                Err(AllocError)
+            }
+        }
+    }
+
+    /// Puts the lines of an event that was made, where the record goes on. A worker without a place is passed over.
+    pub(crate) fn put<R: Wait>(&self, rt: &R, entry: Entry) {
+        let waiting = self.waiting.get(usize::from(entry.worker));
+        let (Some(place), None) = (waiting, self.end.get()) else {
+            drop(entry);
+            return;
+        };
+        let count = match self.add(rt, place, entry) {
+            Ok(count) => count,
+            Err(end) => {
+                self.end_by(end);
+                MANY
+            }
+        };
+        if self.sleep.is_asleep() || (count >= MANY && self.sleep.gathers()) {
+            self.sleep.wake();
+        }
+    }
+
+    /// Puts the lines of an event behind those at a place. How many bytes wait there then.
+    fn add<R: Wait>(&self, rt: &R, place: &ArrayQueue<Lines>, entry: Entry) -> Result<usize, End> {
+        let mut lines = match place.pop(rt) {
+            Some(lines) => lines,
+            None => Lines::new(self.alloc),
+        };
+        let added = lines.add(self.alloc, &self.masks, entry);
+        let count = lines.bytes.len();
+        if let Err(refused) = place.push(rt, lines) {
+            // Only this worker lays lines there.
+            drop(refused);
+            return Err(End::Full);
+        }
+        added?;
+        Ok(count)
+    }
+
+    /// The record ends, for this cause if there is none yet.
+    fn end_by(&self, end: End) {
+        let _ = self.end.try_set(end);
+    }
+
+    /// Nothing more will be put.
+    pub fn end(&self) {
+        self.sleep.end();
+    }
+
+    /// Writes what is put to the files of the workers, until nothing more will be or the record ends, and then why it
+    /// ends. It sleeps where nothing is there.
+    pub fn write_until_end<R: Wait, W: Write + OpenFile + Drop>(
+        &self,
+        rt: &R,
+        files: RecordFiles<W>,
+    ) {
+        let mut files = files;
+        for _ in rt.forever() {
+            // What was put before either is seen by the look.
+            let is_over = self.sleep.is_over();
+            let end = self.end.get().copied();
+            self.sleep.show();
+            match (self.write_waiting(rt, &mut files), end) {
+                (Looked::Ends(end), _) | (Looked::Nothing, Some(end)) => {
+                    self.end_by(end);
+                    files.finish(end);
+                    break;
+                }
+                (Looked::Nothing, None) if is_over => {
+                    files.finish(End::Stop);
+                    break;
+                }
+                (Looked::Nothing, None) => self.sleep.sleep(rt),
+                (Looked::Written, _) if is_over => {}
+                (Looked::Written, _) => {
+                    self.sleep.show_gathering();
+                    self.sleep.gather(rt);
+                }
+            }
+        }
+        drop(files);
+        // What waits behind the end of the record is let go.
+        for place in self.waiting.iter() {
+            drop(place.pop(rt));
+        }
+    }
+
+    /// Writes what waits.
+    fn write_waiting<R: Wait, W: Write + OpenFile + Drop>(
+        &self,
+        rt: &R,
+        files: &mut RecordFiles<W>,
+    ) -> Looked {
+        let mut looked = Looked::Nothing;
+        for (worker, place) in self.waiting.iter().enumerate() {
+            let Some(lines) = place.pop(rt) else {
+                continue;
+            };
+            match files.write(worker, lines.bytes) {
+                Ok(()) => looked = Looked::Written,
+                Err(end) => return Looked::Ends(end),
+            }
+        }
+        looked
+    }
+}
+
+/// A place for the lines of each worker.
+fn places(alloc: Global, workers: usize) -> Result<Vec<ArrayQueue<Lines>>, AllocError> {
+    let mut places = Vec::with_capacity(alloc, workers)?;
+    for _ in 0..workers {
+        places.push(ArrayQueue::new(alloc, 1)?)?;
+    }
+    Ok(places)
+}

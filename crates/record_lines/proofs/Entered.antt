@@ -1,0 +1,143 @@
+-- The lines of an event, of the lines of its steps.
+use Rattle.std.proofs.Common.{◌≡◌, ℕ, List, [], ◌∷◌, ◌++◌, length, take, refl, sym, ap, ◌∙◌, subst, append-nil, append_assoc}
+use Rattle.std.proofs.Common.{inl, inr}
+use Rattle.std.specs.Prelude.{Bool, Result, Ok, Err, OnOk, IfErr, ◌⊎◌}
+use Rattle.std.specs.List.{AllByRecursion}
+use Rattle.account_book.specs.Account.{Account, IsHeld}
+use Rattle.command_grammar.specs.declared.command.Command.TheVariants as command
+use Rattle.command_grammar.specs.declared.command.ReadFault.{ReadFault}
+use Rattle.command_grammar.specs.declared.command.Request.{Request}
+use Rattle.reply_kinds.specs.Replies.{id_text}
+use Rattle.reply_printer.specs.Fronts.{Keeps}
+use Rattle.reply_printer.proofs.Kept.{front_all}
+use Rattle.request_printer.specs.declared.error.PrintError.{PrintError}
+use Rattle.request_printer.specs.declared.error.PrintError.TheVariants as error
+use Rattle.request_printer.specs.Faults.{IsUnread, Printed, Refuses}
+use Rattle.lobby_model.specs.declared.event.Event.TheVariants as event
+use Rattle.record_lines.specs.declared.entry.Entry.{Entry}
+use Rattle.record_lines.specs.declared.fault.RecordFault.{RecordFault}
+use Rattle.record_lines.specs.declared.fault.RecordFault.TheVariants as refused
+use Rattle.record_lines.specs.declared.masks.Masks.{Masks}
+use Rattle.record_lines.specs.Steps.{Step, Open, Send, Take, Read, Shut}
+use Rattle.record_lines.specs.Printed.{NumberRefused, Prints, printed}
+use Rattle.record_lines.specs.Masks.{masked, unread_text}
+use Rattle.record_lines.specs.Entries.{AreStepsOf, IsTextOf, PrintsSaid, Records, TextRefused, fault_for}
+use Rattle.record_lines.proofs.StepLines.{more_lines}
+use Rattle.record_lines.proofs.Shorter.{none_fits}
+use Rattle.record_lines.proofs.Unread.{unread_reads}
+
+-- the text of a request
+
+pub unread_text_of : (r : Request) (f : ReadFault) (old new : List ℕ) → r.command ≡ command.Unread f → old ≡ []
+    → new ≡ old ++ (id_text r.id ++ (unread_text f ++ 10 ∷ [])) → IsTextOf r new
+unread_text_of r f old new is none put = record {
+  line = id_text r.id ++ unread_text f;
+  whole = put ∙ ap (λ (t : List ℕ). t ++ (id_text r.id ++ (unread_text f ++ 10 ∷ []))) none
+      ∙ sym (append_assoc (id_text r.id) (unread_text f) (10 ∷ []));
+  is_line = inr (f, is, refl);
+  reads = λ id kinds. unread_reads r f is id;
+}
+
+pub printed_text_of : (r : Request) (old new : List ℕ) → old ≡ [] → Printed r old new → IsTextOf r new
+printed_text_of r old new none print = record {
+  line = print.line;
+  whole = print.whole ∙ ap (λ (t : List ℕ). t ++ (print.line ++ 10 ∷ [])) none;
+  is_line = inl print.writes;
+  reads = λ id kinds. print.reads kinds;
+}
+
+-- its two lines
+pub prints_said : (place c : ℕ) (r : Request) (text old mid new : List ℕ) → IsTextOf r text
+    → Prints place (Send c text) old mid → Prints place (Take c) mid new → PrintsSaid place c r old new
+prints_said place c r text old mid new is send take = (
+  text,
+  is,
+  take.0 ∙ ap (λ (t : List ℕ). t ++ printed place (Take c)) send.0
+      ∙ append_assoc old (printed place (Send c text)) (printed place (Take c)),
+  take.1,
+  take.2,
+)
+
+module _ (masks : Masks) (entry : Entry) (old new : List ℕ) where
+  -- an event of one step
+  pub one : (s : Step) → AreStepsOf masks.accounts masks.private entry.gain entry.event (s ∷ [])
+      → Prints entry.place s old new → Records masks entry old new
+  one s are prints = record {
+    steps = s ∷ [];
+    are_steps = are;
+    text = printed entry.place s ++ [];
+    are_lines = more_lines entry.place s [] [] prints.1 prints.2 refl;
+    whole = prints.0 ∙ ap (λ (t : List ℕ). old ++ t) (sym (append-nil (printed entry.place s)));
+  }
+
+  -- what was said
+  pub said : (c : ℕ) (request : Request) → entry.event ≡ event.Say c request
+      → PrintsSaid entry.place c (masked masks.accounts masks.private request) old new → Records masks entry old new
+  said c request is prints =
+      let text = prints.0 in
+      let take = printed entry.place (Take c) in
+      record {
+        steps = Send c text ∷ Take c ∷ [];
+        are_steps = subst (λ e. AreStepsOf masks.accounts masks.private entry.gain e (Send c text ∷ Take c ∷ [])) (sym is)
+            (text, prints.1, refl);
+        text = printed entry.place (Send c text) ++ (take ++ []);
+        are_lines = more_lines entry.place (Send c text) (Take c ∷ []) (take ++ []) prints.3 prints.4
+            (more_lines entry.place (Take c) [] [] prints.3 prints.4 refl);
+        whole = prints.2
+            ∙ ap (λ (t : List ℕ). old ++ (printed entry.place (Send c text) ++ t)) (sym (append-nil take));
+      }
+
+  -- the lines of each kind of event, where they are put
+
+  pub opened : {A E : Type 0} (r : Result A E) (ip : List ℕ) (home : ℕ) → entry.event ≡ event.Open ip home
+      → OnOk r (Prints entry.place (Open entry.gain ip) old new) → OnOk r (Records masks entry old new)
+  opened (Ok x) ip home is prints = one (Open entry.gain ip)
+      (subst (λ e. AreStepsOf masks.accounts masks.private entry.gain e (Open entry.gain ip ∷ [])) (sym is) refl) prints
+  opened (Err e) ip home is prints = tt
+
+  pub spoken : {A E : Type 0} (r : Result A E) (c : ℕ) (request : Request) → entry.event ≡ event.Say c request
+      → OnOk r (PrintsSaid entry.place c (masked masks.accounts masks.private request) old new)
+      → OnOk r (Records masks entry old new)
+  spoken (Ok x) c request is prints = said c request is prints
+  spoken (Err e) c request is prints = tt
+
+  pub drained : {A E : Type 0} (r : Result A E) (c n : ℕ) → entry.event ≡ event.Drain c n
+      → OnOk r (Prints entry.place (Read c entry.gain) old new) → OnOk r (Records masks entry old new)
+  drained (Ok x) c n is prints = one (Read c entry.gain)
+      (subst (λ e. AreStepsOf masks.accounts masks.private entry.gain e (Read c entry.gain ∷ [])) (sym is) refl) prints
+  drained (Err e) c n is prints = tt
+
+  pub closed : {A E : Type 0} (r : Result A E) (c : ℕ) → entry.event ≡ event.Shut c
+      → OnOk r (Prints entry.place (Shut c) old new) → OnOk r (Records masks entry old new)
+  closed (Ok x) c is prints = one (Shut c)
+      (subst (λ e. AreStepsOf masks.accounts masks.private entry.gain e (Shut c ∷ [])) (sym is) refl) prints
+  closed (Err e) c is prints = tt
+
+-- why what was said is not written
+pub said_refused : (accounts : List Account) (private : Bool) → AllByRecursion IsHeld accounts → (e : RecordFault) (c : ℕ) (r : Request)
+    → NumberRefused e c ⊎ TextRefused e (masked accounts private r) → NumberRefused e c ⊎ TextRefused e r
+said_refused accounts private held e c r (inl number) = inl number
+said_refused accounts private held refused.Memory c r (inr text) = inr text
+said_refused accounts private held refused.Number c r (inr text) = inr text
+said_refused accounts private held refused.Line c r (inr text) = inr (none_fits accounts held private r.id r.command text)
+
+pub if_said_refused : {A : Type 0} (r : Result A RecordFault) (accounts : List Account) (private : Bool)
+    → AllByRecursion IsHeld accounts → (c : ℕ) (request : Request)
+    → IfErr r (λ e. NumberRefused e c ⊎ TextRefused e (masked accounts private request))
+    → IfErr r (λ e. NumberRefused e c ⊎ TextRefused e request)
+if_said_refused (Ok x) accounts private held c request refused = tt
+if_said_refused (Err e) accounts private held c request refused = said_refused accounts private held e c request refused
+
+-- why a request that was read is not written
+pub read_refused : (e : PrintError) (r : Request) → (IsUnread r.command → ⊥) → Refuses e r
+    → TextRefused (fault_for e) r
+read_refused error.Unread r read refused = absurd (read refused)
+read_refused error.OutOfRange r read refused = λ line reads. absurd (refused.1 line reads)
+read_refused error.NothingListed r read refused = λ line reads. absurd (refused.1 line reads)
+read_refused error.Skipped r read refused = λ line reads. absurd (refused.1 line reads)
+read_refused error.TooLong r read refused = refused.1
+read_refused error.Memory r read refused = tt
+
+-- an event that is taken back leaves what stood before it
+pub taken_back : (old new : List ℕ) → Keeps old new → take (length old) new ≡ old
+taken_back old new keeps = keeps old (front_all old)

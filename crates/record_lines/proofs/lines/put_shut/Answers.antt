@@ -1,0 +1,9 @@
+use Rattle.std.proofs.Common.{arith, refl}
+use Rattle.record_lines.specs.Steps.{Shut}
+use Rattle.record_lines.proofs.StepLines.{put_bare}
+use Rattle.record_lines.proofs.lines.put_shut.Goals as goal
+
+pub returns-clause-ok : goal.returns-clause-ok
+returns-clause-ok c =
+    put_bare c.args.place (Shut c.args.label) _ _ _ refl c.in_ok-put_front.ensures.ok c.in_ok-put_end.ensures.ok
+    (omega arith) c.in_ok-put_front.ensures.small

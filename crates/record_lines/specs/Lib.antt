@@ -1,0 +1,7 @@
+pub mod Escapes
+pub mod Steps
+pub mod Printed
+pub mod Masks
+pub mod Entries
+pub mod Head
+pub mod Played

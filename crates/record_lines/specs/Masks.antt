@@ -1,0 +1,60 @@
+-- What of a request is not written as it is.
+use Rattle.std.specs.Prelude.{ℕ, Bool, List, [], ◌∷◌, map, codes, is_ok, if◌then◌else◌, Result, Ok, Err}
+use Rattle.account_book.specs.Account.{Account}
+use Rattle.account_book.specs.Book.{login}
+use Rattle.account_book.specs.declared.error.LoginFault.{LoginFault}
+use Rattle.command_grammar.specs.declared.command.Command.{Command}
+use Rattle.command_grammar.specs.declared.command.Command.TheVariants as command
+use Rattle.command_grammar.specs.declared.command.ReadFault.{ReadFault}
+use Rattle.command_grammar.specs.declared.command.ReadFault.TheVariants as fault
+use Rattle.command_grammar.specs.declared.command.Request.{Request}
+
+-- the word that each account of a record has, and one that no account can have
+abbrev pub passes : List ℕ
+passes = codes "AAAAAAAAAAAAAAAAAAAAAA=="
+
+abbrev pub fails : List ℕ
+fails = codes "B"
+
+-- an account as a record has it
+abbrev pub hidden : Account → Account
+hidden account = record account { password = passes }
+
+abbrev pub all_hidden : List Account → List Account
+all_hidden = map hidden
+
+abbrev pub hidden_answer : Result Account LoginFault → Result Account LoginFault
+hidden_answer (Ok account) = Ok (hidden account)
+hidden_answer (Err why) = Err why
+
+-- the word in place of a login's
+abbrev pub word_for : List Account → List ℕ → List ℕ → List ℕ
+word_for accounts name word = if is_ok (login accounts name word) then passes else fails
+
+abbrev pub word_in_place : List Account → Command → List ℕ
+word_in_place accounts (command.Login name word cpu ip lobby authorises) = word_for accounts name word
+word_in_place accounts c = fails
+
+-- a text of as many `*`
+abbrev pub stars : List ℕ → List ℕ
+stars = map (λ byte. 42)
+
+-- the command as it is written: without the word of a login and, where private talk is not written, without that
+abbrev pub masked_command : List Account → Bool → Command → Command
+masked_command accounts private (command.Login name word cpu ip lobby authorises) =
+    command.Login name (word_for accounts name word) cpu ip lobby authorises
+masked_command accounts private (command.SayPrivate user text) =
+    command.SayPrivate user (if private then text else stars text)
+masked_command accounts private c = c
+
+abbrev pub masked : List Account → Bool → Request → Request
+masked accounts private request = record request { command = masked_command accounts private request.command }
+
+-- the text, behind its id, in place of a line that could not be read, by why it could not
+abbrev pub unread_text : ReadFault → List ℕ
+unread_text fault.UnknownCommand = codes "?"
+unread_text fault.MissingArgument = codes "JOIN"
+unread_text fault.BadNumber = codes "MYSTATUS ?"
+unread_text fault.BadName = codes "JOIN ?"
+unread_text fault.BadByte = 63 ∷ 13 ∷ 63 ∷ []
+unread_text fault.BadPair = codes "SETSCRIPTTAGS ?"

@@ -1,0 +1,75 @@
+//! An event on its way to a record, and its lines there.
+#![tactic(auto, using(reply_printer::proofs::Kept::front_more, reply_printer::proofs::Kept::front_all))]
+
+ghost use Rattle.std.specs.Prelude.{◌≡◌, IfErr, OnErr, OnOk};
+ghost use Rattle.std.specs.List.{AllByRecursion};
+ghost use Rattle.account_book.specs.Account.{IsHeld};
+ghost use Rattle.reply_printer.specs.Fronts.{Keeps};
+ghost use Rattle.record_lines.specs.Entries.{Records, Refuses};
+
+use crate::fault::RecordFault;
+use crate::lines::{put_open, put_read, put_shut};
+use crate::masks::Masks;
+use crate::said::put_said;
+use lobby_model::Event;
+use std::alloc::Global;
+
+/// An event that a worker made, and its place.
+#[derive(Drop)]
+pub struct Entry {
+    /// The number of the worker.
+    pub worker: u8,
+    /// How many events were before it.
+    pub place: u64,
+    pub event: Event,
+    /// What it gave: an open the number of its client, a drain how many bytes came, any other 0.
+    pub gain: u64,
+}
+
+/// Appends the lines of an event, by way of a text that is lent for its request. Where it fails nothing is appended.
+/// For a request that was read of a client's line only memory or a number of more than 32 bits is why.
+pub fn put_entry(
+    alloc: Global,
+    out: &mut Vec<u8>,
+    text: &mut Vec<u8>,
+    masks: &Masks,
+    entry: Entry,
+) -> Result<(), RecordFault>
+    ensures records { OnOk result (Records masks.now entry out.old.items out.new.items) }
+    ensures refused { AllByRecursion IsHeld masks.now.accounts → IfErr result (λ e. Refuses e entry.gain entry.event) }
+    ensures kept { OnErr result (out.new.items ≡ out.old.items) }
+{
+    let mut entry = entry;
+    let start = out.len();
+    match put_lines(alloc, out, text, masks, &mut entry) {
+        Ok(()) => Ok(()),
+        Err(fault) => {
+            out.truncate(start);
+            Err(fault)
+        }
+    }
+}
+
+/// Appends the lines of an event, or some of them where it fails.
+fn put_lines(
+    alloc: Global,
+    out: &mut Vec<u8>,
+    text: &mut Vec<u8>,
+    masks: &Masks,
+    entry: &mut Entry,
+) -> Result<(), RecordFault>
+    ensures records { OnOk result (Records masks.now entry.old out.old.items out.new.items) }
+    ensures refused { AllByRecursion IsHeld masks.now.accounts
+        → IfErr result (λ e. Refuses e entry.old.gain entry.old.event) }
+    ensures kept { Keeps out.old.items out.new.items }
+{
+    let (place, gain) = (entry.place, entry.gain);
+    match &mut entry.event {
+        Event::Open { ip, home: _ } => put_open(out, place, gain, *ip),
+        Event::Say { client, request } => {
+            put_said(alloc, out, text, masks, place, *client, request)
+        }
+        Event::Drain { client, count: _ } => put_read(out, place, *client, gain),
+        Event::Shut { client } => put_shut(out, place, *client),
+    }
+}

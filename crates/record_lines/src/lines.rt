@@ -1,0 +1,139 @@
+//! The line of each step, behind the place of its event.
+#![tactic(auto, using(reply_printer::proofs::Kept::front_more, reply_printer::proofs::Kept::front_all))]
+
+ghost use Rattle.std.specs.Prelude.{◌≡◌, ◌<◌, ◌≤◌, ◌^◌, [], ◌∷◌, ◌++◌, decimal, IfOk, OnOk, IfErr, slice_index};
+ghost use Rattle.proxy_line.specs.Words.{dotted};
+ghost use Rattle.reply_printer.specs.Fronts.{Keeps};
+ghost use Rattle.record_lines.specs.Steps.{Open, Send, Take, Read, Shut};
+ghost use Rattle.record_lines.specs.Printed.{AreOctets, NumberRefused, Prints, StepRefused, escaped, front};
+
+use crate::escapes::put_escaped;
+use crate::fault::RecordFault;
+use itoa::Buffer;
+use reply_printer::pieces::{put_behind, put_end, put_number};
+use std::alloc::AllocError;
+
+/// Appends the line with which a client connects. The functions behind this one are for the other steps.
+pub(crate) fn put_open(
+    out: &mut Vec<u8>,
+    place: u64,
+    label: u64,
+    ip: [u8; 4],
+) -> Result<(), RecordFault>
+    ensures ok { OnOk result (Prints place (Open label ip) out.old.items out.new.items) }
+    ensures refused { IfErr result (λ e. StepRefused e (Open label ip)) }
+    ensures kept { Keeps out.old.items out.new.items }
+{
+    put_front(out, place, b"open", label)?;
+    put_address(out, ip)?;
+    put_end(out)?;
+    Ok(())
+}
+
+pub(crate) fn put_send(
+    out: &mut Vec<u8>,
+    place: u64,
+    label: u64,
+    bytes: &[u8],
+) -> Result<(), RecordFault>
+    ensures ok { OnOk result (Prints place (Send label bytes.now) out.old.items out.new.items) }
+    ensures refused { IfErr result (λ e. StepRefused e (Send label bytes.now)) }
+    ensures kept { Keeps out.old.items out.new.items }
+{
+    put_front(out, place, b"send", label)?;
+    put_bytes(out, bytes)?;
+    put_end(out)?;
+    Ok(())
+}
+
+pub(crate) fn put_take(out: &mut Vec<u8>, place: u64, label: u64) -> Result<(), RecordFault>
+    ensures ok { OnOk result (Prints place (Take label) out.old.items out.new.items) }
+    ensures refused { IfErr result (λ e. StepRefused e (Take label)) }
+    ensures kept { Keeps out.old.items out.new.items }
+{
+    put_front(out, place, b"take", label)?;
+    put_end(out)?;
+    Ok(())
+}
+
+pub(crate) fn put_read(
+    out: &mut Vec<u8>,
+    place: u64,
+    label: u64,
+    count: u64,
+) -> Result<(), RecordFault>
+    ensures ok { OnOk result (Prints place (Read label count) out.old.items out.new.items) }
+    ensures refused { IfErr result (λ e. StepRefused e (Read label count)) }
+    ensures kept { Keeps out.old.items out.new.items }
+{
+    put_front(out, place, b"read", label)?;
+    put_number(out, small(count)?)?;
+    put_end(out)?;
+    Ok(())
+}
+
+pub(crate) fn put_shut(out: &mut Vec<u8>, place: u64, label: u64) -> Result<(), RecordFault>
+    ensures ok { OnOk result (Prints place (Shut label) out.old.items out.new.items) }
+    ensures refused { IfErr result (λ e. StepRefused e (Shut label)) }
+    ensures kept { Keeps out.old.items out.new.items }
+{
+    put_front(out, place, b"shut", label)?;
+    put_end(out)?;
+    Ok(())
+}
+
+/// Appends the front of a line: the place, the word of the step and the client's label.
+fn put_front(out: &mut Vec<u8>, place: u64, verb: &[u8], label: u64) -> Result<(), RecordFault>
+    ensures ok { OnOk result (out.new.items ≡ out.old.items ++ front place verb.now label) }
+    ensures small { OnOk result (label < 2 ^ 32) }
+    ensures refused { IfErr result (λ e. NumberRefused e label) }
+    ensures kept { Keeps out.old.items out.new.items }
+{
+    let label = small(label)?;
+    let mut digits = Buffer::new();
+    out.extend_from_slice(digits.format(place).as_bytes())?;
+    put_behind(out, b' ', verb)?;
+    put_number(out, label)?;
+    Ok(())
+}
+
+/// A number as a script has it.
+fn small(number: u64) -> Result<u32, RecordFault>
+    ensures ok { IfOk result (λ n. (n ≡ number) × (n < 2 ^ 32)) }
+    ensures refused { IfErr result (λ e. NumberRefused e number) }
+{
+    match u32::try_from(number) {
+        Ok(number) => Ok(number),
+        Err(_) => Err(RecordFault::Number),
+    }
+}
+
+fn put_bytes(out: &mut Vec<u8>, bytes: &[u8]) -> Result<(), AllocError>
+    ensures ok { IfOk result (λ _. out.new.items ≡ out.old.items ++ (32 ∷ escaped bytes.now)) }
+    ensures kept { Keeps out.old.items out.new.items }
+{
+    out.push(b' ')?;
+    put_escaped(out, bytes)
+}
+
+fn put_address(out: &mut Vec<u8>, ip: [u8; 4]) -> Result<(), AllocError>
+    ensures ok { IfOk result (λ _. out.new.items
+        ≡ out.old.items ++ (32 ∷ dotted (slice_index ip 0) (slice_index ip 1) (slice_index ip 2) (slice_index ip 3))) }
+    ensures octets { OnOk result (AreOctets ip) }
+    ensures kept { Keeps out.old.items out.new.items }
+{
+    put_octet(out, b' ', ip[0])?;
+    put_octet(out, b'.', ip[1])?;
+    put_octet(out, b'.', ip[2])?;
+    put_octet(out, b'.', ip[3])?;
+    Ok(())
+}
+
+fn put_octet(out: &mut Vec<u8>, separator: u8, octet: u8) -> Result<(), AllocError>
+    ensures ok { IfOk result (λ _. out.new.items ≡ out.old.items ++ (separator ∷ decimal octet)) }
+    ensures small { octet < 2 ^ 8 }
+    ensures kept { Keeps out.old.items out.new.items }
+{
+    let mut digits = Buffer::new();
+    put_behind(out, separator, digits.format(octet).as_bytes())
+}

@@ -1,0 +1,5 @@
+pub mod Rising
+pub mod Sorting
+pub mod Placing
+pub mod Listing
+pub mod Played

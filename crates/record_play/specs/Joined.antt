@@ -1,0 +1,22 @@
+-- The lines of several files in the order of their places.
+use Rattle.std.specs.Prelude.{◌≡◌, ℕ, ◌+◌, ◌==◌, ◌≤◌, ◌⊎◌, List, [], ◌∷◌}
+use Rattle.std.specs.List.{filter}
+use Rattle.record_play.specs.declared.file.RecordLine.{RecordLine}
+
+-- The places go up one by one, from the first behind `place`, of which lines of this file may stand before, to the last
+-- before `missing`; lines of one place stand together, and are of one file
+abbrev pub Rises : ℕ → ℕ → List RecordLine → ℕ → Type 0
+Rises place file [] missing = missing ≡ place
+Rises place file (l ∷ lines) missing =
+    ((l.place ≡ place) × Rises (place + 1) l.file lines missing)
+    ⊎ ((l.place + 1 ≡ place) × (l.file ≡ file) × Rises place file lines missing)
+
+-- the lines of one place
+abbrev pub at_place : ℕ → List RecordLine → List RecordLine
+at_place place lines = filter (λ l. l.place == place) lines
+
+-- What is given of all lines: those of each place before the first that none has, place by place. `each` says of that
+-- place that none has it, since none of those given has
+pub record IsJoined (all given : List RecordLine) (missing : ℕ) : Type 0 where
+  pub rises : Rises 0 0 given missing
+  pub each : (place : ℕ) → place ≤ missing → at_place place given ≡ at_place place all

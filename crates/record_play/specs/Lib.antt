@@ -1,0 +1,4 @@
+pub mod Files
+pub mod Joined
+pub mod Steps
+pub mod Replays

@@ -1,0 +1,90 @@
+//! A file of a record, line by line.
+
+ghost use Rattle.std.specs.Prelude.{◌≡◌, ◌++◌, ℕ, List, codes, IfOk, IfSome, IsSomeAnd};
+ghost use Rattle.proxy_line.specs.Words.{Finds};
+ghost use Rattle.record_play.specs.Files.{HasPlace, IsPlace, Lists, told};
+
+use crate::fault::RecordFault;
+use itoa::Buffer;
+use proxy_line::part_at;
+use std::str;
+
+/// A line of a file: a step by which an event is played.
+#[derive(Clone, Copy)]
+pub struct RecordLine<'a> {
+    /// The number of the file, from 0.
+    pub file: usize,
+    /// Which line of the file it is, from 1.
+    pub number: u64,
+    /// How many events were before this one.
+    pub place: u64,
+    /// The step.
+    pub step: &'a [u8],
+}
+
+/// Adds the lines of a file behind those of others. Why there are no more, where its last line tells it.
+///
+/// What stands behind the last LF is a line that was not written to its end, and is left. `BadLine` where a line is no
+/// step at a place, or its place is before that of the line before it.
+pub fn add_lines<'a>(
+    lines: &mut Vec<RecordLine<'a>>,
+    file: usize,
+    text: &'a [u8],
+) -> Result<Option<&'a [u8]>, RecordFault>
+    ensures { IfOk result (λ why. (here : List RecordLine) × Lists file 1 0 text.now here (told why)
+        × (lines.new.items ≡ lines.old.items ++ here)) }
+{
+    let mut rest = text;
+    let mut number = 0u64;
+    let mut least = 0u64;
+    while let Some((line, behind)) = part_at(rest, b'\n') {
+        number += 1;
+        if behind.is_empty() {
+            if let Some(why) = cause(line) {
+                return Ok(Some(why));
+            }
+        }
+        match place_before_step(line) {
+            Some((place, step)) if place >= least => {
+                lines.push(RecordLine {
+                    file,
+                    number,
+                    place,
+                    step,
+                })?;
+                least = place;
+            }
+            _ => return Err(RecordFault::BadLine { file, line: number }),
+        }
+        rest = behind;
+    }
+    Ok(None)
+}
+
+/// Why there are no more lines, where a line tells it.
+fn cause(line: &[u8]) -> Option<&[u8]>
+    ensures { IfSome result (λ why. line.now ≡ codes "end " ++ why.now) }
+{
+    line.strip_prefix(b"end ".as_slice())
+}
+
+/// The place of a line, and what stands behind it and a space. None where it does not begin with a place.
+pub fn place_before_step(line: &[u8]) -> Option<(u64, &[u8])>
+    ensures sound { IfSome result (λ parts. HasPlace line.now parts.0 parts.1.now) }
+    ensures complete { (n : ℕ) (step : List ℕ) → HasPlace line.now n step
+        → IsSomeAnd result (λ parts. (parts.0 ≡ n) × (parts.1.now ≡ step)) }
+{
+    let (digits, step) = part_at(line, b' ')?;
+    Some((place(digits)?, step))
+}
+
+/// The place that a text writes: in decimal, without leading zeros, of 64 bits.
+pub fn place(text: &[u8]) -> Option<u64>
+    ensures { Finds (IsPlace text.now) result }
+{
+    let digits = str::from_utf8(text).ok()?;
+    let value: u64 = digits.parse().ok()?;
+    let mut buffer = Buffer::new();
+    // Leading zeros and a plus sign read as a number too, and are not written of one.
+    (buffer.format(value) == digits).then_some(value)
+}

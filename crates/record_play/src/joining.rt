@@ -1,0 +1,86 @@
+//! The files of a record, joined by place.
+
+ghost use Rattle.std.specs.Prelude.{◌≡◌, ◌≤◌, ◌<◌, IfOk, Some, true, codes, length, take, drop};
+ghost use Rattle.std.specs.List.{AllByRecursion};
+ghost use Rattle.std.specs.List.Sorted.{IsNonDecreasingBy};
+ghost use Rattle.record_play.specs.Files.{told};
+ghost use Rattle.record_play.specs.Joined.{Rises};
+ghost use Rattle.record_play.specs.Replays.{Joins};
+
+use crate::fault::RecordFault;
+use crate::file::{RecordLine, add_lines};
+use std::alloc::Global;
+
+/// The lines of a record in the order of their places.
+#[derive(Drop)]
+pub struct Joined<'a> {
+    /// The lines before the first place that no file has.
+    pub lines: Vec<RecordLine<'a>>,
+    /// That place.
+    pub missing: u64,
+}
+
+/// Joins the files of a record, in the order of their workers.
+///
+/// `BadLine` where a line is no step at a place, or its place is before that of the line before it in its file;
+/// `TwoOfOnePlace` where lines of two files have one place; `Hole` where a place is missing though each file ends with
+/// the server: it was written, and is gone. Where a file ends otherwise, the first missing place is the end.
+pub fn join<'a>(alloc: Global, files: &[&'a [u8]]) -> Result<Joined<'a>, RecordFault>
+    ensures { IfOk result (λ joined. Joins files.now joined.lines.items joined.missing) }
+{
+    let mut lines = Vec::new(alloc);
+    let mut is_whole = true;
+    let mut file = 0;
+    for text in files {
+        is_whole &= is_stop(add_lines(&mut lines, file, text)?);
+        file += 1;
+    }
+    lines.sort_by_key(|line| line.place)?;
+    let (count, missing) = front(&lines)?;
+    if is_whole && count < lines.len() {
+        return Err(RecordFault::Hole(missing));
+    }
+    lines.truncate(count);
+    Ok(Joined { lines, missing })
+}
+
+/// Whether this is why a file ends whose server has stopped.
+fn is_stop(why: Option<&[u8]>) -> bool
+    ensures { told why.entry ≡ Some (codes "stop") → result ≡ true }
+{
+    match why {
+        Some(why) => why == b"stop".as_slice(),
+        None => false,
+    }
+}
+
+/// How many of some lines, whose places do not fall, stand before the first place that none of them has, and that
+/// place.
+fn front(lines: &[RecordLine<'_>]) -> Result<(usize, u64), RecordFault>
+    requires { IsNonDecreasingBy (λ (l : RecordLine). l.place) lines.now }
+    ensures rises { IfOk result (λ r. Rises 0 0 (take r.0 lines.now) r.1) }
+    ensures above { IfOk result (λ r. AllByRecursion (λ (l : RecordLine). r.1 < l.place) (drop r.0 lines.now)) }
+    ensures within { IfOk result (λ r. r.0 ≤ length lines.now) }
+{
+    let mut count = 0;
+    let mut missing = 0u64;
+    // of the last place
+    let mut file = 0;
+    for line in lines {
+        if line.place > missing {
+            break;
+        }
+        if line.place == missing {
+            missing += 1;
+            file = line.file;
+        } else if line.file != file {
+            return Err(RecordFault::TwoOfOnePlace {
+                file: line.file,
+                line: line.number,
+                other: file,
+            });
+        }
+        count += 1;
+    }
+    Ok((count, missing))
+}
