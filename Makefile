@@ -72,7 +72,8 @@ connections: ## real connections: slow readers, resets, 10,000 at once
 	@for workers in 1 4; do checks/connections.py $$workers && checks/played.py $$workers && checks/mixed.py $$workers && checks/crowd.py $$workers || exit 1; done
 
 record: ## plays what servers recorded that were stopped or killed, and compares what each client was sent
-	@checks/record.py 60 100 4 5
+	@checks/record.py long 4 60 100 300
+	@checks/record.py killed 5
 
 hostile: ## 2,000 connections send what no client should, for five minutes with 1 and with 4 workers
 	@for workers in 1 4; do checks/hostile.py $$workers || exit 1; done

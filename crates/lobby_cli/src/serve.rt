@@ -6,6 +6,7 @@ use crate::error::ProgramError;
 use crate::output::{ErrorWriter, Output, PatientOutput};
 use crate::record::{NewRecord, new_record};
 use account_book::AccountBook;
+use lobby_model::Settings;
 use lobby_setup::{CLIENT_LIMIT, FileError, Setup, accounts_of, read_file, settings_at};
 use lobby_workers::{
     Gate, HashSeed, Log, Masks, Record, ServerError, Service, run_server_recorded,
@@ -128,18 +129,10 @@ where
     };
     let record = record_of(rt, &record, private)?;
     let address = text_of(rt.alloc(), &listener, address)?;
-    let started = Started {
-        version: VERSION,
-        address,
-        workers,
-        client_limit: CLIENT_LIMIT as u64,
-        outbox_limit: settings.outbox_limit() as u64,
-        accounts: accounts.len() as u64,
+    let log = Log {
+        level: log,
+        started: started_at(address, workers, &settings, &accounts),
     };
-    let mut input = rt.reader();
-    let results = io::writer(rt);
-    let mut output = PatientOutput::new(rt, rt.alloc(), Output::Results, results)?;
-    let errors = PatientOutput::new(rt, rt.alloc(), Output::Errors, ErrorWriter { rt })?;
     let service = Service {
         settings,
         workers,
@@ -148,6 +141,43 @@ where
         accounts,
         seed: new_seed(rt)?,
     };
+    run(rt, service, listener, log, record)
+}
+
+/// What operators are told of a server that starts.
+fn started_at(
+    address: ShortText,
+    workers: u32,
+    settings: &Settings,
+    accounts: &AccountBook,
+) -> Started {
+    Started {
+        version: VERSION,
+        address,
+        workers,
+        client_limit: CLIENT_LIMIT as u64,
+        outbox_limit: settings.outbox_limit() as u64,
+        accounts: accounts.len() as u64,
+    }
+}
+
+/// Runs a server over the program's own input and output.
+fn run<R>(
+    rt: &R,
+    service: Service,
+    listener: TcpListener,
+    log: Log,
+    record: Option<Record<R::File>>,
+) -> Result<(), ProgramError>
+where
+    R: Files + Input + Print + Eprint + AllocGlobal + Threads + Wait + Net + Sync,
+    R::File: Send,
+    requires { (1 ≤ service.workers) × (service.workers ≤ 64) }
+{
+    let mut input = rt.reader();
+    let results = io::writer(rt);
+    let mut output = PatientOutput::new(rt, rt.alloc(), Output::Results, results)?;
+    let errors = PatientOutput::new(rt, rt.alloc(), Output::Errors, ErrorWriter { rt })?;
     let status = run_server_recorded(
         rt,
         rt.alloc(),
@@ -157,10 +187,7 @@ where
         &mut output,
         errors,
         &OpenGate,
-        Log {
-            level: log,
-            started,
-        },
+        log,
         record,
     );
     match ServerError::of_run(status) {
