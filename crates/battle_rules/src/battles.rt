@@ -22,7 +22,8 @@ ghost use Rattle.battle_rules.specs.Opening.{command_of, started, HasTexts};
 use crate::battle_guards::{asks_nowhere, founded_by, in_no_battle, next_number, own_battle};
 use crate::{Issuer, Refusal, Stop};
 use battle_room::Room;
-use line_words::{NameBuf, SentenceBuf, Text, WordBuf, write_number};
+use itoa::Buffer;
+use line_words::{NameBuf, SentenceBuf, Text, WordBuf};
 use lobby_maps::{Battle, BattleChange, Change, Maps, NO_PASSWORD, RoomChange};
 use lobby_post::{ClientKey, Post};
 use reply_kinds::{BattleNumber, Held, HeldText, Name, OpenedBattle, Reply, Sentence, Wide, Word};
@@ -542,8 +543,7 @@ fn put_dotted(text: &mut Vec<u8>, n: u8) -> Result<(), AllocError>
 fn put_number(text: &mut Vec<u8>, n: u8) -> Result<(), AllocError>
     ensures { OnOk result (text.new.items ≡ text.old.items ++ decimal n) }
 {
-    let mut digits = [0u8; 20];
-    let length = write_number(i64::from(n), &mut digits);
-    text.extend_from_slice(&digits[..length])?;
+    let mut digits = Buffer::new();
+    text.extend_from_slice(digits.format(n).as_bytes())?;
     Ok(())
 }

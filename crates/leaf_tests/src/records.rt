@@ -163,7 +163,6 @@ fn is_recorded_as(
     wanted: &[u8],
 ) -> Result<bool, RecordFault> {
     let entry = Entry {
-        worker: 0,
         place: 9,
         event,
         gain,

@@ -3,8 +3,7 @@
 use crate::rooms::pairs;
 use crate::verdict::{same, same_for};
 use line_words::{
-    Name, NameBuf, Sentence, Text, Word, Words, is_key, read_number, split_at_byte,
-    split_sentences, write_number,
+    Name, NameBuf, Sentence, Text, Word, Words, is_key, read_number, split_at_byte, split_sentences,
 };
 
 #[test]
@@ -87,15 +86,6 @@ fn numbers_are_read(rt: HostRuntime) {
         );
     }
     same(&rt, read_number(b"1", 0, 0), None);
-}
-
-#[test]
-fn numbers_are_written(rt: HostRuntime) {
-    let mut buffer = [b'x'; 20];
-    let length = write_number(-120, &mut buffer);
-    same(&rt, (length, buffer), (4, *b"-120xxxxxxxxxxxxxxxx"));
-    let length = write_number(i64::MIN, &mut buffer);
-    same(&rt, (length, buffer), (20, *b"-9223372036854775808"));
 }
 
 fn is_name(bytes: &[u8]) -> bool {

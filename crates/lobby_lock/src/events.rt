@@ -6,7 +6,6 @@ ghost use Rattle.lobby_lock.specs.Events.{with_event};
 
 use crate::desk::MOST_EVENTS;
 use crate::kept::Kept;
-use crate::made::MadeEvent;
 use http_server::Log;
 use lobby_model::Event;
 use std::marker::Model;
@@ -76,7 +75,7 @@ impl Events {
         let place = self.position_behind();
         self.log = self.log.and(&event, &());
         self.count += 1;
-        self.kept.add(MadeEvent { place, event, gain });
+        self.kept.add(place, event, gain);
     }
 
     /// What is kept of them.

@@ -1,10 +1,11 @@
 //! What is kept of the events of a hold.
 
-ghost use Rattle.std.specs.Prelude.{◌≡◌, ◌<◌, [], ◌∷◌, true, false, length, IfOk, MatchOption};
+ghost use Rattle.std.specs.Prelude.{◌≡◌, ◌<◌, [], ◌∷◌, true, false, length, IfOk, MatchOption, ◌==◌};
 ghost use Rattle.lobby_lock.specs.Events.{none_yet, with_kept};
 
 use crate::desk::MOST_EVENTS;
 use crate::made::MadeEvent;
+use lobby_model::Event;
 use std::alloc::{AllocError, Global};
 use std::collections::VecDeque;
 use std::marker::Model;
@@ -45,14 +46,24 @@ impl Kept {
         Ok(Kept { made: Some(made) })
     }
 
-    /// One event more, which is let go where none is kept.
-    pub(crate) fn add(&mut self, event: MadeEvent)
+    /// One event more behind so many others, with what it gave. It is let go where none is kept.
+    pub(crate) fn add(&mut self, place: u64, event: Event, gain: u64)
         requires { length self.old.events < MOST_EVENTS }
-        ensures { self.new ≡ with_kept self.old event }
+        ensures { self.new ≡ with_kept self.old (record { place = place; event = event; gain = gain }) }
     {
         match &mut self.made {
-            Some(made) => made.push_back_reserved(event),
+            Some(made) => made.push_back_reserved(MadeEvent { place, event, gain }),
             None => drop(event),
+        }
+    }
+
+    /// Whether none is left.
+    pub(crate) fn is_empty(&self) -> bool
+        ensures { result ≡ (length self.now.events == 0) }
+    {
+        match &self.made {
+            Some(made) => made.is_empty(),
+            None => true,
         }
     }
 

@@ -1,6 +1,6 @@
 //! The events of a hold that is over.
 
-ghost use Rattle.std.specs.Prelude.{◌≡◌, [], ◌∷◌, MatchOption};
+ghost use Rattle.std.specs.Prelude.{◌≡◌, [], ◌∷◌, MatchOption, length, ◌==◌};
 
 use crate::kept::Kept;
 use crate::pass::Pass;
@@ -40,6 +40,13 @@ impl Made {
         ensures { result ≡ self.now.pass.worker.number }
     {
         self.pass.number()
+    }
+
+    /// Whether no event is left.
+    pub fn is_empty(&self) -> bool
+        ensures { result ≡ (length self.now.events == 0) }
+    {
+        self.kept.is_empty()
     }
 
     /// Takes the next event.

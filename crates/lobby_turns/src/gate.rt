@@ -1,6 +1,8 @@
 //! Where a worker may be looked at from outside.
 
-use lobby_lock::MadeEvent;
+ghost use Rattle.std.specs.Prelude.{◌≡◌};
+
+use lobby_lock::Made;
 use server_log::Happening;
 
 /// Is told what a worker is about to do and what it did, and what operators may be told. Tests hold
@@ -14,11 +16,11 @@ pub trait Gate {
         false
     }
 
-    /// The worker made this event in a hold that is over, and its pass keeps events. It never waits. A gate that
-    /// records nothing lets it go.
-    fn made(&self, _worker: u8, made: MadeEvent) {
-        drop(made);
-    }
+    /// A hold is over, and here are the events that it kept, if its pass keeps them. It never waits. What a gate leaves
+    /// of them is let go: one that records nothing leaves all.
+    fn made(&self, _made: &mut Made)
+        ensures { _made.new.pass ≡ _made.old.pass }
+    {}
 
     /// The worker wrote these bytes to a link.
     fn after_write(&self, worker: u8, bytes: &[u8]);

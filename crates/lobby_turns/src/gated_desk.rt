@@ -30,16 +30,13 @@ impl<G: Gate> GatedDesk<'_, G> {
         self.desk.take(rt, pass)
     }
 
-    /// Gives the lobby back, and then tells the gate the events of the hold, one after another, if they were kept.
+    /// Gives the lobby back, and then hands the gate the events of the hold, if they were kept.
     pub fn give<R: Wait>(&self, rt: &R, held: Held) -> Pass
         requires { held.pass.desk ≡ self.now.desk.now }
         ensures { result ≡ pass_after held }
     {
         let mut made = held.lay_down(rt, self.desk);
-        let worker = made.worker();
-        while let Some(event) = made.next() {
-            self.gate.made(worker, event);
-        }
+        self.gate.made(&mut made);
         made.pass()
     }
 }

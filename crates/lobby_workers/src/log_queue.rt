@@ -15,6 +15,9 @@ use std::sync::atomic::{AtomicU64, Ordering};
 /// log in; what comes while no line can be written is lost.
 const WAITING: usize = 1_024;
 
+/// The milliseconds for which the thread that writes lets lines gather, so that a burst wakes it a few times.
+const GATHERING: u64 = 20;
+
 /// So many wake a thread that gathers.
 const MANY: usize = WAITING / 2;
 
@@ -118,7 +121,7 @@ impl LogQueue {
     fn gather<R: Wait>(&self, rt: &R) {
         self.sleep.show_gathering();
         if self.waiting.len(rt) < MANY {
-            self.sleep.gather(rt);
+            self.sleep.gather(rt, GATHERING);
         }
     }
 

@@ -4,10 +4,6 @@ use std::sync::Wait;
 use std::sync::atomic::{AtomicBool, AtomicU64, Ordering};
 use std::time::Duration;
 
-/// The milliseconds for which a thread that has written lets more gather, so that a burst wakes it a few times, and one
-/// write has many.
-const GATHERING: u64 = 20;
-
 /// What `shown` says while the thread is awake.
 const AWAKE: u64 = 0;
 
@@ -87,10 +83,10 @@ impl WriterSleep {
         self.shown.store(GATHERS, Ordering::SeqCst);
     }
 
-    /// Sleeps for a while, until the thread is woken or nothing more will be put.
-    pub fn gather<R: Wait>(&self, rt: &R) {
+    /// Sleeps for so many milliseconds, until the thread is woken or nothing more will be put.
+    pub fn gather<R: Wait>(&self, rt: &R, milliseconds: u64) {
         if !self.is_over() {
-            let most = Duration::from_millis(GATHERING);
+            let most = Duration::from_millis(milliseconds);
             self.shown.park_timeout(rt, GATHERS as u32, most);
         }
     }

@@ -17,8 +17,6 @@ use std::alloc::Global;
 /// An event that a worker made, and its place.
 #[derive(Drop)]
 pub struct Entry {
-    /// The number of the worker.
-    pub worker: u8,
     /// How many events were before it.
     pub place: u64,
     pub event: Event,

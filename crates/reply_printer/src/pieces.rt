@@ -9,8 +9,8 @@ ghost use Rattle.std.specs.Fmt.{signed_decimal};
 ghost use Rattle.reply_kinds.specs.Kinds.{words_text, pair_text, pairs_text, optional_text};
 ghost use Rattle.reply_kinds.specs.Replies.{id_text, word_of};
 
-use itoa::Buffer;
-use line_words::{NameBuf, Pair, SentenceBuf, Text, WordBuf, write_number};
+use itoa::{Buffer, Integer};
+use line_words::{NameBuf, Pair, SentenceBuf, Text, WordBuf};
 use reply_kinds::CommandWord;
 use std::alloc::AllocError;
 
@@ -23,28 +23,27 @@ pub fn put_behind(out: &mut Vec<u8>, separator: u8, bytes: &[u8]) -> Result<(), 
     out.extend_from_slice(bytes)
 }
 
-fn put_decimal(out: &mut Vec<u8>, separator: u8, n: i64) -> Result<(), AllocError>
-    ensures ok { IfOk result (λ _. out.new.items ≡ out.old.items ++ (separator ∷ signed_decimal n)) }
+/// Appends a number in decimal behind a separator.
+fn put_decimal<N: Integer>(out: &mut Vec<u8>, separator: u8, n: N) -> Result<(), AllocError>
+    ensures ok { IfOk result (λ _. out.new.items ≡ out.old.items ++ (separator ∷ N.text n)) }
     ensures kept { Keeps out.old.items out.new.items }
 {
-    let mut digits = [0u8; 20];
-    let length = write_number(n, &mut digits);
-    put_behind(out, separator, &digits[..length])
+    let mut buffer = Buffer::new();
+    put_behind(out, separator, buffer.format(n).as_bytes())
 }
 
 pub fn put_number(out: &mut Vec<u8>, n: u32) -> Result<(), AllocError>
     ensures ok { IfOk result (λ _. out.new.items ≡ out.old.items ++ (32 ∷ decimal n)) }
     ensures kept { Keeps out.old.items out.new.items }
 {
-    put_decimal(out, b' ', i64::from(n))
+    put_decimal(out, b' ', n)
 }
 
 pub fn put_count(out: &mut Vec<u8>, n: usize) -> Result<(), AllocError>
     ensures ok { IfOk result (λ _. out.new.items ≡ out.old.items ++ (32 ∷ decimal n)) }
     ensures kept { Keeps out.old.items out.new.items }
 {
-    let mut buffer = Buffer::new();
-    put_behind(out, b' ', buffer.format(n).as_bytes())
+    put_decimal(out, b' ', n)
 }
 
 pub fn put_wide(out: &mut Vec<u8>, n: &i64) -> Result<(), AllocError>
@@ -132,7 +131,7 @@ pub fn put_id(out: &mut Vec<u8>, id: Option<u32>) -> Result<(), AllocError>
     ensures kept { Keeps out.old.items out.new.items }
 {
     if let Some(id) = id {
-        put_decimal(out, b'#', i64::from(id))?;
+        put_decimal(out, b'#', id)?;
         out.push(b' ')?;
     }
     Ok(())

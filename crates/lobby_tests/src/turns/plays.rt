@@ -6,7 +6,7 @@ ghost use Rattle.std.specs.Prelude.{◌≡◌};
 use crate::turns::desks::open;
 use crate::turns::serving::take_turns;
 use crate::verdict::{fail, same};
-use lobby_lock::{Closing, Count, Desk, MadeEvent, Pass};
+use lobby_lock::{Closing, Count, Desk, Made, Pass};
 use lobby_turns::{Buffers, Conn, Gate, GatedDesk, TurnState};
 use std::alloc::{AllocError, Global};
 use std::process::Abort;
@@ -71,12 +71,13 @@ impl Gate for Counting {
         self.takes.fetch_add(1, Ordering::SeqCst);
     }
 
-    fn made(&self, worker: u8, made: MadeEvent) {
-        let _ = worker;
-        if made.place == self.in_place.load(Ordering::SeqCst) {
-            self.in_place.fetch_add(1, Ordering::SeqCst);
+    fn made(&self, made: &mut Made) {
+        while let Some(event) = made.next() {
+            if event.place == self.in_place.load(Ordering::SeqCst) {
+                self.in_place.fetch_add(1, Ordering::SeqCst);
+            }
+            drop(event);
         }
-        drop(made);
     }
 
     fn after_write(&self, worker: u8, bytes: &[u8]) {

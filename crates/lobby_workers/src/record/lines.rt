@@ -1,6 +1,9 @@
 //! The lines of a worker that wait to be written.
 
+ghost use Rattle.std.specs.Prelude.{◌≡◌};
+
 use crate::record::end::End;
+use lobby_lock::{Made, MadeEvent};
 use record_lines::{Entry, Masks, put_entry};
 use std::alloc::Global;
 
@@ -25,16 +28,33 @@ impl Lines {
         }
     }
 
+    /// Adds the lines of the events that a worker made, up to one by which the record ends.
+    pub(crate) fn add_made(
+        &mut self,
+        alloc: Global,
+        masks: &Masks,
+        made: &mut Made,
+    ) -> Result<(), End>
+        ensures { made.new.pass ≡ made.old.pass }
+    {
+        while let Some(event) = made.next() {
+            self.add(alloc, masks, event)?;
+        }
+        Ok(())
+    }
+
     /// Adds the lines of an event, or nothing where the record ends by it.
-    pub(crate) fn add(&mut self, alloc: Global, masks: &Masks, entry: Entry) -> Result<(), End> {
-        if entry.place == u64::MAX {
-            drop(entry);
+    fn add(&mut self, alloc: Global, masks: &Masks, made: MadeEvent) -> Result<(), End> {
+        if made.place == u64::MAX {
+            drop(made);
             return Err(End::LastPlace);
         }
         if self.bytes.len() >= MOST {
-            drop(entry);
+            drop(made);
             return Err(End::Full);
         }
+        let MadeEvent { place, event, gain } = made;
+        let entry = Entry { place, event, gain };
         put_entry(alloc, &mut self.bytes, &mut self.text, masks, entry)?;
         Ok(())
     }

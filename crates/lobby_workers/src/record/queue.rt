@@ -1,15 +1,22 @@
 //! The lines that wait to be written.
 
+ghost use Rattle.std.specs.Prelude.{◌≡◌};
+
 use crate::record::end::End;
 use crate::record::files::RecordFiles;
 use crate::record::lines::Lines;
 use crate::sleep::WriterSleep;
 use crossbeam_queue::ArrayQueue;
-use record_lines::{Entry, Masks};
+use lobby_lock::Made;
+use record_lines::Masks;
 use std::alloc::{AllocError, Global};
 use std::fs::OpenFile;
 use std::io::Write;
 use std::sync::{OnceLock, Wait};
+
+/// The milliseconds for which the thread that writes lets lines gather: woken 50 times a second, in place of 10, it
+/// took half of what a record costs.
+const GATHERING: u64 = 100;
 
 /// So many bytes of a worker wake a thread that gathers.
 const MANY: usize = 65_536;
@@ -71,14 +78,19 @@ impl RecordQueue {
         }
     }
 
-    /// Puts the lines of an event that was made, where the record goes on. A worker without a place is passed over.
-    pub(crate) fn put<R: Wait>(&self, rt: &R, entry: Entry) {
-        let waiting = self.waiting.get(usize::from(entry.worker));
+    /// Puts the lines of the events that a worker made, where the record goes on. A worker without a place is passed
+    /// over.
+    pub(crate) fn put<R: Wait>(&self, rt: &R, made: &mut Made)
+        ensures { made.new.pass ≡ made.old.pass }
+    {
+        if made.is_empty() {
+            return;
+        }
+        let waiting = self.waiting.get(usize::from(made.worker()));
         let (Some(place), None) = (waiting, self.end.get()) else {
-            drop(entry);
             return;
         };
-        let count = match self.add(rt, place, entry) {
+        let count = match self.add(rt, place, made) {
             Ok(count) => count,
             Err(end) => {
                 self.end_by(end);
@@ -90,13 +102,15 @@ impl RecordQueue {
         }
     }
 
-    /// Puts the lines of an event behind those at a place. How many bytes wait there then.
-    fn add<R: Wait>(&self, rt: &R, place: &ArrayQueue<Lines>, entry: Entry) -> Result<usize, End> {
+    /// Puts the lines of events behind those at a place. How many bytes wait there then.
+    fn add<R: Wait>(&self, rt: &R, place: &ArrayQueue<Lines>, made: &mut Made) -> Result<usize, End>
+        ensures { made.new.pass ≡ made.old.pass }
+    {
         let mut lines = match place.pop(rt) {
             Some(lines) => lines,
             None => Lines::new(self.alloc),
         };
-        let added = lines.add(self.alloc, &self.masks, entry);
+        let added = lines.add_made(self.alloc, &self.masks, made);
         let count = lines.bytes.len();
         if let Err(refused) = place.push(rt, lines) {
             // Only this worker lays lines there.
@@ -144,7 +158,7 @@ impl RecordQueue {
                 (Looked::Written, _) if is_over => {}
                 (Looked::Written, _) => {
                     self.sleep.show_gathering();
-                    self.sleep.gather(rt);
+                    self.sleep.gather(rt, GATHERING);
                 }
             }
         }

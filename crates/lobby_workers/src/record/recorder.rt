@@ -1,9 +1,8 @@
 //! The gate through which workers record what they make.
 
 use crate::record::queue::RecordQueue;
-use lobby_lock::MadeEvent;
+use lobby_lock::Made;
 use lobby_turns::Gate;
-use record_lines::Entry;
 use server_log::Happening;
 use std::sync::Wait;
 
@@ -27,15 +26,8 @@ impl<R: Wait, G: Gate> Gate for Recorder<'_, R, G> {
         true
     }
 
-    fn made(&self, worker: u8, made: MadeEvent) {
-        let MadeEvent { place, event, gain } = made;
-        let entry = Entry {
-            worker,
-            place,
-            event,
-            gain,
-        };
-        self.queue.put(self.rt, entry);
+    fn made(&self, made: &mut Made) {
+        self.queue.put(self.rt, made);
     }
 
     fn after_write(&self, worker: u8, bytes: &[u8]) {
