@@ -22,7 +22,7 @@ const SECOND: &[u8] = b"1 open 2 10.0.0.2\n4 shut 2\nend stop\n";
 const GREETED: &[u8] = b"1> TASSERVER 0.38 * 8201 0\n";
 
 /// What is shown, and up to where.
-static ANSWERED: [Asked; 7] = [
+static ANSWERED: [Asked; 8] = [
     Asked {
         files: &[FIRST, SECOND],
         questions: b"show 1\nshow\n",
@@ -50,6 +50,12 @@ static ANSWERED: [Asked; 7] = [
     },
     // What the other worker made behind the end is left out.
     Asked {
+        files: &[b"0 open 1 10.0.0.1\n", b"1 open 2 10.0.0.2\n3 shut 2\n"],
+        questions: b"show 1\n",
+        told: Ok(2),
+        output: GREETED,
+    },
+    Asked {
         files: &[b"0 open 1 10.0.0.1\nend full\n", SECOND],
         questions: b"show 1\n",
         told: Ok(2),
@@ -70,9 +76,25 @@ static ANSWERED: [Asked; 7] = [
 ];
 
 /// Which line of which file is refused.
-static REFUSED: [(&[&[u8]], RecordFault); 17] = [
+static REFUSED: [(&[&[u8]], RecordFault); 20] = [
     (
         &[b"0 open 1 10.0.0.1\nend stop\n", SECOND],
+        RecordFault::Hole(2),
+    ),
+    // Files that were cut off lost nothing before their last lines.
+    (
+        &[b"0 open 1 10.0.0.1\n3 shut 1\n", SECOND],
+        RecordFault::Hole(2),
+    ),
+    (
+        &[b"1 open 1 10.0.0.1\n", b"2 shut 1\nend full\n"],
+        RecordFault::Hole(0),
+    ),
+    (
+        &[
+            b"0 open 1 10.0.0.1\n4 shut 1\n",
+            b"1 open 2 10.0.0.2\n3 shut 2\nend disk\n",
+        ],
         RecordFault::Hole(2),
     ),
     (

@@ -2,4 +2,6 @@ pub mod Rising
 pub mod Sorting
 pub mod Placing
 pub mod Listing
+pub mod Filing
+pub mod Left
 pub mod Played

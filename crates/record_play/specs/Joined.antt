@@ -1,6 +1,8 @@
 -- The lines of several files in the order of their places.
-use Rattle.std.specs.Prelude.{◌≡◌, ℕ, ◌+◌, ◌==◌, ◌≤◌, ◌⊎◌, List, [], ◌∷◌}
-use Rattle.std.specs.List.{filter}
+use Rattle.std.specs.Prelude.{◌≡◌, ℕ, ◌+◌, ◌==◌, ◌≤◌, ◌<◌, ◌⊎◌, List, [], ◌∷◌, length}
+use Rattle.std.specs.Borrow.{Bor}
+use Rattle.std.specs.List.{AllByRecursion, filter}
+use Rattle.record_play.specs.Files.{FileLines, HasPassed, ListFiles, all_lines}
 use Rattle.record_play.specs.declared.file.RecordLine.{RecordLine}
 
 -- The places go up one by one, from the first behind `place`, of which lines of this file may stand before, to the last
@@ -20,3 +22,15 @@ at_place place lines = filter (λ l. l.place == place) lines
 pub record IsJoined (all given : List RecordLine) (missing : ℕ) : Type 0 where
   pub rises : Rises 0 0 given missing
   pub each : (place : ℕ) → place ≤ missing → at_place place given ≡ at_place place all
+
+-- the lines of the files, joined, of which none is left out where each file has passed what is missing
+abbrev pub Joins : List (Bor (List ℕ)) → List RecordLine → ℕ → Type 0
+Joins texts lines missing =
+    (files : List FileLines) × ListFiles 0 texts files × IsJoined (all_lines files) lines missing
+    × (AllByRecursion (HasPassed missing) files → length lines ≡ length (all_lines files))
+
+-- each file has passed this place, which none has, and lines are left out for it
+abbrev pub IsHole : List (Bor (List ℕ)) → ℕ → Type 0
+IsHole texts missing =
+    (files : List FileLines) × ListFiles 0 texts files × AllByRecursion (HasPassed missing) files
+    × (lines : List RecordLine) × IsJoined (all_lines files) lines missing × (length lines < length (all_lines files))

@@ -2,3 +2,4 @@ pub mod Files
 pub mod Joined
 pub mod Steps
 pub mod Replays
+pub mod Leaving

@@ -1,22 +1,13 @@
 -- What was played of a record.
-use Rattle.std.specs.Prelude.{◌≡◌, ℕ, List, [], ◌∷◌, ◌++◌, Option, length, take}
-use Rattle.std.specs.Borrow.{Bor}
+use Rattle.std.specs.Prelude.{List, [], ◌∷◌, ◌++◌, take}
 use Rattle.account_book.specs.Account.{Account}
 use Rattle.lobby_model.specs.Configuration.{Configuration}
 use Rattle.lobby_model.specs.declared.schedule.Step.{Step}
 use Rattle.lobby_hall.specs.Schedules.{StandsFor}
 use Rattle.lobby_hall.specs.Standing.{Kept}
-use Rattle.record_play.specs.Files.{AllStop, ListFiles}
-use Rattle.record_play.specs.Joined.{IsJoined}
 use Rattle.record_play.specs.Steps.{SayAll}
 use Rattle.record_play.specs.declared.file.RecordLine.{RecordLine}
 use Rattle.record_play.specs.declared.replay.Replay.{Replay}
-
--- the lines of the files, joined, of which none is left out where each file ends with its server
-abbrev pub Joins : List (Bor (List ℕ)) → List RecordLine → ℕ → Type 0
-Joins files lines missing =
-    (all : List RecordLine) × (whys : List (Option (List ℕ))) × ListFiles 0 files all whys
-    × IsJoined all lines missing × (AllStop whys → length lines ≡ length all)
 
 -- whatever schedule the old hall stood for, the new one stands for it and the steps of these lines
 abbrev pub PlaysOn : Kept → List RecordLine → Kept → Type 0

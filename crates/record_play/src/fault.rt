@@ -20,7 +20,7 @@ pub enum RecordFault {
         line: u64,
         other: usize,
     },
-    /// No file has this place, though all of them end with the server, and some go on behind it.
+    /// No file has this place, though each goes on behind it or ends with its server.
     #[error("no file has place {0}")]
     Hole(u64),
     /// The step gives another client, no event, or other bytes than it gave the server.

@@ -1,8 +1,9 @@
 //! A file of a record, line by line.
 
-ghost use Rattle.std.specs.Prelude.{◌≡◌, ◌++◌, ℕ, List, codes, IfOk, IfSome, IsSomeAnd};
+ghost use Rattle.std.specs.Prelude.{◌≡◌, ◌++◌, ◌^◌, ◌-◌, ◌⊎◌, ℕ, List, codes, IfOk, IfErr, IfSome, IsSomeAnd};
 ghost use Rattle.proxy_line.specs.Words.{Finds};
-ghost use Rattle.record_play.specs.Files.{HasPlace, IsPlace, Lists, told};
+ghost use Rattle.record_play.specs.Files.{FileLines, HasPassed, HasPlace, IsFile, IsPlace, IsReach};
+ghost use Rattle.record_play.specs.declared.fault.RecordFault.TheVariants.{Hole};
 
 use crate::fault::RecordFault;
 use itoa::Buffer;
@@ -22,7 +23,8 @@ pub struct RecordLine<'a> {
     pub step: &'a [u8],
 }
 
-/// Adds the lines of a file behind those of others. Why there are no more, where its last line tells it.
+/// Adds the lines of a file behind those of others. Gives the file's reach: no line of a lower place was lost with its
+/// end. That is the place of its last line, or the last number where it ends with its server.
 ///
 /// What stands behind the last LF is a line that was not written to its end, and is left. `BadLine` where a line is no
 /// step at a place, or its place is before that of the line before it.
@@ -30,9 +32,10 @@ pub fn add_lines<'a>(
     lines: &mut Vec<RecordLine<'a>>,
     file: usize,
     text: &'a [u8],
-) -> Result<Option<&'a [u8]>, RecordFault>
-    ensures { IfOk result (λ why. (here : List RecordLine) × Lists file 1 0 text.now here (told why)
-        × (lines.new.items ≡ lines.old.items ++ here)) }
+) -> Result<u64, RecordFault>
+    ensures listed { IfOk result (λ reach. (here : FileLines) × IsFile file text.now here
+        × (lines.new.items ≡ lines.old.items ++ here.lines) × IsReach (λ place. HasPassed place here) reach) }
+    ensures other { IfErr result (λ e. (place : ℕ) → e ≡ Hole place → ⊥) }
 {
     let mut rest = text;
     let mut number = 0u64;
@@ -41,7 +44,7 @@ pub fn add_lines<'a>(
         number += 1;
         if behind.is_empty() {
             if let Some(why) = cause(line) {
-                return Ok(Some(why));
+                return Ok(reach(why, least));
             }
         }
         match place_before_step(line) {
@@ -58,11 +61,22 @@ pub fn add_lines<'a>(
         }
         rest = behind;
     }
-    Ok(None)
+    Ok(least)
+}
+
+/// The reach of a file that ends so behind a line of this place.
+fn reach(why: &[u8], last: u64) -> u64
+    ensures { ((why.now ≡ codes "stop") × (result ≡ 2 ^ 64 - 1)) ⊎ ((why.now ≡ codes "stop" → ⊥) × (result ≡ last)) }
+{
+    if why == b"stop".as_slice() {
+        u64::MAX
+    } else {
+        last
+    }
 }
 
 /// Why there are no more lines, where a line tells it.
-fn cause(line: &[u8]) -> Option<&[u8]>
+pub(crate) fn cause(line: &[u8]) -> Option<&[u8]>
     ensures { IfSome result (λ why. line.now ≡ codes "end " ++ why.now) }
 {
     line.strip_prefix(b"end ".as_slice())

@@ -1,11 +1,10 @@
 //! The files of a record, joined by place.
 
-ghost use Rattle.std.specs.Prelude.{◌≡◌, ◌≤◌, ◌<◌, IfOk, Some, true, codes, length, take, drop};
+ghost use Rattle.std.specs.Prelude.{◌≡◌, ◌≤◌, ◌<◌, ℕ, IfOk, IfErr, length, take, drop};
 ghost use Rattle.std.specs.List.{AllByRecursion};
 ghost use Rattle.std.specs.List.Sorted.{IsNonDecreasingBy};
-ghost use Rattle.record_play.specs.Files.{told};
-ghost use Rattle.record_play.specs.Joined.{Rises};
-ghost use Rattle.record_play.specs.Replays.{Joins};
+ghost use Rattle.record_play.specs.Joined.{IsHole, Joins, Rises};
+ghost use Rattle.record_play.specs.declared.fault.RecordFault.TheVariants.{Hole};
 
 use crate::fault::RecordFault;
 use crate::file::{RecordLine, add_lines};
@@ -23,35 +22,26 @@ pub struct Joined<'a> {
 /// Joins the files of a record, in the order of their workers.
 ///
 /// `BadLine` where a line is no step at a place, or its place is before that of the line before it in its file;
-/// `TwoOfOnePlace` where lines of two files have one place; `Hole` where a place is missing though each file ends with
-/// the server: it was written, and is gone. Where a file ends otherwise, the first missing place is the end.
+/// `TwoOfOnePlace` where lines of two files have one place; `Hole` where a place is missing that each file has passed:
+/// it was written, and is gone. Where a file may have lost it with its end, the first missing place is the end.
 pub fn join<'a>(alloc: Global, files: &[&'a [u8]]) -> Result<Joined<'a>, RecordFault>
-    ensures { IfOk result (λ joined. Joins files.now joined.lines.items joined.missing) }
+    ensures joins { IfOk result (λ joined. Joins files.now joined.lines.items joined.missing) }
+    ensures hole { IfErr result (λ e. (place : ℕ) → e ≡ Hole place → IsHole files.now place) }
 {
     let mut lines = Vec::new(alloc);
-    let mut is_whole = true;
+    let mut reach = u64::MAX;
     let mut file = 0;
     for text in files {
-        is_whole &= is_stop(add_lines(&mut lines, file, text)?);
+        reach = reach.min(add_lines(&mut lines, file, text)?);
         file += 1;
     }
     lines.sort_by_key(|line| line.place)?;
     let (count, missing) = front(&lines)?;
-    if is_whole && count < lines.len() {
+    if count < lines.len() && missing < reach {
         return Err(RecordFault::Hole(missing));
     }
     lines.truncate(count);
     Ok(Joined { lines, missing })
-}
-
-/// Whether this is why a file ends whose server has stopped.
-fn is_stop(why: Option<&[u8]>) -> bool
-    ensures { told why.entry ≡ Some (codes "stop") → result ≡ true }
-{
-    match why {
-        Some(why) => why == b"stop".as_slice(),
-        None => false,
-    }
 }
 
 /// How many of some lines, whose places do not fall, stand before the first place that none of them has, and that
@@ -60,7 +50,8 @@ fn front(lines: &[RecordLine<'_>]) -> Result<(usize, u64), RecordFault>
     requires { IsNonDecreasingBy (λ (l : RecordLine). l.place) lines.now }
     ensures rises { IfOk result (λ r. Rises 0 0 (take r.0 lines.now) r.1) }
     ensures above { IfOk result (λ r. AllByRecursion (λ (l : RecordLine). r.1 < l.place) (drop r.0 lines.now)) }
-    ensures within { IfOk result (λ r. r.0 ≤ length lines.now) }
+    ensures within { IfOk result (λ r. (r.0 ≤ length lines.now) × (r.1 ≤ r.0)) }
+    ensures other { IfErr result (λ e. (place : ℕ) → e ≡ Hole place → ⊥) }
 {
     let mut count = 0;
     let mut missing = 0u64;

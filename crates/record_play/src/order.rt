@@ -1,11 +1,18 @@
 //! Which lines of a record stand behind which.
 
+ghost use Rattle.std.specs.Prelude.{◌≡◌, ◌⊎◌, ◌∷◌, ◌++◌, [], ℕ, List, false, codes, IfSome};
+ghost use Rattle.line_words.specs.Bytes.{has_byte};
+ghost use Rattle.record_play.specs.Leaving.{IsSent, LeavesOut};
+
 use crate::fault::RecordFault;
-use crate::file::{RecordLine, place_before_step};
+use crate::file::{RecordLine, cause, place_before_step};
+use memchr::memrchr;
 use proxy_line::part_at;
 
 /// The client of which a step sends a line, as it is written.
-fn sender(step: &[u8]) -> Option<&[u8]> {
+fn sender(step: &[u8]) -> Option<&[u8]>
+    ensures { IfSome result (λ client. (bytes : List ℕ) × (step.now ≡ codes "send " ++ (client.now ++ 32 ∷ bytes))) }
+{
     let (client, _) = part_at(step.strip_prefix(b"send ".as_slice())?, b' ')?;
     Some(client)
 }
@@ -55,35 +62,58 @@ fn bad(line: &RecordLine<'_>) -> RecordFault {
     }
 }
 
-/// The last line of a text that ends by LF, and what stands before it.
-fn last_line(text: &[u8]) -> Option<(&[u8], &[u8])> {
-    let lines = text.strip_suffix(b"\n".as_slice())?;
-    match lines.iter().rposition(|byte| *byte == b'\n') {
-        Some(at) => Some((&lines[..at + 1], &lines[at + 1..])),
-        None => Some((&[], lines)),
+/// The text up to its last LF, and what stands behind that.
+fn last_line(text: &[u8]) -> (&[u8], &[u8])
+    ensures whole { text.now ≡ result.0.now ++ result.1.now }
+    ensures rest { has_byte 10 result.1.now ≡ false }
+{
+    let start = match memrchr(b'\n', text) {
+        Some(at) => at + 1,
+        None => 0,
+    };
+    (&text[..start], &text[start..])
+}
+
+/// What stands before an LF at the end.
+fn before_lf(lines: &[u8]) -> Option<&[u8]>
+    ensures { IfSome result (λ text. lines.now ≡ text.now ++ 10 ∷ []) }
+{
+    lines.strip_suffix(b"\n".as_slice())
+}
+
+/// What stands before the last line, where it tells that a record ended before its server; else all lines.
+fn before_cause(lines: &[u8]) -> &[u8]
+    ensures { (lines.now ≡ result.now)
+        ⊎ ((why : List ℕ) × (lines.now ≡ result.now ++ (codes "end " ++ (why ++ 10 ∷ []))) × (has_byte 10 why ≡ false)) }
+{
+    let Some(text) = before_lf(lines) else {
+        return lines;
+    };
+    let (before, last) = last_line(text);
+    match cause(last) {
+        Some(why) if why != b"stop".as_slice() => before,
+        Some(_) | None => lines,
     }
+}
+
+/// What stands before the last line, where bytes are sent by it.
+fn before_sent(lines: &[u8]) -> Option<&[u8]>
+    ensures { IfSome result (λ before. (line : List ℕ) × (lines.now ≡ before.now ++ (line ++ 10 ∷ [])) × IsSent line) }
+{
+    let (before, last) = last_line(before_lf(lines)?);
+    let (_, step) = place_before_step(last)?;
+    sender(step)?;
+    Some(before)
 }
 
 /// The lines of a file up to its last whole event, and the one behind them that says why there are no more. Behind that
 /// event may stand what was not written to its end: a line that was sent, and nothing takes it.
-pub fn whole_events(text: &[u8]) -> &[u8] {
-    let Some(at) = text.iter().rposition(|byte| *byte == b'\n') else {
-        return &[];
-    };
-    let whole = &text[..at + 1];
-    let Some((before, last)) = last_line(whole) else {
-        return whole;
-    };
-    let (before, last) = match last.strip_prefix(b"end ".as_slice()) {
-        None => (before, last),
-        Some(why) if why == b"stop".as_slice() => return whole,
-        Some(_) => match last_line(before) {
-            Some(parts) => parts,
-            None => return whole,
-        },
-    };
-    match place_before_step(last) {
-        Some((_, step)) if sender(step).is_some() => before,
-        Some(_) | None => whole,
+pub fn whole_events(text: &[u8]) -> &[u8]
+    ensures { LeavesOut text.now result.now }
+{
+    let (whole, _) = last_line(text);
+    match before_sent(before_cause(whole)) {
+        Some(before) => before,
+        None => whole,
     }
 }

@@ -1,9 +1,11 @@
 //! A record that is played.
 
-ghost use Rattle.std.specs.Prelude.{◌≡◌, IfOk, OnOk, List};
+ghost use Rattle.std.specs.Prelude.{◌≡◌, ℕ, IfOk, IfErr, OnOk, List};
 ghost use Rattle.account_book.specs.Account.{Account};
 ghost use Rattle.lobby_model.specs.Configuration.{Configuration};
-ghost use Rattle.record_play.specs.Replays.{IsPlayed, Joins};
+ghost use Rattle.record_play.specs.Joined.{IsHole, Joins};
+ghost use Rattle.record_play.specs.Replays.{IsPlayed};
+ghost use Rattle.record_play.specs.declared.fault.RecordFault.TheVariants.{Hole};
 
 use crate::fault::RecordFault;
 use crate::file::RecordLine;
@@ -33,7 +35,8 @@ pub struct Replay<'a> {
 }
 
 impl<'a> Replay<'a> {
-    /// The record of these files, of which nothing was played, by the settings and accounts of its server.
+    /// The record of these files, of which nothing was played, by the settings and accounts of its server. The faults
+    /// are those of `join`.
     pub fn new(
         alloc: Global,
         settings: Settings,
@@ -42,6 +45,7 @@ impl<'a> Replay<'a> {
     ) -> Result<Replay<'a>, RecordFault>
         ensures joins { IfOk result (λ replay. Joins files.now replay.lines.items replay.missing) }
         ensures played { IfOk result (λ replay. IsPlayed replay settings accounts) }
+        ensures hole { IfErr result (λ e. (place : ℕ) → e ≡ Hole place → IsHole files.now place) }
     {
         let hall = Hall::new(alloc, settings, accounts)?;
         match join(alloc, files) {

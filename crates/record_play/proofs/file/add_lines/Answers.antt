@@ -1,23 +1,27 @@
-use Rattle.std.proofs.Common.{◌≡◌, ℕ, suc, List, [], ◌∷◌, ◌++◌, ◌+◌, length, None, Some, refl, sym, subst, ◌∙◌, ap, arith, append-nil, append_assoc, length-append}
+use Rattle.std.proofs.Common.{◌≡◌, ℕ, suc, List, [], ◌∷◌, ◌++◌, ◌+◌, length, None, Some, refl, sym, subst, ◌∙◌, ap, arith, append_assoc, length-append}
 use Rattle.proxy_line.specs.Words.{PartedAt}
 use Rattle.proxy_line.proofs.Parts.{nothing_left}
-use Rattle.record_play.specs.Files.{Lists}
 use Rattle.record_play.specs.declared.file.RecordLine.{RecordLine}
+use Rattle.record_play.proofs.Filing.{so_more, so_over}
+use Rattle.record_play.proofs.Listing.{cut_off, told_why}
 use Rattle.record_play.proofs.file.add_lines.Goals as goal
 
 -- a line takes its bytes and one more of the text
 shorter : (text line behind : List ℕ) → PartedAt 10 text line behind → length text ≡ length line + suc (length behind)
 shorter text line behind parts = ap (λ (t : List ℕ). length t) parts.whole ∙ length-append line (10 ∷ behind)
 
-pub returns-in-Some-cause : goal.returns-in-Some-cause
-returns-in-Some-cause c =
+pub returns-in-Some-cause-clause-listed : goal.returns-in-Some-cause-clause-listed
+returns-in-Some-cause-clause-listed c =
     let so_far = c.loop-line.invariant in
-    let rest = c.loop-line.rest.now in
     let why = c.in-Some-cause.why.now in
     let empty = nothing_left c.in-Some.behind.now (sym c.if-is_empty.ensures) in
-    let last = subst (λ (b : List ℕ). PartedAt 10 rest c.in-Some.line.now b) empty c.in-Some.ensures in
-    let over = subst (λ (l : List ℕ). PartedAt 10 rest l []) c.in-Some-cause.ensures last in
-    (so_far.0, subst (λ (all : List RecordLine). Lists c.args.file 1 0 c.args.text.now all (Some why)) (append-nil so_far.0) (so_far.3 [] (Some why) over), so_far.1)
+    let last = subst (λ (b : List ℕ). PartedAt 10 c.loop-line.rest.now c.in-Some.line.now b) empty c.in-Some.ensures in
+    let over = subst (λ (l : List ℕ). PartedAt 10 c.loop-line.rest.now l []) c.in-Some-cause.ensures last in (
+      record { lines = so_far.0; why = Some why },
+      so_over c.args.file c.args.text.now so_far.0 c.loop-line.number c.loop-line.least c.loop-line.rest.now (Some why) so_far.3 over,
+      so_far.1,
+      told_why why so_far.0 c.loop-line.least c.reach.result so_far.3.last c.reach.ensures,
+    )
 
 pub loop-line-preserved : goal.loop-line-preserved
 loop-line-preserved c =
@@ -30,11 +34,15 @@ loop-line-preserved c =
       so_far.0 ++ x ∷ [],
       pushed ∙ ap (λ (l : List RecordLine). l ++ x ∷ []) so_far.1 ∙ append_assoc c.args.lines.now.items so_far.0 (x ∷ []),
       omega (arith, so_far.2, size),
-      λ more why listed. subst (λ (all : List RecordLine). Lists c.args.file 1 0 c.args.text.now all why) (sym (append_assoc so_far.0 (x ∷ []) more))
-          (so_far.3 (x ∷ more) why (c.in-Some.line.now, c.in-Some.behind.now, parts, placed.ensures.sound, refl, refl, c.if-place-least.true, listed)),
+      so_more c.args.file c.args.text.now so_far.0 c.loop-line.number c.loop-line.least c.loop-line.rest.now c.in-Some.line.now c.in-Some.behind.now
+          x so_far.3 parts placed.ensures.sound refl refl c.if-place-least.true,
     )
 
-pub returns : goal.returns
-returns c =
-    let so_far = c.loop-line.invariant in
-    (so_far.0, subst (λ (all : List RecordLine). Lists c.args.file 1 0 c.args.text.now all None) (append-nil so_far.0) (so_far.3 [] None c.in_default.ensures), so_far.1)
+pub returns-clause-listed : goal.returns-clause-listed
+returns-clause-listed c =
+    let so_far = c.loop-line.invariant in (
+      record { lines = so_far.0; why = None },
+      so_over c.args.file c.args.text.now so_far.0 c.loop-line.number c.loop-line.least c.loop-line.rest.now None so_far.3 c.in_default.ensures,
+      so_far.1,
+      rw so_far.3.last (cut_off so_far.0),
+    )

@@ -1,15 +1,17 @@
-use Rattle.std.proofs.Common.{◌≡◌, ◌<◌, ◌≤◌, ℕ, List, [], ◌∷◌, ◌++◌, ◌+◌, length, take, drop, Option, refl, sym, subst, ◌∙◌, ap, arith, append-nil, append_assoc, rules}
+use Rattle.std.proofs.Common.{◌≡◌, ◌<◌, ◌≤◌, ◌^◌, ◌-◌, ℕ, List, [], ◌∷◌, ◌++◌, ◌+◌, length, length-take, take, drop, refl, sym, subst, ◌∙◌, ap, arith, append-nil, append_assoc, rules}
 use Rattle.std.specs.Borrow.{Bor}
 use Rattle.std.specs.List.{AllByRecursion}
+use Rattle.std.specs.List.Sorted.{IsPermutation, IsStableByKey}
+use Rattle.std.specs.Ordering.{nat_cmp}
 use Rattle.std.proofs.lemmas.List.{drop_more, drop_all, take_all, take-append-drop}
 use Rattle.std.proofs.lemmas.List.Sorted.{IsNonDecreasingBy-from_sort_by_key, answers_always, length_permutation}
-use Rattle.record_play.specs.Files.{ListFiles, told}
-use Rattle.record_play.specs.Joined.{Rises}
+use Rattle.record_play.specs.Files.{FileLines, ListFiles, all_lines}
+use Rattle.record_play.specs.Joined.{IsHole, IsJoined, Rises}
 use Rattle.record_play.specs.declared.file.RecordLine.{RecordLine}
-use Rattle.record_play.proofs.Listing.{not_both, stops_all}
+use Rattle.record_play.proofs.Listing.{all_lines-more, reach_both}
 use Rattle.record_play.proofs.Rising.{joined}
 use Rattle.record_play.proofs.Sorting.{same_places}
-use Rattle.record_play.proofs.joining.join.Goals.{else-is_whole-via-then-is_whole+else-count-len, else-is_whole-via-else-is_whole}
+use Rattle.record_play.proofs.joining.join.Goals.{else-count-len-via-then-count-len+else-missing-reach, else-count-len-via-else-count-len}
 use Rattle.record_play.proofs.joining.join.Goals as goal
 
 abbrev no_text : Bor (List ℕ)
@@ -19,21 +21,19 @@ pub loop-text-preserved : goal.loop-text-preserved
 loop-text-preserved c =
     let so_far = c.loop-text.invariant in
     let files = c.args.files.now in
-    let lines = c.loop-text.lines.items in
     let known = so_far.1 in
-    let added = c.in_ok-add_lines.ensures in
-    let why = told c.in_ok-add_lines.field-0 in (
+    let done = known.0 in
+    let added = c.in_ok-add_lines.ensures.listed in
+    let here = added.0 in (
       ap (λ n. n + 1) so_far.0,
       (
-        known.0 ++ why ∷ [],
-        (λ more later listed.
-            subst (λ (l : List RecordLine). ListFiles 0 files (l ++ more) ((known.0 ++ why ∷ []) ++ later)) (sym added.2)
-            (subst (λ (l : List RecordLine). ListFiles 0 files l ((known.0 ++ why ∷ []) ++ later)) (sym (append_assoc lines added.0 more))
-            (subst (λ (e : List (Option (List ℕ))). ListFiles 0 files (lines ++ (added.0 ++ more)) e) (sym (append_assoc known.0 (why ∷ []) later))
-            (known.1 (added.0 ++ more) (why ∷ later) (subst (λ (rest : List (Bor (List ℕ))). ListFiles c.loop-text.file rest (added.0 ++ more) (why ∷ later))
-            (sym (drop_more files c.loop-text.text-index no_text c.loop-text-test.true)) (added.0, more, why, later, added.1, listed, refl, refl)))))),
-        λ off stop. let both = stops_all known.0 why stop in
-            not_both c.loop-text.is_whole c.is_stop.result off (λ none. known.2 none both.0) (c.is_stop.ensures both.1),
+        done ++ here ∷ [],
+        added.2 ∙ ap (λ (l : List RecordLine). l ++ here.lines) known.1 ∙ sym (all_lines-more done here),
+        reach_both done here c.loop-text.reach c.in_ok-add_lines.field-0 c.min-reach.result known.2 added.3 c.min-reach.ensures,
+        λ later listed.
+            subst (λ (f : List FileLines). ListFiles 0 files f) (sym (append_assoc done (here ∷ []) later))
+            (known.3 (here ∷ later) (subst (λ (rest : List (Bor (List ℕ))). ListFiles c.loop-text.file rest (here ∷ later))
+            (sym (drop_more files c.loop-text.text-index no_text c.loop-text-test.true)) (here, later, added.1, listed, refl))),
       ),
     )
 
@@ -41,39 +41,94 @@ pub front-requires : goal.front-requires
 front-requires c = rw c.deref.ensures.value
     (IsNonDecreasingBy-from_sort_by_key (λ (l : RecordLine). l.place) _ c.in_ok-sort_by_key.ensures.sorted (λ a r q k. search rules))
 
--- all are given where none is left out
-all_given : (all sorted given : List RecordLine) (count : ℕ) → length sorted ≡ length all → given ≡ take count sorted
-    → length sorted ≤ count → length given ≡ length all
-all_given all sorted given count same is all_of =
-    ap (λ (l : List RecordLine). length l) (is ∙ take_all count sorted all_of) ∙ same
+-- the files are listed where none of their texts is left
+listed_all : (texts : List (Bor (List ℕ))) (done : List FileLines) (i file : ℕ) → length texts ≤ i
+    → ((later : List FileLines) → ListFiles file (drop i texts) later → ListFiles 0 texts (done ++ later)) → ListFiles 0 texts done
+listed_all texts done i file over known =
+    subst (λ (f : List FileLines). ListFiles 0 texts f) (append-nil done)
+    (known [] (subst (λ (rest : List (Bor (List ℕ))). ListFiles file rest []) (sym (drop_all i texts over)) refl))
 
-pub returns : goal.returns
-returns c =
+-- all lines, those of the files, in the order of their places, and those of them before the first that is missing
+record Given (lines sorted : List RecordLine) (files : List FileLines) (count missing : ℕ) : Type 0 where
+  from : lines ≡ all_lines files
+  many : length sorted ≡ length lines
+  stable : IsStableByKey (λ (l : RecordLine). l.place) nat_cmp lines sorted
+  rises : Rises 0 0 (take count sorted) missing
+  above : AllByRecursion (λ (l : RecordLine). missing < l.place) (drop count sorted)
+
+given_of : (lines sorted here : List RecordLine) (files : List FileLines) (count missing : ℕ) → lines ≡ all_lines files
+    → IsPermutation lines sorted → IsStableByKey (λ (l : RecordLine). l.place) nat_cmp lines sorted → here ≡ sorted
+    → Rises 0 0 (take count here) missing → AllByRecursion (λ (l : RecordLine). missing < l.place) (drop count here)
+    → Given lines sorted files count missing
+given_of lines sorted here files count missing from permutation stable same rises above = record {
+  from = from;
+  many = length_permutation lines sorted permutation;
+  stable = stable;
+  rises = subst (λ (s : List RecordLine). Rises 0 0 (take count s) missing) same rises;
+  above = subst (λ (s : List RecordLine). AllByRecursion (λ (l : RecordLine). missing < l.place) (drop count s)) same above;
+}
+
+joined_of : (lines sorted : List RecordLine) (files : List FileLines) (count missing : ℕ) → Given lines sorted files count missing
+    → IsJoined (all_lines files) (take count sorted) missing
+joined_of lines sorted files count missing g =
+    subst (λ (l : List RecordLine). IsJoined l (take count sorted) missing) g.from
+    (joined lines (take count sorted) (drop count sorted) sorted missing (sym (take-append-drop count sorted)) (same_places lines sorted g.stable) g.rises g.above)
+
+-- all are given where none is left out
+all_given : (lines sorted given : List RecordLine) (files : List FileLines) (count missing : ℕ) → Given lines sorted files count missing
+    → given ≡ take count sorted → length sorted ≤ count → length given ≡ length (all_lines files)
+all_given lines sorted given files count missing g is all_of =
+    ap (λ (l : List RecordLine). length l) (is ∙ take_all count sorted all_of) ∙ g.many ∙ ap (λ (l : List RecordLine). length l) g.from
+
+less_given : (lines sorted : List RecordLine) (files : List FileLines) (count missing : ℕ) → Given lines sorted files count missing
+    → count < length sorted → length (take count sorted) < length (all_lines files)
+less_given lines sorted files count missing g less =
+    let size = length-take count sorted in
+    let of = ap (λ (l : List RecordLine). length l) g.from in
+    omega (arith, size, of, g.many, less)
+
+pub returns-then-missing-reach-clause-hole : goal.returns-then-missing-reach-clause-hole
+returns-then-missing-reach-clause-hole c =
     let so_far = c.loop-text.invariant in
-    let files = c.args.files.now in
-    let all = c.loop-text.lines.items in
     let known = so_far.1 in
-    let ends = known.0 in
     let sorted = c.sort_by_key.new.self.items in
     let count = c.in_ok-count.count in
     let missing = c.in_ok-count.missing in
-    let none = drop_all c.loop-text.text-index files c.loop-text-test.false in
-    let listed = subst (λ (e : List (Option (List ℕ))). ListFiles 0 files all e) (append-nil ends)
-    (subst (λ (l : List RecordLine). ListFiles 0 files l (ends ++ [])) (append-nil all)
-    (known.1 [] [] (subst (λ (rest : List (Bor (List ℕ))). ListFiles c.loop-text.file rest [] []) (sym none) (refl, refl)))) in
-    let same = same_places all sorted (c.in_ok-sort_by_key.ensures.stable (λ (l : RecordLine). l.place) (answers_always _ _ _ (λ f a r f' k. search rules))) in
-    let rises = subst (λ (s : List RecordLine). Rises 0 0 (take count s) missing) c.deref.ensures.value c.in_ok-count.ensures.rises in
-    let above = subst (λ (s : List RecordLine). AllByRecursion (λ (l : RecordLine). missing < l.place) (drop count s)) c.deref.ensures.value c.in_ok-count.ensures.above in
-    let long = length_permutation all sorted c.in_ok-sort_by_key.ensures.permutation in (
-      all,
-      ends,
-      listed,
-      rw c.truncate.ensures.items (joined all (take count sorted) (drop count sorted) sorted missing (sym (take-append-drop count sorted)) same rises above),
-      λ stop. elim c.else-is_whole.branch [
-        | else-is_whole-via-then-is_whole+else-count-len w ↦
-            let size = sym (ap (λ (s : List RecordLine). length s) c.deref.ensures.value) ∙ c.deref.ensures.len ∙ sym w.len.ensures in
-            let all_of : length sorted ≤ count = omega (arith, w.if-count-len.false, size) in
-            all_given all sorted c.truncate.new.self.items count long c.truncate.ensures.items all_of
-        | else-is_whole-via-else-is_whole w ↦ absurd (known.2 w.if-is_whole.false stop)
+    let g : Given c.loop-text.lines.items sorted known.0 count missing = given_of c.loop-text.lines.items sorted c.deref.result.now known.0 count missing known.1
+    c.in_ok-sort_by_key.ensures.permutation (c.in_ok-sort_by_key.ensures.stable (λ (l : RecordLine). l.place) (answers_always _ _ _ (λ f a r f' k. search rules)))
+    c.deref.ensures.value c.in_ok-count.ensures.rises c.in_ok-count.ensures.above in
+    let less : count < length sorted = omega (arith, c.if-count-len.true, c.len.ensures) in
+    λ place e.
+    let same : missing ≡ place = cc in
+    subst (λ p. IsHole c.args.files.now p) same (
+      known.0,
+      listed_all c.args.files.now known.0 c.loop-text.text-index c.loop-text.file c.loop-text-test.false known.3,
+      (known.2 missing (omega (arith, less, c.in_ok-count.ensures.within))).1 c.if-missing-reach.true,
+      take count sorted,
+      joined_of c.loop-text.lines.items sorted known.0 count missing g,
+      less_given c.loop-text.lines.items sorted known.0 count missing g less,
+    )
+
+pub returns-clause-joins : goal.returns-clause-joins
+returns-clause-joins c =
+    let so_far = c.loop-text.invariant in
+    let known = so_far.1 in
+    let sorted = c.sort_by_key.new.self.items in
+    let count = c.in_ok-count.count in
+    let missing = c.in_ok-count.missing in
+    let g : Given c.loop-text.lines.items sorted known.0 count missing = given_of c.loop-text.lines.items sorted c.deref.result.now known.0 count missing known.1
+    c.in_ok-sort_by_key.ensures.permutation (c.in_ok-sort_by_key.ensures.stable (λ (l : RecordLine). l.place) (answers_always _ _ _ (λ f a r f' k. search rules)))
+    c.deref.ensures.value c.in_ok-count.ensures.rises c.in_ok-count.ensures.above in (
+      known.0,
+      listed_all c.args.files.now known.0 c.loop-text.text-index c.loop-text.file c.loop-text-test.false known.3,
+      rw c.truncate.ensures.items (joined_of c.loop-text.lines.items sorted known.0 count missing g),
+      λ passed. elim c.else-count-len.branch [
+        | else-count-len-via-then-count-len+else-missing-reach w ↦
+            let low : missing < 2 ^ 64 - 1 = omega (arith, w.if-count-len.true, c.len.ensures, c.in_ok-count.ensures.within) in
+            let below : missing < c.loop-text.reach = (known.2 missing low).0 passed in
+            absurd (omega (arith, below, w.if-missing-reach.false))
+        | else-count-len-via-else-count-len w ↦
+            all_given c.loop-text.lines.items sorted c.truncate.new.self.items known.0 count missing g c.truncate.ensures.items
+            (omega (arith, w.if-count-len.false, c.len.ensures))
       ],
     )

@@ -1,13 +1,10 @@
-use Rattle.std.proofs.Common.{◌≡◌, ◌++◌, ℕ, false, List, Option, drop}
-use Rattle.record_play.specs.Files.{AllStop, ListFiles}
-use Rattle.record_play.specs.declared.file.RecordLine.{RecordLine}
+use Rattle.std.proofs.Common.{◌≡◌, ◌++◌, List, drop}
+use Rattle.std.specs.List.{AllByRecursion}
+use Rattle.record_play.specs.Files.{FileLines, HasPassed, IsReach, ListFiles, all_lines}
 use Rattle.record_play.proofs.joining.join.Given as goal
 
--- The lines of the files so far are listed before whatever the rest of the files list. One of them did not end with the
--- server where they are not all whole
+-- the files so far are listed before whatever the rest of them list, and reach as far as the one that reaches least
 abbrev pub invariant-loop-text : goal.invariant-loop-text
 invariant-loop-text l = (l.file ≡ l.text-index)
-    × ((ends : List (Option (List ℕ)))
-    × ((more : List RecordLine) (later : List (Option (List ℕ))) → ListFiles l.file (drop l.text-index l.files) more later
-    → ListFiles 0 l.files (l.lines.items ++ more) (ends ++ later))
-    × (l.is_whole ≡ false → AllStop ends → ⊥))
+    × ((done : List FileLines) × (l.lines.items ≡ all_lines done) × IsReach (λ p. AllByRecursion (HasPassed p) done) l.reach
+    × ((later : List FileLines) → ListFiles l.file (drop l.text-index l.files) later → ListFiles 0 l.files (done ++ later)))
