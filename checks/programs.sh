@@ -78,10 +78,11 @@ record 0 "${greeting}1> PONG\n" "$end 4\n" 'show 1\n' "${first}end stop\n" '1 op
 record 0 "$greeting" "$end 2\n" 'show 1\n' '0 open 1 10.0.0.1\n2 send 1 PING\\n\n' '1 open 2 10.0.0.2\n3 shut 2\n'
 record 0 'me \n' "$end 4\n" 'until 1\nview 1\n' "$first" '1 open 2 10.0.0.2\n'
 record 1 '' 'no file has place 1\n' '' "${first}end stop\n"
+record 1 '' 'no file has place 1\n' '' "$first"
 record 1 '' 'line 2 of file 1 has the place of a line of file 0\n' '' "$first" '1 open 2 10.0.0.2\n2 shut 2\n'
 record 1 '' 'line 2 of file 0 is no step of a record\n' '' '0 open 1 10.0.0.1\n1 hop 1\n'
 record 1 '' 'line 2 of file 0 does not happen so\n' '' '0 open 1 10.0.0.1\n1 read 1 25\n'
-record 1 '' 'line 1 is no question\n' 'show\n' "$first"
+record 1 '' 'line 1 is no question\n' 'show\n' '0 open 1 10.0.0.1\n'
 expect 2 '' 'settings.toml: the file cannot be read: entity not found\n' '' "$play" --record "$room/none"
 
 # limited INPUT LIMIT : lobby_play on this input, where its memory may come to so many kB.
