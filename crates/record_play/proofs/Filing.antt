@@ -33,7 +33,8 @@ so_none file text = record {
   last = refl;
 }
 
-lacks_behind : (m : ℕ) (xs ys : List ℕ) → has_byte m (xs ++ ys) ≡ false → has_byte m ys ≡ false
+-- the end of a list that lacks a byte lacks it
+pub lacks_behind : (m : ℕ) (xs ys : List ℕ) → has_byte m (xs ++ ys) ≡ false → has_byte m ys ≡ false
 lacks_behind m [] ys h = h
 lacks_behind m (x ∷ xs) ys h = lacks_behind m xs ys (or_parts _ _ h).1
 

@@ -5,9 +5,9 @@ use Rattle.std.proofs.Common.{Option, Some, None, MatchOption, ◌≡◌, ℕ, �
 use Rattle.std.proofs.lemmas.List.{get_or-drop}
 use Rattle.proxy_line.proofs.Parts.{lacks_all}
 use Rattle.line_words.specs.Bytes.{has_byte}
-use Rattle.std.proofs.lemmas.Bool.{or_parts}
 use Rattle.record_play.specs.Files.{HasPlace}
 use Rattle.record_play.specs.Leaving.{IsSent, LeavesOut}
+use Rattle.record_play.proofs.Filing.{lacks_behind}
 
 -- a list lacks a byte from a place on
 pub lacks_from : (m n : ℕ) (xs : List ℕ) → n ≤ length xs → ((k : ℕ) → n ≤ k → k < length xs → nat_eq (get_or xs k 0) m ≡ true → ⊥)
@@ -19,10 +19,6 @@ pub lf_parted : (lines lf : List ℕ) (r : Option (Bor (List ℕ))) → lf ≡ 1
     → MatchOption r ((front : List ℕ) → lines ≢ front ++ lf) (λ x. lines ≡ x.now ++ lf) → IfSome r (λ x. lines ≡ x.now ++ 10 ∷ [])
 lf_parted lines lf (Some x) e m = m ∙ ap (λ l. x.now ++ l) e
 lf_parted lines lf None e m = tt
-
-lacks_behind : (m : ℕ) (xs ys : List ℕ) → has_byte m (xs ++ ys) ≡ false → has_byte m ys ≡ false
-lacks_behind m [] ys h = h
-lacks_behind m (x ∷ xs) ys h = lacks_behind m xs ys (or_parts (nat_eq x m) (has_byte m (xs ++ ys)) h).1
 
 -- the parts of lines, of which the last tells why there are no more
 pub cause_parted : (lines text before last why : List ℕ) → lines ≡ text ++ 10 ∷ [] → text ≡ before ++ last → has_byte 10 last ≡ false
