@@ -3,9 +3,9 @@ use Rattle.std.proofs.Common.{◌≡◌, ◌++◌, ◌+◌, ◌<◌, ◌≤◌, 
 use Rattle.std.proofs.lemmas.List.{drop_more, drop_all}
 use Rattle.std.specs.Prelude.{Option, Some, None, Bool, true, false, ◌==◌, Result, Ok, Err, IfOk, IfErr}
 use Rattle.reply_kinds.specs.Kinds.{Kind}
-use Rattle.reply_grammar.specs.Fields.{◌>>=◌, Fails, Gives, if_end}
-use Rattle.reply_grammar.specs.declared.error.ReadError.{ReadError}
-use Rattle.reply_grammar.specs.declared.error.ReadError.TheVariants as errors
+use Rattle.reply_fields.specs.Fields.{◌>>=◌, Fails, Gives, if_end}
+use Rattle.reply_fields.specs.declared.error.ReadError.{ReadError}
+use Rattle.reply_fields.specs.declared.error.ReadError.TheVariants as errors
 use Rattle.lobby_lines.specs.declared.reply_table.ReplyKind.{ReplyKind}
 use Rattle.lobby_lines.specs.Replies.{kind_of}
 use Rattle.lobby_lines.specs.Fields.{Field, Laid, Adds}

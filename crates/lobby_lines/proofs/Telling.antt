@@ -7,7 +7,7 @@ use Rattle.reply_kinds.specs.declared.command_word.CommandWord.{CommandWord}
 use Rattle.reply_kinds.specs.declared.command_word.CommandWord.TheVariants as command
 use Rattle.reply_kinds.specs.Kinds.{Kind, Value, Values}
 use Rattle.reply_kinds.specs.Replies.{kinds_of, command_of, Line, ReadsAs}
-use Rattle.reply_grammar.specs.Fields.{◌>>=◌, if_end}
+use Rattle.reply_fields.specs.Fields.{◌>>=◌, if_end}
 use Rattle.reply_grammar.specs.Reading.{field, fields, shaped}
 use Rattle.reply_grammar.specs.Lines.{read_arguments, read_line, reply_of_values}
 use Rattle.reply_grammar.specs.Heads.{with_id}

@@ -1,7 +1,7 @@
 -- A line read as fields.
 use Rattle.std.specs.Prelude.{◌≡◌, ◌++◌, ℕ, List, [], ◌∷◌, Option, Some, None}
 use Rattle.reply_kinds.specs.Kinds.{Kind}
-use Rattle.reply_grammar.specs.Fields.{◌>>=◌, if_end}
+use Rattle.reply_fields.specs.Fields.{◌>>=◌, if_end}
 use Rattle.reply_grammar.specs.Reading.{field}
 use Rattle.lobby_lines.specs.Fields.{Field, Laid, Adds}
 use Rattle.lobby_lines.specs.Replies.{shown}

@@ -3,7 +3,7 @@
 ghost use Rattle.std.specs.Prelude.{IfErr, IfOk, [], flat_map, map};
 ghost use Rattle.reply_kinds.specs.Kinds as kind;
 ghost use Rattle.reply_kinds.specs.Replies.{battle_number, port_number, status_word};
-ghost use Rattle.reply_grammar.specs.Fields.{Fails};
+ghost use Rattle.reply_fields.specs.Fields.{Fails};
 ghost use Rattle.lobby_lines.specs.Fields.{Adds};
 ghost use Rattle.lobby_lines.specs.Reading.{field_seen, seen_from, Took, TookAll};
 ghost use Rattle.lobby_lines.specs.Replies.{kind_of, one_text, two_texts};

@@ -10,7 +10,7 @@ use Rattle.lobby_model.specs.declared.event.Event.{Event}
 use Rattle.lobby_model.specs.Events.{sent}
 use Rattle.lobby_model.specs.History.{after, put_in}
 use Rattle.lobby_model.proofs.Fixture.{start, anna, bert, right_word, connect, login, says, says_with}
-use Rattle.reply_grammar.specs.Fields.{piece_at, natural, whole, number_in, number_at, wide_at, flag_at, word_at, name_at, sentence_at, text_at}
+use Rattle.reply_fields.specs.Fields.{piece_at, natural, whole, number_in, number_at, wide_at, flag_at, word_at, name_at, sentence_at, text_at}
 use Rattle.reply_grammar.specs.Reading.{shaped}
 use Rattle.reply_grammar.specs.Lines.{named, read_body, read_numbered, read_line}
 use Rattle.lobby_view.specs.View.{Listed}

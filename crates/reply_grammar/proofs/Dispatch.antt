@@ -4,9 +4,9 @@ use Rattle.reply_kinds.specs.declared.command_word.CommandWord.{CommandWord}
 use Rattle.reply_kinds.specs.declared.Reply.{Reply}
 use Rattle.reply_kinds.specs.Kinds.{Values}
 use Rattle.reply_kinds.specs.Replies.{kinds_of}
-use Rattle.reply_grammar.specs.declared.error.ReadError.{ReadError}
-use Rattle.reply_grammar.specs.declared.error.ReadError.TheVariants as errors
-use Rattle.reply_grammar.specs.Fields.{◌>>=◌, Fails}
+use Rattle.reply_fields.specs.declared.error.ReadError.{ReadError}
+use Rattle.reply_fields.specs.declared.error.ReadError.TheVariants as errors
+use Rattle.reply_fields.specs.Fields.{◌>>=◌, Fails}
 use Rattle.reply_grammar.specs.Reading.{shaped}
 use Rattle.reply_grammar.specs.Lines.{read_arguments, reply_of_values}
 

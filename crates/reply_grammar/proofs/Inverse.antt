@@ -11,9 +11,9 @@ use Rattle.line_words.specs.Parts.{Ends}
 use Rattle.reply_kinds.specs.Kinds.{Kind, Word, Name, Number, Wide, Flag, OptionalWord, Words, Names, Sentence, NextSentence, Text, Pairs, Value, Values, fits, printed, all_fit, all_printed, words_text, pairs_text, pair_text, optional_text}
 use Rattle.line_words.specs.Kinds.{is_pair, is_some_word}
 use Rattle.reply_kinds.proofs.Table.{close_of, open_of, is_kind, goes_on, leads, is_row}
-use Rattle.reply_grammar.specs.Fields.{◌>>=◌, piece_at, many, if_is, pair_in, some, counted, word_at, name_at, sentence_at, text_at, optional_at, number_at, flag_at, flag_of, words_at, names_at, pairs_at}
+use Rattle.reply_fields.specs.Fields.{◌>>=◌, piece_at, many, if_is, pair_in, some, counted, word_at, name_at, sentence_at, text_at, optional_at, number_at, flag_at, flag_of, words_at, names_at, pairs_at}
 use Rattle.reply_grammar.specs.Reading.{field, fields}
-use Rattle.reply_grammar.proofs.Pieces.{bind_some, guard_some, some_is, piece_again, tested_again, tested_takes}
+use Rattle.reply_fields.proofs.Pieces.{bind_some, guard_some, some_is, piece_again, tested_again, tested_takes}
 use Rattle.reply_grammar.proofs.NumberFields.{number_again, number_takes, wide_again, wide_takes}
 use Rattle.reply_grammar.proofs.Several.{words_text-separated, pairs_text-separated, many_again, many_takes, word_prints, name_prints, pair_prints}
 

@@ -11,8 +11,8 @@ use Rattle.line_words.proofs.Splitting.{between-cons, from_ends}
 use Rattle.reply_kinds.specs.Kinds.{words_text, pairs_text, pair_text}
 use Rattle.line_words.specs.Kinds.{is_pair}
 use Rattle.reply_kinds.proofs.Bytes.{all_append, all_more}
-use Rattle.reply_grammar.specs.Fields.{◌>>=◌, all_of, many, if_is, pair_of, pair_in}
-use Rattle.reply_grammar.proofs.Pieces.{bind_some, guard_some, some_is}
+use Rattle.reply_fields.specs.Fields.{◌>>=◌, all_of, many, if_is, pair_of, pair_in}
+use Rattle.reply_fields.proofs.Pieces.{bind_some, guard_some, some_is}
 
 -- a byte before each
 abbrev pub separated : {A : Type 0} → (A → List ℕ) → ℕ → ℕ → List A → List ℕ

@@ -15,10 +15,10 @@ use Rattle.reply_kinds.specs.Kinds.{Kind, Pairs, Words, Values, all_fit, all_pri
 use Rattle.reply_kinds.specs.Replies.{word_of, kinds_of, command_of, values_of, Fits, body, line_text, IsId, Line, ReadsAs}
 use Rattle.reply_kinds.proofs.Decimals.{own, digits_words}
 use Rattle.reply_kinds.proofs.Table.{is_row, plain_word, rows}
-use Rattle.reply_grammar.specs.Fields.{◌>>=◌, number_in, if_end}
+use Rattle.reply_fields.specs.Fields.{◌>>=◌, number_in, if_end}
 use Rattle.reply_grammar.specs.Reading.{fields, shaped}
 use Rattle.reply_grammar.specs.Lines.{same, commands, named, reply_of_values, read_arguments, read_body, behind_space, read_numbered, read_line}
-use Rattle.reply_grammar.proofs.Pieces.{bind_some, guard_some, some_is}
+use Rattle.reply_fields.proofs.Pieces.{bind_some, guard_some, some_is}
 use Rattle.reply_grammar.proofs.NumberFields.{number_in_again, number_in_takes}
 use Rattle.reply_grammar.proofs.Inverse.{fields_again, fields_take, opens}
 

@@ -10,7 +10,7 @@ use Rattle.reply_kinds.specs.Opened.{opened_kinds}
 use Rattle.reply_kinds.specs.declared.opened_battle.OpenedBattle.{OpenedBattle}
 use Rattle.reply_kinds.specs.Replies.{word_of, kinds_of}
 use Rattle.line_words.specs.Parts.{before, from}
-use Rattle.reply_grammar.specs.Fields.{◌>>=◌, number_in}
+use Rattle.reply_fields.specs.Fields.{◌>>=◌, number_in}
 use Rattle.reply_grammar.specs.Reading.{shaped}
 
 -- the same bytes

@@ -2,8 +2,8 @@
 use Rattle.std.specs.Prelude.{ℕ, List, [], ◌∷◌, Option, Some}
 use Rattle.reply_kinds.specs.Kinds.{Kind, Word, Name, Number, Wide, Flag, OptionalWord, Words, Names, Sentence}
 use Rattle.reply_kinds.specs.Kinds.{NextSentence, Text, Pairs, Value, Values}
-use Rattle.reply_grammar.specs.Fields.{◌>>=◌, word_at, name_at, number_at, wide_at, flag_at, optional_at, words_at}
-use Rattle.reply_grammar.specs.Fields.{names_at, sentence_at, text_at, pairs_at, if_end}
+use Rattle.reply_fields.specs.Fields.{◌>>=◌, word_at, name_at, number_at, wide_at, flag_at, optional_at, words_at}
+use Rattle.reply_fields.specs.Fields.{names_at, sentence_at, text_at, pairs_at, if_end}
 
 -- one argument, and the bytes behind it
 abbrev pub field : (k : Kind) → List ℕ → Option (Value k × List ℕ)

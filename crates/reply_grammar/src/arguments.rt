@@ -2,7 +2,7 @@
 
 ghost use Rattle.std.specs.Prelude.{◌≡◌};
 ghost use Rattle.reply_grammar.specs.Reading.{field};
-ghost use Rattle.reply_grammar.specs.Fields.{Gives};
+ghost use Rattle.reply_fields.specs.Fields.{Gives};
 ghost use Rattle.reply_kinds.specs.Kinds as kinds;
 ghost use Rattle.reply_kinds.specs.Kinds.{Kind, Value};
 ghost use Rattle.reply_kinds.specs.Replies.{battle_number, port_number, status_word};

@@ -1,7 +1,7 @@
 //! What BATTLEOPENED tells of a battle behind its number.
 
 ghost use Rattle.reply_kinds.specs.Opened.{opened_kinds, opened_values};
-ghost use Rattle.reply_grammar.specs.Fields.{Gives};
+ghost use Rattle.reply_fields.specs.Fields.{Gives};
 ghost use Rattle.reply_grammar.specs.Reading.{fields};
 
 use crate::{ReadError, flag_at, name_at, sentence_at, small_at, u16_at, wide_at, word_at};

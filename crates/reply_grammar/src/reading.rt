@@ -2,7 +2,7 @@
 
 ghost use Rattle.std.specs.Prelude.{IfNone, IfOk, IfSome};
 ghost use Rattle.reply_grammar.specs.Lines.{read_arguments};
-ghost use Rattle.reply_grammar.specs.Fields.{Gives};
+ghost use Rattle.reply_fields.specs.Fields.{Gives};
 ghost use Rattle.reply_kinds.specs.Replies.{Line, ReadsAs};
 
 use crate::ReadError;

@@ -3,7 +3,7 @@
 
 ghost use Rattle.std.specs.Prelude.{◌≡◌, List, [], ◌∷◌};
 ghost use Rattle.reply_grammar.specs.Reading.{fields, shaped};
-ghost use Rattle.reply_grammar.specs.Fields.{Gives};
+ghost use Rattle.reply_fields.specs.Fields.{Gives};
 ghost use Rattle.reply_kinds.specs.Kinds.{Kind, Values};
 ghost use Rattle.reply_kinds.specs.Opened.{opened_kinds, opened_values};
 

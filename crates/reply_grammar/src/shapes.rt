@@ -3,7 +3,7 @@
 ghost use Rattle.std.specs.Prelude.{[], ◌∷◌};
 ghost use Rattle.reply_kinds.specs.Kinds.{Name, Text};
 ghost use Rattle.reply_kinds.specs.Replies.{status_word};
-ghost use Rattle.reply_grammar.specs.Fields.{Gives};
+ghost use Rattle.reply_fields.specs.Fields.{Gives};
 ghost use Rattle.reply_grammar.specs.Reading.{shaped};
 
 use crate::{ReadError, ended, name_at, text_at, u32_at};

@@ -1,8 +1,8 @@
 //! Reading one number, and the bytes behind it.
 
 ghost use Rattle.std.specs.Prelude.{◌≡◌, ◌≤◌, ℤ, ◌≤ℤ◌, IfErr, IfOk, Some, ◌==◌};
-ghost use Rattle.reply_grammar.specs.Fields.{Gives, begins_with, flag_at, is_canonical, number_at, number_in, wide_at};
-ghost use Rattle.reply_grammar.specs.Fields.{whole};
+ghost use Rattle.reply_fields.specs.Fields.{Gives, begins_with, flag_at, is_canonical, number_at, number_in, wide_at};
+ghost use Rattle.reply_fields.specs.Fields.{whole};
 
 use crate::error::ReadError;
 use crate::fields::piece_at;
