@@ -3,5 +3,4 @@ pub mod Following
 pub mod Kept
 pub mod Names
 pub mod Refused
-pub mod RoomKept
 pub mod Told

@@ -7,10 +7,10 @@ ghost use Rattle.lobby_view.specs.View.{new_view};
 ghost use Rattle.client_view.specs.Kept.{own_name};
 
 use crate::lists::{UndoableBattles, UndoableChannels, UndoableUsers};
-use crate::room::UndoableRoom;
 use line_words::NameBuf;
 use std::alloc::Global;
 use std::marker::Model;
+use view_room::UndoableRoom;
 
 /// What a client knows under one login. Each part notes its own changes.
 pub(crate) struct Known {

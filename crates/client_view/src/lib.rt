@@ -36,7 +36,6 @@ mod known;
 mod lists;
 mod pieces;
 mod reading;
-mod room;
 mod undoable_known;
 mod view;
 
@@ -45,5 +44,5 @@ pub use lists::{
     Battle, Battles, Channels, UndoableBattles, UndoableChannels, UndoableUsers, User, Users,
 };
 pub use lobby_view::{line_kinds_law, line_length_law, pieces_law, private_law, view_law};
-pub use room::{Bot, Member, OwnRoom, UndoableRoom};
 pub use view::View;
+pub use view_room::{Bot, Member, OwnRoom, UndoableRoom};

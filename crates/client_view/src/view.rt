@@ -9,10 +9,10 @@ ghost use Rattle.client_view.specs.Following.{Following, Followed, TookIn, HasNe
 use crate::error::ViewError;
 use crate::lists::{Battles, Channels, Users};
 use crate::pieces::{LINE_LIMIT, next_end, unfinished};
-use crate::room::OwnRoom;
 use crate::undoable_known::UndoableKnown;
 use std::alloc::Global;
 use std::marker::Model;
+use view_room::OwnRoom;
 
 /// What a client knows of the lobby, folded from the bytes that it was sent.
 pub struct View {

@@ -31,7 +31,7 @@ impl Known {
         ensures err { OnErr result (self.new ≡ self.old) }
     {
         let number = battle.0;
-        self.room.enter(number, self.battles.battles().get(&number))
+        self.room.enter(number, self.battles.members_of(number))
     }
 
     /// Only a founder's client is told a script password, and no client keeps it.

@@ -6,10 +6,10 @@ ghost use Rattle.lobby_view.specs.View.{shown};
 ghost use Rattle.noted_map.specs.Undoable.{Changes};
 
 use crate::known::Known;
-use crate::room::Bot;
 use reply_kinds::{BattleNumber, Name, Pairs, Sentence, UpTo, Wide, Word, Words};
 use room_lists::Rect;
 use std::alloc::AllocError;
+use view_room::Bot;
 
 impl Known {
     pub(crate) fn client_battle_status(

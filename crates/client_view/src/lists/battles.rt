@@ -1,11 +1,11 @@
 //! The battles, as all see them.
 
 ghost use Rattle.std.specs.Prelude.{◌≡◌, true, false, [], ◌∷◌, OnOk, OnErr};
-ghost use Rattle.line_words.specs.Table.{put_number, without_number, change_number, all_but};
+ghost use Rattle.line_words.specs.Table.{at_number, put_number, without_number, change_number, all_but};
 ghost use Rattle.noted_map.specs.Undoable.{Changes};
 ghost use Rattle.lobby_model.specs.Opened.{info_of};
 ghost use Rattle.lobby_model.specs.State.{updated};
-ghost use Rattle.lobby_view.specs.View.{change_members, change_listed_info, at_end};
+ghost use Rattle.lobby_view.specs.View.{change_members, change_listed_info, at_end, members_of};
 ghost use Rattle.client_view.specs.Battles.{with_update, battle_after, battle_back};
 
 use crate::lists::names::{Names, NamesChange, NamesWere};
@@ -192,6 +192,16 @@ impl UndoableBattles {
         ensures { result ≡ self.now.now }
     {
         self.by_number.entries()
+    }
+
+    /// The names of the members of a battle in order of joining, none where no battle has the number.
+    pub(crate) fn members_of(&self, number: u32) -> &[NameBuf]
+        ensures { result.now ≡ members_of (at_number self.now.now number) }
+    {
+        match self.battles().get(&number) {
+            Some(battle) => battle.members(),
+            None => &[],
+        }
     }
 
     /// A battle opens, in place of one of the number: its founder alone is in it, nobody watches, and it is not

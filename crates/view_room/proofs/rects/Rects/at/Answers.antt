@@ -3,7 +3,7 @@ use Rattle.std.specs.Ordering.{nat_cmp}
 use Rattle.line_words.specs.Table.{at_number, ByNumber}
 use Rattle.line_words.proofs.Tables.{lookup_is_find}
 use Rattle.room_lists.specs.Room.{Rect}
-use Rattle.client_view.proofs.room.rects.Rects.at.Goals as goal
+use Rattle.view_room.proofs.rects.Rects.at.Goals as goal
 
 pub returns : goal.returns
 returns c =

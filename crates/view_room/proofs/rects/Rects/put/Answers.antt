@@ -3,7 +3,7 @@ use Rattle.std.specs.Ordering.{nat_cmp}
 use Rattle.line_words.specs.Table.{put_number, ByNumber}
 use Rattle.line_words.proofs.Tables.{insert_is_put}
 use Rattle.room_lists.specs.Room.{Rect}
-use Rattle.client_view.proofs.room.rects.Rects.put.Goals as goal
+use Rattle.view_room.proofs.rects.Rects.put.Goals as goal
 
 pub returns-clause-ok : goal.returns-clause-ok
 returns-clause-ok c =

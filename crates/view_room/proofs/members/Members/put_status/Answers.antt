@@ -4,7 +4,7 @@ use Rattle.std.specs.List.{slice_set}
 use Rattle.std.proofs.lemmas.List.Edits.{map_over_more}
 use Rattle.line_words.specs.Table.{same_name}
 use Rattle.room_lists.specs.Room as room
-use Rattle.client_view.proofs.room.members.Members.put_status.Goals as goal
+use Rattle.view_room.proofs.members.Members.put_status.Goals as goal
 
 pub loop-member-preserved : goal.loop-member-preserved
 loop-member-preserved c =

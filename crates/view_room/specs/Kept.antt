@@ -5,9 +5,9 @@ use Rattle.line_words.specs.Table.{ByNumber}
 use Rattle.line_words.specs.declared.lists.Pair.{Pair}
 use Rattle.room_lists.specs.Room.{Member, Bot, Rect}
 use Rattle.lobby_view.specs.View.{OwnRoom}
-use Rattle.client_view.specs.declared.room.before.KeptLists.{KeptLists}
-use Rattle.client_view.specs.declared.room.before.Before.{Before}
-use Rattle.client_view.specs.declared.room.before.Before.TheVariants.{Unnoted, Lists, Replaced}
+use Rattle.view_room.specs.declared.before.KeptLists.{KeptLists}
+use Rattle.view_room.specs.declared.before.Before.{Before}
+use Rattle.view_room.specs.declared.before.Before.TheVariants.{Unnoted, Lists, Replaced}
 
 -- a list as it was, which is as it is now where none is kept
 abbrev pub or_now : {A : Type 0} → Option A → A → A

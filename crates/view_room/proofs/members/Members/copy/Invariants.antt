@@ -1,5 +1,5 @@
 use Rattle.std.proofs.Common.{◌≡◌, take}
-use Rattle.client_view.proofs.room.members.Members.copy.Given as goal
+use Rattle.view_room.proofs.members.Members.copy.Given as goal
 
 abbrev pub invariant-loop-member : goal.invariant-loop-member
 invariant-loop-member l = l.members.items ≡ take l.member-index l.member-items

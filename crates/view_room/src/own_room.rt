@@ -1,13 +1,12 @@
 //! The room of the battle that the client is in.
 
-ghost use Rattle.std.specs.Prelude.{◌≡◌, IfOk, length, option_copied};
+ghost use Rattle.std.specs.Prelude.{◌≡◌, IfOk, length};
 ghost use Rattle.line_words.specs.Table.{at_number, same_number};
-ghost use Rattle.lobby_view.specs.View.{entered};
+ghost use Rattle.lobby_view.specs.View.{room_of};
 
-use crate::lists::Battle;
-use crate::room::members::{Member, Members};
-use crate::room::rects::Rects;
-use line_words::{Pair, WordBuf};
+use crate::members::{Member, Members};
+use crate::rects::Rects;
+use line_words::{NameBuf, Pair, WordBuf};
 use room_lists::{Bots, HashSeed, Rect, Tags, Units};
 use std::alloc::{AllocError, Global};
 use std::marker::Model;
@@ -58,19 +57,16 @@ impl Model for OwnRoom {
 }
 
 impl OwnRoom {
-    /// The room of a battle that the client enters. Nothing is told yet of the members that the battle
-    /// is known to have.
+    /// The room of a battle that the client enters. Its members are known by these names, and nothing else is told of
+    /// them yet.
     pub(crate) fn entered(
         alloc: Global,
         number: u32,
-        battle: Option<&Battle>,
+        names: &[NameBuf],
     ) -> Result<OwnRoom, AllocError>
-        ensures { IfOk result (λ own. own ≡ entered number (option_copied battle.entry)) }
+        ensures { IfOk result (λ own. own ≡ record { battle = number; room = room_of names.now }) }
     {
-        let members = match battle {
-            Some(battle) => Members::of(alloc, battle.members())?,
-            None => Members::new(alloc),
-        };
+        let members = Members::of(alloc, names)?;
         let seed = HashSeed::known();
         Ok(OwnRoom {
             battle: number,

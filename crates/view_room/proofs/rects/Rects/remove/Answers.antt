@@ -4,7 +4,7 @@ use Rattle.std.specs.Cmp.{nat_cmp_total}
 use Rattle.line_words.specs.Table.{without_number, ByNumber}
 use Rattle.line_words.proofs.Written.{remove_is_without}
 use Rattle.room_lists.specs.Room.{Rect}
-use Rattle.client_view.proofs.room.rects.Rects.remove.Goals as goal
+use Rattle.view_room.proofs.rects.Rects.remove.Goals as goal
 
 pub returns : goal.returns
 returns c =

@@ -77,15 +77,6 @@ impl Model for Members {
 }
 
 impl Members {
-    /// No members. It takes no memory yet.
-    pub(crate) fn new(alloc: Global) -> Members
-        ensures { result ≡ [] }
-    {
-        Members {
-            members: Vec::new(alloc),
-        }
-    }
-
     /// A copy. Fails only where memory is refused.
     pub(crate) fn copy(&self, alloc: Global) -> Result<Members, AllocError>
         ensures { IfOk result (λ copy. copy ≡ self.now) }

@@ -3,12 +3,11 @@
 
 ghost use Rattle.std.specs.Prelude.{◌≡◌, ℕ, List, Option, Some, None, true, false, IsOk, OnOk, OnErr, option_copied};
 ghost use Rattle.room_lists.specs.Room as room;
-ghost use Rattle.lobby_view.specs.View.{OwnRoom, entered, if_of, in_own_room, in_room_of};
+ghost use Rattle.lobby_view.specs.View.{OwnRoom, room_of, if_of, in_own_room, in_room_of};
 ghost use Rattle.noted_map.specs.Undoable.{Changes};
 
-use crate::lists::Battle;
-use crate::room::before::{Before, KeptLists};
-use crate::room::own_room::{Bot, OwnRoom};
+use crate::before::{Before, KeptLists};
+use crate::own_room::{Bot, OwnRoom};
 use line_words::{NameBuf, PairList, WordBuf, WordList};
 use room_lists::Rect;
 use std::alloc::{AllocError, Global};
@@ -39,7 +38,7 @@ impl Model for UndoableRoom {
     ghost use Rattle.std.specs.Prelude.{Option};
     ghost use Rattle.lobby_view.specs.View.{OwnRoom};
     ghost use Rattle.noted_map.specs.Undoable.{Undoable};
-    ghost use Rattle.client_view.specs.RoomKept.{was, is_noted};
+    ghost use Rattle.view_room.specs.Kept.{was, is_noted};
 
     ghost Value = { Undoable (Option OwnRoom) };
 
@@ -105,12 +104,14 @@ impl UndoableRoom {
         }
     }
 
-    /// The client enters a battle. Where memory is refused, nothing changes.
-    pub fn enter(&mut self, number: u32, battle: Option<&Battle>) -> Result<(), AllocError>
-        ensures ok { OnOk result (Changes (λ o. Some (entered number (option_copied battle.entry))) self.old self.new) }
+    /// The client enters a battle. Its members are known by these names, none where the battle is not known, and
+    /// nothing else is told of them yet. Where memory is refused, nothing changes.
+    pub fn enter(&mut self, number: u32, names: &[NameBuf]) -> Result<(), AllocError>
+        ensures ok { OnOk result (Changes (λ o. Some (record { battle = number; room = room_of names.now })) self.old
+            self.new) }
         ensures err { OnErr result (self.new ≡ self.old) }
     {
-        let own = OwnRoom::entered(self.alloc, number, battle)?;
+        let own = OwnRoom::entered(self.alloc, number, names)?;
         self.replace(Some(own));
         Ok(())
     }

@@ -3,7 +3,7 @@ use Rattle.std.specs.Prelude.{List, filter}
 use Rattle.std.proofs.lemmas.Fn.{filter_same}
 use Rattle.line_words.specs.Table.{same_name}
 use Rattle.room_lists.specs.Room as room
-use Rattle.client_view.proofs.room.members.Members.remove.Goals as goal
+use Rattle.view_room.proofs.members.Members.remove.Goals as goal
 
 pub returns : goal.returns
 returns c =

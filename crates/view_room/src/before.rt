@@ -3,12 +3,12 @@
 ghost use Rattle.std.specs.Prelude.{◌≡◌, Option, Some, None, true, false, IsOk, OnOk, OnErr, IfOk};
 ghost use Rattle.std.specs.Option.{option_map};
 ghost use Rattle.lobby_view.specs.View.{OwnRoom};
-ghost use Rattle.client_view.specs.RoomKept.{or_now, restored, was, is_noted, keeping};
-ghost use Rattle.client_view.specs.RoomKept.{keep_members, keep_bots, keep_rects, keep_tags, keep_units};
+ghost use Rattle.view_room.specs.Kept.{or_now, restored, was, is_noted, keeping};
+ghost use Rattle.view_room.specs.Kept.{keep_members, keep_bots, keep_rects, keep_tags, keep_units};
 
-use crate::room::members::Members;
-use crate::room::own_room::OwnRoom;
-use crate::room::rects::Rects;
+use crate::members::Members;
+use crate::own_room::OwnRoom;
+use crate::rects::Rects;
 use room_lists::{Bots, Tags, Units};
 use std::alloc::{AllocError, Global};
 

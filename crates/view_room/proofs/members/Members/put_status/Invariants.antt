@@ -2,7 +2,7 @@ use Rattle.std.proofs.Common.{◌≡◌, ◌++◌, take, drop}
 use Rattle.std.specs.Prelude.{map, if◌then◌else◌}
 use Rattle.line_words.specs.Table.{same_name}
 use Rattle.room_lists.specs.Room as room
-use Rattle.client_view.proofs.room.members.Members.put_status.Given as goal
+use Rattle.view_room.proofs.members.Members.put_status.Given as goal
 
 abbrev pub invariant-loop-member : goal.invariant-loop-member
 invariant-loop-member l = l.member-items
