@@ -1,10 +1,13 @@
 -- The events of a hold, and what is kept of them for a record.
 use Rattle.std.specs.Prelude.{ℕ, ◌+◌, Bool, cond, List, [], ◌∷◌, ◌++◌, length, min}
+use Rattle.command_grammar.specs.declared.command.Request.{Request}
 use Rattle.lobby_model.specs.declared.event.Event.{Event}
 use Rattle.lobby_model.specs.declared.event.Event.TheVariants as event
 use Rattle.lobby_model.specs.State.{State}
 use Rattle.lobby_model.specs.Next.{next}
 use Rattle.lobby_machine.specs.Shown.{unread_of}
+use Rattle.lobby_lock.specs.declared.event_log.Kind.{Kind}
+use Rattle.lobby_lock.specs.declared.event_log.Kind.TheVariants as kind
 use Rattle.lobby_lock.specs.declared.made.MadeEvent.{MadeEvent}
 use Rattle.lobby_lock.specs.Counts.{last_count}
 
@@ -34,6 +37,13 @@ none_yet keeps = record { keeps = keeps; events = [] }
 
 abbrev pub with_kept : ShownKept → MadeEvent → ShownKept
 with_kept kept made = record kept { events = cond kept.keeps (kept.events ++ made ∷ []) kept.events }
+
+-- an event as a hold notes it: what it is, and the request of a line
+abbrev pub event_of : Kind × Request → Event
+event_of (kind.Open ip home, request) = event.Open ip home
+event_of (kind.Say client, request) = event.Say client request
+event_of (kind.Shut client, request) = event.Shut client
+event_of (kind.Drain client count, request) = event.Drain client count
 
 -- What a hold notes: how many events the history has before its own, these, and what is kept of them
 pub record Noted : Type 0 where

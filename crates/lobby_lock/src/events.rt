@@ -1,12 +1,14 @@
 //! The events of a hold. Their list is for proofs alone, but for those that are kept.
 
-ghost use Rattle.std.specs.Prelude.{◌≡◌, ◌+◌, ◌<◌, [], length, min};
+ghost use Rattle.std.specs.Prelude.{◌≡◌, ◌+◌, ◌<◌, [], false, length, min};
+ghost use Rattle.lobby_model.specs.declared.event.Event.TheVariants as event;
 ghost use Rattle.lobby_lock.specs.Counts.{last_count};
 ghost use Rattle.lobby_lock.specs.Events.{with_event};
 
 use crate::desk::MOST_EVENTS;
+use crate::event_log::EventLog;
 use crate::kept::Kept;
-use http_server::Log;
+use command_grammar::Request;
 use lobby_model::Event;
 use std::marker::Model;
 
@@ -16,20 +18,19 @@ use std::marker::Model;
 pub(crate) struct Events {
     position: u64,
     count: usize,
-    log: Log<Event, ()>,
+    log: EventLog,
     kept: Kept,
 }
 
 impl Model for Events {
-    ghost use Rattle.std.specs.Prelude.{◌≡◌, ◌≤◌, map, length};
+    ghost use Rattle.std.specs.Prelude.{◌≡◌, ◌≤◌, length};
     ghost use Rattle.lobby_lock.specs.Events.{Noted};
 
     ghost Value = { Noted };
 
-    ghost view = { λ e. record { position = e.position; events = map (λ noted. noted.0) e.log.items; kept = e.kept } };
+    ghost view = { λ e. record { position = e.position; events = e.log; kept = e.kept } };
 
-    ghost invariant = { λ e. (e.count ≡ length e.log.items)
-        × (length e.kept.events ≤ length e.log.items) };
+    ghost invariant = { λ e. (e.count ≡ length e.log) × (length e.kept.events ≤ length e.log) };
 }
 
 impl Events {
@@ -41,7 +42,7 @@ impl Events {
         Events {
             position,
             count: 0,
-            log: Log::new(),
+            log: EventLog::new(),
             kept,
         }
     }
@@ -67,15 +68,32 @@ impl Events {
         self.position.saturating_add(self.count as u64)
     }
 
+    /// Whether they are kept.
+    pub(crate) fn keeps(&self) -> bool
+        ensures { result ≡ self.now.kept.keeps }
+    {
+        self.kept.keeps()
+    }
+
     /// One event more, with what it gave.
     pub(crate) fn add(&mut self, event: Event, gain: u64)
         requires { length self.old.events < MOST_EVENTS }
         ensures { self.new ≡ with_event self.old event gain }
     {
         let place = self.position_behind();
-        self.log = self.log.and(&event, &());
+        self.log = self.log.and(&event);
         self.count += 1;
         self.kept.add(place, event, gain);
+    }
+
+    /// One event more where none is kept: a client's line was read as this request, which stays where it lies.
+    pub(crate) fn add_unkept(&mut self, client: u64, request: &Request)
+        requires few { length self.old.events < MOST_EVENTS }
+        requires unkept { self.old.kept.keeps ≡ false }
+        ensures { self.new ≡ with_event self.old (event.Say client request.now) 0 }
+    {
+        self.log = self.log.and_said(client, request);
+        self.count += 1;
     }
 
     /// What is kept of them.

@@ -103,7 +103,12 @@ impl Held {
     {
         match self.lobby.say(client, &request) {
             Ok(wakes) => {
-                self.events.add(Event::Say { client, request }, 0);
+                if self.events.keeps() {
+                    self.events.add(Event::Say { client, request }, 0);
+                } else {
+                    self.events.add_unkept(client, &request);
+                    request.discard();
+                }
                 Ok(wakes)
             }
             Err(error) => {

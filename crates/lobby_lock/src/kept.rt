@@ -57,6 +57,13 @@ impl Kept {
         }
     }
 
+    /// Whether events are kept.
+    pub(crate) fn keeps(&self) -> bool
+        ensures { result ≡ self.now.keeps }
+    {
+        self.made.is_some()
+    }
+
     /// Whether none is left.
     pub(crate) fn is_empty(&self) -> bool
         ensures { result ≡ (length self.now.events == 0) }

@@ -20,6 +20,7 @@
 mod closing;
 mod desk;
 mod event_count;
+mod event_log;
 mod events;
 mod held;
 mod kept;
