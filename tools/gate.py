@@ -22,6 +22,8 @@ CHECKS = ["rows.sh", "programs.sh", "serve.sh", "proxy.py", "log.py", "stopping.
 # One that takes half as much again as any may fails the gate.
 BUDGET, LIMIT = 300, 400
 FAR = 1.5 * LIMIT
+# Machines differ by three times: on one that takes longer than this for the proof of the lowest crate, all may take so many times as long.
+LOWEST, LOWEST_TAKES = "line_words", 60
 KINDS = ["proof", "tests", "programs", "edits"]
 TICK = os.sysconf("SC_CLK_TCK")
 # Seconds between two looks. What a process takes between the last look and its end is told apart.
@@ -122,12 +124,18 @@ def seconds_of(sums, crate, kind):
     return sum(seconds for key, seconds in sums.items() if key[0] == crate and key[1] == kind)
 
 
+def slowness(sums):
+    """How many times as long as elsewhere a proof takes here, as far as this run can tell; 1 where it does not take longer."""
+    return max(1.0, seconds_of(sums, LOWEST, "proof") / LOWEST_TAKES)
+
+
 def far_over(sums):
     """A line for each crate whose proof takes far more than any may."""
+    times = slowness(sums)
     for crate in sorted({crate for crate, _, _ in sums if crate}):
         proof = seconds_of(sums, crate, "proof")
-        if proof > FAR:
-            yield f"the proof of {crate} takes {proof:.0f} seconds of a processor, and none may take more than {LIMIT}: FAILED"
+        if proof > FAR * times:
+            yield f"the proof of {crate} takes {proof:.0f} seconds of a processor, and none may take more than {LIMIT * times:.0f} here: FAILED"
 
 
 def paths():
@@ -144,10 +152,11 @@ def paths():
 def table(sums, whole, minutes):
     """The lines of the table."""
     crates = sorted({crate for crate, _, _ in sums if crate}, key=lambda it: -sum(s for k, s in sums.items() if k[0] == it))
+    times = slowness(sums)
     yield f"{'seconds of a processor':24}" + "".join(f"{it:>10}" for it in [*KINDS, "sum"])
     for crate in crates:
         each = [seconds_of(sums, crate, it) for it in KINDS]
-        note = "  over its limit" if each[0] > LIMIT else "  over its budget" if each[0] > BUDGET else ""
+        note = "  over its limit" if each[0] > LIMIT * times else "  over its budget" if each[0] > BUDGET * times else ""
         yield f"{crate:24}" + "".join(f"{it:10.0f}" for it in [*each, sum(each)]) + note
     each = [sum(seconds_of(sums, crate, it) for crate in crates) for it in KINDS]
     yield f"{'all crates':24}" + "".join(f"{it:10.0f}" for it in [*each, sum(each)])
