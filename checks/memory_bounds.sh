@@ -1,17 +1,17 @@
 #!/usr/bin/env bash
-# memory_bounds.sh [PROGRAM]: counts what memory a lobby asks for and keeps, by memory_bounds as the gate built it, or
+# memory_bounds.sh [PROGRAM]: counts what memory a lobby asks for and keeps, by memory_trials as the gate built it, or
 # by another build of it. The program shows each rule behind the most that it allows: growths, bytes asked for, and
 # bytes kept; the library that counts tells how many there were. A part that is answered that memory was refused has no
 # such numbers, and fails.
 set -euo pipefail
-program=$(realpath -m "${1:-$(dirname "$0")/../crates/memory_bounds/out/memory_bounds}")
+program=$(realpath -m "${1:-$(dirname "$0")/../crates/memory_trials/out/memory_trials}")
 [ -x "$program" ] || { echo "there is no $program: make test builds it"; exit 1; }
 cd "$(dirname "$0")/.."
 room=$(mktemp -d)
 trap 'rm -rf "$room"' EXIT
 checks/build_library.sh checks/refuse_allocation.c "$room/refuse_allocation.so"
 got=0
-LD_PRELOAD="$room/refuse_allocation.so" timeout 120 "$program" > "$room/bounds" 2> "$room/counts" || got=$?
+LD_PRELOAD="$room/refuse_allocation.so" timeout 120 "$program" bounds > "$room/bounds" 2> "$room/counts" || got=$?
 paste -d ' ' "$room/counts" "$room/bounds" | awk -v status="$got" '
     /^[0-9]+ [0-9]+ -?[0-9]+ [0-9]+ [0-9]+ [0-9]+ / {
         if ($1 <= $4 && $2 <= $5 && $3 <= $6) { passed++; next }

@@ -16,7 +16,7 @@ kind() {
     echo "$1: $(grep -c . <<< "$found" || true)"
     sed 's/^./  &/' <<< "$found"
 }
-tests='^crates/(leaf_tests|lobby_tests|leaf_trials|memory_trials|turn_trials|memory_bounds|test_lobby)/|^(rows|bench|checks|front|python/tests)/'
+tests='^crates/(leaf_tests|lobby_tests|memory_trials|test_lobby)/|^(rows|bench|checks|front|python/tests)/'
 files=$(git grep -lE "(\b|_)$word\b|\b$variant\b|$name" | sort)
 kind tests "$tests" <<< "$files"
 files=$(grep -vE "$tests" <<< "$files" || true)

@@ -8,6 +8,5 @@ pub mod Checks
 pub mod Taken
 pub mod ArgumentBounds
 pub mod Lines
-pub mod Whole
 pub mod Examples
 pub mod Bounds

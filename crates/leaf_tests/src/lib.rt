@@ -16,6 +16,8 @@ mod keys;
 #[cfg(test)]
 mod lists;
 #[cfg(test)]
+mod looks;
+#[cfg(test)]
 mod outboxes;
 #[cfg(test)]
 mod records;

@@ -9,6 +9,7 @@ use command_grammar::{Command, Request};
 use http_server::Log;
 use lobby_model::Event;
 use std::marker::Model;
+use std::mem::ManuallyDrop;
 
 /// What an event is, but for the request of a line, which is noted beside it where it lies.
 #[derive(Clone, Copy)]
@@ -54,10 +55,7 @@ impl EventLog {
             }),
             Event::Say { client, request } => self.and_said(*client, request),
             Event::Shut { client } => self.and_other(Kind::Shut { client: *client }),
-            Event::Drain { client, count } => self.and_other(Kind::Drain {
-                client: *client,
-                count: *count,
-            }),
+            Event::Drain { client, count } => self.and_drained(*client, *count),
         }
     }
 
@@ -70,16 +68,24 @@ impl EventLog {
         }
     }
 
+    /// One event more: a client was drained into a slice of so many bytes.
+    pub(crate) fn and_drained(&self, client: u64, count: usize) -> EventLog
+        ensures { result ≡ self.now ++ event.Drain client count ∷ [] }
+    {
+        self.and_other(Kind::Drain { client, count })
+    }
+
     /// One event more, which has no request: a blank one stands for it.
     fn and_other(&self, kind: Kind) -> EventLog
         ensures { result ≡ self.now ++ event_of (kind, record { id = None; command = command.Blank }) ∷ [] }
     {
-        let none = Request {
+        // Nothing of it is to be let go.
+        let none = ManuallyDrop::new(Request {
             id: None,
             command: Command::Blank,
-        };
-        let noted = self.noted.and(&kind, &none);
-        none.discard();
-        EventLog { noted }
+        });
+        EventLog {
+            noted: self.noted.and(&kind, &none),
+        }
     }
 }

@@ -3,7 +3,7 @@
 ghost use Rattle.std.specs.Prelude.{◌≡◌, ◌+◌, ◌<◌, [], false, length, min};
 ghost use Rattle.lobby_model.specs.declared.event.Event.TheVariants as event;
 ghost use Rattle.lobby_lock.specs.Counts.{last_count};
-ghost use Rattle.lobby_lock.specs.Events.{with_event};
+ghost use Rattle.lobby_lock.specs.Events.{none_yet, with_event};
 
 use crate::desk::MOST_EVENTS;
 use crate::event_log::EventLog;
@@ -11,6 +11,7 @@ use crate::kept::Kept;
 use command_grammar::Request;
 use lobby_model::Event;
 use std::marker::Model;
+use std::mem;
 
 /// The events that a hold has made, in their order. Contracts see their list, how many the history has before them, and
 /// what is kept of them.
@@ -94,6 +95,24 @@ impl Events {
     {
         self.log = self.log.and_said(client, request);
         self.count += 1;
+    }
+
+    /// One event more where none is kept: a client was drained into a slice of so many bytes, whatever came.
+    pub(crate) fn add_drained(&mut self, client: u64, count: usize, came: u64)
+        requires few { length self.old.events < MOST_EVENTS }
+        requires unkept { self.old.kept.keeps ≡ false }
+        ensures { self.new ≡ with_event self.old (event.Drain client count) came }
+    {
+        self.log = self.log.and_drained(client, count);
+        self.count += 1;
+    }
+
+    /// Takes what is kept of them. From now on none is kept.
+    pub(crate) fn take_kept(&mut self) -> Kept
+        ensures taken { result ≡ self.old.kept }
+        ensures rest { self.new ≡ record self.old { kept = none_yet false } }
+    {
+        mem::replace(&mut self.kept, Kept::nothing())
     }
 
     /// What is kept of them.

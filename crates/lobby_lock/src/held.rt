@@ -151,7 +151,11 @@ impl Held {
         let count = into.len();
         let drained = self.lobby.drain(client, into);
         let came = drained.count as u64;
-        self.events.add(Event::Drain { client, count }, came);
+        if self.events.keeps() {
+            self.events.add(Event::Drain { client, count }, came);
+        } else {
+            self.events.add_drained(client, count, came);
+        }
         drained
     }
 
@@ -198,21 +202,12 @@ impl Held {
         self.lobby.copy_unread(client, from, into)
     }
 
-    /// Gives the lobby back, as `lay_down` does, and lets go what was kept of the events.
+    /// Gives the lobby back as the hold has it, with its lists of changed clients, and ends the hold: its
+    /// events join the history under its worker's number, behind all that the worker has seen. Another
+    /// worker may then take the lobby. What was kept of the events is let go.
     pub fn give<R: Wait>(self, rt: &R, desk: &Desk) -> Pass
         requires { self.pass.desk ≡ desk.now }
         ensures { result ≡ pass_after self }
-    {
-        self.lay_down(rt, desk).pass()
-    }
-
-    /// Gives the lobby back as the hold has it, with its lists of changed clients, and ends the hold: its
-    /// events join the history under its worker's number, behind all that the worker has seen. Another
-    /// worker may then take the lobby. What the hold kept of its events is here to be taken.
-    pub fn lay_down<R: Wait>(self, rt: &R, desk: &Desk) -> Made
-        requires { self.pass.desk ≡ desk.now }
-        ensures pass { result.pass ≡ pass_after self }
-        ensures events { result.events ≡ made_in self }
     {
         let Held {
             mut inner,
@@ -229,16 +224,25 @@ impl Held {
         };
         put_back::<Brand, R>(rt, &desk.place, &mut inner, laid, &events);
         desk.event_count.notify();
-        let pass = Pass {
+        let mut kept = events.into_kept();
+        kept.clear();
+        Pass {
             inner,
             number,
             handed,
             counts: Counts { made, places },
-            kept: Kept::nothing(),
-        };
-        Made {
-            pass,
-            kept: events.into_kept(),
+            kept,
         }
+    }
+
+    /// Gives the lobby back, as `give` does. What the hold kept of its events is here to be taken.
+    pub fn lay_down<R: Wait>(mut self, rt: &R, desk: &Desk) -> Made
+        requires { self.pass.desk ≡ desk.now }
+        ensures pass { result.pass ≡ pass_after self }
+        ensures events { result.events ≡ made_in self }
+    {
+        let kept = self.events.take_kept();
+        let pass = self.give(rt, desk);
+        Made { pass, kept }
     }
 }

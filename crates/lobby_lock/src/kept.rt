@@ -13,7 +13,7 @@ use std::marker::Model;
 /// The events that are kept, in their order, or none. Contracts see whether they are, and their list.
 #[derive(Drop)]
 pub(crate) struct Kept {
-    made: Option<VecDeque<MadeEvent>>,
+    made: Option<Box<VecDeque<MadeEvent>>>,
 }
 
 impl Model for Kept {
@@ -25,9 +25,9 @@ impl Model for Kept {
     ghost Value = { ShownKept };
 
     ghost view = { λ k. record
-        { keeps = is_some k.made; events = unwrap_or (option_map (λ made. made.items) k.made) [] } };
+        { keeps = is_some k.made; events = unwrap_or (option_map (λ made. made.value.items) k.made) [] } };
 
-    ghost invariant = { λ k. IfSome k.made (λ made. 32 ≤ deque_capacity made) };
+    ghost invariant = { λ k. IfSome k.made (λ made. 32 ≤ deque_capacity made.value) };
 }
 
 impl Kept {
@@ -43,7 +43,10 @@ impl Kept {
         ensures { IfOk result (λ kept. kept ≡ none_yet true) }
     {
         let made = VecDeque::with_capacity(alloc, MOST_EVENTS)?;
-        Ok(Kept { made: Some(made) })
+        match Box::new(alloc, made) {
+            Ok(made) => Ok(Kept { made: Some(made) }),
+            Err(_) => Err(AllocError),
+        }
     }
 
     /// One event more behind so many others, with what it gave. It is let go where none is kept.

@@ -30,11 +30,14 @@ impl<G: Gate> GatedDesk<'_, G> {
         self.desk.take(rt, pass)
     }
 
-    /// Gives the lobby back, and then hands the gate the events of the hold, if they were kept.
+    /// Gives the lobby back, and then hands the gate the events of the hold, if it wants them and they were kept.
     pub fn give<R: Wait>(&self, rt: &R, held: Held) -> Pass
         requires { held.pass.desk ≡ self.now.desk.now }
         ensures { result ≡ pass_after held }
     {
+        if !self.gate.wants_events() {
+            return held.give(rt, self.desk);
+        }
         let mut made = held.lay_down(rt, self.desk);
         self.gate.made(&mut made);
         made.pass()

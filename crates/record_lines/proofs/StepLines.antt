@@ -117,6 +117,16 @@ pub put_so : (place : ℕ) (s : Step) (old a b new : List ℕ) → a ≡ old ++ 
 put_so place s old a b new p q r few ranges =
     (pieces old (front place (step_verb s) (label_of s)) (printed_rest s) (10 ∷ []) a b new p q r, few, ranges)
 
+-- all of it at once
+pub put_whole : (place : ℕ) (s : Step) (old line new : List ℕ)
+    → line ≡ (front place (step_verb s) (label_of s) ++ printed_rest s) ++ 10 ∷ [] → new ≡ old ++ line → place < 2 ^ 64
+    → HasRanges s → Prints place s old new
+put_whole place s old line new p q few ranges = (
+  q ∙ ap (λ (t : List ℕ). old ++ t) (p ∙ append_assoc (front place (step_verb s) (label_of s)) (printed_rest s) (10 ∷ [])),
+  few,
+  ranges,
+)
+
 -- its front and its LF
 pub put_bare : (place : ℕ) (s : Step) (old a new : List ℕ) → printed_rest s ≡ []
     → a ≡ old ++ front place (step_verb s) (label_of s) → new ≡ a ++ 10 ∷ [] → place < 2 ^ 64 → HasRanges s

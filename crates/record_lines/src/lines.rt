@@ -1,17 +1,24 @@
 //! The line of each step, behind the place of its event.
 #![tactic(auto, using(reply_printer::proofs::Kept::front_more, reply_printer::proofs::Kept::front_all))]
 
-ghost use Rattle.std.specs.Prelude.{◌≡◌, ◌<◌, ◌≤◌, ◌^◌, [], ◌∷◌, ◌++◌, decimal, IfOk, OnOk, IfErr, slice_index};
+ghost use Rattle.std.specs.Prelude.{◌≡◌, ◌<◌, ◌≤◌, ◌+◌, ◌^◌, [], ◌∷◌, ◌++◌, decimal, IfOk, OnOk, IfErr};
+ghost use Rattle.std.specs.Prelude.{length, slice_index};
+ghost use Rattle.arrayvec.specs.ArrayVec.{array_vec_len};
 ghost use Rattle.proxy_line.specs.Words.{dotted};
 ghost use Rattle.reply_printer.specs.Fronts.{Keeps};
-ghost use Rattle.record_lines.specs.Steps.{Open, Send, Take, Read, Shut};
+ghost use Rattle.record_lines.specs.Steps.{Open, Send, Take, Read, Shut, step_verb};
 ghost use Rattle.record_lines.specs.Printed.{AreOctets, NumberRefused, Prints, StepRefused, escaped, front};
 
 use crate::escapes::put_escaped;
 use crate::fault::RecordFault;
+use arrayvec::ArrayVec;
 use itoa::Buffer;
-use reply_printer::pieces::{put_behind, put_end, put_number};
+use reply_printer::pieces::{put_behind, put_end};
 use std::alloc::AllocError;
+
+/// The most bytes of a line that has no address and nothing that a client said: a place of 20 digits, a word of four
+/// letters, two numbers of ten, three spaces and an LF. Such a line is appended at once, since most are of one kind.
+const SHORT: usize = 48;
 
 /// Appends the line with which a client connects. The functions behind this one are for the other steps.
 pub(crate) fn put_open(
@@ -66,9 +73,8 @@ pub(crate) fn put_read(
     ensures refused { IfErr result (λ e. StepRefused e (Read label count)) }
     ensures kept { Keeps out.old.items out.new.items }
 {
-    put_front(out, place, b"read", label)?;
-    put_number(out, small(count)?)?;
-    put_end(out)?;
+    let line = read_line(place, small(label)?, small(count)?);
+    out.extend_from_slice(&line)?;
     Ok(())
 }
 
@@ -83,18 +89,57 @@ pub(crate) fn put_shut(out: &mut Vec<u8>, place: u64, label: u64) -> Result<(), 
 }
 
 /// Appends the front of a line: the place, the word of the step and the client's label.
-fn put_front(out: &mut Vec<u8>, place: u64, verb: &[u8], label: u64) -> Result<(), RecordFault>
+fn put_front(out: &mut Vec<u8>, place: u64, verb: &[u8; 4], label: u64) -> Result<(), RecordFault>
     ensures ok { OnOk result (out.new.items ≡ out.old.items ++ front place verb.now label) }
     ensures small { OnOk result (label < 2 ^ 32) }
     ensures refused { IfErr result (λ e. NumberRefused e label) }
     ensures kept { Keeps out.old.items out.new.items }
 {
-    let label = small(label)?;
-    let mut digits = Buffer::new();
-    out.extend_from_slice(digits.format(place).as_bytes())?;
-    put_behind(out, b' ', verb)?;
-    put_number(out, label)?;
+    let line = front_of(place, verb, small(label)?);
+    out.extend_from_slice(&line)?;
     Ok(())
+}
+
+/// The line with which a client reads so many bytes.
+fn read_line(place: u64, label: u32, count: u32) -> ArrayVec<u8, SHORT>
+    ensures { result.items ≡ (front place (step_verb (Read label count)) label ++ (32 ∷ decimal count)) ++ 10 ∷ [] }
+{
+    let mut line = front_of(place, b"read", label);
+    push_number(&mut line, count);
+    line.push(b'\n');
+    line
+}
+
+/// The front of a line.
+fn front_of(place: u64, verb: &[u8; 4], label: u32) -> ArrayVec<u8, SHORT>
+    ensures front { result.items ≡ front place verb.now label }
+    ensures room { array_vec_len result ≤ 36 }
+{
+    let mut line = ArrayVec::new();
+    let mut digits = Buffer::new();
+    push_short(&mut line, digits.format(place).as_bytes());
+    line.push(b' ');
+    push_short(&mut line, verb);
+    push_number(&mut line, label);
+    line
+}
+
+fn push_number(line: &mut ArrayVec<u8, SHORT>, n: u32)
+    requires { array_vec_len line.old ≤ 37 }
+    ensures text { line.new.items ≡ line.old.items ++ (32 ∷ decimal n) }
+    ensures len { array_vec_len line.new ≤ array_vec_len line.old + 11 }
+{
+    let mut digits = Buffer::new();
+    line.push(b' ');
+    push_short(line, digits.format(n).as_bytes());
+}
+
+fn push_short(line: &mut ArrayVec<u8, SHORT>, bytes: &[u8])
+    requires { array_vec_len line.old + length bytes.now ≤ 48 }
+    ensures text { line.new.items ≡ line.old.items ++ bytes.now }
+    ensures len { array_vec_len line.new ≡ array_vec_len line.old + length bytes.now }
+{
+    line.try_extend_from_slice(bytes).unwrap();
 }
 
 /// A number as a script has it.

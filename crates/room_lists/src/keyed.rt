@@ -14,7 +14,7 @@ use std::alloc::{AllocError, Global};
 use std::marker::Model;
 
 /// An item that is found by its key. It is kept as that key and what there is beside it.
-pub(crate) trait Keyed: Drop {
+pub trait Keyed: Drop {
     /// What is kept beside the key.
     type Kept: Drop;
 
@@ -99,7 +99,7 @@ impl Keyed for WordBuf {
 ///
 /// A look-up takes the same time however many there are.
 #[derive(Drop)]
-pub(crate) struct KeyedList<T: Keyed> {
+pub struct KeyedList<T: Keyed> {
     by_key: IndexMap<WordBuf, T::Kept, HashSeed>,
 }
 
@@ -181,7 +181,7 @@ pub(crate) fn copies_of_lent<T: Keyed>(alloc: Global, items: &[&T]) -> Result<Ve
 
 impl<T: Keyed> KeyedList<T> {
     /// No items, whose keys are hashed by this seed. It takes no memory yet.
-    pub(crate) fn new(alloc: Global, seed: HashSeed) -> KeyedList<T>
+    pub fn new(alloc: Global, seed: HashSeed) -> KeyedList<T>
         ensures { result ≡ [] }
     {
         KeyedList {
@@ -190,14 +190,14 @@ impl<T: Keyed> KeyedList<T> {
     }
 
     /// The items.
-    pub(crate) fn as_slice(&self) -> &[T]
+    pub fn as_slice(&self) -> &[T]
         ensures { result.now ≡ self.now }
     {
         T::items(&self.by_key)
     }
 
     /// A copy. Fails only where memory is refused.
-    pub(crate) fn copy(&self, alloc: Global) -> Result<KeyedList<T>, AllocError>
+    pub fn copy(&self, alloc: Global) -> Result<KeyedList<T>, AllocError>
         ensures { IfOk result (λ copy. copy ≡ self.now) }
     {
         let items = copies_of(alloc, self.as_slice())?;
@@ -224,7 +224,7 @@ impl<T: Keyed> KeyedList<T> {
 
     /// Whether there would be at most `limit` items, if these were put. Where memory for an index of those
     /// that are new is refused, it walks for each of them those before it.
-    pub(crate) fn has_room_for(&self, items: &[T], limit: usize) -> bool
+    pub fn has_room_for(&self, items: &[T], limit: usize) -> bool
         requires { limit < 2 ^ 63 }
         ensures { result ≡ not (nat_lt limit (length (keyed.with_items T.key_of self.now items.now))) }
     {
@@ -276,7 +276,7 @@ impl<T: Keyed> KeyedList<T> {
 
     /// The items whose keys are not there, the first of each key, in their order; None where there would be
     /// more than `limit` items, if these were put. Fails only where memory is refused.
-    pub(crate) fn new_items<'a>(
+    pub fn new_items<'a>(
         &self,
         alloc: Global,
         items: &'a [T],
@@ -298,7 +298,7 @@ impl<T: Keyed> KeyedList<T> {
     /// Copies of the last item of each key, in the order of their first ones; None where there would be more than
     /// `limit` items, if these were put. One look-up an item, and one for each key, and an index of those.
     /// Fails only where memory is refused, and asks for none where the list is full.
-    pub(crate) fn last_items(
+    pub fn last_items(
         &self,
         alloc: Global,
         items: &[T],
@@ -328,7 +328,7 @@ impl<T: Keyed> KeyedList<T> {
     }
 
     /// Puts items. Where memory is refused, nothing changes.
-    pub(crate) fn put(&mut self, alloc: Global, items: Vec<T>) -> Result<(), AllocError>
+    pub fn put(&mut self, alloc: Global, items: Vec<T>) -> Result<(), AllocError>
         ensures ok { OnOk result (self.new ≡ keyed.with_items T.key_of self.old items.items) }
         ensures err { OnErr result (self.new ≡ self.old) }
     {
@@ -342,7 +342,7 @@ impl<T: Keyed> KeyedList<T> {
 
     /// Removes the items of these keys. Many are removed in one walk by an index of the keys; where memory
     /// for that is refused, they go one by one.
-    pub(crate) fn remove(&mut self, keys: &[WordBuf])
+    pub fn remove(&mut self, keys: &[WordBuf])
         ensures { self.new ≡ keyed.without_keys T.key_of self.old keys.now }
     {
         if keys.len() <= FEW_KEYS {
@@ -378,14 +378,14 @@ impl<T: Keyed> KeyedList<T> {
     }
 
     /// Removes all items.
-    pub(crate) fn clear(&mut self)
+    pub fn clear(&mut self)
         ensures { self.new ≡ [] }
     {
         self.by_key.clear();
     }
 
     /// Those of the keys that are there, each once.
-    pub(crate) fn keys_there(&self, alloc: Global, keys: &[WordBuf]) -> Result<WordList, AllocError>
+    pub fn keys_there(&self, alloc: Global, keys: &[WordBuf]) -> Result<WordList, AllocError>
         ensures { IfOk result (λ there. there ≡ keyed.keys_there T.key_of self.now keys.now) }
     {
         let firsts = self.firsts_there(alloc, keys)?;

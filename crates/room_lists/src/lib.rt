@@ -8,8 +8,6 @@
 mod bots;
 mod hash_seed;
 mod keyed;
-#[cfg(test)]
-mod looks;
 mod names;
 mod rects;
 mod status_word;
@@ -18,6 +16,7 @@ mod units;
 
 pub use bots::{BOT_LIMIT, Bot, Bots};
 pub use hash_seed::HashSeed;
+pub use keyed::{Keyed, KeyedList};
 pub use rects::Rect;
 pub use status_word::StatusWord;
 pub use tags::{TAG_LIMIT, Tags};

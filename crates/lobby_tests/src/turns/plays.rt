@@ -71,6 +71,10 @@ impl Gate for Counting {
         self.takes.fetch_add(1, Ordering::SeqCst);
     }
 
+    fn wants_events(&self) -> bool {
+        true
+    }
+
     fn made(&self, made: &mut Made) {
         while let Some(event) = made.next() {
             if event.place == self.in_place.load(Ordering::SeqCst) {

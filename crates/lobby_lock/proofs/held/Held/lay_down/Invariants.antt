@@ -1,4 +1,0 @@
-use Rattle.lobby_lock.proofs.held.Held.lay_down.Given as goal
-
-abbrev pub ghosts-put_back : goal.ghosts-put_back
-ghosts-put_back g a = record { events = a.events.now.events }
