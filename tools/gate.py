@@ -130,7 +130,9 @@ def slowness(sums):
 
 
 def far_over(sums):
-    """A line for each crate whose proof takes far more than any may."""
+    """A line for each crate whose proof takes far more than any may; none where this run cannot tell how slow the machine is."""
+    if seconds_of(sums, LOWEST, "proof") == 0:
+        return
     times = slowness(sums)
     for crate in sorted({crate for crate, _, _ in sums if crate}):
         proof = seconds_of(sums, crate, "proof")
