@@ -55,26 +55,29 @@ impl Keyed for Looked {
     }
 }
 
+fn word(alloc: Global, front: &str, number: u32) -> Option<WordBuf> {
+    let text = format!(in alloc; "{front}{number}").ok()?;
+    WordBuf::of(Vec::from_slice(alloc, text.as_bytes()).ok()?)
+}
+
 /// So many words that begin alike, the second half of them the same.
-fn words(alloc: Global, front: &str, count: u32) -> Option<Vec<Looked>> {
+fn words(alloc: Global, front: &str, count: u32) -> Option<Vec<WordBuf>> {
     let mut words = Vec::new(alloc);
     for place in 0..count {
-        let number = place.min(count / 2);
-        let text = format!(in alloc; "{front}{number}").ok()?;
-        let word = WordBuf::of(Vec::from_slice(alloc, text.as_bytes()).ok()?)?;
-        let looks = Cell::new(0);
-        words.push(Looked { word, looks }).ok()?;
+        words.push(word(alloc, front, place.min(count / 2))?).ok()?;
     }
     Some(words)
 }
 
-fn keys_of(alloc: Global, words: &[Looked]) -> Option<Vec<WordBuf>> {
-    let mut keys = Vec::with_capacity(alloc, words.len()).ok()?;
+/// The same words, each looked at by nobody yet.
+fn to_look_at(alloc: Global, words: &[WordBuf]) -> Option<Vec<Looked>> {
+    let mut looked = Vec::new(alloc);
     for word in words {
-        keys.push(WordBuf::copy_of(alloc, word.word.as_slice()).ok()?)
-            .ok()?;
+        let word = WordBuf::copy_of(alloc, word.as_slice()).ok()?;
+        let looks = Cell::new(0);
+        looked.push(Looked { word, looks }).ok()?;
     }
-    Some(keys)
+    Some(looked)
 }
 
 /// How often they were looked at.
@@ -87,32 +90,61 @@ fn looks_of(words: &[Looked]) -> u64 {
 }
 
 /// Asks a list for room for so many words, for one place too few and for enough, which of them are new, which are the
-/// last, and which are there. Gives how often they and those of the list were looked at; None where memory is refused.
-fn looks_asking(
+/// last, and which are there.
+fn ask(
     alloc: Global,
     list: &KeyedList<Looked>,
+    keys: &[WordBuf],
     words: &[Looked],
-    count: u32,
-) -> Option<u64> {
-    let most = count as usize / 2;
+) -> Result<(), AllocError> {
+    let most = words.len() / 2;
     let _ = list.has_room_for(words, most);
     let _ = list.has_room_for(words, most + 1);
-    let _ = list.new_items(alloc, words, most + 1).ok()?;
-    let _ = list.last_items(alloc, words, most + 1).ok()?;
-    let _ = list.keys_there(alloc, &keys_of(alloc, words)?).ok()?;
-    Some(looks_of(words).wrapping_add(looks_of(list.as_slice())))
+    drop(list.new_items(alloc, words, most + 1)?);
+    drop(list.last_items(alloc, words, most + 1)?);
+    drop(list.keys_there(alloc, keys)?);
+    Ok(())
 }
 
-/// Asks for all that a change of tags or units asks, while the words are new and while they are known, puts them, and
-/// removes others.
+/// Asks for all that a change of tags or units asks, and puts the words where they are new. Gives how often they and
+/// those of the list were looked at; None where memory is refused.
+fn looks_at_words(
+    alloc: Global,
+    list: &mut KeyedList<Looked>,
+    keys: &[WordBuf],
+    are_new: bool,
+) -> Option<u64> {
+    let words = to_look_at(alloc, keys)?;
+    let asked = ask(alloc, list, keys, &words);
+    let looks = looks_of(&words).wrapping_add(looks_of(list.as_slice()));
+    let put = if are_new {
+        list.put(alloc, words)
+    } else {
+        drop(words);
+        Ok(())
+    };
+    asked.and(put).ok().map(|()| looks)
+}
+
+/// Asks while the words are new and while they are known, and removes others.
+fn looks_of_a_list(
+    list: &mut KeyedList<Looked>,
+    alloc: Global,
+    keys: &[WordBuf],
+    others: &[WordBuf],
+) -> Option<u64> {
+    let new = looks_at_words(alloc, list, keys, true)?;
+    list.remove(others);
+    Some(new.wrapping_add(looks_at_words(alloc, list, keys, false)?))
+}
+
 fn looks_at(alloc: Global, count: u32) -> Option<u64> {
+    let keys = words(alloc, "unit", count)?;
+    let others = words(alloc, "other", count)?;
     let mut list = KeyedList::new(alloc, HashSeed::known());
-    let new = words(alloc, "unit", count)?;
-    let asked = looks_asking(alloc, &list, &new, count)?;
-    list.put(alloc, new).ok()?;
-    let known = words(alloc, "unit", count)?;
-    list.remove(&keys_of(alloc, &words(alloc, "other", count)?)?);
-    Some(asked.wrapping_add(looks_asking(alloc, &list, &known, count)?))
+    let looks = looks_of_a_list(&mut list, alloc, &keys, &others);
+    drop(list);
+    looks
 }
 
 #[test]

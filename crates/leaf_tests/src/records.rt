@@ -6,11 +6,9 @@ use account_book::{Account, AccountBook};
 use command_grammar::{Command, ReadFault, Request};
 use command_reader::read_request;
 use line_words::TextBuf;
-use lobby_model::{Event, Settings};
+use lobby_model::{Event, MadeEvent, Settings};
 use lobby_setup::Setup;
-use record_lines::{
-    Entry, FAILS, Masks, PASSES, RecordFault, put_account, put_entry, put_settings,
-};
+use record_lines::{FAILS, Masks, PASSES, RecordFault, put_account, put_entry, put_settings};
 use std::alloc::{AllocError, Global};
 
 const WORD: &[u8] = b"X03MO1qnZdYdgyfeuILPmQ==";
@@ -163,7 +161,7 @@ fn is_recorded_as(
     gain: u64,
     wanted: &[u8],
 ) -> Result<bool, RecordFault> {
-    let entry = Entry {
+    let made = MadeEvent {
         place: 9,
         event,
         gain,
@@ -174,7 +172,7 @@ fn is_recorded_as(
     };
     let mut out = Vec::from_slice(alloc, b"before\n")?;
     let mut text = Vec::from_slice(alloc, b"an older text")?;
-    put_entry(alloc, &mut out, &mut text, &masks, entry)?;
+    put_entry(alloc, &mut out, &mut text, &masks, &made)?;
     Ok(out.starts_with(b"before\n") && &out[7..] == wanted)
 }
 
@@ -194,21 +192,34 @@ fn an_account_of_a_head_is_read_back_without_its_word(rt: HostRuntime) {
 }
 
 fn account_read_back(alloc: Global) -> Option<bool> {
-    let accounts = book(alloc).ok()?;
     let mut head = Vec::new(alloc);
-    put_account(&mut head, accounts.get(b"Anna")?).ok()?;
+    put_anna(alloc, &mut head)?;
     let read = AccountBook::read(alloc, &head).ok()?;
-    let anna = read.get(b"Anna")?;
-    Some(
-        anna.password() == PASSES.as_slice()
-            && anna.id() == 4294967295
-            && anna.rank() == 7
-            && anna.access()
-            && !anna.bot()
-            && anna.country().as_slice() == b"DE".as_slice()
-            && read.check(b"Anna", PASSES).is_ok()
-            && read.check(b"Anna", FAILS).is_err(),
-    )
+    Some(is_anna(read.get(b"Anna")) && passes_alone(&read))
+}
+
+fn put_anna(alloc: Global, head: &mut Vec<u8>) -> Option<()> {
+    let accounts = book(alloc).ok()?;
+    put_account(head, accounts.get(b"Anna")?).ok()
+}
+
+/// Whether it is the account of the book, but for its word.
+fn is_anna(account: Option<&Account>) -> bool {
+    match account {
+        Some(anna) => {
+            anna.password() == PASSES.as_slice()
+                && anna.id() == 4294967295
+                && anna.rank() == 7
+                && anna.access()
+                && !anna.bot()
+                && anna.country().as_slice() == b"DE".as_slice()
+        }
+        None => false,
+    }
+}
+
+fn passes_alone(accounts: &AccountBook) -> bool {
+    accounts.check(b"Anna", PASSES).is_ok() && accounts.check(b"Anna", FAILS).is_err()
 }
 
 #[test]
@@ -222,14 +233,23 @@ static MOTD: [&[u8]; 3] = [
     b"\ta\x00\x1b\x7f",
 ];
 
-fn settings_read_back(alloc: Global) -> Option<bool> {
+fn motd(alloc: Global) -> Option<Vec<TextBuf>> {
     let mut motd = Vec::new(alloc);
     for line in &MOTD {
         motd.push(TextBuf::copy_of(alloc, line).ok()?).ok()?;
     }
+    Some(motd)
+}
+
+fn put_set(alloc: Global, head: &mut Vec<u8>) -> Option<()> {
+    let motd = motd(alloc)?;
     let set = Settings::new(alloc, b"0.39\"", b"\\*", 65_535, 1, &motd, 65_536).ok()?;
+    put_settings(head, &set).ok()
+}
+
+fn settings_read_back(alloc: Global) -> Option<bool> {
     let mut head = Vec::new(alloc);
-    put_settings(&mut head, &set).ok()?;
+    put_set(alloc, &mut head)?;
     let read = Setup::read(alloc, &head).ok()?;
     let found = &read.settings;
     Some(

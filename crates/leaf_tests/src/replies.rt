@@ -215,22 +215,27 @@ fn lent_names_may_have_one_more(rt: HostRuntime) {
 }
 
 fn print_names(alloc: Global, out: &mut Vec<u8>) -> Result<(), AllocError> {
-    let main = NameBuf::copy_of(alloc, b"main")?;
     let last = NameBuf::copy_of(alloc, b"Bert")?;
     let names = [
         NameBuf::copy_of(alloc, b"u01")?,
         NameBuf::copy_of(alloc, b"u02")?,
     ];
+    print_clients(alloc, HeldNames::Lent(&names), Some(3), out)?;
+    print_clients(alloc, HeldNames::LentAndLast(&names, &last), None, out)
+}
+
+fn print_clients(
+    alloc: Global,
+    names: HeldNames<'_>,
+    id: Option<u32>,
+    out: &mut Vec<u8>,
+) -> Result<(), AllocError> {
+    let main = NameBuf::copy_of(alloc, b"main")?;
     let reply = Reply::Clients {
         channel: Name(Held::Lent(&main)),
-        names: Names(HeldNames::Lent(&names)),
+        names: Names(names),
     };
-    print(&reply, Some(3), out)?;
-    let reply = Reply::Clients {
-        channel: Name(Held::Lent(&main)),
-        names: Names(HeldNames::LentAndLast(&names, &last)),
-    };
-    print(&reply, None, out)
+    print(&reply, id, out)
 }
 
 #[test]

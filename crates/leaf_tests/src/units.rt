@@ -138,12 +138,16 @@ fn tells(told: Result<WordList, RoomError>, wanted: &Result<Units, RoomError>) -
     }
 }
 
+fn numbered(alloc: Global, number: u32) -> Option<WordBuf> {
+    let unit = format!(in alloc; "u{number}").ok()?;
+    word(alloc, unit.as_bytes())
+}
+
 /// The units u1 to u1024.
 fn most_units(alloc: Global) -> Option<Vec<WordBuf>> {
     let mut list = Vec::new(alloc);
     for k in 1..1025u32 {
-        let unit = format!(in alloc; "u{k}").ok()?;
-        list.push(word(alloc, unit.as_bytes())?).ok()?;
+        list.push(numbered(alloc, k)?).ok()?;
     }
     Some(list)
 }

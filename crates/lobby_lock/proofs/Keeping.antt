@@ -4,7 +4,7 @@ use Rattle.lobby_model.specs.declared.event.Event.{Event}
 use Rattle.lobby_model.specs.State.{State}
 use Rattle.lobby_model.specs.Next.{next}
 use Rattle.lobby_model.specs.History.{after}
-use Rattle.lobby_lock.specs.declared.made.MadeEvent.{MadeEvent}
+use Rattle.lobby_model.specs.declared.event.MadeEvent.{MadeEvent}
 use Rattle.lobby_lock.specs.History.{Entry, events_of, after_history, under}
 use Rattle.lobby_lock.specs.Counts.{last_count, position_of}
 use Rattle.lobby_lock.specs.Events.{gain_of, made_behind, made_from}

@@ -8,7 +8,7 @@ use Rattle.lobby_model.specs.Next.{next}
 use Rattle.lobby_machine.specs.Shown.{unread_of}
 use Rattle.lobby_lock.specs.declared.event_log.Kind.{Kind}
 use Rattle.lobby_lock.specs.declared.event_log.Kind.TheVariants as kind
-use Rattle.lobby_lock.specs.declared.made.MadeEvent.{MadeEvent}
+use Rattle.lobby_model.specs.declared.event.MadeEvent.{MadeEvent}
 use Rattle.lobby_lock.specs.Counts.{last_count}
 
 -- what an event gave at once: an open the number of its client, a drain how many bytes

@@ -6,7 +6,7 @@ use Rattle.lobby_model.specs.declared.event.Event.{Event}
 use Rattle.lobby_model.specs.State.{State}
 use Rattle.lobby_machine.specs.Shown.{Shown}
 use Rattle.lobby_lock.specs.declared.laid.Laid.{Laid}
-use Rattle.lobby_lock.specs.declared.made.MadeEvent.{MadeEvent}
+use Rattle.lobby_model.specs.declared.event.MadeEvent.{MadeEvent}
 use Rattle.lobby_lock.specs.declared.view.View.{View}
 use Rattle.lobby_lock.specs.declared.view.Worker.{Worker}
 use Rattle.lobby_lock.specs.History.{after_history, under}
@@ -33,7 +33,7 @@ pub record ShownHold : Type 0 where
   pub lobby : Shown
   pub events : List Event
 
--- a hold that is over: its pass, and those of its events that were kept and not taken yet
+-- a hold that is over: its pass, and those of its events that were kept
 pub record ShownMade : Type 0 where
   pub pass : ShownPass
   pub events : List MadeEvent

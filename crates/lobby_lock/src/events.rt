@@ -97,14 +97,15 @@ impl Events {
         self.count += 1;
     }
 
-    /// One event more where none is kept: a client was drained into a slice of so many bytes, whatever came.
+    /// One event more: a client was drained into a slice of so many bytes, and so many came.
     pub(crate) fn add_drained(&mut self, client: u64, count: usize, came: u64)
-        requires few { length self.old.events < MOST_EVENTS }
-        requires unkept { self.old.kept.keeps ≡ false }
+        requires { length self.old.events < MOST_EVENTS }
         ensures { self.new ≡ with_event self.old (event.Drain client count) came }
     {
+        let place = self.position_behind();
         self.log = self.log.and_drained(client, count);
         self.count += 1;
+        self.kept.add_drained(place, client, count, came);
     }
 
     /// Takes what is kept of them. From now on none is kept.

@@ -150,12 +150,7 @@ impl Held {
     {
         let count = into.len();
         let drained = self.lobby.drain(client, into);
-        let came = drained.count as u64;
-        if self.events.keeps() {
-            self.events.add(Event::Drain { client, count }, came);
-        } else {
-            self.events.add_drained(client, count, came);
-        }
+        self.events.add_drained(client, count, drained.count as u64);
         drained
     }
 
@@ -235,7 +230,7 @@ impl Held {
         }
     }
 
-    /// Gives the lobby back, as `give` does. What the hold kept of its events is here to be taken.
+    /// Gives the lobby back, as `give` does. What the hold kept of its events can be looked at before the pass is used.
     pub fn lay_down<R: Wait>(mut self, rt: &R, desk: &Desk) -> Made
         requires { self.pass.desk ≡ desk.now }
         ensures pass { result.pass ≡ pass_after self }

@@ -1,25 +1,23 @@
 //! What is kept of the events of a hold.
 
-ghost use Rattle.std.specs.Prelude.{◌≡◌, ◌<◌, [], ◌∷◌, true, false, length, IfOk, MatchOption, ◌==◌};
+ghost use Rattle.std.specs.Prelude.{◌≡◌, ◌<◌, true, false, length, IfOk};
+ghost use Rattle.lobby_model.specs.declared.event.Event.TheVariants as event;
 ghost use Rattle.lobby_lock.specs.Events.{none_yet, with_kept};
 
 use crate::desk::MOST_EVENTS;
-use crate::made::MadeEvent;
-use lobby_model::Event;
+use lobby_model::{Event, MadeEvent};
 use std::alloc::{AllocError, Global};
-use std::collections::VecDeque;
 use std::marker::Model;
 
 /// The events that are kept, in their order, or none. Contracts see whether they are, and their list.
 #[derive(Drop)]
 pub(crate) struct Kept {
-    made: Option<Box<VecDeque<MadeEvent>>>,
+    made: Option<Box<Vec<MadeEvent>>>,
 }
 
 impl Model for Kept {
-    ghost use Rattle.std.specs.Prelude.{◌≤◌, [], is_some, IfSome};
+    ghost use Rattle.std.specs.Prelude.{◌≤◌, [], is_some, IfSome, vec_capacity};
     ghost use Rattle.std.specs.Option.{option_map, unwrap_or};
-    ghost use Rattle.std.specs.VecDeque.{deque_capacity};
     ghost use Rattle.lobby_lock.specs.Events.{ShownKept};
 
     ghost Value = { ShownKept };
@@ -27,7 +25,7 @@ impl Model for Kept {
     ghost view = { λ k. record
         { keeps = is_some k.made; events = unwrap_or (option_map (λ made. made.value.items) k.made) [] } };
 
-    ghost invariant = { λ k. IfSome k.made (λ made. 32 ≤ deque_capacity made.value) };
+    ghost invariant = { λ k. IfSome k.made (λ made. 32 ≤ vec_capacity made.value) };
 }
 
 impl Kept {
@@ -42,7 +40,7 @@ impl Kept {
     pub(crate) fn with_room(alloc: Global) -> Result<Kept, AllocError>
         ensures { IfOk result (λ kept. kept ≡ none_yet true) }
     {
-        let made = VecDeque::with_capacity(alloc, MOST_EVENTS)?;
+        let made = Vec::with_capacity(alloc, MOST_EVENTS)?;
         match Box::new(alloc, made) {
             Ok(made) => Ok(Kept { made: Some(made) }),
             Err(_) => Err(AllocError),
@@ -55,8 +53,23 @@ impl Kept {
         ensures { self.new ≡ with_kept self.old (record { place = place; event = event; gain = gain }) }
     {
         match &mut self.made {
-            Some(made) => made.push_back_reserved(MadeEvent { place, event, gain }),
+            Some(made) => made.push_reserved(MadeEvent { place, event, gain }),
             None => drop(event),
+        }
+    }
+
+    /// As `add` does for a drain, which is written where it stays.
+    pub(crate) fn add_drained(&mut self, place: u64, client: u64, count: usize, came: u64)
+        requires { length self.old.events < MOST_EVENTS }
+        ensures { self.new ≡ with_kept self.old
+            (record { place = place; event = event.Drain client count; gain = came }) }
+    {
+        if let Some(made) = &mut self.made {
+            made.push_reserved(MadeEvent {
+                place,
+                event: Event::Drain { client, count },
+                gain: came,
+            });
         }
     }
 
@@ -67,29 +80,17 @@ impl Kept {
         self.made.is_some()
     }
 
-    /// Whether none is left.
-    pub(crate) fn is_empty(&self) -> bool
-        ensures { result ≡ (length self.now.events == 0) }
+    /// Those that are kept.
+    pub(crate) fn events(&self) -> &[MadeEvent]
+        ensures { result.now ≡ self.now.events }
     {
         match &self.made {
-            Some(made) => made.is_empty(),
-            None => true,
+            Some(made) => made.as_slice(),
+            None => &[],
         }
     }
 
-    /// Takes the first event that is left.
-    pub(crate) fn next(&mut self) -> Option<MadeEvent>
-        ensures taken { MatchOption result ((self.old.events ≡ []) × (self.new.events ≡ [])) (λ made.
-            self.old.events ≡ made ∷ self.new.events) }
-        ensures keeps { self.new.keeps ≡ self.old.keeps }
-    {
-        match &mut self.made {
-            Some(made) => made.pop_front(),
-            None => None,
-        }
-    }
-
-    /// Lets go what is left.
+    /// Lets them go.
     pub(crate) fn clear(&mut self)
         ensures { self.new ≡ none_yet self.old.keeps }
     {

@@ -13,8 +13,8 @@
 //! - a hold ends, after events or after none (`Held::lay_down`);
 //! - worker 0 takes the lobby for good (`Desk::close`), once the passes of all others came back.
 //!
-//! A worker may keep the events of its holds for a record (`Pass::keep_events`). A hold that is over then hands them
-//! out, each with its place in the history (`Made`).
+//! A worker may keep the events of its holds for a record (`Pass::keep_events`). A hold that is over then shows them,
+//! each with its place in the history (`Made`).
 #![tactic(auto)]
 
 mod closing;
@@ -34,5 +34,5 @@ mod view;
 pub use closing::{CloseError, Closing, Count};
 pub use desk::{Desk, DeskError, HANDED_OVER, MOST_EVENTS, MOST_HANDED_OUT};
 pub use held::Held;
-pub use made::{Made, MadeEvent};
+pub use made::Made;
 pub use pass::Pass;

@@ -1,25 +1,14 @@
 //! The events of a hold that is over.
 
-ghost use Rattle.std.specs.Prelude.{◌≡◌, [], ◌∷◌, MatchOption, length, ◌==◌};
+ghost use Rattle.std.specs.Prelude.{◌≡◌};
 
 use crate::kept::Kept;
 use crate::pass::Pass;
-use lobby_model::Event;
+use lobby_model::MadeEvent;
 use std::marker::Model;
 
-/// An event of a hold that is over.
-#[derive(Drop)]
-pub struct MadeEvent {
-    /// How many events the history has before it. That number stays at the last value of its type.
-    pub place: u64,
-    /// What happened.
-    pub event: Event,
-    /// What it gave at once: an open the number of its client, a drain how many bytes; else 0.
-    pub gain: u64,
-}
-
-/// A hold that is over: others may take its lobby, and those of its events that were kept are here to be taken, one
-/// after another. Contracts see its pass, and the events that are left.
+/// A hold that is over: others may take its lobby, and those of its events that were kept are here. Contracts see its
+/// pass, and these events.
 #[derive(Drop)]
 pub struct Made {
     pub(crate) pass: Pass,
@@ -42,23 +31,14 @@ impl Made {
         self.pass.number()
     }
 
-    /// Whether no event is left.
-    pub fn is_empty(&self) -> bool
-        ensures { result ≡ (length self.now.events == 0) }
+    /// Its events.
+    pub fn events(&self) -> &[MadeEvent]
+        ensures { result.now ≡ self.now.events }
     {
-        self.kept.is_empty()
+        self.kept.events()
     }
 
-    /// Takes the next event.
-    pub fn next(&mut self) -> Option<MadeEvent>
-        ensures taken { MatchOption result ((self.old.events ≡ []) × (self.new.events ≡ [])) (λ made.
-            self.old.events ≡ made ∷ self.new.events) }
-        ensures pass { self.new.pass ≡ self.old.pass }
-    {
-        self.kept.next()
-    }
-
-    /// The pass, by which the lobby is taken again. What is left of the events is let go.
+    /// The pass, by which the lobby is taken again. The events are let go.
     pub fn pass(self) -> Pass
         ensures { result ≡ self.pass }
     {

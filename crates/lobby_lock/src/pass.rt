@@ -50,7 +50,7 @@ impl Pass {
         self.number
     }
 
-    /// From now on each hold keeps its events, and hands them out when it is over. Fails only where memory is refused,
+    /// From now on each hold keeps its events, and shows them when it is over. Fails only where memory is refused,
     /// and then nothing changes.
     pub fn keep_events(&mut self, alloc: Global) -> Result<(), AllocError>
         ensures ok { OnOk result (self.new.keeps ≡ true) }

@@ -1,8 +1,6 @@
 //! Where a worker may be looked at from outside.
 
-ghost use Rattle.std.specs.Prelude.{◌≡◌};
-
-use lobby_lock::Made;
+use lobby_model::MadeEvent;
 use server_log::Happening;
 
 /// Is told what a worker is about to do and what it did, and what operators may be told. Tests hold
@@ -16,11 +14,9 @@ pub trait Gate {
         false
     }
 
-    /// A hold is over, and here are the events that it kept, if its pass keeps them. It never waits. What a gate leaves
-    /// of them is let go: one that records nothing leaves all.
-    fn made(&self, _made: &mut Made)
-        ensures { _made.new.pass ≡ _made.old.pass }
-    {}
+    /// A hold of the worker of this number is over, the gate wants events, and here are those that the hold kept, if
+    /// its pass keeps them. It never waits.
+    fn made(&self, _worker: u8, _events: &[MadeEvent]) {}
 
     /// The worker wrote these bytes to a link.
     fn after_write(&self, worker: u8, bytes: &[u8]);

@@ -38,8 +38,8 @@ impl<G: Gate> GatedDesk<'_, G> {
         if !self.gate.wants_events() {
             return held.give(rt, self.desk);
         }
-        let mut made = held.lay_down(rt, self.desk);
-        self.gate.made(&mut made);
+        let made = held.lay_down(rt, self.desk);
+        self.gate.made(made.worker(), made.events());
         made.pass()
     }
 }

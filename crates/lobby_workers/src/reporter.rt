@@ -1,7 +1,7 @@
 //! The gate through which workers tell operators.
 
 use crate::log_queue::LogQueue;
-use lobby_lock::Made;
+use lobby_model::MadeEvent;
 use lobby_turns::Gate;
 use server_log::Happening;
 use std::sync::Wait;
@@ -26,8 +26,8 @@ impl<R: Wait, G: Gate> Gate for Reporter<'_, '_, R, G> {
         self.gate.wants_events()
     }
 
-    fn made(&self, made: &mut Made) {
-        self.gate.made(made);
+    fn made(&self, worker: u8, events: &[MadeEvent]) {
+        self.gate.made(worker, events);
     }
 
     fn after_write(&self, worker: u8, bytes: &[u8]) {

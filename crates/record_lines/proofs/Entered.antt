@@ -14,7 +14,7 @@ use Rattle.request_printer.specs.declared.error.PrintError.{PrintError}
 use Rattle.request_printer.specs.declared.error.PrintError.TheVariants as error
 use Rattle.request_printer.specs.Faults.{IsUnread, Printed, Refuses}
 use Rattle.lobby_model.specs.declared.event.Event.TheVariants as event
-use Rattle.record_lines.specs.declared.entry.Entry.{Entry}
+use Rattle.lobby_model.specs.declared.event.MadeEvent.{MadeEvent}
 use Rattle.record_lines.specs.declared.fault.RecordFault.{RecordFault}
 use Rattle.record_lines.specs.declared.fault.RecordFault.TheVariants as refused
 use Rattle.record_lines.specs.declared.masks.Masks.{Masks}
@@ -58,59 +58,59 @@ prints_said place c r text old mid new is send take = (
   take.2,
 )
 
-module _ (masks : Masks) (entry : Entry) (old new : List ℕ) where
+module _ (masks : Masks) (made : MadeEvent) (old new : List ℕ) where
   -- an event of one step
-  pub one : (s : Step) → AreStepsOf masks.accounts masks.private entry.gain entry.event (s ∷ [])
-      → Prints entry.place s old new → Records masks entry old new
+  pub one : (s : Step) → AreStepsOf masks.accounts masks.private made.gain made.event (s ∷ [])
+      → Prints made.place s old new → Records masks made old new
   one s are prints = record {
     steps = s ∷ [];
     are_steps = are;
-    text = printed entry.place s ++ [];
-    are_lines = more_lines entry.place s [] [] prints.1 prints.2 refl;
-    whole = prints.0 ∙ ap (λ (t : List ℕ). old ++ t) (sym (append-nil (printed entry.place s)));
+    text = printed made.place s ++ [];
+    are_lines = more_lines made.place s [] [] prints.1 prints.2 refl;
+    whole = prints.0 ∙ ap (λ (t : List ℕ). old ++ t) (sym (append-nil (printed made.place s)));
   }
 
   -- what was said
-  pub said : (c : ℕ) (request : Request) → entry.event ≡ event.Say c request
-      → PrintsSaid entry.place c (masked masks.accounts masks.private request) old new → Records masks entry old new
+  pub said : (c : ℕ) (request : Request) → made.event ≡ event.Say c request
+      → PrintsSaid made.place c (masked masks.accounts masks.private request) old new → Records masks made old new
   said c request is prints =
       let text = prints.0 in
-      let take = printed entry.place (Take c) in
+      let take = printed made.place (Take c) in
       record {
         steps = Send c text ∷ Take c ∷ [];
-        are_steps = subst (λ e. AreStepsOf masks.accounts masks.private entry.gain e (Send c text ∷ Take c ∷ [])) (sym is)
+        are_steps = subst (λ e. AreStepsOf masks.accounts masks.private made.gain e (Send c text ∷ Take c ∷ [])) (sym is)
             (text, prints.1, refl);
-        text = printed entry.place (Send c text) ++ (take ++ []);
-        are_lines = more_lines entry.place (Send c text) (Take c ∷ []) (take ++ []) prints.3 prints.4
-            (more_lines entry.place (Take c) [] [] prints.3 prints.4 refl);
+        text = printed made.place (Send c text) ++ (take ++ []);
+        are_lines = more_lines made.place (Send c text) (Take c ∷ []) (take ++ []) prints.3 prints.4
+            (more_lines made.place (Take c) [] [] prints.3 prints.4 refl);
         whole = prints.2
-            ∙ ap (λ (t : List ℕ). old ++ (printed entry.place (Send c text) ++ t)) (sym (append-nil take));
+            ∙ ap (λ (t : List ℕ). old ++ (printed made.place (Send c text) ++ t)) (sym (append-nil take));
       }
 
   -- the lines of each kind of event, where they are put
 
-  pub opened : {A E : Type 0} (r : Result A E) (ip : List ℕ) (home : ℕ) → entry.event ≡ event.Open ip home
-      → OnOk r (Prints entry.place (Open entry.gain ip) old new) → OnOk r (Records masks entry old new)
-  opened (Ok x) ip home is prints = one (Open entry.gain ip)
-      (subst (λ e. AreStepsOf masks.accounts masks.private entry.gain e (Open entry.gain ip ∷ [])) (sym is) refl) prints
+  pub opened : {A E : Type 0} (r : Result A E) (ip : List ℕ) (home : ℕ) → made.event ≡ event.Open ip home
+      → OnOk r (Prints made.place (Open made.gain ip) old new) → OnOk r (Records masks made old new)
+  opened (Ok x) ip home is prints = one (Open made.gain ip)
+      (subst (λ e. AreStepsOf masks.accounts masks.private made.gain e (Open made.gain ip ∷ [])) (sym is) refl) prints
   opened (Err e) ip home is prints = tt
 
-  pub spoken : {A E : Type 0} (r : Result A E) (c : ℕ) (request : Request) → entry.event ≡ event.Say c request
-      → OnOk r (PrintsSaid entry.place c (masked masks.accounts masks.private request) old new)
-      → OnOk r (Records masks entry old new)
+  pub spoken : {A E : Type 0} (r : Result A E) (c : ℕ) (request : Request) → made.event ≡ event.Say c request
+      → OnOk r (PrintsSaid made.place c (masked masks.accounts masks.private request) old new)
+      → OnOk r (Records masks made old new)
   spoken (Ok x) c request is prints = said c request is prints
   spoken (Err e) c request is prints = tt
 
-  pub drained : {A E : Type 0} (r : Result A E) (c n : ℕ) → entry.event ≡ event.Drain c n
-      → OnOk r (Prints entry.place (Read c entry.gain) old new) → OnOk r (Records masks entry old new)
-  drained (Ok x) c n is prints = one (Read c entry.gain)
-      (subst (λ e. AreStepsOf masks.accounts masks.private entry.gain e (Read c entry.gain ∷ [])) (sym is) refl) prints
+  pub drained : {A E : Type 0} (r : Result A E) (c n : ℕ) → made.event ≡ event.Drain c n
+      → OnOk r (Prints made.place (Read c made.gain) old new) → OnOk r (Records masks made old new)
+  drained (Ok x) c n is prints = one (Read c made.gain)
+      (subst (λ e. AreStepsOf masks.accounts masks.private made.gain e (Read c made.gain ∷ [])) (sym is) refl) prints
   drained (Err e) c n is prints = tt
 
-  pub closed : {A E : Type 0} (r : Result A E) (c : ℕ) → entry.event ≡ event.Shut c
-      → OnOk r (Prints entry.place (Shut c) old new) → OnOk r (Records masks entry old new)
+  pub closed : {A E : Type 0} (r : Result A E) (c : ℕ) → made.event ≡ event.Shut c
+      → OnOk r (Prints made.place (Shut c) old new) → OnOk r (Records masks made old new)
   closed (Ok x) c is prints = one (Shut c)
-      (subst (λ e. AreStepsOf masks.accounts masks.private entry.gain e (Shut c ∷ [])) (sym is) refl) prints
+      (subst (λ e. AreStepsOf masks.accounts masks.private made.gain e (Shut c ∷ [])) (sym is) refl) prints
   closed (Err e) c is prints = tt
 
 -- why what was said is not written

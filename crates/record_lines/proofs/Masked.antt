@@ -11,9 +11,7 @@ use Rattle.account_book.specs.Account.{Account, is_sound, is_password_word, is_c
 use Rattle.account_book.specs.Book.{account_of, login}
 use Rattle.account_book.specs.declared.error.LoginFault.{LoginFault}
 use Rattle.account_book.specs.declared.error.LoginFault.TheVariants.{NoAccount, BadPassword}
-use Rattle.command_grammar.specs.declared.command.Command.{Command}
-use Rattle.command_grammar.specs.declared.command.Command.TheVariants as command
-use Rattle.record_lines.specs.Masks.{hidden, all_hidden, hidden_answer, passes, fails, stars, word_for, word_in_place}
+use Rattle.record_lines.specs.Masks.{hidden, all_hidden, hidden_answer, passes, fails, stars, word_for}
 
 -- the account of a name, hidden
 abbrev hidden_one : Option Account → Option Account
@@ -77,10 +75,6 @@ word_kept accounts name word = by (is_ok (login accounts name word))
     by : (t : Bool) → is_word (cond t passes fails) ≡ true
     by true = refl
     by false = refl
-
-pub place_kept : (accounts : List Account) (c : Command) → is_word (word_in_place accounts c) ≡ true
-place_kept accounts (command.Login name word cpu ip lobby authorises) = word_kept accounts name word
-place_kept accounts c = refl
 
 pub stars_kept : (text : List ℕ) → is_text (stars text) ≡ true
 stars_kept [] = refl

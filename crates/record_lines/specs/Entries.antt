@@ -12,12 +12,12 @@ use Rattle.request_printer.specs.declared.error.PrintError.TheVariants as error
 use Rattle.request_printer.specs.Faults.{is_id, NoneFits}
 use Rattle.request_printer.specs.Writing.{Writes}
 use Rattle.lobby_model.specs.declared.event.Event.{Event}
+use Rattle.lobby_model.specs.declared.event.MadeEvent.{MadeEvent}
 use Rattle.lobby_model.specs.declared.event.Event.TheVariants as event
 use Rattle.record_lines.specs.Steps.{Step, Open, Send, Take, Read, Shut, AreLinesOf}
 use Rattle.record_lines.specs.Printed.{NumberRefused, printed, HasRanges}
 use Rattle.record_lines.specs.Masks.{masked, unread_text}
 use Rattle.record_lines.specs.declared.masks.Masks.{Masks}
-use Rattle.record_lines.specs.declared.entry.Entry.{Entry}
 use Rattle.record_lines.specs.declared.fault.RecordFault.{RecordFault}
 use Rattle.record_lines.specs.declared.fault.RecordFault.TheVariants as refused
 
@@ -48,11 +48,11 @@ PrintsSaid place c r old new = (text : List ℕ) × IsTextOf r text
     × (new ≡ old ++ (printed place (Send c text) ++ printed place (Take c))) × (place < 2 ^ 64) × HasRanges (Take c)
 
 -- the lines of an event stand behind what was there
-pub record Records (masks : Masks) (entry : Entry) (old new : List ℕ) : Type 0 where
+pub record Records (masks : Masks) (made : MadeEvent) (old new : List ℕ) : Type 0 where
   pub steps : List Step
-  pub are_steps : AreStepsOf masks.accounts masks.private entry.gain entry.event steps
+  pub are_steps : AreStepsOf masks.accounts masks.private made.gain made.event steps
   pub text : List ℕ
-  pub are_lines : AreLinesOf entry.place steps text
+  pub are_lines : AreLinesOf made.place steps text
   pub whole : new ≡ old ++ text
 
 -- why the line of a request is not made; no line of a client that reads as it is short enough

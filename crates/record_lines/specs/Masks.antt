@@ -31,10 +31,6 @@ hidden_answer (Err why) = Err why
 abbrev pub word_for : List Account → List ℕ → List ℕ → List ℕ
 word_for accounts name word = if is_ok (login accounts name word) then passes else fails
 
-abbrev pub word_in_place : List Account → Command → List ℕ
-word_in_place accounts (command.Login name word cpu ip lobby authorises) = word_for accounts name word
-word_in_place accounts c = fails
-
 -- a text of as many `*`
 abbrev pub stars : List ℕ → List ℕ
 stars = map (λ byte. 42)

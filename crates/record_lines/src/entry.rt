@@ -1,4 +1,4 @@
-//! An event on its way to a record, and its lines there.
+//! The lines of an event in a record.
 #![tactic(auto, using(reply_printer::proofs::Kept::front_more, reply_printer::proofs::Kept::front_all))]
 
 ghost use Rattle.std.specs.Prelude.{◌≡◌, IfErr, OnErr, OnOk};
@@ -11,18 +11,8 @@ use crate::fault::RecordFault;
 use crate::lines::{put_open, put_read, put_shut};
 use crate::masks::Masks;
 use crate::said::put_said;
-use lobby_model::Event;
+use lobby_model::{Event, MadeEvent};
 use std::alloc::Global;
-
-/// An event that a worker made, and its place.
-#[derive(Drop)]
-pub struct Entry {
-    /// How many events were before it.
-    pub place: u64,
-    pub event: Event,
-    /// What it gave: an open the number of its client, a drain how many bytes came, any other 0.
-    pub gain: u64,
-}
 
 /// Appends the lines of an event, by way of a text that is lent for its request. Where it fails nothing is appended.
 /// For a request that was read of a client's line only memory or a number of more than 32 bits is why.
@@ -31,15 +21,15 @@ pub fn put_entry(
     out: &mut Vec<u8>,
     text: &mut Vec<u8>,
     masks: &Masks,
-    entry: Entry,
+    made: &MadeEvent,
 ) -> Result<(), RecordFault>
-    ensures records { OnOk result (Records masks.now entry out.old.items out.new.items) }
-    ensures refused { AllByRecursion IsHeld masks.now.accounts → IfErr result (λ e. Refuses e entry.gain entry.event) }
+    ensures records { OnOk result (Records masks.now made.now out.old.items out.new.items) }
+    ensures refused { AllByRecursion IsHeld masks.now.accounts
+        → IfErr result (λ e. Refuses e made.now.gain made.now.event) }
     ensures kept { OnErr result (out.new.items ≡ out.old.items) }
 {
-    let mut entry = entry;
     let start = out.len();
-    match put_lines(alloc, out, text, masks, &mut entry) {
+    match put_lines(alloc, out, text, masks, made) {
         Ok(()) => Ok(()),
         Err(fault) => {
             out.truncate(start);
@@ -54,15 +44,15 @@ fn put_lines(
     out: &mut Vec<u8>,
     text: &mut Vec<u8>,
     masks: &Masks,
-    entry: &mut Entry,
+    made: &MadeEvent,
 ) -> Result<(), RecordFault>
-    ensures records { OnOk result (Records masks.now entry.old out.old.items out.new.items) }
+    ensures records { OnOk result (Records masks.now made.now out.old.items out.new.items) }
     ensures refused { AllByRecursion IsHeld masks.now.accounts
-        → IfErr result (λ e. Refuses e entry.old.gain entry.old.event) }
+        → IfErr result (λ e. Refuses e made.now.gain made.now.event) }
     ensures kept { Keeps out.old.items out.new.items }
 {
-    let (place, gain) = (entry.place, entry.gain);
-    match &mut entry.event {
+    let (place, gain) = (made.place, made.gain);
+    match &made.event {
         Event::Open { ip, home: _ } => put_open(out, place, gain, *ip),
         Event::Say { client, request } => {
             put_said(alloc, out, text, masks, place, *client, request)

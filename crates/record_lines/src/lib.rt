@@ -16,7 +16,7 @@ mod lines;
 mod masks;
 mod said;
 
-pub use entry::{Entry, put_entry};
+pub use entry::put_entry;
 pub use fault::RecordFault;
 pub use head::{put_account, put_settings};
 pub use laws::{

@@ -1,11 +1,12 @@
 //! What of a request is not written as it is.
 
 ghost use Rattle.std.specs.Prelude.{◌≡◌, IfOk};
-ghost use Rattle.record_lines.specs.Masks.{masked, stars, unread_text, word_for, word_in_place};
+ghost use Rattle.std.specs.Option.{unwrap_or};
+ghost use Rattle.record_lines.specs.Masks.{masked, stars, unread_text, word_for};
 
 use account_book::AccountBook;
 use command_grammar::{Command, ReadFault, Request};
-use line_words::{TextBuf, WordBuf};
+use line_words::{SentenceBuf, TextBuf, WordBuf};
 use std::alloc::{AllocError, Global};
 
 /// The word that each account of a record has, and each login that passed: 16 bytes of 0 in base64.
@@ -25,39 +26,44 @@ pub struct Masks {
 }
 
 impl Masks {
-    /// Makes of a request what is written.
-    #[tactic(auto, using(crate::proofs::Masked::place_kept))]
-    pub(crate) fn mask(&self, alloc: Global, request: &mut Request) -> Result<(), AllocError>
-        ensures { IfOk result (λ _. request.new ≡ masked self.now.accounts self.now.private request.old) }
+    /// What is written in place of a request, where it is not written as it is.
+    pub(crate) fn in_place_of(
+        &self,
+        alloc: Global,
+        request: &Request,
+    ) -> Result<Option<Request>, AllocError>
+        ensures { IfOk result (λ other.
+            unwrap_or other request.now ≡ masked self.now.accounts self.now.private request.now) }
     {
-        let word = self.word_in_place(&request.command);
-        if let Command::Login { password, .. } = &mut request.command {
-            *password = WordBuf::copy_of(alloc, word)?;
-            return Ok(());
-        }
-        if self.private {
-            return Ok(());
-        }
-        if let Command::SayPrivate { text, .. } = &mut request.command {
-            *text = stars_for(alloc, text)?;
-        }
-        Ok(())
-    }
-
-    /// The word in place of a login's; for any other command it is not asked.
-    fn word_in_place(&self, command: &Command) -> &'static [u8]
-        ensures { result.now ≡ word_in_place self.now.accounts command.now }
-    {
-        if let Command::Login {
-            user_name,
-            password,
-            ..
-        } = command
-        {
-            self.word_for(user_name.as_slice(), password.as_slice())
-        } else {
-            FAILS
-        }
+        let command = match &request.command {
+            Command::Login {
+                user_name,
+                password,
+                cpu,
+                local_ip,
+                lobby,
+                authorises,
+            } => {
+                let word = self.word_for(user_name.as_slice(), password.as_slice());
+                Command::Login {
+                    user_name: WordBuf::copy_of(alloc, user_name.as_slice())?,
+                    password: WordBuf::copy_of(alloc, word)?,
+                    cpu: *cpu,
+                    local_ip: WordBuf::copy_of(alloc, local_ip.as_slice())?,
+                    lobby: SentenceBuf::copy_of(alloc, lobby.as_slice())?,
+                    authorises: *authorises,
+                }
+            }
+            Command::SayPrivate { user, text } if !self.private => Command::SayPrivate {
+                user: user.copy(),
+                text: stars_for(alloc, text)?,
+            },
+            _ => return Ok(None),
+        };
+        Ok(Some(Request {
+            id: request.id,
+            command,
+        }))
     }
 
     /// The word in place of this one.

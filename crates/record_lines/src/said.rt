@@ -24,12 +24,12 @@ pub(crate) fn put_said(
     masks: &Masks,
     place: u64,
     client: u64,
-    request: &mut Request,
+    request: &Request,
 ) -> Result<(), RecordFault>
-    ensures ok { OnOk result (PrintsSaid place client (masked masks.now.accounts masks.now.private request.old)
+    ensures ok { OnOk result (PrintsSaid place client (masked masks.now.accounts masks.now.private request.now)
         out.old.items out.new.items) }
     ensures refused { IfErr result (λ e.
-        NumberRefused e client ⊎ TextRefused e (masked masks.now.accounts masks.now.private request.old)) }
+        NumberRefused e client ⊎ TextRefused e (masked masks.now.accounts masks.now.private request.now)) }
     ensures kept { Keeps out.old.items out.new.items }
 {
     put_masked(alloc, text, masks, request)?;
@@ -43,14 +43,21 @@ fn put_masked(
     alloc: Global,
     text: &mut Vec<u8>,
     masks: &Masks,
-    request: &mut Request,
+    request: &Request,
 ) -> Result<(), RecordFault>
-    ensures text { OnOk result (IsTextOf (masked masks.now.accounts masks.now.private request.old) text.new.items) }
-    ensures refused { IfErr result (λ e. TextRefused e (masked masks.now.accounts masks.now.private request.old)) }
+    ensures text { OnOk result (IsTextOf (masked masks.now.accounts masks.now.private request.now) text.new.items) }
+    ensures refused { IfErr result (λ e. TextRefused e (masked masks.now.accounts masks.now.private request.now)) }
 {
-    masks.mask(alloc, request)?;
+    let other = masks.in_place_of(alloc, request)?;
     text.clear();
-    put_request(text, request)
+    match other {
+        Some(other) => {
+            let put = put_request(text, &other);
+            other.discard();
+            put
+        }
+        None => put_request(text, request),
+    }
 }
 
 /// Appends a line for the request to an empty text, with its LF.

@@ -6,7 +6,8 @@ ghost use Rattle.std.specs.Prelude.{◌≡◌};
 use crate::turns::desks::open;
 use crate::turns::serving::take_turns;
 use crate::verdict::{fail, same};
-use lobby_lock::{Closing, Count, Desk, Made, Pass};
+use lobby_lock::{Closing, Count, Desk, Pass};
+use lobby_model::MadeEvent;
 use lobby_turns::{Buffers, Conn, Gate, GatedDesk, TurnState};
 use std::alloc::{AllocError, Global};
 use std::process::Abort;
@@ -75,12 +76,12 @@ impl Gate for Counting {
         true
     }
 
-    fn made(&self, made: &mut Made) {
-        while let Some(event) = made.next() {
+    fn made(&self, worker: u8, events: &[MadeEvent]) {
+        let _ = worker;
+        for event in events {
             if event.place == self.in_place.load(Ordering::SeqCst) {
                 self.in_place.fetch_add(1, Ordering::SeqCst);
             }
-            drop(event);
         }
     }
 

@@ -1,10 +1,8 @@
 //! The lines of a worker that wait to be written.
 
-ghost use Rattle.std.specs.Prelude.{◌≡◌};
-
 use crate::record::end::End;
-use lobby_lock::{Made, MadeEvent};
-use record_lines::{Entry, Masks, put_entry};
+use lobby_model::MadeEvent;
+use record_lines::{Masks, put_entry};
 use std::alloc::Global;
 
 /// The most bytes of a worker that wait, but for the lines of one event: those of 10,000 events in a second for a
@@ -33,29 +31,22 @@ impl Lines {
         &mut self,
         alloc: Global,
         masks: &Masks,
-        made: &mut Made,
-    ) -> Result<(), End>
-        ensures { made.new.pass ≡ made.old.pass }
-    {
-        while let Some(event) = made.next() {
-            self.add(alloc, masks, event)?;
-        }
-        Ok(())
+        events: &[MadeEvent],
+    ) -> Result<(), End> {
+        events
+            .iter()
+            .try_for_each(|made| self.add(alloc, masks, made))
     }
 
     /// Adds the lines of an event, or nothing where the record ends by it.
-    fn add(&mut self, alloc: Global, masks: &Masks, made: MadeEvent) -> Result<(), End> {
+    fn add(&mut self, alloc: Global, masks: &Masks, made: &MadeEvent) -> Result<(), End> {
         if made.place == u64::MAX {
-            drop(made);
             return Err(End::LastPlace);
         }
         if self.bytes.len() >= MOST {
-            drop(made);
             return Err(End::Full);
         }
-        let MadeEvent { place, event, gain } = made;
-        let entry = Entry { place, event, gain };
-        put_entry(alloc, &mut self.bytes, &mut self.text, masks, entry)?;
+        put_entry(alloc, &mut self.bytes, &mut self.text, masks, made)?;
         Ok(())
     }
 }

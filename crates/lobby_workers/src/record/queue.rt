@@ -1,13 +1,11 @@
 //! The lines that wait to be written.
 
-ghost use Rattle.std.specs.Prelude.{◌≡◌};
-
 use crate::record::end::End;
 use crate::record::files::RecordFiles;
 use crate::record::lines::Lines;
 use crate::sleep::WriterSleep;
 use crossbeam_queue::ArrayQueue;
-use lobby_lock::Made;
+use lobby_model::MadeEvent;
 use record_lines::Masks;
 use std::alloc::{AllocError, Global};
 use std::fs::OpenFile;
@@ -80,17 +78,15 @@ impl RecordQueue {
 
     /// Puts the lines of the events that a worker made, where the record goes on. A worker without a place is passed
     /// over.
-    pub(crate) fn put<R: Wait>(&self, rt: &R, made: &mut Made)
-        ensures { made.new.pass ≡ made.old.pass }
-    {
-        if made.is_empty() {
+    pub(crate) fn put<R: Wait>(&self, rt: &R, worker: u8, events: &[MadeEvent]) {
+        if events.is_empty() {
             return;
         }
-        let waiting = self.waiting.get(usize::from(made.worker()));
+        let waiting = self.waiting.get(usize::from(worker));
         let (Some(place), None) = (waiting, self.end.get()) else {
             return;
         };
-        let count = match self.add(rt, place, made) {
+        let count = match self.add(rt, place, events) {
             Ok(count) => count,
             Err(end) => {
                 self.end_by(end);
@@ -103,14 +99,17 @@ impl RecordQueue {
     }
 
     /// Puts the lines of events behind those at a place. How many bytes wait there then.
-    fn add<R: Wait>(&self, rt: &R, place: &ArrayQueue<Lines>, made: &mut Made) -> Result<usize, End>
-        ensures { made.new.pass ≡ made.old.pass }
-    {
+    fn add<R: Wait>(
+        &self,
+        rt: &R,
+        place: &ArrayQueue<Lines>,
+        events: &[MadeEvent],
+    ) -> Result<usize, End> {
         let mut lines = match place.pop(rt) {
             Some(lines) => lines,
             None => Lines::new(self.alloc),
         };
-        let added = lines.add_made(self.alloc, &self.masks, made);
+        let added = lines.add_made(self.alloc, &self.masks, events);
         let count = lines.bytes.len();
         if let Err(refused) = place.push(rt, lines) {
             // Only this worker lays lines there.

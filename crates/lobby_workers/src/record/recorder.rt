@@ -1,7 +1,7 @@
 //! The gate through which workers record what they make.
 
 use crate::record::queue::RecordQueue;
-use lobby_lock::Made;
+use lobby_model::MadeEvent;
 use lobby_turns::Gate;
 use server_log::Happening;
 use std::sync::Wait;
@@ -26,8 +26,8 @@ impl<R: Wait, G: Gate> Gate for Recorder<'_, R, G> {
         true
     }
 
-    fn made(&self, made: &mut Made) {
-        self.queue.put(self.rt, made);
+    fn made(&self, worker: u8, events: &[MadeEvent]) {
+        self.queue.put(self.rt, worker, events);
     }
 
     fn after_write(&self, worker: u8, bytes: &[u8]) {
