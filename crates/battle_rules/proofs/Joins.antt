@@ -10,10 +10,10 @@ use Rattle.lobby_model.specs.Events.{reader_of}
 use Rattle.lobby_model.proofs.Delivered.{same_number_is}
 use Rattle.lobby_post.specs.Posted.{Posted, Sends, Told, blank, but_issuer}
 use Rattle.lobby_post.proofs.Telling.{told_lines_to_others}
-use Rattle.lobby_maps.specs.declared.room_lines.Recipient.{Recipient}
-use Rattle.lobby_maps.specs.declared.room_lines.Recipient.TheVariants.{Issuer, Other}
+use Rattle.lobby_battles.specs.declared.room_lines.Recipient.{Recipient}
+use Rattle.lobby_battles.specs.declared.room_lines.Recipient.TheVariants.{Issuer, Other}
 use Rattle.lobby_maps.specs.Fit.{IsOwn}
-use Rattle.lobby_maps.specs.Recipients.{is_issuer, written}
+use Rattle.lobby_battles.specs.Recipients.{is_issuer, written}
 use Rattle.battle_rules.proofs.InBattles.{told_own_user, told_same}
 use Rattle.lobby_model.proofs.Named.{named_so}
 

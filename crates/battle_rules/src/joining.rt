@@ -10,7 +10,7 @@ ghost use Rattle.lobby_model.specs.Battles.{accept, address, asks_to_join, deny,
 ghost use Rattle.lobby_model.specs.Battles.{reason_or_default, room_lines};
 ghost use Rattle.lobby_post.specs.Posted.{Told};
 ghost use Rattle.battle_rules.specs.Answers.{Answers};
-ghost use Rattle.lobby_maps.specs.Recipients.{is_issuer};
+ghost use Rattle.lobby_battles.specs.Recipients.{is_issuer};
 ghost use Rattle.lobby_maps.specs.declared.change.Change.TheVariants.{InBattles};
 ghost use Rattle.lobby_battles.specs.declared.battles.BattleChange.TheVariants.{Ask};
 
@@ -21,7 +21,8 @@ use crate::battle_guards::{
 use crate::battles::{address_of, stop_asking};
 use crate::{Issuer, Refusal, Stop};
 use line_words::{NameBuf, Text, TextBuf, WordBuf};
-use lobby_maps::{Battle, BattleChange, Change, Maps, Recipient, write_line, write_room};
+use lobby_battles::{Recipient, write_line, write_room};
+use lobby_maps::{Battle, BattleChange, Change, Maps};
 use lobby_post::Post;
 use reply_kinds::{BattleNumber, Held, HeldText, Name, Reply, Wide, Word};
 use std::alloc::{AllocError, Global};

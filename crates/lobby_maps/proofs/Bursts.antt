@@ -10,8 +10,8 @@ use Rattle.lobby_model.specs.Outcome.{tell, issuer}
 use Rattle.lobby_model.specs.Sessions.{added, shown_status, burst}
 use Rattle.lobby_post.specs.Posted.{Posted, Told, addressed, blank, with_own}
 use Rattle.lobby_post.proofs.Telling.{told_own_lines, with_own_more}
-use Rattle.lobby_maps.specs.declared.burst_parts.Part.TheVariants.{Presence, Status}
-use Rattle.lobby_maps.specs.BurstParts.{parts_of}
+use Rattle.lobby_battles.specs.declared.burst_parts.Part.TheVariants.{Presence, Status}
+use Rattle.lobby_battles.specs.BurstParts.{parts_of}
 
 grown : (a b c : Posted) (xs ys : List Reply) → b ≡ with_own a xs → c ≡ with_own b ys → c ≡ with_own a (xs ++ ys)
 grown a b c xs ys first second = second ∙ ap (λ p. with_own p ys) first ∙ with_own_more a xs ys

@@ -9,6 +9,3 @@ pub mod Arrivals
 pub mod Bursts
 pub mod Numbered
 pub mod AllBut
-pub mod Newcomer
-pub mod RoomLines
-pub mod Written

@@ -3,5 +3,3 @@ pub mod Shown
 pub mod Dirty
 pub mod Calls
 pub mod Changes
-pub mod Recipients
-pub mod BurstParts

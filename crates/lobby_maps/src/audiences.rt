@@ -31,8 +31,7 @@ impl Maps {
         ensures { OnOk result (Told self.now.plain post.old post.new (tell everyone (line.entry ∷ []) ∷ [])) }
     {
         post.write(line)?;
-        address_all(&self.online, &self.clients, post)?;
-        Ok(())
+        address_all(&self.online, &self.clients, post)
     }
 
     /// Tells all users but the issuer.
@@ -40,8 +39,7 @@ impl Maps {
         ensures { OnOk result (Told self.now.plain post.old post.new (tell others (line.entry ∷ []) ∷ [])) }
     {
         post.write_for_others(line)?;
-        address_all(&self.online, &self.clients, post)?;
-        Ok(())
+        address_all(&self.online, &self.clients, post)
     }
 
     /// Tells all users but those of two names.
@@ -56,8 +54,7 @@ impl Maps {
             ∷ [])) (line.entry ∷ []) ∷ [])) }
     {
         post.write(line)?;
-        address_all_but(&self.online, &self.clients, first, second, post)?;
-        Ok(())
+        address_all_but(&self.online, &self.clients, first, second, post)
     }
 
     /// Tells one user.
@@ -65,8 +62,7 @@ impl Maps {
         ensures { OnOk result (Told self.now.plain post.old post.new (tell (user name.now) (line.entry ∷ []) ∷ [])) }
     {
         post.write(line)?;
-        address_user(&self.online, name, post)?;
-        Ok(())
+        address_user(&self.online, name, post)
     }
 
     /// Tells the user whose event it is. By the number of its client it is found without a search for
@@ -82,8 +78,7 @@ impl Maps {
     {
         post.write(line)?;
         let key = self.clients.likely_key_of(client);
-        address_near(&self.online, &self.clients, me, key, post)?;
-        Ok(())
+        address_near(&self.online, &self.clients, me, key, post)
     }
 
     /// The user of this name, where there is one, gets the lines that were written. Where it is the one
@@ -93,8 +88,7 @@ impl Maps {
         ensures own { OnOk result (name_of self.now.plain post.old.issuer ≡ Some name.now
             → IsOwn self.now.plain post.old post.new name.now) }
     {
-        address_user(&self.online, name, post)?;
-        Ok(())
+        address_user(&self.online, name, post)
     }
 
     /// Tells the users of these names, the keys of whose clients these likely are.
@@ -109,8 +103,7 @@ impl Maps {
         ensures { OnOk result (Told self.now.plain post.old post.new (tell (users names.now) (line.entry ∷ []) ∷ [])) }
     {
         post.write(line)?;
-        address_names(&self.online, &self.clients, names, keys, post)?;
-        Ok(())
+        address_names(&self.online, &self.clients, names, keys, post)
     }
 
     /// Tells the users of these names, the keys of whose clients these likely are, but the issuer.
@@ -126,8 +119,7 @@ impl Maps {
             (tell (but_issuer (users names.now)) (line.entry ∷ []) ∷ [])) }
     {
         post.write_for_others(line)?;
-        address_names(&self.online, &self.clients, names, keys, post)?;
-        Ok(())
+        address_names(&self.online, &self.clients, names, keys, post)
     }
 
     /// Tells the members of a battle.
@@ -141,8 +133,7 @@ impl Maps {
             (tell (users (member_names room.now)) (line.entry ∷ []) ∷ [])) }
     {
         post.write(line)?;
-        address_members(&self.online, &self.clients, room.members(), post)?;
-        Ok(())
+        address_members(&self.online, &self.clients, room.members(), post)
     }
 
     /// Tells the members of a battle but the issuer.
@@ -156,8 +147,7 @@ impl Maps {
             (tell (but_issuer (users (member_names room.now))) (line.entry ∷ []) ∷ [])) }
     {
         post.write_for_others(line)?;
-        address_members(&self.online, &self.clients, room.members(), post)?;
-        Ok(())
+        address_members(&self.online, &self.clients, room.members(), post)
     }
 
     /// Tells those who ask to join a battle.
@@ -171,8 +161,7 @@ impl Maps {
             (tell (users (asker_names room.now)) (line.entry ∷ []) ∷ [])) }
     {
         post.write(line)?;
-        address_askers(&self.online, room.askers(), post)?;
-        Ok(())
+        address_askers(&self.online, room.askers(), post)
     }
 
     /// Tells those who ask to join a battle but the issuer.
@@ -186,8 +175,7 @@ impl Maps {
             (tell (but_issuer (users (asker_names room.now))) (line.entry ∷ []) ∷ [])) }
     {
         post.write_for_others(line)?;
-        address_askers(&self.online, room.askers(), post)?;
-        Ok(())
+        address_askers(&self.online, room.askers(), post)
     }
 }
 

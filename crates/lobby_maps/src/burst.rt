@@ -8,10 +8,9 @@ ghost use Rattle.lobby_post.specs.Posted.{Told};
 ghost use Rattle.lobby_battles.specs.OnlineUsers.{plain_user};
 
 use crate::audiences::address_all;
-use crate::burst_parts::{Part, write_battles, write_motd, write_parts};
 use crate::maps::Maps;
 use line_words::NameBuf;
-use lobby_battles::OnlineUser;
+use lobby_battles::{OnlineUser, Part, write_battles, write_motd, write_parts};
 use lobby_post::Post;
 use reply_kinds::Held::Lent;
 use reply_kinds::{Country, HeldWord, Name, Reply, Wide};
@@ -38,8 +37,7 @@ impl Maps {
         write_parts(&self.online.users, name, online_user, Part::Status, post)?;
         write_battles(&self.battles, post)?;
         post.write_own(Reply::LoginInfoEnd)?;
-        post.address_issuer()?;
-        Ok(())
+        post.address_issuer()
     }
 
     /// Tells the others that a user is there.
@@ -65,7 +63,6 @@ impl Maps {
                 status,
             })?;
         }
-        address_all(&self.online, &self.clients, post)?;
-        Ok(())
+        address_all(&self.online, &self.clients, post)
     }
 }

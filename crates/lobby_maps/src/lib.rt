@@ -1,5 +1,5 @@
 //! What the server keeps: the clients, users, channels and battles as maps, the changes of them, how a
-//! change is committed, and what one who logs in, or joins a battle, is told.
+//! change is committed, and who is told what.
 //!
 //! A rule of a command, in a crate above, looks things up here, tells its audiences, and names a change.
 //! What it tells waits in the post. Then there is made room for all that is told, the maps are changed,
@@ -9,16 +9,12 @@
 
 mod audiences;
 mod burst;
-mod burst_parts;
 mod change;
 mod greeting;
 mod lookups;
 mod maps;
-mod room_lines;
 
-pub use burst_parts::{Part, write_battles, write_motd, write_parts};
 pub use change::Change;
 pub use greeting::greeting_of;
 pub use lobby_battles::{Battle, BattleChange, LAST_NUMBER, NO_PASSWORD, OnlineUser, RoomChange};
 pub use maps::{Admission, Maps};
-pub use room_lines::{Recipient, write_line, write_room};

@@ -3,7 +3,7 @@ use Rattle.reply_kinds.specs.declared.Reply.TheVariants as reply
 use Rattle.lobby_model.specs.State.{name_of}
 use Rattle.lobby_post.specs.Posted.{Posted, blank, with_own}
 use Rattle.lobby_post.proofs.Telling.{with_own_more}
-use Rattle.lobby_maps.proofs.RoomLines.{put_then}
+use Rattle.lobby_battles.proofs.RoomLines.{put_then}
 use Rattle.battle_rules.proofs.InBattles.{told_own_user}
 use Rattle.battle_rules.proofs.battles.tell_opener.Goals as goal
 

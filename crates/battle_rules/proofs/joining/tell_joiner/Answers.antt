@@ -6,8 +6,8 @@ use Rattle.lobby_model.specs.State.{Battle}
 use Rattle.lobby_model.specs.Outcome.{tell, user}
 use Rattle.lobby_model.specs.Battles.{room_lines}
 use Rattle.lobby_post.specs.Posted.{Told, blank}
-use Rattle.lobby_maps.specs.Recipients.{written}
-use Rattle.lobby_maps.proofs.Written.{settled, written_then}
+use Rattle.lobby_battles.specs.Recipients.{written}
+use Rattle.lobby_battles.proofs.Written.{settled, written_then}
 use Rattle.battle_rules.proofs.Joins.{told_recipient}
 use Rattle.battle_rules.proofs.joining.tell_joiner.Goals as goal
 

@@ -9,7 +9,7 @@ use Rattle.lobby_post.specs.Posted.{Told, telling, with_others}
 use Rattle.lobby_battles.specs.OnlineUsers.{plain_user}
 use Rattle.lobby_maps.proofs.Arrivals.{arrival_told, not_zero}
 use Rattle.lobby_maps.proofs.Walks.{reaches_everyone}
-use Rattle.lobby_maps.proofs.Plain.{plainly}
+use Rattle.lobby_maps.proofs.Plain.{on_ok, plainly}
 use Rattle.lobby_maps.proofs.maps.Maps.tell_arrival.Goals as goal
 use Rattle.lobby_maps.proofs.maps.Maps.tell_arrival.Goals.{then-status-ne0+in_ok-write_more_for_others, else-status-ne0}
 
@@ -26,13 +26,14 @@ returns c =
     ] in
     let first : c.write_for_others.new.self ≡ telling c.args.post.now [] (printed_line None (added c.args.name.now (plain_user c.args.online_user.now)))
     (length (printed_line None (added c.args.name.now (plain_user c.args.online_user.now)))) = search rules in
+    on_ok _ (λ sent.
     subst (λ (s : State). Told s c.args.post.now c.address_all.new.post (tell others (arrival c.args.name.now (plain_user c.args.online_user.now)) ∷ []))
     (plainly c.self.view_is)
     (arrival_told _ c.args.post.now c.write_for_others.new.self c.if-status-ne0.post c.address_all.new.post c.args.name.now
     (plain_user c.args.online_user.now) c.word-status.result c.word-status.ensures.same
     first is (record {
       clients = _;
-      reached = reaches_everyone _ _ _ c.in_ok-address_all.ensures.rising c.self.invariant.1.listed;
+      reached = reaches_everyone _ _ _ c.address_all.ensures.rising c.self.invariant.1.listed;
       is =
-          c.in_ok-address_all.ensures.sent;
-    }))
+          sent;
+    }))) c.address_all.ensures.sent

@@ -7,11 +7,12 @@ use Rattle.lobby_model.specs.Sessions.{burst}
 use Rattle.lobby_post.specs.Posted.{Told, with_own}
 use Rattle.lobby_battles.specs.OnlineUsers.{plain_user}
 use Rattle.lobby_maps.proofs.Bursts.{burst_told}
-use Rattle.lobby_maps.proofs.Plain.{plainly}
+use Rattle.lobby_maps.proofs.Plain.{on_ok, plainly}
 use Rattle.lobby_maps.proofs.maps.Maps.tell_burst.Goals as goal
 
 pub returns : goal.returns
 returns c =
+    on_ok _ (λ sent.
     subst (λ (s : State). Told s c.args.post.now c.address_issuer.new.self
     (tell issuer (burst s.settings.motd c.args.name.now (put_name s.users c.args.name.now (plain_user c.args.online_user.now)) s.battles) ∷ []))
     (plainly c.self.view_is)
@@ -21,4 +22,4 @@ returns c =
     (c.in_ok-write_motd.ensures ∙ ap (λ motd. with_own c.write_own.new.self (map (λ line. reply.Motd line) motd)) (c.as_slice.ensures
     ∙ c.motd.ensures))
     c.in_ok-write_parts.ensures c.in_ok-write_parts-2.ensures
-    c.in_ok-write_battles.ensures c.in_ok-write_own-2.ensures c.in_ok-address_issuer.ensures)
+    c.in_ok-write_battles.ensures c.in_ok-write_own-2.ensures sent)) c.address_issuer.ensures

@@ -6,17 +6,18 @@ use Rattle.lobby_post.specs.Posted.{Told, addressed, but_issuer}
 use Rattle.lobby_post.proofs.Telling.{told_others}
 use Rattle.lobby_maps.specs.Fit.{clients_of}
 use Rattle.lobby_maps.proofs.Walks.{reaches_users}
-use Rattle.lobby_maps.proofs.Plain.{plainly}
+use Rattle.lobby_maps.proofs.Plain.{on_ok, plainly}
 use Rattle.lobby_maps.proofs.maps.Maps.tell_others_in_room.Goals as goal
 
 pub returns : goal.returns
 returns c =
+    on_ok _ (λ sent.
     subst (λ (s : State). Told s c.args.post.now c.address_members.new.post (tell (but_issuer (users (member_names c.args.room.now))) (c.args.line ∷ [])
     ∷ [])) (plainly c.self.view_is)
     (told_others _ c.args.post.now c.write_for_others.new.self c.address_members.new.post c.args.line (users (member_names c.args.room.now))
     (record {
       clients = _;
       reached = reaches_users _ _ _ (member_names c.args.room.now) c.self.invariant.1.agree c.members.ensures.distinct;
-      is = c.in_ok-address_members.ensures
+      is = sent
           ∙ ap (λ ms. addressed c.write_for_others.new.self (clients_of c.self.inside.online.users.entries (map (λ m. m.name) ms))) c.members.ensures.members;
-    }) c.in_ok-write_for_others.ensures)
+    }) c.in_ok-write_for_others.ensures)) c.address_members.ensures

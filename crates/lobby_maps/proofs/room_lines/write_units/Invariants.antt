@@ -1,7 +1,0 @@
-use Rattle.std.proofs.Common.{◌≡◌, [], ◌∷◌, map, take}
-use Rattle.reply_kinds.specs.declared.Reply.TheVariants as reply
-use Rattle.lobby_maps.specs.Recipients.{written}
-use Rattle.lobby_maps.proofs.room_lines.write_units.Given as goal
-
-abbrev pub invariant-loop-unit : goal.invariant-loop-unit
-invariant-loop-unit l = l.post ≡ written l.recipient l.initial.post (map (λ unit. reply.DisableUnits (unit ∷ [])) (take l.unit-index l.unit-items))
