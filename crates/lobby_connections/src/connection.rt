@@ -3,7 +3,7 @@
 ghost use Rattle.std.specs.Prelude.{◌≡◌, true};
 
 use crate::wire_link::WireLink;
-use lobby_turns::{Conn, Got, Link, Sent};
+use lobby_holds::{Conn, Got, Link, Sent};
 use mio::event::Event;
 
 /// A client and its link.

@@ -7,7 +7,7 @@
 ghost use Rattle.std.specs.Prelude.{◌≡◌, ◌+◌, ◌<◌, ◌≤◌, IsTrue};
 
 use crate::wire_link::{WireLink, try_read};
-use lobby_turns::{Got, PIECE};
+use lobby_holds::{Got, PIECE};
 use mio::net::TcpStream;
 use mio::{Interest, Registry, Token};
 use std::alloc::Global;

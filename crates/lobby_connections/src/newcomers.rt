@@ -6,7 +6,7 @@ ghost use Rattle.std.specs.Prelude.{◌≡◌, ◌∷◌, ◌++◌, [], ◌<◌}
 ghost use Rattle.lobby_connections.specs.Progress.{IsProgress};
 
 use crate::wire_link::try_read;
-use lobby_turns::Got;
+use lobby_holds::Got;
 use mio::net::TcpStream;
 use mio::{Interest, Registry, Token};
 use proxy_line::{HalfLine, LONGEST, Step};

@@ -5,10 +5,10 @@
 
 ghost use Rattle.std.specs.Prelude.{◌≡◌, ◌≤◌, ◌++◌, length};
 ghost use Rattle.lobby_connections.specs.Gathered.{gathered};
-ghost use Rattle.lobby_turns.specs.Wire.{got_count, sent_count, untouched};
+ghost use Rattle.lobby_holds.specs.Wire.{got_count, sent_count, untouched};
 
 use http_server::Log;
-use lobby_turns::{Got, Link, Sent};
+use lobby_holds::{Got, Link, Sent};
 use mio::event::Event;
 use mio::net::TcpStream;
 use mio::{Interest, Registry, Token};

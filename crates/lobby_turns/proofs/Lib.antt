@@ -1,13 +1,3 @@
-pub mod Moments
-pub mod Joins
-pub mod Lines
-pub mod Nexts
-pub mod Parts
-pub mod Spaces
-pub mod Drains
-pub mod Talks
-pub mod Sayings
-pub mod Kept
 pub mod Receivings
 pub mod Sendings
 pub mod Turns

@@ -2,26 +2,26 @@
 use Rattle.std.proofs.Common.{◌≡◌, ◌≢◌, ◌⊎◌, ℕ, zero, suc, ◌+◌, ◌-◌, ◌<◌, ◌≤◌, true, false, List, [], ◌++◌, length, refl, sym, ap, ◌∙◌, subst, inl, inr, arith, append-nil, length-append}
 use Rattle.std.specs.Prelude.{◌||◌, Some}
 use Rattle.lobby_post.specs.Mask.{has_home}
-use Rattle.lobby_turns.specs.declared.link.Got.{Got}
-use Rattle.lobby_turns.specs.declared.link.Got.TheVariants as got
-use Rattle.lobby_turns.specs.declared.holds.Said.{Said}
+use Rattle.lobby_holds.specs.declared.link.Got.{Got}
+use Rattle.lobby_holds.specs.declared.link.Got.TheVariants as got
+use Rattle.lobby_holds.specs.declared.holds.Said.{Said}
 use Rattle.lobby_turns.specs.declared.receiving.ReceiveState.{ReceiveState}
 use Rattle.lobby_turns.specs.declared.receiving.ReceiveState.TheVariants as receive
 use Rattle.lobby_turns.specs.declared.receiving.Left.{Left}
 use Rattle.lobby_turns.specs.declared.receiving.Step.{Step}
 use Rattle.lobby_turns.specs.declared.receiving.Step.TheVariants as step
-use Rattle.lobby_turns.specs.Moments.{Moment}
-use Rattle.lobby_turns.specs.Wire.{Wire, ReadsBytes, and_more}
-use Rattle.lobby_turns.specs.Snapshot.{Snapshot}
+use Rattle.lobby_holds.specs.Moments.{Moment}
+use Rattle.lobby_holds.specs.Wire.{Wire, ReadsBytes, and_more}
+use Rattle.lobby_holds.specs.Snapshot.{Snapshot}
 use Rattle.client_session.specs.Serving.{Serving}
-use Rattle.lobby_turns.specs.Went.{Went}
-use Rattle.lobby_turns.specs.Holds.{AreSaid, SaysLines, IsWithin, HasLoudNext, StopsAt}
+use Rattle.lobby_holds.specs.Went.{Went}
+use Rattle.lobby_holds.specs.Holds.{AreSaid, SaysLines, IsWithin, HasLoudNext, StopsAt}
 use Rattle.client_session.specs.declared.session.Next.TheVariants.{Nothing, Spoilt}
 use Rattle.client_session.specs.OneSession.{IsNextOf}
 use Rattle.lobby_turns.specs.Receiving.{OnlyReads, IsAllReceived, NoReadFailed, LimitIs, MayRead, HasToReceive, has_bytes, has_line, has_more, StaysWithin, IsMost, most_lines, most_reads, most_bytes, most_told, bytes_of, StepIs, ReceivesNext, ReceivedIs, Receives}
-use Rattle.lobby_turns.proofs.Parts.{went_none, went_then, more_none, more_twice}
-use Rattle.lobby_turns.proofs.Nexts.{line_is_sound}
-use Rattle.lobby_turns.proofs.Sayings.{says_none, says_then, loud_is_line, stays_next}
+use Rattle.lobby_holds.proofs.Parts.{went_none, went_then, more_none, more_twice}
+use Rattle.lobby_holds.proofs.Nexts.{line_is_sound}
+use Rattle.lobby_holds.proofs.Sayings.{says_none, says_then, loud_is_line, stays_next}
 use Rattle.std.proofs.Math.Nat.{add-zero, zero-add}
 
 -- so many lines were said to the lobby, so many reads were made, of so many bytes in all, and these workers are to be woken

@@ -3,19 +3,19 @@ use Rattle.std.proofs.Common.{◌≡◌, ◌≢◌, ◌⊎◌, ℕ, zero, suc, �
 use Rattle.std.specs.Prelude.{Option, Some}
 use Rattle.std.proofs.Math.Bool.{or-false}
 use Rattle.lobby_model.specs.declared.event.Event.TheVariants as event
-use Rattle.lobby_turns.specs.declared.link.Sent.{Sent}
-use Rattle.lobby_turns.specs.declared.link.Sent.TheVariants as sent
+use Rattle.lobby_holds.specs.declared.link.Sent.{Sent}
+use Rattle.lobby_holds.specs.declared.link.Sent.TheVariants as sent
 use Rattle.lobby_turns.specs.declared.sending.SendState.{SendState}
 use Rattle.lobby_turns.specs.declared.sending.SendState.TheVariants as send
-use Rattle.lobby_turns.specs.Wire.{MayGoOn}
-use Rattle.lobby_turns.specs.Moments.{Moment, moment, questions, tells_end, told_end}
-use Rattle.lobby_turns.specs.Snapshot.{Snapshot}
-use Rattle.lobby_turns.specs.Talk.{AreDrains, EndsDry}
-use Rattle.lobby_turns.specs.Went.{Went}
-use Rattle.lobby_turns.specs.Holds.{Drains, Asks}
+use Rattle.lobby_holds.specs.Wire.{MayGoOn}
+use Rattle.lobby_holds.specs.Moments.{Moment, moment, questions, tells_end, told_end}
+use Rattle.lobby_holds.specs.Snapshot.{Snapshot}
+use Rattle.lobby_holds.specs.Talk.{AreDrains, EndsDry}
+use Rattle.lobby_holds.specs.Went.{Went}
+use Rattle.lobby_holds.specs.Holds.{Drains, Asks}
 use Rattle.lobby_turns.specs.Sending.{MaySend, OnlyWrites, NoWriteFailed, IsSound, IsAllSent, AsksFirst, StepIs, SendsNext, IsStop, IsWrittenOut, all_written, stopped, spent, Writes, SentIs, Sends}
-use Rattle.lobby_turns.proofs.Parts.{went_none, went_then, questions-append}
-use Rattle.lobby_turns.proofs.Talks.{are_drains-append, calm-append, finished-append, dry_behind}
+use Rattle.lobby_holds.proofs.Parts.{went_none, went_then, questions-append}
+use Rattle.lobby_holds.proofs.Talks.{are_drains-append, calm-append, finished-append, dry_behind}
 use Rattle.std.proofs.Math.Nat.{add-zero}
 
 -- so many writes were made, and no drain said that nothing will come

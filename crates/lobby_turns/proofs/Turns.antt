@@ -8,26 +8,26 @@ use Rattle.lobby_post.specs.Mask.{has_home}
 use Rattle.client_session.specs.Serving.{Serving}
 use Rattle.client_session.specs.declared.session.Next.TheVariants.{Nothing, Spoilt}
 use Rattle.client_session.specs.OneSession.{IsNextOf, HasLineNext}
-use Rattle.lobby_turns.specs.declared.link.Got.{Got}
-use Rattle.lobby_turns.specs.declared.link.Got.TheVariants as got
+use Rattle.lobby_holds.specs.declared.link.Got.{Got}
+use Rattle.lobby_holds.specs.declared.link.Got.TheVariants as got
 use Rattle.lobby_turns.specs.declared.receiving.ReceiveState.{ReceiveState}
 use Rattle.lobby_turns.specs.declared.receiving.ReceiveState.TheVariants as receive
 use Rattle.lobby_turns.specs.declared.sending.SendState.{SendState}
 use Rattle.lobby_turns.specs.declared.sending.SendState.TheVariants as send
-use Rattle.lobby_turns.specs.declared.turn.TurnState.{TurnState}
-use Rattle.lobby_turns.specs.declared.turn.TurnState.TheVariants as state
-use Rattle.lobby_turns.specs.Moments.{Moment, moment, requests, questions, touched, told_end}
-use Rattle.lobby_turns.specs.Wire.{Wire, ReadsBytes, ReadsSome}
-use Rattle.lobby_turns.specs.Snapshot.{Snapshot}
-use Rattle.lobby_turns.specs.Talk.{AreTalk, AreDrains, EndsDry}
+use Rattle.lobby_holds.specs.declared.turn.TurnState.{TurnState}
+use Rattle.lobby_holds.specs.declared.turn.TurnState.TheVariants as state
+use Rattle.lobby_holds.specs.Moments.{Moment, moment, requests, questions, touched, told_end}
+use Rattle.lobby_holds.specs.Wire.{Wire, ReadsBytes, ReadsSome}
+use Rattle.lobby_holds.specs.Snapshot.{Snapshot}
+use Rattle.lobby_holds.specs.Talk.{AreTalk, AreDrains, EndsDry}
 use Rattle.lobby_turns.specs.Receiving.{OnlyReads, IsAllReceived, HasToReceive, has_bytes, has_line, has_more, IsOver, NoReadFailed, IsMost, most_lines, most_reads, most_bytes, most_told, ReceivesMost, ReceivedIs, Receives}
 use Rattle.lobby_turns.specs.Sending.{OnlyWrites, IsSound, IsStop, IsWrittenOut, all_written, stopped, spent, IsAllSent, MustWait, SendsMost, SentIs, Sends}
-use Rattle.lobby_turns.specs.Went.{Went}
-use Rattle.lobby_turns.specs.Holds.{Made, HasNoSpoiltNext, HasLoudNext}
+use Rattle.lobby_holds.specs.Went.{Went}
+use Rattle.lobby_holds.specs.Holds.{Made, HasNoSpoiltNext, HasLoudNext}
 use Rattle.lobby_turns.specs.Turned.{GoesOn, MayShut, spoilt, unread, unsent, finished, ended, HasReceived, received_all, received_most, HasSent, sent_all, put_off, sent_most, IsIdle, IsAtLimit, of_receiving, of_sending, IsShort, to_receive, to_drain, to_go_on, to_shut, IsAsked, Ends, Turned, ClosesTo}
-use Rattle.lobby_turns.proofs.Nexts.{line_is_sound, nothing_is_sound}
-use Rattle.lobby_turns.proofs.Parts.{requests-append, questions-append, went_then}
-use Rattle.lobby_turns.proofs.Talks.{only_requests, are_talk-append, drains_are_talk, drains_ask, touched-append, touched_drained, calm-append, finished-append, dry_behind}
+use Rattle.lobby_holds.proofs.Nexts.{line_is_sound, nothing_is_sound}
+use Rattle.lobby_holds.proofs.Parts.{requests-append, questions-append, went_then}
+use Rattle.lobby_holds.proofs.Talks.{only_requests, are_talk-append, drains_are_talk, drains_ask, touched-append, touched_drained, calm-append, finished-append, dry_behind}
 
 -- what came from a client was received, and then what is for it was sent
 pub record Served (a b c : Snapshot) (left : ℕ) (how : ReceiveState) (far : SendState) (wakes : ℕ) : Type 0 where

@@ -1,9 +1,5 @@
-pub mod Wire
-pub mod Moments
-pub mod Snapshot
-pub mod Went
-pub mod Talk
-pub mod Holds
+pub use Rattle.lobby_holds.specs.Wire
+pub use Rattle.lobby_holds.specs.Holds
 pub mod Receiving
 pub mod Sending
 pub mod Turned

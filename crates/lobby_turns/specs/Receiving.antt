@@ -4,19 +4,19 @@ use Rattle.lobby_post.specs.Mask.{has_home}
 use Rattle.client_session.specs.declared.session.Next.TheVariants.{Nothing, Spoilt}
 use Rattle.client_session.specs.OneSession.{IsNextOf, HasLineNext}
 use Rattle.client_session.specs.Serving.{Serving}
-use Rattle.lobby_turns.specs.declared.link.Got.{Got}
-use Rattle.lobby_turns.specs.declared.link.Got.TheVariants as got
+use Rattle.lobby_holds.specs.declared.link.Got.{Got}
+use Rattle.lobby_holds.specs.declared.link.Got.TheVariants as got
 use Rattle.lobby_turns.specs.declared.receiving.ReceiveState.{ReceiveState}
 use Rattle.lobby_turns.specs.declared.receiving.ReceiveState.TheVariants as receive
 use Rattle.lobby_turns.specs.declared.receiving.Left.{Left}
 use Rattle.lobby_turns.specs.declared.receiving.Step.{Step}
 use Rattle.lobby_turns.specs.declared.receiving.Step.TheVariants as step
-use Rattle.lobby_turns.specs.Wire.{ReadsBytes}
-use Rattle.lobby_turns.specs.Moments.{Moment, requests, touched, told_end}
-use Rattle.lobby_turns.specs.Snapshot.{Carried, Snapshot}
-use Rattle.lobby_turns.specs.Talk.{AreTalk}
-use Rattle.lobby_turns.specs.Went.{Went}
-use Rattle.lobby_turns.specs.Holds.{AreSaid, IsWithin, HasNoSpoiltNext, HasLoudNext, StopsAt}
+use Rattle.lobby_holds.specs.Wire.{ReadsBytes}
+use Rattle.lobby_holds.specs.Moments.{Moment, requests, touched, told_end}
+use Rattle.lobby_holds.specs.Snapshot.{Carried, Snapshot}
+use Rattle.lobby_holds.specs.Talk.{AreTalk}
+use Rattle.lobby_holds.specs.Went.{Went}
+use Rattle.lobby_holds.specs.Holds.{AreSaid, IsWithin, HasNoSpoiltNext, HasLoudNext, StopsAt}
 
 -- So many reads were made, of so many bytes in all and 16,384 at most, and no write, and each failed at most once.
 -- Without a read its last answer is as it was. What is to be written is as it was

@@ -1,14 +1,14 @@
 -- What sending to a client did.
 use Rattle.std.specs.Prelude.{◌≡◌, ◌≢◌, ℕ, ◌+◌, ◌-◌, ◌^◌, ◌<◌, ◌≤◌, true, false, List, [], length, Option, Some, None}
-use Rattle.lobby_turns.specs.declared.link.Sent.{Sent}
-use Rattle.lobby_turns.specs.declared.link.Sent.TheVariants as sent
+use Rattle.lobby_holds.specs.declared.link.Sent.{Sent}
+use Rattle.lobby_holds.specs.declared.link.Sent.TheVariants as sent
 use Rattle.lobby_turns.specs.declared.sending.SendState.{SendState}
 use Rattle.lobby_turns.specs.declared.sending.SendState.TheVariants as send
-use Rattle.lobby_turns.specs.Wire.{Wire}
-use Rattle.lobby_turns.specs.Moments.{Moment, questions, told_end}
-use Rattle.lobby_turns.specs.Snapshot.{Snapshot}
-use Rattle.lobby_turns.specs.Talk.{AreDrains, BeginsWith, EndsDry}
-use Rattle.lobby_turns.specs.Went.{Went}
+use Rattle.lobby_holds.specs.Wire.{Wire}
+use Rattle.lobby_holds.specs.Moments.{Moment, questions, told_end}
+use Rattle.lobby_holds.specs.Snapshot.{Snapshot}
+use Rattle.lobby_holds.specs.Talk.{AreDrains, BeginsWith, EndsDry}
+use Rattle.lobby_holds.specs.Went.{Went}
 
 -- so many more writes may be made, each of which may fail
 pub record MaySend (wire : Wire) (writes : ℕ) : Type 0 where

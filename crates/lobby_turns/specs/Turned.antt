@@ -7,17 +7,17 @@ use Rattle.lobby_model.specs.Touched.{touches}
 use Rattle.lobby_post.specs.Mask.{has_home}
 use Rattle.client_session.specs.declared.session.Next.TheVariants.{Nothing, Spoilt}
 use Rattle.client_session.specs.OneSession.{IsNextOf}
-use Rattle.lobby_turns.specs.declared.link.Got.TheVariants as got
-use Rattle.lobby_turns.specs.declared.link.Sent.TheVariants as sent
-use Rattle.lobby_turns.specs.declared.turn.Turn.{Turn}
-use Rattle.lobby_turns.specs.declared.turn.TurnState.{TurnState}
-use Rattle.lobby_turns.specs.declared.turn.TurnState.TheVariants as state
-use Rattle.lobby_turns.specs.Wire.{ReadsSome}
-use Rattle.lobby_turns.specs.Moments.{Moment, moment, requests, questions, touched, told_end}
-use Rattle.lobby_turns.specs.Snapshot.{Snapshot}
-use Rattle.lobby_turns.specs.Talk.{AreDrains, AreTalk}
-use Rattle.lobby_turns.specs.Went.{Went}
-use Rattle.lobby_turns.specs.Holds.{HasNoSpoiltNext}
+use Rattle.lobby_holds.specs.declared.link.Got.TheVariants as got
+use Rattle.lobby_holds.specs.declared.link.Sent.TheVariants as sent
+use Rattle.lobby_holds.specs.declared.turn.Turn.{Turn}
+use Rattle.lobby_holds.specs.declared.turn.TurnState.{TurnState}
+use Rattle.lobby_holds.specs.declared.turn.TurnState.TheVariants as state
+use Rattle.lobby_holds.specs.Wire.{ReadsSome}
+use Rattle.lobby_holds.specs.Moments.{Moment, moment, requests, questions, touched, told_end}
+use Rattle.lobby_holds.specs.Snapshot.{Snapshot}
+use Rattle.lobby_holds.specs.Talk.{AreDrains, AreTalk}
+use Rattle.lobby_holds.specs.Went.{Went}
+use Rattle.lobby_holds.specs.Holds.{HasNoSpoiltNext}
 use Rattle.lobby_turns.specs.Receiving.{IsAllReceived, HasToReceive, NoReadFailed, ReceivesMost}
 use Rattle.lobby_turns.specs.Sending.{IsAllSent, IsWrittenOut, MustWait, NoWriteFailed, SendsMost}
 

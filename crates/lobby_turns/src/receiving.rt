@@ -5,18 +5,15 @@ ghost use Rattle.std.specs.Prelude.{◌≡◌, ℕ, ◌-◌, ◌≤◌, ◌||◌
 ghost use Rattle.lobby_lock.specs.Passes.{ShownPass};
 ghost use Rattle.client_session.specs.declared.session.Next.TheVariants.{Nothing};
 ghost use Rattle.client_session.specs.OneSession.{IsNextOf};
-ghost use Rattle.lobby_turns.specs.Wire.{Wire, MayGoOn, IsFresh};
-ghost use Rattle.lobby_turns.specs.Snapshot.{snapshot};
-ghost use Rattle.lobby_turns.specs.Went.{Went};
+ghost use Rattle.lobby_holds.specs.Wire.{Wire, MayGoOn, IsFresh};
+ghost use Rattle.lobby_holds.specs.Snapshot.{snapshot};
+ghost use Rattle.lobby_holds.specs.Went.{Went};
 ghost use Rattle.lobby_post.specs.Mask.{has_home};
 ghost use Rattle.lobby_turns.specs.Receiving.{StaysWithin, LimitIs, ReceivesNext, Receives};
 
-use crate::conn::Conn;
-use crate::gate::Gate;
-use crate::gated_desk::GatedDesk;
-use crate::holds::{self, Said};
-use crate::link::{Got, Link};
 use client_session::Next;
+use lobby_holds::holds::{self, Said};
+use lobby_holds::{Conn, Gate, GatedDesk, Got, Link};
 use lobby_lock::Pass;
 use lobby_machine::Wakes;
 use std::sync::Wait;

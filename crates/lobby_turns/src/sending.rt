@@ -3,17 +3,13 @@
 
 ghost use Rattle.std.specs.Prelude.{◌≡◌, ◌≢◌, ◌+◌, ◌≤◌, [], Some, false};
 ghost use Rattle.lobby_lock.specs.Passes.{ShownPass};
-ghost use Rattle.lobby_turns.specs.Wire.{MayGoOn};
-ghost use Rattle.lobby_turns.specs.Snapshot.{Snapshot, snapshot};
-ghost use Rattle.lobby_turns.specs.Went.{Went};
-ghost use Rattle.lobby_turns.specs.Holds.{Drains};
+ghost use Rattle.lobby_holds.specs.Wire.{MayGoOn};
+ghost use Rattle.lobby_holds.specs.Snapshot.{Snapshot, snapshot};
+ghost use Rattle.lobby_holds.specs.Went.{Went};
+ghost use Rattle.lobby_holds.specs.Holds.{Drains};
 ghost use Rattle.lobby_turns.specs.Sending.{OnlyWrites, SendsNext, Sends, Writes, MaySend};
 
-use crate::conn::Conn;
-use crate::gate::Gate;
-use crate::gated_desk::GatedDesk;
-use crate::holds;
-use crate::link::{Link, Sent};
+use lobby_holds::{Conn, Gate, GatedDesk, Link, Sent, holds};
 use lobby_lock::Pass;
 use std::sync::Wait;
 

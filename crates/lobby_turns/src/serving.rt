@@ -1,19 +1,14 @@
 //! A turn of a connection.
 
 ghost use Rattle.std.specs.Prelude.{◌≡◌, ◌≢◌, ◌⊎◌, Some, None};
-ghost use Rattle.lobby_turns.specs.Wire.{Wire, IsFresh};
-ghost use Rattle.lobby_turns.specs.Snapshot.{snapshot};
+ghost use Rattle.lobby_holds.specs.Wire.{Wire, IsFresh};
+ghost use Rattle.lobby_holds.specs.Snapshot.{snapshot};
 ghost use Rattle.lobby_turns.specs.Sending.{Sends};
 ghost use Rattle.lobby_turns.specs.Turned.{Turned, Closes};
 
-use crate::conn::Conn;
-use crate::gate::Gate;
-use crate::gated_desk::GatedDesk;
-use crate::holds;
-use crate::link::{Got, Link};
 use crate::receiving::{ReceiveState, receive};
 use crate::sending::{SendState, send};
-use crate::turn::{Turn, TurnState};
+use lobby_holds::{Conn, Gate, GatedDesk, Got, Link, Turn, TurnState, holds};
 use lobby_lock::{Desk, Pass};
 use lobby_machine::Wakes;
 use std::sync::Wait;

@@ -1,2 +1,2 @@
-pub use Rattle.lobby_turns.specs.Wire
+pub use Rattle.worker_loop.specs.Wire
 pub mod Statuses

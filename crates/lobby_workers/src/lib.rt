@@ -18,11 +18,13 @@ mod workers;
 
 pub use error::ServerError;
 pub use lobby_machine::HashSeed;
-pub use lobby_turns::{Conn, Gate, Got, Link, Sent, Turn, TurnState, serve};
 pub use logged::{Log, run_server_logged};
 pub use record::{Record, RecordFiles};
 pub use record_lines::Masks;
 pub use recorded::run_server_recorded;
 pub use server::{Service, run_server, run_service};
-pub use worker_loop::{Arrival, Inboxes, ListenError, Wakers, WorkerListener, run_worker};
+pub use worker_loop::{
+    Arrival, Conn, Gate, Got, Inboxes, Link, ListenError, Sent, Turn, TurnState, Wakers,
+    WorkerListener, run_worker, serve,
+};
 pub use workers::{Handles, NewWorker, new_workers, open_desk};

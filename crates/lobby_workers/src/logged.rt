@@ -9,7 +9,6 @@ use crate::log_queue::LogQueue;
 use crate::reporter::Reporter;
 use crate::server::{Service, run_service};
 use lobby_model::WORKERS;
-use lobby_turns::Gate;
 use mio::net::TcpListener;
 use server_log::{LogLevel, Started};
 use std::alloc::{AllocError, Global};
@@ -17,6 +16,7 @@ use std::io::{Read, Write};
 use std::net::Net;
 use std::sync::Wait;
 use std::thread::{self, JoinHandle, Scope, Threads};
+use worker_loop::Gate;
 
 /// What operators are told.
 #[derive(Drop)]

@@ -8,7 +8,6 @@ use crate::logged::{Log, run_server_logged};
 use crate::record::{Record, RecordFiles, RecordQueue, Recorder};
 use crate::server::Service;
 use lobby_model::WORKERS;
-use lobby_turns::Gate;
 use mio::net::TcpListener;
 use std::alloc::Global;
 use std::fs::OpenFile;
@@ -16,6 +15,7 @@ use std::io::{Read, Write};
 use std::net::Net;
 use std::sync::Wait;
 use std::thread::{self, JoinHandle, Scope, Threads};
+use worker_loop::Gate;
 
 /// What the server listens with, reads and writes, and what is told what workers do.
 #[derive(Drop)]

@@ -10,7 +10,6 @@ use account_book::AccountBook;
 use lobby_lock::{Closing, Count, Desk, Pass};
 use lobby_machine::HashSeed;
 use lobby_model::{Settings, WORKERS};
-use lobby_turns::Gate;
 use mio::net::TcpListener;
 use proxy_line::Proxies;
 use server_log::Happening;
@@ -20,7 +19,7 @@ use std::net::Net;
 use std::snapshot::Snapshot;
 use std::sync::Wait;
 use std::thread::{self, Promise, PromisedHandle, Scope, Threads};
-use worker_loop::{Shared, run_worker};
+use worker_loop::{Gate, Shared, run_worker};
 
 /// What a server serves, and how.
 #[derive(Drop)]

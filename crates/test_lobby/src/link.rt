@@ -1,9 +1,9 @@
 //! A link in memory: turns over it need no socket, and what it moves can be compared.
 
 ghost use Rattle.std.specs.Prelude.{◌≡◌, ◌≤◌, length, IfOk, Some};
-ghost use Rattle.lobby_turns.specs.Wire.{untouched};
+ghost use Rattle.lobby_holds.specs.Wire.{untouched};
 
-use lobby_turns::{Got, Link, Sent};
+use lobby_holds::{Got, Link, Sent};
 use std::alloc::{AllocError, Global};
 
 /// The largest count with which a turn may still begin.
@@ -123,7 +123,7 @@ impl MemoryLink {
 
 impl Link for MemoryLink {
     ghost use Rattle.std.specs.Prelude.{◌≡◌, ℕ, take, Some};
-    ghost use Rattle.lobby_turns.specs.Wire.{Wire};
+    ghost use Rattle.lobby_holds.specs.Wire.{Wire};
 
     ghost wire = { λ l. record {
       reads = l.reads;

@@ -14,6 +14,7 @@ mod worker;
 
 pub use error::ListenError;
 pub use inboxes::{Arrival, Inboxes};
+pub use lobby_turns::{Conn, Gate, Got, Link, Sent, Turn, TurnState, serve};
 pub use turns::Shared;
 pub use wakers::Wakers;
 pub use worker::{WorkerListener, run_worker};

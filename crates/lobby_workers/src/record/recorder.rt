@@ -2,9 +2,9 @@
 
 use crate::record::queue::RecordQueue;
 use lobby_model::MadeEvent;
-use lobby_turns::Gate;
 use server_log::Happening;
 use std::sync::Wait;
+use worker_loop::Gate;
 
 /// A gate that also puts what is recorded.
 #[derive(Drop)]

@@ -1,5 +1,5 @@
 use Rattle.std.proofs.Common.{◌+◌, ◌-◌}
-use Rattle.lobby_turns.specs.Snapshot.{snapshot}
+use Rattle.lobby_holds.specs.Snapshot.{snapshot}
 use Rattle.lobby_turns.proofs.Receivings.{IsReceiving}
 use Rattle.lobby_turns.proofs.receiving.receive.Given as goal
 

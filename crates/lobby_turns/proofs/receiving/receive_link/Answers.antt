@@ -1,5 +1,5 @@
 use Rattle.std.proofs.Common.{rules, arith, ap, ◌∙◌, Some}
-use Rattle.lobby_turns.specs.Wire.{got_count}
+use Rattle.lobby_holds.specs.Wire.{got_count}
 use Rattle.lobby_turns.proofs.Receivings.{stays_nothing, read_bytes, fits, only_one, link_read, link_later, link_end, link_fault, ended_before, failed_before}
 use Rattle.lobby_turns.proofs.receiving.receive_link.Goals as goal
 

@@ -3,9 +3,9 @@ use Rattle.lobby_turns.specs.declared.receiving.ReceiveState.TheVariants as rece
 use Rattle.lobby_turns.specs.declared.receiving.Step.TheVariants as step
 use Rattle.client_session.specs.declared.session.Next.{Next}
 use Rattle.client_session.specs.OneSession.{IsNextOf}
-use Rattle.lobby_turns.specs.Snapshot.{Carried, snapshot}
+use Rattle.lobby_holds.specs.Snapshot.{Carried, snapshot}
 use Rattle.lobby_turns.specs.Receiving.{has_bytes, has_line, ReceivesNext}
-use Rattle.lobby_turns.proofs.Parts.{went_none}
+use Rattle.lobby_holds.proofs.Parts.{went_none}
 use Rattle.lobby_turns.proofs.Receivings.{said_next, none_done, none_left, put_off, fed_first}
 use Rattle.lobby_turns.proofs.receiving.receive_next.Goals as goal
 

@@ -1,6 +1,6 @@
 use Rattle.std.proofs.Common.{refl, sym, ◌∙◌, subst, arith, true≢false}
 use Rattle.lobby_lock.specs.Passes.{ShownPass}
-use Rattle.lobby_turns.specs.Snapshot.{snapshot}
+use Rattle.lobby_holds.specs.Snapshot.{snapshot}
 use Rattle.lobby_turns.proofs.Sendings.{Sending, no_write, sending_none, sending_asked, sending_wrote, sends_on, sends_finished, sends_asked}
 use Rattle.lobby_turns.proofs.sending.send.Goals.{then-not-is_written+else-finished, else-not-is_written}
 use Rattle.lobby_turns.proofs.sending.send.Goals as goal

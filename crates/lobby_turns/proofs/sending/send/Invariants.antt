@@ -1,4 +1,4 @@
-use Rattle.lobby_turns.specs.Snapshot.{snapshot}
+use Rattle.lobby_holds.specs.Snapshot.{snapshot}
 use Rattle.lobby_turns.proofs.Sendings.{Sending}
 use Rattle.lobby_turns.proofs.sending.send.Given as goal
 

@@ -1,9 +1,9 @@
 use Rattle.std.proofs.Common.{refl, sym, subst}
 use Rattle.lobby_turns.specs.declared.sending.SendState.TheVariants as send
-use Rattle.lobby_turns.specs.Snapshot.{Carried, snapshot}
+use Rattle.lobby_holds.specs.Snapshot.{Carried, snapshot}
 use Rattle.lobby_turns.specs.Sending.{SendsNext}
 use Rattle.lobby_lock.specs.Passes.{ShownPass}
-use Rattle.lobby_turns.proofs.Talks.{from_ok, from_err}
+use Rattle.lobby_holds.proofs.Talks.{from_ok, from_err}
 use Rattle.lobby_turns.proofs.Sendings.{no_write, only_same, drains_none, drains_on, next_memory, next_finished, next_all}
 use Rattle.lobby_turns.proofs.sending.send_next.Goals as goal
 

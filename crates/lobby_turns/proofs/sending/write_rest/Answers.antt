@@ -1,8 +1,8 @@
 use Rattle.std.proofs.Common.{[], ◌++◌, take, drop, refl, sym, ap, ◌∙◌}
 use Rattle.std.proofs.lemmas.List.{take-append-drop}
-use Rattle.lobby_turns.specs.Wire.{and_more}
-use Rattle.lobby_turns.specs.Snapshot.{Carried}
-use Rattle.lobby_turns.proofs.Parts.{went_written, nothing_sent}
+use Rattle.lobby_holds.specs.Wire.{and_more}
+use Rattle.lobby_holds.specs.Snapshot.{Carried}
+use Rattle.lobby_holds.proofs.Parts.{went_written, nothing_sent}
 use Rattle.lobby_turns.proofs.sending.write_rest.Goals as goal
 
 pub returns-in-Took-clause-went : goal.returns-in-Took-clause-went

@@ -1,7 +1,7 @@
 use Rattle.std.proofs.Common.{refl}
-use Rattle.lobby_turns.specs.Wire.{untouched}
-use Rattle.lobby_turns.proofs.Kept.{kept}
-use Rattle.lobby_turns.proofs.Talks.{from_ok, from_err}
+use Rattle.lobby_holds.specs.Wire.{untouched}
+use Rattle.lobby_holds.proofs.Kept.{kept}
+use Rattle.lobby_holds.proofs.Talks.{from_ok, from_err}
 use Rattle.lobby_turns.proofs.Turns.{closes_shut}
 use Rattle.lobby_turns.proofs.serving.close.Goals as goal
 

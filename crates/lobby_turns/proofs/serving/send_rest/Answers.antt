@@ -1,4 +1,4 @@
-use Rattle.lobby_turns.proofs.Kept.{kept}
+use Rattle.lobby_holds.proofs.Kept.{kept}
 use Rattle.lobby_turns.proofs.serving.send_rest.Goals as goal
 
 pub returns-clause-desk : goal.returns-clause-desk

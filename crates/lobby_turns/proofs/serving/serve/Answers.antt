@@ -1,6 +1,6 @@
 use Rattle.std.proofs.Common.{refl}
-use Rattle.lobby_turns.specs.Snapshot.{snapshot}
-use Rattle.lobby_turns.proofs.Kept.{kept}
+use Rattle.lobby_holds.specs.Snapshot.{snapshot}
+use Rattle.lobby_holds.proofs.Kept.{kept}
 use Rattle.lobby_turns.proofs.Turns.{must_shut, may_rest, turned_open, turned_closed}
 use Rattle.lobby_turns.proofs.serving.serve.Goals as goal
 

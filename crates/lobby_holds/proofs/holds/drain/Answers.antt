@@ -1,0 +1,18 @@
+use Rattle.std.proofs.Common.{sym, subst, refl}
+use Rattle.lobby_holds.specs.Snapshot.{Carried, snapshot}
+use Rattle.lobby_holds.specs.Holds.{Drains}
+use Rattle.lobby_holds.proofs.Drains.{drains_held, grew}
+use Rattle.lobby_holds.proofs.holds.drain.Goals as goal
+
+pub returns-clause-ok : goal.returns-clause-ok
+returns-clause-ok g c = λ wire.
+    let held = c.take-held.result in
+    let drained = c.drain_pieces-piece in
+    let old : Carried = record { session = c.conn.inside.session; unfed = c.conn.inside.unfed.bytes; unwritten = c.conn.inside.unwritten.bytes } in
+    let new : Carried = record { session = c.conn.inside.session; unfed = c.conn.inside.unfed.bytes; unwritten = drained.new.unwritten.bytes } in
+    subst (λ (x : Carried). Drains (snapshot x wire c.args.pass) (snapshot new wire c.give.result) drained.result.finished drained.result.dry) c.conn.view_is (
+    drains_held old new wire c.args.pass c.give.result held drained.new.held c.client-client.result _ _ _ c.take-held.ensures.taken c.give.ensures c.take-held.ensures.fresh drained.ensures.pass drained.ensures.count
+    c.client-client.ensures drained.ensures.drained refl refl (sym c.make_room.ensures.bytes) refl)
+
+pub returns-clause-came : goal.returns-clause-came
+returns-clause-came g c = λ some none. grew _ _ (c.drain_pieces-piece.ensures.drained.came some) none

@@ -1,5 +1,0 @@
-use Rattle.lobby_turns.proofs.Drains.{asks}
-use Rattle.lobby_turns.proofs.holds.is_finished.Goals as goal
-
-pub returns : goal.returns
-returns g c = λ wire. asks c.args.conn.now wire _ _ c.client.result _ _ c.client.ensures c.drain_into-pass.ensures
