@@ -8,16 +8,14 @@ use Rattle.std.proofs.lemmas.Bool.{and_parts, and_from}
 use Rattle.std.proofs.lemmas.Bool.Decides.{nat_tests}
 use Rattle.std.proofs.lemmas.Slice.Eq.{bytes_eq-Decides}
 use Rattle.line_words.specs.Bytes.{is_word, is_word_byte}
+use Rattle.line_words.proofs.WordLemmas.{upper_case_in_word}
 use Rattle.account_book.specs.Account.{is_country}
-
-letter : (b : ℕ) → is_ascii_uppercase b ≡ true → is_word_byte b ≡ true
-letter b upper = grind (arith, nat_tests)
 
 letters : (bytes : List ℕ) → list_all is_ascii_uppercase bytes ≡ true → list_all is_word_byte bytes ≡ true
 letters [] all = refl
 letters (b ∷ bytes) all =
     let parts = and_parts (is_ascii_uppercase b) (list_all is_ascii_uppercase bytes) all in
-    and_from (is_word_byte b) (list_all is_word_byte bytes) (letter b parts.0) (letters bytes parts.1)
+    and_from (is_word_byte b) (list_all is_word_byte bytes) (upper_case_in_word b parts.0) (letters bytes parts.1)
 
 two : (n : ℕ) → (n == 2) ≡ true → nat_le 1 n ≡ true
 two n is = grind (arith, nat_tests)

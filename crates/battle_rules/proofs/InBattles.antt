@@ -1,6 +1,6 @@
 -- What is told and done as users open, join and leave battles.
 use Rattle.std.proofs.Common.{◌≡◌, ◌==◌, ℕ, ℤ, ◌+◌, ◌^◌, ◌<◌, ◌≤◌, suc, List, [], ◌∷◌, ◌++◌, length, take, map, filter, refl, sym, ap, subst, ◌∙◌, Bool, true, false, slice_index_or, add-one, append-nil, arith, append_assoc}
-use Rattle.std.specs.Prelude.{Option, Some, None, is_some, not, ◌&&◌, if◌then◌else◌, Result, Ok, Err, OnOk, decimal, nat_le}
+use Rattle.std.specs.Prelude.{Option, Some, None, is_some, not, ◌&&◌, if◌then◌else◌, decimal, nat_le}
 use Rattle.std.specs.Global.{Box}
 use Rattle.std.specs.Ordering.{nat_cmp, eq_by_cmp}
 use Rattle.std.proofs.lemmas.List.{map-append}
@@ -143,10 +143,6 @@ change_same f same (e ∷ m) k =
     ∷ change_same f same m k i)
 
 -- what is told once all tests were passed
-pub on_ok : {A E : Type 0} (r : Result A E) (P Q : Type 0) → (P → Q) → OnOk r P → OnOk r Q
-on_ok (Ok x) P Q f h = f h
-on_ok (Err e) P Q f h = tt
-
 -- one who is in no battle, and asks to join none
 can_enter : (s : State) (c : ℕ) (me name : List ℕ) → name ≡ me → name_of s c ≡ Some me → battle_of s me ≡ None → asked_by s me ≡ None
     → CanEnter s.clients s.battles c name

@@ -6,6 +6,7 @@ use Rattle.std.specs.Option.{option_map}
 use Rattle.std.specs.Ordering.{nat_cmp}
 use Rattle.std.specs.Cmp.{nat_cmp_total}
 use Rattle.std.specs.FinMap.{nat_cmp-IsAntisymmetric}
+use Rattle.std.proofs.lemmas.Bool.{or_cases, or_right}
 use Rattle.line_words.specs.Table.{ByName, ByNumber, at_number, at_name, put_name, change_name, without_name, put_number, without_number, change_number, name_cmp, same_name, same_number, is_among}
 use Rattle.line_words.proofs.Tables.{Equal_of, at-put, at-without, at-change, name_cmp_total, name_cmp_same, same_name_is, same_name_itself}
 use Rattle.line_words.proofs.Once.{contradiction, among_with_is, among_of_but, out_of_but}
@@ -32,14 +33,6 @@ pub record Keeps (was now : Room) : Type 0 where
   pub old : (q : List ℕ) → concerns q now ≡ true → concerns q was ≡ true
   pub outside : AskOutside was → AskOutside now
 
-either : (a b : Bool) → (a || b) ≡ true → (a ≡ true) ⊎ (b ≡ true)
-either true b h = inl refl
-either false b h = inr h
-
-or_right : (a b : Bool) → b ≡ true → (a || b) ≡ true
-or_right true b h = refl
-or_right false b h = h
-
 pub as_member : (q : List ℕ) (rm : Room) → has_member q rm ≡ true → concerns q rm ≡ true
 as_member q rm h = ap (λ b. b || has_asker q rm) h
 
@@ -53,7 +46,7 @@ not_so false never = refl
 
 keeps_of : (was now : Room) → Shrinks was now → Keeps was now
 keeps_of was now shrinks = record {
-  old = λ q h. elim (either (has_member q now) (has_asker q now) h) [
+  old = λ q h. elim (or_cases (has_member q now) (has_asker q now) h) [
     | inl m ↦ as_member q was (shrinks.members q m)
     | inr a ↦ as_asker q was (shrinks.askers q a)
   ];
@@ -95,7 +88,7 @@ asking name q script_password rm h =
 -- one who asked enters
 let_in_keeps : (name : List ℕ) (rm : Room) → has_asker name rm ≡ true → Keeps rm (let_in name rm)
 let_in_keeps name rm asked = record {
-  old = λ q h. elim (either (has_member q (let_in name rm)) (has_asker q (let_in name rm)) h) [
+  old = λ q h. elim (or_cases (has_member q (let_in name rm)) (has_asker q (let_in name rm)) h) [
     | inl m ↦ elim (entering name q (without_asker name rm) m) [
       | inl was ↦ as_member q rm was
       | inr is ↦ ap (λ k. concerns k rm) is ∙ as_asker name rm asked
@@ -301,7 +294,7 @@ module _ (battles : ByNumber Battle) where
       pub knowing_opened : (battle : Battle) → IsNew battle name → KnowTheirBattles (put_number battles number battle) (change_name online name (online_user_in number))
       knowing_opened battle new = entered (put_number battles number battle) (λ n b q there in_it.
           elim (of_put nat_cmp nat_cmp_total nat_cmp-IsAntisymmetric battles number battle n b there) [
-            | inl is ↦ elim (either (has_member q battle.room) (has_asker q battle.room) (ap (λ (x : Battle). concerns q x.room) is.1 ∙ in_it)) [
+            | inl is ↦ elim (or_cases (has_member q battle.room) (has_asker q battle.room) (ap (λ (x : Battle). concerns q x.room) is.1 ∙ in_it)) [
               | inl m ↦ elim (among_with_is name q [] (ap (is_among q) (sym new.members) ∙ m)) [
                 | inl before ↦ absurd (cc)
                 | inr me ↦ inr (is.0, me)
@@ -340,7 +333,7 @@ module _ (battles : ByNumber Battle) where
           ] old.2)
 
       pub knowing_joined : KnowTheirBattles (change_number battles number (room_changed (with_member name))) (change_name online name (online_user_in number))
-      knowing_joined = one_more (with_member name) (λ rm q h. elim (either (has_member q (with_member name rm)) (has_asker q rm) h) [
+      knowing_joined = one_more (with_member name) (λ rm q h. elim (or_cases (has_member q (with_member name rm)) (has_asker q rm) h) [
         | inl m ↦ elim (entering name q rm m) [ inl was ↦ inl (as_member q rm was) | inr me ↦ inr me ]
         | inr a ↦ inl (as_asker q rm a)
       ]) (λ rm no_m no_a out q a. not_so (has_member q (with_member name rm)) (λ m. elim (entering name q rm m) [
@@ -351,7 +344,7 @@ module _ (battles : ByNumber Battle) where
       pub knowing_asked : (script_password : Option (List ℕ))
           → KnowTheirBattles (change_number battles number (room_changed (with_asker name script_password))) (change_name online name (online_user_in number))
       knowing_asked script_password = one_more (with_asker name script_password)
-          (λ rm q h. elim (either (has_member q rm) (has_asker q (with_asker name script_password rm)) h) [
+          (λ rm q h. elim (or_cases (has_member q rm) (has_asker q (with_asker name script_password rm)) h) [
             | inl m ↦ inl (as_member q rm m)
             | inr a ↦ elim (asking name q script_password rm a) [ inl was ↦ inl (as_asker q rm was) | inr me ↦ inr me ]
           ]) (λ rm no_m no_a out q a. elim (asking name q script_password rm a) [
@@ -379,7 +372,7 @@ knowing_gone battles online knowing (Some name) asks own leaves =
         askers = λ q h. old.2.askers q (x.2.askers q h);
       }),
     ))
-    (λ n b there. not_so (concerns name b.room) (λ in_it. elim (either (has_member name b.room) (has_asker name b.room) in_it) [
+    (λ n b there. not_so (concerns name b.room) (λ in_it. elim (or_cases (has_member name b.room) (has_asker name b.room) in_it) [
       | inl m ↦ contradiction (has_member name b.room) m (gone mid name own
           (λ k y at h. let old = first k y at in leaves.1 k old.0 old.1 (old.2.members name h)) n b there)
       | inr a ↦ let x = second n b there in contradiction (has_asker name x.0.room) (x.2.askers name a) (asks_nowhere battles name asks leaves.0 n x.0 x.1)

@@ -2,6 +2,7 @@
 use Rattle.std.proofs.Common.{◌≡◌, ◌≢◌, ℕ, zero, suc, ◌<◌, ◌≤◌, List, [], ◌∷◌, length, refl, sym, ap, ◌∙◌, arith, slice_index_or, slice_set}
 use Rattle.std.specs.Prelude.{Some, None, Bool, true, false, if◌then◌else◌, slice_get}
 use Rattle.std.specs.Option.{option_map}
+use Rattle.std.proofs.lemmas.Option.{slice_get_past}
 use Rattle.lobby_hall.specs.ByClient.{of_client}
 use Rattle.lobby_hall.specs.Copied.{changed, changed_at}
 
@@ -48,11 +49,6 @@ module _ {X : Type 0} (f : X → X) where
   length-changed_at xs zero = refl
   length-changed_at xs (suc c) = length-changed xs c
 
-  pub get-past : (xs : List X) (k : ℕ) → length xs ≤ k → slice_get xs k ≡ None
-  get-past [] k h = refl
-  get-past (y ∷ xs) zero h = absurd (omega arith)
-  get-past (y ∷ xs) (suc k) h = get-past xs k (omega arith)
-
   pub get-at : (xs : List X) (k : ℕ) (x : X) → k < length xs → x ≡ slice_index_or xs k x → slice_get xs k ≡ Some x
   get-at [] k x h is = absurd (omega arith)
   get-at (y ∷ xs) zero x h is = ap (λ z. Some z) (sym is)
@@ -69,7 +65,7 @@ module _ {X : Type 0} (f : X → X) where
     past-changed h = sym (ap (changed_at f xs) place ∙ changed-past xs k h)
 
     pub of-past : length xs ≤ k → of_client xs c ≡ None
-    of-past h = ap (of_client xs) place ∙ get-past xs k h
+    of-past h = ap (of_client xs) place ∙ slice_get_past xs k h
 
     module _ (x : X) (h : k < length xs) (is : x ≡ slice_index_or xs k x) where
       pub of-at : of_client xs c ≡ Some x

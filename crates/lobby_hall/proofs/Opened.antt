@@ -1,10 +1,11 @@
 -- What an open adds to the record: the log of the next client.
-use Rattle.std.proofs.Common.{◌≡◌, ◌≢◌, ℕ, zero, suc, ◌+◌, ◌<◌, ◌≤◌, List, [], ◌∷◌, ◌++◌, length, refl, sym, ap, ◌∙◌, true, false, arith, append-nil, cond, T}
+use Rattle.std.proofs.Common.{◌≡◌, ◌≢◌, ℕ, zero, suc, ◌+◌, ◌≤◌, List, [], ◌∷◌, ◌++◌, length, refl, sym, ap, ◌∙◌, true, false, arith, append-nil, cond, T}
 use Rattle.std.specs.Prelude.{Some, None, slice_get}
 use Rattle.std.specs.Option.{option_map}
 use Rattle.std.specs.Ordering.{nat_cmp}
 use Rattle.std.specs.Cmp.{nat_cmp_total}
 use Rattle.std.specs.FinMap.Entries.{is_sorted}
+use Rattle.std.proofs.lemmas.Option.{slice_get_within}
 use Rattle.account_book.specs.Account.{Account}
 use Rattle.lobby_model.specs.declared.event.Event.{Event}
 use Rattle.lobby_model.specs.declared.event.Event.TheVariants as event
@@ -49,14 +50,9 @@ pub of-append_past : {X : Type 0} (xs : List X) (n : X) (q : ℕ) → of_client 
 of-append_past xs n zero e ne = refl
 of-append_past xs n (suc k) e ne = get-append_past xs n k e (λ h. ne (ap suc h))
 
-get-bounded : {X : Type 0} (xs : List X) (k : ℕ) (x : X) → slice_get xs k ≡ Some x → k < length xs
-get-bounded [] k x e = absurd (cc)
-get-bounded (y ∷ xs) zero x e = omega arith
-get-bounded (y ∷ xs) (suc k) x e = omega (arith, get-bounded xs k x e)
-
 pub of-bounded : {X : Type 0} (xs : List X) (q : ℕ) (x : X) → of_client xs q ≡ Some x → q ≤ length xs
 of-bounded xs zero x e = absurd (cc)
-of-bounded xs (suc k) x e = omega (arith, get-bounded xs k x e)
+of-bounded xs (suc k) x e = omega (arith, slice_get_within xs k x e)
 
 -- the others get nothing, and have what they had
 module _ (s : State) (ip : List ℕ) (home : ℕ) (place : has_place s ≡ true) (q : ℕ) (ne : q ≢ s.last_client + 1) where

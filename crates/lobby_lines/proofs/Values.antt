@@ -1,7 +1,7 @@
 -- What is written of fields is the line of the request that they are.
 use Rattle.std.proofs.Common.{◌≡◌, ◌++◌, ◌<◌, ◌≤◌, ◌∙◌, ℕ, List, [], ◌∷◌, length, refl, sym, ap, subst, append_assoc, cond, inr, arith, rules, map}
 use Rattle.std.specs.Prelude.{Bool, true, false, not, ◌&&◌, ◌||◌, ◌==◌, nat_le, ℤ, pos, negsuc, Option, Some, None, Result, Ok, Err, slice_get, zero, suc}
-use Rattle.std.proofs.lemmas.Bool.{le-leb}
+use Rattle.std.proofs.lemmas.Bool.{le-leb, and_from, or_left}
 use Rattle.line_words.specs.Kinds.{is_wide}
 use Rattle.command_grammar.specs.declared.command.Command.{Command}
 use Rattle.command_grammar.specs.declared.command.Request.{Request}
@@ -147,14 +147,6 @@ gap_next m kind.OptionalWord ks (Some w) xs absent more = rw more (by (all_absen
     by false = refl
 gap_next m k ks x xs absent more = more
 
-true_or : (m a : Bool) → m ≡ true → (m || a) ≡ true
-true_or true a h = refl
-true_or false a h = absurd (let no : ⊥ = cc in no)
-
-and_true : (a b : Bool) → a ≡ true → b ≡ true → (a && b) ≡ true
-and_true true b h i = i
-and_true false b h i = absurd (let no : ⊥ = cc in no)
-
 abbrev both : (k : Kind) (ks : List Kind) → Value k → Values ks → Values (k ∷ ks)
 both k ks x xs = (x, xs)
 
@@ -173,7 +165,7 @@ fine text m (k ∷ ks) fs xs is =
       range = range_next k ks x.0 b.0 g rest.range;
       listed_so = listed_next k ks x.0 b.0 g rest.listed_so;
       gap = gap_next m k ks x.0 b.0 rest.absent rest.gap;
-      absent = λ h. and_true (is_absent k x.0) (all_absent ks b.0) (u.1 h) (rest.absent (true_or m (is_absent k x.0) h));
+      absent = λ h. and_from (is_absent k x.0) (all_absent ks b.0) (u.1 h) (rest.absent (or_left m (is_absent k x.0) h));
     })
 
 no_fault_in : (ks : List Kind) (xs : Values ks) → Fine false ks xs → fault_in ks xs ≡ None

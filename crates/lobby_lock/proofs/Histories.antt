@@ -2,7 +2,7 @@
 use Rattle.std.proofs.Common.{◌≡◌, ◌≢◌, ℕ, ◌≤◌, ◌<◌, cond, List, [], ◌∷◌, ◌++◌, length, refl, sym, ap, ◌∙◌, inl, inr, arith, append_assoc, append-nil, length-append, eq-eqb, ne_eqb}
 use Rattle.std.specs.Prelude.{filter, ◌==◌}
 use Rattle.std.specs.List.{AllByRecursion, AllPairs}
-use Rattle.std.proofs.lemmas.List.{map-append}
+use Rattle.std.proofs.lemmas.List.{map-append, nil_from_length}
 use Rattle.std.proofs.lemmas.List.Elements.{filter-append, All-from_recursion}
 use Rattle.std.proofs.lemmas.List.Kept.{AllPairs-cons}
 use mathlib.Core.Logic.{dite}
@@ -117,12 +117,8 @@ begins_shorter (x ∷ xs) (y ∷ ys) (z ∷ zs) p q le =
     let rest = begins_shorter xs ys zs (p.0, cc (p.1)) (q.0, cc (q.1)) (omega arith) in
     (rest.0, cc (heads, rest.1))
 
-no_length : {A : Type 0} (xs : List A) → length xs ≡ 0 → xs ≡ []
-no_length [] e = refl
-no_length (x ∷ xs) e = absurd (omega arith)
-
 between : (a r q : List Event) → a ≡ (a ++ r) ++ q → r ≡ []
-between a r q e = no_length r (omega (arith, ap length e, length-append (a ++ r) q, length-append a r))
+between a r q e = nil_from_length r (omega (arith, ap length e, length-append (a ++ r) q, length-append a r))
 
 -- what is known of a worker is known of each longer beginning
 known_longer : (history : List Entry) (worker : Worker) (longer : List Entry) → IsTold history worker → Begins worker.seen longer → Begins longer history → made_by worker.number longer ≡ worker.mine

@@ -1,6 +1,8 @@
 -- Each step keeps the rule of the desk.
-use Rattle.std.proofs.Common.{◌≡◌, ◌≢◌, ◌⊎◌, ℕ, zero, suc, ◌+◌, ◌≤◌, Bool, true, false, true≢false, List, [], ◌∷◌, ◌++◌, length, set, refl, sym, ap, ◌∙◌, subst, inl, inr, ⊎_elim, arith}
+use Rattle.std.proofs.Common.{◌≡◌, ◌≢◌, ◌⊎◌, ℕ, zero, suc, ◌+◌, ◌≤◌, true, false, true≢false, List, [], ◌∷◌, ◌++◌, length, set, refl, sym, ap, ◌∙◌, subst, inl, inr, ⊎_elim, arith}
 use Rattle.std.specs.List.{AllByRecursion}
+use Rattle.std.proofs.lemmas.Bool.{false_from_ne_true}
+use Rattle.line_words.proofs.Once.{contradiction}
 use mathlib.Core.Option.{some, some-ne-none, some-injective}
 use lib.ListN.{get_elem?}
 use Rattle.crossbeam_queue.specs.Fifo.{Pushes, Pops, Forks, Merges, Learns}
@@ -26,13 +28,6 @@ set_there : (l : List View) (i : ℕ) (a b : View) → get_elem? l i ≡ some a 
 set_there [] i a b e = absurd (some-ne-none a (sym e))
 set_there (x ∷ xs) zero a b e = refl
 set_there (x ∷ xs) (suc i) a b e = set_there xs i a b e
-
-off : {A : Type 0} (b : Bool) → b ≡ true → b ≡ false → A
-off b t f = absurd (true≢false (sym t ∙ f))
-
-not_true : (b : Bool) → (b ≡ true → ⊥) → b ≡ false
-not_true true n = absurd (n refl)
-not_true false n = refl
 
 -- ---- what holds of each live view, where one was set or one came
 
@@ -103,7 +98,7 @@ begins =
 -- where one holds, the place is empty
 empty_place : (start : State) (history : List Entry) (items : List Laid) (views : List View) (k : ℕ) (v : View) → IsAlive views k v → v.holds ≡ true → PlaceIs start history items views → items ≡ []
 empty_place start history items views k v a holds place =
-    ⊎_elim (λ (t : (items ≡ []) × SomeoneHolds views). t.0) (λ (t : IsFull start history items × NobodyHolds views). off v.holds holds (t.1 k v a)) place
+    ⊎_elim (λ (t : (items ≡ []) × SomeoneHolds views). t.0) (λ (t : IsFull start history items × NobodyHolds views). contradiction v.holds holds (t.1 k v a)) place
 
 -- ---- the lobby is first put in
 
@@ -158,8 +153,8 @@ takes k v live x items views h at =
             (λ j u ne b. h.fits j u b);
         meets = two_set views k w (λ _. record { apart = λ _. refl; gone = (h.meets k k v v a a).gone; kept = λ ne. absurd (ne refl); one = λ _ _. refl })
             (λ _ j u ne b. (
-              record { apart = (h.meets j k u v b a).apart; gone = (h.meets j k u v b a).gone; kept = (h.meets j k u v b a).kept; one = λ p q. off u.holds p (full.1 j u b) },
-              record { apart = (h.meets k j v u a b).apart; gone = (h.meets k j v u a b).gone; kept = (h.meets k j v u a b).kept; one = λ p q. off u.holds q (full.1 j u b) },
+              record { apart = (h.meets j k u v b a).apart; gone = (h.meets j k u v b a).gone; kept = (h.meets j k u v b a).kept; one = λ p q. contradiction u.holds p (full.1 j u b) },
+              record { apart = (h.meets k j v u a b).apart; gone = (h.meets k j v u a b).gone; kept = (h.meets k j v u a b).kept; one = λ p q. contradiction u.holds q (full.1 j u b) },
             ))
             (λ i j u y ne ne' b c. h.meets i j u y b c);
         numbers = h.numbers;
@@ -198,7 +193,7 @@ gives n k v x es live holds stands placed items views room h at =
     let KnownIn : List Entry → Worker → Type 0 = λ l worker. IsTold l worker × (worker.number ≤ h.handed) in
     let grown : (worker : Worker) → KnownIn h.history worker → worker.number ≢ number → KnownIn history worker = λ worker t ne. (told-other h.history worker number es (λ s. ne (sym s)) t.0, t.1) in
     let grows : (u : View) → AllByRecursion (KnownIn h.history) u.taken_back → AllByRecursion (λ worker. worker.number ≢ number) u.taken_back → AllByRecursion (KnownIn history) u.taken_back = λ u. all_both (KnownIn h.history) (λ worker. worker.number ≢ number) (KnownIn history) grown u.taken_back in
-    let idle : (j : ℕ) (u : View) → j ≢ k → IsAlive views j u → u.holds ≡ false = λ j u ne b. not_true u.holds (λ p. ne ((h.meets j k u v b a).one p holds)) in (
+    let idle : (j : ℕ) (u : View) → j ≢ k → IsAlive views j u → u.holds ≡ false = λ j u ne b. false_from_ne_true u.holds (λ p. ne ((h.meets j k u v b a).one p holds)) in (
       w,
       record {
         start = h.start;
@@ -211,14 +206,14 @@ gives n k v x es live holds stands placed items views room h at =
               told = told-other h.history u.worker number es (λ s. ne (m.apart (sym s))) g.told;
               numbered = g.numbered;
               counts = g.counts;
-              saw_all = λ p. off u.holds p (idle j u ne b);
+              saw_all = λ p. contradiction u.holds p (idle j u ne b);
               taken_back = grows u g.taken_back m.gone;
               once = g.once;
             });
         meets = two_set views k w (λ _. record { apart = λ _. refl; gone = (h.meets k k v v a a).gone; kept = λ ne. absurd (ne refl); one = λ _ _. refl })
             (λ _ j u ne b. (
-              record { apart = (h.meets j k u v b a).apart; gone = (h.meets j k u v b a).gone; kept = (h.meets j k u v b a).kept; one = λ p q. off u.holds p (idle j u ne b) },
-              record { apart = (h.meets k j v u a b).apart; gone = (h.meets k j v u a b).gone; kept = (h.meets k j v u a b).kept; one = λ p q. off u.holds q (idle j u ne b) },
+              record { apart = (h.meets j k u v b a).apart; gone = (h.meets j k u v b a).gone; kept = (h.meets j k u v b a).kept; one = λ p q. contradiction u.holds p (idle j u ne b) },
+              record { apart = (h.meets k j v u a b).apart; gone = (h.meets k j v u a b).gone; kept = (h.meets k j v u a b).kept; one = λ p q. contradiction u.holds q (idle j u ne b) },
             ))
             (λ i j u y ne ne' b c. h.meets i j u y b c);
         numbers = all-append (λ (e : Entry). e.0 ≤ h.handed) h.history (under number es) h.numbers (numbers-under h.handed number f.numbered es);
@@ -251,7 +246,7 @@ forks k v live zero_is idle items views h at =
     let wider : (u : View) → AllByRecursion (KnownUpTo h.handed) u.taken_back → AllByRecursion (KnownUpTo (h.handed + 1)) u.taken_back = λ u. all_map (KnownUpTo h.handed) (KnownUpTo (h.handed + 1)) (λ worker t. (t.0, omega (arith, t.1))) u.taken_back in
     let lows : (u : View) → AllByRecursion (KnownUpTo h.handed) u.taken_back → AllByRecursion (λ worker. worker.number ≤ h.handed) u.taken_back = λ u. all_map (KnownUpTo h.handed) (λ worker. worker.number ≤ h.handed) (λ worker t. t.1) u.taken_back in
     let old : Each G vs = each_set G views k l
-    (λ _. (record { starts = f.starts; told = f.told; numbered = omega (arith, f.numbered); counts = λ _. ap (λ (c : ℕ). c + 1) count; saw_all = λ p. off v.holds p idle; taken_back = wider v f.taken_back; once = f.once }, f.numbered, lows v f.taken_back))
+    (λ _. (record { starts = f.starts; told = f.told; numbered = omega (arith, f.numbered); counts = λ _. ap (λ (c : ℕ). c + 1) count; saw_all = λ p. contradiction v.holds p idle; taken_back = wider v f.taken_back; once = f.once }, f.numbered, lows v f.taken_back))
     (λ j u ne b. let g = h.fits j u b in (record { starts = g.starts; told = g.told; numbered = omega (arith, g.numbered); counts = λ z. absurd (ne ((h.meets j k u v b a).apart (z ∙ sym zero_is))); saw_all = g.saw_all; taken_back = wider u g.taken_back; once = g.once }, g.numbered, lows u g.taken_back)) in
     let pairs : EachTwo vs = two_set views k l
     (λ _. record { apart = λ _. refl; gone = (h.meets k k v v a a).gone; kept = λ ne. absurd (ne refl); one = λ _ _. refl })
@@ -283,7 +278,7 @@ forks k v live zero_is idle items views h at =
       place = ⊎_elim
           (λ (t : (items ≡ []) × SomeoneHolds views).
           let holder = t.1 in
-          let other : holder.0 ≢ k = λ e. off v.holds (ap (λ (y : View). y.holds) (some-injective v holder.1 (sym at ∙ ap (get_elem? views) (sym e) ∙ holder.2.0)) ∙ holder.3) idle in
+          let other : holder.0 ≢ k = λ e. contradiction v.holds (ap (λ (y : View). y.holds) (some-injective v holder.1 (sym at ∙ ap (get_elem? views) (sym e) ∙ holder.2.0)) ∙ holder.3) idle in
           inl (t.0, (holder.0, holder.1, (at_longer vs (r ∷ []) holder.0 holder.1 (set_else views k holder.0 l other ∙ holder.2.0), holder.2.1), holder.3)))
           (λ (t : IsFull h.start h.history items × NobodyHolds views).
           inr (t.0, each_end (λ (j : ℕ) (u : View). u.holds ≡ false) vs r refl (each_set (λ (j : ℕ) (u : View). u.holds ≡ false) views k l (λ _. idle) (λ j u ne b. t.1 j u b))))
@@ -332,8 +327,8 @@ merges k v other u live live' idle idle' items views h at two there =
       place = ⊎_elim
           (λ (t : (items ≡ []) × SomeoneHolds views).
           let holder = t.1 in
-          let not_k : holder.0 ≢ k = λ e. off v.holds (ap (λ (y : View). y.holds) (some-injective v holder.1 (sym at ∙ ap (get_elem? views) (sym e) ∙ holder.2.0)) ∙ holder.3) idle in
-          let not_o : holder.0 ≢ other = λ e. off u.holds (ap (λ (y : View). y.holds) (some-injective u holder.1 (sym was ∙ ap (get_elem? views) (sym e) ∙ holder.2.0)) ∙ holder.3) idle' in
+          let not_k : holder.0 ≢ k = λ e. contradiction v.holds (ap (λ (y : View). y.holds) (some-injective v holder.1 (sym at ∙ ap (get_elem? views) (sym e) ∙ holder.2.0)) ∙ holder.3) idle in
+          let not_o : holder.0 ≢ other = λ e. contradiction u.holds (ap (λ (y : View). y.holds) (some-injective u holder.1 (sym was ∙ ap (get_elem? views) (sym e) ∙ holder.2.0)) ∙ holder.3) idle' in
           inl (t.0, (holder.0, holder.1, (set_else vs other holder.0 spent_view not_o ∙ set_else views k holder.0 both not_k ∙ holder.2.0, holder.2.1), holder.3)))
           (λ (t : IsFull h.start h.history items × NobodyHolds views).
           inr (t.0, each_set (λ (j : ℕ) (y : View). y.holds ≡ false) vs other spent_view (λ _. refl) (λ j x ne c. each_set (λ (j' : ℕ) (y : View). y.holds ≡ false) views k both (λ _. idle) (λ j' y ne' c'. t.1 j' y c') j x c)))

@@ -18,6 +18,7 @@ use Rattle.lobby_post.specs.Posted.{has_number}
 use Rattle.lobby_post.specs.Dirty.{Listing, AreKnown, is_of, listing_of, listings_of, stands, times}
 use Rattle.lobby_post.proofs.Crowds.{plain-is_some}
 use Rattle.lobby_post.proofs.Homes.{at_home}
+use Rattle.lobby_post.proofs.Counts.{filter_none}
 use Rattle.lobby_maps.specs.Dirty.{lists_of, those_there}
 
 -- the list of a worker
@@ -137,8 +138,4 @@ module _ (clients : Crowd) where
 
   pub none_wait : (home : ℕ) → clients.slots ≡ [] → waits clients home ≡ []
   none_wait home nobody = ap (λ (m : ByNumber Mailbox). filter (stands (listings_of m) home) (line_at clients.lines home).waiting) nobody
-      ∙ nothing (line_at clients.lines home).waiting
-    where
-      nothing : (xs : List ℕ) → filter (λ c. false) xs ≡ []
-      nothing [] = refl
-      nothing (c ∷ xs) = nothing xs
+      ∙ filter_none (line_at clients.lines home).waiting

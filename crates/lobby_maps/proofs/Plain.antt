@@ -1,6 +1,5 @@
 -- The plain lobby of what contracts see.
 use Rattle.std.proofs.Common.{◌≡◌, ℕ, List, ap}
-use Rattle.std.specs.Prelude.{Result, Ok, Err, OnOk}
 use Rattle.line_words.specs.Table.{ByNumber}
 use Rattle.lobby_model.specs.State.{State, Client}
 use Rattle.lobby_maps.specs.Shown.{Shown}
@@ -12,8 +11,3 @@ plainly same = ap (λ (lobby : Shown). lobby.plain) same
 pub shown_same : (s : State) (clients : ByNumber Client) (was now : List (List ℕ)) → clients ≡ s.clients → now ≡ was
     → ◌≡◌ {A = Shown} (record { plain = record s { clients = clients }; dirty = now }) (record { plain = s; dirty = was })
 shown_same s clients was now same lists = λ i. record { plain = record s { clients = same i }; dirty = lists i }
-
--- what follows from what holds where a call is not refused
-pub on_ok : {A E P Q : Type 0} (r : Result A E) → (P → Q) → OnOk r P → OnOk r Q
-on_ok (Ok a) f p = f p
-on_ok (Err e) f p = tt

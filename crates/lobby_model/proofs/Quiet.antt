@@ -6,6 +6,7 @@ use Rattle.std.specs.Option.{option_map}
 use Rattle.std.specs.Cmp.{nat_cmp_total}
 use Rattle.std.specs.List.{list_any}
 use Rattle.std.specs.FinMap.Entries.{is_sorted, find-put, is_sorted-put}
+use Rattle.std.proofs.lemmas.Bool.{and_parts}
 use Rattle.reply_kinds.specs.Replies.{print, print_all}
 use Rattle.command_grammar.specs.declared.command.Request.{Request}
 use Rattle.reply_kinds.specs.declared.Reply.{Reply}
@@ -23,7 +24,6 @@ use Rattle.lobby_model.proofs.Delivered.{with_batch_nil, map_values_none, map_va
 use Rattle.line_words.proofs.Tables.{at-without}
 use Rattle.lobby_model.proofs.Decided.{saying, given_place, unheard}
 use Rattle.lobby_model.proofs.Inside.{departed}
-use Rattle.lobby_model.proofs.Versions.{and_first}
 
 pub quiet : (s : State) (e : Event) (t : State) → ((d : ℕ) → batch s e d ≡ []) → delivered s e t ≡ t
 quiet s e t none = ap (λ m. record t { clients = m }) (map_values_none _ t.clients (λ d x. ap (λ b. with_batch s.settings.outbox_limit b x) (none d) ∙ with_batch_nil s.settings.outbox_limit x))
@@ -69,7 +69,7 @@ touched_is limit bytes x =
       | true ↦ λ live. elim (has_room_for limit x bytes) as (λ r. has_room_for limit x bytes ≡ r → (not (is_empty (if r then bytes else []))
           || (not x.cut && (if r then record x { unread = x.unread ++ bytes } else record x { cut = true; unread = [] }).cut)) ≡ not (is_empty bytes)) [
             | true ↦ λ room. ap (λ b. not (is_empty bytes) || b) (not_both x.cut) ∙ elim (is_empty bytes) as (λ b. (not b || false) ≡ not b) [ true ↦ refl | false ↦ refl ]
-            | false ↦ λ room. and_true (not x.cut) ∙ and_first _ _ live ∙ sym (ap not (empty_has_room bytes room))
+            | false ↦ λ room. and_true (not x.cut) ∙ (and_parts _ _ live).0 ∙ sym (ap not (empty_has_room bytes room))
           ] refl
       | false ↦ λ live. not_both x.cut
     ] refl

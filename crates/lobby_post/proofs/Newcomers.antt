@@ -5,6 +5,7 @@ use Rattle.std.specs.Ordering.{nat_cmp}
 use Rattle.std.specs.BTreeMap.{is_at}
 use Rattle.std.specs.Map.{lookup}
 use Rattle.std.proofs.lemmas.List.Elements.{filter-append}
+use Rattle.std.proofs.lemmas.Bool.{and_parts}
 use Rattle.line_words.specs.Table.{ByNumber, same_number}
 use Rattle.lobby_model.proofs.Splits.{lookup-values}
 use Rattle.lobby_post.specs.Mail.{Mailbox, Line}
@@ -12,7 +13,6 @@ use Rattle.lobby_post.specs.Dirty.{IsNewly, Roomy, is_of, line_of, listing_of, l
 use Rattle.lobby_post.specs.Crowd.{line_at, lines_of}
 use Rattle.lobby_post.proofs.Counts.{times-first}
 use Rattle.lobby_post.proofs.Homes.{line-at}
-use Rattle.lobby_model.proofs.Versions.{and_first}
 
 -- a test that each number of a list passes
 filter_every : (p : ℕ → Bool) (xs : List ℕ) → ((c : ℕ) → 0 < times c xs → p c ≡ true) → filter p xs ≡ xs
@@ -32,7 +32,7 @@ module _ (pieces : ByNumber (List ℕ)) (slots : ByNumber Mailbox) (home : ℕ) 
       elim (lookup (is_at (nat_cmp c)) slots) as (λ o. lookup (is_at (nat_cmp c)) slots ≡ o → 0 < news_of pieces home c o → stands (listings_of slots) home c ≡ true) [
         | None ↦ λ e m. absurd (omega (arith, m))
         | Some held ↦ λ e m. ap (is_of home) (lookup-values listing_of (is_at (nat_cmp c)) held slots e)
-            ∙ and_first (same_number held.client.home home) _ (counts_yes _ m)
+            ∙ (and_parts (same_number held.client.home home) _ (counts_yes _ m)).0
       ] refl more
 
   module _ (after : ByNumber Mailbox) (same : (c : ℕ) → stands (listings_of after) home c ≡ stands (listings_of slots) home c) where

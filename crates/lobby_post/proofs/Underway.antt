@@ -4,6 +4,7 @@ use Rattle.std.specs.Prelude.{Some, None, ◌&&◌, ◌||◌, if◌then◌else�
 use Rattle.std.specs.Ordering.{nat_cmp}
 use Rattle.std.specs.BTreeMap.{is_at}
 use Rattle.std.specs.Map.{lookup, set_value}
+use Rattle.std.proofs.lemmas.Bool.{and_parts}
 use Rattle.line_words.specs.Table.{ByNumber, same_number}
 use Rattle.lobby_model.specs.State.{is_live}
 use Rattle.lobby_model.proofs.Delivered.{same_number_is, same_itself}
@@ -18,7 +19,6 @@ use Rattle.lobby_post.proofs.Idle.{idle_one, idle_written}
 use Rattle.lobby_post.proofs.Listings.{IsPut, listings_put, stands_same}
 use Rattle.lobby_post.proofs.Parcels.{own_piece, touched_alike, wake_first}
 use Rattle.lobby_post.proofs.Newly.{IsNext, less_idle, listings_next, more_listed, never_both, news_other, news_past, next_line, no_news, once, times_ordered}
-use Rattle.lobby_model.proofs.Versions.{and_first}
 
 -- what holds between two pieces: all that are told, and those that are left
 pub record IsUnderway (whole rest : ByNumber (List ℕ)) (first slots : ByNumber Mailbox) (before lines : ℕ → Line) (last : ℕ) : Type 0 where
@@ -113,7 +113,7 @@ module _ (c : ℕ) (bytes : List ℕ) (x w : Mailbox) (es : ByNumber Mailbox) (f
 
       has_idle : (home : ℕ) → now_fresh home ≡ true → 1 ≤ (lines home).idle
       has_idle home t =
-          let same : x.client.home ≡ home = same_number_is x.client.home home (and_first (same_number x.client.home home) _ t) in
+          let same : x.client.home ≡ home = same_number_is x.client.home home (and_parts (same_number x.client.home home) _ t).0 in
           let small : home < 64 = subst (λ h. h < 64) same small_home in
           let more = idle_next home in
           let one : ◌≡◌ {A = ℕ} (if now_fresh home then 1 else 0) 1 = ap (λ b. if b then 1 else 0) t in

@@ -6,7 +6,7 @@ use Rattle.std.specs.Prelude.{slice_get, MatchBool}
 use Rattle.std.specs.Ordering.{nat_cmp}
 use Rattle.std.specs.Cmp.{nat_cmp_total}
 use Rattle.std.specs.FinMap.Entries.{find, find-put}
-use Rattle.std.proofs.lemmas.Bool.{false≢true}
+use Rattle.std.proofs.lemmas.Bool.{and_parts, false≢true}
 use Rattle.line_framer.specs.Frames.{frames, is_spoilt, lines_in, without_cr}
 use Rattle.line_framer.specs.Framed.{Framed, StandsFor}
 use Rattle.account_book.specs.Account.{Account}
@@ -20,7 +20,6 @@ use Rattle.lobby_model.proofs.Quiet.{shut_removes}
 use Rattle.lobby_hall.specs.Standing.{Kept, Stands, StandsAfter, SessionOf, is_ready, session_at}
 use Rattle.client_session.specs.Serving.{Serving}
 use Rattle.lobby_script.specs.Acts.{Takes}
-use Rattle.lobby_model.proofs.Versions.{and_first, and_second}
 
 -- one take more
 pub taken_more : (n : ℕ) (w mid new : World) (c : ℕ) (here later : List Event) → Takes n w c here mid → is_ready mid c ≡ true → StepGives mid (step.Take c) later new → Takes (suc n) w c (here ++ later) new
@@ -73,7 +72,7 @@ left_when_shut None given h = refl
 left_when_shut (Some session) given h = absurd (false≢true h.0)
 
 spoilt_there : (w : World) (c : ℕ) → slice_get (frames (input w c).bytes line_limit) (input w c).taken ≡ None → is_ready w c ≡ true → is_spoilt (input w c).bytes line_limit ≡ true
-spoilt_there w c none ready = sym (ap (λ (o : Option (List ℕ)). is_some o || is_spoilt (input w c).bytes line_limit) none) ∙ and_second (is_open w c) _ ready
+spoilt_there w c none ready = sym (ap (λ (o : Option (List ℕ)). is_some o || is_spoilt (input w c).bytes line_limit) none) ∙ (and_parts (is_open w c) _ ready).1
 
 -- a take leaves less to take
 less_left : (w new : World) (c : ℕ) (here : List Event) (o : Option (List ℕ)) → slice_get (frames (input w c).bytes line_limit) (input w c).taken ≡ o → is_ready w c ≡ true → TakeGives w c o here new
@@ -93,7 +92,7 @@ less_left w new c here None e ready gives session stands =
 pub take_lessens : (hall new : Kept) (c : ℕ) (settings : Configuration) (accounts : List Account) (events : List Event) (world : World) → Stands hall settings accounts events world → is_ready world c ≡ true → StandsAfter new settings accounts events world (step.Take c)
     → left_to_take new c < left_to_take hall c
 take_lessens hall new c settings accounts events world stands ready (here, later, gives, now) =
-    let opened = and_first (is_open world c) _ ready in
+    let opened = (and_parts (is_open world c) _ ready).0 in
     let taken = subst (λ b. MatchBool b (TakeGives world c (slice_get (frames (input world c).bytes line_limit) (input world c).taken) here later) ((here ≡ []) × (later ≡ world))) opened gives in
     let before = left_when_open (session_at hall.sessions c) (input world c) (subst (λ b. SessionOf (session_at hall.sessions c) b (input world c)) opened (stands.sessions c)) in
     let after_it = less_left world later c here _ refl ready taken (session_at new.sessions c) (now.sessions c) in

@@ -6,8 +6,9 @@ use Rattle.reply_kinds.specs.declared.Reply.TheVariants as reply
 use Rattle.line_words.specs.declared.lists.Pair.{Pair}
 use Rattle.line_words.specs.Table.{at_number, same_name, is_among, all_but}
 use Rattle.room_lists.specs.Tags.{has_tag, without_tag, without_tags, keys_there}
-use Rattle.room_lists.specs.Units.{with_units, without_units, words_new, words_there}
+use Rattle.room_lists.specs.Units.{without_units, words_new, words_there}
 use Rattle.room_lists.specs.Room.{Room, Bot, Rect, member_names, with_status, with_bot, with_bot_status, without_bot, with_rect, without_rect, set_tags, remove_tags, disable_units, enable_units, enable_all}
+use Rattle.room_lists.proofs.Listed.{new_alone}
 use Rattle.lobby_model.specs.State.{State, Battle, battle_of}
 use Rattle.lobby_model.specs.Outcome.{Happening, happens, tell, users}
 use Rattle.lobby_model.specs.Battles.{change_room, in_room, members, member_has, bot_line, rect_line}
@@ -34,17 +35,6 @@ keys_suffice (key ∷ keys) tags =
     → without_tags tags (if b then key ∷ keys_there (without_tag key tags) keys else keys_there tags keys) ≡ without_tags (without_tag key tags) keys) [
       | true ↦ λ there. keys_suffice keys (without_tag key tags)
       | false ↦ λ absent. keys_suffice keys tags ∙ ap (λ ts. without_tags ts keys) (sym (none_dropped (λ t. same_name key t.key) tags absent))
-    ] refl
-
--- units that are disabled already disable no more
-new_suffice : (words units : List (List ℕ)) → with_units units (words_new units words) ≡ with_units units words
-new_suffice [] units = refl
-new_suffice (word ∷ words) units =
-    let more = units ++ word ∷ [] in
-    elim (is_among word units) as (λ b. is_among word units ≡ b
-    → with_units units (if b then words_new units words else word ∷ words_new more words) ≡ with_units (if b then units else more) words) [
-      | true ↦ λ there. new_suffice words units
-      | false ↦ λ new. ap (λ b. with_units (if b then units else more) (words_new more words)) new ∙ new_suffice words more
     ] refl
 
 -- those that are not disabled enable none
@@ -135,7 +125,7 @@ module _ (s : State) (sound : Sound s) (id : ℕ) (battle : Battle) (there : at_
   units_disabled_seen words =
       told_members_seen (disable_units words) (disabled_line (words_new battle.room.units words)) (λ room. refl) (λ room. refl)
       (λ v. disabled_shown v (words_new battle.room.units words)
-      ∙ ap (λ units. inside v id (record (shared battle.room) { units = units })) (new_suffice words battle.room.units))
+      ∙ ap (λ units. inside v id (record (shared battle.room) { units = units })) (new_alone words battle.room.units))
 
   enabled_shown : (v : View) (units : List (List ℕ))
       → shown_all (inside v id (shared battle.room)) (enabled_line units) ≡ inside v id (enable_units units (shared battle.room))

@@ -1,6 +1,7 @@
 -- What one client says to one user in private is told to nobody else, not even by what is put later.
 use Rattle.std.proofs.Common.{◌≡◌, ℕ, suc, ◌+◌, List, [], ◌∷◌, ◌++◌, refl, sym, ap, ◌∙◌, Bool, true, false, not, length, length-append}
 use Rattle.std.specs.Prelude.{Option, Some, None, ◌||◌, ◌&&◌, if◌then◌else◌, is_some, codes}
+use Rattle.std.proofs.lemmas.Bool.{or_parts}
 use Rattle.reply_kinds.specs.declared.Reply.{Reply}
 use Rattle.reply_kinds.specs.declared.Reply.TheVariants as reply
 use Rattle.reply_kinds.specs.Replies.{print, print_all, id_text}
@@ -66,10 +67,6 @@ module _ (c : ℕ) (id : Option ℕ) (u : List ℕ) where
   abbrev theirs : State → ℕ → Bool
   theirs s d = same_number d c || user u (reader_of s c d)
 
-  either : (a b : Bool) → (a || b) ≡ false → (a ≡ false) × (b ≡ false)
-  either true b e = absurd (cc)
-  either false b e = (refl, e)
-
   is_apart : (s : State) (d : ℕ) → (d ≡ c → ⊥) → (name_of s d ≡ Some u → ⊥) → theirs s d ≡ false
   is_apart s d other unnamed =
       elim (same_number d c) as (λ b. same_number d c ≡ b → (b || user u (reader_of s c d)) ≡ false) [
@@ -98,7 +95,7 @@ module _ (c : ℕ) (id : Option ℕ) (u : List ℕ) where
 
   no_batch : (s : State) (d : ℕ) → theirs s d ≡ false → (text : List ℕ) → batch s (whispers c id u text) d ≡ []
   no_batch s d apart text =
-      let p = either (same_number d c) (user u (reader_of s c d)) apart in
+      let p = or_parts (same_number d c) (user u (reader_of s c d)) apart in
       ap (printed (line_id (same_number d c) (whispers c id u text))) (got_nothing s (reader_of s c d) p.0 p.1 text)
 
   pub puts_nothing : (s : State) (text : List ℕ) (d : ℕ) → (d ≡ c → ⊥) → (name_of s d ≡ Some u → ⊥) → put_by s (whispers c id u text) d ≡ []

@@ -12,16 +12,13 @@ use Rattle.std.specs.List.Sorted.{IsStrictlySortedBy}
 use Rattle.std.specs.FinMap.Entries.{find_tied, is_sorted, below_all, is_sorted-put, same_entries, length-put, length_without}
 use Rattle.std.specs.BTreeMap.{is_at}
 use Rattle.std.specs.Map.{lookup, set_value}
+use Rattle.std.proofs.lemmas.Iterator.Adapters.{option_map_id}
 use Rattle.line_words.specs.Table.{at, put, without, change}
 use Rattle.line_words.proofs.Tables.{Equal_of, both, both_first, both_second, find_before, at-put, at-without, at-change, is_sorted-without, is_sorted-change, change_absent, without_absent, lookup_is_find}
 use Rattle.line_words.proofs.Written.{set_is_change}
 use Rattle.noted_map.specs.Slots.{live, with_live, one, one_in}
 use Rattle.noted_map.specs.Notes.{undo_at, undone, place_note}
 use Rattle.noted_map.specs.declared.note.Note.{Note}
-
-option_map_same : {A : Type 0} (o : Option A) → option_map (λ x. x) o ≡ o
-option_map_same None = refl
-option_map_same (Some x) = refl
 
 less_of : (r : Ordering) → T (is_lt r) → r ≡ Less
 less_of Less h = refl
@@ -205,7 +202,7 @@ module _ {K X : Type 0} (R : K → K → Ordering) (o : IsTotalOrder R) where
         at-put_there m k v q
         ∙ elim (eq_by_cmp R k q) as (λ b. eq_by_cmp R k q ≡ b → cond b (Some v) (at R m q) ≡ option_map (λ x. cond b v x) (at R m q)) [
           | true ↦ λ t. sym (ap (option_map (λ _. v)) (found_tied m k q (Some w) t found))
-          | false ↦ λ t. sym (option_map_same (at R m q))
+          | false ↦ λ t. sym (option_map_id (at R m q))
         ] refl
         ∙ sym (at-change R same (λ _. v) m k q))
 
@@ -226,7 +223,7 @@ module _ {K X : Type 0} (R : K → K → Ordering) (o : IsTotalOrder R) where
         at-change R same f m k q
         ∙ elim (eq_by_cmp R k q) as (λ b. eq_by_cmp R k q ≡ b → option_map (λ x. cond b (f x) x) (at R m q) ≡ at R m q) [
           | true ↦ λ t. ap (option_map f) (found_tied m k q (Some v) t found) ∙ ap Some stays ∙ sym (found_tied m k q (Some v) t found)
-          | false ↦ λ t. option_map_same (at R m q)
+          | false ↦ λ t. option_map_id (at R m q)
         ] refl)
 
     change_twice : (f g : X → X) (m : List (K × X)) (k : K) → T (is_sorted R m) → change R (change R m k f) k g ≡ change R m k (λ x. g (f x))

@@ -1,5 +1,5 @@
 -- A command that is known: what is read behind it.
-use Rattle.std.proofs.Common.{◌≡◌, ◌∙◌, ℕ, List, Option, Some, None, sym, subst, ap, refl}
+use Rattle.std.proofs.Common.{◌≡◌, ◌∙◌, ℕ, List, Option, Some, sym, subst, ap, refl}
 use Rattle.reply_kinds.specs.declared.command_word.CommandWord.{CommandWord}
 use Rattle.reply_kinds.specs.declared.Reply.{Reply}
 use Rattle.reply_kinds.specs.Kinds.{Values}

@@ -5,6 +5,7 @@ use Rattle.std.specs.List.{list_all}
 use Rattle.std.proofs.lemmas.Bool.{and_parts, and_from, eqb-true, leb-true}
 use Rattle.std.proofs.lemmas.Fmt.{decimal_digit}
 use Rattle.std.proofs.lemmas.List.{append-nil}
+use Rattle.std.proofs.lemmas.Option.{cond_some, same_Some}
 use Rattle.line_words.specs.Bytes.{is_word, is_name, is_sentence, is_text, is_word_byte, is_name_byte, is_sentence_byte}
 use Rattle.line_words.specs.declared.lists.Pair.{Pair}
 use Rattle.line_words.specs.Parts.{Ends}
@@ -13,7 +14,7 @@ use Rattle.line_words.specs.Kinds.{is_pair, is_some_word}
 use Rattle.reply_kinds.proofs.Table.{close_of, open_of, is_kind, goes_on, leads, is_row}
 use Rattle.reply_fields.specs.Fields.{◌>>=◌, piece_at, many, if_is, pair_in, some, counted, word_at, name_at, sentence_at, text_at, optional_at, number_at, flag_at, flag_of, words_at, names_at, pairs_at}
 use Rattle.reply_grammar.specs.Reading.{field, fields}
-use Rattle.reply_fields.proofs.Pieces.{bind_some, guard_some, some_is, piece_again, tested_again, tested_takes}
+use Rattle.reply_fields.proofs.Pieces.{bind_some, piece_again, tested_again, tested_takes}
 use Rattle.reply_grammar.proofs.NumberFields.{number_again, number_takes, wide_again, wide_takes}
 use Rattle.reply_grammar.proofs.Several.{words_text-separated, pairs_text-separated, many_again, many_takes, word_prints, name_prints, pair_prints}
 
@@ -60,7 +61,7 @@ text_takes : (bytes : List ℕ) (x : List ℕ × List ℕ) → text_at bytes ≡
 unfolding text_at
 text_takes [] x e = absurd cc
 text_takes (b ∷ bs) x e =
-    let g = guard_some (b == 32 && is_text bs) (bs, []) x e in
+    let g = cond_some (b == 32 && is_text bs) (bs, []) x e in
     let p = and_parts (b == 32) (is_text bs) g.0 in
     let head : b ≡ 32 = eqb-true b 32 p.0 in
     subst (λ (q : List ℕ × List ℕ). (b ∷ bs ≡ 32 ∷ (q.0 ++ q.1)) × (is_text q.0 ≡ true)) g.1 (rw head (ap (λ (r : List ℕ). 32 ∷ r) (sym (append-nil bs))), p.1)
@@ -74,10 +75,10 @@ optional_again (Some w) fit =
 
 optional_takes : (bytes : List ℕ) (x : Option (List ℕ) × List ℕ) → optional_at bytes ≡ Some x → (bytes ≡ optional_text x.0 ++ x.1) × (is_some_word x.0 ≡ true)
 unfolding optional_at
-optional_takes [] x e = subst (λ (q : Option (List ℕ) × List ℕ). ([] ≡ optional_text q.0 ++ q.1) × (is_some_word q.0 ≡ true)) (some_is (None, []) x e) (refl, refl)
+optional_takes [] x e = subst (λ (q : Option (List ℕ) × List ℕ). ([] ≡ optional_text q.0 ++ q.1) × (is_some_word q.0 ≡ true)) (same_Some (None, []) x e) (refl, refl)
 optional_takes (b ∷ bs) x e =
     let p = bind_some (word_at (b ∷ bs)) (λ p. Some (Some p.0, p.1)) x e in
-    subst (λ (q : Option (List ℕ) × List ℕ). (b ∷ bs ≡ optional_text q.0 ++ q.1) × (is_some_word q.0 ≡ true)) (some_is (Some p.0.0, p.0.1) x p.2) (word_takes (b ∷ bs) p.0 p.1)
+    subst (λ (q : Option (List ℕ) × List ℕ). (b ∷ bs ≡ optional_text q.0 ++ q.1) × (is_some_word q.0 ≡ true)) (same_Some (Some p.0.0, p.0.1) x p.2) (word_takes (b ∷ bs) p.0 p.1)
 
 flag_text : Bool → ℕ
 flag_text b = cond b 49 48
@@ -101,7 +102,7 @@ unfolding flag_at
 flag_takes bytes x e =
     let p = bind_some (number_at 0 1 bytes) (λ p. Some (flag_of p.0, p.1)) x e in
     let t = number_takes 0 1 bytes p.0 p.1 in
-    subst (λ (q : Bool × List ℕ). bytes ≡ 32 ∷ (cond q.0 49 48 ∷ q.1)) (some_is (flag_of p.0.0, p.0.1) x p.2) (t.0 ∙ ap (λ (d : List ℕ). 32 ∷ (d ++ p.0.1)) (flag_is p.0.0 t.1))
+    subst (λ (q : Bool × List ℕ). bytes ≡ 32 ∷ (cond q.0 49 48 ∷ q.1)) (same_Some (flag_of p.0.0, p.0.1) x p.2) (t.0 ∙ ap (λ (d : List ℕ). 32 ∷ (d ++ p.0.1)) (flag_is p.0.0 t.1))
 
 words_again : (ws : List (List ℕ)) → (list_all is_word ws && nat_le 1 (length ws)) ≡ true → words_at (words_text ws) ≡ Some (ws, [])
 unfolding words_at
@@ -113,7 +114,7 @@ words_take : (bytes : List ℕ) (x : List (List ℕ) × List ℕ) → words_at b
 unfolding words_at
 words_take bytes x e =
     let p = bind_some (many (if_is is_word) 32 32 bytes) some x e in
-    let g = guard_some (nat_le 1 (length p.0)) (p.0, []) x p.2 in
+    let g = cond_some (nat_le 1 (length p.0)) (p.0, []) x p.2 in
     let t = many_takes (if_is is_word) (λ w. w) is_word is_word_byte 32 word_prints 32 bytes p.0 p.1 in
     subst (λ (q : List (List ℕ) × List ℕ). (bytes ≡ words_text q.0 ++ q.1) × ((list_all is_word q.0 && nat_le 1 (length q.0)) ≡ true)) g.1
     (t.0 ∙ sym (words_text-separated p.0) ∙ sym (append-nil (words_text p.0)), and_from (list_all is_word p.0) (nat_le 1 (length p.0)) t.1 g.0)
@@ -129,7 +130,7 @@ names_take : (bytes : List ℕ) (x : List (List ℕ) × List ℕ) → names_at b
 unfolding names_at
 names_take bytes x e =
     let p = bind_some (many (if_is is_name) 32 32 bytes) (counted 32) x e in
-    let g = guard_some (nat_le 1 (length p.0) && nat_le (length p.0) 32) (p.0, []) x p.2 in
+    let g = cond_some (nat_le 1 (length p.0) && nat_le (length p.0) 32) (p.0, []) x p.2 in
     let c = and_parts (nat_le 1 (length p.0)) (nat_le (length p.0) 32) g.0 in
     let t = many_takes (if_is is_name) (λ w. w) is_name is_name_byte 32 name_prints 32 bytes p.0 p.1 in
     subst (λ (q : List (List ℕ) × List ℕ). (bytes ≡ words_text q.0 ++ q.1) × ((list_all is_name q.0 && nat_le 1 (length q.0) && nat_le (length q.0) 32) ≡ true)) g.1
@@ -145,7 +146,7 @@ pairs_take : (bytes : List ℕ) (x : List Pair × List ℕ) → pairs_at bytes �
 unfolding pairs_at
 pairs_take bytes x e =
     let p = bind_some (many pair_in 32 9 bytes) some x e in
-    let g = guard_some (nat_le 1 (length p.0)) (p.0, []) x p.2 in
+    let g = cond_some (nat_le 1 (length p.0)) (p.0, []) x p.2 in
     let t = many_takes pair_in pair_text is_pair is_sentence_byte 9 pair_prints 32 bytes p.0 p.1 in
     subst (λ (q : List Pair × List ℕ). (bytes ≡ pairs_text 32 q.0 ++ q.1) × ((list_all is_pair q.0 && nat_le 1 (length q.0)) ≡ true)) g.1
     (t.0 ∙ sym (pairs_text-separated 32 p.0) ∙ sym (append-nil (pairs_text 32 p.0)), and_from (list_all is_pair p.0) (nat_le 1 (length p.0)) t.1 g.0)
@@ -249,12 +250,12 @@ fields_again (k ∷ ks) xs row fit =
     bound (field k (printed k xs.0 ++ all_printed ks xs.1)) (fields ks) xs.0 (all_printed ks xs.1) xs.1 first rest
 
 pub fields_take : (ks : List Kind) (bytes : List ℕ) (x : Values ks × List ℕ) → fields ks bytes ≡ Some x → (bytes ≡ all_printed ks x.0 ++ x.1) × (all_fit ks x.0 ≡ true)
-fields_take [] bytes x e = (ap (λ (p : Unit {0} × List ℕ). p.1) (some_is (tt, bytes) x e), refl)
+fields_take [] bytes x e = (ap (λ (p : Unit {0} × List ℕ). p.1) (same_Some (tt, bytes) x e), refl)
 fields_take (k ∷ ks) bytes x e =
     let a = bind_some (field k bytes) (λ a. fields ks a.1 >>= λ xs. Some ((a.0, xs.0), xs.1)) x e in
     let b = bind_some (fields ks a.0.1) (λ xs. Some ((a.0.0, xs.0), xs.1)) x a.2 in
     let first = field_takes k bytes a.0 a.1 in
     let second = fields_take ks a.0.1 b.0 b.1 in
     let made : Values (k ∷ ks) × List ℕ = ((a.0.0, b.0.0), b.0.1) in
-    subst (λ (q : Values (k ∷ ks) × List ℕ). (bytes ≡ all_printed (k ∷ ks) q.0 ++ q.1) × (all_fit (k ∷ ks) q.0 ≡ true)) (some_is made x b.2)
+    subst (λ (q : Values (k ∷ ks) × List ℕ). (bytes ≡ all_printed (k ∷ ks) q.0 ++ q.1) × (all_fit (k ∷ ks) q.0 ≡ true)) (same_Some made x b.2)
     (first.0 ∙ ap (λ (r : List ℕ). printed k a.0.0 ++ r) second.0 ∙ sym (append_assoc (printed k a.0.0) (all_printed ks b.0.0) b.0.1), and_from (fits k a.0.0) (all_fit ks b.0.0) first.1 second.1)

@@ -3,6 +3,7 @@ use Rattle.std.proofs.Common.{◌≡◌, ℕ, Bool, true, false, cond, List, [],
 use Rattle.std.specs.Prelude.{not, ◌&&◌, ◌==◌, nat_le}
 use Rattle.std.specs.List.{list_all}
 use Rattle.std.proofs.lemmas.Bool.{and_parts, and_from, eqb-true, eq-eqb}
+use Rattle.std.proofs.lemmas.Option.{cond_some, same_Some}
 use Rattle.line_words.specs.Bytes.{is_word, is_key, is_name, is_sentence, is_word_byte, is_key_byte, is_name_byte, is_sentence_byte}
 use Rattle.line_words.specs.declared.lists.Pair.{Pair}
 use Rattle.line_words.specs.Parts.{Ends, before, between, from, with_front}
@@ -12,7 +13,7 @@ use Rattle.reply_kinds.specs.Kinds.{words_text, pairs_text, pair_text}
 use Rattle.line_words.specs.Kinds.{is_pair}
 use Rattle.reply_kinds.proofs.Bytes.{all_append, all_more}
 use Rattle.reply_fields.specs.Fields.{◌>>=◌, all_of, many, if_is, pair_of, pair_in}
-use Rattle.reply_fields.proofs.Pieces.{bind_some, guard_some, some_is}
+use Rattle.reply_fields.proofs.Pieces.{bind_some}
 
 -- a byte before each
 abbrev pub separated : {A : Type 0} → (A → List ℕ) → ℕ → ℕ → List A → List ℕ
@@ -103,13 +104,13 @@ joined-between stop (b ∷ bs) = joined-between_at (b == stop) stop b bs refl (j
 
 module _ {A : Type 0} (one : List ℕ → Option A) (text : A → List ℕ) (fit : A → Bool) (test : ℕ → Bool) (stop : ℕ) (prints : Prints one text fit test) where
   parts_take : (separator : ℕ) (ss : List (List ℕ)) (xs : List A) → all_of one ss ≡ Some xs → (separated (λ s. s) separator stop ss ≡ separated text separator stop xs) × (list_all fit xs ≡ true)
-  parts_take separator [] xs e = subst (λ (ys : List A). ([] ≡ separated text separator stop ys) × (list_all fit ys ≡ true)) (some_is [] xs e) (refl, refl)
+  parts_take separator [] xs e = subst (λ (ys : List A). ([] ≡ separated text separator stop ys) × (list_all fit ys ≡ true)) (same_Some [] xs e) (refl, refl)
   parts_take separator (s ∷ ss) xs e =
       let x = bind_some (one s) (λ x. all_of one ss >>= λ xs. Some (x ∷ xs)) xs e in
       let ys = bind_some (all_of one ss) (λ xs. Some (x.0 ∷ xs)) xs x.2 in
       let first = prints.takes s x.0 x.1 in
       let rest = parts_take stop ss ys.0 ys.1 in
-      subst (λ (zs : List A). (separated (λ s. s) separator stop (s ∷ ss) ≡ separated text separator stop zs) × (list_all fit zs ≡ true)) (some_is (x.0 ∷ ys.0) xs ys.2)
+      subst (λ (zs : List A). (separated (λ s. s) separator stop (s ∷ ss) ≡ separated text separator stop zs) × (list_all fit zs ≡ true)) (same_Some (x.0 ∷ ys.0) xs ys.2)
       (both separator s (text x.0) (separated (λ s. s) stop stop ss) (separated text stop stop ys.0) first.0 rest.0, and_from (fit x.0) (list_all fit ys.0) first.1 rest.1)
 
   first_separator : (separator : ℕ) (ss : List (List ℕ)) (xs : List A) → HasParts ss → all_of one ss ≡ Some xs → (separator ∷ joined stop ss ≡ separated text separator stop xs) × (list_all fit xs ≡ true)
@@ -118,7 +119,7 @@ module _ {A : Type 0} (one : List ℕ → Option A) (text : A → List ℕ) (fit
 
   pub many_takes : (separator : ℕ) (bytes : List ℕ) (xs : List A) → many one separator stop bytes ≡ Some xs → (bytes ≡ separated text separator stop xs) × (list_all fit xs ≡ true)
   unfolding many
-  many_takes separator [] xs e = subst (λ (ys : List A). ([] ≡ separated text separator stop ys) × (list_all fit ys ≡ true)) (some_is [] xs e) (refl, refl)
+  many_takes separator [] xs e = subst (λ (ys : List A). ([] ≡ separated text separator stop ys) × (list_all fit ys ≡ true)) (same_Some [] xs e) (refl, refl)
   many_takes separator (b ∷ bs) xs e =
       let g = given (b == separator) (all_of one (between stop bs)) xs e in
       let head : b ≡ separator = eqb-true b separator g.0 in
@@ -132,7 +133,7 @@ is_again test w h = rw h refl
 
 is_takes : (test : List ℕ → Bool) (s w : List ℕ) → if_is test s ≡ Some w → (s ≡ w) × (test w ≡ true)
 is_takes test s w e =
-    let g = guard_some (test s) s w e in
+    let g = cond_some (test s) s w e in
     (g.1, subst (λ (x : List ℕ). test x ≡ true) g.1 g.0)
 
 pub word_prints : Prints (if_is is_word) (λ w. w) is_word is_word_byte
@@ -163,7 +164,7 @@ pair_of_takes : (key l : List ℕ) (p : Pair) → Ends 61 l → pair_of key l �
 pair_of_takes key [] p ends e = absurd cc
 pair_of_takes key (b ∷ value) p ends e =
     let q : Pair = record { key = key; value = value } in
-    let g = guard_some (is_key key && is_sentence value) q p e in
+    let g = cond_some (is_key key && is_sentence value) q p e in
     subst (λ (p : Pair). (key ++ b ∷ value ≡ pair_text p) × (is_pair p ≡ true)) g.1 (rw ends refl, g.0)
 
 pair_takes : (s : List ℕ) (p : Pair) → pair_in s ≡ Some p → (s ≡ pair_text p) × (is_pair p ≡ true)

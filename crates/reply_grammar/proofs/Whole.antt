@@ -4,6 +4,7 @@ use Rattle.std.specs.Prelude.{◌&&◌, ◌==◌, nat_le, find, decimal}
 use Rattle.std.proofs.lemmas.Bool.{and_parts, and_from, eqb-true, eq-eqb, leb-true, le-leb}
 use Rattle.std.proofs.lemmas.List.{append-nil, nil_from_length}
 use Rattle.std.proofs.lemmas.Fmt.{digits_decimal}
+use Rattle.std.proofs.lemmas.Option.{cond_some, same_Some}
 use Rattle.line_words.specs.Bytes.{is_word_byte}
 use Rattle.line_words.specs.Parts.{Ends, before, from}
 use Rattle.line_words.proofs.Splitting.{before-append, before-from, from-append, from_ends}
@@ -18,7 +19,7 @@ use Rattle.reply_kinds.proofs.Table.{is_row, plain_word, rows}
 use Rattle.reply_fields.specs.Fields.{◌>>=◌, number_in, if_end}
 use Rattle.reply_grammar.specs.Reading.{fields, shaped}
 use Rattle.reply_grammar.specs.Lines.{same, commands, named, reply_of_values, read_arguments, read_body, behind_space, read_numbered, read_line}
-use Rattle.reply_fields.proofs.Pieces.{bind_some, guard_some, some_is}
+use Rattle.reply_fields.proofs.Pieces.{bind_some}
 use Rattle.reply_grammar.proofs.NumberFields.{number_in_again, number_in_takes}
 use Rattle.reply_grammar.proofs.Inverse.{fields_again, fields_take, opens}
 
@@ -38,7 +39,7 @@ same_is (x ∷ v) (y ∷ w) h =
     let rest : v ≡ w = same_is v w p.1 in cc
 
 named_by : (t : Bool) (w : List ℕ) (d c : CommandWord) (o : Option CommandWord) → same w (word_of d) ≡ t → cond t (Some d) o ≡ Some c → (o ≡ Some c → w ≡ word_of c) → w ≡ word_of c
-named_by true w d c o is h more = same_is w (word_of d) is ∙ ap word_of (some_is d c h)
+named_by true w d c o is h more = same_is w (word_of d) is ∙ ap word_of (same_Some d c h)
 named_by false w d c o is h more = more h
 
 named_takes_in : (cs : List CommandWord) (w : List ℕ) (c : CommandWord) → find (λ (d : CommandWord). same w (word_of d)) cs ≡ Some c → w ≡ word_of c
@@ -107,7 +108,7 @@ body_again r fit =
 
 if_end_is : {A : Type 0} (x : A) (rest : List ℕ) (y : A) → if_end x rest ≡ Some y → (x ≡ y) × (rest ≡ [])
 if_end_is x rest y e =
-    let g = guard_some (length rest == 0) x y e in
+    let g = cond_some (length rest == 0) x y e in
     (g.1, nil_from_length rest (eqb-true (length rest) 0 g.0))
 
 shaped_takes : (ks : List Kind) (bytes : List ℕ) (xs : Values ks) → shaped ks bytes ≡ Some xs → (bytes ≡ all_printed ks xs) × (all_fit ks xs ≡ true)
@@ -127,7 +128,7 @@ body_takes bytes r e =
     let text = shaped_takes (kinds_of c.0) (from 32 bytes) xs.0 xs.1 in
     let prints = made_prints c.0 xs.0 in
     let whole : bytes ≡ word_of c.0 ++ all_printed (kinds_of c.0) xs.0 = before-from 32 bytes ∙ ap (λ (w : List ℕ). w ++ from 32 bytes) (named_takes (before 32 bytes) c.0 c.1) ∙ ap (λ (t : List ℕ). word_of c.0 ++ t) text.0 in
-    subst (λ (q : Reply). (bytes ≡ body q) × Fits q) (some_is (reply_of_values c.0 xs.0) r xs.2) (whole ∙ sym prints.text, prints.fits text.1)
+    subst (λ (q : Reply). (bytes ≡ body q) × Fits q) (same_Some (reply_of_values c.0 xs.0) r xs.2) (whole ∙ sym prints.text, prints.fits text.1)
 
 -- with the id
 
@@ -160,7 +161,7 @@ line_again (Some id) r small fit =
 
 behind_is : (bytes text : List ℕ) → Ends 32 bytes → behind_space bytes ≡ Some text → bytes ≡ 32 ∷ text
 behind_is [] text ends e = absurd cc
-behind_is (b ∷ bs) text ends e = let rest : bs ≡ text = some_is bs text e in cc
+behind_is (b ∷ bs) text ends e = let rest : bs ≡ text = same_Some bs text e in cc
 
 numbered_takes : (bytes : List ℕ) (x : Option ℕ × Reply) → read_numbered bytes ≡ Some x → ReadsAs (35 ∷ bytes) x
 unfolding read_numbered
@@ -172,7 +173,7 @@ numbered_takes bytes x e =
     let b = body_takes text.0 r.0 r.1 in
     let rest : from 32 bytes ≡ 32 ∷ body r.0 = behind_is (from 32 bytes) text.0 (from_ends 32 bytes) text.1 ∙ ap (λ (t : List ℕ). 32 ∷ t) b.0 in
     let whole : bytes ≡ decimal id.0 ++ 32 ∷ body r.0 = before-from 32 bytes ∙ ap (λ (w : List ℕ). w ++ from 32 bytes) digits.0 ∙ ap (λ (t : List ℕ). decimal id.0 ++ t) rest in
-    subst (λ (q : Option ℕ × Reply). ReadsAs (35 ∷ bytes) q) (some_is (Some id.0, r.0) x r.2)
+    subst (λ (q : Option ℕ × Reply). ReadsAs (35 ∷ bytes) q) (same_Some (Some id.0, r.0) x r.2)
     (record { id = leb-true id.0 2147483647 (and_parts (nat_le 0 id.0) (nat_le id.0 2147483647) digits.1).1; fits = b.1; text = ap (λ (t : List ℕ). 35 ∷ t) (whole ∙ sym (append_assoc (decimal id.0) (32 ∷ []) (body r.0))) })
 
 line_by : (t : Bool) (b : ℕ) (bs : List ℕ) (x : Option ℕ × Reply) → (b == 35) ≡ t → cond t (read_numbered bs) (read_body (b ∷ bs) >>= λ r. Some (None, r)) ≡ Some x → ReadsAs (b ∷ bs) x
@@ -182,7 +183,7 @@ line_by true b bs x is e =
 line_by false b bs x is e =
     let r = bind_some (read_body (b ∷ bs)) (λ r. Some (None, r)) x e in
     let t = body_takes (b ∷ bs) r.0 r.1 in
-    subst (λ (q : Option ℕ × Reply). ReadsAs (b ∷ bs) q) (some_is (None, r.0) x r.2) (record { id = tt; fits = t.1; text = t.0 })
+    subst (λ (q : Option ℕ × Reply). ReadsAs (b ∷ bs) q) (same_Some (None, r.0) x r.2) (record { id = tt; fits = t.1; text = t.0 })
 
 pub line_takes : (bytes : List ℕ) (x : Option ℕ × Reply) → read_line bytes ≡ Some x → ReadsAs bytes x
 unfolding read_line
@@ -191,7 +192,7 @@ line_takes (b ∷ bs) x e = line_by (b == 35) b bs x refl e
 
 -- two pairs that print alike are one
 pub alike : (x y : Line) → IsId x.0 → Fits x.1 → IsId y.0 → Fits y.1 → line_text x.0 x.1 ≡ line_text y.0 y.1 → x ≡ y
-alike x y ix fx iy fy e = some_is x y (sym (line_again x.0 x.1 ix fx) ∙ ap read_line e ∙ line_again y.0 y.1 iy fy)
+alike x y ix fx iy fy e = same_Some x y (sym (line_again x.0 x.1 ix fx) ∙ ap read_line e ∙ line_again y.0 y.1 iy fy)
 
 -- what reads as a pair is read so
 pub is_read : (bytes : List ℕ) (x : Line) → ReadsAs bytes x → read_line bytes ≡ Some x

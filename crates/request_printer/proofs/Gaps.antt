@@ -31,17 +31,14 @@ use Rattle.request_printer.proofs.Named.{word_named, EachWord, IsNamed, each_wor
 
 -- Numbers and lists
 
-and_true : (a b : Bool) → a ≡ true → b ≡ true → (a && b) ≡ true
-and_true a b h k = and_from a b h k
-
 ranges : (before : Bool) (ks : List Kind) (xs : Values ks) → before ≡ true → EachFits ks xs
     → in_range before ks xs ≡ true
 ranges before [] xs b f = b
 ranges before (kind.Word ∷ ks) xs b f = ranges before ks xs.1 b f.1
 ranges before (kind.OptionalWord ∷ ks) xs b f = ranges before ks xs.1 b f.1
 ranges before (kind.Name ∷ ks) xs b f = ranges before ks xs.1 b f.1
-ranges before (kind.Natural high ∷ ks) xs b f = ranges (before && nat_le xs.0 high) ks xs.1 (and_true _ _ b f.0) f.1
-ranges before (kind.Wide ∷ ks) xs b f = ranges (before && is_wide xs.0) ks xs.1 (and_true _ _ b f.0) f.1
+ranges before (kind.Natural high ∷ ks) xs b f = ranges (before && nat_le xs.0 high) ks xs.1 (and_from _ _ b f.0) f.1
+ranges before (kind.Wide ∷ ks) xs b f = ranges (before && is_wide xs.0) ks xs.1 (and_from _ _ b f.0) f.1
 ranges before (kind.Flag ∷ ks) xs b f = ranges before ks xs.1 b f.1
 ranges before (kind.Sentence ∷ ks) xs b f = ranges before ks xs.1 b f.1
 ranges before (kind.Text ∷ ks) xs b f = ranges before ks xs.1 b f.1
@@ -65,10 +62,10 @@ lists before (kind.OptionalText ∷ ks) xs b f = lists before ks xs.1 b f.1
 lists before (kind.LoginFlags ∷ ks) xs b f = lists before ks xs.1 b f.1
 lists before (kind.Pairs ∷ ks) xs b f =
     lists (before && nat_le 1 (length xs.0)) ks xs.1
-    (and_true _ _ b (and_parts (nat_le 1 (length xs.0)) (list_all is_pair xs.0) f.0).0) f.1
+    (and_from _ _ b (and_parts (nat_le 1 (length xs.0)) (list_all is_pair xs.0) f.0).0) f.1
 lists before (kind.Words ∷ ks) xs b f =
     lists (before && nat_le 1 (length xs.0)) ks xs.1
-    (and_true _ _ b (and_parts (nat_le 1 (length xs.0)) (list_all is_word xs.0) f.0).0) f.1
+    (and_from _ _ b (and_parts (nat_le 1 (length xs.0)) (list_all is_word xs.0) f.0).0) f.1
 
 -- Gaps
 

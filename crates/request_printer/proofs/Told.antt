@@ -1,7 +1,7 @@
 -- What printing tells of a request.
 use Rattle.std.proofs.Common.{◌≡◌, ℕ, ◌≤◌, List, [], ◌∷◌, ◌++◌, length, refl, sym, subst, ◌∙◌, Bool, true, false, cond}
 use Rattle.std.proofs.Common.{arith}
-use Rattle.std.specs.Prelude.{IfErr, OnOk, Some, None, Result, Ok, Err}
+use Rattle.std.specs.Prelude.{OnOk, Some, None, Result, Ok, Err}
 use Rattle.command_grammar.specs.declared.command.Request.{Request}
 use Rattle.command_grammar.specs.Table.{arguments_of}
 use Rattle.command_grammar.specs.Reads.{Reads}
@@ -75,7 +75,3 @@ line_refused Skipped r word has fine h = absurd h
 pub on_ok : {A E : Type 0} {P Q R : Type 0} (r : Result A E) → (P → Q → R) → OnOk r P → OnOk r Q → OnOk r R
 on_ok (Ok x) f p q = f p q
 on_ok (Err e) f p q = p
-
-pub if_err : {A E : Type 0} {P Q : E → Type 0} (r : Result A E) → ((e : E) → P e → Q e) → IfErr r P → IfErr r Q
-if_err (Ok x) f p = p
-if_err (Err e) f p = f e p

@@ -1,17 +1,10 @@
 -- Items of distinct keys, put one after another, come in their order.
-use Rattle.std.proofs.Common.{◌≡◌, ℕ, List, [], ◌∷◌, ◌++◌, map, refl, sym, ap, subst, ◌∙◌, true, false, append_assoc, append-nil}
+use Rattle.std.proofs.Common.{◌≡◌, ℕ, List, [], ◌∷◌, ◌++◌, map, refl, sym, ap, subst, ◌∙◌, false, append_assoc, append-nil}
 use Rattle.std.specs.Prelude.{if◌then◌else◌}
 use Rattle.std.specs.List.{IsDistinct, AllByRecursion}
 use Rattle.line_words.specs.Table.{same_name}
-use Rattle.line_words.proofs.Tables.{same_name_is, same_name_itself}
+use Rattle.line_words.proofs.Once.{apart_either_way}
 use Rattle.room_lists.specs.Keyed.{with_item, with_items}
-
-pub other_way : (a b : List ℕ) → same_name a b ≡ false → same_name b a ≡ false
-other_way a b apart =
-    elim (same_name b a) as (λ t. same_name b a ≡ t → t ≡ false) [
-      | true ↦ λ e. sym (same_name_itself a) ∙ ap (same_name a) (sym (same_name_is b a e)) ∙ apart
-      | false ↦ λ e. refl
-    ] refl
 
 module _ {T : Type 0} (key_of : T → List ℕ) where
   apart_in : (key : List ℕ) (items : List T) (item : T) (more : List T)
@@ -24,7 +17,7 @@ module _ {T : Type 0} (key_of : T → List ℕ) where
   comes_last [] item more distinct = refl
   comes_last (t ∷ items) item more distinct =
       ap (λ b. if b then item ∷ items else t ∷ with_item key_of items item)
-      (other_way (key_of t) (key_of item) (apart_in (key_of t) items item more distinct.0))
+      (apart_either_way (key_of t) (key_of item) (apart_in (key_of t) items item more distinct.0))
       ∙ ap (λ ts. t ∷ ts) (comes_last items item more distinct.1)
 
   come_behind : (items more : List T) → IsDistinct same_name (map key_of (items ++ more)) → with_items key_of items more ≡ items ++ more

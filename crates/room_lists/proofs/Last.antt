@@ -11,9 +11,9 @@ use Rattle.std.proofs.lemmas.List.{take_more}
 use Rattle.indexmap.specs.IndexMap.{insert_entry}
 use Rattle.line_words.specs.Table.{is_among}
 use Rattle.line_words.proofs.Keyed.{same_key, stands_for}
+use Rattle.line_words.proofs.Once.{apart_either_way}
 use Rattle.room_lists.specs.Index.{IsIndex}
 use Rattle.room_lists.specs.Keyed.{has_key, with_item, with_items}
-use Rattle.room_lists.proofs.Copied.{other_way}
 use Rattle.room_lists.proofs.Counted.{has_all, has_with}
 use Rattle.room_lists.proofs.Entries.{has_key_is, item_inserted, with_both}
 use Rattle.room_lists.proofs.Indexed.{has_value, index_inserted}
@@ -50,7 +50,7 @@ module _ {T : Type 0} (key_of : T → List ℕ) where
         | false ↦ λ no. elim (same_name (key_of p) (key_of t)) as (λ b. same_name (key_of p) (key_of t) ≡ b → (b || has_key key_of (key_of p) items) ≡ true
             → (if b then p ∷ with_item key_of items r else t ∷ with_item key_of (with_item key_of items r) p)
             ≡ with_item key_of (if b then p ∷ items else t ∷ with_item key_of items p) r) [
-              | true ↦ λ is rest. sym (ap (λ b. if b then r ∷ items else p ∷ with_item key_of items r) (other_way (key_of p) (key_of r) apart))
+              | true ↦ λ is rest. sym (ap (λ b. if b then r ∷ items else p ∷ with_item key_of items r) (apart_either_way (key_of p) (key_of r) apart))
               | false ↦ λ isnt rest. ap (λ ts. t ∷ ts) (either_first items r p apart rest)
                   ∙ sym (ap (λ b. if b then r ∷ with_item key_of items p else t ∷ with_item key_of (with_item key_of items p) r) no)
             ] refl there
@@ -97,7 +97,7 @@ module _ {T : Type 0} (key_of : T → List ℕ) where
       elim (same_name (key_of p) (key_of q)) as (λ b. same_name (key_of p) (key_of q) ≡ b
       → IsDistinct same_name (map key_of (if b then p ∷ qs else q ∷ with_item key_of qs p))) [
         | true ↦ λ same. (subst (λ k. AreApart k qs) (sym (same_name_is (key_of p) (key_of q) same)) distinct.0, distinct.1)
-        | false ↦ λ other. (apart_with (key_of q) qs p distinct.0 (other_way (key_of p) (key_of q) other), distinct_with qs p distinct.1)
+        | false ↦ λ other. (apart_with (key_of q) qs p distinct.0 (apart_either_way (key_of p) (key_of q) other), distinct_with qs p distinct.1)
       ] refl
 
   all_alone : (items qs ps : List T) → IsDistinct same_name (map key_of qs) → with_items key_of items (with_items key_of qs ps) ≡ with_items key_of (with_items key_of items qs) ps

@@ -1,6 +1,6 @@
 -- Whether there is room for items, by those of them that are new.
 use Rattle.std.proofs.Common.{◌≡◌, ◌<◌, ◌≤◌, ◌+◌, ℕ, suc, List, [], ◌∷◌, ◌++◌, map, refl, sym, ap, ◌∙◌, true, false, not, length, arith}
-use Rattle.std.specs.Prelude.{◌||◌, ◌-◌, if◌then◌else◌, nat_lt, is_some, Option, Some, None, Result, Ok, Err, IfOk, Vec}
+use Rattle.std.specs.Prelude.{◌||◌, ◌-◌, if◌then◌else◌, nat_lt, is_some, Option, Some, None, Vec}
 use Rattle.std.specs.declared.alloc.Global.{Global}
 use Rattle.std.specs.Borrow.{Bor}
 use Rattle.std.proofs.lemmas.Bool.Decides.{nat_tests}
@@ -81,7 +81,3 @@ module _ {T : Type 0} (key_of : T → List ℕ) where
       let gone = fewer keys items in
       elim (has_key key_of key items) as (λ b. length (if b then key ∷ keys_there key_of (without_key key_of key items) keys else keys_there key_of items keys)
       ≤ suc (length keys)) [ true ↦ omega (arith, here) | false ↦ omega (arith, gone) ]
-
-pub if_ok : {A E : Type 0} (r : Result A E) (P Q : A → Type 0) → ((x : A) → P x → Q x) → IfOk r P → IfOk r Q
-if_ok (Ok x) P Q f h = f x h
-if_ok (Err e) P Q f h = tt

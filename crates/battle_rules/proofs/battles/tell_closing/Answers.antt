@@ -1,4 +1,5 @@
 use Rattle.std.proofs.Common.{◌≡◌, ℕ, List, [], ◌∷◌, sym, subst}
+use Rattle.std.proofs.lemmas.Result.{on_ok_weaker}
 use Rattle.reply_kinds.specs.declared.Reply.TheVariants as reply
 use Rattle.room_lists.specs.Room.{Room, asker_names}
 use Rattle.lobby_model.specs.State.{State}
@@ -8,7 +9,6 @@ use Rattle.lobby_post.specs.Posted.{Posted, Told}
 use Rattle.lobby_post.proofs.Telling.{told_then}
 use Rattle.battle_rules.specs.declared.battles.Leaving.{Leaving}
 use Rattle.battle_rules.specs.BattleTalk.{shown_to}
-use Rattle.battle_rules.proofs.InBattles.{on_ok}
 use Rattle.battle_rules.proofs.battles.tell_closing.Goals as goal
 use Rattle.battle_rules.proofs.battles.tell_closing.Goals.{in-Seen+in_ok-tell_askers-in-Seen, in-Unseen+in_ok-tell_other_askers-in-Unseen}
 
@@ -31,4 +31,4 @@ returns c =
       | in-Unseen+in_ok-tell_other_askers-in-Unseen w ↦ asked_told c.args.maps.now.plain c.args.post.now w.tell_other_askers.new.post c.match-leaving.post c.args.leaving _
           c.args.room.now c.lend-text.result w.in-Unseen.is c.lend-text.ensures w.post-is w.in_ok-tell_other_askers-in-Unseen.ensures
     ] in
-    on_ok _ _ _ (λ then. told_then c.args.maps.now.plain c.args.post.now c.match-leaving.post c.tell_leaving_all.new.post _ _ first then) c.tell_leaving_all.ensures
+    on_ok_weaker _ (λ then. told_then c.args.maps.now.plain c.args.post.now c.match-leaving.post c.tell_leaving_all.new.post _ _ first then) c.tell_leaving_all.ensures

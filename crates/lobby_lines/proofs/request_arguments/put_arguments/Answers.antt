@@ -1,4 +1,4 @@
-use Rattle.std.proofs.Common.{map, drop, subst, sym, ap, ◌+◌, ◌∙◌, false, rules}
+use Rattle.std.proofs.Common.{map, drop, subst, sym, ◌+◌, ◌∙◌, false, rules}
 use Rattle.lobby_lines.specs.Requests.{kind_of}
 use Rattle.lobby_lines.specs.Writing.{Blames, parts}
 use Rattle.lobby_lines.proofs.RequestGoing.{Going, starts, stops_at, parts_next, parts_skipped, next_kind}

@@ -1,6 +1,7 @@
 use Rattle.std.proofs.Common.{sym}
+use Rattle.std.proofs.lemmas.Result.{IfErr-weaker}
 use Rattle.request_printer.specs.Writing.{asked}
-use Rattle.request_printer.proofs.Told.{refused, printed, line_refused, on_ok, if_err}
+use Rattle.request_printer.proofs.Told.{refused, printed, line_refused, on_ok}
 use Rattle.request_printer.proofs.printing.print_row.Goals as goal
 
 pub returns-in-Some-clause-refused : goal.returns-in-Some-clause-refused
@@ -14,5 +15,5 @@ returns-clause-printed g c =
 
 pub returns-clause-refused : goal.returns-clause-refused
 returns-clause-refused g c =
-    if_err c.print_line.result (λ e h. line_refused e (asked c.args.id c.args.command.now) c.args.word.now c.requires.word
+    IfErr-weaker c.print_line.result _ _ (λ e h. line_refused e (asked c.args.id c.args.command.now) c.args.word.now c.requires.word
     (sym c.in-None.ensures) h) c.print_line.ensures.refused

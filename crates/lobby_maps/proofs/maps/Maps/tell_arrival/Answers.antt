@@ -1,5 +1,6 @@
 use Rattle.std.proofs.Common.{◌≡◌, ◌∙◌, ◌==◌, ap, sym, subst, [], ◌∷◌, length, rules}
 use Rattle.std.specs.Prelude.{None, if◌then◌else◌}
+use Rattle.std.proofs.lemmas.Result.{on_ok_weaker}
 use Rattle.lobby_model.specs.State.{State}
 use Rattle.lobby_model.specs.Outcome.{tell, others}
 use Rattle.lobby_model.specs.Sessions.{added, arrival}
@@ -9,7 +10,7 @@ use Rattle.lobby_post.specs.Posted.{Told, telling, with_others}
 use Rattle.lobby_battles.specs.OnlineUsers.{plain_user}
 use Rattle.lobby_maps.proofs.Arrivals.{arrival_told, not_zero}
 use Rattle.lobby_maps.proofs.Walks.{reaches_everyone}
-use Rattle.lobby_maps.proofs.Plain.{on_ok, plainly}
+use Rattle.lobby_maps.proofs.Plain.{plainly}
 use Rattle.lobby_maps.proofs.maps.Maps.tell_arrival.Goals as goal
 use Rattle.lobby_maps.proofs.maps.Maps.tell_arrival.Goals.{then-status-ne0+in_ok-write_more_for_others, else-status-ne0}
 
@@ -26,7 +27,7 @@ returns c =
     ] in
     let first : c.write_for_others.new.self ≡ telling c.args.post.now [] (printed_line None (added c.args.name.now (plain_user c.args.online_user.now)))
     (length (printed_line None (added c.args.name.now (plain_user c.args.online_user.now)))) = search rules in
-    on_ok _ (λ sent.
+    on_ok_weaker _ (λ sent.
     subst (λ (s : State). Told s c.args.post.now c.address_all.new.post (tell others (arrival c.args.name.now (plain_user c.args.online_user.now)) ∷ []))
     (plainly c.self.view_is)
     (arrival_told _ c.args.post.now c.write_for_others.new.self c.if-status-ne0.post c.address_all.new.post c.args.name.now

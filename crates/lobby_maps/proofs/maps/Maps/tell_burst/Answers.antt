@@ -1,4 +1,5 @@
 use Rattle.std.proofs.Common.{◌∙◌, ap, subst, map, [], ◌∷◌}
+use Rattle.std.proofs.lemmas.Result.{on_ok_weaker}
 use Rattle.reply_kinds.specs.declared.Reply.TheVariants as reply
 use Rattle.line_words.specs.Table.{put_name}
 use Rattle.lobby_model.specs.State.{State}
@@ -7,12 +8,12 @@ use Rattle.lobby_model.specs.Sessions.{burst}
 use Rattle.lobby_post.specs.Posted.{Told, with_own}
 use Rattle.lobby_battles.specs.OnlineUsers.{plain_user}
 use Rattle.lobby_maps.proofs.Bursts.{burst_told}
-use Rattle.lobby_maps.proofs.Plain.{on_ok, plainly}
+use Rattle.lobby_maps.proofs.Plain.{plainly}
 use Rattle.lobby_maps.proofs.maps.Maps.tell_burst.Goals as goal
 
 pub returns : goal.returns
 returns c =
-    on_ok _ (λ sent.
+    on_ok_weaker _ (λ sent.
     subst (λ (s : State). Told s c.args.post.now c.address_issuer.new.self
     (tell issuer (burst s.settings.motd c.args.name.now (put_name s.users c.args.name.now (plain_user c.args.online_user.now)) s.battles) ∷ []))
     (plainly c.self.view_is)

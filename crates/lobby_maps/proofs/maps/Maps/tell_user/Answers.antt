@@ -1,15 +1,16 @@
 use Rattle.std.proofs.Common.{subst, [], ◌∷◌}
+use Rattle.std.proofs.lemmas.Result.{on_ok_weaker}
 use Rattle.lobby_model.specs.State.{State}
 use Rattle.lobby_model.specs.Outcome.{tell, user}
 use Rattle.lobby_post.specs.Posted.{Told}
 use Rattle.lobby_post.proofs.Telling.{told_all}
 use Rattle.lobby_maps.proofs.Walks.{reaches_user}
-use Rattle.lobby_maps.proofs.Plain.{on_ok, plainly}
+use Rattle.lobby_maps.proofs.Plain.{plainly}
 use Rattle.lobby_maps.proofs.maps.Maps.tell_user.Goals as goal
 
 pub returns : goal.returns
 returns c =
-    on_ok _ (λ sent.
+    on_ok_weaker _ (λ sent.
     subst (λ (s : State). Told s c.args.post.now c.address_user.new.post (tell (user c.args.name.now) (c.args.line ∷ [])
     ∷ [])) (plainly c.self.view_is)
     (told_all _ c.args.post.now c.write.new.self c.address_user.new.post c.args.line (user c.args.name.now)
