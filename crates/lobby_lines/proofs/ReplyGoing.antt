@@ -65,9 +65,10 @@ ends_so (Ok u) all rest bytes old now end g = (ends all rest bytes old now g end
 ends_so (Err e) all rest bytes old now end g = (tt, left_over e all rest bytes old now g end)
 
 -- the next kind that a loop takes
-pub next_kind : (kinds : List ReplyKind) (i : ℕ) (d : ReplyKind) → i < length kinds
-    → map kind_of (drop i kinds) ≡ kind_of (get_or kinds i d) ∷ map kind_of (drop (i + 1) kinds)
-next_kind kinds i d within = ap (map kind_of) (drop_more kinds i d within)
+pub next_kind : (kinds : List ReplyKind) (i : ℕ) (d : ReplyKind) (all : List Kind) (rest bytes : List ℕ) (old now : Laid) → i < length kinds
+    → Going (map kind_of (drop i kinds)) all rest bytes old now → Going (kind_of (get_or kinds i d) ∷ map kind_of (drop (i + 1) kinds)) all rest bytes old now
+next_kind kinds i d all rest bytes old now within g = subst (λ ks. Going (map kind_of ks) all rest bytes old now) (drop_more kinds i d within) g
 
-pub no_kind : (kinds : List ReplyKind) (i : ℕ) → length kinds ≤ i → map kind_of (drop i kinds) ≡ []
-no_kind kinds i past = ap (map kind_of) (drop_all i kinds past)
+pub no_kind : (kinds : List ReplyKind) (i : ℕ) (all : List Kind) (rest bytes : List ℕ) (old now : Laid) → length kinds ≤ i
+    → Going (map kind_of (drop i kinds)) all rest bytes old now → Going [] all rest bytes old now
+no_kind kinds i all rest bytes old now past g = subst (λ ks. Going (map kind_of ks) all rest bytes old now) (drop_all i kinds past) g

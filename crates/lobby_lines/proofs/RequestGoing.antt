@@ -225,9 +225,11 @@ module _ (all : Result (List ℕ) RequestError) (m absent n : Bool) (separator :
           (skipped_so m p.absent e (parts (m || p.absent) (separator_behind k separator) text ks p.behind >>= λ t. Ok (p.text ++ t)) is_p)
 
 -- the next kind that a loop takes
-pub next_kind : (kinds : List RequestKind) (i : ℕ) (d : RequestKind) → i < length kinds
-    → map kind_of (drop i kinds) ≡ kind_of (get_or kinds i d) ∷ map kind_of (drop (i + 1) kinds)
-next_kind kinds i d within = ap (map kind_of) (drop_more kinds i d within)
+pub next_kind : (all : Result (List ℕ) RequestError) (m : Bool) (separator : ℕ) (text : List ℕ) (kinds : List RequestKind) (i : ℕ) (d : RequestKind)
+    (fs : List FieldRow) (old now : List ℕ) → i < length kinds → Going all (parts m separator text (map kind_of (drop i kinds)) fs) old now
+    → Going all (parts m separator text (kind_of (get_or kinds i d) ∷ map kind_of (drop (i + 1) kinds)) fs) old now
+next_kind all m separator text kinds i d fs old now within g =
+    subst (λ ks. Going all (parts m separator text (map kind_of ks) fs) old now) (drop_more kinds i d within) g
 
 pub no_kind : (kinds : List RequestKind) (i : ℕ) → length kinds ≤ i → map kind_of (drop i kinds) ≡ []
 no_kind kinds i past = ap (map kind_of) (drop_all i kinds past)

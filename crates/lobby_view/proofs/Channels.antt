@@ -7,7 +7,7 @@ use Rattle.std.specs.FinMap.Entries.{is_sorted, below_all}
 use Rattle.reply_kinds.specs.declared.Reply.{Reply}
 use Rattle.reply_kinds.specs.declared.Reply.TheVariants as reply
 use Rattle.line_words.specs.Table.{at_name, put_name, without_name, change_name, name_cmp, same_name, is_among, all_but, map_values}
-use Rattle.line_words.proofs.Tables.{name_cmp_total, name_cmp_same, same_name_itself, filter-put, filter-put_unseen, find-filter, is_sorted-filter, change_absent, both, both_first, both_second}
+use Rattle.line_words.proofs.Tables.{Less_of, name_cmp_total, name_cmp_same, same_name_itself, filter-put, filter-put_unseen, find-filter, is_sorted-filter, change_absent, both, both_first, both_second}
 use Rattle.line_words.proofs.Once.{apart_either_way, out_of_but}
 use Rattle.channel_book.specs.Channels.{Channels, names_of, names_in, channels_of, has_names, joined, lively, left}
 use Rattle.lobby_model.specs.State.{State}
@@ -16,7 +16,7 @@ use Rattle.lobby_model.specs.Channels.{pieces_from, name_lines, joins, leaves, l
 use Rattle.lobby_view.specs.View.{View, shown_all, at_end}
 use Rattle.lobby_view.specs.Observe.{observe}
 use Rattle.lobby_view.proofs.Basics.{Seen, seen_by_each, reader}
-use Rattle.lobby_view.proofs.Places.{less_of, change_above}
+use Rattle.lobby_view.proofs.Places.{change_above}
 use Rattle.lobby_view.proofs.Ordered.{change_put, put_is_change}
 use Rattle.lobby_view.proofs.Distinct.{stays, at_end_apart, is_at_end, none_dropped}
 
@@ -220,7 +220,7 @@ module _ (me u : List ℕ) (apart : same_name u me ≡ false) where
   first_stays : (m : Channels) (e : List ℕ × Names) (own : Channels) → T (below_all name_cmp e.0 m) → left_each m (e ∷ own) ≡ e ∷ left_each m own
   first_stays [] e own h = refl
   first_stays (d ∷ m) e own h =
-      let other = apart_either_way e.0 d.0 (ap is_eq (less_of (name_cmp e.0 d.0) (both_first _ _ h))) in
+      let other = apart_either_way e.0 d.0 (ap is_eq (Less_of (name_cmp e.0 d.0) (both_first _ _ h))) in
       ap (left_each m)
       (elim (is_among me d.1) as (λ b. (if b then (if is_among u d.1 then change_name (e ∷ own) d.0 (all_but me) else e ∷ own) else e ∷ own)
       ≡ e ∷ (if b then (if is_among u d.1 then change_name own d.0 (all_but me) else own) else own)) [

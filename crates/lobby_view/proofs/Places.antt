@@ -2,17 +2,12 @@
 use Rattle.std.proofs.Common.{◌≡◌, List, [], ◌∷◌, ◌++◌, refl, ap, ◌∙◌, T, cond}
 use Rattle.std.specs.Prelude.{Some, if◌then◌else◌}
 use Rattle.std.specs.declared.cmp.Ordering.{Ordering}
-use Rattle.std.specs.declared.cmp.Ordering.TheVariants.{Less, Equal, Greater}
-use Rattle.std.specs.Ordering.{is_eq, is_lt, ordering_reverse}
+use Rattle.std.specs.declared.cmp.Ordering.TheVariants.{Less, Greater}
+use Rattle.std.specs.Ordering.{is_eq, ordering_reverse}
 use Rattle.std.specs.Cmp.{IsTotalOrder, tied_itself}
 use Rattle.std.specs.FinMap.Entries.{find, put, is_sorted, below_all, by_order}
 use Rattle.line_words.specs.Table.{change, map_values}
-use Rattle.line_words.proofs.Tables.{both, both_first, both_second}
-
-pub less_of : (r : Ordering) → T (is_lt r) → r ≡ Less
-less_of Less h = refl
-less_of Equal h = absurd h
-less_of Greater h = absurd h
+use Rattle.line_words.proofs.Tables.{Less_of, both, both_first, both_second}
 
 module _ {K : Type 0} (R : K → K → Ordering) where
   -- k is above each key
@@ -22,7 +17,7 @@ module _ {K : Type 0} (R : K → K → Ordering) where
 
 module _ {K X : Type 0} (R : K → K → Ordering) where
   below_at : (k : K) (done : List (K × X)) (e : K × X) (rest : List (K × X)) → T (below_all R k (done ++ e ∷ rest)) → R k e.0 ≡ Less
-  below_at k [] e rest h = less_of _ (both_first _ _ h)
+  below_at k [] e rest h = Less_of _ (both_first _ _ h)
   below_at k (d ∷ done) e rest h = below_at k done e rest (both_second _ _ h)
 
   -- in a sorted map a key is above those before it and below those behind it
@@ -52,7 +47,7 @@ module _ {K X : Type 0} (R : K → K → Ordering) where
   pub change_above : (k : K) (f : X → X) (m : List (K × X)) → T (below_all R k m) → change R m k f ≡ m
   change_above k f [] h = refl
   change_above k f (e ∷ m) h =
-      λ i. (e.0, if is_eq (less_of (R k e.0) (both_first _ _ h) i) then f e.1 else e.1) ∷ change_above k f m (both_second _ _ h) i
+      λ i. (e.0, if is_eq (Less_of (R k e.0) (both_first _ _ h) i) then f e.1 else e.1) ∷ change_above k f m (both_second _ _ h) i
 
   pub change_middle : IsTotalOrder R → (k : K) (f : X → X) (x : X) (done rest : List (K × X)) → Before R k done → T (below_all R k rest)
       → change R (done ++ (k, x) ∷ rest) k f ≡ done ++ (k, f x) ∷ rest

@@ -3,7 +3,7 @@ use Rattle.std.proofs.Common.{◌≡◌, List, [], ◌∷◌, ◌++◌, refl, sy
 use Rattle.std.specs.Prelude.{Option, Some, None, is_some, Result, Ok, Err, IfOk, OnOk, OnErr, MatchOption}
 use Rattle.std.proofs.lemmas.Option.{same_Some}
 use Rattle.std.specs.declared.cmp.Ordering.{Ordering}
-use Rattle.std.specs.declared.cmp.Ordering.TheVariants.{Less, Equal, Greater}
+use Rattle.std.specs.declared.cmp.Ordering.TheVariants.{Less, Equal}
 use Rattle.std.specs.Ordering.{is_lt, eq_by_cmp}
 use Rattle.std.specs.Option.{option_map, option_flatten}
 use Rattle.std.specs.Cmp.{IsTotalOrder, eq_by_cmp_equiv}
@@ -14,16 +14,11 @@ use Rattle.std.specs.BTreeMap.{is_at}
 use Rattle.std.specs.Map.{lookup, set_value}
 use Rattle.std.proofs.lemmas.Iterator.Adapters.{option_map_id}
 use Rattle.line_words.specs.Table.{at, put, without, change}
-use Rattle.line_words.proofs.Tables.{Equal_of, both, both_first, both_second, find_before, at-put, at-without, at-change, is_sorted-without, is_sorted-change, change_absent, without_absent, lookup_is_find}
+use Rattle.line_words.proofs.Tables.{Equal_of, Less_of, both, both_first, both_second, find_before, at-put, at-without, at-change, is_sorted-without, is_sorted-change, change_absent, without_absent, lookup_is_find}
 use Rattle.line_words.proofs.Written.{set_is_change}
 use Rattle.noted_map.specs.Slots.{live, with_live, one, one_in}
 use Rattle.noted_map.specs.Notes.{undo_at, undone, place_note}
 use Rattle.noted_map.specs.declared.note.Note.{Note}
-
-less_of : (r : Ordering) → T (is_lt r) → r ≡ Less
-less_of Less h = refl
-less_of Equal h = absurd h
-less_of Greater h = absurd h
 
 later : (a b : ℕ) → a ≤ b → a ≤ suc b
 later a b h = omega arith
@@ -74,7 +69,7 @@ module _ {K X : Type 0} (R : K → K → Ordering) where
 
   of_below : (x : K) (m : List (K × X)) → T (below_all R x m) → AllByRecursion (λ y. R x y ≡ Less) (map (λ e. e.0) m)
   of_below x [] h = tt
-  of_below x (e ∷ m) h = (less_of _ (both_first _ _ h), of_below x m (both_second _ _ h))
+  of_below x (e ∷ m) h = (Less_of _ (both_first _ _ h), of_below x m (both_second _ _ h))
 
   pub rising_of : (m : List (K × X)) → T (is_sorted R m) → IsStrictlySortedBy R (map (λ e. e.0) m)
   unfolding IsStrictlySortedBy

@@ -15,7 +15,7 @@ use Rattle.command_grammar.specs.Table.{entries, battle_entries, room_entries, h
 use Rattle.command_grammar.proofs.Lines.{text_settles}
 use Rattle.reply_kinds.specs.Replies.{id_text}
 use Rattle.request_printer.specs.Faults.{is_id}
-use Rattle.request_printer.proofs.Numbers.{is_digits_decimal, decimal_value}
+use Rattle.reply_kinds.proofs.Decimals.{is_digits_decimal, decimal_value}
 use Rattle.record_lines.specs.Masks.{unread_text}
 
 asks : (f : ReadFault) → Asks (unread_text f) (command.Unread f)

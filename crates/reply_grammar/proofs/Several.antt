@@ -1,6 +1,6 @@
 -- Several arguments up to the end.
 use Rattle.std.proofs.Common.{◌≡◌, ℕ, Bool, true, false, cond, List, [], ◌∷◌, ◌++◌, length, Option, Some, None, refl, sym, ap, subst, ◌∙◌}
-use Rattle.std.specs.Prelude.{not, ◌&&◌, ◌==◌, nat_le}
+use Rattle.std.specs.Prelude.{◌&&◌, ◌==◌, nat_le}
 use Rattle.std.specs.List.{list_all}
 use Rattle.std.proofs.lemmas.Bool.{and_parts, and_from, eqb-true, eq-eqb}
 use Rattle.std.proofs.lemmas.Option.{cond_some, same_Some}
@@ -11,7 +11,7 @@ use Rattle.line_words.proofs.Splitting.{before-append, before-from, from-append}
 use Rattle.line_words.proofs.Splitting.{between-cons, from_ends}
 use Rattle.reply_kinds.specs.Kinds.{words_text, pairs_text, pair_text}
 use Rattle.line_words.specs.Kinds.{is_pair}
-use Rattle.reply_kinds.proofs.Bytes.{all_append, all_more}
+use Rattle.reply_kinds.proofs.Bytes.{pair_sentence}
 use Rattle.reply_fields.specs.Fields.{◌>>=◌, all_of, many, if_is, pair_of, pair_in}
 use Rattle.reply_fields.proofs.Pieces.{bind_some}
 
@@ -150,9 +150,6 @@ name_prints = record {
   bytes = λ w h. (and_parts (nat_le 1 (length w) && nat_le (length w) 20) (list_all is_name_byte w) h).1;
 }
 
-pub key_sentence : (b : ℕ) → is_key_byte b ≡ true → is_sentence_byte b ≡ true
-key_sentence b h = (and_parts (not (b == 32)) (is_sentence_byte b) (and_parts (not (b == 61)) (is_word_byte b) h).1).1
-
 pair_again : (p : Pair) → is_pair p ≡ true → pair_in (pair_text p) ≡ Some p
 unfolding pair_in
 pair_again p h =
@@ -177,8 +174,5 @@ pub pair_prints : Prints pair_in pair_text is_pair is_sentence_byte
 pair_prints = record {
   again = pair_again;
   takes = pair_takes;
-  bytes = λ p h.
-      (let parts = and_parts (is_key p.key) (is_sentence p.value) h in
-      let key = and_parts (nat_le 1 (length p.key)) (list_all is_key_byte p.key) parts.0 in
-      all_append is_sentence_byte p.key (61 ∷ p.value) (all_more is_key_byte is_sentence_byte key_sentence p.key key.1) parts.1);
+  bytes = pair_sentence;
 }

@@ -7,7 +7,7 @@ use Rattle.std.specs.List.{list_all, list_any}
 use Rattle.std.proofs.lemmas.Bool.{and_parts, and_from, leb-true}
 use Rattle.std.proofs.lemmas.Fmt.{decimal_digit}
 use Rattle.std.proofs.lemmas.Int.{ints}
-use Rattle.line_words.specs.Bytes.{has_byte, is_key, is_key_byte, is_name, is_name_byte, is_sentence, is_sentence_byte}
+use Rattle.line_words.specs.Bytes.{has_byte, is_key, is_name, is_name_byte, is_sentence, is_sentence_byte}
 use Rattle.line_words.specs.Bytes.{is_word, is_word_byte}
 use Rattle.line_words.specs.Kinds.{is_pair, is_wide}
 use Rattle.line_words.specs.Numbers.{IsNumeral}
@@ -21,7 +21,7 @@ use Rattle.command_grammar.specs.Arguments.{IsFault, Word, OptionalWord, Name, N
 use Rattle.command_grammar.specs.Arguments.{PairsIn, AtLeastOne, Pairs, AreWords, Words}
 use Rattle.command_grammar.specs.Kinds.{are_some}
 use Rattle.reply_kinds.specs.Kinds.{words_text, pair_text, pairs_text}
-use Rattle.reply_kinds.proofs.Bytes.{all_append, all_more, word_name}
+use Rattle.reply_kinds.proofs.Bytes.{all_more, word_name, pair_sentence}
 use Rattle.request_printer.proofs.Numbers.{decimal_word, decimal_numeral, signed_word, signed_numeral, wide_low}
 use Rattle.request_printer.proofs.Numbers.{wide_high}
 
@@ -126,16 +126,6 @@ sentence_back K separator s more c fit ends h =
 
 -- Pairs
 
-key_sentence : (b : ℕ) → is_key_byte b ≡ true → is_sentence_byte b ≡ true
-key_sentence b h = (and_parts (not (b == 32)) (is_sentence_byte b) (and_parts (not (b == 61)) (is_word_byte b) h).1).1
-
-sentence_bytes : (p : Pair) → is_pair p ≡ true → is_sentence (pair_text p) ≡ true
-sentence_bytes p fit =
-    let q = and_parts (is_key p.key) (is_sentence p.value) fit in
-    let key = and_parts (nat_le 1 (length p.key)) (list_all is_key_byte p.key) q.0 in
-    all_append is_sentence_byte p.key (61 ∷ p.value) (all_more is_key_byte is_sentence_byte key_sentence p.key key.1)
-    q.1
-
 pairs_end : (ps : List Pair) → Ends 9 (pairs_text 9 ps)
 pairs_end [] = tt
 pairs_end (p ∷ ps) = refl
@@ -149,9 +139,9 @@ parts_behind (p ∷ ps) h =
     parts : (p : Pair) (ps : List Pair) → is_pair p ≡ true → tails 9 (pairs_text 9 ps) ≡ map pair_text ps
         → between 9 (pair_text p ++ pairs_text 9 ps) ≡ pair_text p ∷ map pair_text ps
     parts p ps fit e =
-        let front = before-append is_sentence_byte 9 (pair_text p) (pairs_text 9 ps) refl (sentence_bytes p fit)
+        let front = before-append is_sentence_byte 9 (pair_text p) (pairs_text 9 ps) refl (pair_sentence p fit)
         (pairs_end ps) in
-        let back = from-append is_sentence_byte 9 (pair_text p) (pairs_text 9 ps) refl (sentence_bytes p fit)
+        let back = from-append is_sentence_byte 9 (pair_text p) (pairs_text 9 ps) refl (pair_sentence p fit)
         (pairs_end ps) in
         between-cons 9 (pair_text p ++ pairs_text 9 ps)
         ∙ ap (λ (f : List ℕ). f ∷ tails 9 (from 9 (pair_text p ++ pairs_text 9 ps))) front

@@ -27,7 +27,7 @@ use Rattle.request_printer.specs.declared.error.PrintError.TheVariants.{OutOfRan
 use Rattle.request_printer.specs.Faults.{in_range, all_listed, has_gap, fault_in, argument_fault, is_id, fault_of}
 use Rattle.request_printer.specs.Writing.{all_written, HasEntry, HasWord, argument_text, Writes}
 use Rattle.request_printer.proofs.Back.{absent}
-use Rattle.request_printer.proofs.Numbers.{is_digits_decimal, decimal_value}
+use Rattle.reply_kinds.proofs.Decimals.{is_digits_decimal, decimal_value}
 use Rattle.request_printer.proofs.Plain.{is_small, all_plain}
 use Rattle.request_printer.proofs.Rows.{is_written_row, row_back, word_ends}
 

@@ -1,27 +1,15 @@
 -- A printed number is a word, and its numeral.
 use Rattle.std.proofs.Common.{◌≡◌, ℕ, suc, ◌^◌, ◌<◌, true, List, [], ◌∷◌, length, refl, sym, ap, subst, inl, inr, arith}
-use Rattle.std.specs.Prelude.{ℤ, pos, negsuc, neg_ℤ, ◌≤ℤ◌, ◌&&◌, nat_le, decimal}
+use Rattle.std.specs.Prelude.{ℤ, pos, negsuc, neg_ℤ, ◌≤ℤ◌, nat_le, decimal}
 use Rattle.std.specs.Fmt.{signed_decimal}
 use Rattle.std.specs.List.{list_all}
 use Rattle.std.proofs.lemmas.Bool.{and_from, leb-true, le-leb}
-use Rattle.std.proofs.lemmas.Fmt.{digits_decimal, digits_value-decimal, decimal_nonempty, length-decimal-le}
+use Rattle.std.proofs.lemmas.Fmt.{digits_decimal, decimal_nonempty}
 use Rattle.std.proofs.lemmas.Int.{ints}
 use Rattle.line_words.specs.Bytes.{is_word, is_word_byte}
 use Rattle.line_words.specs.Kinds.{is_wide}
 use Rattle.line_words.specs.Numbers.{IsNumeral, is_digits, value_of}
-use Rattle.reply_kinds.proofs.Decimals.{all_digits, own, digits_words, signed_words}
-
-pub is_digits_decimal : (n : ℕ) → n < 10000000000 → is_digits (decimal n) ≡ true
-is_digits_decimal n lt =
-    let small : n < 2 ^ 64 = omega arith in
-    and_from (nat_le 1 (length (decimal n)) && nat_le (length (decimal n)) 10) (all_digits (decimal n))
-    (and_from (nat_le 1 (length (decimal n))) (nat_le (length (decimal n)) 10)
-    (le-leb 1 (length (decimal n)) (decimal_nonempty n small))
-    (le-leb (length (decimal n)) 10 (length-decimal-le 10 n (omega arith) (omega arith) small)))
-    (digits_decimal own n small)
-
-pub decimal_value : (n : ℕ) → n < 10000000000 → value_of (decimal n) ≡ n
-decimal_value n lt = digits_value-decimal own n (omega arith)
+use Rattle.reply_kinds.proofs.Decimals.{own, digits_words, signed_words, is_digits_decimal, decimal_value}
 
 pub decimal_word : (n : ℕ) → n < 10000000000 → is_word (decimal n) ≡ true
 decimal_word n lt =
