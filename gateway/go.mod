@@ -1,0 +1,3 @@
+module rudderraisin/gateway
+
+go 1.19
