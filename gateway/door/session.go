@@ -96,21 +96,26 @@ func (s *session) up() {
 		pump.OnLine()
 	}
 	if len(s.first) > 0 {
-		pump.From = io.MultiReader(&primed{s.first}, s.client)
+		pump.From = &primed{s.first, s.client}
 		s.first = nil
 	}
 	s.upEnded(pump.Run())
 }
 
-// primed gives what was read before, and does not wait to fill a buffer.
-type primed struct{ rest []byte }
+// primed gives what was read before, and then what comes.
+type primed struct {
+	rest []byte
+	next io.Reader
+}
 
 func (p *primed) Read(to []byte) (int, error) {
 	if len(p.rest) == 0 {
-		return 0, io.EOF
+		return p.next.Read(to)
 	}
 	count := copy(to, p.rest)
-	p.rest = p.rest[count:]
+	if p.rest = p.rest[count:]; len(p.rest) == 0 {
+		p.rest = nil
+	}
 	return count, nil
 }
 
@@ -157,14 +162,9 @@ func (s *session) upEnded(err error) {
 }
 
 func (s *session) down(greeting []byte) {
-	var err error
-	if len(greeting) > 0 {
-		_, err = s.out.Write(greeting)
-	}
-	if err == nil {
-		pump := relay.Pump{From: s.server, Turn: s.dialect.FromServer, Onward: s.out, Done: s.done, Counts: &s.house.metrics.Down}
-		err = pump.Run()
-	}
+	pump := relay.Pump{From: &primed{greeting, s.server}, Turn: s.dialect.FromServer, Onward: s.out, Done: s.done,
+		Counts: &s.house.metrics.Down}
+	err := pump.Run()
 	var write relay.WriteError
 	switch {
 	case errors.As(err, &write) && errors.Is(err, os.ErrDeadlineExceeded):

@@ -115,10 +115,11 @@ func (n *networks) String() string {
 func (n *networks) Set(text string) error {
 	var all []netip.Prefix
 	for _, word := range strings.FieldsFunc(text, func(r rune) bool { return r == ',' || r == ' ' }) {
+		network := word
 		if !strings.Contains(word, "/") {
-			word += "/32"
+			network += "/32"
 		}
-		prefix, err := netip.ParsePrefix(word)
+		prefix, err := netip.ParsePrefix(network)
 		if err != nil || !prefix.Addr().Is4() {
 			return fmt.Errorf("%q is no IPv4 address[/bits]", word)
 		}
