@@ -68,6 +68,12 @@ func run(arguments []string) int {
 	if err != nil {
 		return fail(badSettings, err)
 	}
+	if s.Check {
+		if err := door.Check(s); err != nil {
+			return fail(badSettings, err)
+		}
+		return 0
+	}
 	log := journal.New(os.Stderr, s.LogRate)
 	defer log.Close(time.Second)
 	numbers := new(metrics.Metrics)
@@ -126,7 +132,7 @@ func listen(s *settings.Settings, house *door.House, numbers *metrics.Metrics) (
 		}
 		listeners = append(listeners, listener)
 		fmt.Println("metrics at", listener.Addr())
-		go numbers.Serve(listener)
+		go servePage(listener, numbers)
 	}
 	if s.Control != "" {
 		listener, err := control.Listen(s.Control)

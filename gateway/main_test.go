@@ -5,6 +5,7 @@ import (
 	"bytes"
 	"io"
 	"net"
+	"net/http"
 	"os"
 	"os/exec"
 	"path/filepath"
@@ -70,6 +71,9 @@ func TestProgram(t *testing.T) {
 		{append(good, "-lines", "x"), 2, "", `invalid value "x" for flag -lines: expected a whole number`},
 		{append(good, "-bans", badBans), 2, "", badBans + ":1: expected"},
 		{append(good, "-tls", "127.0.0.1:0", "-cert", "/dev/null", "-key", "/dev/null"), 2, "", "cannot use the certificate and its key: "},
+		{append(good, "-check"), 0, "", ""},
+		{append(good, "-check", "-cert", "/dev/null"), 2, "", "cannot use the certificate and its key: "},
+		{append(good, "-check", "-bans", badBans), 2, "", badBans + ":1: expected"},
 		{[]string{"-plain", taken, "-server", taken}, 3, "", "cannot listen: "},
 		{append(good, "-metrics", taken), 3, "listening at 127.0.0.1:", "cannot listen: "},
 		{append(good, "-control", folder+"/no/folder"), 3, "listening at 127.0.0.1:", "cannot listen: "},
@@ -118,7 +122,7 @@ func TestSignals(t *testing.T) {
 	folder := build(t)
 	config, control := filepath.Join(folder, "gateway.conf"), filepath.Join(folder, "control")
 	write := func(more string) {
-		text := "plain = 127.0.0.1:0\nserver = " + serve(t) + "\ncontrol = " + control + "\n" + more
+		text := "plain = 127.0.0.1:0\nmetrics = 127.0.0.1:0\nserver = " + serve(t) + "\ncontrol = " + control + "\n" + more
 		if err := os.WriteFile(config, []byte(text), 0o600); err != nil {
 			t.Fatal(err)
 		}
@@ -145,11 +149,15 @@ func TestSignals(t *testing.T) {
 	defer command.Process.Kill()
 	timer := time.AfterFunc(60*time.Second, func() { command.Process.Kill() })
 	defer timer.Stop()
-	first, _ := bufio.NewReader(out).ReadString('\n')
-	address := strings.TrimPrefix(strings.TrimSpace(first), "listening at ")
-	told := make([]byte, 99)
-	if count, err := ready.Read(told); err != nil || string(told[:count]) != "READY=1" {
-		t.Errorf("the service manager is told %q, %v", told[:count], err)
+	told := bufio.NewReader(out)
+	place := func(prefix string) string {
+		line, _ := told.ReadString('\n')
+		return strings.TrimPrefix(strings.TrimSpace(line), prefix)
+	}
+	address, page := place("listening at "), place("metrics at ")
+	word := make([]byte, 99)
+	if count, err := ready.Read(word); err != nil || string(word[:count]) != "READY=1" {
+		t.Errorf("the service manager is told %q, %v", word[:count], err)
 	}
 	conn, err := net.Dial("tcp4", address)
 	if err != nil {
@@ -170,11 +178,21 @@ func TestSignals(t *testing.T) {
 	reads(log, "reloaded\n")
 	write("lines = many\n")
 	command.Process.Signal(syscall.SIGHUP)
-	reads(log, "reload_refused why="+config+`:4: bad value "many" of "lines"`)
+	reads(log, "reload_refused why="+config+`:5: bad value "many" of "lines"`)
 	io.WriteString(conn, "still here\n")
 	reads(lines, "still here\n")
 	if status, said, _ := ends(t, filepath.Join(folder, ctlName), "-control", control, "who"); status != 0 || !strings.HasPrefix(said, "- 127.0.0.1:") {
 		t.Errorf("who: %d, %q", status, said)
+	}
+	if answer, err := http.Get("http://" + page + "/metrics"); err != nil {
+		t.Error(err)
+	} else {
+		text, _ := io.ReadAll(answer.Body)
+		answer.Body.Close()
+		if !strings.Contains(string(text), "\nrudderraisin_gateway_connections 1\n") ||
+			!strings.HasPrefix(answer.Header.Get("Content-Type"), "text/plain; version=0.0.4") {
+			t.Errorf("the numbers are %v %s", answer.Header, text)
+		}
 	}
 	command.Process.Signal(syscall.SIGTERM)
 	reads(log, "stop signal=terminated\n")

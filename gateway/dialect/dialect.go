@@ -55,6 +55,7 @@ type Dialect struct {
 	hooks Hooks
 	plain bool          // the client speaks the server's protocol: only logins are looked at
 	Wake  chan struct{} // has room for one, and is filled when a held line may be given again
+	ended bool          // the server looks at no more lines of the client
 
 	mutex   sync.Mutex
 	battle  []byte   // the number of the battle that the client is in, or was last in
@@ -83,6 +84,9 @@ func (d *Dialect) HasLeft() bool {
 
 // FromClient says what becomes of a line of the client, which has no LF.
 func (d *Dialect) FromClient(line []byte, out *Out) Verdict {
+	if d.ended = d.ended || len(line) > LineLimit; d.ended {
+		return Same
+	}
 	r := readRequest(line)
 	switch string(r.word) {
 	case "LOGIN":
@@ -105,7 +109,7 @@ func (d *Dialect) FromClient(line []byte, out *Out) Verdict {
 	case "SAY":
 		return d.say(&r, out)
 	case "SAYPRIVATEEX":
-		return d.act(line, &r, out)
+		return d.act(&r, out)
 	case "GETCHANNELMESSAGES", "CHANNELTOPIC", "REGISTER", "CHANGEPASSWORD", "CONFIRMAGREEMENT", "RENAMEACCOUNT":
 		return d.unknown(&r, out)
 	}
@@ -137,6 +141,7 @@ func (d *Dialect) login(r *request, out *Out) Verdict {
 
 func (d *Dialect) exit(r *request) Verdict {
 	if r.check() {
+		d.ended = true
 		d.mutex.Lock()
 		d.hasLeft = true
 		d.mutex.Unlock()
@@ -168,29 +173,29 @@ func (d *Dialect) texts() Texts {
 }
 
 // act turns a private text in the third person into one that the server passes on.
-func (d *Dialect) act(line []byte, r *request, out *Out) Verdict {
+func (d *Dialect) act(r *request, out *Out) Verdict {
 	name, text, good := spoken(r.rest)
 	if !good || !r.check() {
 		return Same
 	}
-	return d.replace(line, r, out, string(r.tag), "SAYPRIVATE ", string(name), " ", action, string(text))
+	return d.replace(r, out, string(r.tag), "SAYPRIVATE ", string(name), " ", action, string(text))
 }
 
-// replace puts a line in the place of a client's, or answers where only that makes it too long for the server.
-func (d *Dialect) replace(line []byte, r *request, out *Out, parts ...string) Verdict {
-	if grown(line, parts) {
+// replace puts a line in the place of a client's, or answers where that is too long for the server.
+func (d *Dialect) replace(r *request, out *Out, parts ...string) Verdict {
+	if grown(parts) {
 		return put(&out.Here, string(r.tag), tooLong)
 	}
 	return put(&out.There, parts...)
 }
 
-// grown says whether what stands for a line is longer than the server takes, and the line itself is not.
-func grown(line []byte, parts []string) bool {
+// grown says whether what stands for a line is longer than the server takes: it would end the connection.
+func grown(parts []string) bool {
 	length := 0
 	for _, part := range parts {
 		length += len(part)
 	}
-	return length > LineLimit && len(line) <= LineLimit
+	return length > LineLimit
 }
 
 // ping counts the client's own PINGs under the gateway's id, so that their PONGs are passed on.
@@ -223,12 +228,9 @@ func (d *Dialect) join(line []byte, r *request, out *Out) Verdict {
 	asked := []string{string(line)}
 	if word := emptyPassword(behind); word != nil {
 		asked = []string{string(r.tag), "JOINBATTLE ", strconv.FormatInt(battle, 10), " * ", string(word)}
-		if grown(line, asked) {
+		if grown(asked) {
 			return put(&out.Here, string(r.tag), tooLong)
 		}
-	}
-	if len(line) > LineLimit { // the server ends the connection there
-		return Same
 	}
 	d.askNoMore(out)
 	d.probe(out, joining)
@@ -248,7 +250,7 @@ func emptyPassword(behind []byte) []byte {
 }
 
 func (d *Dialect) open(line []byte, r *request, out *Out) Verdict {
-	if !r.check() || !openQuestion(r.rest) || len(line) > LineLimit {
+	if !r.check() || !openQuestion(r.rest) {
 		return Same
 	}
 	d.mutex.Lock()
@@ -277,8 +279,8 @@ func (d *Dialect) leave(r *request) Verdict {
 	return Same
 }
 
-// unsettled says that the server has still to answer what the gateway put in, if it answers this client at all.
-func (d *Dialect) unsettled() bool { return len(d.next) > 0 && !d.hasLeft }
+// unsettled says that the server has still to answer what the gateway put in.
+func (d *Dialect) unsettled() bool { return len(d.next) > 0 }
 
 // say looks for one who waits and asks no more. SpringLobby says nothing in the room of a battle that it is not in.
 func (d *Dialect) say(r *request, out *Out) Verdict {

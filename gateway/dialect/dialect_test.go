@@ -102,11 +102,13 @@ func TestLinesThatWouldGrow(t *testing.T) {
 	text := strings.Repeat("x", LineLimit-len("#3 SAYPRIVATEEX Bert "))
 	d.client("#3 SAYPRIVATEEX Bert "+text, "< #3 SERVERMSG The line is too long")
 	d.client("#3 SAYPRIVATEEX Bert "+text[2:], "#3 SAYPRIVATE Bert /me "+text[2:])
-	d.client("#3 SAYPRIVATEEX Bert "+text+"x", "#3 SAYPRIVATE Bert /me "+text+"x") // ends it anyhow
 	word := strings.Repeat("w", LineLimit-len("JOINBATTLE 4  "))
 	d.client("JOINBATTLE 4  "+word, "< SERVERMSG The line is too long")
-	d.client("JOINBATTLE 4  "+word+"w", "JOINBATTLE 4  "+word+"w")
 	d.client("JOINBATTLE 4  "+word[1:], ping, "JOINBATTLE 4 * "+word[1:], ping)
+	// The server looks at no line from one on that is too long by itself, and so nothing is answered.
+	for _, line := range []string{"#3 SAYPRIVATEEX Bert " + text + "x", "CHANNELTOPIC main", "SAYPRIVATEEX Bert x"} {
+		d.client(line, line)
+	}
 }
 
 func TestWhatIsNotThere(t *testing.T) {
@@ -301,7 +303,9 @@ func TestHeldLines(t *testing.T) {
 	d.client("LEAVEBATTLE", "LEAVEBATTLE")
 	d.client("JOINBATTLE 2", ping, "JOINBATTLE 2", ping)
 	d.client("EXIT", "EXIT") // from here on the server answers nothing
-	d.client(open, open)
+	for _, line := range []string{open, "CHANNELTOPIC main", "JOINBATTLE 2"} {
+		d.client(line, line)
+	}
 }
 
 func TestPingsOfTheClientsOwn(t *testing.T) {

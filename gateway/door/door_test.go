@@ -116,6 +116,7 @@ func TestInjectionBehindSTLS(t *testing.T) {
 
 // Six forms of a client that takes its time. The first four never have a place at the server.
 func TestLoris(t *testing.T) {
+	t.Parallel()
 	g := open(t, lobby, "-handshake", "400ms", "-login", "900ms", "-idle", "1500ms")
 	drip := func(c *client, text string) {
 		for i := range text {
@@ -198,6 +199,7 @@ func gush(put chan<- int) func(net.Conn, *bufio.Reader) {
 }
 
 func TestClientThatTakesNothing(t *testing.T) {
+	t.Parallel()
 	put := make(chan int, 1)
 	g := open(t, gush(put), "-patience", "700ms")
 	slow := g.shake(STLS)
@@ -222,6 +224,7 @@ func TestClientThatTakesNothing(t *testing.T) {
 }
 
 func TestServerThatTakesNothing(t *testing.T) {
+	t.Parallel()
 	g := open(t, func(conn net.Conn, _ *bufio.Reader) { time.Sleep(3 * time.Second) }, "-patience", "300ms", "-lines", "0", "-bytes", "0")
 	c := g.shake(Plain)
 	text := []byte(strings.Repeat("PING\n", 20_000))
@@ -237,6 +240,7 @@ func TestServerThatTakesNothing(t *testing.T) {
 
 // What the server said last arrives, though the client answers no end of TLS, or reads late.
 func TestLastBytes(t *testing.T) {
+	t.Parallel()
 	last := strings.Repeat(strings.Repeat("z", 9_999)+"\n", 40) + "half a line"
 	g := open(t, func(conn net.Conn, lines *bufio.Reader) {
 		lines.ReadString('\n')
@@ -292,6 +296,7 @@ func TestLinesTooLong(t *testing.T) {
 }
 
 func TestFlood(t *testing.T) {
+	t.Parallel()
 	g := open(t, lobby, "-lines", "50", "-burst", "1s", "-over", "500ms")
 	flood, other := g.login(STLS, "Flood"), g.login(STLS, "Bert")
 	go io.Copy(io.Discard, flood.lines)

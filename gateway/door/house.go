@@ -57,12 +57,28 @@ func New(s *settings.Settings, j *journal.Journal, m *metrics.Metrics, b *bans.L
 }
 
 func (h *House) loadPair(s *settings.Settings) error {
+	pair, err := readPair(s)
+	if err == nil {
+		h.pair.Store(pair)
+	}
+	return err
+}
+
+func readPair(s *settings.Settings) (*tls.Certificate, error) {
 	pair, err := tls.LoadX509KeyPair(s.Cert, s.Key)
 	if err != nil {
-		return fmt.Errorf("cannot use the certificate and its key: %w", err)
+		return nil, fmt.Errorf("cannot use the certificate and its key: %w", err)
 	}
-	h.pair.Store(&pair)
-	return nil
+	return &pair, nil
+}
+
+// Check says what a start would not like.
+func Check(s *settings.Settings) error {
+	if s.Cert == "" {
+		return nil
+	}
+	_, err := readPair(s)
+	return err
 }
 
 // Reload takes a new certificate, texts and bans, each for itself: what cannot be used stays as it was.

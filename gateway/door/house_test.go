@@ -4,9 +4,7 @@ import (
 	"bufio"
 	"bytes"
 	"crypto/tls"
-	"io"
 	"net"
-	"net/http"
 	"os"
 	"path/filepath"
 	"regexp"
@@ -21,6 +19,7 @@ import (
 const goneText = "DENIED The lobby server is not there at the moment. Try again later\n"
 
 func TestServerKilledAndBack(t *testing.T) {
+	t.Parallel()
 	g := open(t, lobby)
 	c := g.login(STLS, "Anna")
 	c.says("PING\n")
@@ -52,6 +51,7 @@ func TestServerKilledAndBack(t *testing.T) {
 }
 
 func TestNoServerAtTheStart(t *testing.T) {
+	t.Parallel()
 	listener, err := net.Listen("tcp4", "127.0.0.1:0")
 	if err != nil {
 		t.Fatal(err)
@@ -68,6 +68,7 @@ func TestNoServerAtTheStart(t *testing.T) {
 
 // A server that closes a connection without a byte takes no more; it is asked a few times.
 func TestServerThatIsFull(t *testing.T) {
+	t.Parallel()
 	g := open(t, lobby)
 	listener, err := net.Listen("tcp4", "127.0.0.1:0")
 	if err != nil {
@@ -224,6 +225,7 @@ func TestKickAndSay(t *testing.T) {
 
 // Nobody waits for a client that does not read, not even who kicks it.
 func TestOrdersAndOneWhoDoesNotRead(t *testing.T) {
+	t.Parallel()
 	put := make(chan int, 1)
 	g := open(t, gush(put))
 	slow := g.shake(STLS)
@@ -355,34 +357,22 @@ func TestReload(t *testing.T) {
 
 func TestMetrics(t *testing.T) {
 	g := open(t, lobby, "-handshake", "200ms")
-	listener, err := net.Listen("tcp4", "127.0.0.1:0")
-	if err != nil {
-		t.Fatal(err)
-	}
-	defer listener.Close()
-	go g.numbers.Serve(listener)
 	c := g.login(STLS, "Anna")
 	c.says("PING\nPING\n")
 	c.reads("PONG\nPONG\n")
 	g.knock(STLS).ends(greeting)
 	g.logs("cause=handshake_late")
-	answer, err := http.Get("http://" + listener.Addr().String() + "/metrics")
-	if err != nil {
-		t.Fatal(err)
-	}
-	defer answer.Body.Close()
-	text, err := io.ReadAll(answer.Body)
-	if err != nil {
-		t.Fatal(err)
-	}
+	var page strings.Builder
+	g.numbers.Write(&page)
+	text := page.String()
 	for _, line := range []string{"connections 1", "users 1", "server_up 1", "connections_total 2", "logins_total 1",
 		`lines_total{from="clients"} 3`, `lines_total{from="server"} 4`, `bytes_total{from="clients"} 35`,
 		`refusals_total{cause="handshake_late"} 1`, `handshake_seconds_bucket{le="+Inf"} 1`, "handshake_seconds_count 1"} {
-		if !strings.Contains(string(text), "\nrudderraisin_gateway_"+line+"\n") {
+		if !strings.Contains(text, "\nrudderraisin_gateway_"+line+"\n") {
 			t.Errorf("there is no %s in\n%s", line, text)
 		}
 	}
-	for _, line := range strings.Split(strings.TrimSpace(string(text)), "\n") {
+	for _, line := range strings.Split(strings.TrimSpace(text), "\n") {
 		if !regexp.MustCompile(`^(# (HELP|TYPE) |[a-z_]+(\{[a-z]+="[^"]+"\})? [0-9.e+-]+$)`).MatchString(line) {
 			t.Errorf("%q is no line of the format", line)
 		}

@@ -4,8 +4,6 @@ package metrics
 import (
 	"fmt"
 	"io"
-	"net"
-	"net/http"
 	"sort"
 	"sync"
 	"sync/atomic"
@@ -107,16 +105,4 @@ func (m *Metrics) writeHandshakes(to io.Writer) {
 		fmt.Fprintf(to, "%shandshake_seconds_bucket{le=%q} %d\n", prefix, bound, sum)
 	}
 	fmt.Fprintf(to, "%shandshake_seconds_sum %v\n%shandshake_seconds_count %d\n", prefix, m.seconds, prefix, sum)
-}
-
-// Serve answers GET /metrics at this listener until that is closed.
-func (m *Metrics) Serve(listener net.Listener) error {
-	pages := http.NewServeMux()
-	pages.HandleFunc("/metrics", func(answer http.ResponseWriter, _ *http.Request) {
-		answer.Header().Set("Content-Type", "text/plain; version=0.0.4; charset=utf-8")
-		m.Write(answer)
-	})
-	server := http.Server{Handler: pages, ReadTimeout: 5 * time.Second, WriteTimeout: 5 * time.Second,
-		IdleTimeout: time.Minute, MaxHeaderBytes: 8192}
-	return server.Serve(listener)
 }

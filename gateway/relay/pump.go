@@ -218,18 +218,19 @@ func (p *Pump) turn(part []byte) error {
 	return p.flush(w, part[kept:])
 }
 
-// flush writes what was worked out, and behind it what is passed as it is.
+// flush writes what was worked out, and behind it what is passed as it is. What goes back goes first, since an EXIT may be
+// among what goes on.
 func (p *Pump) flush(w *work, kept []byte) (err error) {
 	if len(w.lines) > 0 && len(kept) > 0 {
 		w.lines, kept = append(w.lines, kept...), nil
+	}
+	if len(w.out.Here) > 0 {
+		_, err = p.Back.Write(w.out.Here)
 	}
 	for _, whole := range [2][]byte{w.lines, kept} {
 		if len(whole) > 0 && err == nil {
 			_, err = p.Onward.Write(whole)
 		}
-	}
-	if len(w.out.Here) > 0 && err == nil {
-		_, err = p.Back.Write(w.out.Here)
 	}
 	w.lines, w.out.Here = w.lines[:0], w.out.Here[:0]
 	if err != nil {

@@ -21,7 +21,7 @@ const ControlPath = "/run/rudderraisin-gateway/control"
 type Settings struct {
 	Listen, Plain, TLS, Server, Metrics string
 	Cert, Key, Bans, Control, Profile   string
-	ProxyProtocol                       bool
+	ProxyProtocol, Check                bool
 
 	Handshake, Login, Idle, Patience, Dead time.Duration
 	Connections                            int
@@ -50,12 +50,13 @@ func (s *Settings) places(set *flag.FlagSet) {
 	set.Var(&place{&s.Plain}, "plain", "`HOST:PORT` where clients of the protocol connect without TLS")
 	set.Var(&place{&s.Server}, "server", "`HOST:PORT` of the lobby server")
 	set.BoolVar(&s.ProxyProtocol, "proxy-protocol", false,
-		"tell the server each client's address by a line of PROXY protocol version 1; its setting `proxies` has to name the gateway")
+		"tell the server each client's address by a line of PROXY protocol version 1; its setting proxies has to name the gateway")
 	set.StringVar(&s.Cert, "cert", "", "`FILE` of the certificate chain, PEM")
 	set.StringVar(&s.Key, "key", "", "`FILE` of its private key, PEM")
 	set.StringVar(&s.Bans, "bans", "", "`FILE` of bans; without one they last as long as the gateway")
 	set.StringVar(&s.Control, "control", "", "`PATH` of the control socket; none if empty")
 	set.Var(&place{&s.Metrics}, "metrics", "`HOST:PORT` where Prometheus asks for numbers; none if empty")
+	set.BoolVar(&s.Check, "check", false, "look at the settings, the certificate and the bans, and start nothing")
 	set.StringVar(&s.Profile, "cpuprofile", "", "`FILE` for a profile of the processor time, written at the end")
 }
 
