@@ -1,5 +1,5 @@
 #!/usr/bin/env python3
-"""Makes the Debian packages of the server and of the front, out of what install.sh installs, into out/.
+"""Makes the Debian packages, out of what install.sh installs, into out/.
 
 The version is the newest number of CHANGELOG.md; where that has changes behind it, with the time and name of the last commit behind a
 `+`, which Debian takes for newer than the number alone."""
@@ -20,9 +20,23 @@ ROOT = Path(__file__).resolve().parent.parent
 SCRIPTS = ROOT / "packaging/deb"
 MAINTAINER = "Rudderraisin maintainers <maintainers@users.noreply.rudderraisin.example>"
 CONFIGURATION = "etc/rudderraisin"
-# What goes into the front's package; all else goes into the server's.
-FRONT = ["usr/bin/springlobby_front", "usr/share/man/man1/springlobby_front.1", "usr/lib/systemd/system/rudderraisin-front.service",
-         f"{CONFIGURATION}/front.conf"]
+# The packages. Each takes files from where install.sh lays them to their places in it; the server's has all that no other takes.
+SERVER = "rudderraisin"
+FILES: dict[str, dict[str, str]] = {
+    SERVER: {},
+    "rudderraisin-front": {it: it for it in [
+        "usr/bin/springlobby_front", "usr/share/man/man1/springlobby_front.1", "usr/lib/systemd/system/rudderraisin-front.service",
+        f"{CONFIGURATION}/front.conf"]},
+}
+
+
+def fields(name, programs):
+    """What the control file of a package says of it alone. Programs are those of it that want the C library."""
+    architecture = output("dpkg", "--print-architecture")
+    return {
+        SERVER: {"Architecture": architecture, "Depends": f"{libc(programs)}, adduser", "Suggests": "rudderraisin-front"},
+        "rudderraisin-front": {"Architecture": "all", "Depends": "python3 (>= 3.11)", "Recommends": "openssl", "Suggests": SERVER},
+    }[name]
 
 
 def output(*words):
@@ -65,10 +79,10 @@ def debian_changes(name):
     return "\n".join(entries)
 
 
-def libc(program):
-    """The version of the C library that a program needs."""
-    found = re.findall(rb"GLIBC_(\d+)\.(\d+)", program.read_bytes())
-    return "{}.{}".format(*max((int(a), int(b)) for a, b in found))
+def libc(programs):
+    """The C library that programs need, as a relation; nothing where they need none."""
+    found = [it for program in programs for it in re.findall(rb"GLIBC_(\d+)\.(\d+)", program.read_bytes())]
+    return "libc6 (>= {}.{})".format(*max((int(a), int(b)) for a, b in found)) if found else ""
 
 
 def packed(path, data):
@@ -102,7 +116,7 @@ def fill(stage, name, fields, is_proved):
                                              for it in files if CONFIGURATION not in str(it)))
     (control / "conffiles").write_text("".join(f"/{it.relative_to(stage)}\n" for it in files if CONFIGURATION in str(it)))
     for script in SCRIPTS.glob(f"{name}.*"):
-        if script.suffix in (".postinst", ".prerm", ".postrm"):
+        if script.suffix in (".preinst", ".postinst", ".prerm", ".postrm"):
             shutil.copy(script, control / script.suffix[1:])
             (control / script.suffix[1:]).chmod(0o755)
     for it in [stage, *stage.rglob("*")]:
@@ -112,11 +126,18 @@ def fill(stage, name, fields, is_proved):
     subprocess.run(["dpkg-deb", "--root-owner-group", "-Zxz", "--build", stage, ROOT / "out"], check=True)
 
 
-def move(files, source, target):
-    for it in files:
-        if (source / it).exists():
-            (target / it).parent.mkdir(parents=True, exist_ok=True)
-            shutil.move(source / it, target / it)
+def move(places, source, target):
+    """Moves files between two packages, where they are there, from each place to the other."""
+    for it, place in places.items():
+        if (source / it).is_symlink() or (source / it).exists():
+            (target / place).parent.mkdir(parents=True, exist_ok=True)
+            shutil.move(source / it, target / place)
+
+
+def binaries(stage):
+    """The programs of a package that are no scripts and no links."""
+    found = [it for it in sorted(stage.glob("usr/bin/*")) if not it.is_symlink()]
+    return [it for it in found if it.read_bytes()[:4] == b"\x7fELF"]
 
 
 def main():
@@ -124,7 +145,7 @@ def main():
         sys.exit("there is no dpkg-deb, which makes the packages: install dpkg")
     os.environ.setdefault("SOURCE_DATE_EPOCH", output("git", "log", "-1", "--format=%ct") or "0")
     with tempfile.TemporaryDirectory() as room:
-        server, front = Path(room, "server"), Path(room, "front")
+        server = Path(room, SERVER)
         # Nobody knows of programs in a folder of one's own whether they were proved.
         words = {**os.environ, "PREFIX": "/usr", "SYSCONFDIR": "/etc", "DESTDIR": str(server), "PROGRAMS": ""}
         told = subprocess.run([ROOT / "packaging/install.sh", "install"], env=words, stdout=subprocess.DEVNULL, stderr=subprocess.PIPE,
@@ -133,15 +154,14 @@ def main():
         if told.returncode:
             return told.returncode
         is_proved = "not the proved program" not in told.stderr
-        programs = [server / "usr/bin" / it for it in ("lobby_main", "lobby_check", "lobby_play", "view_show")]
-        if shutil.which("strip"):
-            subprocess.run(["strip", "--strip-unneeded", "--remove-section=.comment", *programs], check=True)
-        move(FRONT, server, front)
-        fill(server, "rudderraisin", {"Architecture": output("dpkg", "--print-architecture"),
-                                      "Depends": f"libc6 (>= {max(map(libc, programs))}), adduser",
-                                      "Suggests": "rudderraisin-front"}, is_proved)
-        fill(front, "rudderraisin-front", {"Architecture": "all", "Depends": "python3 (>= 3.11)", "Recommends": "openssl",
-                                            "Suggests": "rudderraisin"}, True)
+        for name, places in FILES.items():
+            move(places, server, Path(room, name))
+        for name in FILES:
+            stage = Path(room, name)
+            programs = binaries(stage)
+            if programs and shutil.which("strip"):
+                subprocess.run(["strip", "--strip-unneeded", "--remove-section=.comment", *programs], check=True)
+            fill(stage, name, fields(name, programs), is_proved or name != SERVER)
     return 0
 
 
