@@ -4,7 +4,7 @@ SETTINGS ?= examples/lobby.toml
 ACCOUNTS ?= examples/accounts.toml
 
 .DEFAULT_GOAL := help
-.PHONY: help play serve setup hash view build library install uninstall deb test unit fmt check bench memory soak connections record counts hostile
+.PHONY: help play serve setup hash view build gateway library install uninstall deb test unit fmt check bench memory soak connections record counts hostile
 
 help: ## lists the targets
 	@awk -F ':.*## ' '/^[a-z]+:.*## / { printf "  make %-12s %s\n", $$1, $$2 }' Makefile
@@ -26,6 +26,9 @@ view: ## reads the bytes that a client was sent, and shows what it knows then
 
 build: ## proves and builds the programs, optimised, into bin/
 	@tools/build.py
+
+gateway: ## builds the gateway for SpringLobby into bin/, by Go
+	@echo "$$(tools/gateway.sh) is built"
 
 library: ## proves and builds the C library of a view into bin/ (include/lobby.h, examples/battles.c)
 	@tools/library.sh

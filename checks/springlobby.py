@@ -1,13 +1,13 @@
 #!/usr/bin/env python3
-"""springlobby.py PROGRAM FOLDER: SpringLobby as Debian 12 has it, driven by mouse and keys, on a built server through the front.
+"""springlobby.py PROGRAM FOLDER: SpringLobby as Debian 12 has it, driven by mouse and keys, on a built server through the gateway.
 
 By hand: it is no part of the gate, for it needs a screen and packages of Debian 12, which it names where they are missing:
 
     apt-get install --no-install-recommends springlobby spring xvfb openbox xdotool imagemagick fonts-dejavu-core \\
-        iproute2 openssl gcc libc6-dev
+        iproute2 openssl gcc libc6-dev golang-go
     checks/springlobby.py bin/lobby_main out/springlobby
 
-Anna sits at SpringLobby, whose machine has the address 192.0.2.7, and connects to the front at 192.0.2.8; Bert is scripted, speaks
+Anna sits at SpringLobby, whose machine has the address 192.0.2.7, and connects to the gateway at 192.0.2.8; Bert is scripted, speaks
 plainly and has 127.0.0.2; the server has 127.0.0.1. All of it runs in a network and with processes of its own, which end with it.
 FOLDER, new or empty, gets a picture of the screen for each step, `asserted.txt` with what was compared without eyes, and the logs.
 What Bert and the engines were told is compared, and what SpringLobby wrote into its chat logs; the pictures want eyes. A place to
@@ -28,21 +28,19 @@ from pathlib import Path
 
 from lobby_server import ADDRESS, Account, Client, Difference, Server, run
 
-sys.path.insert(0, str(Path(__file__).resolve().parent.parent / "front"))
-import springlobby_front
-
 ROOT = Path(__file__).resolve().parent.parent
 PACKAGES = {"springlobby": "springlobby", "spring-headless": "spring", "Xvfb": "xvfb", "openbox": "openbox", "xdotool": "xdotool",
-            "import": "imagemagick", "ip": "iproute2", "openssl": "openssl", "gcc": "gcc"}
+            "import": "imagemagick", "ip": "iproute2", "openssl": "openssl", "gcc": "gcc", "go": "golang-go"}
 PATHS = os.pathsep.join([os.environ.get("PATH", ""), "/usr/games", "/usr/sbin"])
 UNITSYNC = Path("/usr/lib/spring/libunitsync.so")
 FILES = {UNITSYNC: "spring", Path("/usr/share/fonts/truetype/dejavu/DejaVuSans.ttf"): "fonts-dejavu-core",
          Path("/usr/include/stdio.h"): "libc6-dev"}
-HOME_OF_ANNA, HOME_OF_BERT, FRONT, FRONT_PORT, GAME_PORT = "192.0.2.7", "127.0.0.2", "192.0.2.8", 8200, 8452
+HOME_OF_ANNA, HOME_OF_BERT, GATEWAY, GATEWAY_PORT, GAME_PORT = "192.0.2.7", "127.0.0.2", "192.0.2.8", 8200, 8452
 ENGINE, GAME, MAP = "106.0", "Tiny 1", "Tiny Plain 1"
 ANNA, BERT = Account("Anna", 1, country="DE"), Account("Bert", 2)
-NO_TOPICS, WAITING, CANCELLED = (it.decode().removeprefix("SERVERMSG ") for it in (
-    springlobby_front.NO_TOPICS, springlobby_front.WAITING, springlobby_front.CANCELLED))
+# What the gateway says, as its README has it.
+NO_TOPICS, CANCELLED = "Channels have no topic here", "You ask no more to join"
+WAITING = "Waiting for the host to let you in. Say !cancel in any channel to ask no more"
 DENIED = "Failed to join battle. not today"
 # What SpringLobby writes as of the server, where the server refuses none of its lines.
 KNOWN = re.compile("|".join(["Connect(ing|ed) to ", "Disconnected from ", *map(re.escape, (NO_TOPICS, WAITING, CANCELLED, DENIED))]))
@@ -218,7 +216,7 @@ class SpringLobby:
 
     def chat(self, name):
         """What it showed of a chat, as its log has it."""
-        log = self.data / "chatlog" / f"{FRONT}_{FRONT_PORT}" / f"{name}.txt"
+        log = self.data / "chatlog" / f"{GATEWAY}_{GATEWAY_PORT}" / f"{name}.txt"
         return log.read_text() if log.exists() else ""
 
     def shows(self, chat, line):
@@ -231,9 +229,9 @@ class SpringLobby:
 class Trial:
     """Anna at SpringLobby, and Bert."""
 
-    def __init__(self, room, folder, server, processes, front):
-        self.room, self.folder, self.server, self.processes, self.front = room, folder, server, processes, front
-        self.start_front()
+    def __init__(self, room, folder, server, processes, gateway):
+        self.room, self.folder, self.server, self.processes, self.gateway = room, folder, server, processes, gateway
+        self.start_gateway()
         self.report, self.screen = Report(folder), Screen(folder, processes)
         self.lobby = SpringLobby(room, folder, processes)
         self.bert = Player(server, source=HOME_OF_BERT)
@@ -241,10 +239,10 @@ class Trial:
         self.say(BERT.login().replace("\n", "\t0\tb\n"))    # who joins his battles asks him
         self.bert.line("LOGININFOEND")
 
-    def start_front(self):
-        with (self.folder / "front.log").open("ab") as output:
-            self.processes.append(subprocess.Popen(self.front, stdout=output, stderr=output))
-        self.front_process = self.processes[-1]
+    def start_gateway(self):
+        with (self.folder / "gateway.log").open("ab") as output:
+            self.processes.append(subprocess.Popen(self.gateway, stdout=output, stderr=output))
+        self.gateway_process = self.processes[-1]
 
     def say(self, line):
         self.bert.send(line if line.endswith("\n") else line + "\n")
@@ -264,7 +262,7 @@ class Trial:
         self.log_in(fingerprint)
         self.talk_in_channel()
         self.talk_privately()
-        self.start_front_anew()
+        self.start_gateway_anew()
         battle, game_hash, map_hash = self.host()
         self.kick(battle)
         self.begin(battle)
@@ -280,7 +278,7 @@ class Trial:
         screen = self.screen
         self.lobby.start()
         self.turn_to_login()
-        screen.write("server", f"{FRONT}:{FRONT_PORT}")
+        screen.write("server", f"{GATEWAY}:{GATEWAY_PORT}")
         screen.write("name", "Anna")
         screen.write("password", "password")
         screen.picture("login-window")
@@ -349,15 +347,15 @@ class Trial:
         self.shown("chatpanel-pm-Bert", "* Anna tells it", "private action")
         self.screen.picture("private-talk")
 
-    def start_front_anew(self):
-        """Where the front ends SpringLobby waits for it, and comes back to its channels by itself."""
-        self.front_process.terminate()
-        self.told("LEFT trial Anna", "the end of the front")
-        self.told("REMOVEUSER Anna", "the end of the front")
-        self.front_process.wait()
-        self.start_front()
-        self.told("ADDUSER Anna DE 0 1", "the front started anew")
-        self.told("JOINED trial Anna", "the front started anew")
+    def start_gateway_anew(self):
+        """Where the gateway ends SpringLobby waits for it, and comes back to its channels by itself."""
+        self.gateway_process.terminate()
+        self.told("LEFT trial Anna", "the end of the gateway")
+        self.told("REMOVEUSER Anna", "the end of the gateway")
+        self.gateway_process.wait()
+        self.start_gateway()
+        self.told("ADDUSER Anna DE 0 1", "the gateway started anew")
+        self.told("JOINED trial Anna", "the gateway started anew")
         self.screen.picture("came-back")
 
     def host(self):
@@ -481,18 +479,24 @@ class Trial:
         screen.picture("is-kicked")
 
 
+def certificate(room):
+    """Makes a certificate as OPERATING has it. Gives its file, that of its key, and its fingerprint as SpringLobby shows it."""
+    cert, key = room / "cert.pem", room / "key.pem"
+    subprocess.run(["openssl", "req", "-x509", "-newkey", "ec", "-pkeyopt", "ec_paramgen_curve:prime256v1", "-nodes", "-days", "30",
+                    "-subj", "/CN=lobby", "-keyout", key, "-out", cert], stderr=subprocess.DEVNULL, check=True)
+    told = subprocess.run(["openssl", "x509", "-in", cert, "-noout", "-fingerprint", "-sha256"], stdout=subprocess.PIPE, check=True)
+    return cert, key, told.stdout.decode().strip().partition("=")[2].replace(":", "").lower()
+
+
 def check(folder, room, processes):
     """Runs all of it in a folder for files of this run."""
-    cert, key = room / "cert.pem", room / "key.pem"
-    subprocess.run(["openssl", "req", "-x509", "-newkey", "rsa:2048", "-nodes", "-days", "30", "-subj", "/CN=lobby", "-keyout", key,
-                    "-out", cert], stderr=subprocess.DEVNULL, check=True)
-    told = subprocess.run(["openssl", "x509", "-in", cert, "-noout", "-fingerprint", "-sha256"], stdout=subprocess.PIPE, check=True)
-    fingerprint = told.stdout.decode().strip().partition("=")[2].replace(":", "").lower()
+    cert, key, fingerprint = certificate(room)
+    program = subprocess.run([ROOT / "tools/gateway.sh"], stdout=subprocess.PIPE, text=True, check=True).stdout.strip()
     settings = f'motd = ["Welcome to the trial"]\nproxies = ["{ADDRESS}"]\n'
     with (folder / "server.log").open("w+b") as log, Server(2, [ANNA, BERT], settings, log="all", errors=log) as server:
-        front = [sys.executable, ROOT / "front/springlobby_front.py", "--listen", f"{FRONT}:{FRONT_PORT}", "--cert", cert, "--key", key,
-                 "--server", f"{ADDRESS}:{server.port}", "--proxy-protocol"]
-        trial = Trial(room, folder, server, processes, front)
+        gateway = [program, "--listen", f"{GATEWAY}:{GATEWAY_PORT}", "--server", f"{ADDRESS}:{server.port}", "--cert", cert, "--key", key,
+                   "--proxy-protocol"]
+        trial = Trial(room, folder, server, processes, gateway)
         try:
             trial.run(fingerprint)
         except Difference:
@@ -506,7 +510,7 @@ def in_a_world_of_its_own(folder):
     """Where the network and the processes are those of this run alone. The first process there heeds no signal without a handler."""
     signal.signal(signal.SIGTERM, lambda *_: sys.exit(1))
     for words in ("link set lo up", f"address add {HOME_OF_ANNA}/32 dev lo",
-                  f"route add local {FRONT}/32 dev lo src {HOME_OF_ANNA} table local"):
+                  f"route add local {GATEWAY}/32 dev lo src {HOME_OF_ANNA} table local"):
         subprocess.run(["ip", *words.split()], check=True)
     processes = []
     with tempfile.TemporaryDirectory(prefix="springlobby-") as room:

@@ -24,18 +24,24 @@ CONFIGURATION = "etc/rudderraisin"
 SERVER = "rudderraisin"
 FILES: dict[str, dict[str, str]] = {
     SERVER: {},
-    "rudderraisin-front": {it: it for it in [
-        "usr/bin/springlobby_front", "usr/share/man/man1/springlobby_front.1", "usr/lib/systemd/system/rudderraisin-front.service",
-        f"{CONFIGURATION}/front.conf"]},
+    # Its settings are no file of the package: its script makes them, of those of the package that it comes in place of.
+    "rudderraisin-gateway": {f"{CONFIGURATION}/gateway.conf": "usr/share/rudderraisin-gateway/gateway.conf", **{it: it for it in [
+        "usr/bin/rudderraisin_gateway", "usr/bin/rudderraisin_gatewayctl", "usr/lib/systemd/system/rudderraisin-gateway.service",
+        "usr/share/man/man1/rudderraisin_gateway.1", "usr/share/man/man1/rudderraisin_gatewayctl.1"]}},
 }
+# Packages that are empty, and lead to what came in place of them.
+TRANSITIONAL = {"rudderraisin-front": "rudderraisin-gateway"}
 
 
 def fields(name, programs):
     """What the control file of a package says of it alone. Programs are those of it that want the C library."""
+    if name in TRANSITIONAL:
+        return {"Architecture": "all", "Section": "oldlibs", "Depends": TRANSITIONAL[name]}
     architecture = output("dpkg", "--print-architecture")
     return {
-        SERVER: {"Architecture": architecture, "Depends": f"{libc(programs)}, adduser", "Suggests": "rudderraisin-front"},
-        "rudderraisin-front": {"Architecture": "all", "Depends": "python3 (>= 3.11)", "Recommends": "openssl", "Suggests": SERVER},
+        SERVER: {"Architecture": architecture, "Depends": f"{libc(programs)}, adduser", "Suggests": "rudderraisin-gateway"},
+        "rudderraisin-gateway": {"Architecture": architecture, "Recommends": "openssl", "Suggests": SERVER,
+                                 "Breaks": f"rudderraisin-front (<< {version()})", "Replaces": f"rudderraisin-front (<< {version()})"},
     }[name]
 
 
@@ -109,8 +115,8 @@ def fill(stage, name, fields, is_proved):
     control = stage / "DEBIAN"
     control.mkdir()
     size = sum((it.stat().st_size + 1023) // 1024 for it in files)
-    head = {"Package": name, "Version": version(), **fields, "Maintainer": MAINTAINER, "Installed-Size": size, "Section": "net",
-            "Priority": "optional"}
+    head = {"Package": name, "Version": version(), "Section": "net", "Priority": "optional", **fields, "Maintainer": MAINTAINER,
+            "Installed-Size": size}
     (control / "control").write_text("".join(f"{key}: {value}\n" for key, value in head.items()) + about, encoding="utf-8")
     (control / "md5sums").write_text("".join(f"{hashlib.md5(it.read_bytes()).hexdigest()}  {it.relative_to(stage)}\n"
                                              for it in files if CONFIGURATION not in str(it)))
@@ -156,7 +162,8 @@ def main():
         is_proved = "not the proved program" not in told.stderr
         for name, places in FILES.items():
             move(places, server, Path(room, name))
-        for name in FILES:
+        made = [it for it in FILES if Path(room, it).exists()]
+        for name in made + [it for it, later in TRANSITIONAL.items() if later in made]:
             stage = Path(room, name)
             programs = binaries(stage)
             if programs and shutil.which("strip"):

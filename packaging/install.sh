@@ -1,7 +1,7 @@
 #!/usr/bin/env bash
 # install.sh install|uninstall : lays the programs, their manual pages, files of configuration and units under $DESTDIR, or takes them
 # away again. $PREFIX is /usr/local if not given, $SYSCONFDIR is $PREFIX/etc. Files of configuration that are there stay as they are.
-# $PROGRAMS is the folder of the programs; without it they are those that tools/program.sh finds or builds.
+# $PROGRAMS is the folder of the programs; without it they are those that tools/program.sh and tools/gateway.sh find or build.
 set -euo pipefail
 root=$(cd "$(dirname "$0")/.." && pwd)
 prefix=${PREFIX:-/usr/local}
@@ -10,6 +10,7 @@ configuration=${SYSCONFDIR:-$prefix/etc}/rudderraisin
 documents=$prefix/share/doc/rudderraisin
 to=${DESTDIR:-}
 programs='lobby_main lobby_check lobby_play view_show'
+gateway=rudderraisin_gateway
 room=$(mktemp -d)
 trap 'rm -rf "$room"' EXIT
 
@@ -25,15 +26,39 @@ gather() {
     sed "/^\[\[account/,$ s/^./# &/; $here" "$root/examples/accounts.toml" > "$room/accounts.toml"
     put 644 "$room/lobby.toml" "$configuration/lobby.toml"
     put 640 "$room/accounts.toml" "$configuration/accounts.toml"
-    put 644 "$root/packaging/front.conf" "$configuration/front.conf"
+    put 644 "$root/packaging/gateway.conf" "$configuration/gateway.conf"
     for file in "$root"/packaging/*.service; do
         sed "s|@BIN@|$bin|g; s|@CONFIGURATION@|$configuration|g" "$file" > "$room/unit"
         put 644 "$room/unit" "$prefix/lib/systemd/system/${file##*/}"
     done
     for file in "$root"/{README,CHANGELOG}.md "$root"/docs/{OPERATING,PROTOCOL}.md; do put 644 "$file" "$documents/${file##*/}"; done
     for file in "$root"/examples/*; do put 644 "$file" "$documents/examples/${file##*/}"; done
-    put 755 "$root/front/springlobby_front.py" "$bin/springlobby_front"
+    mkdir -p "$room/all$bin"
+    ln -s "$gateway" "$room/all$bin/${gateway}ctl"
 }
+
+# find_program NAME : prints the path of a program, which may have to be built.
+find_program() {
+    if [ -n "${PROGRAMS:-}" ]; then
+        if [ -x "$PROGRAMS/$1" ]; then echo "$PROGRAMS/$1"; return; fi
+        echo "there is no $PROGRAMS/$1" >&2
+        return 1
+    elif [ "$1" = "$gateway" ]; then "$root/tools/gateway.sh"; else "$root/tools/program.sh" "$1"; fi
+}
+
+# gather_gateway : lays out the gateway's program, or takes all that belongs to it away again where there is none.
+gather_gateway() {
+    local program
+    if program=$(find_program "$gateway"); then
+        put 755 "$program" "$bin/$gateway"
+    else
+        echo "the gateway is left out" >&2
+        find "$room/all" \( -name 'rudderraisin[-_]gateway*' -o -name gateway.conf \) -delete
+    fi
+}
+
+# is_there PLACE : whether a file or a link is installed there.
+is_there() { [ -e "$to$1" ] || [ -L "$to$1" ]; }
 
 # make_pages : lays out the manual pages.
 make_pages() {
@@ -50,21 +75,23 @@ case ${1:-} in
 install)
     make_pages
     for name in $programs; do
-        if [ -n "${PROGRAMS:-}" ]; then program=$PROGRAMS/$name; else program=$("$root/tools/program.sh" "$name"); fi
+        program=$(find_program "$name")
         put 755 "$program" "$bin/$name"
     done
-    (cd "$room/all" && find . -type f | sort) | while read -r file; do
+    gather_gateway
+    (cd "$room/all" && find . ! -type d | sort) | while read -r file; do
         place=${file#.}
-        case $place in "$configuration"/*) if [ -e "$to$place" ]; then echo "$to$place stays as it is"; continue; fi ;; esac
-        install -D -m "$(stat -c %a "$room/all$place")" "$room/all$place" "$to$place"
+        case $place in "$configuration"/*) if is_there "$place"; then echo "$to$place stays as it is"; continue; fi ;; esac
+        install -d "$to${place%/*}"
+        cp -P --remove-destination --preserve=mode "$room/all$place" "$to$place"
         echo "$to$place"
     done
     ;;
 uninstall)
-    for name in $programs; do rm -f "$to$bin/$name"; done
-    (cd "$room/all" && find . -type f | sort) | while read -r file; do
+    for name in $programs $gateway; do rm -f "$to$bin/$name"; done
+    (cd "$room/all" && find . ! -type d | sort) | while read -r file; do
         place=${file#.}
-        [ -e "$to$place" ] || continue
+        is_there "$place" || continue
         case $place in "$configuration"/*) if ! cmp -s "$room/all$place" "$to$place"; then echo "$to$place was changed, and stays"; continue; fi ;; esac
         rm -f "$to$place"
     done

@@ -9,7 +9,7 @@ import sys
 from pathlib import Path
 
 ROOT = Path(__file__).resolve().parent.parent
-OPERATING, PROTOCOL, FRONT = "docs/OPERATING.md", "docs/PROTOCOL.md", "front/README.md"
+OPERATING, PROTOCOL, GATEWAY = "docs/OPERATING.md", "docs/PROTOCOL.md", "gateway/README.md"
 # Each page: what it is in a line, and the sections that it is made of.
 PAGES = {
     "lobby_main.1": ("serves a lobby, or makes the word of a password", [(OPERATING, "The program `lobby_main`")]),
@@ -19,7 +19,8 @@ PAGES = {
     "view_show.1": ("shows what a client knows of a lobby by the bytes that it got", [(OPERATING, "The program `view_show`")]),
     "lobby_settings.5": ("settings of a lobby", [(OPERATING, "Settings")]),
     "lobby_accounts.5": ("accounts of a lobby", [(OPERATING, "Accounts")]),
-    "springlobby_front.1": ("lets SpringLobby use a lobby", [(FRONT, "A front for SpringLobby")]),
+    "rudderraisin_gateway.1": ("lets SpringLobby use a lobby", [(GATEWAY, "A gateway for SpringLobby")]),
+    "rudderraisin_gatewayctl.1": ("tells a gateway what to do", [(GATEWAY, "Control")]),
 }
 
 
