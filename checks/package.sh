@@ -1,17 +1,19 @@
 #!/usr/bin/env bash
 # package.sh [FOLDER]: installs the programs, as the gate built them, or those of a folder, into a temporary folder, and looks at what is
-# there then. Runs the server by the commands of the installed unit, as systemd would, lets clients log in and talk, and stops it.
+# there then. Runs the server by the commands of the installed unit, as systemd would, lets clients log in and talk, and stops it. Where
+# there is Go, the gateway is installed too, and one comes through it by the commands of its unit.
 set -euo pipefail
 cd "$(dirname "$0")/.."
 names='lobby_main lobby_check lobby_play view_show'
 passed=0
 failed=0
 server=
+gateway=
 room=$(mktemp -d)
 
 # kill_rest : what systemd does behind a stop: ends the server, and who waits for something to open `stop`.
 kill_rest() {
-    if [ -n "$server" ]; then kill "$server" 2> /dev/null || true; fi
+    if [ -n "$server$gateway" ]; then kill $server $gateway 2> /dev/null || true; fi
     if [ -p "$room/run/stop" ]; then : <> "$room/run/stop"; fi
 }
 trap 'kill_rest; rm -rf "$room"' EXIT
@@ -22,6 +24,14 @@ for name in $names; do
     [ -x "$program" ] || { echo "there is no $program: make test builds it"; exit 1; }
     ln -s "$(realpath "$program")" "$room/programs/$name"
 done
+
+has_gateway=
+if program=$(tools/gateway.sh); then
+    ln -s "$program" "$room/programs/rudderraisin_gateway"
+    has_gateway=yes
+else
+    echo "package: the gateway is left out"
+fi
 
 # tells WHAT COMMAND.. : counts whether a command does what it is to do.
 tells() {
@@ -41,6 +51,11 @@ done
 tells 'the unit names its program' grep -q ' /usr/bin/lobby_main serve /etc/rudderraisin/lobby.toml ' "$room/staged/usr/lib/systemd/system/rudderraisin.service"
 tells 'only its group reads the accounts' test "$(stat -c %a "$room/staged/etc/rudderraisin/accounts.toml")" = 640
 
+if [ -n "$has_gateway" ]; then
+    tells 'the gateway has a second name' test "$(readlink "$room/staged/usr/bin/rudderraisin_gatewayctl")" = rudderraisin_gateway
+    tells 'the gateway wants no library' test -z "$(readelf -d "$room/staged/usr/bin/rudderraisin_gateway" | grep NEEDED)"
+fi
+
 # What an operator changed stays, and goes with nothing else.
 top=$room/top
 made install PREFIX="$top"
@@ -58,7 +73,9 @@ tells 'what was changed stays' diff -r "$room/changed" "$files"
 
 if command -v systemd-analyze > /dev/null; then
     tells 'the units are good' systemd-analyze verify --man=no "$top"/lib/systemd/system/*.service
-    tells 'the server is shut in' systemd-analyze security --offline=true --threshold=20 "$unit" > /dev/null
+    for file in "$top"/lib/systemd/system/*.service; do
+        tells "${file##*/} shuts its program in" systemd-analyze security --offline=true --threshold=20 "$file" > /dev/null
+    done
 else
     echo "package: there is no systemd-analyze, which looks at the units"
 fi
@@ -137,8 +154,82 @@ PATH=$room/late:$PATH start "$room/told"
 tells 'the server answers at once' answers
 tells 'it stops though it has just begun' stop
 
+# gateway_commands KEY : the commands of the gateway's unit under this key, a line each, with folders as it gets them.
+gateway_commands() {
+    sed -n "s|%t|$room/run|g; s|%S|$room/state|g; s/^$1=+\{0,1\}//p" "$top/lib/systemd/system/rudderraisin-gateway.service"
+}
+
+# make_certificate : makes one as OPERATING has it, and prints its fingerprint.
+make_certificate() {
+    openssl req -x509 -newkey ec -pkeyopt ec_paramgen_curve:prime256v1 -nodes -days 30 -subj /CN=lobby -keyout "$files/key.pem" \
+        -out "$files/cert.pem" 2> /dev/null
+    openssl x509 -in "$files/cert.pem" -outform der | sha256sum | cut -d ' ' -f 1
+}
+
+# comes_in FINGERPRINT : whether one who says STLS is shown this certificate, and greeted behind it, within 20 seconds.
+comes_in() {
+    timeout 60 python3 - "$door" "$1" <<'PYTHON'
+import hashlib, socket, ssl, sys, time
+
+def greeted():
+    with socket.create_connection(("127.0.0.1", int(sys.argv[1])), 10) as link:
+        lines = link.makefile("rb")
+        if lines.readline() != b"TASSERVER 0.38 * 8201 0\n" or link.sendall(b"STLS\n") or lines.readline() != b"OK\n":
+            return False
+        context = ssl.SSLContext(ssl.PROTOCOL_TLS_CLIENT)
+        context.check_hostname, context.verify_mode = False, ssl.CERT_NONE
+        with context.wrap_socket(link) as inside:
+            shown = hashlib.sha256(inside.getpeercert(True)).hexdigest()
+            return shown == sys.argv[2] and inside.makefile("rb").readline() == b"TASSERVER 0.38 * 8201 0\n"
+
+until = time.monotonic() + 20
+while True:
+    try:
+        found = greeted()
+    except OSError:
+        found = False
+    if found or time.monotonic() > until:
+        sys.exit(not found)
+    time.sleep(0.1)
+PYTHON
+}
+
+# run_gateway : starts the gateway as its unit does, and lets somebody in.
+run_gateway() {
+    local command shown
+    door=$(cd checks && python3 -c 'import lobby_server; print(lobby_server.free_port())')
+    mkdir -p "$room/run/rudderraisin-gateway" "$room/state/rudderraisin-gateway"
+    sed -i "s/^listen = .*/listen = 127.0.0.1:$door/; s/^server = .*/server = 127.0.0.1:$port/; s/^proxy-protocol = .*/proxy-protocol = false/" \
+        "$files/gateway.conf"
+    shown=$(make_certificate)
+    gateway_commands ExecStartPre | while read -r command; do eval "$command"; done
+    (eval "exec $(gateway_commands ExecStart)" > "$room/out" 2> "$room/told") &
+    gateway=$!
+    tells 'one comes in through the gateway' comes_in "$shown"
+    tells 'the gateway is told what to do by its second name' \
+        "$top/bin/rudderraisin_gatewayctl" --control "$room/run/rudderraisin-gateway/control" list > "$room/out"
+    shown=$(make_certificate)
+    (export MAINPID=$gateway && gateway_commands ExecReload | while read -r command; do eval "$command"; done)
+    tells 'a reload brings a new certificate' comes_in "$shown"
+    kill "$gateway"
+    wait "$gateway" 2> /dev/null || true
+    gateway=
+    rm "$files/cert.pem" "$files/key.pem"
+}
+
+kept='./etc/rudderraisin/accounts.toml ./etc/rudderraisin/lobby.toml '
+if [ -n "$has_gateway" ] && command -v openssl > /dev/null; then
+    start "$room/told"
+    tells 'the server answers behind a gateway' answers
+    run_gateway
+    tells 'it stops behind a gateway' stop
+    kept="./etc/rudderraisin/accounts.toml ./etc/rudderraisin/gateway.conf ./etc/rudderraisin/lobby.toml "
+else
+    echo "package: there is no Go or no openssl: the gateway is not tried"
+fi
+
 made uninstall PREFIX="$top"
-tells 'what was changed is left, and nothing else' test "$(cd "$top" && find . -type f | sort | tr '\n' ' ')" = './etc/rudderraisin/accounts.toml ./etc/rudderraisin/lobby.toml '
+tells 'what was changed is left, and nothing else' test "$(cd "$top" && find . ! -type d | sort | tr '\n' ' ')" = "$kept"
 
 echo "package: $passed passed, $failed failed"
 [ "$failed" -eq 0 ]

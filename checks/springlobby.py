@@ -107,8 +107,9 @@ class Screen:
 
     def __init__(self, folder, processes):
         self.folder, self.count, self.known = folder, 0, set()
-        size = ["-screen", "0", "1140x820x24", "-nolisten", "tcp"]
-        server = subprocess.Popen(["Xvfb", "-displayfd", "1", *size], stdout=subprocess.PIPE, stderr=subprocess.DEVNULL)
+        # On a busy machine a key that is held down too long would repeat itself: `-r` has it not do so.
+        words = ["-screen", "0", "1140x820x24", "-nolisten", "tcp", "-r"]
+        server = subprocess.Popen(["Xvfb", "-displayfd", "1", *words], stdout=subprocess.PIPE, stderr=subprocess.DEVNULL)
         processes.append(server)
         os.environ["DISPLAY"] = ":" + server.stdout.readline().decode().strip()
         processes.append(subprocess.Popen(["openbox"], stdout=subprocess.DEVNULL, stderr=subprocess.DEVNULL))
