@@ -108,7 +108,7 @@ def fill(stage, name, fields, is_proved):
     if overrides.exists():
         (share / "lintian/overrides").mkdir(parents=True)
         shutil.copy(overrides, share / "lintian/overrides" / name)
-    files = sorted(it for it in stage.rglob("*") if it.is_file())
+    files = sorted(it for it in stage.rglob("*") if it.is_file() and not it.is_symlink())
     about = (SCRIPTS / f"{name}.description").read_text(encoding="utf-8")
     if not is_proved:
         about = about.rstrip("\n") + "\n .\n The programs of this package were built without their proof.\n"
@@ -120,7 +120,9 @@ def fill(stage, name, fields, is_proved):
     (control / "control").write_text("".join(f"{key}: {value}\n" for key, value in head.items()) + about, encoding="utf-8")
     (control / "md5sums").write_text("".join(f"{hashlib.md5(it.read_bytes()).hexdigest()}  {it.relative_to(stage)}\n"
                                              for it in files if CONFIGURATION not in str(it)))
-    (control / "conffiles").write_text("".join(f"/{it.relative_to(stage)}\n" for it in files if CONFIGURATION in str(it)))
+    kept = [f"/{it.relative_to(stage)}\n" for it in files if CONFIGURATION in str(it)]
+    if kept:
+        (control / "conffiles").write_text("".join(kept))
     for script in SCRIPTS.glob(f"{name}.*"):
         if script.suffix in (".preinst", ".postinst", ".prerm", ".postrm"):
             shutil.copy(script, control / script.suffix[1:])

@@ -9,6 +9,7 @@ if [ ! -x "$program" ] || [ -n "$(find "$root/gateway" \( -name '*.go' -o -name 
         echo "there is no Go, which builds the gateway: on Debian, apt-get install golang-go" >&2
         exit 1
     fi
-    (cd "$root/gateway" && CGO_ENABLED=0 go build -trimpath -buildvcs=false -ldflags '-s -w' -o "$program" .) >&2
+    version=$(sed -n 's/^## \([0-9][0-9.]*\)$/\1/p' "$root/CHANGELOG.md" | head -n 1)
+    (cd "$root/gateway" && CGO_ENABLED=0 go build -trimpath -buildvcs=false -ldflags "-s -w -X main.version=$version" -o "$program" .) >&2
 fi
 echo "$program"
