@@ -399,6 +399,8 @@ class Trial:
         self.say(f"JOINBATTLE {battle} * secret")
         self.told(f"JOINBATTLE {battle} -?\\d+", "the guest comes again")
         self.say(f"MYBATTLESTATUS {READY_SECOND} 255")
+        self.told(f"CLIENTBATTLESTATUS Bert {READY_SECOND} 255", "the guest is ready")
+        time.sleep(2)   # SpringLobby starts no match before it has heard of that
 
     def begin(self, battle):
         """SpringLobby starts the match, Bert's engine joins it, and SpringLobby ends its battle."""
