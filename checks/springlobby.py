@@ -41,9 +41,10 @@ ANNA, BERT = Account("Anna", 1, country="DE"), Account("Bert", 2)
 # What the gateway says, as its README has it.
 NO_TOPICS, CANCELLED = "Channels have no topic here", "You ask no more to join"
 WAITING = "Waiting for the host to let you in. Say !cancel in any channel to ask no more"
+STOPPED, ACCOUNTS = "The gateway is stopped", "Ask Anna for an account"
 DENIED = "Failed to join battle. not today"
 # What SpringLobby writes as of the server, where the server refuses none of its lines.
-KNOWN = re.compile("|".join(["Connect(ing|ed) to ", "Disconnected from ", *map(re.escape, (NO_TOPICS, WAITING, CANCELLED, DENIED))]))
+KNOWN = re.compile("|".join(["Connect(ing|ed) to ", "Disconnected from ", *map(re.escape, (NO_TOPICS, WAITING, CANCELLED, STOPPED, DENIED))]))
 # The battle status of a synced player who is ready, and of one in the second team and ally team.
 READY = 1 << 22 | 1 << 10 | 1 << 1
 READY_SECOND = READY | 1 << 6 | 1 << 2
@@ -55,6 +56,8 @@ MAIN, LOGIN, TRUST, HOST, KICKED = ("SpringLobby", "Connect to lobby server", "U
 PLACES = {
     "to log in": (LOGIN, 149, 11), "server": (LOGIN, 70, 68), "name": (LOGIN, 90, 126), "password": (LOGIN, 90, 180),
     "log in": (LOGIN, 150, 215), "trust": (TRUST, 430, 94),
+    "mail": (LOGIN, 70, 126), "new name": (LOGIN, 70, 180), "new password": (LOGIN, 70, 234), "password again": (LOGIN, 70, 288),
+    "register": (LOGIN, 150, 364),
     "chat": (MAIN, 45, 48), "battles": (MAIN, 155, 48), "say": (MAIN, 300, 680),
     "second channel": (MAIN, 154, 86), "private chat": (MAIN, 218, 86), "sort by name": (MAIN, 538, 115), "guest": (MAIN, 514, 163),
     "first battle": (MAIN, 300, 107), "join": (MAIN, 1050, 678), "host": (MAIN, 60, 678),
@@ -187,20 +190,23 @@ def make_content(data):
 class SpringLobby:
     """SpringLobby in a home of its own, and the engine that it starts."""
 
-    def __init__(self, room, folder, processes):
-        self.home, self.folder, self.processes, self.process = room / "anna", folder, processes, None
+    def __init__(self, home, folder, processes, trusted=None):
+        self.home, self.folder, self.processes, self.process = home, folder, processes, None
         self.found = {}     # how far the log of each chat was compared
         self.data = self.home / ".springlobby"
         self.data.mkdir(parents=True)
         library = make_content(self.home / ".spring")
-        engine = room / "engine"
+        engine, pid = home / "engine", home / "engine.pid"
         # However the engine is ended, SpringLobby is to see a match that ended well.
-        engine.write_text(f"#!/bin/sh\nspring-headless \"$@\" > {folder}/engine-anna.log 2>&1 &\necho $! > {room}/engine.pid\nwait\n")
+        engine.write_text(f"#!/bin/sh\nspring-headless \"$@\" > {folder}/engine-anna.log 2>&1 &\necho $! > {pid}\nwait\n")
         engine.chmod(0o755)
-        self.engine = room / "engine.pid"
+        self.engine = pid
+        # What it wrote itself where it was told to trust this certificate before.
+        trust = (f"[Server]\nDefault={GATEWAY}:{GATEWAY_PORT}\n[Server/Servers]\n[Server/Servers/{GATEWAY}\\:{GATEWAY_PORT}]\nHost={GATEWAY}\n"
+                 f"Port={GATEWAY_PORT}\nCertificate={trusted}\n") if trusted else ""
         (self.data / "springlobby.conf").write_text(
             f"[Spring]\nCurrentIndex={ENGINE}\n[Spring/Pathslinux64]\n[Spring/Pathslinux64/{ENGINE}]\nSpringBinPath={engine}\n"
-            f"UnitSyncPath={library}\n[GUI/MAINWINDOW]\nleft=0\ntop=0\nwidth=1102\nheight=746\nmaximized=0\n")
+            f"UnitSyncPath={library}\n[GUI/MAINWINDOW]\nleft=0\ntop=0\nwidth=1102\nheight=746\nmaximized=0\n{trust}")
 
     def start(self):
         output = (self.folder / "springlobby.log").open("ab")
@@ -234,7 +240,7 @@ class Trial:
         self.room, self.folder, self.server, self.processes, self.gateway = room, folder, server, processes, gateway
         self.start_gateway()
         self.report, self.screen = Report(folder), Screen(folder, processes)
-        self.lobby = SpringLobby(room, folder, processes)
+        self.lobby = SpringLobby(room / "anna", folder, processes)
         self.bert = Player(server, source=HOME_OF_BERT)
         self.bert.line("TASSERVER .*")
         self.say(BERT.login().replace("\n", "\t0\tb\n"))    # who joins his battles asks him
@@ -274,6 +280,7 @@ class Trial:
         if refused:
             raise Difference(f"the server told SpringLobby what nobody asked for: {refused}")
         self.report.ok("the server refused no line of SpringLobby's")
+        self.register(fingerprint)
 
     def log_in(self, fingerprint):
         screen = self.screen
@@ -294,6 +301,18 @@ class Trial:
         self.told("ADDUSER Anna DE 0 1", "login")
         self.shown("server", "** motd ** Welcome to the trial", "message of the day")
         screen.picture("logged-in")
+
+    def register(self, fingerprint):
+        """Clara, who has no account, asks for one. She trusts the certificate already."""
+        screen, lobby = self.screen, SpringLobby(self.room / "clara", self.folder, self.processes, fingerprint)
+        lobby.start()
+        wait_for("its login window", lambda: screen.window(LOGIN))
+        for place, text in [("mail", "clara@example.org"), ("new name", "Clara"), ("new password", "password"), ("password again", "password")]:
+            screen.write(place, text)
+        screen.click("register")
+        wait_for("its end of the connection", lambda: "EXIT" in lobby.told())
+        screen.picture("register-refused")
+        self.report.ok(f"register: look at the last picture, which is to have `{ACCOUNTS}`")
 
     def turn_to_login(self):
         """At its first start the login window asks to register, and is wider."""
@@ -498,7 +517,7 @@ def check(folder, room, processes):
     settings = f'motd = ["Welcome to the trial"]\nproxies = ["{ADDRESS}"]\n'
     with (folder / "server.log").open("w+b") as log, Server(2, [ANNA, BERT], settings, log="all", errors=log) as server:
         gateway = [program, "--listen", f"{GATEWAY}:{GATEWAY_PORT}", "--server", f"{ADDRESS}:{server.port}", "--cert", cert, "--key", key,
-                   "--proxy-protocol"]
+                   "--proxy-protocol", "--accounts-text", ACCOUNTS]
         trial = Trial(room, folder, server, processes, gateway)
         try:
             trial.run(fingerprint)
