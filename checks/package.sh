@@ -40,6 +40,9 @@ tells() {
     if "$@"; then passed=$((passed + 1)); else echo "package: $what: it is not so"; failed=$((failed + 1)); fi
 }
 
+# quietly COMMAND.. : a command whose output nobody wants.
+quietly() { "$@" > /dev/null; }
+
 # made TARGET [WORD].. : a target of the Makefile with the folder of the programs.
 made() { PROGRAMS=$room/programs make -s "$@" >> "$room/log" 2>&1 || { cat "$room/log"; exit 1; }; }
 
@@ -74,7 +77,7 @@ tells 'what was changed stays' diff -r "$room/changed" "$files"
 if command -v systemd-analyze > /dev/null; then
     tells 'the units are good' systemd-analyze verify --man=no "$top"/lib/systemd/system/*.service
     for file in "$top"/lib/systemd/system/*.service; do
-        tells "${file##*/} shuts its program in" systemd-analyze security --offline=true --threshold=20 "$file" > /dev/null
+        tells "${file##*/} shuts its program in" quietly systemd-analyze security --offline=true --threshold=20 "$file"
     done
 else
     echo "package: there is no systemd-analyze, which looks at the units"
@@ -206,8 +209,8 @@ run_gateway() {
     (eval "exec $(gateway_commands ExecStart)" > "$room/out" 2> "$room/told") &
     gateway=$!
     tells 'one comes in through the gateway' comes_in "$shown"
-    tells 'the gateway is told what to do by its second name' \
-        "$top/bin/rudderraisin_gatewayctl" --control "$room/run/rudderraisin-gateway/control" list > "$room/out"
+    tells 'the gateway takes orders by its second name' \
+        quietly "$top/bin/rudderraisin_gatewayctl" --control "$room/run/rudderraisin-gateway/control" list
     shown=$(make_certificate)
     (export MAINPID=$gateway && gateway_commands ExecReload | while read -r command; do eval "$command"; done)
     tells 'a reload brings a new certificate' comes_in "$shown"
