@@ -103,7 +103,8 @@ def fill(stage, name, fields, is_proved):
         packed(page.with_name(page.name + ".gz"), page.read_bytes())
         page.unlink()
     packed(share / f"doc/{name}/changelog.gz", debian_changes(name).encode())
-    shutil.copy(SCRIPTS / "copyright", share / f"doc/{name}/copyright")
+    rights = [it for it in (SCRIPTS / "copyright", SCRIPTS / f"{name}.copyright") if it.exists()]
+    (share / f"doc/{name}/copyright").write_text("".join(it.read_text(encoding="utf-8") for it in rights), encoding="utf-8")
     overrides = SCRIPTS / f"{name}.overrides"
     if overrides.exists():
         (share / "lintian/overrides").mkdir(parents=True)
