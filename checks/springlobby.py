@@ -1,5 +1,6 @@
 #!/usr/bin/env python3
-"""springlobby.py PROGRAM FOLDER: SpringLobby as Debian 12 has it, driven by mouse and keys, on a built server through the gateway.
+"""springlobby.py PROGRAM FOLDER: SpringLobby as Debian 12 has it, driven by mouse and keys, on a built server through
+the gateway.
 
 By hand: it is no part of the gate, for it needs a screen and packages of Debian 12, which it names where they are missing:
 
@@ -44,7 +45,8 @@ WAITING = "Waiting for the host to let you in. Say !cancel in any channel to ask
 STOPPED, ACCOUNTS = "The gateway is stopped", "Ask Anna for an account"
 DENIED = "Failed to join battle. not today"
 # What SpringLobby writes as of the server, where the server refuses none of its lines.
-KNOWN = re.compile("|".join(["Connect(ing|ed) to ", "Disconnected from ", *map(re.escape, (NO_TOPICS, WAITING, CANCELLED, STOPPED, DENIED))]))
+KNOWN = re.compile("|".join(["Connect(ing|ed) to ", "Disconnected from ",
+                             *map(re.escape, (NO_TOPICS, WAITING, CANCELLED, STOPPED, DENIED))]))
 # The battle status of a synced player who is ready, and of one in the second team and ally team.
 READY = 1 << 22 | 1 << 10 | 1 << 1
 READY_SECOND = READY | 1 << 6 | 1 << 2
@@ -56,8 +58,8 @@ MAIN, LOGIN, TRUST, HOST, KICKED = ("SpringLobby", "Connect to lobby server", "U
 PLACES = {
     "to log in": (LOGIN, 149, 11), "server": (LOGIN, 70, 68), "name": (LOGIN, 90, 126), "password": (LOGIN, 90, 180),
     "log in": (LOGIN, 150, 215), "trust": (TRUST, 430, 94),
-    "mail": (LOGIN, 70, 126), "new name": (LOGIN, 70, 180), "new password": (LOGIN, 70, 234), "password again": (LOGIN, 70, 288),
-    "register": (LOGIN, 150, 364),
+    "mail": (LOGIN, 70, 126), "new name": (LOGIN, 70, 180), "new password": (LOGIN, 70, 234),
+    "password again": (LOGIN, 70, 288), "register": (LOGIN, 150, 364),
     "chat": (MAIN, 45, 48), "battles": (MAIN, 155, 48), "say": (MAIN, 300, 680),
     "second channel": (MAIN, 154, 86), "private chat": (MAIN, 218, 86), "sort by name": (MAIN, 538, 115), "guest": (MAIN, 514, 163),
     "first battle": (MAIN, 300, 107), "join": (MAIN, 1050, 678), "host": (MAIN, 60, 678),
@@ -202,11 +204,12 @@ class SpringLobby:
         engine.chmod(0o755)
         self.engine = pid
         # What it wrote itself where it was told to trust this certificate before.
-        trust = (f"[Server]\nDefault={GATEWAY}:{GATEWAY_PORT}\n[Server/Servers]\n[Server/Servers/{GATEWAY}\\:{GATEWAY_PORT}]\nHost={GATEWAY}\n"
-                 f"Port={GATEWAY_PORT}\nCertificate={trusted}\n") if trusted else ""
+        trust = (f"[Server]\nDefault={GATEWAY}:{GATEWAY_PORT}\n[Server/Servers]\n"
+                 f"[Server/Servers/{GATEWAY}\\:{GATEWAY_PORT}]\nHost={GATEWAY}\nPort={GATEWAY_PORT}\nCertificate={trusted}\n")
         (self.data / "springlobby.conf").write_text(
             f"[Spring]\nCurrentIndex={ENGINE}\n[Spring/Pathslinux64]\n[Spring/Pathslinux64/{ENGINE}]\nSpringBinPath={engine}\n"
-            f"UnitSyncPath={library}\n[GUI/MAINWINDOW]\nleft=0\ntop=0\nwidth=1102\nheight=746\nmaximized=0\n{trust}")
+            f"UnitSyncPath={library}\n[GUI/MAINWINDOW]\nleft=0\ntop=0\nwidth=1102\nheight=746\nmaximized=0\n"
+            + (trust if trusted else ""))
 
     def start(self):
         output = (self.folder / "springlobby.log").open("ab")
@@ -307,7 +310,8 @@ class Trial:
         screen, lobby = self.screen, SpringLobby(self.room / "clara", self.folder, self.processes, fingerprint)
         lobby.start()
         wait_for("its login window", lambda: screen.window(LOGIN))
-        for place, text in [("mail", "clara@example.org"), ("new name", "Clara"), ("new password", "password"), ("password again", "password")]:
+        for place, text in [("mail", "clara@example.org"), ("new name", "Clara"), ("new password", "password"),
+                            ("password again", "password")]:
             screen.write(place, text)
         screen.click("register")
         wait_for("its end of the connection", lambda: "EXIT" in lobby.told())
@@ -502,10 +506,11 @@ class Trial:
 
 
 def certificate(room):
-    """Makes a certificate as OPERATING has it. Gives its file, that of its key, and its fingerprint as SpringLobby shows it."""
+    """Makes a certificate as OPERATING has it. Gives its file, that of its key, and the fingerprint that SpringLobby shows."""
     cert, key = room / "cert.pem", room / "key.pem"
-    subprocess.run(["openssl", "req", "-x509", "-newkey", "ec", "-pkeyopt", "ec_paramgen_curve:prime256v1", "-nodes", "-days", "30",
-                    "-subj", "/CN=lobby", "-keyout", key, "-out", cert], stderr=subprocess.DEVNULL, check=True)
+    curve = ["-newkey", "ec", "-pkeyopt", "ec_paramgen_curve:prime256v1"]
+    subprocess.run(["openssl", "req", "-x509", *curve, "-nodes", "-days", "30", "-subj", "/CN=lobby", "-keyout", key,
+                    "-out", cert], stderr=subprocess.DEVNULL, check=True)
     told = subprocess.run(["openssl", "x509", "-in", cert, "-noout", "-fingerprint", "-sha256"], stdout=subprocess.PIPE, check=True)
     return cert, key, told.stdout.decode().strip().partition("=")[2].replace(":", "").lower()
 
@@ -516,8 +521,8 @@ def check(folder, room, processes):
     program = subprocess.run([ROOT / "tools/gateway.sh"], stdout=subprocess.PIPE, text=True, check=True).stdout.strip()
     settings = f'motd = ["Welcome to the trial"]\nproxies = ["{ADDRESS}"]\n'
     with (folder / "server.log").open("w+b") as log, Server(2, [ANNA, BERT], settings, log="all", errors=log) as server:
-        gateway = [program, "--listen", f"{GATEWAY}:{GATEWAY_PORT}", "--server", f"{ADDRESS}:{server.port}", "--cert", cert, "--key", key,
-                   "--proxy-protocol", "--accounts-text", ACCOUNTS]
+        gateway = [program, "--listen", f"{GATEWAY}:{GATEWAY_PORT}", "--server", f"{ADDRESS}:{server.port}",
+                   "--cert", cert, "--key", key, "--proxy-protocol", "--accounts-text", ACCOUNTS]
         trial = Trial(room, folder, server, processes, gateway)
         try:
             trial.run(fingerprint)
