@@ -28,7 +28,7 @@ build: ## proves and builds the programs, optimised, into bin/
 	@tools/build.py
 
 gateway: ## builds the gateway for SpringLobby into bin/, by Go
-	@echo "$$(tools/gateway.sh) is built"
+	@program=$$(tools/gateway.sh) && echo "$$program is built"
 
 library: ## proves and builds the C library of a view into bin/ (include/lobby.h, examples/battles.c)
 	@tools/library.sh
