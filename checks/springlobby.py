@@ -50,7 +50,7 @@ KNOWN = re.compile("|".join(["Connect(ing|ed) to ", "Disconnected from ",
 # The battle status of a synced player who is ready, and of one in the second team and ally team.
 READY = 1 << 22 | 1 << 10 | 1 << 1
 READY_SECOND = READY | 1 << 6 | 1 << 2
-PATIENCE = 30.0
+PATIENCE = 60.0
 
 MAIN, LOGIN, TRUST, HOST, KICKED = ("SpringLobby", "Connect to lobby server", "Unknown Certificate", "Host new battle",
                                     "Kicked by Host")
