@@ -16,6 +16,9 @@ if ! is_new; then
         exit 1
     fi
     version=$(sed -n 's/^## \([0-9][0-9.]*\)$/\1/p' "$root/CHANGELOG.md" | head -n 1)
+    # Nothing is fetched: the standard library alone is used, and the Go that is there.
+    export GOPROXY=off GOTOOLCHAIN=local
+    [ -n "${HOME:-}" ] || export GOCACHE=$root/out/go
     cd "$root/gateway"
     CGO_ENABLED=0 go build -trimpath -buildvcs=false -ldflags "-s -w -X main.version=$version" -o "$program" . >&2
 fi
