@@ -1,0 +1,1 @@
+"""What lobby_record does."""

@@ -1,0 +1,203 @@
+"""A story as one page of HTML. It has no script, fetches nothing, and what players wrote stands in it as text alone."""
+import html
+import re
+
+from . import shown
+from .room import LISTS
+from .story import PRIVATE, REFUSALS, TALK, word_of
+
+# What each command does, in words before what stands behind it.
+DEEDS = {
+    "LOGIN": "logs in", "PING": "pings", "EXIT": "logs out", "MYSTATUS": "sets the own status", "CHANNELS": "asks for the channels",
+    "JOIN": "enters channel", "LEAVE": "leaves channel", "SAY": "says in channel", "SAYEX": "does in channel", "SAYPRIVATE": "says in private to",
+    "OPENBATTLE": "opens a battle", "JOINBATTLE": "asks for battle", "JOINBATTLEACCEPT": "lets in", "JOINBATTLEDENY": "turns away",
+    "LEAVEBATTLE": "leaves the battle", "UPDATEBATTLEINFO": "changes what all are told of the battle", "MYBATTLESTATUS": "sets the own battle status",
+    "SAYBATTLE": "says", "SAYBATTLEEX": "does", "ADDBOT": "adds a bot", "UPDATEBOT": "changes the bot", "REMOVEBOT": "takes away the bot",
+    "ADDSTARTRECT": "sets the start rectangle of ally team", "REMOVESTARTRECT": "takes away the start rectangle of ally team",
+    "SETSCRIPTTAGS": "sets script tags", "REMOVESCRIPTTAGS": "takes away script tags", "DISABLEUNITS": "disables units",
+    "ENABLEUNITS": "enables units", "ENABLEALLUNITS": "enables all units", "HANDICAP": "sets the handicap of", "FORCETEAMNO": "sets the team of",
+    "FORCEALLYNO": "sets the ally team of", "FORCETEAMCOLOR": "sets the colour of", "FORCESPECTATORMODE": "makes a spectator of",
+    "KICKFROMBATTLE": "puts out of the battle", "RING": "rings"}
+# Of these the numbers behind them say nothing to people; what changed says it.
+WORDS_ALONE = {"MYSTATUS", "MYBATTLESTATUS", "LOGIN", "PING", "CHANNELS", "ENABLEALLUNITS", "LEAVEBATTLE", "EXIT"}
+FIRST_ALONE = {"ADDBOT", "UPDATEBOT", "FORCETEAMCOLOR"}
+# A list that has more is shown where it changed; elsewhere a link leads there.
+LONG = 12
+# The most lines that the player was told at one place which a page shows.
+TOLD = 60
+POLICY = "default-src 'none'; style-src 'unsafe-inline'"
+STYLE = """
+:root { font: 16px/1.45 system-ui, "DejaVu Sans", sans-serif; color: #1c1f23; background: #f6f7f8; }
+body { max-width: 62rem; margin: 0 auto; padding: 1rem; }
+h1 { font-size: 1.5rem; margin: .2rem 0; } h2 { font-size: 1.2rem; margin: 2rem 0 .3rem; } h3 { font-size: 1rem; margin: .8rem 0 .2rem; }
+p { margin: .3rem 0; } .about { color: #4a5058; } a { color: inherit; }
+bdi, code { overflow-wrap: anywhere; } code, pre { font: .88em/1.4 ui-monospace, "DejaVu Sans Mono", monospace; }
+.choice { position: sticky; top: 0; z-index: 1; background: #f6f7f8; padding: .5rem 0; margin: .6rem 0; border-bottom: 1px solid #cfd4da; }
+.choice label { margin-right: 1.1rem; white-space: nowrap; }
+body:has(#rooms:not(:checked)) .room, body:has(#talk:not(:checked)) .talk, body:has(#own:not(:checked)) .own { display: none; }
+ol { list-style: none; padding: 0; margin: 0; }
+li.at { display: grid; grid-template-columns: 9.5rem 1fr; gap: 0 1rem; padding: .55rem .7rem; margin: .35rem 0; background: #fff;
+  border-left: 4px solid #cfd4da; border-radius: 4px; scroll-margin-top: 3.5rem; }
+li.room { border-left-color: #2f6fb3; } li.talk { border-left-color: #9aa3ad; } li.refused { border-left-color: #b3541e; }
+li.at:target { outline: 2px solid #2f6fb3; }
+.when { color: #4a5058; font-variant-numeric: tabular-nums; } .when a { text-decoration: none; white-space: nowrap; }
+.changes { padding-left: 0; list-style: none; margin: .25rem 0; } .changes li { margin: .1rem 0; }
+.came::before { content: "+ "; color: #1d7a3a; font-weight: 700; } .gone::before { content: "\\2212  "; color: #b01c1c; font-weight: 700; }
+.is::before { content: "~ "; color: #7a5b00; font-weight: 700; }
+.gone bdi.name { text-decoration: line-through; } .old { color: #6a7079; text-decoration: line-through; }
+.refusal { color: #8f3f12; } .key { color: #4a5058; }
+.shade { display: inline-block; width: .8em; height: .8em; border: 1px solid #555; vertical-align: -.05em; margin-right: .25em; }
+details { margin: .25rem 0; } summary { cursor: pointer; color: #2f5f94; }
+.wide { overflow-x: auto; } table { border-collapse: collapse; font-size: .9rem; } th, td { text-align: left; padding: .15rem .8rem .15rem 0; vertical-align: top; }
+th { font-weight: 600; color: #4a5058; white-space: nowrap; } tr.new td { background: #e9f6ec; } tr.other td { background: #fdf5dc; }
+pre { white-space: pre-wrap; overflow-wrap: anywhere; background: #f1f3f5; padding: .5rem; margin: .3rem 0; border-radius: 4px; }
+@media (max-width: 40rem) { body { padding: .5rem; } li.at { grid-template-columns: 1fr; } .when { font-size: .88rem; } }
+@media print { .choice { display: none; } }
+"""
+
+
+def name(data):
+    """What players chose, apart from the text around it, whose direction it cannot turn."""
+    return f'<bdi class="name">{html.escape(shown.text(data))}</bdi>'
+
+
+def said(data):
+    return f"<bdi>{html.escape(shown.text(data))}</bdi>"
+
+
+def value(key, it):
+    if key == "colour":
+        square = f'<span class="shade" style="background:{it}"></span>' if re.fullmatch("#[0-9a-f]{6}", it) else ""
+        return square + html.escape(it)
+    return said(it) if isinstance(it, bytes) else html.escape(str(it))
+
+
+class Page:
+    """The page of some stories of one session each."""
+
+    def __init__(self, about):
+        self.about, self.parts, self.places = about, [], {}
+
+    def who(self, story, it):
+        session = story.sessions.get(it.line.client)
+        if session is not None and session.name is not None and session.login <= it.place:
+            return f"<b>{name(session.name)}</b>"
+        return f"<b>client {it.line.client}</b>" + (f" of {html.escape(session.address)}" if session else "")
+
+    def deed(self, story, it):
+        """Who did what."""
+        command, rest = it.line.command()
+        word = command.decode("ascii", "replace")
+        if it.line.verb != b"send":
+            return f"{self.who(story, it)} {'connects' if it.line.verb == b'open' else 'is gone: the connection ended'}"
+        if word not in DEEDS or word == "JOIN" and rest in (b"", b"?"):
+            return f"{self.who(story, it)} sends a line that is none"
+        rest = shown.without_secrets(command, rest)
+        if word in WORDS_ALONE:
+            rest = b""
+        elif word in FIRST_ALONE:
+            rest = rest.partition(b" ")[0]
+        elif word == "OPENBATTLE":
+            sentences = rest.split(b"\t")
+            rest = sentences[3] if len(sentences) > 3 else b""
+        elif word in ("SAY", "SAYEX", "SAYPRIVATE"):
+            place, _, text = rest.partition(b" ")
+            return f"{self.who(story, it)} {DEEDS[word]} {name(place)}: {said(text)}"
+        return f"{self.who(story, it)} {DEEDS[word]}" + (f"{':' if word in ('SAYBATTLE', 'SAYBATTLEEX') else ''} {said(rest)}" if rest else "")
+
+    def change(self, it):
+        """One thing that came, went or is another."""
+        kind, word, what, fields = it
+        if kind == "is":
+            words = [f'<span class="key">{html.escape(key)}</span> <span class="old">{value(key, old)}</span> &rarr; {value(key, new)}'
+                     for key, old, new in fields]
+        elif kind == "gone":
+            words = [f'<span class="key">{html.escape(key)}</span> {value(key, old)}' for key, old, _ in fields]
+        else:
+            words = [f'<span class="key">{html.escape(key)}</span> {value(key, new)}' for key, _, new in fields]
+        about = f"{word} {name(what)}" if word != "battle" else "battle"
+        return f'<li class="{kind}">{about}' + (f": {', '.join(words)}" if words else "") + "</li>"
+
+    def table(self, things, news):
+        """A list of a room, with what is new in it."""
+        keys = [*dict.fromkeys(key for fields in things.values() for key in fields)]
+        head = "".join(f"<th>{html.escape(it)}</th>" for it in ["", *keys])
+        rows = []
+        for it, fields in things.items():
+            cells = "".join(f"<td>{value(key, fields.get(key, ''))}</td>" for key in keys)
+            rows.append(f'<tr{news.get(it, "")}><td>{name(it)}</td>{cells}</tr>')
+        return f'<div class="wide"><table><tr>{head}</tr>{"".join(rows)}</table></div>'
+
+    def room(self, room, found, anchor, is_open):
+        """A whole room, as it was at a place."""
+        parts = []
+        told = "".join(f"<tr><th>{html.escape(key)}</th><td>{value(key, it)}</td></tr>" for key, it in room.battle.items())
+        parts.append(f'<h3>battle {room.number}</h3><div class="wide"><table>{told}</table></div>')
+        for key, word in LISTS.items():
+            things = room.lists[key]
+            shown_at = self.places.get(key)
+            is_new = any(it[1] == word for it in found)
+            if not things:
+                parts.append(f"<h3>{word}s: none</h3>")
+            elif len(things) > LONG and shown_at and not is_new and not is_open:
+                parts.append(f'<h3>{word}s: {len(things)}, <a href="#{shown_at[0]}">as at place {shown_at[1]}</a></h3>')
+            else:
+                news = {it[2]: ' class="new"' if it[0] == "came" else ' class="other"' for it in found if it[1] == word}
+                parts.append(f"<h3>{word}s: {len(things)}</h3>{self.table(things, news)}")
+                self.places[key] = anchor
+        return f"<details{' open' if is_open else ''}><summary>The room then</summary>{''.join(parts)}</details>"
+
+    def happening(self, story, it, number):
+        """An item of the list."""
+        words = it.words()
+        kinds = ["at"]
+        kinds += ["room"] if it.is_room else ["talk"] if words & (TALK | PRIVATE) else ["own"]
+        refusals = [told for told in it.told if word_of(told) in REFUSALS]
+        kinds += ["refused"] if refusals else []
+        anchor = f"p{number}-{it.place}"
+        parts = [f"<p>{self.deed(story, it)}</p>"]
+        parts += [f'<p class="refusal">is told: {said(re.sub(rb"^#[0-9]+ ", b"", told))}</p>' for told in refusals]
+        if it.has_left:
+            parts.append("<p>The player is in no room any more.</p>")
+        if it.changes:
+            parts.append(f'<ul class="changes">{"".join(map(self.change, it.changes))}</ul>')
+        if it.room and (it.changes or it.has_entered):
+            parts.append(self.room(it.room, it.changes, (anchor, it.place), it.has_entered))
+        if it.told:
+            more = f"\n.. and {len(it.told) - TOLD} more lines" if len(it.told) > TOLD else ""
+            lines = "\n".join(html.escape(shown.text(masked(told))) for told in it.told[:TOLD])
+            parts.append(f"<details><summary>{len(it.told)} line{'s' if len(it.told) != 1 else ''} told to the player</summary>"
+                         f"<pre>{lines}{more}</pre></details>")
+        time = html.escape(story.record.times.shown(it.place, "%H:%M:%S"))
+        when = f'<div class="when">{time} <a href="#{anchor}">place {it.place}</a></div>'
+        return f'<li class="{" ".join(kinds)}" id="{anchor}">{when}<div>{"".join(parts)}</div></li>'
+
+    def add(self, story):
+        """Adds a story."""
+        number = len(self.parts)
+        self.places = {}
+        session = story.session
+        who = name(session.name) if session.name is not None else f"client {session.client}"
+        times = [story.record.times.shown(it) for it in (story.begin, story.end - 1)]
+        when = f", {html.escape(times[0])} to {html.escape(times[1])}" if all(times) else ""
+        about = (f"client {session.client} from {html.escape(session.address)}, record {html.escape(shown.text(str(story.record.folder)))}, "
+                 f"places {story.begin} to {story.end - 1}{when}")
+        left = [f"{story.of_others} places at which the player was told of other users and battles alone"] if story.of_others else []
+        left += [f"{story.private} of private talk (<code>--private</code> shows them)"] if story.private else []
+        out = f'<p class="about">Left out: {", ".join(left)}.</p>' if left else ""
+        start = f"<p>Before the first of these places:</p>{self.room(story.start, [], ('s' + str(number), story.begin), True)}" if story.start else ""
+        items = "\n".join(self.happening(story, it, number) for it in story.happenings) or "<li>Nothing happened to this player then.</li>"
+        self.parts.append(f'<section id="s{number}"><h2>{who}</h2><p class="about">{about}.</p>{out}{start}<ol>{items}</ol></section>')
+
+    def text(self):
+        boxes = "".join(f'<label><input type="checkbox" id="{key}" checked> {words}</label>' for key, words in (
+            ("rooms", "the room"), ("talk", "talk"), ("own", "what the player asked besides")))
+        contents = "".join(f"<p class=\"about\">{it}</p>" for it in self.about)
+        return (f'<!DOCTYPE html>\n<html lang="en"><head><meta charset="utf-8"><meta http-equiv="Content-Security-Policy" content="{POLICY}">'
+                f'<meta name="viewport" content="width=device-width, initial-scale=1"><title>A player\'s room</title><style>{STYLE}</style></head>\n'
+                f'<body><h1>A player\'s room, place by place</h1>{contents}<div class="choice">{boxes}</div>\n{"".join(self.parts)}\n</body></html>\n')
+
+
+def masked(told):
+    """A line that was put, without the script password that only a founder is told."""
+    return re.sub(rb"^((?:#[0-9]+ )?JOINEDBATTLE [0-9]+ [^ ]+ ).*", rb"\1*", told)
