@@ -8,23 +8,26 @@ from .story import PRIVATE, REFUSALS, TALK, word_of
 
 # What each command does, in words before what stands behind it.
 DEEDS = {
-    "LOGIN": "logs in", "PING": "pings", "EXIT": "logs out", "MYSTATUS": "sets the own status", "CHANNELS": "asks for the channels",
+    "LOGIN": "logs in as", "PING": "pings", "EXIT": "logs out", "MYSTATUS": "sets the own status", "CHANNELS": "asks for the channels",
     "JOIN": "enters channel", "LEAVE": "leaves channel", "SAY": "says in channel", "SAYEX": "does in channel", "SAYPRIVATE": "says in private to",
-    "OPENBATTLE": "opens a battle", "JOINBATTLE": "asks for battle", "JOINBATTLEACCEPT": "lets in", "JOINBATTLEDENY": "turns away",
+    "OPENBATTLE": "opens a battle", "JOINBATTLE": "enters, or asks to enter, battle", "JOINBATTLEACCEPT": "lets in", "JOINBATTLEDENY": "turns away",
     "LEAVEBATTLE": "leaves the battle", "UPDATEBATTLEINFO": "changes what all are told of the battle", "MYBATTLESTATUS": "sets the own battle status",
     "SAYBATTLE": "says", "SAYBATTLEEX": "does", "ADDBOT": "adds a bot", "UPDATEBOT": "changes the bot", "REMOVEBOT": "takes away the bot",
     "ADDSTARTRECT": "sets the start rectangle of ally team", "REMOVESTARTRECT": "takes away the start rectangle of ally team",
     "SETSCRIPTTAGS": "sets script tags", "REMOVESCRIPTTAGS": "takes away script tags", "DISABLEUNITS": "disables units",
     "ENABLEUNITS": "enables units", "ENABLEALLUNITS": "enables all units", "HANDICAP": "sets the handicap of", "FORCETEAMNO": "sets the team of",
     "FORCEALLYNO": "sets the ally team of", "FORCETEAMCOLOR": "sets the colour of", "FORCESPECTATORMODE": "makes a spectator of",
-    "KICKFROMBATTLE": "puts out of the battle", "RING": "rings"}
+    "KICKFROMBATTLE": "kicks", "RING": "rings"}
 # Of these the numbers behind them say nothing to people; what changed says it.
-WORDS_ALONE = {"MYSTATUS", "MYBATTLESTATUS", "LOGIN", "PING", "CHANNELS", "ENABLEALLUNITS", "LEAVEBATTLE", "EXIT"}
-FIRST_ALONE = {"ADDBOT", "UPDATEBOT", "FORCETEAMCOLOR"}
+WORDS_ALONE = {"MYSTATUS", "MYBATTLESTATUS", "PING", "CHANNELS", "ENABLEALLUNITS", "LEAVEBATTLE", "EXIT", "UPDATEBATTLEINFO"}
+FIRST_ALONE = {"LOGIN", "JOINBATTLE", "ADDBOT", "UPDATEBOT", "FORCETEAMCOLOR"}
+FIRST_TO_SECOND = {"HANDICAP", "FORCETEAMNO", "FORCEALLYNO"}
+SAID_OF_NAME = {"SAY", "SAYEX", "SAYPRIVATE", "JOINBATTLEDENY"}
 # A list that has more is shown where it changed; elsewhere a link leads there.
 LONG = 12
 # The most lines that the player was told at one place which a page shows.
 TOLD = 60
+TAB = b"\t"
 POLICY = "default-src 'none'; style-src 'unsafe-inline'"
 STYLE = """
 :root { font: 16px/1.45 system-ui, "DejaVu Sans", sans-serif; color: #1c1f23; background: #f6f7f8; }
@@ -48,6 +51,8 @@ li.at:target { outline: 2px solid #2f6fb3; }
 .refusal { color: #8f3f12; } .key { color: #4a5058; }
 .shade { display: inline-block; width: .8em; height: .8em; border: 1px solid #555; vertical-align: -.05em; margin-right: .25em; }
 details { margin: .25rem 0; } summary { cursor: pointer; color: #2f5f94; }
+td bdi { overflow-wrap: break-word; } td { max-width: 24rem; }
+.before { padding: .1rem .7rem .55rem; background: #fff; border-radius: 4px; }
 .wide { overflow-x: auto; } table { border-collapse: collapse; font-size: .9rem; } th, td { text-align: left; padding: .15rem .8rem .15rem 0; vertical-align: top; }
 th { font-weight: 600; color: #4a5058; white-space: nowrap; } tr.new td { background: #e9f6ec; } tr.other td { background: #fdf5dc; }
 pre { white-space: pre-wrap; overflow-wrap: anywhere; background: #f1f3f5; padding: .5rem; margin: .3rem 0; border-radius: 4px; }
@@ -72,6 +77,22 @@ def value(key, it):
     return said(it) if isinstance(it, bytes) else html.escape(str(it))
 
 
+def behind(word, rest):
+    """What stands behind the words of a deed."""
+    first, _, others = rest.partition(b" ")
+    if word in WORDS_ALONE or not rest:
+        return ""
+    if word in FIRST_ALONE:
+        return f" {name(first)}"
+    if word in FIRST_TO_SECOND:
+        return f" {name(first)} to {said(others)}"
+    if word in SAID_OF_NAME:
+        return f" {name(first)}: {said(others)}"
+    if word == "OPENBATTLE":
+        return f": {said(rest.split(TAB)[3])}" if rest.count(TAB) > 3 else ""
+    return f"{':' if word in ('SAYBATTLE', 'SAYBATTLEEX') else ''} {said(rest)}"
+
+
 class Page:
     """The page of some stories of one session each."""
 
@@ -87,23 +108,12 @@ class Page:
     def deed(self, story, it):
         """Who did what."""
         command, rest = it.line.command()
-        word = command.decode("ascii", "replace")
+        word, actor = command.decode("ascii", "replace"), self.who(story, it)
         if it.line.verb != b"send":
-            return f"{self.who(story, it)} {'connects' if it.line.verb == b'open' else 'is gone: the connection ended'}"
-        if word not in DEEDS or word == "JOIN" and rest in (b"", b"?"):
-            return f"{self.who(story, it)} sends a line that is none"
-        rest = shown.without_secrets(command, rest)
-        if word in WORDS_ALONE:
-            rest = b""
-        elif word in FIRST_ALONE:
-            rest = rest.partition(b" ")[0]
-        elif word == "OPENBATTLE":
-            sentences = rest.split(b"\t")
-            rest = sentences[3] if len(sentences) > 3 else b""
-        elif word in ("SAY", "SAYEX", "SAYPRIVATE"):
-            place, _, text = rest.partition(b" ")
-            return f"{self.who(story, it)} {DEEDS[word]} {name(place)}: {said(text)}"
-        return f"{self.who(story, it)} {DEEDS[word]}" + (f"{':' if word in ('SAYBATTLE', 'SAYBATTLEEX') else ''} {said(rest)}" if rest else "")
+            return f"{actor} {'connects' if it.line.verb == b'open' else 'is gone: the connection ended'}"
+        if word not in DEEDS or (word == "JOIN" and rest in (b"", b"?")):
+            return f"{actor} sends a line that is no command"
+        return f"{actor} {DEEDS[word]}{behind(word, shown.without_secrets(command, rest))}"
 
     def change(self, it):
         """One thing that came, went or is another."""
@@ -155,8 +165,10 @@ class Page:
         refusals = [told for told in it.told if word_of(told) in REFUSALS]
         kinds += ["refused"] if refusals else []
         anchor = f"p{number}-{it.place}"
-        parts = [f"<p>{self.deed(story, it)}</p>"]
-        parts += [f'<p class="refusal">is told: {said(re.sub(rb"^#[0-9]+ ", b"", told))}</p>' for told in refusals]
+        is_own = it.line.client == story.session.client
+        mark = '<span class="refusal">refused:</span> ' if refusals and is_own else ""
+        parts = [f"<p>{mark}{self.deed(story, it)}</p>"]
+        parts += [f'<p class="refusal">The player is told: {said(re.sub(rb"^#[0-9]+ ", b"", told))}</p>' for told in refusals]
         if it.has_left:
             parts.append("<p>The player is in no room any more.</p>")
         if it.changes:
@@ -182,10 +194,12 @@ class Page:
         when = f", {html.escape(times[0])} to {html.escape(times[1])}" if all(times) else ""
         about = (f"client {session.client} from {html.escape(session.address)}, record {html.escape(shown.text(str(story.record.folder)))}, "
                  f"places {story.begin} to {story.end - 1}{when}")
-        left = [f"{story.of_others} places at which the player was told of other users and battles alone"] if story.of_others else []
-        left += [f"{story.private} of private talk (<code>--private</code> shows them)"] if story.private else []
-        out = f'<p class="about">Left out: {", ".join(left)}.</p>' if left else ""
-        start = f"<p>Before the first of these places:</p>{self.room(story.start, [], ('s' + str(number), story.begin), True)}" if story.start else ""
+        left = [f"{story.of_others} at which the player was told of other users and battles alone"] if story.of_others else []
+        left += [f"{story.private} with private talk (<code>--private</code> shows it)"] if story.private else []
+        out = f'<p class="about">Places left out: {", ".join(left)}.</p>' if left else ""
+        start = ""
+        if story.start:
+            start = f'<div class="before"><p>Before the first of these places:</p>{self.room(story.start, [], (f"s{number}", story.begin), True)}</div>'
         items = "\n".join(self.happening(story, it, number) for it in story.happenings) or "<li>Nothing happened to this player then.</li>"
         self.parts.append(f'<section id="s{number}"><h2>{who}</h2><p class="about">{about}.</p>{out}{start}<ol>{items}</ol></section>')
 

@@ -94,7 +94,8 @@ def changed_fields(old, new):
 
 def changes(old, new):
     """How a room became another: what came, what went, and of what is another its fields, each with the list that it is of."""
-    found = [("is", "battle", None, [it]) for it in changed_fields(old.battle, new.battle)]
+    of_battle = changed_fields(old.battle, new.battle)
+    found = [("is", "battle", None, of_battle)] if of_battle else []
     for name, word in LISTS.items():
         before, after = old.lists[name], new.lists[name]
         found += [("gone", word, it, [(key, value, None) for key, value in before[it].items()]) for it in before if it not in after]
