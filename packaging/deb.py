@@ -1,5 +1,5 @@
 #!/usr/bin/env python3
-"""Makes the Debian packages, out of what install.sh installs, into out/.
+"""deb.py [--version] : makes the Debian packages, out of what install.sh installs, into out/, or says of which version they would be.
 
 The version is the newest number of CHANGELOG.md; where that has changes behind it, with the time and name of the last commit behind a
 `+`, which Debian takes for newer than the number alone."""
@@ -23,7 +23,8 @@ CONFIGURATION = "etc/rudderraisin"
 # The packages. Each takes files from where install.sh lays them to their places in it; the server's has all that no other takes.
 SERVER = "rudderraisin"
 FILES: dict[str, dict[str, str]] = {
-    SERVER: {},
+    # Settings and accounts are no files of the package: its script makes them where they are not there, and nobody is asked about them.
+    SERVER: {f"{CONFIGURATION}/{it}": f"usr/share/rudderraisin/{it}" for it in ("lobby.toml", "accounts.toml")},
     # Its settings are no file of the package: its script makes them, of those of the package that it comes in place of.
     "rudderraisin-gateway": {f"{CONFIGURATION}/gateway.conf": "usr/share/rudderraisin-gateway/gateway.conf", **{it: it for it in [
         "usr/bin/rudderraisin_gateway", "usr/bin/rudderraisin_gatewayctl", "usr/lib/systemd/system/rudderraisin-gateway.service",
@@ -39,7 +40,8 @@ def fields(name, programs):
         return {"Architecture": "all", "Section": "oldlibs", "Depends": TRANSITIONAL[name]}
     architecture = output("dpkg", "--print-architecture")
     return {
-        SERVER: {"Architecture": architecture, "Depends": f"{libc(programs)}, adduser", "Suggests": "rudderraisin-gateway"},
+        SERVER: {"Architecture": architecture, "Depends": f"{libc(programs)}, adduser, python3 (>= 3.11)",
+                 "Suggests": "rudderraisin-gateway"},
         "rudderraisin-gateway": {"Architecture": architecture, "Recommends": "openssl", "Suggests": SERVER,
                                  "Breaks": f"rudderraisin-front (<< {version()})", "Replaces": f"rudderraisin-front (<< {version()})"},
     }[name]
@@ -141,6 +143,8 @@ def move(places, source, target):
         if (source / it).is_symlink() or (source / it).exists():
             (target / place).parent.mkdir(parents=True, exist_ok=True)
             shutil.move(source / it, target / place)
+            if place.startswith("usr/share/"):
+                (target / place).chmod(0o644)
 
 
 def binaries(stage):
@@ -150,6 +154,9 @@ def binaries(stage):
 
 
 def main():
+    if sys.argv[1:] == ["--version"]:
+        print(version())
+        return 0
     if not shutil.which("dpkg-deb"):
         sys.exit("there is no dpkg-deb, which makes the packages: install dpkg")
     os.environ.setdefault("SOURCE_DATE_EPOCH", output("git", "log", "-1", "--format=%ct") or "0")

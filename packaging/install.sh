@@ -6,6 +6,8 @@ set -euo pipefail
 root=$(cd "$(dirname "$0")/.." && pwd)
 prefix=${PREFIX:-/usr/local}
 bin=$prefix/bin
+library=$prefix/lib/rudderraisin
+share=$prefix/share/rudderraisin
 configuration=${SYSCONFDIR:-$prefix/etc}/rudderraisin
 documents=$prefix/share/doc/rudderraisin
 to=${DESTDIR:-}
@@ -27,14 +29,29 @@ gather() {
     put 644 "$room/lobby.toml" "$configuration/lobby.toml"
     put 640 "$room/accounts.toml" "$configuration/accounts.toml"
     put 644 "$root/packaging/gateway.conf" "$configuration/gateway.conf"
-    for file in "$root"/packaging/*.service; do
-        sed "s|@BIN@|$bin|g; s|@CONFIGURATION@|$configuration|g" "$file" > "$room/unit"
+    for file in "$root"/packaging/*.service "$root"/packaging/*.timer; do
+        sed "s|@BIN@|$bin|g; s|@LIBRARY@|$library|g; s|@CONFIGURATION@|$configuration|g" "$file" > "$room/unit"
         put 644 "$room/unit" "$prefix/lib/systemd/system/${file##*/}"
     done
     for file in "$root"/{README,CHANGELOG}.md "$root"/docs/{OPERATING,PROTOCOL}.md; do put 644 "$file" "$documents/${file##*/}"; done
     for file in "$root"/examples/*; do put 644 "$file" "$documents/examples/${file##*/}"; done
+    gather_tools
     mkdir -p "$room/all$bin"
     ln -s "$gateway" "$room/all$bin/${gateway}ctl"
+}
+
+# gather_tools : lays out what operators use that is in Python, and what the unit of the server runs.
+gather_tools() {
+    local version name file
+    version=$("$root/packaging/deb.py" --version)
+    for name in lobby_account lobby_record; do
+        sed "1s|/usr/bin/env python3|$(if [ "$prefix" = /usr ]; then echo /usr/bin/python3; else echo /usr/bin/env python3; fi)|
+            s|^VERSION = .*|VERSION = \"$version\"|; s|^CONFIGURATION = .*|CONFIGURATION = \"$configuration\"|
+            s|^LIBRARY = .*|LIBRARY = \"$share\"|" "$root/operator/$name.py" > "$room/tool"
+        put 755 "$room/tool" "$bin/$name"
+    done
+    for file in "$root"/operator/record_tool/*.py; do put 644 "$file" "$share/record_tool/${file##*/}"; done
+    put 755 "$root/packaging/greeted.sh" "$library/greeted.sh"
 }
 
 # find_program NAME : prints the path of a program, which may have to be built.
@@ -96,7 +113,7 @@ uninstall)
         rm -f "$to$place"
     done
     "$root/packaging/pages.py" | while read -r page; do rm -f "$to$prefix/share/man/man${page##*.}/$page"; done
-    for folder in "$configuration" "$documents/examples" "$documents"; do rmdir "$to$folder" 2> /dev/null || true; done
+    for folder in "$configuration" "$documents/examples" "$documents" "$share/record_tool" "$share" "$library"; do rmdir "$to$folder" 2> /dev/null || true; done
     ;;
 *) echo "usage: install.sh install|uninstall" >&2; exit 1 ;;
 esac
