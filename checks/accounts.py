@@ -202,6 +202,7 @@ def check_broken():
             ("a name twice", f"{ONE}\n{ONE}", ":6: account 2 has the name")):
         with Room(text) as room:
             room.refuses(what, "add", "Ben", password=b"p\n", told=[f"{room.file}{told}"])
+            room.refuses(f"{what}, where nothing is to be changed", "enable", "Anna", told=[f"{room.file}{told}"])
     with Room("[[account]]\nname = '''\nAnna'''\npassword = \"" + WORD + '"\nid = 1\n') as room:
         # lobby_check takes it: TOML drops the LF behind the quotes.
         room.refuses("a value of two lines", "password", "Bert", password=b"p\n", told=["no account is named Bert"])

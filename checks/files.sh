@@ -10,7 +10,7 @@ failed=0
 room=$(mktemp -d)
 trap 'rm -rf "$room"' EXIT
 
-settings='settings: address 127.0.0.1:8200, workers 4
+settings='settings: address 127.0.0.1:8200, workers 1
 memory: some 2863 bytes a client, and some 4194304 more for one that does not read
 memory: some 41971 MB if 10000 clients read nothing, and more where buffers have room to spare'
 accounts='accounts: 3 can log in'

@@ -48,7 +48,8 @@ made() { PROGRAMS=$room/programs make -s "$@" >> "$room/log" 2>&1 || { cat "$roo
 
 # Everything lies below DESTDIR, where the programs are told it is without it.
 made install DESTDIR="$room/staged" PREFIX=/usr SYSCONFDIR=/etc
-for file in usr/bin/lobby_main usr/lib/systemd/system/rudderraisin.service etc/rudderraisin/accounts.toml usr/share/doc/rudderraisin/README.md; do
+for file in usr/bin/lobby_main usr/bin/lobby_account usr/bin/lobby_record usr/lib/systemd/system/rudderraisin.service \
+    usr/lib/systemd/system/rudderraisin-record-pack.timer etc/rudderraisin/accounts.toml usr/share/doc/rudderraisin/README.md; do
     tells "$file is installed" test -f "$room/staged/$file"
 done
 tells 'the unit names its program' grep -q ' /usr/bin/lobby_main serve /etc/rudderraisin/lobby.toml ' "$room/staged/usr/lib/systemd/system/rudderraisin.service"
@@ -68,14 +69,21 @@ tells 'the files name what is installed' test -z "$(grep -l 'make hash\|[^/]docs
 tells 'the files are good, and nobody can log in yet' grep -qx 'accounts: 0 can log in' <("$top/bin/lobby_check" "$files/lobby.toml" "$files/accounts.toml")
 port=$(cd checks && python3 -c 'import lobby_server; print(lobby_server.free_port())')
 sed -i "s/^address = .*/address = \"127.0.0.1:$port\"/" "$files/lobby.toml"
+tells 'an account is made' grep -qx 'Anna is added, with id 1' <(echo password | "$top/bin/lobby_account" add Anna)
+tells 'it can log in' grep -qx 'accounts: 1 can log in' <("$top/bin/lobby_check" "$files/lobby.toml" "$files/accounts.toml")
+for name in lobby_account lobby_record; do
+    tells "$name says its version" grep -q "^$name [0-9]" <("$top/bin/$name" --version)
+done
+mkdir "$room/records"
+tells 'lobby_record finds what it is made of' grep -q 'there is no record' <("$top/bin/lobby_record" find Anna "$room/records" 2>&1)
 word=$(echo password | "$top/bin/lobby_main" hash)
-for number in {1..200}; do printf '[[account]]\nname = "u%d"\npassword = "%s"\nid = %d\n' "$number" "$word" "$number"; done >> "$files/accounts.toml"
+for number in {1..200}; do printf '[[account]]\nname = "u%d"\npassword = "%s"\nid = %d\n' "$number" "$word" "$((number + 1))"; done >> "$files/accounts.toml"
 cp -r "$files" "$room/changed"
 made install PREFIX="$top"
 tells 'what was changed stays' diff -r "$room/changed" "$files"
 
 if command -v systemd-analyze > /dev/null; then
-    tells 'the units are good' systemd-analyze verify --man=no "$top"/lib/systemd/system/*.service
+    tells 'the units are good' systemd-analyze verify --man=no "$top"/lib/systemd/system/*.{service,timer}
     for file in "$top"/lib/systemd/system/*.service; do
         tells "${file##*/} shuts its program in" quietly systemd-analyze security --offline=true --threshold=20 "$file"
     done
@@ -106,6 +114,22 @@ start() {
     cd - > /dev/null
 }
 
+# greeted : whether the start is over, and the server greets, as the unit finds out.
+greeted() { (export MAINPID=$server && eval "timeout 90 $(commands ExecStartPost | sed 's/^+//')") 2> "$room/why"; }
+
+# fails STATUS WHY : whether a start fails for this reason, and the server has ended with this status.
+fails() {
+    local status=0
+    if greeted || ! grep -q "$2" "$room/why"; then return 1; fi
+    kill_rest
+    wait "$server" || status=$?
+    server=
+    [ "$status" -eq "$1" ]
+}
+
+# ignores_limit : whether the server ignores the signal that tells of a limit of file sizes, which is number 25.
+ignores_limit() { [ $(((16#$(sed -n 's/^SigIgn:[[:space:]]*//p' "/proc/$server/status") >> 24) & 1)) -eq 1 ]; }
+
 # stop : stops it as the unit does, and tells whether it ended in order.
 stop() {
     local status=0
@@ -127,15 +151,18 @@ answers() {
 }
 
 start "$room/told"
+tells 'a start is over when the server greets' greeted
 tells 'the server answers' answers
+tells 'a record that meets a limit of file sizes does not end it' ignores_limit
 checks/readers.py "$port" 200 "$room/talked" &
 crowd=$!
 until [ -e "$room/talked" ] || ! kill -0 "$crowd" 2> /dev/null; do sleep 0.1; done
 tells 'the server stops in order' stop
 tells '200 clients talk, and read to the end' wait "$crowd"
 tells 'it tells operators that it started' grep -q '^started version=.* accounts=' "$room/told"
-tells 'it says what its workers did' grep -q '^stopped worker=3 events=[1-9]' "$room/told"
-tells 'it tells nothing else' test "$(grep -cv '^started version=\|^stopped worker=' "$room/told")" -eq 0 -a ! -s "$room/out"
+tells 'it says what its workers did' grep -q '^stopped worker=0 events=[1-9]' "$room/told"
+tells 'it tells nothing else' test "$(grep -cv '^started version=\|^stopped worker=' "$room/told")" -eq 0
+tells 'what is printed is what lobby_check says' cmp -s "$room/out" <("$top/bin/lobby_check" "$files/lobby.toml" "$files/accounts.toml")
 
 # Where its log takes nothing, or nobody reads it, it stops all the same.
 start /dev/full
@@ -148,6 +175,27 @@ start "$room/unread"
 tells 'the server answers though nobody reads its log' answers
 kill "$reader"
 tells 'it stops though nobody reads its log' stop
+
+# A start that fails is told, also where another server greets at the address.
+sed -i 's/^workers = 1/workers = 0/' "$files/lobby.toml"
+start "$room/told"
+tells 'a start by a file that is refused fails' fails 2 'the server has ended'
+sed -i 's/^workers = 0/workers = 1/' "$files/lobby.toml"
+python3 -c '
+import socket, sys
+with socket.create_server(("127.0.0.1", int(sys.argv[1]))) as server:
+    while True:
+        server.accept()[0].send(b"TASSERVER 0.38 * 8201 0\n")
+' "$port" &
+other=$!
+tells 'another server answers' answers
+start "$room/told"
+tells 'a start at an address in use fails' fails 3 'the server has ended'
+kill "$other"
+wait "$other" 2> /dev/null || true
+start "$room/told"
+tells 'the server answers at the address that is free again' greeted
+tells 'the server stops behind starts that failed' stop
 
 # A stop may come before what holds the server's input has heard of it.
 mkdir "$room/late"

@@ -83,7 +83,7 @@ make_pages() {
         echo "there is no pandoc, which makes the manual pages: they are left out" >&2
         return
     fi
-    "$root/packaging/pages.py" "$room/pages"
+    CONFIGURATION=$configuration DOCUMENTS=$documents "$root/packaging/pages.py" "$room/pages"
     for page in "$room"/pages/*; do put 644 "$page" "$prefix/share/man/man${page##*.}/${page##*/}"; done
 }
 
