@@ -173,7 +173,7 @@ def show(options):
         for session in mine:
             name = shown.text(session.name) if session.name is not None else "not logged in"
             print(f"{record.folder}: client {session.client} from {session.address}, {name}")
-            places = [it.place for it in record.lines() if max(begin, session.first) <= it.place < min(end, session.last + 1)]
+            places = [it.place for it in record.lines(max(begin, session.first), min(end, session.last + 1))]
             start = places[0] if places else 0
             answers = record.answers([(start, "show", session.client), *((it + 1, "show", session.client) for it in places)])
             next(answers)

@@ -20,7 +20,8 @@ MARK = b"me \n"
 ESCAPE = re.compile(rb"\\(n|t|r|\\|x[0-9A-Fa-f]{2})")
 ESCAPED = {b"n": b"\n", b"t": b"\t", b"r": b"\r", b"\\": b"\\"}
 # Lines of other kinds, of which most are, put nothing for anybody.
-TELLING = re.compile(rb"(\d+) (open|send|shut) (\d+)(?: (.*))?\n")
+TELLING = re.compile(rb"(?m)^(\d+) (open|send|shut) (\d+)(?: (.*))?\n")
+BLOCK = 1 << 22
 TIMES = "times"
 
 
@@ -136,16 +137,22 @@ class Record:
 
     def lines_of(self, number):
         with self.file(number) as file:
-            for text in file:
-                found = TELLING.fullmatch(text)
-                if found:
+            rest = b""
+            while block := file.read(BLOCK):
+                text = rest + block
+                whole = text.rfind(b"\n") + 1
+                for found in TELLING.finditer(text, 0, whole):
                     yield int(found[1]), found[2], int(found[3]), found[4] or b""
+                rest = text[whole:]
 
-    def lines(self):
-        """The lines that may put something for somebody, by place."""
+    def lines(self, begin=0, end=1 << 64):
+        """The lines that may put something for somebody, by place, from one place up to and without another."""
         try:
             for it in heapq.merge(*map(self.lines_of, self.workers())):
-                yield Line(*it)
+                if it[0] >= end:
+                    break
+                if it[0] >= begin:
+                    yield Line(*it)
         except (OSError, EOFError) as error:
             raise Refused(f"{self.folder}: it cannot be read: {error}") from None
 

@@ -66,7 +66,7 @@ def touches_room(told, own):
 def happenings_of(story):
     """What the player did or was told at each place, and whether the room may be another behind it."""
     client = story.session.client
-    lines = [it for it in story.record.lines() if story.begin <= it.place < story.end]
+    lines = [*story.record.lines(story.begin, story.end)]
     if len(lines) > LINES:
         raise Refused(f"there are {len(lines)} places in it at which something was done: take a shorter time, as until place {lines[LINES].place}")
     answers = story.record.answers([(story.begin, "show", client), *((it.place + 1, "show", client) for it in lines)])
