@@ -1,7 +1,8 @@
 #!/usr/bin/env python3
-"""accounts.py [FOLDER]: has lobby_account add and change accounts in files of many forms, refuse what it cannot do, meet a full disk, be
-killed, and run beside others of its kind. What it leaves has to be the old file or the whole new one. The programs are those that the
-gate built, or those of a folder. At last the server lets in whom the file lets in."""
+"""accounts.py [FOLDER]: has lobby_account add and change accounts in files of many forms, refuse what it cannot do,
+meet a full disk, be killed, and run beside others of its kind. What it leaves has to be the old file or the whole new
+one. The programs are those that the gate built, or those of a folder. At last the server lets in whom the file lets
+in."""
 import base64
 import contextlib
 import fcntl
@@ -16,6 +17,7 @@ import socket
 import subprocess
 import sys
 import tempfile
+import termios
 import time
 from pathlib import Path
 
@@ -72,55 +74,68 @@ class Room:
         return subprocess.run(self.call(*words), input=password, capture_output=True, timeout=120, check=False, **how)
 
     def start(self, *words, **how):
-        return subprocess.Popen(self.call(*words), stdin=subprocess.DEVNULL, stdout=subprocess.PIPE, stderr=subprocess.PIPE, **how)
+        return subprocess.Popen(self.call(*words), stdin=subprocess.DEVNULL, stdout=subprocess.PIPE,
+                                stderr=subprocess.PIPE, **how)
 
     def does(self, what, new, *words, told=(), **how):
         """It does so, the file is this, and it tells of these."""
         ran = self.run(*words, **how)
         new = new if isinstance(new, bytes) else new.encode()
-        is_so = ran.returncode == 0 and not ran.stderr and self.file.read_bytes() == new and all(it.encode() in ran.stdout for it in told)
-        tells(what, is_so and self.is_clean(), f"status {ran.returncode}, {ran.stdout + ran.stderr}, the file is\n{self.file.read_text()}")
+        is_told = ran.returncode == 0 and not ran.stderr and all(it.encode() in ran.stdout for it in told)
+        is_so = is_told and self.file.read_bytes() == new
+        tells(what, is_so and self.is_clean(),
+              f"status {ran.returncode}, {ran.stdout + ran.stderr}, the file is\n{self.file.read_text()}")
 
     def refuses(self, what, *words, told=(), status=1, **how):
         """It says why, and the file is as it was."""
         ran = self.run(*words, **how)
         is_so = ran.returncode == status and not ran.stdout and all(it.encode() in ran.stderr for it in told)
-        tells(what, is_so and self.file.read_bytes() == self.old and self.is_clean(), f"status {ran.returncode}, {ran.stdout + ran.stderr}")
+        tells(what, is_so and self.file.read_bytes() == self.old and self.is_clean(),
+              f"status {ran.returncode}, {ran.stdout + ran.stderr}")
 
     def is_clean(self):
         """Nothing lies there but what was brought."""
-        return {it.name for it in self.path.iterdir()} <= {"accounts.toml", "lobby.toml", "slow", "systemctl", "called", "target.toml"}
+        brought = {"accounts.toml", "lobby.toml", "slow", "systemctl", "called", "target.toml"}
+        return {it.name for it in self.path.iterdir()} <= brought
 
 
 def check_add():
     new = account("Ben", 5, word=word_of("secret"))
     with Room() as room:
-        room.does("an account is added behind the others", EXAMPLE + f"\n{new}".encode(), "add", "Ben", password=b"secret\n", told=["id 5", "restart"])
+        room.does("an account is added behind the others", EXAMPLE + f"\n{new}".encode(), "add", "Ben",
+                  password=b"secret\n", told=["id 5", "restart"])
         keys = "rank = 7", "access = true", "bot = true", 'country = "DE"'
         more = EXAMPLE + f"\n{new}\n".encode() + account("[x]_9", 77, *keys, word=word_of("p")).encode()
         words = "--id", "77", "--rank", "7", "--access", "--bot", "--country", "DE"
         room.does("an account is added with all keys", more, "add", "[x]_9", *words, password=b"p\r\n")
-    for text, number in ("", 1), ("# none yet\n", 1), (ONE + account("Z", 4294967295), 2), (ONE.replace("id = 1", "id = 0"), 1):
+    for text, number in (("", 1), ("# none yet\n", 1), (ONE + account("Z", 4294967295), 2),
+                         (ONE.replace("id = 1", "id = 0"), 1)):
         with Room(text) as room:
             between = "\n" if text else ""
-            room.does(f"the next free id is {number}", text + between + account("Ben", number, word=word_of("p")), "add", "Ben", password=b"p\n")
+            room.does(f"the next free id is {number}", text + between + account("Ben", number, word=word_of("p")),
+                      "add", "Ben", password=b"p\n")
     with Room(ONE.rstrip("\n")) as room:
-        room.does("a last line without its end gets one", f"{ONE}\n" + account("Ben", 2, word=word_of("p")), "add", "Ben", password=b"p")
+        room.does("a last line without its end gets one", f"{ONE}\n" + account("Ben", 2, word=word_of("p")), "add",
+                  "Ben", password=b"p")
     with Room(ONE.replace("\n", "\r\n")) as room:
         new = f"{ONE}\n" + account("Ben", 2, word=word_of("p"))
         room.does("lines that end with CR LF stay so", new.replace("\n", "\r\n"), "add", "Ben", password=b"p\n")
     with Room(ONE) as room:
         new = f"{ONE}\n" + account("anna", 2, word=word_of("p"))
-        room.does("a name that differs in case alone is told", new, "add", "anna", password=b"p\n", told=["Anna differs from anna in case alone"])
+        room.does("a name that differs in case alone is told", new, "add", "anna", password=b"p\n",
+                  told=["Anna differs from anna in case alone"])
 
 
 def check_refused_adds():
     with Room() as room:
         for name in "", "a b", "ä", "x" * 21, 'a"', "a\n", "a-b", "../a":
             room.refuses(f"{name!r} is no name", "add", name, password=b"p\n", told=["is no name of an account"])
-        room.refuses("a name that is there, with its line", "add", "Bert", password=b"p\n", told=[f"{room.file}:20:", "Bert already"])
-        room.refuses("an id that is there, with its line", "add", "Ben", "--id", "3", password=b"p\n", told=[f"{room.file}:26:", "id 3"])
-        for words in ("--rank", "8"), ("--rank", "-1"), ("--country", "de"), ("--country", '"\nx = "'), ("--id", "4294967296"), ("--id=-1",):
+        room.refuses("a name that is there, with its line", "add", "Bert", password=b"p\n",
+                     told=[f"{room.file}:20:", "Bert already"])
+        room.refuses("an id that is there, with its line", "add", "Ben", "--id", "3", password=b"p\n",
+                     told=[f"{room.file}:26:", "id 3"])
+        for words in (("--rank", "8"), ("--rank", "-1"), ("--country", "de"), ("--country", '"\nx = "'),
+                      ("--id", "4294967296"), ("--id=-1",)):
             room.refuses(f"{words} is refused", "add", "Ben", *words, password=b"p\n", told=[str(room.file)])
         room.refuses("an empty password", "add", "Ben", password=b"\n", told=["the password is empty"])
         room.refuses("no password", "add", "Ben", told=["the password is empty"])
@@ -138,7 +153,8 @@ def check_changes():
         room.does("an account is enabled, and its comment stays where it is", "\n".join(lines), "enable", "Dora")
         lines.insert(32, "disabled = true")
         room.does("an account is disabled", "\n".join(lines), "disable", "Cleo", told=["Cleo is disabled"])
-        room.does("one that is disabled stays so", "\n".join(lines), "disable", "Cleo", told=["Cleo is disabled already"])
+        room.does("one that is disabled stays so", "\n".join(lines), "disable", "Cleo",
+                  told=["Cleo is disabled already"])
         room.does("one that is enabled stays so", "\n".join(lines), "enable", "Anna", told=["Anna is enabled already"])
         room.bring("\n".join(lines))
         room.refuses("a name that no account has", "disable", "Nobody", told=["no account is named Nobody"])
@@ -166,7 +182,8 @@ def check_format():
     for what, old, new in (
             ("a file without a format gets one", ONE, f"format = 2\n\n{disabled}"),
             ("format 1 becomes 2", f"format = 1 # old\n{ONE}", f"format = 2 # old\n{disabled}"),
-            ("the format stands behind the comment at the head", f"# Mine\n# all\n\n# Anna\n{ONE}", f"# Mine\n# all\n\nformat = 2\n\n# Anna\n{disabled}"),
+            ("the format stands behind the comment at the head", f"# Mine\n# all\n\n# Anna\n{ONE}",
+             f"# Mine\n# all\n\nformat = 2\n\n# Anna\n{disabled}"),
             ("a comment of the first account stays with it", f"# Anna\n{ONE}", f"format = 2\n\n# Anna\n{disabled}")):
         with Room(old) as room:
             room.does(what, new, "disable", "Anna", told=told)
@@ -175,7 +192,8 @@ def check_format():
         new = f"format = 2\n\n{disabled}\n{other}\n[default]\nrank = 1\n"
         words = [*told, "`disabled = true` in line 10 holds too: Bert", "[default] in line 12 holds too"]
         ran = room.run("list")
-        tells("list says that `disabled` does not hold in format 1", f"{room.file}:10: Bert can log in all the same".encode() in ran.stdout, ran.stdout)
+        tells("list says that `disabled` does not hold in format 1",
+              f"{room.file}:10: Bert can log in all the same".encode() in ran.stdout, ran.stdout)
         room.does("what format 1 passed over is told where it comes to hold", new, "disable", "Anna", told=words)
     with Room(f"{ONE}[default]\nrank = 9\n") as room:
         room.refuses("what format 1 passed over and format 2 refuses", "disable", "Anna", told=[str(room.file)])
@@ -185,7 +203,8 @@ def check_list():
     with Room(EXAMPLE + account("Mod", 9, "access = true", "bot = true").encode()) as room:
         ran = room.run("list")
         rows = [it.split() for it in ran.stdout.decode().splitlines()]
-        wanted = [["id", "name", "rank", "country", "marks", "line"], ["1", "Anna", "0", "DE", "-", "14"], ["2", "Bert", "3", "??", "-", "20"],
+        wanted = [["id", "name", "rank", "country", "marks", "line"], ["1", "Anna", "0", "DE", "-", "14"],
+                  ["2", "Bert", "3", "??", "-", "20"],
                   ["3", "Cleo", "0", "FR", "-", "26"], ["4", "Dora", "0", "??", "disabled", "34"],
                   ["9", "Mod", "0", "??", "moderator,", "bot", "39"]]
         tells("the accounts are listed", ran.returncode == 0 and rows == wanted, ran.stdout.decode())
@@ -197,7 +216,8 @@ def check_broken():
             ("a line that is not TOML", f"{ONE}\nname = Ben\n", ":6: the line is not TOML"),
             ("a text without its end", f'{ONE}\n[[account]]\nname = "Ben\n', ":7: the line is not TOML"),
             ("a byte that is not UTF-8", ONE.encode() + b"# caf\xe9\n", ":5: the line is not UTF-8"),
-            ("accounts in one line", 'account = [{name = "Anna", password = "' + WORD + '", id = 1}]\n', ":1: lobby_account finds"),
+            ("accounts in one line", 'account = [{name = "Anna", password = "' + WORD + '", id = 1}]\n',
+             ":1: lobby_account finds"),
             ("an account that lobby_check refuses", f"{ONE}\n{account('Bert', 2)}rank = 8\n", ":6: a key of account 2"),
             ("a name twice", f"{ONE}\n{ONE}", ":6: account 2 has the name")):
         with Room(text) as room:
@@ -211,7 +231,8 @@ def check_broken():
     with Room() as room:
         room.file.unlink()
         ran = room.run("list")
-        tells("a file that is not there", ran.returncode == 1 and f"{room.file}: the file cannot be read".encode() in ran.stderr)
+        tells("a file that is not there", ran.returncode == 1
+              and f"{room.file}: the file cannot be read".encode() in ran.stderr)
 
 
 def as_nobody():
@@ -233,10 +254,12 @@ def check_permission(folder):
             shutil.copy(it, copy / it.name)
         room.path.chmod(0o755)
         words = {**os.environ, **{it.upper(): str(copy / it) for it in ("lobby_check", "lobby_main")}}
-        for what, mode, told in ("reads", 0o600, "cannot be read: Permission denied: try it as root"), ("writes", 0o644, "cannot be written"):
+        for what, mode, told in (("reads", 0o600, "cannot be read: Permission denied: try it as root"),
+                                 ("writes", 0o644, "cannot be written")):
             room.file.chmod(mode)
             call = [python, copy / TOOL.name, *room.call("add", "Ben")[2:]]
-            ran = subprocess.run(call, input=b"p\n", capture_output=True, preexec_fn=as_nobody, env=words, cwd="/", timeout=60, check=False)
+            ran = subprocess.run(call, input=b"p\n", capture_output=True, preexec_fn=as_nobody, env=words, cwd="/",
+                                 timeout=60, check=False)
             is_so = ran.returncode == 1 and told.encode() in ran.stderr and room.file.read_bytes() == room.old
             tells(f"who never {what} it is told so", is_so, ran.stderr)
 
@@ -245,12 +268,13 @@ def check_terminal():
     for second, is_good in (b"secret\n", True), (b"sacred\n", False):
         with Room(ONE) as room:
             main, terminal = pty.openpty()
-            ran = subprocess.Popen(room.call("add", "Ben"), stdin=terminal, stdout=terminal, stderr=terminal, start_new_session=True,
-                                   preexec_fn=lambda: fcntl.ioctl(0, 0x540E, 0))     # TIOCSCTTY: it is the terminal of the session
+            ran = subprocess.Popen(room.call("add", "Ben"), stdin=terminal, stdout=terminal, stderr=terminal,
+                                   start_new_session=True, preexec_fn=lambda: fcntl.ioctl(0, termios.TIOCSCTTY, 0))
             os.close(terminal)
             shown = b""
             for prompt, answer in (b"Password of Ben: ", b"secret\n"), (b"The same again: ", second), (b"", b""):
-                while ran.poll() is None and (not prompt or prompt not in shown) and select.select([main], [], [], PATIENCE)[0]:
+                while ran.poll() is None and (not prompt or prompt not in shown):
+                    select.select([main], [], [], PATIENCE)
                     with contextlib.suppress(OSError):
                         shown += os.read(main, 4096)
                 os.write(main, answer)
@@ -264,13 +288,15 @@ def check_terminal():
             tells("a terminal does not show the password", b"secret" not in shown and b"sacred" not in shown, shown)
             added = f"{ONE}\n{account('Ben', 2, word=word_of('secret'))}" if is_good else ONE
             told = b"Ben is added" if is_good else b"the two passwords differ"
-            tells("a terminal asks twice", status == (0 if is_good else 1) and room.file.read_text() == added and told in shown, shown)
+            tells("a terminal asks twice", status == (0 if is_good else 1) and room.file.read_text() == added
+                  and told in shown, shown)
 
 
 def slow(room, what="sleep 30", first=""):
     """The environment in which lobby_check, called for the new file, first does something else."""
     script = room.path / "slow"
-    script.write_text(f'#!/bin/sh\ncase $2 in *.new) : > "{room.path}/called"; {what};; esac\nexec {os.environ["LOBBY_CHECK"]} "$@"\n')
+    script.write_text(f'#!/bin/sh\ncase $2 in *.new) : > "{room.path}/called"; {what};; esac\nexec '
+                      f'{os.environ["LOBBY_CHECK"]} "$@"\n')
     script.chmod(0o755)
     return {**os.environ, "LOBBY_CHECK": str(script)}
 
@@ -284,14 +310,16 @@ def wait_for(path):
 
 def check_killed():
     new = f"format = 2\n\n{ONE}disabled = true\n"
-    for number, is_clean in (signal.SIGKILL, False), (signal.SIGTERM, True), (signal.SIGINT, True), (signal.SIGHUP, True):
+    for number in signal.SIGKILL, signal.SIGTERM, signal.SIGINT, signal.SIGHUP:
+        is_clean = number != signal.SIGKILL
         with Room(ONE) as room:
             ran = room.start("disable", "Anna", env=slow(room))
             is_begun = wait_for(room.path / "called")
             ran.send_signal(number)
             ran.communicate(timeout=PATIENCE)
             is_left = (room.path / ".accounts.toml.new").exists()
-            tells(f"one that is ended by {number.name} leaves the old file", is_begun and room.file.read_text() == ONE and is_left != is_clean)
+            tells(f"one that is ended by {number.name} leaves the old file", is_begun and room.file.read_text() == ONE
+                  and is_left != is_clean)
             room.does(f"behind one that was ended by {number.name} another works", new, "disable", "Anna")
     with Room(ONE) as room:
         for delay in range(24):
@@ -306,7 +334,8 @@ def check_killed():
 
 def check_two():
     with Room(ONE) as room:
-        all_of_them = [subprocess.Popen(room.call("add", f"u{it}"), stdin=subprocess.PIPE, stdout=subprocess.PIPE, stderr=subprocess.PIPE)
+        all_of_them = [subprocess.Popen(room.call("add", f"u{it}"), stdin=subprocess.PIPE, stdout=subprocess.PIPE,
+                                        stderr=subprocess.PIPE)
                        for it in range(8)]
         for it in all_of_them:
             it.stdin.write(b"p\n")
@@ -314,7 +343,8 @@ def check_two():
         is_good = all([it.wait(120) == 0 for it in all_of_them])
         rows = [it.split() for it in room.run("list").stdout.decode().splitlines()[1:]]
         wanted = {"Anna", *(f"u{it}" for it in range(8))}
-        tells("eight at once add eight", is_good and {it[1] for it in rows} == wanted and [it[0] for it in rows] == [str(it) for it in range(1, 10)], rows)
+        tells("eight at once add eight", is_good and {it[1] for it in rows} == wanted
+              and [it[0] for it in rows] == [str(it) for it in range(1, 10)], rows)
     with Room(ONE) as room:
         handle = os.open(room.path, os.O_RDONLY)
         fcntl.flock(handle, fcntl.LOCK_EX)
@@ -326,13 +356,15 @@ def check_two():
         ran.communicate()
     with Room(ONE) as room:
         ran = room.run("disable", "Anna", env=slow(room, f'echo "# by hand" >> "{room.file}"'))
-        is_so = ran.returncode == 1 and b"somebody else changed it" in ran.stderr and room.file.read_text() == f"{ONE}# by hand\n"
+        is_told = ran.returncode == 1 and b"somebody else changed it" in ran.stderr
+        is_so = is_told and room.file.read_text() == f"{ONE}# by hand\n"
         tells("what somebody writes meanwhile stays", is_so and room.is_clean(), ran.stderr)
 
 
 def check_full_disk():
     with Room(ONE) as room:
-        if subprocess.run(["mount", "-t", "tmpfs", "-o", "size=64k", "tmpfs", room.path], capture_output=True, check=False).returncode:
+        if subprocess.run(["mount", "-t", "tmpfs", "-o", "size=64k", "tmpfs", room.path], capture_output=True,
+                          check=False).returncode:
             print("accounts: a full disk: this user may not mount one")
             return
         try:
@@ -341,7 +373,8 @@ def check_full_disk():
             with contextlib.suppress(OSError), (room.path / "called").open("wb", buffering=0) as rest:
                 while True:
                     rest.write(bytes(512))
-            room.refuses("a full disk", "disable", "Anna", told=[f"{room.file}: the file cannot be written: No space left"])
+            room.refuses("a full disk", "disable", "Anna",
+                         told=[f"{room.file}: the file cannot be written: No space left"])
         finally:
             subprocess.run(["umount", room.path], check=True)
 
@@ -354,15 +387,18 @@ def check_restart():
             (room.path / "systemctl").write_text(f'#!/bin/sh\necho "$@" >> "{called}"\nexit {status}\n')
             (room.path / "systemctl").chmod(0o755)
             room.file.write_text(ONE)
-            ran = room.run("password", "Anna", "--restart", password=b"p\n", env={**os.environ, "PATH": f"{room.path}:{os.environ['PATH']}"})
-            is_so = ran.returncode == wanted and word_of("p") in room.file.read_text() and all(it.encode() in ran.stdout + ran.stderr for it in told)
+            ran = room.run("password", "Anna", "--restart", password=b"p\n",
+                           env={**os.environ, "PATH": f"{room.path}:{os.environ['PATH']}"})
+            is_told = all(it.encode() in ran.stdout + ran.stderr for it in told)
+            is_so = ran.returncode == wanted and word_of("p") in room.file.read_text() and is_told
             tells(what, is_so, ran)
 
         restarts("the server is started anew", 0, 0, "rudderraisin is started anew")
         restarts("a start that fails is told", 1, 3, "journalctl -u rudderraisin")
         tells("it is systemctl that does it", called.read_text() == "restart rudderraisin\n" * 2, called.read_text())
         room.settings.write_text("workers = 1\n")
-        restarts("a server is not ended by settings that it would refuse", 0, 3, "not started anew", "`address` is missing")
+        restarts("a server is not ended by settings that it would refuse", 0, 3, "not started anew",
+                 "`address` is missing")
         tells("and systemctl was not called", called.read_text() == "restart rudderraisin\n" * 2, called.read_text())
 
 
@@ -379,11 +415,14 @@ def check_server():
     with Room() as room:
         port = free_port()
         room.settings.write_text(f'address = "{ADDRESS}:{port}"\nstop_at_input_end = true\nlog = "none"\n')
-        for words, given in (("add", "Ben"), b"secret\n"), (("password", "Bert"), b"other\n"), (("disable", "Cleo"), b""), (("enable", "Dora"), b""):
+        for words, given in ((("add", "Ben"), b"secret\n"), (("password", "Bert"), b"other\n"),
+                             (("disable", "Cleo"), b""), (("enable", "Dora"), b"")):
             room.run(*words, password=given)
-        with subprocess.Popen([os.environ["LOBBY_MAIN"], "serve", room.settings, room.file], stdin=subprocess.PIPE, stdout=subprocess.PIPE) as server:
+        with subprocess.Popen([os.environ["LOBBY_MAIN"], "serve", room.settings, room.file], stdin=subprocess.PIPE,
+                              stdout=subprocess.PIPE) as server:
             server.stdout.readline()
-            for name, given, wanted in (("Ben", "secret", b"ACCEPTED Ben\n"), ("Bert", "other", b"ACCEPTED Bert\n"), ("Dora", "password", b"ACCEPTED Dora\n"),
+            for name, given, wanted in (("Ben", "secret", b"ACCEPTED Ben\n"), ("Bert", "other", b"ACCEPTED Bert\n"),
+                                        ("Dora", "password", b"ACCEPTED Dora\n"),
                                         ("Bert", "password", b"DENIED Invalid username or password\n"),
                                         ("Cleo", "password", b"DENIED Invalid username or password\n")):
                 told = answer(port, name, given)
@@ -401,7 +440,8 @@ def main():
     with tempfile.TemporaryDirectory(prefix="lobby-accounts-") as programs:
         for name in "lobby_check", "lobby_main":
             shutil.copy(os.environ[name.upper()], programs)
-        for it in (check_add, check_refused_adds, check_changes, check_format, check_list, check_broken, check_terminal, check_killed, check_two,
+        for it in (check_add, check_refused_adds, check_changes, check_format, check_list, check_broken, check_terminal,
+                   check_killed, check_two,
                    check_full_disk, check_restart, check_server):
             it()
         check_permission(Path(programs))

@@ -1,8 +1,8 @@
 #!/usr/bin/env python3
 """lobby_account: adds and changes accounts in a lobby's file of accounts.
 
-Of the file it changes the lines that it must and no other: comments and order stay. What it writes, lobby_check has read before, and it
-takes the file's place at once: whatever fails, the old file is there."""
+Of the file it changes the lines that it must and no other: comments and order stay. What it writes, lobby_check has
+read before, and it takes the file's place at once: whatever fails, the old file is there."""
 import argparse
 import contextlib
 import copy
@@ -100,9 +100,11 @@ class Book:
     def accounts(self):
         """What each account says. Refuses a file in which they do not stand as this program finds them."""
         listed = self.says.get("account", [])
-        if not isinstance(listed, list) or not all(isinstance(it, dict) for it in listed) or len(listed) != len(self.entries):
+        is_list = isinstance(listed, list) and all(isinstance(it, dict) for it in listed)
+        if not is_list or len(listed) != len(self.entries):
             line = self.top.get("account", 0) + 1
-            raise Refused(f"{self.path}:{line}: lobby_account finds accounts alone that stand below a line [[account]] each")
+            raise Refused(f"{self.path}:{line}: lobby_account finds accounts alone that stand below a line "
+                          f"[[account]] each")
         return listed
 
     def number_of(self, name):
@@ -128,7 +130,8 @@ class Change:
         self.words = []         # what the user is to know of it
 
     def set_value(self, line, value):
-        """Puts a value in the place of that of a key, whose line has no other. A comment behind it keeps its column, if it can."""
+        """Puts a value in the place of that of a key, whose line has no other. A comment behind it keeps its column, if
+        it can."""
         text = self.lines[line]
         start = KEY.match(text).end()
         old = VALUE.match(text, start)
@@ -153,8 +156,10 @@ class Change:
             return
         book = self.book
         self.words.append(f"{book.path} has format = 2 now, without which `disabled` shuts nobody out")
-        others = [(entry.keys["disabled"], it.get("name")) for entry, it in zip(book.entries, book.accounts()) if it.get("disabled") is True]
-        self.words += [f"so `disabled = true` in line {line + 1} holds too: {name} can no longer log in" for line, name in others]
+        others = [(entry.keys["disabled"], it.get("name")) for entry, it in zip(book.entries, book.accounts())
+                  if it.get("disabled") is True]
+        self.words += [f"so `disabled = true` in line {line + 1} holds too: {name} can no longer log in"
+                       for line, name in others]
         if book.default is not None:
             self.words.append(f"so [default] in line {book.default + 1} holds too")
         self.says["format"] = 2
@@ -170,21 +175,24 @@ class Change:
     def add(self, keys):
         """Adds an account behind the others."""
         self.says.setdefault("account", []).append(keys)
-        written = {key: str(value).lower() if isinstance(value, (bool, int)) else f'"{value}"' for key, value in keys.items()}
+        written = {key: str(value).lower() if isinstance(value, (bool, int)) else f'"{value}"'
+                   for key, value in keys.items()}
         while self.lines and not self.lines[-1].strip():
             self.lines.pop()
         table = ["[[account]]", *(f"{key} = {value}" for key, value in written.items())]
         self.lines += ([self.book.end] if self.lines else []) + [it + self.book.end for it in table] + [""]
 
     def text(self):
-        """The new text. Refuses it where it does not say what it is to: the file is laid out in a way that is not changed so."""
+        """The new text. Refuses it where it does not say what it is to: the file is laid out in a way that is not
+        changed so."""
         text = "\n".join(self.lines)
         try:
             if tomllib.loads(text) == self.says:
                 return text
         except tomllib.TOMLDecodeError:
             pass
-        raise Refused(f"{self.book.path}: it is laid out in a way that lobby_account does not change: give each key a line of its own, "
+        raise Refused(f"{self.book.path}: it is laid out in a way that lobby_account does not change: give each key a "
+                      f"line of its own, "
                       "below [[account]], and change it by hand")
 
 
@@ -200,7 +208,7 @@ def locked(folder):
                 break
             except BlockingIOError:
                 if time.monotonic() > until:
-                    raise Refused(f"{folder}: another lobby_account has been changing the file for {PATIENCE} seconds") from None
+                    raise Refused(f"{folder}: another lobby_account has been at work for {PATIENCE} seconds") from None
                 time.sleep(0.05)
         yield handle
     finally:
@@ -209,27 +217,30 @@ def locked(folder):
 
 def checked(settings, accounts):
     """What lobby_check says of two files, and whether it takes them."""
-    ran = subprocess.run([program("lobby_check"), str(settings), str(accounts)], stdin=subprocess.DEVNULL, stdout=subprocess.PIPE,
-                         stderr=subprocess.STDOUT, check=False)
+    ran = subprocess.run([program("lobby_check"), str(settings), str(accounts)], stdin=subprocess.DEVNULL,
+                         stdout=subprocess.PIPE, stderr=subprocess.STDOUT, check=False)
     return ran.returncode == 0, ran.stdout.decode("utf-8", "replace").splitlines()
 
 
 def check(book, file):
-    """Refuses a file whose accounts lobby_check refuses. The settings are others, which are good: theirs may be mended later."""
+    """Refuses a file whose accounts lobby_check refuses. The settings are others, which are good: theirs may be mended
+    later."""
     with tempfile.TemporaryDirectory() as room:
         settings = Path(room) / "settings.toml"
         settings.write_text('address = "127.0.0.1:0"\n')
         is_good, told = checked(settings, file)
     if is_good:
         return
-    told = [it for it in told if not it.startswith(("settings:", "memory:"))] or ["lobby_check refuses it, and does not say why"]
+    told = [it for it in told if not it.startswith(("settings:", "memory:"))]
+    told = told or ["lobby_check refuses it, and does not say why"]
     lines = []
     for it in told:
         found = re.match(r"accounts: .*?\baccount (\d+)\b", it)
         number = int(found[1]) if found else 0
         at = f":{book.line_of(number - 1)}" if 0 < number <= len(book.entries) else ""
         said = it.removeprefix("accounts: ")
-        lines.append(f"{book.path}{at}: " + (said.replace(f"account {number}", "the new account") if number > len(book.entries) else said))
+        lines.append(f"{book.path}{at}: " + (said.replace(f"account {number}", "the new account")
+                                             if number > len(book.entries) else said))
     raise Refused("\n".join(lines))
 
 
@@ -269,7 +280,8 @@ def password_word(name):
         password = password.removesuffix(b"\n").removesuffix(b"\r")
     if not password:
         raise Refused("the password is empty")
-    ran = subprocess.run([program("lobby_main"), "hash"], input=password + b"\n", stdout=subprocess.PIPE, stderr=subprocess.DEVNULL, check=False)
+    ran = subprocess.run([program("lobby_main"), "hash"], input=password + b"\n", stdout=subprocess.PIPE,
+                         stderr=subprocess.DEVNULL, check=False)
     if ran.returncode:
         raise Refused("the password has more than 8192 bytes, or a line break")
     return ran.stdout.decode().strip()
@@ -302,7 +314,8 @@ def add(options, book, change, word):
     keys = {"name": name, "password": word, "id": number, "rank": options.rank, "access": options.access or None,
             "bot": options.bot or None, "country": options.country}
     change.add({key: value for key, value in keys.items() if value is not None})
-    change.words += [f"{it['name']} differs from {name} in case alone" for it in book.accounts() if str(it.get("name")).lower() == name.lower()]
+    change.words += [f"{it['name']} differs from {name} in case alone" for it in book.accounts()
+                     if str(it.get("name")).lower() == name.lower()]
     change.words.append(f"{name} is added, with id {number}")
 
 
@@ -338,14 +351,16 @@ def show_list(book):
         it = {"rank": 0, "country": "??", **default, **it}
         marks = [word for key, word in (("access", "moderator"), ("bot", "bot")) if it.get(key) is True]
         marks += ["disabled"] if book.is_disabled(number) else []
-        rows.append((it.get("id", "?"), it.get("name", "?"), it["rank"], it["country"], ", ".join(marks) or "-", book.line_of(number)))
+        rows.append((it.get("id", "?"), it.get("name", "?"), it["rank"], it["country"], ", ".join(marks) or "-",
+                     book.line_of(number)))
     widths = [max(len(str(row[column])) for row in rows) for column in range(len(rows[0]))]
     for row in rows:
         print("  ".join(str(cell).ljust(width) for cell, width in zip(row, widths)).rstrip())
     for entry, it in zip(book.entries, book.accounts()):
         if it.get("disabled") is True and not has_format_2:
             line = entry.keys.get("disabled", entry.line) + 1
-            print(f"{book.path}:{line}: {it.get('name')} can log in all the same: `disabled` wants `format = 2` at the head of the file")
+            print(f"{book.path}:{line}: {it.get('name')} can log in all the same: `disabled` wants `format = 2` at "
+                  f"the head of the file")
 
 
 def restart(options):
@@ -394,13 +409,18 @@ def run(options):
 def parsed():
     """What the arguments ask for."""
     shared = argparse.ArgumentParser(add_help=False)
-    shared.add_argument("--accounts", metavar="FILE", default=f"{CONFIGURATION}/accounts.toml", help="the file of accounts (%(default)s)")
+    shared.add_argument("--accounts", metavar="FILE", default=f"{CONFIGURATION}/accounts.toml",
+                        help="the file of accounts (%(default)s)")
     changes = argparse.ArgumentParser(add_help=False, parents=[shared])
-    changes.add_argument("--settings", metavar="FILE", default=f"{CONFIGURATION}/lobby.toml", help="the file of settings (%(default)s)")
-    changes.add_argument("--restart", action="store_true", help="start the server anew, which ends all battles and talk")
-    parser = argparse.ArgumentParser(prog="lobby_account", description="Adds and changes accounts of a lobby. A password is asked "
+    changes.add_argument("--settings", metavar="FILE", default=f"{CONFIGURATION}/lobby.toml",
+                         help="the file of settings (%(default)s)")
+    changes.add_argument("--restart", action="store_true",
+                         help="start the server anew, which ends all battles and talk")
+    parser = argparse.ArgumentParser(prog="lobby_account",
+                                     description="Adds and changes accounts of a lobby. A password is asked "
                                      "twice at a terminal, or is the first line of standard input.",
-                                     epilog="Exit status: 0 done, 1 refused and nothing changed, 2 wrong arguments, 3 changed, but the "
+                                     epilog="Exit status: 0 done, 1 refused and nothing changed, 2 wrong arguments, 3 "
+                                            "changed, but the "
                                      "server was not started anew")
     parser.add_argument("--version", action="version", version=f"lobby_account {VERSION}")
     commands = parser.add_subparsers(dest="command", required=True, metavar="COMMAND")

@@ -1,5 +1,6 @@
 #!/usr/bin/env python3
-"""lobby_record: reads what a server records: who was there, what each was sent, and what a player's room was at each place."""
+"""lobby_record: reads what a server records: who was there, what each was sent, and what a player's room was at each
+place."""
 import sys
 from pathlib import Path
 

@@ -1,9 +1,10 @@
 #!/usr/bin/env python3
-"""pages.py [FOLDER] : makes the manual pages out of the sections of the documents, by pandoc, into FOLDER, or names them.
+"""pages.py [FOLDER] : makes the manual pages out of the sections of the documents, by pandoc, into FOLDER, or names
+them.
 
-A page's synopsis is the block of code behind its first heading; what stands before the next heading is its description, and each
-heading further down is one of the page. Nothing stands here but each page's line of names and its files, whose folders are those of
-$CONFIGURATION and $DOCUMENTS."""
+A page's synopsis is the block of code behind its first heading; what stands before the next heading is its description,
+and each heading further down is one of the page. Nothing stands here but each page's line of names and its files, whose
+folders are those of $CONFIGURATION and $DOCUMENTS."""
 import os
 import re
 import subprocess
@@ -20,19 +21,25 @@ RECORDS = ("/var/lib/rudderraisin", "the records, where the settings name it, wh
 DOCUMENT = (f"{DOCUMENTS}/OPERATING.md", "all that an operator has to know")
 PROTOCOL_PAGE = (f"{DOCUMENTS}/PROTOCOL.md", "what a client sends and gets")
 EXAMPLES = (f"{DOCUMENTS}/examples", "settings, accounts and scripts to start from")
-GATEWAY_FILES = [(f"{CONFIGURATION}/gateway.conf", "the settings of the gateway"), (f"{CONFIGURATION}/cert.pem, key.pem", "its certificate, and the key")]
+GATEWAY_FILES = [(f"{CONFIGURATION}/gateway.conf", "the settings of the gateway"),
+                 (f"{CONFIGURATION}/cert.pem, key.pem", "its certificate, and the key")]
 # Each page: what it is in a line, the sections that it is made of, and files.
 PAGES = {
     "rudderraisin.7": ("a lobby server for games on the Spring engine", [(OPERATING, "What you do by which command")],
                        [SETTINGS, ACCOUNTS, *GATEWAY_FILES, RECORDS, DOCUMENT, PROTOCOL_PAGE, EXAMPLES]),
     "lobby_main.1": ("serves a lobby, or makes the word of a password", [(OPERATING, "The program `lobby_main`")],
                      [SETTINGS, ACCOUNTS, RECORDS, DOCUMENT]),
-    "lobby_check.1": ("looks at the files of a lobby before a start", [(OPERATING, "Before a start: `lobby_check`")], [SETTINGS, ACCOUNTS]),
-    "lobby_account.1": ("adds and changes accounts of a lobby", [(OPERATING, "To make an account")], [ACCOUNTS, SETTINGS]),
-    "lobby_record.1": ("reads what a lobby server records", [(OPERATING, "To read a record: `lobby_record`")], [RECORDS, DOCUMENT]),
+    "lobby_check.1": ("looks at the files of a lobby before a start", [(OPERATING, "Before a start: `lobby_check`")],
+                      [SETTINGS, ACCOUNTS]),
+    "lobby_account.1": ("adds and changes accounts of a lobby", [(OPERATING, "To make an account")],
+                        [ACCOUNTS, SETTINGS]),
+    "lobby_record.1": ("reads what a lobby server records", [(OPERATING, "To read a record: `lobby_record`")],
+                       [RECORDS, DOCUMENT]),
     "lobby_play.1": ("plays a script of a lobby and shows what each client gets",
-                     [(OPERATING, "The program `lobby_play`"), (PROTOCOL, "7. Scripts of lobby_play")], [RECORDS, EXAMPLES]),
-    "view_show.1": ("shows what a client knows of a lobby by the bytes that it got", [(OPERATING, "The program `view_show`")], [PROTOCOL_PAGE]),
+                     [(OPERATING, "The program `lobby_play`"), (PROTOCOL, "7. Scripts of lobby_play")],
+                     [RECORDS, EXAMPLES]),
+    "view_show.1": ("shows what a client knows of a lobby by the bytes that it got",
+                    [(OPERATING, "The program `view_show`")], [PROTOCOL_PAGE]),
     "lobby_settings.5": ("settings of a lobby", [(OPERATING, "Settings")], [SETTINGS, EXAMPLES]),
     "lobby_accounts.5": ("accounts of a lobby", [(OPERATING, "Accounts")], [ACCOUNTS, EXAMPLES]),
     "rudderraisin_gateway.1": ("lets SpringLobby use a lobby", [(GATEWAY, "A gateway for SpringLobby")], GATEWAY_FILES),
@@ -57,8 +64,10 @@ def without_links(text):
 
 
 def entries(table):
-    """A table of Markdown as pandoc's list of terms: of each row the first cell, and below it the others behind their columns' names."""
-    first, _, *rows = [[cell.strip().replace("\\|", "|") for cell in re.split(r"(?<!\\)\|", it)[1:-1]] for it in table[0].splitlines()]
+    """A table of Markdown as pandoc's list of terms: of each row the first cell, and below it the others behind their
+    columns' names."""
+    first, _, *rows = [[cell.strip().replace("\\|", "|") for cell in re.split(r"(?<!\\)\|", it)[1:-1]]
+                       for it in table[0].splitlines()]
     lines = []
     for term, *cells in rows:
         named = [it if len(cells) == 1 else f"{column}: {it}" for column, it in zip(first[1:], cells)]
@@ -96,7 +105,8 @@ def main():
     folder.mkdir(parents=True, exist_ok=True)
     for name in PAGES:
         title, _, number = name.partition(".")
-        words = ["pandoc", "-s", "-f", "markdown-smart-tex_math_dollars", "-t", "man", "-M", f"title={title.upper()}", "-M", f"section={number}",
+        words = ["pandoc", "-s", "-f", "markdown-smart-tex_math_dollars", "-t", "man", "-M", f"title={title.upper()}",
+                 "-M", f"section={number}",
                  "-M", "footer=Rudderraisin", "-o", str(folder / name)]
         subprocess.run(words, input=page(name), text=True, check=True)
 

@@ -1,4 +1,5 @@
-"""Keeps a file of times beside the places of each record, while the server runs: a line whenever a later place has come."""
+"""Keeps a file of times beside the places of each record, while the server runs: a line whenever a later place has
+come."""
 import fcntl
 import os
 import re

@@ -15,12 +15,14 @@ from .story import tell
 FOLDER = "/var/lib/rudderraisin"
 ENDLESS = 1 << 64
 # Commands of others that name a user first.
-NAMING = {b"JOINBATTLEACCEPT", b"JOINBATTLEDENY", b"HANDICAP", b"FORCETEAMNO", b"FORCEALLYNO", b"FORCETEAMCOLOR", b"FORCESPECTATORMODE",
+NAMING = {b"JOINBATTLEACCEPT", b"JOINBATTLEDENY", b"HANDICAP", b"FORCETEAMNO", b"FORCEALLYNO", b"FORCETEAMCOLOR",
+          b"FORCESPECTATORMODE",
           b"KICKFROMBATTLE", b"RING"}
 
 
 def seconds_of(text):
-    """A time of this machine's zone, as 20:15, 20:15:30 or 2026-11-30 20:15, in seconds. One without a day is the last that there was."""
+    """A time of this machine's zone, as 20:15, 20:15:30 or 2026-11-30 20:15, in seconds. One without a day is the last
+    that there was."""
     now = datetime.datetime.now()
     for form in ("%Y-%m-%d %H:%M:%S", "%Y-%m-%d %H:%M", "%Y-%m-%dT%H:%M:%S", "%Y-%m-%dT%H:%M", "%Y-%m-%d"):
         try:
@@ -45,7 +47,8 @@ class Window:
 
     def places(self, record):
         """The places of a record from which, and up to and without which, the window goes."""
-        return self.place(record, self.begin, 0, record.times.place_from), self.place(record, self.end, ENDLESS, record.times.place_until, 1)
+        begin = self.place(record, self.begin, 0, record.times.place_from)
+        return begin, self.place(record, self.end, ENDLESS, record.times.place_until, 1)
 
     def place(self, record, text, otherwise, by_time, more=0):
         if text is None:
@@ -53,7 +56,8 @@ class Window:
         if text.isdigit():
             return int(text) + more
         if not record.times:
-            raise Refused(f"{record.folder}: it has no file of times, for nobody kept one (lobby_record times): name places, as --from 120")
+            raise Refused(f"{record.folder}: it has no file of times, for nobody kept one (lobby_record times): name "
+                          f"places, as --from 120")
         return by_time(seconds_of(text))
 
     def has(self, record):
@@ -78,7 +82,8 @@ def show_session(record, it, name):
     """The lines of find about a client that asked to log in by this name."""
     mine = [(place, why) for place, asked, why in it.denied if asked == name]
     for place, why in mine:
-        print(f"  {time_of(record, place)}  place {place}: client {it.client} from {it.address} is denied: {shown.text(why)}")
+        print(f"  {time_of(record, place)}  place {place}: client {it.client} from {it.address} is denied: "
+              f"{shown.text(why)}")
     if it.name == name:
         print(f"  {time_of(record, it.login)}  place {it.login}: client {it.client} from {it.address} logs in")
         last = "is gone" if it.is_ended else "is still there, or the record ends"
@@ -103,10 +108,12 @@ def find(options):
         for it in mine:
             show_session(record, it, name)
         for it, command, rest in named:
-            print(f"  {time_of(record, it.place)}  place {it.place}: {who(sessions, it)}: {command.decode()} {shown.text(rest)}")
+            print(f"  {time_of(record, it.place)}  place {it.place}: {who(sessions, it)}: {command.decode()} "
+                  f"{shown.text(rest)}")
     if not is_found:
         like = sorted(shown.text(it) for it in seen if it.lower() == name.lower())
-        raise Refused(f"{options.folder}: {options.name} is in no record" + (f": there is {', '.join(like)}" if like else ""))
+        raise Refused(f"{options.folder}: {options.name} is in no record"
+                      + (f": there is {', '.join(like)}" if like else ""))
 
 
 def wanted(sessions, client):
@@ -119,7 +126,8 @@ def wanted(sessions, client):
 
 
 def chosen(options):
-    """The records of the window, each with its sessions and those that are asked for: all of a window, else the newest that has one."""
+    """The records of the window, each with its sessions and those that are asked for: all of a window, else the newest
+    that has one."""
     window = Window(options)
     found = []
     for record in reversed(records_in(options.folder)):
@@ -146,7 +154,8 @@ def chosen(options):
 
 def story(options):
     """Writes the page."""
-    page = Page([f"Made by lobby_record of {time.strftime('%Y-%m-%d %H:%M:%S %Z')}; times are of this zone. By lobby_play, what the server put for the "
+    page = Page([f"Made by lobby_record of {time.strftime('%Y-%m-%d %H:%M:%S %Z')}; times are of this zone. By "
+                 f"lobby_play, what the server put for the "
                  "player at each place is what stands here; whether it arrived, no record says."])
     count = 0
     for record, sessions, mine, begin, end in chosen(options):
@@ -159,7 +168,8 @@ def story(options):
         return
     path = Path(options.output)
     try:
-        with tempfile.NamedTemporaryFile("w", dir=path.parent, prefix=f".{path.name}.", delete=False, encoding="utf-8") as file:
+        with tempfile.NamedTemporaryFile("w", dir=path.parent, prefix=f".{path.name}.", delete=False,
+                                         encoding="utf-8") as file:
             file.write(page.text())
         os.rename(file.name, path)      # readable by its maker alone, as the record is
     except OSError as error:
@@ -175,7 +185,8 @@ def show(options):
             print(f"{record.folder}: client {session.client} from {session.address}, {name}")
             places = [it.place for it in record.lines(max(begin, session.first), min(end, session.last + 1))]
             start = places[0] if places else 0
-            answers = record.answers([(start, "show", session.client), *((it + 1, "show", session.client) for it in places)])
+            answers = record.answers([(start, "show", session.client),
+                                      *((it + 1, "show", session.client) for it in places)])
             next(answers)
             for place, lines in zip(places, answers):
                 for line in lines:
@@ -194,7 +205,8 @@ def pack_all(options):
 def parsed(version):
     """What the arguments ask for."""
     window = argparse.ArgumentParser(add_help=False)
-    window.add_argument("--from", dest="begin", metavar="TIME", help='from this time on, as 20:15 or "2026-11-30 20:15", or a place')
+    window.add_argument("--from", dest="begin", metavar="TIME",
+                        help='from this time on, as 20:15 or "2026-11-30 20:15", or a place')
     window.add_argument("--to", dest="end", metavar="TIME", help="up to this time or place")
     parser = argparse.ArgumentParser(prog="lobby_record", description="Reads what a server records.",
                                      epilog="Exit status: 0 done, 1 refused, 2 wrong arguments")
@@ -205,7 +217,8 @@ def parsed(version):
         it = commands.add_parser(name, help=about, description=f"{about[0].upper()}{about[1:]}.", parents=parents)
         if first:
             it.add_argument(first.lower(), metavar=first, help=first_help)
-        it.add_argument("folder", metavar="FOLDER", nargs="?", default=FOLDER, help="the folder of the records, or one record (%(default)s)")
+        it.add_argument("folder", metavar="FOLDER", nargs="?", default=FOLDER,
+                        help="the folder of the records, or one record (%(default)s)")
         it.set_defaults(call=call)
         return it
 
@@ -213,15 +226,20 @@ def parsed(version):
     command("show", "shows the lines that were put for a client, with place and time", show, window, first="CLIENT",
             first_help="a name, or a client's number")
     it = command("story", "makes a page of HTML that shows a player's room at each place", story, window)
-    it.add_argument("--client", metavar="NAME", help="whose room, by name or by a client's number; if left out, of all who opened a battle")
-    it.add_argument("-o", dest="output", metavar="FILE", default="story.html", help="the page (%(default)s); - is standard output")
-    it.add_argument("--private", action="store_true", help="shows what was said in private to this player and by them too")
+    it.add_argument("--client", metavar="NAME",
+                    help="whose room, by name or by a client's number; if left out, of all who opened a battle")
+    it.add_argument("-o", dest="output", metavar="FILE", default="story.html",
+                    help="the page (%(default)s); - is standard output")
+    it.add_argument("--private", action="store_true",
+                    help="shows what was said in private to this player and by them too")
     it = command("times", "keeps a file of times beside the places, until it is ended", times)
     it.add_argument("--every", type=float, default=1.0, metavar="SECONDS", help="how often it looks (%(default)s)")
     it = command("pack", "compresses the records of servers that have ended, and deletes old ones", pack_all)
-    it.add_argument("--compress-after", type=float, default=1, metavar="DAYS", help="leave those alone that are younger (%(default)s)")
+    it.add_argument("--compress-after", type=float, default=1, metavar="DAYS",
+                    help="leave those alone that are younger (%(default)s)")
     it.add_argument("--keep-days", type=float, metavar="DAYS", help="delete those that are older; if left out, none")
-    it.add_argument("--keep-size", metavar="SIZE", help="delete the oldest until all have at most this, as 20G; if left out, none")
+    it.add_argument("--keep-size", metavar="SIZE",
+                    help="delete the oldest until all have at most this, as 20G; if left out, none")
     it.add_argument("-n", "--dry-run", action="store_true", help="only say what would be done")
     return parser.parse_args()
 

@@ -9,7 +9,8 @@ from pathlib import Path
 from .records import Refused, numbered
 
 DAY = 86_400
-# A record of which nobody knows that its server ended is left alone until it was not written for so long, and there is a later one.
+# A record of which nobody knows that its server ended is left alone until it was not written for so long, and there is
+# a later one.
 QUIET = DAY
 UNITS = {"": 1, "K": 1 << 10, "M": 1 << 20, "G": 1 << 30, "T": 1 << 40}
 
@@ -44,14 +45,16 @@ class Old:
         self.plain = [it for it in self.files if it.name.isdigit()]
 
     def has_ended(self, is_last):
-        """Whether no server writes it any more: each file says so, or there is a later record and nothing was written for a day."""
+        """Whether no server writes it any more: each file says so, or there is a later record and nothing was written
+        for a day."""
         return all(map(says_end, self.plain)) or (not is_last and time.time() - self.written > QUIET)
 
     def compress(self):
         """Each file is compressed beside itself, and goes when that is on the disk."""
         for it in self.plain:
             packed, new = it.with_name(f"{it.name}.gz"), it.with_name(f"{it.name}.gz.new")
-            with it.open("rb") as source, open(os.open(new, os.O_WRONLY | os.O_CREAT | os.O_TRUNC, 0o600), "wb") as target:
+            with it.open("rb") as source, open(os.open(new, os.O_WRONLY | os.O_CREAT | os.O_TRUNC, 0o600),
+                                               "wb") as target:
                 with gzip.GzipFile(fileobj=target, mode="wb") as out:
                     shutil.copyfileobj(source, out, 1 << 20)
                 target.flush()

@@ -8,18 +8,27 @@ from .story import PRIVATE, REFUSALS, TALK, word_of
 
 # What each command does, in words before what stands behind it.
 DEEDS = {
-    "LOGIN": "logs in as", "PING": "pings", "EXIT": "logs out", "MYSTATUS": "sets the own status", "CHANNELS": "asks for the channels",
-    "JOIN": "enters channel", "LEAVE": "leaves channel", "SAY": "says in channel", "SAYEX": "does in channel", "SAYPRIVATE": "says in private to",
-    "OPENBATTLE": "opens a battle", "JOINBATTLE": "enters, or asks to enter, battle", "JOINBATTLEACCEPT": "lets in", "JOINBATTLEDENY": "turns away",
-    "LEAVEBATTLE": "leaves the battle", "UPDATEBATTLEINFO": "changes what all are told of the battle", "MYBATTLESTATUS": "sets the own battle status",
-    "SAYBATTLE": "says", "SAYBATTLEEX": "does", "ADDBOT": "adds a bot", "UPDATEBOT": "changes the bot", "REMOVEBOT": "takes away the bot",
-    "ADDSTARTRECT": "sets the start rectangle of ally team", "REMOVESTARTRECT": "takes away the start rectangle of ally team",
+    "LOGIN": "logs in as", "PING": "pings", "EXIT": "logs out", "MYSTATUS": "sets the own status",
+    "CHANNELS": "asks for the channels",
+    "JOIN": "enters channel", "LEAVE": "leaves channel", "SAY": "says in channel", "SAYEX": "does in channel",
+    "SAYPRIVATE": "says in private to",
+    "OPENBATTLE": "opens a battle", "JOINBATTLE": "enters, or asks to enter, battle", "JOINBATTLEACCEPT": "lets in",
+    "JOINBATTLEDENY": "turns away",
+    "LEAVEBATTLE": "leaves the battle", "UPDATEBATTLEINFO": "changes what all are told of the battle",
+    "MYBATTLESTATUS": "sets the own battle status",
+    "SAYBATTLE": "says", "SAYBATTLEEX": "does", "ADDBOT": "adds a bot", "UPDATEBOT": "changes the bot",
+    "REMOVEBOT": "takes away the bot",
+    "ADDSTARTRECT": "sets the start rectangle of ally team",
+    "REMOVESTARTRECT": "takes away the start rectangle of ally team",
     "SETSCRIPTTAGS": "sets script tags", "REMOVESCRIPTTAGS": "takes away script tags", "DISABLEUNITS": "disables units",
-    "ENABLEUNITS": "enables units", "ENABLEALLUNITS": "enables all units", "HANDICAP": "sets the handicap of", "FORCETEAMNO": "sets the team of",
-    "FORCEALLYNO": "sets the ally team of", "FORCETEAMCOLOR": "sets the colour of", "FORCESPECTATORMODE": "makes a spectator of",
+    "ENABLEUNITS": "enables units", "ENABLEALLUNITS": "enables all units", "HANDICAP": "sets the handicap of",
+    "FORCETEAMNO": "sets the team of",
+    "FORCEALLYNO": "sets the ally team of", "FORCETEAMCOLOR": "sets the colour of",
+    "FORCESPECTATORMODE": "makes a spectator of",
     "KICKFROMBATTLE": "kicks", "RING": "rings"}
 # Of these the numbers behind them say nothing to people; what changed says it.
-WORDS_ALONE = {"MYSTATUS", "MYBATTLESTATUS", "PING", "CHANNELS", "ENABLEALLUNITS", "LEAVEBATTLE", "EXIT", "UPDATEBATTLEINFO"}
+WORDS_ALONE = {"MYSTATUS", "MYBATTLESTATUS", "PING", "CHANNELS", "ENABLEALLUNITS", "LEAVEBATTLE", "EXIT",
+               "UPDATEBATTLEINFO"}
 FIRST_ALONE = {"LOGIN", "JOINBATTLE", "ADDBOT", "UPDATEBOT", "FORCETEAMCOLOR"}
 FIRST_TO_SECOND = {"HANDICAP", "FORCETEAMNO", "FORCEALLYNO"}
 SAID_OF_NAME = {"SAY", "SAYEX", "SAYPRIVATE", "JOINBATTLEDENY"}
@@ -32,31 +41,41 @@ POLICY = "default-src 'none'; style-src 'unsafe-inline'"
 STYLE = """
 :root { font: 16px/1.45 system-ui, "DejaVu Sans", sans-serif; color: #1c1f23; background: #f6f7f8; }
 body { max-width: 62rem; margin: 0 auto; padding: 1rem; }
-h1 { font-size: 1.5rem; margin: .2rem 0; } h2 { font-size: 1.2rem; margin: 2rem 0 .3rem; } h3 { font-size: 1rem; margin: .8rem 0 .2rem; }
+h1 { font-size: 1.5rem; margin: .2rem 0; } h2 { font-size: 1.2rem; margin: 2rem 0 .3rem; }
+h3 { font-size: 1rem; margin: .8rem 0 .2rem; }
 p { margin: .3rem 0; } .about { color: #4a5058; } a { color: inherit; }
 bdi, code { overflow-wrap: anywhere; } code, pre { font: .88em/1.4 ui-monospace, "DejaVu Sans Mono", monospace; }
-.choice { position: sticky; top: 0; z-index: 1; background: #f6f7f8; padding: .5rem 0; margin: .6rem 0; border-bottom: 1px solid #cfd4da; }
+.choice { position: sticky; top: 0; z-index: 1; background: #f6f7f8; padding: .5rem 0; margin: .6rem 0;
+  border-bottom: 1px solid #cfd4da; }
 .choice label { margin-right: 1.1rem; white-space: nowrap; }
-body:has(#rooms:not(:checked)) .room, body:has(#talk:not(:checked)) .talk, body:has(#own:not(:checked)) .own { display: none; }
+body:has(#rooms:not(:checked)) .room, body:has(#talk:not(:checked)) .talk,
+body:has(#own:not(:checked)) .own { display: none; }
 ol { list-style: none; padding: 0; margin: 0; }
-li.at { display: grid; grid-template-columns: 9.5rem 1fr; gap: 0 1rem; padding: .55rem .7rem; margin: .35rem 0; background: #fff;
-  border-left: 4px solid #cfd4da; border-radius: 4px; scroll-margin-top: 3.5rem; }
-li.room { border-left-color: #2f6fb3; } li.talk { border-left-color: #9aa3ad; } li.refused { border-left-color: #b3541e; }
+li.at { display: grid; grid-template-columns: 9.5rem 1fr; gap: 0 1rem; padding: .55rem .7rem; margin: .35rem 0;
+  background: #fff; border-left: 4px solid #cfd4da; border-radius: 4px; scroll-margin-top: 3.5rem; }
+li.room { border-left-color: #2f6fb3; } li.talk { border-left-color: #9aa3ad; }
+li.refused { border-left-color: #b3541e; }
 li.at:target { outline: 2px solid #2f6fb3; }
 .when { color: #4a5058; font-variant-numeric: tabular-nums; } .when a { text-decoration: none; white-space: nowrap; }
 .changes { padding-left: 0; list-style: none; margin: .25rem 0; } .changes li { margin: .1rem 0; }
-.came::before { content: "+ "; color: #1d7a3a; font-weight: 700; } .gone::before { content: "\\2212  "; color: #b01c1c; font-weight: 700; }
+.came::before { content: "+ "; color: #1d7a3a; font-weight: 700; }
+.gone::before { content: "\\2212  "; color: #b01c1c; font-weight: 700; }
 .is::before { content: "~ "; color: #7a5b00; font-weight: 700; }
 .gone bdi.name { text-decoration: line-through; } .old { color: #6a7079; text-decoration: line-through; }
 .refusal { color: #8f3f12; } .key { color: #4a5058; }
-.shade { display: inline-block; width: .8em; height: .8em; border: 1px solid #555; vertical-align: -.05em; margin-right: .25em; }
+.shade { display: inline-block; width: .8em; height: .8em; border: 1px solid #555;
+  vertical-align: -.05em; margin-right: .25em; }
 details { margin: .25rem 0; } summary { cursor: pointer; color: #2f5f94; }
 td bdi { overflow-wrap: break-word; } td { max-width: 24rem; }
 .before { padding: .1rem .7rem .55rem; background: #fff; border-radius: 4px; }
-.wide { overflow-x: auto; } table { border-collapse: collapse; font-size: .9rem; } th, td { text-align: left; padding: .15rem .8rem .15rem 0; vertical-align: top; }
-th { font-weight: 600; color: #4a5058; white-space: nowrap; } tr.new td { background: #e9f6ec; } tr.other td { background: #fdf5dc; }
-pre { white-space: pre-wrap; overflow-wrap: anywhere; background: #f1f3f5; padding: .5rem; margin: .3rem 0; border-radius: 4px; }
-@media (max-width: 40rem) { body { padding: .5rem; } li.at { grid-template-columns: 1fr; } .when { font-size: .88rem; } }
+.wide { overflow-x: auto; } table { border-collapse: collapse; font-size: .9rem; }
+th, td { text-align: left; padding: .15rem .8rem .15rem 0; vertical-align: top; }
+th { font-weight: 600; color: #4a5058; white-space: nowrap; }
+tr.new td { background: #e9f6ec; } tr.other td { background: #fdf5dc; }
+pre { white-space: pre-wrap; overflow-wrap: anywhere; background: #f1f3f5;
+  padding: .5rem; margin: .3rem 0; border-radius: 4px; }
+@media (max-width: 40rem) { body { padding: .5rem; }
+  li.at { grid-template-columns: 1fr; } .when { font-size: .88rem; } }
 @media print { .choice { display: none; } }
 """
 
@@ -119,7 +138,8 @@ class Page:
         """One thing that came, went or is another."""
         kind, word, what, fields = it
         if kind == "is":
-            words = [f'<span class="key">{html.escape(key)}</span> <span class="old">{value(key, old)}</span> &rarr; {value(key, new)}'
+            words = [f'<span class="key">{html.escape(key)}</span> <span class="old">{value(key, old)}</span> &rarr; '
+                     f'{value(key, new)}'
                      for key, old, new in fields]
         elif kind == "gone":
             words = [f'<span class="key">{html.escape(key)}</span> {value(key, old)}' for key, old, _ in fields]
@@ -141,7 +161,8 @@ class Page:
     def room(self, room, found, anchor, is_open):
         """A whole room, as it was at a place."""
         parts = []
-        told = "".join(f"<tr><th>{html.escape(key)}</th><td>{value(key, it)}</td></tr>" for key, it in room.battle.items())
+        told = "".join(f"<tr><th>{html.escape(key)}</th><td>{value(key, it)}</td></tr>"
+                       for key, it in room.battle.items())
         parts.append(f'<h3>battle {room.number}</h3><div class="wide"><table>{told}</table></div>')
         for key, word in LISTS.items():
             things = room.lists[key]
@@ -168,7 +189,8 @@ class Page:
         is_own = it.line.client == story.session.client
         mark = '<span class="refusal">refused:</span> ' if refusals and is_own else ""
         parts = [f"<p>{mark}{self.deed(story, it)}</p>"]
-        parts += [f'<p class="refusal">The player is told: {said(re.sub(rb"^#[0-9]+ ", b"", told))}</p>' for told in refusals]
+        parts += [f'<p class="refusal">The player is told: {said(re.sub(rb"^#[0-9]+ ", b"", told))}</p>'
+                  for told in refusals]
         if it.has_left:
             parts.append("<p>The player is in no room any more.</p>")
         if it.changes:
@@ -178,7 +200,8 @@ class Page:
         if it.told:
             more = f"\n.. and {len(it.told) - TOLD} more lines" if len(it.told) > TOLD else ""
             lines = "\n".join(html.escape(shown.text(masked(told))) for told in it.told[:TOLD])
-            parts.append(f"<details><summary>{len(it.told)} line{'s' if len(it.told) != 1 else ''} told to the player</summary>"
+            parts.append(f"<details><summary>{len(it.told)} line{'s' if len(it.told) != 1 else ''} told to the "
+                         f"player</summary>"
                          f"<pre>{lines}{more}</pre></details>")
         time = html.escape(story.record.times.shown(it.place, "%H:%M:%S"))
         when = f'<div class="when">{time} <a href="#{anchor}">place {it.place}</a></div>'
@@ -192,24 +215,33 @@ class Page:
         who = name(session.name) if session.name is not None else f"client {session.client}"
         times = [story.record.times.shown(it) for it in (story.begin, story.end - 1)]
         when = f", {html.escape(times[0])} to {html.escape(times[1])}" if all(times) else ""
-        about = (f"client {session.client} from {html.escape(session.address)}, record {html.escape(shown.text(str(story.record.folder)))}, "
+        about = (f"client {session.client} from {html.escape(session.address)}, record "
+                 f"{html.escape(shown.text(str(story.record.folder)))}, "
                  f"places {story.begin} to {story.end - 1}{when}")
-        left = [f"{story.of_others} at which the player was told of other users and battles alone"] if story.of_others else []
+        left = []
+        if story.of_others:
+            left.append(f"{story.of_others} at which the player was told of other users and battles alone")
         left += [f"{story.private} with private talk (<code>--private</code> shows it)"] if story.private else []
         out = f'<p class="about">Places left out: {", ".join(left)}.</p>' if left else ""
         start = ""
         if story.start:
-            start = f'<div class="before"><p>Before the first of these places:</p>{self.room(story.start, [], (f"s{number}", story.begin), True)}</div>'
-        items = "\n".join(self.happening(story, it, number) for it in story.happenings) or "<li>Nothing happened to this player then.</li>"
-        self.parts.append(f'<section id="s{number}"><h2>{who}</h2><p class="about">{about}.</p>{out}{start}<ol>{items}</ol></section>')
+            room = self.room(story.start, [], (f"s{number}", story.begin), True)
+            start = f'<div class="before"><p>Before the first of these places:</p>{room}</div>'
+        items = "\n".join(self.happening(story, it, number)
+                          for it in story.happenings) or "<li>Nothing happened to this player then.</li>"
+        self.parts.append(f'<section id="s{number}"><h2>{who}</h2><p '
+                          f'class="about">{about}.</p>{out}{start}<ol>{items}</ol></section>')
 
     def text(self):
         boxes = "".join(f'<label><input type="checkbox" id="{key}" checked> {words}</label>' for key, words in (
-            ("rooms", "the room"), ("talk", "talk"), ("own", "what the player asked besides")))
+            ("rooms", "the room"), ("talk", "talk"), ("own", "the rest")))
         contents = "".join(f"<p class=\"about\">{it}</p>" for it in self.about)
-        return (f'<!DOCTYPE html>\n<html lang="en"><head><meta charset="utf-8"><meta http-equiv="Content-Security-Policy" content="{POLICY}">'
-                f'<meta name="viewport" content="width=device-width, initial-scale=1"><title>A player\'s room</title><style>{STYLE}</style></head>\n'
-                f'<body><h1>A player\'s room, place by place</h1>{contents}<div class="choice">{boxes}</div>\n{"".join(self.parts)}\n</body></html>\n')
+        return (f'<!DOCTYPE html>\n<html lang="en"><head><meta charset="utf-8"><meta '
+                f'http-equiv="Content-Security-Policy" content="{POLICY}">'
+                f'<meta name="viewport" content="width=device-width, initial-scale=1"><title>A player\'s '
+                f'room</title><style>{STYLE}</style></head>\n'
+                f'<body><h1>A player\'s room, place by place</h1>{contents}<div '
+                f'class="choice">{boxes}</div>\n{"".join(self.parts)}\n</body></html>\n')
 
 
 def masked(told):

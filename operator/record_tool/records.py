@@ -41,9 +41,11 @@ def program(name):
 def numbered(folder):
     """The numbers below a folder, from the least: records, or files of workers."""
     try:
-        return sorted({int(it.name.removesuffix(".gz")) for it in folder.iterdir() if re.fullmatch(r"\d+(\.gz)?", it.name)})
+        return sorted({int(it.name.removesuffix(".gz")) for it in folder.iterdir()
+                       if re.fullmatch(r"\d+(\.gz)?", it.name)})
     except OSError as error:
-        raise Refused(f"{folder}: it cannot be read: {error.strerror}{': try it as root' if isinstance(error, PermissionError) else ''}") from None
+        raise Refused(f"{folder}: it cannot be read: "
+                      f"{error.strerror}{': try it as root' if isinstance(error, PermissionError) else ''}") from None
 
 
 def unescaped(text):
@@ -67,7 +69,8 @@ class Line:
 
 
 class Session:
-    """One client of a record: where it connected from, its places from the first to the last, and under which names it asked to log in."""
+    """One client of a record: where it connected from, its places from the first to the last, and under which names it
+    asked to log in."""
 
     def __init__(self, client, address, first):
         self.client, self.address, self.first, self.last, self.is_ended = client, address, first, first, False
@@ -77,8 +80,8 @@ class Session:
 
 
 class Times:
-    """When the places of a record were written, as the file beside them has it: a place, the time by which it was there, and `late` where
-    the reader had not looked before."""
+    """When the places of a record were written, as the file beside them has it: a place, the time by which it was
+    there, and `late` where the reader had not looked before."""
 
     def __init__(self, folder):
         self.places, self.seconds, self.late = [], [], set()
@@ -159,7 +162,8 @@ class Record:
     def span(self):
         """When it began and when it was last written, by the times of its files."""
         try:
-            return (self.folder / "settings.toml").stat().st_mtime, max(it.stat().st_mtime for it in self.folder.iterdir())
+            last = max(it.stat().st_mtime for it in self.folder.iterdir())
+            return (self.folder / "settings.toml").stat().st_mtime, last
         except OSError:
             return None
 
@@ -178,8 +182,8 @@ class Record:
             yield Path(room)
 
     def answers(self, questions):
-        """What lobby_play answers to each of some questions, whose places must not fall: lists of lines, one list a question. A question
-        is a place, before which events are played, and `show` or `view` with a client."""
+        """What lobby_play answers to each of some questions, whose places must not fall: lists of lines, one list a
+        question. A question is a place, before which events are played, and `show` or `view` with a client."""
         asked = "".join(f"until {place}\n{word} {client}\nview {NOBODY}\n" for place, word, client in questions)
         with self.plain() as folder, tempfile.TemporaryFile() as file, tempfile.TemporaryFile() as told:
             file.write(asked.encode())
@@ -195,7 +199,8 @@ class Record:
                         lines.append(line[:-1])
             told.seek(0)
             if play.returncode:
-                raise Refused(f"{self.folder}: lobby_play ends with status {play.returncode}: {told.read().decode(errors='replace').strip()}")
+                raise Refused(f"{self.folder}: lobby_play ends with status {play.returncode}: "
+                              f"{told.read().decode(errors='replace').strip()}")
 
     def sessions(self):
         """Its clients by number, with the names under which the server let them in."""
@@ -219,7 +224,8 @@ class Record:
 
     def log_in(self, clients):
         """Asks what came of each login whose word was right."""
-        tries = sorted((place, it.client, name) for it in clients.values() for place, name, passes in it.asked if passes)
+        tries = sorted((place, it.client, name) for it in clients.values() for place, name, passes in it.asked
+                       if passes)
         answers = self.answers((place + 1, "show", client) for place, client, _ in tries)
         for (place, client, name), lines in zip(tries, answers):
             told = [it.partition(b"> ")[2] for it in lines]
@@ -230,7 +236,8 @@ class Record:
                 why = next((it for it in reversed(told) if it.startswith(b"DENIED ")), b"DENIED ")
                 clients[client].denied.append((place, name, why[7:]))
         for it in clients.values():
-            it.denied += [(place, name, b"Invalid username or password") for place, name, passes in it.asked if not passes]
+            it.denied += [(place, name, b"Invalid username or password") for place, name, passes in it.asked
+                          if not passes]
 
 
 def records_in(folder):

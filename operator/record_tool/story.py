@@ -9,8 +9,10 @@ ROOMS = 3_000
 # The most lines of the record that one story is made of.
 LINES = 1_000_000
 # Lines behind which the room may be another.
-ROOM_LINES = {b"OPENBATTLE", b"JOINBATTLE", b"JOINEDBATTLE", b"LEFTBATTLE", b"BATTLECLOSED", b"UPDATEBATTLEINFO", b"CLIENTBATTLESTATUS", b"ADDBOT",
-              b"UPDATEBOT", b"REMOVEBOT", b"ADDSTARTRECT", b"REMOVESTARTRECT", b"SETSCRIPTTAGS", b"REMOVESCRIPTTAGS", b"DISABLEUNITS",
+ROOM_LINES = {b"OPENBATTLE", b"JOINBATTLE", b"JOINEDBATTLE", b"LEFTBATTLE", b"BATTLECLOSED", b"UPDATEBATTLEINFO",
+              b"CLIENTBATTLESTATUS", b"ADDBOT",
+              b"UPDATEBOT", b"REMOVEBOT", b"ADDSTARTRECT", b"REMOVESTARTRECT", b"SETSCRIPTTAGS", b"REMOVESCRIPTTAGS",
+              b"DISABLEUNITS",
               b"ENABLEUNITS", b"ENABLEALLUNITS", b"FORCEQUITBATTLE"}
 # Those of them that all users are told, of each battle, whose number is their first argument.
 OF_ANY_BATTLE = {b"JOINEDBATTLE", b"LEFTBATTLE", b"BATTLECLOSED", b"UPDATEBATTLEINFO"}
@@ -34,7 +36,8 @@ class Happening:
 
 
 class Story:
-    """The happenings of one session from a place up to and without another, the room before them, and how many were left out."""
+    """The happenings of one session from a place up to and without another, the room before them, and how many were
+    left out."""
 
     def __init__(self, record, sessions, session, begin, end):
         self.record, self.sessions, self.session = record, sessions, session
@@ -68,7 +71,8 @@ def happenings_of(story):
     client = story.session.client
     lines = [*story.record.lines(story.begin, story.end)]
     if len(lines) > LINES:
-        raise Refused(f"there are {len(lines)} places in it at which something was done: take a shorter time, as until place {lines[LINES].place}")
+        raise Refused(f"there are {len(lines)} places in it at which something was done: take a shorter time, as "
+                      f"until place {lines[LINES].place}")
     answers = story.record.answers([(story.begin, "show", client), *((it.place + 1, "show", client) for it in lines)])
     own = None
     for told in told_lines(next(answers)):
@@ -91,7 +95,8 @@ def add_rooms(story, happenings):
         return
     asked = [it for it in happenings if it.is_room]
     if len(asked) > ROOMS:
-        raise Refused(f"the room may have changed {len(asked)} times in it: take a shorter time, as until place {asked[ROOMS].place}")
+        raise Refused(f"the room may have changed {len(asked)} times in it: take a shorter time, as until place "
+                      f"{asked[ROOMS].place}")
     # Before a login there is no view, and no room.
     first = [(story.begin, "view", session.client)] if story.begin > session.login else []
     answers = story.record.answers(first + [(it.place + 1, "view", session.client) for it in asked])
