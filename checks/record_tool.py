@@ -3,6 +3,7 @@
 lobby_record finds, shows, tells and packs what is in the record. What has to be told follows from the lines that the
 users sent, by docs/PROTOCOL.md. The programs are those that the gate built, or those of a folder."""
 import contextlib
+import fcntl
 import html.parser
 import os
 import re
@@ -14,7 +15,7 @@ import tempfile
 import time
 from pathlib import Path
 
-from lobby_server import ROOT, WORD, Account, Server, greeted
+from lobby_server import PATIENCE, ROOT, WORD, Account, Server, greeted
 
 TOOL = ROOT / "operator/lobby_record.py"
 counts = {True: 0, False: 0}
@@ -92,11 +93,27 @@ def play(server):
         it.close()
 
 
+def is_free(folder):
+    """Whether nobody keeps the times of this folder, which is locked then."""
+    handle = os.open(folder, os.O_RDONLY)
+    try:
+        fcntl.flock(handle, fcntl.LOCK_EX | fcntl.LOCK_NB)
+        return True
+    except BlockingIOError:
+        return False
+    finally:
+        os.close(handle)
+
+
 @contextlib.contextmanager
 def keeping_times(folder):
     """lobby_record times, which looks at the folder before the server starts."""
     with subprocess.Popen([sys.executable, TOOL, "times", folder, "--every", "0.2"], stderr=subprocess.PIPE) as ran:
-        time.sleep(1)
+        until = time.monotonic() + PATIENCE
+        while is_free(folder) and time.monotonic() < until:
+            time.sleep(0.05)
+        told = run("times", folder, status=1)
+        tells("a second keeper of times is refused", "another lobby_record keeps its times" in told, told)
         yield ran
         time.sleep(1)
         ran.send_signal(signal.SIGTERM)
@@ -266,7 +283,7 @@ def check_times(folder, record):
 
 def check_find(folder, record):
     shown = run("find", "Ben", folder)
-    rows = [re.sub(r"^ +\S+ \S+ +", "", it) for it in shown.splitlines()]
+    rows = [re.sub(r"^ +(by )?\S+ \S+ +", "", it) for it in shown.splitlines()]
     wanted = [f"place {place_of(record, text)}: {words}" for text, words in (
         (r"LOGIN Ben B 0 * Checks 1.0\n", "client 2 from 127.0.0.3 is denied: Invalid username or password"),
         (r"send 2 LOGIN Ben AAAAAAAAAAAAAAAAAAAAAA== 0 * Checks 1.0\n", "client 2 from 127.0.0.3 logs in"),
