@@ -78,17 +78,23 @@ def who(sessions, line):
     return f"client {line.client}"
 
 
-def show_session(record, it, name):
-    """The lines of find about a client that asked to log in by this name."""
-    mine = [(place, why) for place, asked, why in it.denied if asked == name]
-    for place, why in mine:
-        print(f"  {time_of(record, place)}  place {place}: client {it.client} from {it.address} is denied: "
-              f"{shown.text(why)}")
+def of_session(it, name):
+    """What find says of a client that asked to log in by this name: places, and what happened there."""
+    for place, asked, why in it.denied:
+        if asked == name:
+            yield place, f"client {it.client} from {it.address} is denied: {shown.text(why)}"
     if it.name == name:
-        print(f"  {time_of(record, it.login)}  place {it.login}: client {it.client} from {it.address} logs in")
-        last = "is gone" if it.is_ended else "is still there, or the record ends"
-        print(f"  {time_of(record, it.last)}  place {it.last}: client {it.client} {last}")
-    return bool(mine) or it.name == name
+        yield it.login, f"client {it.client} from {it.address} logs in"
+        yield it.last, f"client {it.client} {'is gone' if it.is_ended else 'is still there, or the record ends'}"
+
+
+def of_others(record, sessions, name):
+    """What find says of others who named a user."""
+    for it in record.lines():
+        if it.verb == b"send" and name in it.text:
+            command, rest = it.command()
+            if command in NAMING and rest.split(b" ")[0] == name:
+                yield it.place, f"{who(sessions, it)}: {command.decode()} {shown.text(rest)}"
 
 
 def find(options):
@@ -97,19 +103,12 @@ def find(options):
     for record in records_in(options.folder):
         sessions = record.sessions()
         seen |= {it.name for it in sessions.values() if it.name}
-        lines = [it for it in record.lines() if it.verb == b"send" and name in it.text]
-        named = [(it, *it.command()) for it in lines]
-        named = [it for it in named if it[1] in NAMING and it[2].split(b" ")[0] == name]
-        mine = [it for it in sessions.values() if it.name == name or any(asked == name for _, asked, _ in it.denied)]
-        if not mine and not named:
-            continue
-        is_found = True
-        print(record.folder)
-        for it in mine:
-            show_session(record, it, name)
-        for it, command, rest in named:
-            print(f"  {time_of(record, it.place)}  place {it.place}: {who(sessions, it)}: {command.decode()} "
-                  f"{shown.text(rest)}")
+        found = [*of_others(record, sessions, name)] + [line for it in sessions.values() for line in of_session(it, name)]
+        if found:
+            is_found = True
+            print(record.folder)
+        for place, what in sorted(found):
+            print(f"  {time_of(record, place)}  place {place}: {what}")
     if not is_found:
         like = sorted(shown.text(it) for it in seen if it.lower() == name.lower())
         raise Refused(f"{options.folder}: {options.name} is in no record"
@@ -120,9 +119,10 @@ def wanted(sessions, client):
     """The sessions of a name or a client's number; without either those that opened a battle."""
     if client is None:
         return [it for it in sessions.values() if it.name is not None and it.has_opened]
-    if client.isdigit():
-        return [sessions[int(client)]] if int(client) in sessions else []
-    return [it for it in sessions.values() if it.name == client.encode()]
+    named = [it for it in sessions.values() if it.name == client.encode()]
+    if not named and client.isdigit() and int(client) in sessions:
+        return [sessions[int(client)]]
+    return named
 
 
 def chosen(options):
