@@ -103,7 +103,8 @@ def find(options):
     for record in records_in(options.folder):
         sessions = record.sessions()
         seen |= {it.name for it in sessions.values() if it.name}
-        found = [*of_others(record, sessions, name)] + [line for it in sessions.values() for line in of_session(it, name)]
+        found = [line for it in sessions.values() for line in of_session(it, name)]
+        found += of_others(record, sessions, name)
         if found:
             is_found = True
             print(record.folder)
