@@ -55,8 +55,9 @@ li.at { display: grid; grid-template-columns: 9.5rem 1fr; gap: 0 1rem; padding: 
   background: #fff; border-left: 4px solid #cfd4da; border-radius: 4px; scroll-margin-top: 3.5rem; }
 li.room { border-left-color: #2f6fb3; } li.talk { border-left-color: #9aa3ad; }
 li.refused { border-left-color: #b3541e; }
-li.at:target { outline: 2px solid #2f6fb3; }
-.when { color: #4a5058; font-variant-numeric: tabular-nums; } .when a { text-decoration: none; white-space: nowrap; }
+li.at > div { min-width: 0; } li.at:target { outline: 2px solid #2f6fb3; }
+.when { color: #4a5058; font-variant-numeric: tabular-nums; } .when a { display: block; text-decoration: none; white-space: nowrap; }
+.colour { white-space: nowrap; }
 .changes { padding-left: 0; list-style: none; margin: .25rem 0; } .changes li { margin: .1rem 0; }
 .came::before { content: "+ "; color: #1d7a3a; font-weight: 700; }
 .gone::before { content: "\\2212  "; color: #b01c1c; font-weight: 700; }
@@ -75,7 +76,7 @@ tr.new td { background: #e9f6ec; } tr.other td { background: #fdf5dc; }
 pre { white-space: pre-wrap; overflow-wrap: anywhere; background: #f1f3f5;
   padding: .5rem; margin: .3rem 0; border-radius: 4px; }
 @media (max-width: 40rem) { body { padding: .5rem; }
-  li.at { grid-template-columns: 1fr; } .when { font-size: .88rem; } }
+  li.at { grid-template-columns: 1fr; } .when { font-size: .88rem; } .when a { display: inline; } }
 @media print { .choice { display: none; } }
 """
 
@@ -92,7 +93,7 @@ def said(data):
 def value(key, it):
     if key == "colour":
         square = f'<span class="shade" style="background:{it}"></span>' if re.fullmatch("#[0-9a-f]{6}", it) else ""
-        return square + html.escape(it)
+        return f'<span class="colour">{square}{html.escape(it)}</span>'
     return said(it) if isinstance(it, bytes) else html.escape(str(it))
 
 
