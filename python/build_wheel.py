@@ -3,7 +3,7 @@
 says its name.
 
 It is also the build backend that pyproject.toml names, for `pip install`; the library is then $LIBLOBBY, or
-bin/liblobby.so of the repository. A wheel is a zip file with three texts beside the package, so that this needs nothing
+bin/liblobby.so of the repository. A wheel is a zip file with four texts beside the package, so that this needs nothing
 but Python."""
 from __future__ import annotations
 
@@ -19,6 +19,7 @@ from pathlib import Path
 HERE = Path(__file__).resolve().parent
 ROOT = HERE.parent
 TIME = (1980, 1, 1, 0, 0, 0)    # of each file, so that the same files make the same wheel
+KINDS = (".py", ".typed", ".html", ".css", ".js")
 
 
 def version() -> str:
@@ -29,6 +30,11 @@ def version() -> str:
     deb = importlib.util.module_from_spec(spec)
     spec.loader.exec_module(deb)
     return str(deb.version())
+
+
+def sources() -> list[Path]:
+    """The files of the package, but for the library."""
+    return sorted(it for it in (HERE / "rudderraisin").rglob("*") if it.suffix in KINDS)
 
 
 def tag(library: bytes) -> str:
@@ -45,6 +51,7 @@ def texts(number: str, tag: str) -> dict[str, str]:
     return {
         "METADATA": f"Metadata-Version: 2.1\nName: rudderraisin\nVersion: {number}\nSummary: {said['description']}\n"
                     f"Requires-Python: {said['requires-python']}\nDescription-Content-Type: text/markdown\n\n{bots}",
+        "entry_points.txt": "[console_scripts]\nrudderraisin_status = rudderraisin.page.main:main\n",
         "WHEEL": f"Wheel-Version: 1.0\nGenerator: build_wheel\nRoot-Is-Purelib: false\nTag: {tag}\n",
     }
 
@@ -58,8 +65,7 @@ def write_wheel(library: Path, folder: Path) -> str:
     """Writes the wheel into the folder, and gives its name."""
     shared, number = library.read_bytes(), version()
     beside = f"rudderraisin-{number}.dist-info"
-    sources = [*sorted((HERE / "rudderraisin").glob("*.py")), HERE / "rudderraisin/py.typed"]
-    files = {f"rudderraisin/{it.name}": it.read_bytes() for it in sources}
+    files = {str(it.relative_to(HERE)): it.read_bytes() for it in sources()}
     files["rudderraisin/liblobby.so"] = shared
     files.update({f"{beside}/{name}": text.encode() for name, text in texts(number, tag(shared)).items()})
     files[f"{beside}/RECORD"] = ("".join(record(*it) for it in files.items()) + f"{beside}/RECORD,,\n").encode()

@@ -1,6 +1,7 @@
 #!/usr/bin/env bash
 # library.sh : proves lobby_c and what it stands on, over what earlier runs kept, and builds bin/liblobby.a and bin/liblobby.so. Both have the
 # heap's three calls in them, by which memory comes from the program's malloc; the shared one shows only what include/lobby.h declares.
+# Its name has a number that rises where a program that was linked with it would have to be linked anew.
 # With AS_BUILT set, as the gate sets it, lobby_c stands on the libraries that the gate's own run has just left.
 set -euo pipefail
 root=$(cd "$(dirname "$0")/.." && pwd)
@@ -16,6 +17,6 @@ mkdir -p "$root/bin"
 printf 'CREATE %s\nADDLIB %s\nADDLIB %s\nSAVE\nEND\n' "$room/liblobby.a" "$archive" "$heap" | ar -M
 printf '{ global: lobby_*; local: *; };\n' > "$room/lobby.map"
 ${CC:-cc} -shared -Wl,--whole-archive "$room/liblobby.a" -Wl,--no-whole-archive "-Wl,--version-script=$room/lobby.map" -Wl,-z,defs \
-    -o "$room/liblobby.so"
+    -Wl,-soname,liblobby.so.0 -o "$room/liblobby.so"
 mv "$room/liblobby.a" "$room/liblobby.so" "$root/bin/"
 echo 'bin/liblobby.a and bin/liblobby.so are built'

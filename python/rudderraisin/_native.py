@@ -18,6 +18,7 @@ from typing import Any, Iterator, NamedTuple, Sequence, Tuple
 from .errors import CannotPrint, LineTooLong, NoMemory, PrintFault, ViewClosed
 from .kinds import Field
 
+SYSTEM = "liblobby.so.0"    # what tools/library.sh calls the library, with the number of what it offers
 OK, NO_MEMORY, LINE_TOO_LONG, NO_ROOM, NOT_THERE, NO_REPLY, NO_COMMAND = range(7)
 FAULTS = dict(enumerate(PrintFault, 7))     # the statuses behind these
 ABSENT, TEXT_FIELD, NUMBER_FIELD = range(3)     # what a field holds
@@ -84,8 +85,9 @@ _FUNCTIONS: dict[str, tuple[Any, list[Any]]] = {
 
 
 def _loaded() -> ctypes.PyDLL:
-    """The library that lies beside this file, as a wheel has it; $LIBLOBBY names another."""
-    library = ctypes.PyDLL(os.environ.get("LIBLOBBY") or str(Path(__file__).with_name("liblobby.so")))
+    """The library that lies beside this file, as a wheel has it, else the system's; $LIBLOBBY names another."""
+    beside = Path(__file__).with_name("liblobby.so")
+    library = ctypes.PyDLL(os.environ.get("LIBLOBBY") or (str(beside) if beside.exists() else SYSTEM))
     for name, (result, arguments) in _FUNCTIONS.items():
         function = getattr(library, name)
         function.restype, function.argtypes = result, arguments
