@@ -19,6 +19,7 @@ const TEXTS = {
   battles: it => [it.title, it.map, it.gameName, ...it.members],
   channels: it => [it.name],
 };
+const NONE = { users: "Nobody is logged in.", battles: "No battle is open.", channels: "No channel is open." };
 const ELEMENTS = { users: userElement, battles: battleElement, channels: channelElement };
 
 function element(tag, kind, ...inside) {
@@ -31,6 +32,7 @@ function element(tag, kind, ...inside) {
 function text(said, kind) {
   const made = element("bdi", kind);
   made.textContent = said;
+  if (said.length > 60) made.title = said;
   return made;
 }
 
@@ -45,17 +47,17 @@ function userElement(it) {
 
 function battleElement(it) {
   const playing = Math.max(0, it.members.length - it.spectatorCount);
-  const title = element("h3", "", text(it.title || "(no title)"));
+  const title = element("h3", "", text(it.title || "(no title)", "text"));
   title.append(element("span", playing >= it.maxPlayers ? "full" : "", `${playing} of ${it.maxPlayers}`));
-  const about = element("p", "faint");
-  if (it.inGame) about.append(element("span", "in-game", "in game"), " · ");
-  if (it.locked) about.append("locked · ");
-  if (it.passworded) about.append("password · ");
-  if (it.spectatorCount) about.append(`${it.spectatorCount} ${it.spectatorCount > 1 ? "spectators" : "spectator"} · `);
-  about.append("hosted by ", text(it.founder));
-  const members = element("p", "members", ...it.members.map(name => text(name)));
-  return element("li", "", title, element("p", "", text(it.map || "(no map)")),
-    element("p", "faint", text(it.gameName), " · ", text(`${it.engineName} ${it.engineVersion}`)), about, members);
+  const watching = it.spectatorCount && `${it.spectatorCount} ${it.spectatorCount > 1 ? "spectators" : "spectator"}`;
+  const about = element("p", "faint", [it.locked && "locked", it.passworded && "password", watching]
+    .filter(Boolean).join(" · "));
+  if (it.inGame) about.prepend(element("span", "in-game", "in game"), about.textContent ? " · " : "");
+  const members = element("p", "members", ...it.members.map(name => element("span", "", text(name),
+    name === it.founder ? element("span", "mark", "host") : "")));
+  return element("li", "", title, element("p", "", text(it.map || "(no map)", "text")),
+    element("p", "faint text", text(it.gameName), " · ", text(`${it.engineName} ${it.engineVersion}`)),
+    about.textContent ? about : "", members);
 }
 
 function channelElement(it) {
@@ -67,7 +69,7 @@ function draw() {
   const wanted = document.getElementById("wanted").value.trim().toLowerCase();
   for (const name of Object.keys(tables)) {
     drawTable(name, wanted);
-    document.querySelector(`[data-count=${name}]`).textContent = isReached || lobby ? tables[name].size : "";
+    document.querySelector(`[data-count=${name}]`).textContent = lobby && lobby.connected ? tables[name].size : "";
   }
   drawState();
 }
@@ -75,6 +77,7 @@ function draw() {
 // Leaves each element whose row is the same where it stands, so that a change costs no more than itself.
 function drawTable(name, wanted) {
   const list = document.querySelector(`#${name} ul`);
+  list.nextElementSibling.textContent = tables[name].size ? "None found." : NONE[name];
   const isWanted = it => !wanted || TEXTS[name](it).some(said => said.toLowerCase().includes(wanted));
   const rows = [...tables[name].values()].filter(isWanted).sort(ORDER[name]);
   const old = shown[name], next = new Map();
@@ -95,12 +98,13 @@ function drawState() {
   const since = () => new Date(lobby.since * 1000).toLocaleTimeString([], { hour: "2-digit", minute: "2-digit" });
   const isLost = !isReached || !lobby.connected;
   const said = !lobby ? "Connecting" : !isReached ? "This page is not renewed: its server does not answer. It tries again."
-    : !lobby.connected ? `The lobby is not there since ${since()}: ${lobby.reason}. This page waits for it.`
+    : !lobby.connected ? `The lobby has been away since ${since()} (${lobby.reason}). This page waits for it.`
     : source && source.readyState === 1 ? "Live" : "Renewed every 15 seconds";
   const state = document.getElementById("state");
   if (state.textContent !== said) state.textContent = said;
   state.classList.toggle("lost", isLost && lobby !== null);
   document.body.classList.toggle("lost", isLost);
+  document.body.classList.toggle("away", !lobby || !lobby.connected);
 }
 
 function drawSoon() {
