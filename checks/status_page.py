@@ -266,19 +266,22 @@ def time_changes(browser, crowd, users):
 
 
 def measure(browser, crowd, page, users):
-    """Says what the page costs while nothing changes, and while 20 users a second set their status."""
+    """Says how long a change takes to show, and what the page costs while nothing changes and while users set their status."""
     took = sorted(time_changes(browser, crowd, users))
     print(f"a change shows behind {statistics.median(took) * 1000:.0f} ms, {took[-1] * 1000:.0f} at most of {len(took)}")
     whole, packed = page.get("/status.json"), page.get("/status.json", ("Accept-Encoding", "gzip"))
     print(f"status.json has {len(whole)} bytes, packed {len(packed)}")
-    for what, rate in (("nothing changes", 0), ("20 statuses a second change", 20), ("200 statuses a second change", 200)):
-        before, begun = page.cost()[0], time.monotonic()
-        for turn in range(10 * max(rate, 1)):
+    for rate in (0, 20, 200):
+        before, begun, turn = page.cost()[0], time.monotonic(), 0
+        while time.monotonic() < begun + 10:
             if rate:
                 crowd.say(turn % users, f"MYSTATUS {turn // users % 2 * 2 + turn % 2}\n")
-            time.sleep(max(0.0, begun + (turn + 1) / max(rate, 1) - time.monotonic()))
+            turn += 1
+            time.sleep(max(0.0, begun + turn / max(rate, 1) - time.monotonic()))
         spent, memory = page.cost()
-        print(f"{what}: {(spent - before) / (time.monotonic() - begun) * 100:.1f} percent of a processor, {memory:.0f} MB")
+        seconds = time.monotonic() - begun
+        print(f"{turn * bool(rate) / seconds:.0f} statuses a second change: {(spent - before) / seconds * 100:.1f} percent of a processor, "
+              f"{memory:.0f} MB")
 
 
 def state(browser, wanted):

@@ -22,6 +22,7 @@ MAINTAINER = "Rudderraisin maintainers <maintainers@users.noreply.rudderraisin.e
 CONFIGURATION = "etc/rudderraisin"
 # The packages. Each takes files from where install.sh lays them to their places in it; the server's has all that no other takes.
 SERVER = "rudderraisin"
+LIBRARIES = "usr/lib/x86_64-linux-gnu"
 FILES: dict[str, dict[str, str]] = {
     # Settings and accounts are no files of the package: its script makes them where they are not there, and nobody is asked about them.
     SERVER: {f"{CONFIGURATION}/{it}": f"usr/share/rudderraisin/{it}" for it in ("lobby.toml", "accounts.toml")},
@@ -29,6 +30,12 @@ FILES: dict[str, dict[str, str]] = {
     "rudderraisin-gateway": {f"{CONFIGURATION}/gateway.conf": "usr/share/rudderraisin-gateway/gateway.conf", **{it: it for it in [
         "usr/bin/rudderraisin_gateway", "usr/bin/rudderraisin_gatewayctl", "usr/lib/systemd/system/rudderraisin-gateway.service",
         "usr/share/man/man1/rudderraisin_gateway.1", "usr/share/man/man1/rudderraisin_gatewayctl.1"]}},
+    "liblobby0": {it: it for it in [f"{LIBRARIES}/liblobby.so.0"]},
+    "liblobby-dev": {it: it for it in [
+        "usr/include/lobby.h", f"{LIBRARIES}/liblobby.a", f"{LIBRARIES}/liblobby.so", f"{LIBRARIES}/pkgconfig/liblobby.pc"]},
+    "python3-rudderraisin": {f"{CONFIGURATION}/status.conf": "usr/share/python3-rudderraisin/status.conf", **{it: it for it in [
+        "usr/lib/python3", "usr/bin/rudderraisin_status", "usr/lib/systemd/system/rudderraisin-status.service",
+        "usr/share/man/man1/rudderraisin_status.1"]}},
 }
 # Packages that are empty, and lead to what came in place of them.
 TRANSITIONAL = {"rudderraisin-front": "rudderraisin-gateway"}
@@ -44,6 +51,10 @@ def fields(name, programs):
                  "Suggests": "rudderraisin-gateway"},
         "rudderraisin-gateway": {"Architecture": architecture, "Recommends": "openssl", "Suggests": SERVER,
                                  "Breaks": f"rudderraisin-front (<< {version()})", "Replaces": f"rudderraisin-front (<< {version()})"},
+        "liblobby0": {"Architecture": architecture, "Section": "libs", "Depends": libc(programs), "Multi-Arch": "same"},
+        "liblobby-dev": {"Architecture": architecture, "Section": "libdevel", "Depends": f"liblobby0 (= {version()})"},
+        "python3-rudderraisin": {"Architecture": "all", "Section": "python", "Depends": f"python3 (>= 3.9), liblobby0 (= {version()})",
+                                 "Suggests": SERVER},
     }[name]
 
 
@@ -130,6 +141,8 @@ def fill(stage, name, fields, is_proved):
         if script.suffix in (".preinst", ".postinst", ".prerm", ".postrm"):
             shutil.copy(script, control / script.suffix[1:])
             (control / script.suffix[1:]).chmod(0o755)
+        elif script.suffix in (".shlibs", ".triggers"):
+            shutil.copy(script, control / script.suffix[1:])
     for it in [stage, *stage.rglob("*")]:
         if it.is_dir():
             it.chmod(0o755)
@@ -148,8 +161,8 @@ def move(places, source, target):
 
 
 def binaries(stage):
-    """The programs of a package that are no scripts and no links."""
-    found = [it for it in sorted(stage.glob("usr/bin/*")) if not it.is_symlink()]
+    """The programs and libraries of a package that are no scripts and no links."""
+    found = [it for it in sorted([*stage.glob("usr/bin/*"), *stage.glob(f"{LIBRARIES}/*.so.*")]) if not it.is_symlink()]
     return [it for it in found if it.read_bytes()[:4] == b"\x7fELF"]
 
 

@@ -29,6 +29,7 @@ gather() {
     put 644 "$room/lobby.toml" "$configuration/lobby.toml"
     put 640 "$room/accounts.toml" "$configuration/accounts.toml"
     put 644 "$root/packaging/gateway.conf" "$configuration/gateway.conf"
+    put 644 "$root/packaging/status.conf" "$configuration/status.conf"
     for file in "$root"/packaging/*.service "$root"/packaging/*.timer; do
         sed "s|@BIN@|$bin|g; s|@LIBRARY@|$library|g; s|@CONFIGURATION@|$configuration|g" "$file" > "$room/unit"
         put 644 "$room/unit" "$prefix/lib/systemd/system/${file##*/}"
@@ -74,6 +75,35 @@ gather_gateway() {
     fi
 }
 
+# gather_python : lays out the C library, the Python package and the program of the page, or takes all that belongs to them away again
+# where no library was built.
+gather_python() {
+    local file libraries=$prefix/lib packages=$prefix/lib/python3/dist-packages path=
+    if [ ! -e "$root/bin/liblobby.so" ]; then
+        echo "there is no bin/liblobby.so, which make library builds: the library and the Python package are left out" >&2
+        find "$room/all" \( -name 'rudderraisin[-_]status*' -o -name status.conf \) -delete
+        return
+    fi
+    # Debian has its libraries in a folder of the machine's kind. Elsewhere the package finds its own by a link beside it.
+    if [ "$prefix" = /usr ] && [ -d /usr/lib/x86_64-linux-gnu ]; then libraries=$prefix/lib/x86_64-linux-gnu; fi
+    put 644 "$root/bin/liblobby.so" "$libraries/liblobby.so.0"
+    put 644 "$root/bin/liblobby.a" "$libraries/liblobby.a"
+    ln -s liblobby.so.0 "$room/all$libraries/liblobby.so"
+    put 644 "$root/include/lobby.h" "$prefix/include/lobby.h"
+    sed "s|@PREFIX@|$prefix|; s|@LIBRARIES@|$libraries|; s|@VERSION@|$(cd "$root/packaging" && python3 -Bc 'import deb; print(deb.version())')|" \
+        "$root/packaging/liblobby.pc" > "$room/liblobby.pc"
+    put 644 "$room/liblobby.pc" "$libraries/pkgconfig/liblobby.pc"
+    (cd "$root/python" && find rudderraisin -type f ! -name '*.pyc' ! -name '*.so') | while read -r file; do
+        put 644 "$root/python/$file" "$packages/$file"
+    done
+    if [ "$prefix" != /usr ]; then
+        ln -s ../../../liblobby.so.0 "$room/all$packages/rudderraisin/liblobby.so"
+        path="sys.path.insert(0, \"$packages\")"
+    fi
+    printf '#!/usr/bin/python3\nimport sys\n\n%s\nfrom rudderraisin.page.main import main\n\nmain()\n' "$path" | cat -s > "$room/status"
+    put 755 "$room/status" "$bin/rudderraisin_status"
+}
+
 # is_there PLACE : whether a file or a link is installed there.
 is_there() { [ -e "$to$1" ] || [ -L "$to$1" ]; }
 
@@ -96,6 +126,7 @@ install)
         put 755 "$program" "$bin/$name"
     done
     gather_gateway
+    gather_python
     (cd "$room/all" && find . ! -type d | sort) | while read -r file; do
         place=${file#.}
         case $place in "$configuration"/*) if is_there "$place"; then echo "$to$place stays as it is"; continue; fi ;; esac
@@ -105,6 +136,7 @@ install)
     done
     ;;
 uninstall)
+    gather_python
     for name in $programs $gateway; do rm -f "$to$bin/$name"; done
     (cd "$room/all" && find . ! -type d | sort) | while read -r file; do
         place=${file#.}

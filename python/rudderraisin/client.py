@@ -75,8 +75,11 @@ class Client:
     view: View                  # from `connect` to `close`
     greeting: reply.TASSERVER   # behind `connect`
 
-    def __init__(self, host: str, port: int) -> None:
+    def __init__(self, host: str, port: int, *, proxied: bool = False) -> None:
+        """A client of the server at this place. Where the server's `proxies` names this machine it closes a connection
+        that does not begin with a line of the PROXY protocol: with `proxied` this one does."""
         self._place = (host, port)
+        self._first = b"PROXY UNKNOWN\r\n" if proxied else b""
         self._rest = b""                        # the beginning of a line
         self._asks: dict[int, _Ask] = {}        # by the id of what was asked, which is even; its end has the next one
         self._next_id = FIRST_ID
@@ -95,6 +98,7 @@ class Client:
     async def connect(self) -> None:
         """Connects, and waits for the greeting. OSError; `ConnectionLost` where it does not come."""
         self._reader, self._writer = await asyncio.open_connection(*self._place)
+        self._writer.write(self._first)
         self.view = View()
         self._writing = asyncio.Lock()          # in Python 3.9 one alone may wait for the writer
         self._news = asyncio.Event()            # something came for the iterator, or the end

@@ -25,7 +25,7 @@ async def soon(what: Awaitable[T]) -> T:
 
 
 class Served(unittest.IsolatedAsyncioTestCase):
-    async def served(self, peer: Peer, greeting: bytes = GREETING) -> Client:
+    async def served(self, peer: Peer, greeting: bytes = GREETING, **how: bool) -> Client:
         """A client that is connected to a server which greets and then does what `peer` says."""
         async def talk(reader: asyncio.StreamReader, writer: asyncio.StreamWriter) -> None:
             writer.write(greeting)
@@ -36,7 +36,7 @@ class Served(unittest.IsolatedAsyncioTestCase):
         server = await asyncio.start_server(talk, "127.0.0.1", 0)
         self.addAsyncCleanup(server.wait_closed)
         self.addCleanup(server.close)
-        client = Client("127.0.0.1", server.sockets[0].getsockname()[1])
+        client = Client("127.0.0.1", server.sockets[0].getsockname()[1], **how)
         self.addAsyncCleanup(client.close)
         await client.connect()
         return client
@@ -61,6 +61,15 @@ async def quiet(reader: asyncio.StreamReader, _: asyncio.StreamWriter) -> None:
 class Answers(Served):
     async def test_greeting(self) -> None:
         client = await self.served(quiet)
+        self.assertEqual(client.greeting, reply.TASSERVER("0.38", "*", 8201, 0))
+
+    async def test_proxied(self) -> None:
+        """The line comes before the server greets."""
+        async def peer(reader: asyncio.StreamReader, writer: asyncio.StreamWriter) -> None:
+            if await reader.readuntil(b"\n") == b"PROXY UNKNOWN\r\n":
+                writer.write(GREETING)
+            await quiet(reader, writer)
+        client = await self.served(peer, b"", proxied=True)
         self.assertEqual(client.greeting, reply.TASSERVER("0.38", "*", 8201, 0))
 
     async def test_no_greeting(self) -> None:

@@ -221,7 +221,8 @@ class Status(Served):
         return server
 
     async def begin(self, lobby_port: int) -> None:
-        options = argparse.Namespace(title="Lobby", server=("127.0.0.1", lobby_port), user="Page", listeners=2)
+        words = ["--user", "Page", "--password-file", "-", "--server", f"127.0.0.1:{lobby_port}", "--listeners", "2"]
+        options = main.arguments().parse_args(words)
         self.status = main.Status(options, "password")
         await self.serve(self.status.web)
         tasks = [asyncio.ensure_future(it) for it in (self.status.observer.run(), self.status.feed.run(lambda: True))]

@@ -10,6 +10,7 @@ import time
 from pathlib import Path
 from typing import Iterator, Mapping, Tuple
 
+from ..client import Client
 from . import shown
 from .feed import Feed
 from .observer import Observer, first_end
@@ -33,7 +34,9 @@ class Status:
         self._document = Answer(b"")    # the last one, for many ask for the same
         self.feed = Feed(lambda: self.observer.picture(), lambda event: self.web.tell(event))
         self.web = Web(self.answer, EVENTS, self._since, options.listeners)
-        self.observer = Observer(*options.server, options.user, password, self.feed.changed)
+        place = "{}:{}".format(*options.server)
+        self.observer = Observer(lambda: Client(*options.server, proxied=options.proxy_protocol), place, options.user,
+                                 password, self.feed.changed)
 
     def answer(self, path: str) -> Answer | None:
         """What stands at a path."""
@@ -97,6 +100,7 @@ def arguments() -> argparse.ArgumentParser:
                         help="its first line is the password; - for standard input")
     parser.add_argument("--server", type=place, default=place("127.0.0.1:8200"), metavar="ADDRESS:PORT",
                         help="the lobby; 127.0.0.1:8200 if left out")
+    parser.add_argument("--proxy-protocol", action="store_true", help="the lobby's `proxies` names this machine")
     parser.add_argument("--listen", type=place, default=place("127.0.0.1:8280"), metavar="ADDRESS:PORT",
                         help="where the page is; 127.0.0.1:8280 if left out")
     parser.add_argument("--title", default="Lobby", help="the heading of the page")

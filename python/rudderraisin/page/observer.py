@@ -37,10 +37,12 @@ def reason(error: BaseException) -> str:
 
 
 class Observer:
-    """Follows the lobby at a place. `changed` is called for each thing that changes what `picture` gives."""
+    """Follows a lobby. `changed` is called for each thing that changes what `picture` gives."""
 
-    def __init__(self, host: str, port: int, user: str, password: str, changed: Callable[[], None]) -> None:
-        self._place, self._account, self._changed = (host, port), (user, password), changed
+    def __init__(self, client: Callable[[], Client], place: str, user: str, password: str,
+                 changed: Callable[[], None]) -> None:
+        """`client` makes a client of the lobby, and `place` is what operators are told of where that is."""
+        self._made, self._place, self._account, self._changed = client, place, (user, password), changed
         self._client: Client | None = None      # while it is logged in
         self._channels: dict[str, int] = {}
         self._lobby: shown.Row = {"connected": False, "since": int(time.time()), "reason": "not connected yet"}
@@ -72,7 +74,7 @@ class Observer:
 
     async def _follow(self) -> None:
         """Connects, logs in and follows until the connection ends, which it raises."""
-        client = Client(*self._place)
+        client = self._made()
         try:
             await asyncio.wait_for(client.connect(), PATIENCE)
             await asyncio.wait_for(client.login(*self._account, lobby="rudderraisin_status"), PATIENCE)
@@ -90,8 +92,7 @@ class Observer:
             return
         since = int(time.time()) if is_in or self._lobby["connected"] else self._lobby["since"]
         self._lobby = {"connected": is_in, "since": since, "reason": why}
-        place = "{}:{}".format(*self._place)
-        print(f"{place}: logged in" if is_in else f"{place}: {why}", file=sys.stderr, flush=True)
+        print(f"{self._place}: {'logged in' if is_in else why}", file=sys.stderr, flush=True)
         self._changed()
 
     async def _hear(self, client: Client) -> None:

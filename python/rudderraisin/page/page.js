@@ -7,6 +7,7 @@ const KEYS = { users: "name", battles: "battleID", channels: "name" };
 const names = new Intl.Collator(undefined, { sensitivity: "base", numeric: true }).compare;
 const tables = { users: new Map(), battles: new Map(), channels: new Map() };
 const shown = { users: new Map(), battles: new Map(), channels: new Map() };    // by key the row and its element
+const stale = new Set();    // the tables that are to be drawn
 let lobby = null, version = null, source = null, heard = 0, isReached = false, isDrawing = false;
 
 const ORDER = {
@@ -67,8 +68,9 @@ function channelElement(it) {
 function draw() {
   isDrawing = false;
   const wanted = document.getElementById("wanted").value.trim().toLowerCase();
+  for (const name of stale) drawTable(name, wanted);
+  stale.clear();
   for (const name of Object.keys(tables)) {
-    drawTable(name, wanted);
     document.querySelector(`[data-count=${name}]`).textContent = lobby && lobby.connected ? tables[name].size : "";
   }
   drawState();
@@ -107,7 +109,8 @@ function drawState() {
   document.body.classList.toggle("away", !lobby || !lobby.connected);
 }
 
-function drawSoon() {
+function drawSoon(...names) {
+  for (const name of names) stale.add(name);
   if (!isDrawing) requestAnimationFrame(draw);
   isDrawing = true;
 }
@@ -124,6 +127,7 @@ async function load() {
   const all = await answer.json();
   ({ lobby, version } = all);
   for (const [name, key] of Object.entries(KEYS)) tables[name] = new Map(all[name].map(it => [it[key], it]));
+  drawSoon(...Object.keys(tables));
   reached(true);
 }
 
@@ -133,6 +137,7 @@ function take(event) {
   if (changed.lobby) lobby = changed.lobby;
   for (const [name, key] of Object.entries(KEYS)) {
     if (!changed[name]) continue;
+    drawSoon(name);
     for (const it of changed[name].gone) tables[name].delete(it);
     for (const it of changed[name].set) tables[name].set(it[key], it);
   }
@@ -165,6 +170,6 @@ async function start() {
   }
 }
 
-document.getElementById("wanted").addEventListener("input", drawSoon);
+document.getElementById("wanted").addEventListener("input", () => drawSoon(...Object.keys(tables)));
 setInterval(() => { if (source && source.readyState !== 2 && Date.now() - heard > SILENT) start(); }, SILENT / 10);
 start();
