@@ -9,9 +9,9 @@ They are 2000 and 300 if left out. $LOBBY_MAIN names the server's program; the P
 library, if that is not bin/liblobby.so. It wants Debian's chromium, and `ulimit -n 8192`."""
 import asyncio
 import base64
+import contextlib
 import json
 import os
-import re
 import resource
 import statistics
 import subprocess
@@ -93,6 +93,17 @@ class Browser:
     def value(self, expression):
         """What an expression comes to in the page; a promise, once it is kept."""
         return self.ask("Runtime.evaluate", expression=expression, returnByValue=True, awaitPromise=True)["result"].get("value")
+
+    def go(self, url, wanted):
+        """Goes to a page, and waits until this is true of it. What is asked of the page before is lost."""
+        self.ask("Page.navigate", url=url)
+        until = time.monotonic() + PATIENCE
+        while time.monotonic() < until:
+            with contextlib.suppress(Difference):
+                if self.value(wanted):
+                    return
+            time.sleep(0.1)
+        raise Difference(f"{url} does not come to {wanted}")
 
     def show(self, size, is_phone=False, scheme="light"):
         self.ask("Emulation.setDeviceMetricsOverride", width=size[0], height=size[1], deviceScaleFactor=2 if is_phone else 1,
@@ -312,8 +323,7 @@ def check(folder, users="2000", battles="300"):
         try:
             time.sleep(1)
             browser.show(WIDE)
-            browser.ask("Page.navigate", url=f"http://{ADDRESS}:{page.port}/")
-            browser.value(becomes_true("document.getElementById('state') && document.getElementById('state').textContent === 'Live'"))
+            browser.go(f"http://{ADDRESS}:{page.port}/", "document.getElementById('state').textContent === 'Live'")
             pictures(browser, folder, "empty")
             crowd.enter(everyone[1:20])
             look_at_hostile(browser, crowd, folder)
