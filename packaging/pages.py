@@ -12,7 +12,8 @@ import sys
 from pathlib import Path
 
 ROOT = Path(__file__).resolve().parent.parent
-OPERATING, PROTOCOL, GATEWAY = "docs/OPERATING.md", "docs/PROTOCOL.md", "gateway/README.md"
+OPERATING, PROTOCOL = "docs/OPERATING.md", "docs/PROTOCOL.md"
+GATEWAY, PYTHON = "gateway/README.md", "python/README.md"
 CONFIGURATION = os.environ.get("CONFIGURATION", "/etc/rudderraisin")
 DOCUMENTS = os.environ.get("DOCUMENTS", "/usr/share/doc/rudderraisin")
 SETTINGS = (f"{CONFIGURATION}/lobby.toml", "the settings of the server; after a change: lobby_check, and a start")
@@ -44,6 +45,8 @@ PAGES = {
     "lobby_accounts.5": ("accounts of a lobby", [(OPERATING, "Accounts")], [ACCOUNTS, EXAMPLES]),
     "rudderraisin_gateway.1": ("lets SpringLobby use a lobby", [(GATEWAY, "A gateway for SpringLobby")], GATEWAY_FILES),
     "rudderraisin_gatewayctl.1": ("tells a gateway what to do", [(GATEWAY, "Control")], GATEWAY_FILES[:1]),
+    "rudderraisin_status.1": ("serves a page of a lobby", [(PYTHON, "A page of the lobby")],
+                              [(f"{CONFIGURATION}/status.conf", "the settings of the page"), SETTINGS]),
 }
 # A recipe of the repository, which who reads an installed page has not.
 RECIPE = re.compile(r"`make [a-z]|\$ make ")
