@@ -42,6 +42,7 @@ passes "the package is the wheel's" \
     inside -c "import rudderraisin, sys; sys.exit(not rudderraisin.__file__.startswith(sys.prefix))"
 passes "its tests" inside -W error::ResourceWarning -m unittest discover -s "$root/python/tests"
 passes "a bot hosts" inside "$root/checks/python_host.py" "$server" "$shower"
+passes "the page of a lobby" inside "$root/checks/python_page.py" "$server"
 passes "views" inside "$root/checks/python_views.py" "$player" "$shower" 100
 passes "recorded sessions" inside "$root/checks/python_sessions.py" "$server" "$shower" 1000
 echo "python: $passed passed, $failed failed"
