@@ -95,14 +95,14 @@ class Browser:
         return self.ask("Runtime.evaluate", expression=expression, returnByValue=True, awaitPromise=True)["result"].get("value")
 
     def go(self, url, wanted):
-        """Goes to a page, and waits until this is true of it. What is asked of the page before is lost."""
-        self.ask("Page.navigate", url=url)
-        until = time.monotonic() + PATIENCE
-        while time.monotonic() < until:
+        """Goes to a page, which may not be there yet, and waits until this is true of it. What is asked of the page before is lost."""
+        for turn in range(150):
+            if turn % 30 == 0:
+                self.ask("Page.navigate", url=url)
+            time.sleep(0.1)
             with contextlib.suppress(Difference):
                 if self.value(wanted):
                     return
-            time.sleep(0.1)
         raise Difference(f"{url} does not come to {wanted}")
 
     def show(self, size, is_phone=False, scheme="light"):
@@ -321,7 +321,6 @@ def check(folder, users="2000", battles="300"):
     with tempfile.TemporaryDirectory(prefix="lobby-page-") as room, Server(1, everyone) as server:
         page, browser, crowd = Page(Path(room), server.port), Browser(room), Crowd(server.port)
         try:
-            time.sleep(1)
             browser.show(WIDE)
             browser.go(f"http://{ADDRESS}:{page.port}/", "document.getElementById('state').textContent === 'Live'")
             pictures(browser, folder, "empty")

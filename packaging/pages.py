@@ -13,7 +13,7 @@ from pathlib import Path
 
 ROOT = Path(__file__).resolve().parent.parent
 OPERATING, PROTOCOL = "docs/OPERATING.md", "docs/PROTOCOL.md"
-GATEWAY, PYTHON = "gateway/README.md", "python/README.md"
+GATEWAY, STATUS = "gateway/README.md", "python/STATUS.md"
 CONFIGURATION = os.environ.get("CONFIGURATION", "/etc/rudderraisin")
 DOCUMENTS = os.environ.get("DOCUMENTS", "/usr/share/doc/rudderraisin")
 SETTINGS = (f"{CONFIGURATION}/lobby.toml", "the settings of the server; after a change: lobby_check, and a start")
@@ -45,7 +45,7 @@ PAGES = {
     "lobby_accounts.5": ("accounts of a lobby", [(OPERATING, "Accounts")], [ACCOUNTS, EXAMPLES]),
     "rudderraisin_gateway.1": ("lets SpringLobby use a lobby", [(GATEWAY, "A gateway for SpringLobby")], GATEWAY_FILES),
     "rudderraisin_gatewayctl.1": ("tells a gateway what to do", [(GATEWAY, "Control")], GATEWAY_FILES[:1]),
-    "rudderraisin_status.1": ("serves a page of a lobby", [(PYTHON, "A page of the lobby")],
+    "rudderraisin_status.1": ("serves a page of a lobby", [(STATUS, "A page of the lobby")],
                               [(f"{CONFIGURATION}/status.conf", "the settings of the page"), SETTINGS]),
 }
 # A recipe of the repository, which who reads an installed page has not.
