@@ -355,8 +355,13 @@ class Arguments(unittest.TestCase):
     def test_place(self) -> None:
         self.assertEqual(main.place("127.0.0.1:80"), ("127.0.0.1", 80))
         self.assertEqual(main.place("[::1]:80"), ("::1", 80))
-        for text in ("127.0.0.1", ":80", "a:", "a:b", "a:65536", "a:-1"):
+        for text in ("127.0.0.1", ":80", "a:", "a:b", "a:65536", "a:-1", "a..b:80"):
             self.assertRaises(argparse.ArgumentTypeError, main.place, text)
+
+    def test_count(self) -> None:
+        self.assertEqual([main.count(it) for it in ("0", "10000")], [0, 10_000])
+        for text in ("-1", "10001", "x", ""):
+            self.assertRaises(argparse.ArgumentTypeError, main.count, text)
 
 
 if __name__ == "__main__":

@@ -22,6 +22,7 @@ FILES = {"/": ("page.html", "text/html; charset=utf-8"), "/page.css": ("page.css
          "/page.js": ("page.js", "text/javascript; charset=utf-8")}
 EVENTS = "/changes"
 BAD_FILE, CANNOT_LISTEN = 2, 3      # statuses at the end
+MOST_LISTENERS = 10_000
 
 
 class Status:
@@ -72,9 +73,13 @@ class Status:
             yield f"rudderraisin_status_{name}_total", "counter", about, {"": web[name]}
         yield "process_cpu_seconds_total", "counter", "Processor time of the page's program.", {"": time.process_time()}
 
-    async def run(self, host: str, port: int) -> None:
-        """Serves until it is told to stop. OSError where it cannot listen."""
-        server = await self.web.open(host, port)
+    async def run(self, host: str, port: int) -> int:
+        """Serves until it is told to stop, and gives the status to end with."""
+        try:
+            server = await self.web.open(host, port)
+        except OSError as error:
+            print(f"rudderraisin_status: cannot listen: {error}", file=sys.stderr)
+            return CANNOT_LISTEN
         stop = asyncio.Event()
         for it in (signal.SIGTERM, signal.SIGINT):
             asyncio.get_running_loop().add_signal_handler(it, stop.set)
@@ -82,14 +87,25 @@ class Status:
         is_heard = lambda: self.web.listeners > 0  # noqa: E731
         await first_end(stop.wait(), self.observer.run(), self.feed.run(is_heard), self.web.run())
         server.close()
+        return 0
 
 
 def place(text: str) -> tuple[str, int]:
     """An address and a port."""
     host, colon, port = text.rpartition(":")
+    try:
+        host.encode("idna")
+    except UnicodeError:
+        host = ""
     if not colon or not host or not port.isdecimal() or int(port) > 65_535:
         raise argparse.ArgumentTypeError(f"{text!r} is no address with a port, as 127.0.0.1:8200")
     return host.strip("[]"), int(port)
+
+
+def count(text: str) -> int:
+    if not text.isdecimal() or int(text) > MOST_LISTENERS:
+        raise argparse.ArgumentTypeError(f"{text!r} is no number from 0 to {MOST_LISTENERS}")
+    return int(text)
 
 
 def arguments() -> argparse.ArgumentParser:
@@ -104,7 +120,7 @@ def arguments() -> argparse.ArgumentParser:
     parser.add_argument("--listen", type=place, default=place("127.0.0.1:8280"), metavar="ADDRESS:PORT",
                         help="where the page is; 127.0.0.1:8280 if left out")
     parser.add_argument("--title", default="Lobby", help="the heading of the page")
-    parser.add_argument("--listeners", type=int, default=256, metavar="N",
+    parser.add_argument("--listeners", type=count, default=256, metavar="N",
                         help="how many browsers hear of changes at once; the others ask every 15 seconds")
     return parser
 
@@ -126,8 +142,4 @@ def main() -> None:
     except (OSError, ValueError) as error:
         print(f"rudderraisin_status: no password in {options.password_file}: {error}", file=sys.stderr)
         sys.exit(BAD_FILE)
-    try:
-        asyncio.run(Status(options, word).run(*options.listen))
-    except OSError as error:
-        print(f"rudderraisin_status: cannot listen: {error}", file=sys.stderr)
-        sys.exit(CANNOT_LISTEN)
+    sys.exit(asyncio.run(Status(options, word).run(*options.listen)))
