@@ -6,6 +6,7 @@ import asyncio
 import contextlib
 import gzip
 import json
+import socket
 import tempfile
 import unittest
 from pathlib import Path
@@ -357,6 +358,20 @@ class Arguments(unittest.TestCase):
         self.assertEqual(main.place("[::1]:80"), ("::1", 80))
         for text in ("127.0.0.1", ":80", "a:", "a:b", "a:65536", "a:-1", "a..b:80"):
             self.assertRaises(argparse.ArgumentTypeError, main.place, text)
+
+    def test_manager(self) -> None:
+        """systemd hears that the program is ready, at a socket of a file or of a name, and nobody where none is given."""
+        with tempfile.TemporaryDirectory() as room:
+            name = f"@{room}"
+            for address, bound in ((f"{room}/notify", f"{room}/notify"), (name, "\0" + name[1:])):
+                with socket.socket(socket.AF_UNIX, socket.SOCK_DGRAM) as manager:
+                    manager.settimeout(20)
+                    manager.bind(bound)
+                    with mock.patch.dict("os.environ", {"NOTIFY_SOCKET": address}):
+                        main.tell_manager()
+                    self.assertEqual(manager.recv(100), b"READY=1")
+        with mock.patch.dict("os.environ", {"NOTIFY_SOCKET": ""}):
+            main.tell_manager()
 
     def test_count(self) -> None:
         self.assertEqual([main.count(it) for it in ("0", "10000")], [0, 10_000])

@@ -4,7 +4,9 @@ from __future__ import annotations
 import argparse
 import asyncio
 import html
+import os
 import signal
+import socket
 import sys
 import time
 from pathlib import Path
@@ -83,11 +85,20 @@ class Status:
         stop = asyncio.Event()
         for it in (signal.SIGTERM, signal.SIGINT):
             asyncio.get_running_loop().add_signal_handler(it, stop.set)
+        tell_manager()
         print("listening at {}:{}".format(*server.sockets[0].getsockname()[:2]), file=sys.stderr, flush=True)
         is_heard = lambda: self.web.listeners > 0  # noqa: E731
         await first_end(stop.wait(), self.observer.run(), self.feed.run(is_heard), self.web.run())
         server.close()
         return 0
+
+
+def tell_manager() -> None:
+    """Tells systemd, if that started the program, that it is ready."""
+    address = os.environ.get("NOTIFY_SOCKET", "")
+    if address:
+        with socket.socket(socket.AF_UNIX, socket.SOCK_DGRAM) as manager:
+            manager.sendto(b"READY=1", "\0" + address[1:] if address.startswith("@") else address)
 
 
 def place(text: str) -> tuple[str, int]:
