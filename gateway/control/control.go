@@ -122,7 +122,17 @@ func obey(house House, order []string) ([]string, error) {
 		}
 		return lines, nil
 	}
-	return nil, ErrOrder
+	return nil, unknown(order[0])
+}
+
+// unknown says how an order is given, if it is known by its first word.
+func unknown(word string) error {
+	for _, line := range strings.Split(Usage, "\n") {
+		if strings.HasPrefix(line, word+" ") {
+			return fmt.Errorf("expected %s", strings.TrimSpace(strings.SplitN(line, "   ", 2)[0]))
+		}
+	}
+	return ErrOrder
 }
 
 func ban(house House, words []string) ([]string, error) {
@@ -136,6 +146,8 @@ func ban(house House, words []string) ([]string, error) {
 		if span, good := bans.Duration(words[0]); good {
 			b.Until = time.Now().Add(span).Truncate(time.Second)
 			words = words[1:]
+		} else if words[0] != "" && words[0][0] >= '0' && words[0][0] <= '9' { // rather than a ban for ever by mistake
+			return nil, fmt.Errorf("%q is no duration as 90m, 12h, 7d or 2w", words[0])
 		}
 	}
 	b.Text = strings.Join(words, " ")

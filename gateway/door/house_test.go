@@ -272,8 +272,10 @@ func TestControl(t *testing.T) {
 		{"ban Eve 7d for good  reasons", `banned Eve 20..-..-..T..:..:..Z for good  reasons\nkicked 0`},
 		{"ban 192.0.2.77/24", `banned 192.0.2.0/24 -\nkicked 0`},
 		{"ban 192.0.2.7 7d", `banned 192.0.2.7/32 20.*Z\nkicked 0`},
-		{"ban Bob 7 days", `banned Bob - 7 days\nkicked 0`},
-		{"list", `192.0.2.0/24 -\n192.0.2.7/32 20.*Z\nBob - 7 days\nEve 20.*Z for good  reasons`},
+		{"ban Bob for 7 days", `banned Bob - for 7 days\nkicked 0`},
+		{"ban Bob 7days", `! "7days" is no duration as 90m, 12h, 7d or 2w`},
+		{"ban Bob 0d", `! "0d" is no duration as .*`},
+		{"list", `192.0.2.0/24 -\n192.0.2.7/32 20.*Z\nBob - for 7 days\nEve 20.*Z for good  reasons`},
 		{"unban 192.0.2.7", "unbanned 192.0.2.7/32"},
 		{"unban 192.0.2.7", "! 192.0.2.7/32 is not banned"},
 		{"unban a-b", `! "a-b" is neither a name nor an IPv4 address\[/bits\]`},
@@ -282,9 +284,10 @@ func TestControl(t *testing.T) {
 		{"kick Bert", "! Bert is not connected"},
 		{"kick Anna bye", "kicked Anna"},
 		{"dance", "! unknown order"},
-		{"say", "! unknown order"},
+		{"say", "! expected say TEXT"},
+		{"kick", `! expected kick NAME \[TEXT\]`},
 		{"say a\nb", "! a text has no line end"},
-		{"list all", "! unknown order"},
+		{"list all", "! expected list"},
 	} {
 		lines, good, err := control.Call(path, strings.Split(c.order, " "))
 		answer := strings.Join(lines, "\n")
