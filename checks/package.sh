@@ -245,6 +245,15 @@ while True:
 PYTHON
 }
 
+# reload_gateway : tells the gateway to read its files anew, as its unit does.
+reload_gateway() {
+    local command
+    gateway_commands ExecReload | (export MAINPID=$gateway && while read -r command; do eval "$command" || exit; done)
+}
+
+# reload_is_refused TEXT : whether that fails, and says this.
+reload_is_refused() { ! reload_gateway 2> "$room/refused" && grep -q "$1" "$room/refused"; }
+
 # run_gateway : starts the gateway as its unit does, and lets somebody in.
 run_gateway() {
     local command shown
@@ -253,6 +262,7 @@ run_gateway() {
     sed -i "s/^listen = .*/listen = 127.0.0.1:$door/; s/^server = .*/server = 127.0.0.1:$port/; s/^proxy-protocol = .*/proxy-protocol = false/" \
         "$files/gateway.conf"
     shown=$(make_certificate)
+    eval "$(gateway_commands Environment | sed "s/^\"\([A-Z]*\)=\(.*\)\"$/local \1='\2'/")"
     gateway_commands ExecStartPre | while read -r command; do eval "$command"; done
     (eval "exec $(gateway_commands ExecStart)" > "$room/out" 2> "$room/told") &
     gateway=$!
@@ -260,8 +270,11 @@ run_gateway() {
     tells 'the gateway takes orders by its second name' \
         quietly "$top/bin/rudderraisin_gatewayctl" --control "$room/run/rudderraisin-gateway/control" list
     shown=$(make_certificate)
-    (export MAINPID=$gateway && gateway_commands ExecReload | while read -r command; do eval "$command"; done)
+    tells 'it is told to read its files anew' reload_gateway
     tells 'a reload brings a new certificate' comes_in "$shown"
+    echo 'lisen = 127.0.0.1:1' >> "$files/gateway.conf"
+    tells 'a reload fails where a setting is refused' reload_is_refused 'unknown key "lisen"'
+    sed -i '$d' "$files/gateway.conf"
     kill "$gateway"
     wait "$gateway" 2> /dev/null || true
     gateway=
