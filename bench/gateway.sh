@@ -1,10 +1,11 @@
 #!/usr/bin/env bash
 # The gateway beside haproxy, which ends TLS from the first byte, and beside the server alone.
 #   bench/gateway.sh [RUNS [SECONDS]]
-# The gateway and haproxy have one processor each, in turn; the server has another, and the clients the others. Each figure is the median
-# of so many runs (3), with a new process each time; talk lasts so many seconds (5). MODES, some of "bulk talk storm memory lf silent
-# players", leaves the others out. $LOBBY_MAIN names another server than bin/lobby_main, $GATEWAY another gateway than one built here.
-# Wants go, openssl and haproxy; without haproxy its column is empty.
+# The gateway and haproxy have one processor each, in turn; the server has another, and the clients the others. Each
+# figure is the median of so many runs (3), with a new process each time; talk lasts so many seconds (5). MODES, some
+# of "bulk talk storm memory lf silent players", leaves the others out. $LOBBY_MAIN names another server than
+# bin/lobby_main, $GATEWAY another gateway than one built here. Wants go, openssl and haproxy; without haproxy its
+# column is empty.
 set -euo pipefail
 cd "$(dirname "$0")/.."
 runs=${1:-3}
@@ -32,7 +33,8 @@ for number in {1..2001}; do
     printf '[[account]]\nname = "u%04d"\npassword = "X03MO1qnZdYdgyfeuILPmQ=="\nid = %d\n' "$number" "$number"
 done > "$room/accounts.toml"
 port=$((20000 + $$ % 10000))
-# What is between, on processor 0, and the server on 1. The load has the others, or all where there are no more than two.
+# What is between, on processor 0, and the server on 1. The load has the others, or all where there are no more than
+# two.
 others=$(nproc)
 load_on=$([ "$others" -gt 2 ] && echo "2-$((others - 1))" || echo "0-$((others - 1))")
 

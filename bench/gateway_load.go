@@ -1,7 +1,8 @@
-// gateway_load MODE DOOR ADDRESS MIDDLE SERVER [COUNT [SECONDS]]: clients that come to a lobby by a door, and one line of figures.
+// gateway_load MODE DOOR ADDRESS MIDDLE SERVER [COUNT [SECONDS]]: clients that come to a lobby by a door, and one
+// line of figures.
 //
-// DOOR is plain, tls or stls. MIDDLE is the process between the clients and the server, whose processor time is told, or 0; SERVER is the
-// server's. Clients log in as u0001, u0002 and so on. Modes, with COUNT clients:
+// DOOR is plain, tls or stls. MIDDLE is the process between the clients and the server, whose processor time is told,
+// or 0; SERVER is the server's. Clients log in as u0001, u0002 and so on. Modes, with COUNT clients:
 //
 //	bulk     the first speaks in a channel of all, with 512 lines unanswered, for SECONDS
 //	talk     ten lines a second are said in turn in a channel of all, for SECONDS

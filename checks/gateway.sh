@@ -1,6 +1,7 @@
 #!/usr/bin/env bash
-# gateway.sh [FOLDER]: the tests of the gateway, by themselves and before the server as the gate built it, or the one of a folder.
-# Behind them 2,000 random sessions are played with the gateway and without, and a machine goes away without a word.
+# gateway.sh [FOLDER]: the tests of the gateway, by themselves and before the server as the gate built it, or the one
+# of a folder. Behind them 2,000 random sessions are played with the gateway and without, and a machine goes away
+# without a word.
 set -euo pipefail
 cd "$(dirname "$0")/.."
 passed=0

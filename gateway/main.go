@@ -1,5 +1,5 @@
-// The gateway: the door that players come through to a lobby server. Called as rudderraisin_gatewayctl it gives orders to one
-// that runs.
+// The gateway: the door that players come through to a lobby server. Called as rudderraisin_gatewayctl it gives
+// orders to one that runs.
 package main
 
 import (
@@ -101,7 +101,8 @@ func fail(status int, err error) int {
 	return status
 }
 
-// listen begins to take clients, orders and questions for numbers. What it gives ends that, also where it failed half way.
+// listen begins to take clients, orders and questions for numbers. What it gives ends that, also where it failed half
+// way.
 func listen(s *settings.Settings, house *door.House, numbers *metrics.Metrics) (closeAll func(), err error) {
 	var listeners []net.Listener
 	closeAll = func() {

@@ -1,4 +1,5 @@
-// Package bans keeps who may not come: names and addresses, each for a time or for ever, in a file that survives a start.
+// Package bans keeps who may not come: names and addresses, each for a time or for ever, in a file that survives a
+// start.
 package bans
 
 import (
@@ -241,7 +242,8 @@ func (l *List) save() error {
 
 // Duration reads a time as 90m, 12h, 7d or 2w.
 func Duration(word string) (time.Duration, bool) {
-	units := map[byte]time.Duration{'s': time.Second, 'm': time.Minute, 'h': time.Hour, 'd': 24 * time.Hour, 'w': 7 * 24 * time.Hour}
+	const day = 24 * time.Hour
+	units := map[byte]time.Duration{'s': time.Second, 'm': time.Minute, 'h': time.Hour, 'd': day, 'w': 7 * day}
 	if len(word) < 2 || len(word) > 6 {
 		return 0, false
 	}

@@ -1,5 +1,5 @@
-// Package dialect puts the lines of one client from SpringLobby's way of speaking into the server's, and back. It is pure:
-// a line in, lines out. What it does not name is passed as it is.
+// Package dialect puts the lines of one client from SpringLobby's way of speaking into the server's, and back. It is
+// pure: a line in, lines out. What it does not name is passed as it is.
 package dialect
 
 import (
@@ -213,8 +213,8 @@ func (d *Dialect) ping(r *request) Verdict {
 	return Same
 }
 
-// join puts a PING of the gateway's before and behind a JOINBATTLE: what comes between the two PONGs answers it, and where
-// nothing comes the client waits. One that waits already asks no more before.
+// join puts a PING of the gateway's before and behind a JOINBATTLE: what comes between the two PONGs answers it, and
+// where nothing comes the client waits. One that waits already asks no more before.
 func (d *Dialect) join(line []byte, r *request, out *Out) Verdict {
 	battle, behind, good := joinQuestion(r.rest)
 	if !good || !r.check() {

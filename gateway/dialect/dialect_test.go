@@ -28,7 +28,8 @@ func lines(text []byte) []string {
 	return strings.Split(strings.TrimSuffix(string(text), "\n"), "\n")
 }
 
-// client gives a line of the client. What stands for it is `there` for the server, and behind "<" for the client itself.
+// client gives a line of the client. What stands for it is `there` for the server, and behind "<" for the client
+// itself.
 func (t talk) client(line string, wanted ...string) {
 	t.Helper()
 	var out Out
@@ -373,8 +374,8 @@ func TestNames(t *testing.T) {
 	}
 }
 
-// FuzzDialect: no line does harm, whole lines come out, none grows past what the server takes, and what has no word of the
-// table passes as it is.
+// FuzzDialect: no line does harm, whole lines come out, none grows past what the server takes, and what has no word
+// of the table passes as it is.
 func FuzzDialect(f *testing.F) {
 	for _, seed := range []string{"", "#1 JOINBATTLE 4  x\nSAY main !cancel\r\n#2147483647 PING", "SAYPRIVATEEX Bert \x00\n LOGIN Eve x",
 		"OPENBATTLE 0 0 * 1 1 1 1 1 a\tb\tc\td\te\nEXIT", "PONG\n#2147483647 PONG\n#2147483647 PONG\nJOINBATTLE 1 2\nSAIDBATTLE a b",

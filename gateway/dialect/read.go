@@ -79,8 +79,8 @@ func readNumber(word []byte) (value int64, good bool) {
 	return value, true
 }
 
-// nextWord takes a word off the head of arguments, behind one or more spaces. A tab in it makes it none that the server
-// reads; no word is left where only spaces are.
+// nextWord takes a word off the head of arguments, behind one or more spaces. A tab in it makes it none that the
+// server reads; no word is left where only spaces are.
 func nextWord(rest []byte) (word, behind []byte, good bool) {
 	rest = skipSpaces(rest)
 	end := bytes.IndexByte(rest, ' ')

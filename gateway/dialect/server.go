@@ -63,8 +63,8 @@ func (d *Dialect) accepted(rest []byte) Verdict {
 	return Same
 }
 
-// answer notes what became of a question to join. Between the PONGs around it each line with its id answers it; so does,
-// where it had none, a refusal without an id. Without an id too the server says what a host decided.
+// answer notes what became of a question to join. Between the PONGs around it each line with its id answers it; so
+// does, where it had none, a refusal without an id. Without an id too the server says what a host decided.
 func (d *Dialect) answer(tag, word, rest []byte) {
 	d.mutex.Lock()
 	defer d.mutex.Unlock()
@@ -86,8 +86,8 @@ func (d *Dialect) answer(tag, word, rest []byte) {
 
 func (d *Dialect) answers(tag []byte) bool { return d.now == joining && bytes.Equal(tag, d.tag) }
 
-// own looks at the lines that carry the gateway's own id: its PONGs, what became of its LEAVEBATTLE, and lines that answer
-// a client that uses the same id.
+// own looks at the lines that carry the gateway's own id: its PONGs, what became of its LEAVEBATTLE, and lines that
+// answer a client that uses the same id.
 func (d *Dialect) own(line, word, rest []byte, out *Out) Verdict {
 	d.mutex.Lock()
 	isPong := string(word) == "PONG"

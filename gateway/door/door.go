@@ -91,7 +91,8 @@ func (h *House) take(conn *net.TCPConn, kind Kind) {
 	}()
 }
 
-// turnAway tells a client why it may not come in, where it can be told before TLS. A new connection has room for a line.
+// turnAway tells a client why it may not come in, where it can be told before TLS. A new connection has room for a
+// line.
 func turnAway(conn *net.TCPConn, kind Kind, text string) {
 	if kind != TLS {
 		conn.SetWriteDeadline(time.Now().Add(time.Second))

@@ -32,7 +32,8 @@ const (
 	patience = 30 * time.Second // nothing that is waited for takes this long
 )
 
-// fake is a server whose clients each are served by one function. The gateway's own connection, which says nothing, is not counted.
+// fake is a server whose clients each are served by one function. The gateway's own connection, which says nothing,
+// is not counted.
 type fake struct {
 	*testing.T
 	net.Listener

@@ -1,5 +1,5 @@
-// Package door takes clients in: it listens, counts who comes, ends TLS, connects each client to the server, and knows who is
-// there.
+// Package door takes clients in: it listens, counts who comes, ends TLS, connects each client to the server, and
+// knows who is there.
 package door
 
 import (
@@ -195,7 +195,8 @@ func (h *House) left(s *session) {
 	}
 	if name := s.user(); name != "" {
 		h.metrics.Users.Add(-1)
-		h.journal.Tell("out", "name", name, "client", s.peer, "cause", cause, "seconds", int(time.Since(s.since).Seconds()))
+		stayed := int(time.Since(s.since).Seconds())
+		h.journal.Tell("out", "name", name, "client", s.peer, "cause", cause, "seconds", stayed)
 	} else {
 		h.journal.Tell("away", "client", s.peer, "cause", cause)
 	}

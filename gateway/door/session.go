@@ -50,7 +50,8 @@ type closeWriter interface {
 	CloseWrite() error
 }
 
-// end gives the session up for this cause, and tells the client so, if it reads. The first cause is the one that counts.
+// end gives the session up for this cause, and tells the client so, if it reads. The first cause is the one that
+// counts.
 func (s *session) end(cause, text string) {
 	if !s.because(cause, text) {
 		return
@@ -78,7 +79,8 @@ func (s *session) why() (cause, last string) {
 	return s.cause, s.last
 }
 
-// start passes lines both ways from here on. Two goroutines of their own do, whose stacks are small: that of a handshake is not.
+// start passes lines both ways from here on. Two goroutines of their own do, whose stacks are small: that of a
+// handshake is not.
 func (s *session) start(greeting []byte) {
 	go s.up()
 	go s.down(greeting)
@@ -130,8 +132,8 @@ func (s *session) stayed() func() {
 	}
 }
 
-// upEnded says what comes of it that nothing more is passed on from the client. Where the client has ended, or is to be heard
-// no more, the server still answers what was said.
+// upEnded says what comes of it that nothing more is passed on from the client. Where the client has ended, or is to
+// be heard no more, the server still answers what was said.
 func (s *session) upEnded(err error) {
 	var write relay.WriteError
 	switch {
@@ -183,8 +185,8 @@ func (s *session) down(greeting []byte) {
 	s.finish(!errors.As(err, &write))
 }
 
-// finish ends the connection to the client. What waits for it was written before; it is read on for a while, since bytes
-// that nobody reads would have the system take back what the client has not read yet.
+// finish ends the connection to the client. What waits for it was written before; it is read on for a while, since
+// bytes that nobody reads would have the system take back what the client has not read yet.
 func (s *session) finish(isWhole bool) {
 	s.late.Stop()
 	s.stop.Do(func() { close(s.done) })

@@ -25,7 +25,8 @@ func prepare(dead time.Duration) func(network, address string, raw syscall.RawCo
 	return func(_, _ string, raw syscall.RawConn) (failed error) {
 		err := raw.Control(func(file uintptr) {
 			for _, option := range options {
-				if err := syscall.SetsockoptInt(int(file), option[0], option[1], option[2]); err != nil && failed == nil {
+				err := syscall.SetsockoptInt(int(file), option[0], option[1], option[2])
+				if err != nil && failed == nil {
 					failed = err
 				}
 			}

@@ -124,8 +124,8 @@ func (j *Journal) Close(patience time.Duration) {
 	}
 }
 
-// value keeps letters, digits and a few marks of a value, and writes other bytes as %XX. A text ends the line, and keeps
-// all that is printed.
+// value keeps letters, digits and a few marks of a value, and writes other bytes as %XX. A text ends the line, and
+// keeps all that is printed.
 func value(key any, text string) string {
 	isText := key == "why" || key == "text"
 	size := nameSize

@@ -25,7 +25,8 @@ func newBudget(rate Rate, now time.Time) *budget {
 
 func (b *budget) full(rate int) float64 { return float64(rate) * b.rate.Burst.Seconds() }
 
-// refill gives what the time since the last call allows. A client that has come to half of its burst again is over no more.
+// refill gives what the time since the last call allows. A client that has come to half of its burst again is over no
+// more.
 func (b *budget) refill(now time.Time) {
 	passed := now.Sub(b.last).Seconds()
 	b.last = now
@@ -55,8 +56,8 @@ func (b *budget) take(bytes, lines int) {
 // calm is how long no line may have had to wait before a client is no more over its rate.
 const calm = 5 * time.Second
 
-// wait is called where lines have to wait: it says how long, and whether the client has been over for too long. Its next
-// line has so many bytes.
+// wait is called where lines have to wait: it says how long, and whether the client has been over for too long. Its
+// next line has so many bytes.
 func (b *budget) wait(now time.Time, next int) (wait time.Duration, end bool) {
 	if b.over.IsZero() || now.Sub(b.short) > calm {
 		b.over = now

@@ -1,5 +1,5 @@
-// Package relay passes lines from one end to the other: whole lines of a read go on in one write, who reads slowly at one
-// end slows the other end down, and what waits here is bounded.
+// Package relay passes lines from one end to the other: whole lines of a read go on in one write, who reads slowly at
+// one end slows the other end down, and what waits here is bounded.
 package relay
 
 import (
@@ -218,8 +218,8 @@ func (p *Pump) turn(part []byte) error {
 	return p.flush(w, part[kept:])
 }
 
-// flush writes what was worked out, and behind it what is passed as it is. What goes back goes first, since an EXIT may be
-// among what goes on.
+// flush writes what was worked out, and behind it what is passed as it is. What goes back goes first, since an EXIT
+// may be among what goes on.
 func (p *Pump) flush(w *work, kept []byte) (err error) {
 	if len(w.lines) > 0 && len(kept) > 0 {
 		w.lines, kept = append(w.lines, kept...), nil

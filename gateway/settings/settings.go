@@ -50,7 +50,8 @@ func (s *Settings) places(set *flag.FlagSet) {
 	set.Var(&place{&s.Plain}, "plain", "`HOST:PORT` where clients of the protocol connect without TLS")
 	set.Var(&place{&s.Server}, "server", "`HOST:PORT` of the lobby server")
 	set.BoolVar(&s.ProxyProtocol, "proxy-protocol", false,
-		"tell the server each client's address by a line of PROXY protocol version 1; its setting proxies has to name the gateway")
+		"tell the server each client's address by a line of PROXY protocol version 1;\n"+
+			"its setting proxies has to name the gateway")
 	set.StringVar(&s.Cert, "cert", "", "`FILE` of the certificate chain, PEM")
 	set.StringVar(&s.Key, "key", "", "`FILE` of its private key, PEM")
 	set.StringVar(&s.Bans, "bans", "", "`FILE` of bans; without one they last as long as the gateway")
@@ -66,12 +67,16 @@ func (s *Settings) times(set *flag.FlagSet) {
 		*to = value
 		set.Var(&duration{to, least, most}, name, help)
 	}
-	span(&s.Handshake, 15*time.Second, time.Millisecond, time.Hour, "handshake", "`TIME` for all up to the end of the TLS handshake")
+	span(&s.Handshake, 15*time.Second, time.Millisecond, time.Hour, "handshake",
+		"`TIME` for all up to the end of the TLS handshake")
 	span(&s.Login, time.Minute, time.Millisecond, day, "login", "`TIME` for the login behind that")
 	span(&s.Idle, 0, 0, day, "idle", "`TIME` that a client may send no line; 0 is any")
-	span(&s.Patience, time.Minute, time.Millisecond, time.Hour, "patience", "`TIME` that a side may make no room for what waits")
-	span(&s.Dead, 90*time.Second, time.Second, time.Hour, "dead", "`TIME` after which a machine that answers nothing is given up")
-	span(&s.Burst, 10*time.Second, time.Second, time.Hour, "burst", "`TIME` whose bytes and lines a client may send at once")
+	span(&s.Patience, time.Minute, time.Millisecond, time.Hour, "patience",
+		"`TIME` that a side may make no room for what waits")
+	span(&s.Dead, 90*time.Second, time.Second, time.Hour, "dead",
+		"`TIME` after which a machine that answers nothing is given up")
+	span(&s.Burst, 10*time.Second, time.Second, time.Hour, "burst",
+		"`TIME` whose bytes and lines a client may send at once")
 	span(&s.Over, time.Minute, 0, time.Hour, "over", "`TIME` that a client may stay over its bytes or lines a second")
 }
 
@@ -95,10 +100,14 @@ func (s *Settings) texts(set *flag.FlagSet) {
 		*to = value
 		set.Var(&words{to}, name, help)
 	}
-	text(&s.AccountsText, "Accounts are made by the operator of this lobby", "accounts-text", "`TEXT` for one who would register")
-	text(&s.GoneText, "The lobby server is not there at the moment. Try again later", "gone-text", "`TEXT` while the server is not there")
-	text(&s.FullText, "The lobby is full. Try again later", "full-text", "`TEXT` where the server or the gateway takes no more")
-	text(&s.LimitText, "Too many connections from your address. Try again later", "limit-text", "`TEXT` for an address over its limits")
+	text(&s.AccountsText, "Accounts are made by the operator of this lobby", "accounts-text",
+		"`TEXT` for one who would register")
+	text(&s.GoneText, "The lobby server is not there at the moment. Try again later", "gone-text",
+		"`TEXT` while the server is not there")
+	text(&s.FullText, "The lobby is full. Try again later", "full-text",
+		"`TEXT` where the server or the gateway takes no more")
+	text(&s.LimitText, "Too many connections from your address. Try again later", "limit-text",
+		"`TEXT` for an address over its limits")
 	text(&s.BanText, "You are banned", "ban-text", "`TEXT` for one who is banned, before the ban's own")
 }
 
@@ -108,7 +117,8 @@ func Load(name string, arguments []string, usage io.Writer) (*Settings, error) {
 	set := s.Flags(name)
 	set.SetOutput(usage)
 	set.Usage = func() {
-		fmt.Fprintf(usage, "usage: %s [FLAG]... [FILE]\n\nFILE has lines `key = value`, whose keys are these flags:\n", name)
+		fmt.Fprintf(usage, "usage: %s [FLAG]... [FILE]\n\n", name)
+		fmt.Fprintln(usage, "FILE has lines `key = value`, whose keys are these flags:")
 		set.PrintDefaults()
 	}
 	if err := set.Parse(arguments); err != nil {
