@@ -189,6 +189,19 @@ func TestWaitingAndCancel(t *testing.T) {
 	}
 }
 
+// A host's refusal has no id; one with an id answers another question.
+func TestHostSaysNo(t *testing.T) {
+	d := begin(t)
+	d.joins("#3 JOINBATTLE 1")
+	d.server("#9 JOINBATTLEFAILED No such battle", "#9 JOINBATTLEFAILED No such battle")
+	d.client("#5 SAY main !cancel", ping, probe+"LEAVEBATTLE", ping, "< #5 "+cancelled)
+	d.server(pong)
+	d.server(pong)
+	d.joins("#4 JOINBATTLE 1")
+	d.server("JOINBATTLEFAILED Denied by the founder", "JOINBATTLEFAILED Denied by the founder")
+	d.client("#5 SAY main !cancel", "#5 SAY main !cancel")
+}
+
 // Each of these says what became of the question, so that the player does not wait.
 func TestAnswersToAJoin(t *testing.T) {
 	for _, c := range []struct{ line, answer string }{

@@ -84,7 +84,8 @@ func (d *Dialect) answer(tag, word, rest []byte) {
 	}
 }
 
-func (d *Dialect) answers(tag []byte) bool { return d.now == joining && bytes.Equal(tag, d.tag) }
+// answers says whether a line has the id of the JOINBATTLE under way. What came before its window is forgotten there.
+func (d *Dialect) answers(tag []byte) bool { return bytes.Equal(tag, d.tag) }
 
 // own looks at the lines that carry the gateway's own id: its PONGs, what became of its LEAVEBATTLE, and lines that
 // answer a client that uses the same id.

@@ -8,6 +8,7 @@ import (
 	"net"
 	"os"
 	"regexp"
+	"syscall"
 	"time"
 
 	"rudderraisin/gateway/dialect"
@@ -177,6 +178,8 @@ func (h *House) join(s *session) bool {
 		cause, text := "server_gone", h.texts.Load().GoneText
 		if errors.Is(err, errFull) {
 			cause, text = "full", h.texts.Load().FullText
+		} else if errors.Is(err, syscall.EMFILE) || errors.Is(err, syscall.ENFILE) {
+			cause, text = "files", h.texts.Load().FullText
 		}
 		h.refused(s.peer, cause, "why", err)
 		s.raw.SetDeadline(time.Now().Add(closing))

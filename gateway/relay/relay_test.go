@@ -200,9 +200,12 @@ func TestBudget(t *testing.T) {
 	if _, end := b.wait(at, 50); !end {
 		t.Error("not ended after a minute")
 	}
-	b.refill(at.Add(6 * time.Second)) // it stops, and is over no more
+	// It stops, and is over no more.
 	if _, end := b.wait(at.Add(6*time.Second), 50); end {
 		t.Error("ended though nothing had to wait for six seconds")
+	}
+	if b.refill(at.Add(6 * time.Second)); !b.over.IsZero() {
+		t.Error("over though there is room for half of a burst")
 	}
 	b = newBudget(Rate{Bytes: 1, Burst: 10 * time.Second, Most: time.Minute}, at)
 	if _, end := b.wait(at, 11); !end {
