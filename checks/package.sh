@@ -212,7 +212,7 @@ gateway_commands() {
 
 # make_certificate : makes one as OPERATING has it, and prints its fingerprint.
 make_certificate() {
-    openssl req -x509 -newkey ec -pkeyopt ec_paramgen_curve:prime256v1 -nodes -days 30 -subj /CN=lobby -keyout "$files/key.pem" \
+    openssl req -x509 -newkey ec -pkeyopt ec_paramgen_curve:P-256 -nodes -days 30 -subj /CN=lobby -keyout "$files/key.pem" \
         -out "$files/cert.pem" 2> /dev/null
     openssl x509 -in "$files/cert.pem" -outform der | sha256sum | cut -d ' ' -f 1
 }

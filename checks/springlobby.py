@@ -508,7 +508,7 @@ class Trial:
 def certificate(room):
     """Makes a certificate as OPERATING has it. Gives its file, that of its key, and the fingerprint that SpringLobby shows."""
     cert, key = room / "cert.pem", room / "key.pem"
-    curve = ["-newkey", "ec", "-pkeyopt", "ec_paramgen_curve:prime256v1"]
+    curve = ["-newkey", "ec", "-pkeyopt", "ec_paramgen_curve:P-256"]
     subprocess.run(["openssl", "req", "-x509", *curve, "-nodes", "-days", "30", "-subj", "/CN=lobby", "-keyout", key,
                     "-out", cert], stderr=subprocess.DEVNULL, check=True)
     told = subprocess.run(["openssl", "x509", "-in", cert, "-noout", "-fingerprint", "-sha256"], stdout=subprocess.PIPE, check=True)
