@@ -70,7 +70,8 @@ func TestProgram(t *testing.T) {
 		{[]string{config}, 2, "", config + `:3: unknown key "linse"`},
 		{append(good, "-lines", "x"), 2, "", `invalid value "x" for flag -lines: expected a whole number`},
 		{append(good, "-bans", badBans), 2, "", badBans + ":1: expected"},
-		{append(good, "-tls", "127.0.0.1:0", "-cert", "/dev/null", "-key", "/dev/null"), 2, "", "cannot use the certificate and its key: "},
+		{append(good, "-tls", "127.0.0.1:0", "-cert", "/dev/null", "-key", "/dev/null"), 2, "",
+			"cannot use the certificate and its key: "},
 		{append(good, "-check"), 0, "", ""},
 		{append(good, "-check", "-cert", "/dev/null"), 2, "", "cannot use the certificate and its key: "},
 		{append(good, "-check", "-bans", badBans), 2, "", badBans + ":1: expected"},
@@ -81,7 +82,8 @@ func TestProgram(t *testing.T) {
 		{[]string{"ctl"}, 2, "", "usage: " + ctlName},
 	} {
 		status, out, complaint := ends(t, gateway, c.arguments...)
-		if status != c.status || !strings.HasPrefix(out, c.out) || !strings.Contains(complaint, c.err) || c.out == "" && out != "" {
+		isSaid := strings.HasPrefix(out, c.out) && (c.out != "" || out == "") && strings.Contains(complaint, c.err)
+		if status != c.status || !isSaid {
 			t.Errorf("%q: %d, %q, %q", c.arguments, status, out, complaint)
 		}
 	}
@@ -89,7 +91,11 @@ func TestProgram(t *testing.T) {
 		arguments []string
 		status    int
 		out       string
-	}{{[]string{"--help"}, 0, "usage: " + ctlName}, {[]string{"--version"}, 0, ctlName + " unknown\n"}, {[]string{"-dance"}, 2, ""}} {
+	}{
+		{[]string{"--help"}, 0, "usage: " + ctlName},
+		{[]string{"--version"}, 0, ctlName + " unknown\n"},
+		{[]string{"-dance"}, 2, ""},
+	} {
 		if status, out, _ := ends(t, ctl, c.arguments...); status != c.status || !strings.HasPrefix(out, c.out) {
 			t.Errorf("%q: %d, %q", c.arguments, status, out)
 		}
@@ -122,7 +128,8 @@ func TestSignals(t *testing.T) {
 	folder := build(t)
 	config, control := filepath.Join(folder, "gateway.conf"), filepath.Join(folder, "control")
 	write := func(more string) {
-		text := "plain = 127.0.0.1:0\nmetrics = 127.0.0.1:0\nserver = " + serve(t) + "\ncontrol = " + control + "\n" + more
+		text := "plain = 127.0.0.1:0\nmetrics = 127.0.0.1:0\nserver = " + serve(t) +
+			"\ncontrol = " + control + "\n" + more
 		if err := os.WriteFile(config, []byte(text), 0o600); err != nil {
 			t.Fatal(err)
 		}
@@ -181,7 +188,8 @@ func TestSignals(t *testing.T) {
 	reads(log, "reload_refused why="+config+`:5: bad value "many" of "lines"`)
 	io.WriteString(conn, "still here\n")
 	reads(lines, "still here\n")
-	if status, said, _ := ends(t, filepath.Join(folder, ctlName), "-control", control, "who"); status != 0 || !strings.HasPrefix(said, "- 127.0.0.1:") {
+	status, said, _ := ends(t, filepath.Join(folder, ctlName), "-control", control, "who")
+	if status != 0 || !strings.HasPrefix(said, "- 127.0.0.1:") {
 		t.Errorf("who: %d, %q", status, said)
 	}
 	if answer, err := http.Get("http://" + page + "/metrics"); err != nil {

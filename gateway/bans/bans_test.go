@@ -19,8 +19,10 @@ func file(t *testing.T, text string) string {
 }
 
 func TestFile(t *testing.T) {
-	past, future := time.Now().Add(-time.Hour).UTC().Format(time.RFC3339), time.Now().Add(time.Hour).UTC().Format(time.RFC3339)
-	l, err := Load(file(t, "# a comment\n\n Anna -\r\nBert "+future+" some  text\nOld "+past+" gone\n192.0.2.7 -\n198.51.100.9/24 - net\n"))
+	past := time.Now().Add(-time.Hour).UTC().Format(time.RFC3339)
+	future := time.Now().Add(time.Hour).UTC().Format(time.RFC3339)
+	l, err := Load(file(t, "# a comment\n\n Anna -\r\nBert "+future+" some  text\nOld "+past+" gone\n"+
+		"192.0.2.7 -\n198.51.100.9/24 - net\n"))
 	if err != nil {
 		t.Fatal(err)
 	}
@@ -34,8 +36,8 @@ func TestFile(t *testing.T) {
 			t.Error(name, ban)
 		}
 	}
-	for address, wanted := range map[string]bool{"192.0.2.7": true, "192.0.2.8": false, "198.51.100.0": true, "198.51.100.255": true,
-		"198.51.101.0": false} {
+	for address, wanted := range map[string]bool{"192.0.2.7": true, "192.0.2.8": false, "198.51.100.0": true,
+		"198.51.100.255": true, "198.51.101.0": false} {
 		if _, found := l.Address(netip.MustParseAddr(address)); found != wanted {
 			t.Error(address, found)
 		}
@@ -46,7 +48,8 @@ func TestSurvivesAStart(t *testing.T) {
 	path := file(t, "")
 	l, _ := Load(path)
 	until := time.Now().Add(time.Hour).UTC().Truncate(time.Second)
-	for _, ban := range []Ban{{Target: "Anna", Until: until, Text: "a b"}, {Target: "10.0.0.0/8"}, {Target: "Old", Until: until.Add(-2 * time.Hour)}} {
+	for _, ban := range []Ban{{Target: "Anna", Until: until, Text: "a b"}, {Target: "10.0.0.0/8"},
+		{Target: "Old", Until: until.Add(-2 * time.Hour)}} {
 		if err := l.Add(ban); err != nil {
 			t.Fatal(err)
 		}
@@ -112,8 +115,9 @@ func TestFilesRefused(t *testing.T) {
 }
 
 func TestDurations(t *testing.T) {
-	for word, wanted := range map[string]time.Duration{"30s": 30 * time.Second, "90m": 90 * time.Minute, "12h": 12 * time.Hour,
-		"7d": 168 * time.Hour, "2w": 336 * time.Hour, "": 0, "7": 0, "d": 0, "-1d": 0, "0d": 0, "7days": 0, "1.5h": 0, "7y": 0, "9999999w": 0} {
+	for word, wanted := range map[string]time.Duration{"30s": 30 * time.Second, "90m": 90 * time.Minute,
+		"12h": 12 * time.Hour, "7d": 168 * time.Hour, "2w": 336 * time.Hour, "": 0, "7": 0, "d": 0, "-1d": 0, "0d": 0,
+		"7days": 0, "1.5h": 0, "7y": 0, "9999999w": 0} {
 		if got, good := Duration(word); good != (wanted > 0) || good && got != wanted {
 			t.Errorf("%q: %v, %v", word, got, good)
 		}

@@ -76,7 +76,8 @@ func TestHeldJoinOnTheWire(t *testing.T) {
 	c.says("JOINBATTLE 1\nJOINBATTLE 2\nSAY main !cancel\n")
 	// The server repeats the LEAVEBATTLE that the gateway put in: the answer to it loses the gateway's id.
 	c.reads(waiting + "LEAVEBATTLE\n" + waiting)
-	answers := []string{"LEAVEBATTLE\n", "SERVERMSG You ask no more to join\n"} // one is the server's, the other the gateway's
+	// One is the server's, the other the gateway's.
+	answers := []string{"LEAVEBATTLE\n", "SERVERMSG You ask no more to join\n"}
 	if first, _ := c.lines.Peek(1); string(first) == "S" {
 		answers[0], answers[1] = answers[1], answers[0]
 	}
@@ -85,8 +86,8 @@ func TestHeldJoinOnTheWire(t *testing.T) {
 
 func TestNothingButSTLS(t *testing.T) {
 	g := open(t, lobby)
-	for _, said := range []string{"LOGIN a b 0 * c\n", "PING\n#1 STLS\n", "STLS" + strings.Repeat(" ", 99) + "\n", "stls\n", "\n",
-		"STLS\nSAY main slipped in\n", "#1 STLS\nSTLS\n", "STLS\n\x16\x03\x01", "\x16\x03\x01\x02\x00\n"} {
+	for _, said := range []string{"LOGIN a b 0 * c\n", "PING\n#1 STLS\n", "STLS" + strings.Repeat(" ", 99) + "\n",
+		"stls\n", "\n", "STLS\nSAY main slipped in\n", "#1 STLS\nSTLS\n", "STLS\n\x16\x03\x01", "\x16\x03\x01\x02\x00\n"} {
 		c := g.knock(STLS)
 		c.reads(greeting)
 		c.says(said)
@@ -225,7 +226,8 @@ func TestClientThatTakesNothing(t *testing.T) {
 
 func TestServerThatTakesNothing(t *testing.T) {
 	t.Parallel()
-	g := open(t, func(conn net.Conn, _ *bufio.Reader) { time.Sleep(3 * time.Second) }, "-patience", "300ms", "-lines", "0", "-bytes", "0")
+	g := open(t, func(conn net.Conn, _ *bufio.Reader) { time.Sleep(3 * time.Second) },
+		"-patience", "300ms", "-lines", "0", "-bytes", "0")
 	c := g.shake(Plain)
 	text := []byte(strings.Repeat("PING\n", 20_000))
 	c.SetDeadline(time.Now().Add(patience))

@@ -5,6 +5,7 @@ import (
 	"bytes"
 	"crypto/tls"
 	"net"
+	"net/netip"
 	"os"
 	"path/filepath"
 	"regexp"
@@ -134,8 +135,9 @@ func TestLimits(t *testing.T) {
 }
 
 func TestRateOfAnAddress(t *testing.T) {
-	l := newLimits((&gate{T: t, server: startFake(t, "127.0.0.1:0", lobby), folder: t.TempDir()}).load("-address-rate", "6"))
-	one, other := addrPort(&net.TCPAddr{IP: net.IPv4(192, 0, 2, 1)}).Addr(), addrPort(&net.TCPAddr{IP: net.IPv4(192, 0, 2, 2)}).Addr()
+	g := &gate{T: t, server: startFake(t, "127.0.0.1:0", lobby), folder: t.TempDir()}
+	l := newLimits(g.load("-address-rate", "6"))
+	one, other := netip.MustParseAddr("192.0.2.1"), netip.MustParseAddr("192.0.2.2")
 	at := time.Now()
 	for i := 0; i < 6; i++ {
 		if cause := l.visit(one, at); cause != "" {
@@ -145,7 +147,9 @@ func TestRateOfAnAddress(t *testing.T) {
 	for _, c := range []struct {
 		after time.Duration
 		cause string
-	}{{0, "address_rate"}, {9 * time.Second, "address_rate"}, {11 * time.Second, ""}, {12 * time.Second, "address_rate"}} {
+	}{
+		{0, "address_rate"}, {9 * time.Second, "address_rate"}, {11 * time.Second, ""}, {12 * time.Second, "address_rate"},
+	} {
 		if cause := l.visit(one, at.Add(c.after)); cause != c.cause {
 			t.Errorf("after %v: %q, wanted %q", c.after, cause, c.cause)
 		}
